@@ -1,0 +1,5 @@
+use Rattle.st_core.proofs.Names as names
+use Rattle.st_core.proofs.laws.reports_are_own.Goals as goal
+
+pub returns : goal.returns
+returns c = names.run_named

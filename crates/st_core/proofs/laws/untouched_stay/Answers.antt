@@ -1,0 +1,5 @@
+use Rattle.st_core.proofs.Others as others
+use Rattle.st_core.proofs.laws.untouched_stay.Goals as goal
+
+pub returns : goal.returns
+returns c = others.leaves_others

@@ -1,0 +1,64 @@
+-- Devices: where bytes come from and go to (own profile).
+-- Words for the contracts of the byte sources and sinks; nothing here is about tracing.
+use Rattle.std.specs.Prelude.{◌≡◌, ℕ, ◌-◌, ◌==◌, ◌&&◌, ◌||◌, nat_lt, Bool, true, false, List, [], ◌++◌, length, drop, replicate, min, Option, Some, None, Result, MatchResult, option_map, if◌then◌else◌}
+
+-- the mark of a device is false until a call fails, then true, and each later call fails
+abbrev pub Marks : {T E : Type 0} → Bool → Bool → Result T E → Type 0
+Marks old new r = MatchResult r (λ _. (old ≡ false) × (new ≡ false)) (λ _. new ≡ true)
+
+-- calls in a row from one state of a device to another, and the bytes that they passed, one piece after the other
+pub data InARow {S : Type 0} (passes : S → List ℕ → S → Type 0) : S → List ℕ → S → Type 0 where
+  NoCall : (s : S) → InARow passes s [] s
+  OneMore : (a b c : S) (xs ys : List ℕ) → InARow passes a xs b → passes b ys c → InARow passes a (xs ++ ys) c
+
+-- how much of n bytes a fuse lets through; no fuse lets all through
+abbrev pub through : Option ℕ → ℕ → ℕ
+through None n = n
+through (Some left) n = min left n
+
+-- the fuse after n bytes
+abbrev pub burnt : Option ℕ → ℕ → Option ℕ
+burnt fuse n = option_map (λ left. left - n) fuse
+
+-- how much of a piece of n bytes gets through, where so much is let through; none where the call fails:
+-- at a device that failed before, and where a piece that isn't empty meets a closed way
+abbrev pub let_through : Bool → ℕ → ℕ → Option ℕ
+let_through failed n most = if failed || (nat_lt 0 n && most == 0) then None else Some most
+
+-- a source over memory: the bytes that are left, what its fuse lets through, and its mark
+pub record MemoryInput : Type 0 where
+  pub left : List ℕ
+  pub fuse : Option ℕ
+  pub failed : Bool
+
+-- a sink over memory: the bytes that were written, the room that is left, what its fuse lets through, and its mark
+pub record MemoryOutput : Type 0 where
+  pub written : List ℕ
+  pub room : ℕ
+  pub fuse : Option ℕ
+  pub failed : Bool
+
+-- how many bytes a take with a piece of n places gives, none where it fails
+abbrev pub taken_count : MemoryInput → ℕ → Option ℕ
+taken_count s n = option_map (λ most. min most (length s.left)) (let_through s.failed n (through s.fuse n))
+
+-- how many bytes of a piece of n a put writes, none where it fails
+abbrev pub put_count : MemoryOutput → ℕ → Option ℕ
+put_count s n = let_through s.failed n (min (through s.fuse n) s.room)
+
+-- what is left after a take of n bytes
+abbrev pub after_take : MemoryInput → ℕ → MemoryInput
+after_take s n = record { left = drop n s.left; fuse = burnt s.fuse n; failed = false }
+
+-- what is written after a put of these bytes
+abbrev pub after_put : MemoryOutput → List ℕ → MemoryOutput
+after_put s bytes = record { written = s.written ++ bytes; room = s.room - length bytes; fuse = burnt s.fuse (length bytes); failed = false }
+
+-- all of these bytes are zero
+abbrev pub AreZeros : List ℕ → Type 0
+AreZeros bytes = bytes ≡ replicate (length bytes) 0
+
+-- a reader or writer of std with its mark
+pub record Marked (A : Type 0) : Type 0 where
+  pub inner : A
+  pub failed : Bool

@@ -1,0 +1,43 @@
+-- Laws of the machine: what one act leaves alone, and what holds in every run.
+use Rattle.std.specs.Prelude.{◌≡◌, ℕ, ◌<◌, ◌≤◌, true, false, List, map, All}
+use Rattle.std.specs.Option.{ForSome}
+use Rattle.st_core.specs.declared.types.Pid.{Pid}
+use Rattle.st_core.specs.declared.types.Token.{Token}
+use Rattle.st_core.specs.declared.types.Event.{Event}
+use Rattle.st_core.specs.declared.types.Act.{Act}
+use Rattle.st_core.specs.State.{Process, State, process}
+use Rattle.st_core.specs.Step.{Outcome, actor, touches}
+use Rattle.st_core.specs.Streams.{is_own}
+use Rattle.st_core.specs.Collected.{names_among}
+
+-- an act leaves each process that it doesn't touch as it was, and no process comes or goes
+pub record LeavesOthers (a : Act) (before after : State) : Type 0 where
+  pub pids : map (λ r. r.pid) after ≡ map (λ r. r.pid) before
+  pub untouched : (p : Pid) → touches a p ≡ false → process after p ≡ process before p
+
+-- a token that p stamped: it is from p, its serial rises, and its count is one that a clock can have
+pub record IsStamped (top : ℕ) (p : Pid) (t : Token) : Type 0 where
+  pub from : t.from ≡ p
+  pub rises : t.serial.prev < t.serial.this
+  pub within : t.serial.this ≤ top
+
+-- what holds of each process in every run: the last count is at most the clock, the clock at most TOP,
+-- and the token of each queued message, if it has one, was stamped by the message's sender
+pub record IsSound (top : ℕ) (r : Process) : Type 0 where
+  pub ordered : r.local.last ≤ r.local.clock
+  pub within : r.local.clock ≤ top
+  pub queued : All (λ m. ForSome m.token (IsStamped top m.from)) r.queue
+
+-- all processes are so after an act, and the serial of its report, if it has one, rises
+pub record KeepsSound (top : ℕ) (o : Outcome) : Type 0 where
+  pub processes : All (IsSound top) o.after
+  pub report : ForSome o.report (λ e. e.serial.prev < e.serial.this)
+
+-- an event that p may report among these processes: it is p's own, and names only them
+pub record IsReportAmong (pids : List Pid) (p : Pid) (e : Event) : Type 0 where
+  pub own : is_own p e ≡ true
+  pub names : names_among pids e ≡ true
+
+-- the report of an act, if it has one, is such an event of its actor
+abbrev pub ReportsAmong : List Pid → Act → Outcome → Type 0
+ReportsAmong pids a o = ForSome o.report (IsReportAmong pids (actor a))

@@ -1,0 +1,15 @@
+pub mod Pid
+pub mod State
+pub mod Stamp
+pub mod Local
+pub mod Pick
+pub mod Report
+pub mod Step
+pub mod Run
+pub mod Pairs
+pub mod Verdict
+pub mod Device
+pub mod Passed
+pub mod Streams
+pub mod Collected
+pub mod Laws

@@ -1,0 +1,32 @@
+//! What a sink of bytes promises. Only the trait: the sinks stand beside it.
+
+ghost use Rattle.std.specs.Prelude.{◌≡◌, ◌≤◌, ◌<◌, take, List, [], ℕ, Bool, Option, IfOk, MatchResult, length};
+ghost use Rattle.std.specs.Io.KnownBytes.{WriteAppends, Appends};
+ghost use Rattle.st_core.specs.Device.{Marks};
+
+use crate::device::source::Failed;
+
+/// Takes bytes, in pieces.
+pub trait ByteSink {
+    // The bytes that were written, where the sink tells them.
+    ghost written: { Self → Option (List ℕ) };
+
+    // Whether a call has failed.
+    ghost failed: { Self → Bool };
+
+    // One call led from the first state to the second and wrote these bytes. Each sink has this,
+    // also one that doesn't tell what was written.
+    ghost puts: { Self → List ℕ → Self → Type 0 };
+
+    /// Writes bytes from the front of the piece, and says how many: none only of an empty piece.
+    /// A call that fails has written nothing, and after a failure each call fails.
+    fn put(&mut self, piece: &[u8]) -> Result<usize, Failed>
+        ensures bound { IfOk result (λ n. n ≤ length piece.now) }
+        ensures some { IfOk result (λ n. 0 < length piece.now → 0 < n) }
+        ensures bytes { WriteAppends (written self.old) (written self.new) result piece.now }
+        ensures wrote { MatchResult result (λ n. puts self.old (take n piece.now) self.new) (λ _. puts self.old [] self.new) }
+        ensures mark { Marks (failed self.old) (failed self.new) result };
+
+    // What was put stands at the end of what was written, where the sink tells it.
+    ghost puts_appends: { (a : Self) (bytes : List ℕ) (b : Self) → puts a bytes b → Appends (written a) (written b) bytes };
+}

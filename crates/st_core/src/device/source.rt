@@ -1,0 +1,40 @@
+//! What a source of bytes promises. Only the trait: the sources stand beside it.
+
+ghost use Rattle.std.specs.Prelude.{◌≡◌, ◌≤◌, ◌<◌, take, List, [], ℕ, Bool, Option, IfOk, MatchResult, length};
+ghost use Rattle.std.specs.Io.KnownBytes.{ReadConsumes, Consumes};
+ghost use Rattle.st_core.specs.Device.{Marks};
+
+use thiserror::Error;
+
+/// The device failed, at this call or an earlier one. Refusal 1 of `take` and of `put`.
+#[derive(Clone, Copy, Debug, PartialEq, Eq, Error)]
+#[error("the device failed")]
+pub struct Failed;
+
+/// Gives bytes, in pieces.
+pub trait ByteSource {
+    // The bytes that are left, where the source tells them.
+    ghost left: { Self → Option (List ℕ) };
+
+    // Whether a call has failed.
+    ghost failed: { Self → Bool };
+
+    // One call led from the first state to the second and gave these bytes. Each source has this,
+    // also one that doesn't tell what it has left.
+    ghost gives: { Self → List ℕ → Self → Type 0 };
+
+    // A call found the source at its end.
+    ghost ended: { Self → Type 0 };
+
+    /// Writes the next bytes to the front of the piece, and says how many. None, for a piece with
+    /// room, means the end. After a failure each call fails.
+    fn take(&mut self, piece: &mut [u8]) -> Result<usize, Failed>
+        ensures bound { IfOk result (λ n. n ≤ length piece.new) }
+        ensures bytes { ReadConsumes (left self.old) (left self.new) result piece.new }
+        ensures given { MatchResult result (λ n. gives self.old (take n piece.new) self.new) (λ _. gives self.old [] self.new) }
+        ensures end { IfOk result (λ n. n ≡ 0 → 0 < length piece.new → ended self.new) }
+        ensures mark { Marks (failed self.old) (failed self.new) result };
+
+    // What was given stood at the front of what was left, where the source tells it.
+    ghost gives_consumes: { (a : Self) (bytes : List ℕ) (b : Self) → gives a bytes b → Consumes (left a) (left b) bytes };
+}

@@ -1,0 +1,56 @@
+//! Laws of the machine, as contracts of functions that do nothing: each clause is a theorem over the
+//! definitions of `specs/`, and a proof that calls the function may use it.
+
+ghost use Rattle.std.specs.Prelude.{◌≡◌, ◌≤◌, ◌↔◌, ℕ, List, Some, All};
+ghost use Rattle.std.specs.List.{AllZip};
+ghost use Rattle.st_core.specs.declared.types.Act.{Act};
+ghost use Rattle.st_core.specs.declared.types.Pid.{Pid};
+ghost use Rattle.st_core.specs.declared.types.Token.{Token};
+ghost use Rattle.st_core.specs.Laws.{LeavesOthers, IsStamped, KeepsSound, ReportsAmong};
+ghost use Rattle.st_core.specs.Pairs.{Follows, pairs};
+ghost use Rattle.st_core.specs.Run.{Shows, Stream, run};
+ghost use Rattle.st_core.specs.State.{LocalState, State};
+ghost use Rattle.st_core.specs.Step.{Outcome, step};
+ghost use Rattle.st_core.specs.Stamp.{stamp};
+ghost use Rattle.st_core.specs.Verdict.{Verdict, IsVerdict};
+
+/// An act changes only the processes that it touches, and none comes or goes.
+pub fn untouched_stay()
+    ensures { (top : ℕ) (s : State) (a : Act) (o : Outcome) → step top s a ≡ Some o → LeavesOthers a s o.after }
+{}
+
+/// A stamped token is from its process, its serial rises, and its count is one that a clock can have.
+pub fn stamp_rises()
+    ensures { (top : ℕ) (p : Pid) (l m : LocalState) (t : Token) → l.last ≤ l.clock → stamp top p l ≡ Some m → m.token ≡ Some t → IsStamped top p t }
+{}
+
+/// After each act of every run each process's last is at most its clock and its clock at most TOP,
+/// each queued token was stamped by its message's sender, and the serial of the act's report rises.
+pub fn runs_stay_sound()
+    ensures { (top : ℕ) (pids : List Pid) (acts : List Act) (os : List Outcome) → run top pids acts ≡ Some os → All (KeepsSound top) os }
+{}
+
+/// In every run each report is an event that its actor may report, and names only processes of the run.
+pub fn reports_are_own()
+    ensures { (top : ℕ) (pids : List Pid) (acts : List Act) (os : List Outcome) → run top pids acts ≡ Some os → AllZip (ReportsAmong pids) acts os }
+{}
+
+/// In every run each reported receive follows the send whose message it took, and no send stands twice.
+pub fn receives_follow()
+    ensures { (top : ℕ) (pids : List Pid) (acts : List Act) (os : List Outcome) → run top pids acts ≡ Some os → Follows acts os (pairs acts os) }
+{}
+
+/// Streams and acts have a verdict.
+pub fn a_verdict()
+    ensures { (top : ℕ) (streams : List Stream) (acts : List Act) → (v : Verdict) × IsVerdict top streams acts v }
+{}
+
+/// The verdict is Yes exactly where the acts show the streams.
+pub fn yes_shows()
+    ensures { (top : ℕ) (streams : List Stream) (acts : List Act) → ((ps : List (ℕ × ℕ)) × IsVerdict top streams acts (Verdict.Yes ps)) ↔ Shows top streams acts }
+{}
+
+/// Streams and acts have one verdict at most.
+pub fn one_verdict()
+    ensures { (top : ℕ) (streams : List Stream) (acts : List Act) (v w : Verdict) → IsVerdict top streams acts v → IsVerdict top streams acts w → v ≡ w }
+{}

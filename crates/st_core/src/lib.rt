@@ -1,0 +1,22 @@
+//! Erlang's sequential tracing: its types and what one process keeps.
+#![tactic(auto)]
+
+mod device;
+pub mod laws;
+mod local;
+mod sequence;
+mod streams;
+mod types;
+
+pub use device::{
+    ByteSink, ByteSource, EndlessSource, Failed, MemorySink, MemorySource, ReadFrom, WriteTo,
+};
+pub use local::{ClockFull, Local};
+pub use sequence::Sequence;
+pub use streams::{AddFault, Draft, OpenFault, Streams, Unlisted};
+pub use types::{
+    Act, Component, Event, Flags, Kind, Label, Message, Pid, Reply, Serial, Token, Want,
+};
+
+#[cfg(test)]
+mod tests;

@@ -1,0 +1,346 @@
+//! Collected event streams: a draft that grows, and the streams that it closes to.
+//!
+//! Both keep the rules of `specs/Streams.antt` in their types, so whoever has `Streams` needn't
+//! check them again. Nothing here steps the machine.
+
+ghost use Rattle.std.specs.Prelude.{◌≡◌, ◌<◌, ◌↔◌, [], ◌∷◌, ◌++◌, length, not, position, true, false, Some, None, IsTrue, IfOk, IfSome, IfNone, IfErr, OnOk, OnErr, slice_get, slice_set, slice_index_or};
+ghost use Rattle.std.specs.List.{AllByRecursion};
+ghost use Rattle.st_core.specs.Pid.{pid_eq, IsBelow, IsRising};
+ghost use Rattle.st_core.specs.Run.{pids_of};
+ghost use Rattle.st_core.specs.Streams.{lists, events_of, total_of, unlisted, is_own, added, ComesLast, IsOpenFault, IsAddFault, IsDraft, IsStreams};
+ghost use Rattle.st_core.specs.Collected.{is_among, names_among, first_failing};
+
+use crate::sequence::Sequence;
+use crate::types::{Event, Kind, Pid};
+use std::alloc::{AllocError, Global};
+use std::marker::Model;
+use thiserror::Error;
+
+/// Why a process wasn't opened.
+#[derive(Clone, Copy, Debug, PartialEq, Eq, Error)]
+pub enum OpenFault {
+    /// Refusal 1: a growth was refused.
+    #[error("no memory")]
+    Memory,
+    /// Refusal 2, before 1: the pid isn't above all that were opened.
+    #[error("the pids don't rise")]
+    NotRising,
+}
+
+/// Why an event wasn't added.
+#[derive(Clone, Copy, Debug, PartialEq, Eq, Error)]
+pub enum AddFault {
+    /// Refusal 1, after the others: a growth was refused.
+    #[error("no memory")]
+    Memory,
+    /// Refusal 2, before the others: the process wasn't opened.
+    #[error("the process isn't there")]
+    Unknown,
+    /// Refusal 3: the event is another process's, or has a `to` against its kind or lacks one.
+    #[error("the event isn't the process's own")]
+    Foreign,
+}
+
+/// The streams that are being collected: processes by strictly rising pid, each event its
+/// process's own. A pid that an event names needn't be listed yet.
+#[derive(Debug, Drop)]
+pub struct Draft {
+    pids: Vec<Pid>,
+    events: Vec<Sequence<Event>>,
+    total: u64,
+}
+
+impl Model for Draft {
+    ghost use Rattle.std.specs.Prelude.{List};
+    ghost use Rattle.st_core.specs.Run.{Stream};
+    ghost use Rattle.st_core.specs.Collected.{collected, IsCollected};
+
+    ghost Value = { List Stream };
+
+    ghost view = { λ a. collected a.pids.items a.events.items };
+
+    ghost invariant = { λ a. IsCollected a.pids.items a.events.items a.total };
+}
+
+/// Where the pid stands among pids that rise.
+fn place_of(pids: &[Pid], pid: Pid) -> Option<usize>
+    requires { IsRising pids.now }
+    ensures found { IfSome result (λ i. slice_get pids.now i ≡ Some pid) }
+    ensures missing { IfNone result (AllByRecursion (λ p. pid_eq p pid ≡ false) pids.now) }
+{
+    // Collected events mostly come for the process that was opened last.
+    if let Some(last) = pids.last() {
+        if *last == pid {
+            return Some(pids.len() - 1);
+        }
+    }
+    pids.binary_search(&pid).ok()
+}
+
+/// Whether the event is one that this process reports: from it for a send or a print, to it for
+/// a receive, and with a `to` exactly where it isn't a print.
+fn is_own(pid: Pid, event: &Event) -> bool
+    ensures { result ≡ is_own pid event.now }
+{
+    match (event.kind, event.to) {
+        (Kind::Send, Some(_)) | (Kind::Print, None) => event.from == pid,
+        (Kind::Receive, Some(to)) => to == pid,
+        (Kind::Send | Kind::Receive, None) | (Kind::Print, Some(_)) => false,
+    }
+}
+
+impl Draft {
+    /// No processes. Takes no memory.
+    pub fn new(alloc: Global) -> Draft
+        ensures { result ≡ [] }
+    {
+        Draft {
+            pids: Vec::new(alloc),
+            events: Vec::new(alloc),
+            total: 0,
+        }
+    }
+
+    /// Lists the next process, with no events yet.
+    pub fn open(&mut self, pid: Pid) -> Result<(), OpenFault>
+        ensures ok { OnOk result (self.new ≡ self.old ++ record { pid = pid; events = [] } ∷ []) }
+        ensures rising { OnOk result (ComesLast self.old pid) }
+        ensures fault { IfErr result (IsOpenFault self.old pid) }
+        ensures err { OnErr result (self.new ≡ self.old) }
+    {
+        if !comes_last(&self.pids, pid) {
+            return Err(OpenFault::NotRising);
+        }
+        let Ok(()) = self.pids.reserve(1) else {
+            return Err(OpenFault::Memory);
+        };
+        let alloc = *self.pids.allocator();
+        let Ok(()) = self.events.push(Sequence::new(alloc)) else {
+            return Err(OpenFault::Memory);
+        };
+        self.pids.push(pid).unwrap();
+        Ok(())
+    }
+
+    /// Adds an event at the end of a process's stream.
+    pub fn add(&mut self, pid: Pid, event: Event) -> Result<(), AddFault>
+        ensures ok { OnOk result (self.new ≡ added self.old pid event) }
+        ensures listed { OnOk result (lists self.old pid ≡ true) }
+        ensures own { OnOk result (is_own pid event ≡ true) }
+        ensures fault { IfErr result (IsAddFault self.old pid event) }
+        ensures err { OnErr result (self.new ≡ self.old) }
+    {
+        let Some(place) = place_of(&self.pids, pid) else {
+            return Err(AddFault::Unknown);
+        };
+        if !is_own(pid, &event) {
+            return Err(AddFault::Foreign);
+        }
+        // No memory holds so many events that their count leaves its range.
+        let Some(total) = self.total.checked_add(1) else {
+            return Err(AddFault::Memory);
+        };
+        let Ok(()) = push_at(&mut self.events, place, event) else {
+            return Err(AddFault::Memory);
+        };
+        self.total = total;
+        Ok(())
+    }
+
+    /// The streams, where each pid that an event names is listed. Else the draft comes back, with
+    /// the least place, by pid and then index, of an event that names one that isn't.
+    pub fn close(self) -> Result<Streams, Unlisted>
+        ensures ok { IfOk result (λ streams. streams ≡ self) }
+        ensures streams { OnOk result (IsStreams self) }
+        ensures err { IfErr result (λ fault. fault.draft ≡ self) }
+        ensures place { IfErr result (λ fault. unlisted self ≡ Some (fault.pid, fault.index)) }
+    {
+        match self.first_unlisted() {
+            None => Ok(Streams { draft: self }),
+            Some((pid, index)) => Err(Unlisted {
+                draft: self,
+                pid,
+                index,
+            }),
+        }
+    }
+
+    /// The least place of an event that names a pid that isn't listed.
+    fn first_unlisted(&self) -> Option<(Pid, u64)>
+        ensures place { result ≡ unlisted self.now }
+        ensures draft { IsDraft self.now }
+    {
+        first_failing(&self.pids, &self.events)
+    }
+
+    /// The processes so far, by strictly rising pid.
+    pub fn pids(&self) -> &[Pid]
+        ensures value { result.now ≡ pids_of self.now }
+        ensures draft { IsDraft self.now }
+    {
+        self.pids.as_slice()
+    }
+
+    /// The events of a process so far, in order; none where it isn't listed.
+    pub fn events(&self, pid: Pid) -> &[Event]
+        ensures value { result.now ≡ events_of self.now pid }
+        ensures draft { IsDraft self.now }
+    {
+        match place_of(&self.pids, pid) {
+            None => &[],
+            Some(place) => self.events[place].as_slice(),
+        }
+    }
+
+    /// The number of all events.
+    fn total(&self) -> u64
+        ensures { result ≡ total_of self.now }
+    {
+        self.total
+    }
+}
+
+/// Why a draft didn't close: it comes back, with the place of the first event that names a pid
+/// that isn't listed. Refusal 1, the only one.
+#[derive(Debug, Drop)]
+pub struct Unlisted {
+    /// The draft as it was.
+    pub draft: Draft,
+    /// The process in whose stream the event stands.
+    pub pid: Pid,
+    /// The event's index there, counted from 0.
+    pub index: u64,
+}
+
+/// What each process reported: processes by strictly rising pid, each event its process's own,
+/// and each pid that an event names listed.
+#[derive(Debug, Drop)]
+pub struct Streams {
+    draft: Draft,
+}
+
+impl Model for Streams {
+    ghost use Rattle.std.specs.Prelude.{◌≡◌, List, None};
+    ghost use Rattle.st_core.specs.Run.{Stream};
+    ghost use Rattle.st_core.specs.Streams.{unlisted};
+
+    ghost Value = { List Stream };
+
+    ghost view = { λ a. a.draft };
+
+    ghost invariant = { λ a. unlisted a.draft ≡ None };
+}
+
+impl Streams {
+    /// The processes, by strictly rising pid.
+    pub fn pids(&self) -> &[Pid]
+        ensures value { result.now ≡ pids_of self.now }
+        ensures streams { IsStreams self.now }
+    {
+        self.draft.pids()
+    }
+
+    /// The events of a process in order; none where it isn't listed.
+    pub fn events(&self, pid: Pid) -> &[Event]
+        ensures value { result.now ≡ events_of self.now pid }
+        ensures streams { IsStreams self.now }
+    {
+        self.draft.events(pid)
+    }
+
+    /// The number of a process's events; 0 where it isn't listed.
+    pub fn len(&self, pid: Pid) -> u64
+        ensures { result ≡ length (events_of self.now pid) }
+    {
+        self.events(pid).len() as u64
+    }
+
+    /// A process's event at an index, counted from 0; none past the end or where the process
+    /// isn't listed.
+    pub fn event(&self, pid: Pid, index: u64) -> Option<Event>
+        ensures { result ≡ slice_get (events_of self.now pid) index }
+    {
+        self.events(pid).get(index as usize).copied()
+    }
+
+    /// The number of all events.
+    pub fn total(&self) -> u64
+        ensures { result ≡ total_of self.now }
+    {
+        self.draft.total()
+    }
+}
+
+/// Whether the pid is above all of these, which rise.
+fn comes_last(pids: &[Pid], pid: Pid) -> bool
+    requires { IsRising pids.now }
+    ensures { IsTrue result ↔ AllByRecursion (λ p. IsBelow p pid) pids.now }
+{
+    match pids.last() {
+        None => true,
+        Some(last) => last.cmp(&pid).is_lt(),
+    }
+}
+
+/// Puts the event at the end of the list at this place.
+fn push_at(events: &mut [Sequence<Event>], place: usize, event: Event) -> Result<(), AllocError>
+    requires { place < length events.old }
+    ensures ok { OnOk result (events.new ≡ slice_set events.old place (slice_index_or events.old place [] ++ event ∷ [])) }
+    ensures err { OnErr result (events.new ≡ events.old) }
+{
+    let list = &mut events[place];
+    list.push(event)?;
+    Ok(())
+}
+
+/// Whether the pid is among these, which rise.
+fn is_among(pids: &[Pid], pid: Pid) -> bool
+    requires { IsRising pids.now }
+    ensures { result ≡ is_among pids.now pid }
+{
+    match place_of(pids, pid) {
+        None => false,
+        Some(_) => true,
+    }
+}
+
+/// Whether the pids that the event names are among these, which rise.
+fn names_among(pids: &[Pid], event: &Event) -> bool
+    requires { IsRising pids.now }
+    ensures { result ≡ names_among pids.now event.now }
+{
+    if !is_among(pids, event.from) {
+        return false;
+    }
+    match event.to {
+        None => true,
+        Some(to) => is_among(pids, to),
+    }
+}
+
+/// The first event that names a pid that isn't among these, which rise.
+fn unlisted_index(pids: &[Pid], events: &[Event]) -> Option<usize>
+    requires { IsRising pids.now }
+    ensures { result ≡ position (λ e. not (names_among pids.now e)) events.now }
+{
+    events.iter().position(
+        |event: &Event| -> bool
+            requires { IsRising pids.now }
+            ensures { result ≡ not (names_among pids.entry.now event.now) }
+        { !names_among(pids, event) },
+    )
+}
+
+/// The first process with such an event, and the event's index.
+fn first_failing(pids: &[Pid], lists: &[Sequence<Event>]) -> Option<(Pid, u64)>
+    requires rising { IsRising pids.now }
+    requires even { length lists.now ≡ length pids.now }
+    ensures { result ≡ first_failing (names_among pids.now) pids.now lists.now }
+{
+    for (place, events) in lists.iter().enumerate() {
+        if let Some(index) = unlisted_index(pids, events.as_slice()) {
+            return Some((pids[place], index as u64));
+        }
+    }
+    None
+}

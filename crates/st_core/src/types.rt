@@ -1,0 +1,244 @@
+//! The plain values of the machine: pids, tokens, messages, events, acts and replies.
+//!
+//! Data alone, all of it copied; what an act does stands in `specs/` and, for one process, in
+//! `local`. "Manual" means the manual page `seq_trace` of Erlang's kernel, "own profile" what this
+//! project chose where the manual is silent or leaves a choice.
+
+ghost use Rattle.std.specs.Prelude.{◌≡◌};
+ghost use Rattle.st_core.specs.Local.{component_of, default_token, with_component};
+ghost use Rattle.st_core.specs.Pid.{node_of, number_of, pid_on};
+
+/// The identifier of a process: a node and a number there, each 0 to 65,535 (own profile). It is
+/// written `<NODE.NUMBER.0>`, and ordered by node, then number.
+#[derive(Clone, Copy, Debug, PartialEq, Eq, PartialOrd, Ord, Hash)]
+pub struct Pid {
+    /// The node, which comes first in the order.
+    node: u16,
+    /// The number on its node.
+    number: u16,
+}
+
+impl Pid {
+    /// The process of this number on this node.
+    pub const fn on(node: u16, number: u16) -> Pid
+        ensures { result ≡ pid_on node number }
+    {
+        Pid { node, number }
+    }
+
+    /// The process of this number on node 0.
+    pub const fn new(number: u16) -> Pid
+        ensures { result ≡ pid_on 0 number }
+    {
+        Pid::on(0, number)
+    }
+
+    /// The node that the process is on.
+    pub const fn node(self) -> u16
+        ensures { result ≡ node_of self }
+    {
+        self.node
+    }
+
+    /// The process's number on its node.
+    pub const fn number(self) -> u16
+        ensures { result ≡ number_of self }
+    {
+        self.number
+    }
+}
+
+/// The label of a sequential trace, which tells it from others that go on at the same time. The
+/// manual allows any term; here a number of 32 bits (own profile). The default is 0.
+#[derive(Clone, Copy, Debug, Default, PartialEq, Eq, PartialOrd, Ord, Hash)]
+pub struct Label(pub u32);
+
+/// The serial of a token, by which traced messages are put in order (manual).
+#[derive(Clone, Copy, Debug, Default, PartialEq, Eq, PartialOrd, Ord, Hash)]
+pub struct Serial {
+    /// The count passed in the last received information that carried a token, or the trace clock
+    /// at the start of a new trace (manual).
+    pub prev: u64,
+    /// The count that the process set on this information: its trace clock after it grew (manual).
+    pub this: u64,
+}
+
+/// Which acts under a token are reported. All are false by default (manual).
+#[derive(Clone, Copy, Debug, Default, PartialEq, Eq, PartialOrd, Ord, Hash)]
+pub struct Flags {
+    /// Sends.
+    pub send: bool,
+    /// Receives.
+    pub receive: bool,
+    /// Explicit prints.
+    pub print: bool,
+}
+
+/// A trace token. It travels with each message that its process sends (manual).
+#[derive(Clone, Copy, Debug, PartialEq, Eq, PartialOrd, Ord, Hash)]
+pub struct Token {
+    /// The trace that it belongs to.
+    pub label: Label,
+    /// What is reported.
+    pub flags: Flags,
+    /// Its counts.
+    pub serial: Serial,
+    /// The process that made it or stamped it last (own profile).
+    pub from: Pid,
+}
+
+impl Token {
+    /// A token of the defaults, as the first component that is set on no token makes it.
+    pub const fn made_by(from: Pid) -> Token
+        ensures { result ≡ default_token from }
+    {
+        Token {
+            label: Label(0),
+            flags: Flags {
+                send: false,
+                receive: false,
+                print: false,
+            },
+            serial: Serial { prev: 0, this: 0 },
+            from,
+        }
+    }
+
+    /// The token with this component set.
+    pub fn with(mut self, component: Component) -> Token
+        ensures { result ≡ with_component component self }
+    {
+        match component {
+            Component::Label(label) => self.label = label,
+            Component::Send(send) => self.flags.send = send,
+            Component::Receive(receive) => self.flags.receive = receive,
+            Component::Print(print) => self.flags.print = print,
+        }
+        self
+    }
+
+    /// The token's component of the same kind.
+    pub fn component(self, component: Component) -> Component
+        ensures { result ≡ component_of component self }
+    {
+        match component {
+            Component::Label(_) => Component::Label(self.label),
+            Component::Send(_) => Component::Send(self.flags.send),
+            Component::Receive(_) => Component::Receive(self.flags.receive),
+            Component::Print(_) => Component::Print(self.flags.print),
+        }
+    }
+}
+
+/// A message in a queue. Values are numbers, where Erlang has any term (own profile).
+#[derive(Clone, Copy, Debug, PartialEq, Eq, PartialOrd, Ord, Hash)]
+pub struct Message {
+    /// Its sender.
+    pub from: Pid,
+    /// What was sent.
+    pub value: u64,
+    /// A copy of its sender's token at the send, if it had one and no reset emptied it since.
+    pub token: Option<Token>,
+}
+
+/// What an event reports (manual: the words `send`, `'receive'` and `print` of the tracer's tuple).
+#[derive(Clone, Copy, Debug, PartialEq, Eq, PartialOrd, Ord, Hash)]
+pub enum Kind {
+    /// A send, reported by its sender.
+    Send,
+    /// A receive, reported by its receiver.
+    Receive,
+    /// An explicit print.
+    Print,
+}
+
+/// What the system tracer gets (manual: `{seq_trace, Label, {Kind, Serial, From, To, Value}}`).
+#[derive(Clone, Copy, Debug, PartialEq, Eq, PartialOrd, Ord, Hash)]
+pub struct Event {
+    /// The label of the token in force: the stamped one of a send or a print, the message's of a
+    /// receive.
+    pub label: Label,
+    /// What happened.
+    pub kind: Kind,
+    /// The serial of the token in force.
+    pub serial: Serial,
+    /// The sender of a send or a receive, or who printed.
+    pub from: Pid,
+    /// The receiver of a send or a receive. A print has none.
+    pub to: Option<Pid>,
+    /// What was sent or printed.
+    pub value: u64,
+}
+
+/// A component of a token that can be set (manual; its serial is left out, which users should
+/// never set).
+#[derive(Clone, Copy, Debug, PartialEq, Eq, PartialOrd, Ord, Hash)]
+pub enum Component {
+    /// The label.
+    Label(Label),
+    /// The flag for sends.
+    Send(bool),
+    /// The flag for receives.
+    Receive(bool),
+    /// The flag for prints.
+    Print(bool),
+}
+
+/// Which message a receive takes: the oldest that matches (own profile: these five patterns).
+#[derive(Clone, Copy, Debug, PartialEq, Eq, PartialOrd, Ord, Hash)]
+pub enum Want {
+    /// Any message.
+    First,
+    /// One from this process, which needn't be there.
+    From(Pid),
+    /// One with this value.
+    Value(u64),
+    /// One from this process with this value.
+    Both(Pid, u64),
+    /// The message at this place of the queue, counted from 0, and no other. For certificates.
+    Place(u64),
+}
+
+/// One act of a process, which stands first: one atomic step of the machine (own profile).
+#[derive(Clone, Copy, Debug, PartialEq, Eq, PartialOrd, Ord, Hash)]
+pub enum Act {
+    /// Sends the value to the second process.
+    Send(Pid, Pid, u64),
+    /// Takes a message, or finds none (as `receive .. after 0`).
+    Receive(Pid, Want),
+    /// `seq_trace:print/1`.
+    Print(Pid, u64),
+    /// `seq_trace:print/2`: a print where the token has this label.
+    PrintAt(Pid, Label, u64),
+    /// `seq_trace:set_token/2`.
+    Set(Pid, Component),
+    /// `seq_trace:set_token([])`.
+    Clear(Pid),
+    /// `seq_trace:set_token/1` with a token, which may be any.
+    Restore(Pid, Token),
+    /// `seq_trace:get_token/0`.
+    Look(Pid),
+    /// `seq_trace:reset_trace/0`, for the process's node.
+    Reset(Pid),
+    /// `seq_trace:set_system_tracer/1` with some tracer or none, for the process's node.
+    Tracer(Pid, bool),
+}
+
+/// What an act answers its actor.
+#[derive(Clone, Copy, Debug, PartialEq, Eq, PartialOrd, Ord, Hash)]
+pub enum Reply {
+    /// To a send, a print and a reset.
+    Done,
+    /// To a set: the component before, none where there was no token (own profile).
+    Old(Option<Component>),
+    /// To a clear or a restore: the token before.
+    Previous(Option<Token>),
+    /// To a look: the token.
+    Current(Option<Token>),
+    /// To a receive that took a message: its sender and its value.
+    Mail(Pid, u64),
+    /// To a receive that found no message that matches.
+    Nothing,
+    /// To a tracer change: whether the process was traced before.
+    Was(bool),
+}
