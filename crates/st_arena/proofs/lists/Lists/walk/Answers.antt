@@ -1,0 +1,7 @@
+-- The walk has each of its nodes before it.
+use Rattle.std.proofs.Common.{ap}
+use Rattle.st_arena.proofs.ListLemmas.{whole}
+use Rattle.st_arena.proofs.lists.Lists.walk.Goals as goal
+
+pub new-requires : goal.new-requires
+new-requires g c = whole _ _ _ _ c.self.invariant _ (ap (λ a. a.lists) c.self.view_is) c.args.list c.requires _ c.index-ends.ensures

@@ -1,0 +1,22 @@
+-- What a contract sees of a `Lists`. It stands on lists and numbers alone.
+use Rattle.std.specs.Prelude.{ℕ, List, [], slice_index_or, refl}
+use Rattle.std.specs.Coded.{Coded, code_by, coded×, coded_ℕ, coded_list}
+
+-- the lists, and how many more values fit with no allocation
+pub record Arena (T : Type 0) : Type 0 where
+  pub lists : List (List T)
+  pub spare : ℕ
+
+-- an arena is stored as the pair of its fields
+abbrev pub arena_code : {T : Type 0} → Coded T → Coded (Arena T)
+arena_code {T} code =
+    code_by
+    (List (List T) × ℕ)
+    (coded× (coded_list (coded_list code)) coded_ℕ)
+    (λ a. (a.lists, a.spare))
+    (λ p. record { lists = p.0; spare = p.1 })
+    (λ _. refl)
+
+-- the list of this number, which is below the number of lists wherever a clause cites it
+abbrev pub list_at : {T : Type 0} → Arena T → ℕ → List T
+list_at arena list = slice_index_or arena.lists list []

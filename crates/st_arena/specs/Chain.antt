@@ -1,0 +1,135 @@
+-- How a list lies in the arena: its nodes, linked by the keys under which the slab keeps them.
+-- No public clause cites this module.
+use Rattle.std.specs.Prelude.{◌≡◌, ◌≢◌, ℕ, zero, suc, ◌<◌, ◌≤◌, List, [], ◌∷◌, Option, Some, None, IsSome, sum_by, slice_index_or}
+use Rattle.std.specs.Option.{option_map, option_map_or}
+use Rattle.st_arena.specs.declared.node.Node.{Node}
+use Rattle.st_arena.specs.declared.node.Ends.{Ends}
+
+-- how many nodes a list has, by its ends
+abbrev pub len_of : Ends → ℕ
+len_of ends = ends.len
+
+-- the ends of a list without nodes
+abbrev pub no_ends : Ends
+no_ends = record { first = 0; last = 0; len = 0 }
+
+-- the ends of the list of this number
+abbrev pub ends_at : List Ends → ℕ → Ends
+ends_at ends list = slice_index_or ends list no_ends
+
+module _ {T : Type 0} where
+  -- what stands in a slot: its value, and the keys of its neighbours (0 where the slot is empty)
+  abbrev pub item_of : Option (Node T) → Option T
+  item_of slot = option_map (λ node. node.value) slot
+
+  abbrev pub next_key : Option (Node T) → ℕ
+  next_key slot = option_map_or (λ node. node.next) slot 0
+
+  abbrev pub previous_key : Option (Node T) → ℕ
+  previous_key slot = option_map_or (λ node. node.previous) slot 0
+
+-- there is a value in both, and R relates them
+pub record Turns {T : Type 0} (R : T → T → Type 0) (old new : Option T) : Type 0 where
+  pub before : T
+  pub after : T
+  pub was : old ≡ Some before
+  pub is : new ≡ Some after
+  pub related : R before after
+
+-- from here on, `slots` gives what stands under a key
+module _ {T : Type 0} (slots : ℕ → Option (Node T)) where
+  -- the values of so many nodes in a row, from a key on
+  abbrev pub items : ℕ → ℕ → List T
+  items zero key = []
+  items (suc count) key = option_map_or (λ node. node.value ∷ items count node.next) (slots key) []
+
+  -- the values of a list
+  abbrev pub items_of : Ends → List T
+  items_of ends = items ends.len ends.first
+
+  -- the key so many steps after this one
+  abbrev pub key_after : ℕ → ℕ → ℕ
+  key_after first zero = first
+  key_after first (suc steps) = next_key (slots (key_after first steps))
+
+  -- the nodes of a list stand under the keys key 0, key 1, .., each once, and each names its neighbours.
+  -- What the last node names as its next, and the first as its previous, is left open
+  pub record IsChain (ends : Ends) (key : ℕ → ℕ) : Type 0 where
+    pub held : (place : ℕ) → place < ends.len → IsSome (item_of (slots (key place)))
+    pub apart : (place other : ℕ) → place < ends.len → other < ends.len → key place ≡ key other → place ≡ other
+    pub first : 0 < ends.len → ends.first ≡ key 0
+    pub last : (place : ℕ) → suc place ≡ ends.len → ends.last ≡ key place
+    pub next : (place : ℕ) → suc place < ends.len → next_key (slots (key place)) ≡ key (suc place)
+    pub previous : (place : ℕ) → suc place < ends.len → previous_key (slots (key (suc place))) ≡ key place
+
+  -- the same, under some keys
+  pub record IsChained (ends : Ends) : Type 0 where
+    pub key : ℕ → ℕ
+    pub chain : IsChain ends key
+
+  -- each list is a chain, no two share a node, and the chains have every node
+  pub record IsSound (ends : List Ends) (node_count capacity : ℕ) : Type 0 where
+    pub key : ℕ → ℕ → ℕ
+    pub chain : (list : ℕ) → IsChain (ends_at ends list) (key list)
+    pub disjoint : (list other place other_place : ℕ) → list ≢ other → place < len_of (ends_at ends list) → other_place < len_of (ends_at ends other) → key list place ≢ key other other_place
+    pub total : sum_by len_of ends ≡ node_count
+    pub within : node_count ≤ capacity
+
+-- how one change of the slots, from old to new, tells in them
+module _ {T : Type 0} (old new : ℕ → Option (Node T)) where
+  -- where the condition holds, the node under the key names another as its next, and nothing else changed
+  pub record SetsNext (condition : Type 0) (key next : ℕ) : Type 0 where
+    pub items_stay : (other : ℕ) → item_of (new other) ≡ item_of (old other)
+    pub previous_stay : (other : ℕ) → previous_key (new other) ≡ previous_key (old other)
+    pub next_stay : (other : ℕ) → (condition → other ≢ key) → next_key (new other) ≡ next_key (old other)
+    pub mended : condition → next_key (new key) ≡ next
+
+  -- the same of its previous
+  pub record SetsPrevious (condition : Type 0) (key previous : ℕ) : Type 0 where
+    pub items_stay : (other : ℕ) → item_of (new other) ≡ item_of (old other)
+    pub next_stay : (other : ℕ) → next_key (new other) ≡ next_key (old other)
+    pub previous_stay : (other : ℕ) → (condition → other ≢ key) → previous_key (new other) ≡ previous_key (old other)
+    pub mended : condition → previous_key (new key) ≡ previous
+
+  -- the node under the key has another value, and nothing else changed
+  pub record SetsItem (key : ℕ) (item : T) : Type 0 where
+    pub next_stay : (other : ℕ) → next_key (new other) ≡ next_key (old other)
+    pub previous_stay : (other : ℕ) → previous_key (new other) ≡ previous_key (old other)
+    pub items_stay : (other : ℕ) → other ≢ key → item_of (new other) ≡ item_of (old other)
+    pub changed : item_of (new key) ≡ Some item
+
+  -- a list with these ends got one node more, behind its last one, and has the ends `after`
+  pub record Appends (ends after : Ends) (item : T) : Type 0 where
+    pub key : ℕ
+    pub was_vacant : old key ≡ None
+    pub holds : item_of (new key) ≡ Some item
+    pub items_stay : (other : ℕ) → other ≢ key → item_of (new other) ≡ item_of (old other)
+    pub next_stay : (other : ℕ) → other ≢ key → (0 < ends.len → other ≢ ends.last) → next_key (new other) ≡ next_key (old other)
+    pub previous_stay : (other : ℕ) → other ≢ key → previous_key (new other) ≡ previous_key (old other)
+    pub next : 0 < ends.len → next_key (new ends.last) ≡ key
+    pub previous : previous_key (new key) ≡ ends.last
+    pub first_moves : ends.len ≡ 0 → after.first ≡ key
+    pub first_stays : 0 < ends.len → after.first ≡ ends.first
+    pub last : after.last ≡ key
+    pub len : after.len ≡ suc ends.len
+
+  -- a list with these ends lost the node under the key, which was at the place, and has the ends `after`
+  pub record Unlinks (ends after : Ends) (place key : ℕ) (item : T) : Type 0 where
+    pub held : item_of (old key) ≡ Some item
+    pub items_stay : (other : ℕ) → other ≢ key → item_of (new other) ≡ item_of (old other)
+    pub next_stay : (other : ℕ) → other ≢ key → (0 < place → other ≢ previous_key (old key)) → next_key (new other) ≡ next_key (old other)
+    pub previous_stay : (other : ℕ) → other ≢ key → (suc place < ends.len → other ≢ next_key (old key)) → previous_key (new other) ≡ previous_key (old other)
+    pub next : 0 < place → next_key (new (previous_key (old key))) ≡ next_key (old key)
+    pub previous : suc place < ends.len → previous_key (new (next_key (old key))) ≡ previous_key (old key)
+    pub first_moves : place ≡ 0 → after.first ≡ next_key (old key)
+    pub first_stays : 0 < place → after.first ≡ ends.first
+    pub last_moves : suc place ≡ ends.len → after.last ≡ previous_key (old key)
+    pub last_stays : suc place < ends.len → after.last ≡ ends.last
+    pub len : suc after.len ≡ ends.len
+
+  -- each of the first `count` items of a list became another, related to it by R, and nothing else changed
+  pub record ChangesItems (R : T → T → Type 0) (first count : ℕ) : Type 0 where
+    pub next_stay : (other : ℕ) → next_key (new other) ≡ next_key (old other)
+    pub previous_stay : (other : ℕ) → previous_key (new other) ≡ previous_key (old other)
+    pub items_stay : (other : ℕ) → ((place : ℕ) → place < count → other ≢ key_after old first place) → item_of (new other) ≡ item_of (old other)
+    pub changed : (place : ℕ) → place < count → Turns R (item_of (old (key_after old first place))) (item_of (new (key_after old first place)))

@@ -1,0 +1,251 @@
+//! What no clause can show: that the calls succeed, and that the contracts mean what one expects, by
+//! worked runs. Expected values come from the rules of a list, worked by hand or by a vector beside it.
+
+ghost use Rattle.std.specs.Prelude.{◌≡◌, ◌<◌, length, IfOk, map};
+ghost use Rattle.st_arena.specs.Arena.{list_at};
+
+use super::*;
+use std::alloc::{AllocError, Global};
+use std::process::Abort;
+use std::test::Fail;
+
+// A value that can be dropped, and neither copied nor cloned.
+#[derive(Drop)]
+struct Parcel {
+    weight: u64,
+}
+
+// A list's items, by the walk.
+fn walked(alloc: Global, lists: &Lists<u64>, list: usize) -> Result<Vec<u64>, AllocError>
+    requires { list < length lists.now.lists }
+    ensures { IfOk result (λ items. items.items ≡ list_at lists.now list) }
+{
+    lists.walk(list).copied().collect(alloc)
+}
+
+// Each reading of the list agrees with the expected items.
+fn assert_list<R: Abort>(
+    rt: &R,
+    alloc: Global,
+    lists: &Lists<u64>,
+    list: usize,
+    expected: &[u64],
+) -> Result<(), Fail>
+    requires { list < length lists.now.lists }
+{
+    assert_eq!(rt; walked(alloc, lists, list)?.as_slice(), expected);
+    assert_eq!(rt; lists.len(list), expected.len() as u64);
+    for (place, item) in expected.iter().enumerate() {
+        assert_eq!(rt;
+            lists.get(list, place as u64).copied(),
+            Some(*item),
+            "at {place}"
+        );
+    }
+    assert_eq!(rt; lists.get(list, lists.len(list)).copied(), None);
+    Ok(())
+}
+
+// Adds an item, and says of the lists only that they are as many as before, so that a test's goals stay small.
+fn push(lists: &mut Lists<u64>, list: usize, item: u64) -> Result<(), Fail>
+    requires { list < length lists.old.lists }
+    ensures { length lists.new.lists ≡ length lists.old.lists }
+{
+    lists.push_back(list, item)?;
+    Ok(())
+}
+
+// Takes an item, which must be the expected one.
+fn take<R: Abort>(rt: &R, lists: &mut Lists<u64>, list: usize, place: u64, expected: Option<u64>)
+    requires { list < length lists.old.lists }
+    ensures { length lists.new.lists ≡ length lists.old.lists }
+{
+    assert_eq!(rt; lists.take_at(list, place), expected, "at {place}");
+}
+
+#[test]
+fn a_taken_node_serves_another_list(rt: HostRuntime) -> Result<(), Fail> {
+    let mut lists = Lists::new(rt.alloc(), 2)?;
+    lists.reserve(3)?;
+    push(&mut lists, 0, 8)?;
+    push(&mut lists, 0, 9)?;
+    push(&mut lists, 0, 8)?;
+    take(&rt, &mut lists, 0, 1, Some(9));
+    push(&mut lists, 1, 4)?;
+    take(&rt, &mut lists, 0, 1, Some(8));
+    push(&mut lists, 1, 5)?;
+    push(&mut lists, 0, 7)?;
+    assert_list(&rt, rt.alloc(), &lists, 0, &[8, 7])?;
+    assert_list(&rt, rt.alloc(), &lists, 1, &[4, 5])
+}
+
+// Pushes 1, 2, 3, 4 and 7 on the first of two lists, and takes the first and the last between.
+fn three_left<R: Abort>(rt: &R, alloc: Global) -> Result<Lists<u64>, Fail>
+    ensures { IfOk result (λ arena. length arena.lists ≡ 2) }
+{
+    let mut lists = Lists::new(alloc, 2)?;
+    push(&mut lists, 0, 1)?;
+    push(&mut lists, 0, 2)?;
+    push(&mut lists, 0, 3)?;
+    push(&mut lists, 0, 4)?;
+    take(rt, &mut lists, 0, 0, Some(1));
+    take(rt, &mut lists, 0, 2, Some(4));
+    take(rt, &mut lists, 0, 5, None);
+    push(&mut lists, 0, 7)?;
+    Ok(lists)
+}
+
+#[test]
+fn items_leave_at_both_ends(rt: HostRuntime) -> Result<(), Fail> {
+    let lists = three_left(&rt, rt.alloc())?;
+    assert_list(&rt, rt.alloc(), &lists, 0, &[2, 3, 7])
+}
+
+// The same, with each item doubled.
+fn three_doubled<R: Abort>(rt: &R, alloc: Global) -> Result<Lists<u64>, Fail>
+    ensures { IfOk result (λ arena. length arena.lists ≡ 2) }
+{
+    let mut lists = three_left(rt, alloc)?;
+    lists.change_all(0, &|item: &u64| item.wrapping_mul(2));
+    Ok(lists)
+}
+
+#[test]
+fn each_item_changes_and_the_first_one_that_passes_is_found(rt: HostRuntime) -> Result<(), Fail> {
+    let lists = three_doubled(&rt, rt.alloc())?;
+    assert_list(&rt, rt.alloc(), &lists, 0, &[4, 6, 14])?;
+    assert_eq!(rt; lists.find_first(0, &|item: &u64| *item > 5), Some(1));
+    assert_eq!(rt; lists.find_first(0, &|item: &u64| *item > 14), None);
+    Ok(())
+}
+
+#[test]
+fn an_emptied_list_takes_items_again(rt: HostRuntime) -> Result<(), Fail> {
+    let mut lists = three_doubled(&rt, rt.alloc())?;
+    take(&rt, &mut lists, 0, 0, Some(4));
+    take(&rt, &mut lists, 0, 0, Some(6));
+    take(&rt, &mut lists, 0, 0, Some(14));
+    take(&rt, &mut lists, 0, 0, None);
+    push(&mut lists, 0, 9)?;
+    assert_list(&rt, rt.alloc(), &lists, 0, &[9])?;
+    assert_list(&rt, rt.alloc(), &lists, 1, &[])
+}
+
+// Two parcels on the second of two lists.
+fn two_parcels(alloc: Global) -> Result<Lists<Parcel>, AllocError>
+    ensures { IfOk result (λ arena. length arena.lists ≡ 2) }
+{
+    let mut lists = Lists::new(alloc, 2)?;
+    lists.reserve(2)?;
+    lists.push_reserved(1, Parcel { weight: 3 });
+    lists.push_reserved(1, Parcel { weight: 5 });
+    Ok(lists)
+}
+
+#[test]
+fn values_that_cannot_be_copied_move_in_and_out(rt: HostRuntime) -> Result<(), Fail> {
+    let mut lists = two_parcels(rt.alloc())?;
+    assert_eq!(rt; lists.list_count(), 2);
+    assert_eq!(rt; lists.len(1), 2);
+    assert_eq!(rt; lists.get(1, 0).map(|parcel| parcel.weight), Some(3));
+    assert_eq!(rt; lists.take_at(1, 1).map(|parcel| parcel.weight), Some(5));
+    assert!(rt; lists.take_at(0, 0).is_none());
+    Ok(())
+}
+
+#[test]
+fn values_that_cannot_be_copied_change_where_they_are(rt: HostRuntime) -> Result<(), Fail> {
+    let mut lists = two_parcels(rt.alloc())?;
+    lists.change_all(
+        1,
+        &|parcel: &Parcel| Parcel {
+            weight: parcel.weight ^ 1,
+        },
+    );
+    assert_eq!(rt;
+        lists.find_first(1, &|parcel: &Parcel| parcel.weight == 4),
+        Some(1)
+    );
+    let mut weights = 0u64;
+    for parcel in lists.walk(1) {
+        weights ^= parcel.weight;
+    }
+    assert_eq!(rt; weights, 2 ^ 4);
+    Ok(())
+}
+
+// A room that no machine has is refused, and so is a growth for which no memory is left, which is seen
+// where this test runs with an allocation that fails (the third, or a later one). Either way no list
+// changes, the value comes back, and a later push succeeds.
+#[test]
+fn a_refused_growth_leaves_all_lists(rt: HostRuntime) -> Result<(), Fail> {
+    let mut lists = Lists::new(rt.alloc(), 2)?;
+    lists.reserve(1)?;
+    lists.push_reserved(0, 7);
+    assert!(rt; lists.reserve(usize::MAX).is_err());
+    for item in 0..100 {
+        if let Err(refused) = lists.push_back(1, item) {
+            assert_eq!(rt; refused.value, item);
+            assert_eq!(rt; lists.len(1), item);
+            assert_eq!(rt; lists.get(0, 0).copied(), Some(7));
+            assert!(rt; lists.push_back(1, refused.value).is_ok());
+        }
+    }
+    let mut expected = 0u64;
+    for item in lists.walk(1) {
+        assert_eq!(rt; *item, expected);
+        expected = expected.wrapping_add(1);
+    }
+    assert_eq!(rt; expected, 100);
+    assert_eq!(rt; lists.len(0), 1);
+    assert_eq!(rt; lists.take_at(0, 0), Some(7));
+    Ok(())
+}
+
+// One push or take on a list, and the same on a vector.
+fn round<R: Abort>(
+    rt: &R,
+    lists: &mut Lists<u64>,
+    list: usize,
+    model: &mut Vec<u64>,
+    number: u64,
+) -> Result<(), Fail>
+    requires { list < length lists.old.lists }
+    ensures { length lists.new.lists ≡ length lists.old.lists }
+{
+    if number % 5 < 3 {
+        lists.push_back(list, number)?;
+        model.push(number)?;
+        return Ok(());
+    }
+    let place = number % 16;
+    let taken = lists.take_at(list, place);
+    if place < model.len() as u64 {
+        assert_eq!(rt; taken, Some(model.remove(place as usize)));
+    } else {
+        assert_eq!(rt; taken, None);
+    }
+    Ok(())
+}
+
+#[test]
+fn a_thousand_rounds_agree_with_three_vectors(rt: HostRuntime) -> Result<(), Fail> {
+    let mut lists = Lists::new(rt.alloc(), 3)?;
+    let mut first = Vec::new(rt.alloc());
+    let mut second = Vec::new(rt.alloc());
+    let mut third = Vec::new(rt.alloc());
+    let mut number = 1u64;
+    for _ in 0..1000 {
+        number = number
+            .wrapping_mul(6364136223846793005)
+            .wrapping_add(1442695040888963407);
+        match number >> 61 {
+            0 | 1 | 2 => round(&rt, &mut lists, 0, &mut first, number >> 20)?,
+            3 | 4 => round(&rt, &mut lists, 1, &mut second, number >> 20)?,
+            _ => round(&rt, &mut lists, 2, &mut third, number >> 20)?,
+        }
+    }
+    assert_list(&rt, rt.alloc(), &lists, 0, &first)?;
+    assert_list(&rt, rt.alloc(), &lists, 1, &second)?;
+    assert_list(&rt, rt.alloc(), &lists, 2, &third)
+}

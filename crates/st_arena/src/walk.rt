@@ -1,0 +1,60 @@
+//! The iterator over one list.
+
+ghost use Rattle.std.specs.Prelude.{◌≡◌, length};
+ghost use Rattle.std.specs.Iterator.{YieldsFirstRef, item_count};
+
+use crate::node::Node;
+use slab::Slab;
+use std::marker::Model;
+
+/// The items of one list, from the first on. A contract sees it as the list of the items that are left.
+#[derive(Drop)]
+pub struct Walk<'a, T> {
+    nodes: &'a Slab<Node<T>>,
+    // The node of the first item that is left, and how many are left.
+    key: usize,
+    left: u64,
+}
+
+impl<'a, T> Model for Walk<'a, T> {
+    ghost use Rattle.std.specs.Prelude.{◌≡◌, List, length};
+    ghost use Rattle.slab.specs.Slab.{get};
+
+    ghost Value = { List T };
+
+    ghost use Rattle.st_arena.specs.Chain.{items};
+
+    ghost view = { λ w. items (get w.nodes.now) w.left w.key };
+
+    ghost invariant = { λ w. length (items (get w.nodes.now) w.left w.key) ≡ w.left };
+}
+
+impl<'a, T> Walk<'a, T> {
+    ghost use Rattle.slab.specs.Slab.{get};
+    ghost use Rattle.st_arena.specs.Chain.{items};
+
+    pub(crate) fn new(nodes: &'a Slab<Node<T>>, key: usize, left: u64) -> Walk<'a, T>
+        requires { length (items (get nodes.now) left key) ≡ left }
+        ensures { result ≡ items (get nodes.now) left key }
+    {
+        Walk { nodes, key, left }
+    }
+}
+
+impl<'a, T> Iterator for Walk<'a, T> {
+    type Item = &'a T;
+
+    ghost next_gives = { YieldsFirstRef (λ rest. rest) };
+
+    ghost remaining = { item_count (λ rest. rest) };
+
+    fn next(&mut self) -> Option<&'a T> {
+        if self.left == 0 {
+            return None;
+        }
+        let node = &self.nodes[self.key];
+        self.key = node.next;
+        self.left -= 1;
+        Some(&node.value)
+    }
+}
