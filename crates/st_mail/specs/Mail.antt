@@ -1,0 +1,25 @@
+-- Mailboxes as lists of messages: what the contracts of src/ say. Nothing here is code, and no definition follows a loop.
+use Rattle.std.specs.Prelude.{ℕ, ◌==◌, ◌&&◌, Bool, false, List, [], Option, Some, None, remove, slice_index_or}
+use Rattle.st_core.specs.declared.types.Pid.{Pid}
+use Rattle.st_core.specs.declared.types.Message.{Message}
+use Rattle.st_core.specs.declared.types.Token.{Token}
+use Rattle.st_core.specs.Pid.{pid_eq}
+
+-- the queue of each box, from its oldest message on, and for how many more messages there is room
+pub record Mail : Type 0 where
+  pub boxes : List (List Message)
+  pub spare : ℕ
+
+-- the queue of box i
+abbrev pub queue_in : List (List Message) → ℕ → List Message
+queue_in boxes i = slice_index_or boxes i []
+
+-- a queue after a receive of what pick gave: the message leaves its place, and without one nothing changes
+abbrev pub left_by : Option (ℕ × Message) → List Message → List Message
+left_by None queue = queue
+left_by (Some found) queue = remove queue found.0
+
+-- the token has this from, and this as its own count
+abbrev pub is_stamp : Pid → ℕ → Option Token → Bool
+is_stamp from this None = false
+is_stamp from this (Some t) = pid_eq t.from from && t.serial.this == this

@@ -1,0 +1,203 @@
+//! The mailboxes. Each call is on one of them by its number, and leaves all others as they are.
+
+ghost use Rattle.std.specs.Prelude.{◌≡◌, ◌<◌, ◌≤◌, ◌+◌, ◌==◌, ◌&&◌, if◌then◌else◌, is_some, nat_lt, [], ◌∷◌, ◌++◌, length, map, option_map, position, replicate, set, slice_get, IfOk, IsOk, OnOk, OnErr};
+ghost use Rattle.st_core.specs.Pick.{pick};
+ghost use Rattle.st_core.specs.Pid.{pid_eq};
+ghost use Rattle.st_core.specs.Step.{untraced};
+ghost use Rattle.st_mail.specs.Mail.{queue_in, left_by, is_stamp};
+
+use st_arena::Lists;
+use st_core::{Message, Pid, Token, Want};
+use std::alloc::{AllocError, Global};
+use std::marker::Model;
+
+/// The queues of the mailboxes 0, 1, 2 and so on.
+#[derive(Drop)]
+pub struct Mailboxes {
+    queues: Lists<Message>,
+}
+
+impl Model for Mailboxes {
+    ghost use Rattle.st_mail.specs.Mail.{Mail};
+
+    ghost Value = { Mail };
+
+    ghost view = { λ a. record { boxes = a.queues.lists; spare = a.queues.spare } };
+}
+
+/// Whether the token has this from, and this as its own count.
+fn is_stamp(from: Pid, this: u64, token: &Option<Token>) -> bool
+    ensures { result ≡ is_stamp from this token.now }
+{
+    match token {
+        None => false,
+        Some(token) => token.from == from && token.serial.this == this,
+    }
+}
+
+impl Mailboxes {
+    /// As many empty mailboxes as `count`, with room for no message yet. Refusal 1: no memory.
+    pub fn new(alloc: Global, count: usize) -> Result<Mailboxes, AllocError>
+        ensures empty { IfOk result (λ mail. mail.boxes ≡ replicate count []) }
+        ensures spare { IfOk result (λ mail. mail.spare ≡ 0) }
+    {
+        let queues = Lists::new(alloc, count)?;
+        Ok(Mailboxes { queues })
+    }
+
+    /// Makes room for `count` more messages, in whichever mailboxes. Refusal 1: no memory.
+    pub fn reserve(&mut self, count: usize) -> Result<(), AllocError>
+        ensures room { OnOk result (count ≤ self.new.spare) }
+        ensures spare { self.old.spare ≤ self.new.spare }
+        ensures boxes { self.new.boxes ≡ self.old.boxes }
+    {
+        self.queues.reserve(count)
+    }
+
+    /// How many messages lie in the mailbox.
+    pub fn len(&self, mailbox: usize) -> u64
+        requires { mailbox < length self.now.boxes }
+        ensures { result ≡ length (queue_in self.now.boxes mailbox) }
+    {
+        self.queues.len(mailbox)
+    }
+
+    /// The message at this place of the mailbox, the oldest at place 0.
+    pub fn get(&self, mailbox: usize, place: u64) -> Option<Message>
+        requires { mailbox < length self.now.boxes }
+        ensures { result ≡ slice_get (queue_in self.now.boxes mailbox) place }
+    {
+        self.queues.get(mailbox, place).copied()
+    }
+
+    /// Puts a message at the end of the mailbox. Refusal 1: no memory, only where there is no room.
+    pub fn put(&mut self, mailbox: usize, message: Message) -> Result<(), AllocError>
+        requires { mailbox < length self.old.boxes }
+        ensures ok { OnOk result (self.new.boxes ≡ set self.old.boxes mailbox (queue_in self.old.boxes mailbox ++ message ∷ [])) }
+        ensures err { OnErr result (self.new.boxes ≡ self.old.boxes) }
+        ensures succeeds { 0 < self.old.spare → IsOk result }
+
+        // At most the room of one message goes, and where there was none, none.
+        ensures spare { self.old.spare ≤ self.new.spare + 1 }
+        ensures spare_stays { OnErr result (self.old.spare ≤ self.new.spare) }
+    {
+        let Ok(()) = self.queues.push_back(mailbox, message) else {
+            return Err(AllocError);
+        };
+        Ok(())
+    }
+
+    /// Puts a message at the end of the mailbox, where there is room for it.
+    pub fn put_reserved(&mut self, mailbox: usize, message: Message)
+        requires within { mailbox < length self.old.boxes }
+        requires room { 0 < self.old.spare }
+        ensures boxes { self.new.boxes ≡ set self.old.boxes mailbox (queue_in self.old.boxes mailbox ++ message ∷ []) }
+        ensures spare { self.old.spare ≡ self.new.spare + 1 }
+    {
+        self.queues.push_reserved(mailbox, message);
+    }
+
+    /// The place of the message that a receive with this pattern takes. A pattern by place, and one
+    /// for the first, are tested without a walk.
+    pub fn find(&self, mailbox: usize, want: &Want) -> Option<u64>
+        requires { mailbox < length self.now.boxes }
+        ensures { result ≡ option_map (λ found. found.0) (pick want.now (queue_in self.now.boxes mailbox)) }
+    {
+        match *want {
+            Want::First => self.within(mailbox, 0),
+            Want::Place(place) => self.within(mailbox, place),
+            Want::From(from) => self.find_from(mailbox, from),
+            Want::Value(value) => self.find_value(mailbox, value),
+            Want::Both(from, value) => self.find_both(mailbox, from, value),
+        }
+    }
+
+    /// This place, if a message lies there.
+    fn within(&self, mailbox: usize, place: u64) -> Option<u64>
+        requires { mailbox < length self.now.boxes }
+        ensures { result ≡ (if nat_lt place (length (queue_in self.now.boxes mailbox)) then Some place else None) }
+    {
+        if place < self.len(mailbox) {
+            Some(place)
+        } else {
+            None
+        }
+    }
+
+    /// The least place with a message from this process.
+    fn find_from(&self, mailbox: usize, from: Pid) -> Option<u64>
+        requires { mailbox < length self.now.boxes }
+        ensures { result ≡ position (λ m. pid_eq m.from from) (queue_in self.now.boxes mailbox) }
+    {
+        let matches = |message: &Message| -> bool
+            ensures { result ≡ pid_eq message.now.from from }
+        { message.from == from };
+        self.queues.find_first(mailbox, &matches)
+    }
+
+    /// The least place with a message of this value.
+    fn find_value(&self, mailbox: usize, value: u64) -> Option<u64>
+        requires { mailbox < length self.now.boxes }
+        ensures { result ≡ position (λ m. m.value == value) (queue_in self.now.boxes mailbox) }
+    {
+        let matches = |message: &Message| -> bool
+            ensures { result ≡ (message.now.value == value) }
+        { message.value == value };
+        self.queues.find_first(mailbox, &matches)
+    }
+
+    /// The least place with a message from this process and of this value.
+    fn find_both(&self, mailbox: usize, from: Pid, value: u64) -> Option<u64>
+        requires { mailbox < length self.now.boxes }
+        ensures { result ≡ position (λ m. pid_eq m.from from && m.value == value) (queue_in self.now.boxes mailbox) }
+    {
+        let matches = |message: &Message| -> bool
+            ensures { result ≡ (pid_eq message.now.from from && message.now.value == value) }
+        { message.from == from && message.value == value };
+        self.queues.find_first(mailbox, &matches)
+    }
+
+    /// Takes the message that a receive with this pattern takes, and answers its place and itself.
+    /// Its room is there for the next put on any mailbox.
+    pub fn take(&mut self, mailbox: usize, want: &Want) -> Option<(u64, Message)>
+        requires { mailbox < length self.old.boxes }
+        ensures took { result ≡ pick want.now (queue_in self.old.boxes mailbox) }
+        ensures boxes { self.new.boxes ≡ set self.old.boxes mailbox (left_by result (queue_in self.old.boxes mailbox)) }
+        ensures spare { self.new.spare ≡ self.old.spare + (if is_some result then 1 else 0) }
+    {
+        let Some(place) = self.find(mailbox, want) else {
+            return None;
+        };
+        let message = self.queues.take_at(mailbox, place).unwrap();
+        Some((place, message))
+    }
+
+    /// The least place of the mailbox whose message has a token with this from, and this as its own
+    /// count.
+    pub fn place_of(&self, mailbox: usize, from: Pid, this: u64) -> Option<u64>
+        requires { mailbox < length self.now.boxes }
+        ensures { result ≡ position (λ m. is_stamp from this m.token) (queue_in self.now.boxes mailbox) }
+    {
+        let matches = |message: &Message| -> bool
+            ensures { result ≡ is_stamp from this message.now.token }
+        { is_stamp(from, this, &message.token) };
+        self.queues.find_first(mailbox, &matches)
+    }
+
+    /// Takes the tokens of the messages in the mailbox away. The messages stay.
+    pub fn wipe_tokens(&mut self, mailbox: usize)
+        requires { mailbox < length self.old.boxes }
+        ensures boxes { self.new.boxes ≡ set self.old.boxes mailbox (map untraced (queue_in self.old.boxes mailbox)) }
+        ensures spare { self.new.spare ≡ self.old.spare }
+    {
+        let wiped = |message: &Message| -> Message
+            ensures { result ≡ untraced message.now }
+        {
+            Message {
+                token: None,
+                ..*message
+            }
+        };
+        self.queues.change_all(mailbox, &wiped);
+    }
+}
