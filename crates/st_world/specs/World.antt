@@ -1,0 +1,43 @@
+-- What the public calls of a world answer.
+use Rattle.std.specs.Prelude.{◌≡◌, ℕ, Bool, true, false, ◌⊎◌, List, Option, None, IsSome, option_and_then, position}
+use Rattle.st_core.specs.declared.types.Pid.{Pid}
+use Rattle.st_core.specs.declared.types.Token.{Token}
+use Rattle.st_core.specs.declared.types.Act.{Act}
+use Rattle.st_core.specs.declared.types.Act.TheVariants as act
+use Rattle.st_core.specs.Pid.{IsRising}
+use Rattle.st_core.specs.State.{State, process}
+use Rattle.st_core.specs.Step.{Outcome, actor, receiver, step}
+use Rattle.st_mail.specs.Mail.{is_stamp}
+use Rattle.st_world.specs.declared.outcome.Outcome.{Outcome as Told}
+use Rattle.st_world.specs.declared.outcome.NewFault.{NewFault}
+use Rattle.st_world.specs.declared.outcome.NewFault.TheVariants as new_fault
+use Rattle.st_world.specs.declared.outcome.StepFault.{StepFault}
+use Rattle.st_world.specs.declared.outcome.StepFault.TheVariants as fault
+
+-- what comes of a step that tells this and leaves the state so
+abbrev pub outcome_to : Told → State → Outcome
+outcome_to told new = record { reply = told.reply; report = told.report; place = told.place; after = new }
+
+-- when a new world is refused: for its pids wherever these do not rise, else for want of memory
+abbrev pub IsNewFault : List Pid → NewFault → Type 0
+IsNewFault pids new_fault.Memory = IsRising pids
+IsNewFault pids new_fault.NotRising = ¬ IsRising pids
+
+-- when a step is refused. The cases exclude each other, and the last two exclude an outcome: so each comes exactly where it is said
+abbrev pub IsFault : ℕ → State → Act → StepFault → Type 0
+IsFault top s a fault.Memory = IsSome (step top s a)
+IsFault top s a fault.Unknown = (process s (actor a) ≡ None) ⊎ (process s (receiver a) ≡ None)
+IsFault top s a fault.ClockFull = IsSome (process s (actor a)) × IsSome (process s (receiver a)) × (step top s a ≡ None)
+
+-- the act is a send
+abbrev pub is_send : Act → Bool
+is_send (act.Send p q v) = true
+is_send a = false
+
+-- the token of p, if it is there and has one
+abbrev pub token_of : State → Pid → Option Token
+token_of s p = option_and_then (λ r. r.local.token) (process s p)
+
+-- in the queue of p the least place whose message has a token with this from and this own count
+abbrev pub place_in : State → Pid → Pid → ℕ → Option ℕ
+place_in s p from this = option_and_then (λ r. position (λ m. is_stamp from this m.token) r.queue) (process s p)

@@ -1,0 +1,162 @@
+//! What an act does to its actor: to what that process keeps for tracing, and to its queue. Nothing
+//! here knows of other processes.
+
+ghost use Rattle.std.specs.Prelude.{◌≡◌, ◌<◌, List, [], false, true, length, set, IfOk, OnErr};
+ghost use Rattle.std.specs.Result.{result_ok};
+ghost use Rattle.st_core.specs.declared.types.Message.{Message};
+ghost use Rattle.st_core.specs.Local.{IsMeetable};
+ghost use Rattle.st_core.specs.Report.{report};
+ghost use Rattle.st_core.specs.Stamp.{stamp_any};
+ghost use Rattle.st_core.specs.Step.{acted, actor};
+ghost use Rattle.st_mail.specs.Mail.{queue_in};
+ghost use Rattle.st_world.specs.Rows.{process_of, part_of, QueueFits, is_inner};
+
+use crate::outcome::Outcome;
+use st_core::{Act, ClockFull, Event, Kind, Label, Local, Pid, Reply, Token, Want};
+use st_mail::Mailboxes;
+
+/// An outcome of a reply alone.
+pub fn answer(reply: Reply) -> Outcome
+    ensures { result ≡ record { reply = reply; report = None; place = None } }
+{
+    Outcome {
+        reply,
+        report: None,
+        place: None,
+    }
+}
+
+/// The event of a token in force, if the process is traced and the kind's flag is set.
+pub fn event(
+    traced: bool,
+    kind: Kind,
+    token: Option<Token>,
+    to: Option<Pid>,
+    value: u64,
+) -> Option<Event>
+    ensures { result ≡ report traced kind token to value }
+{
+    let token = token?;
+    let flag = match kind {
+        Kind::Send => token.flags.send,
+        Kind::Receive => token.flags.receive,
+        Kind::Print => token.flags.print,
+    };
+    if traced && flag {
+        Some(Event {
+            label: token.label,
+            kind,
+            serial: token.serial,
+            from: token.from,
+            to,
+            value,
+        })
+    } else {
+        None
+    }
+}
+
+/// What a process keeps after a send or a print: stamped where it has a token.
+pub fn stamped<const TOP: u64>(me: Pid, local: &Local<TOP>) -> Result<Local<TOP>, ClockFull>
+    ensures stamp { result_ok result ≡ stamp_any TOP me local.now }
+    ensures fit { IfOk result (λ l. IsMeetable TOP l.token) }
+    ensures traced { IfOk result (λ l. l.traced ≡ local.now.traced) }
+{
+    let mut local = *local;
+    if local.token().is_some() {
+        local.advance(me)?;
+    }
+    Ok(local)
+}
+
+/// A print: the stamp, whatever the flag, and its event.
+fn print<const TOP: u64>(me: Pid, local: &mut Local<TOP>, value: u64) -> Result<Outcome, ClockFull>
+    ensures acted { IfOk result (λ told. (queue : List Message) → acted TOP (process_of me local.old queue) (Act.Print me value) ≡ Some (part_of told local.new queue)) }
+    ensures full { OnErr result ((queue : List Message) → acted TOP (process_of me local.old queue) (Act.Print me value) ≡ None) }
+    ensures err { OnErr result (local.new ≡ local.old) }
+{
+    let traced = local.traced();
+    let token = match local.token() {
+        None => None,
+        Some(_) => Some(local.advance(me)?),
+    };
+    Ok(Outcome {
+        reply: Reply::Done,
+        report: event(traced, Kind::Print, token, None, value),
+        place: None,
+    })
+}
+
+/// A print where the token has this label, and else nothing.
+fn print_at<const TOP: u64>(
+    me: Pid,
+    local: &mut Local<TOP>,
+    label: Label,
+    value: u64,
+) -> Result<Outcome, ClockFull>
+    ensures acted { IfOk result (λ told. (queue : List Message) → acted TOP (process_of me local.old queue) (Act.PrintAt me label value) ≡ Some (part_of told local.new queue)) }
+    ensures full { OnErr result ((queue : List Message) → acted TOP (process_of me local.old queue) (Act.PrintAt me label value) ≡ None) }
+    ensures err { OnErr result (local.new ≡ local.old) }
+{
+    match local.token() {
+        Some(token) if token.label == label => print(me, local, value),
+        _ => Ok(answer(Reply::Done)),
+    }
+}
+
+/// An act that leaves all queues.
+pub fn inner<const TOP: u64>(
+    me: Pid,
+    local: &mut Local<TOP>,
+    act: &Act,
+) -> Result<Outcome, ClockFull>
+    requires inner { is_inner act.now ≡ true }
+    requires me { actor act.now ≡ me }
+    ensures acted { IfOk result (λ told. (queue : List Message) → acted TOP (process_of me local.old queue) act.now ≡ Some (part_of told local.new queue)) }
+    ensures full { OnErr result ((queue : List Message) → acted TOP (process_of me local.old queue) act.now ≡ None) }
+    ensures err { OnErr result (local.new ≡ local.old) }
+{
+    match *act {
+        Act::Print(_, value) => print(me, local, value),
+        Act::PrintAt(_, label, value) => print_at(me, local, label, value),
+        Act::Set(_, component) => Ok(answer(Reply::Old(local.set(me, component)))),
+        Act::Clear(_) => Ok(answer(Reply::Previous(local.restore(None)))),
+        Act::Restore(_, token) => Ok(answer(Reply::Previous(local.restore(Some(token))))),
+        Act::Look(_) => Ok(answer(Reply::Current(local.token()))),
+        Act::Send(..) | Act::Receive(..) | Act::Reset(_) | Act::Tracer(..) => unreachable!(),
+    }
+}
+
+/// A receive from the queue of this number.
+pub fn receive<const TOP: u64>(
+    me: Pid,
+    local: &mut Local<TOP>,
+    queues: &mut Mailboxes,
+    number: usize,
+    want: &Want,
+) -> Outcome
+    requires number { number < length queues.old.boxes }
+    requires fit { QueueFits TOP (queue_in queues.old.boxes number) }
+    ensures acted { acted TOP (process_of me local.old (queue_in queues.old.boxes number)) (Act.Receive me want.now) ≡ Some (part_of result local.new (queue_in queues.new.boxes number)) }
+    ensures others { queues.new.boxes ≡ set queues.old.boxes number (queue_in queues.new.boxes number) }
+    ensures fit { QueueFits TOP (queue_in queues.new.boxes number) }
+{
+    let traced = local.traced();
+    match queues.take(number, want) {
+        None => answer(Reply::Nothing),
+        Some((place, message)) => {
+            local.meet(message.token);
+            Outcome {
+                reply: Reply::Mail(message.from, message.value),
+                report: event(
+                    traced,
+                    Kind::Receive,
+                    message.token,
+                    Some(me),
+                    message.value,
+                ),
+                place: Some(place),
+            }
+        }
+    }
+}

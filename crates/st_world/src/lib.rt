@@ -1,0 +1,18 @@
+//! The whole machine: processes with their tokens, clocks and queues, and one step of it.
+//!
+//! A contract sees a world as the state of the machine's definition, the list of its processes by
+//! rising pid, and `World::step` is the definition's step, both ways. The crate may use the types
+//! and definitions of `st_core` and the mailboxes of `st_mail`; pids are numbered by `indexmap`.
+#![tactic(auto)]
+
+mod actor;
+mod node;
+mod outcome;
+mod rows;
+mod world;
+
+pub use outcome::{NewFault, Outcome, StepFault};
+pub use world::World;
+
+#[cfg(test)]
+mod tests;
