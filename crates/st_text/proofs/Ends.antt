@@ -1,0 +1,152 @@
+-- What is answered at the end of the bytes.
+use Rattle.std.proofs.Common.{◌≡◌, ℕ, suc, ◌^◌, ◌<◌, ◌≤◌, Bool, true, false, cond, eqb, List, [], ◌∷◌, ◌++◌, length, map, Option, Some, None, refl, sym, ap, subst, ◌∙◌, arith}
+use Rattle.std.specs.Prelude.{Result, Ok, Err}
+use Rattle.std.specs.List.{flat_map}
+use Rattle.std.proofs.lemmas.List.{append-nil, length-append, length-map}
+use Rattle.std.proofs.lemmas.List.Concat.{flat_map-append}
+use Rattle.st_core.specs.declared.types.Event.{Event}
+use Rattle.st_core.specs.declared.types.Act.{Act}
+use Rattle.st_core.specs.Run.{Stream}
+use Rattle.st_text.specs.declared.bundle.Bundle.{Bundle}
+use Rattle.st_text.specs.declared.line.Line.{Line}
+use Rattle.st_text.specs.declared.line.Line.TheVariants as lines
+use Rattle.st_text.specs.declared.fault.ReadFault.{ReadFault}
+use Rattle.st_text.specs.declared.fault.ReadFault.TheVariants as faults
+use Rattle.st_text.specs.declared.progress.Progress.{Progress}
+use Rattle.st_text.specs.Reading.{line_of}
+use Rattle.st_text.specs.Counts.{acts_len}
+use Rattle.st_text.specs.Text.{process_lines, act_lines, acts_of, body, ended, spelling}
+use Rattle.st_text.specs.Contents.{contents}
+use Rattle.st_text.specs.Fault.{cut, onto_first, sayings, fault, closing_fault, first_fault, is_event}
+use Rattle.st_text.specs.Sofar.{so_far, IsSound}
+use Rattle.st_text.specs.Finish.{IsFinished, Finishes}
+use Rattle.st_text.specs.Held.{IsHeld}
+use Rattle.st_text.specs.Tail.{IsTail}
+use Rattle.st_text.specs.Holds.{HoldsAs}
+use Rattle.st_text.specs.Answer.{Answers, Reads}
+use Rattle.st_text.proofs.Cuts.{spelled_by, no_lines, fault_of_line, fault_truncated, fault_at_end, truncated_tail, truncated_nothing, truncated_none}
+use Rattle.st_text.proofs.Headers.{spelled_whole, body_fits}
+
+pub answers_err : (bytes : List ℕ) (f : ReadFault) → fault bytes ≡ Some f → Answers bytes (Err f)
+answers_err bytes faults.Memory e = tt
+answers_err bytes faults.Device e = e
+answers_err bytes faults.TooLarge e = e
+answers_err bytes (faults.Line n) e = e
+answers_err bytes (faults.Order n) e = e
+answers_err bytes (faults.Foreign n) e = e
+answers_err bytes (faults.Unknown n) e = e
+answers_err bytes (faults.TooMany n) e = e
+answers_err bytes faults.Truncated e = e
+
+-- a fault was met
+pub end_fault : (bytes : List ℕ) (out : Bool) (o : Option ReadFault) (long : Bool) (kept : List ℕ) (p : Option Progress) (f : ReadFault) → out ≡ false → o ≡ Some f → length bytes ≤ 67108864 → HoldsAs out o bytes long kept p → Answers bytes (Err f)
+end_fault bytes true o long kept p f eo ef few h = absurd cc
+end_fault bytes false None long kept p f eo ef few h = absurd cc
+end_fault bytes false (Some g) long kept p f eo ef few h = let same : g ≡ f = cc in answers_err bytes f (fault_of_line bytes f few (subst (λ (x : ReadFault). first_fault [] (sayings bytes) ≡ Some x) same h))
+
+-- none was met
+pub good : (bytes : List ℕ) (out : Bool) (o : Option ReadFault) (long : Bool) (kept : List ℕ) (p : Option Progress) → out ≡ false → o ≡ None → HoldsAs out o bytes long kept p → HoldsAs false None bytes long kept p
+good bytes true o long kept p eo ef h = absurd cc
+good bytes false (Some g) long kept p eo ef h = absurd cc
+good bytes false None long kept p eo ef h = h
+
+long_some : (long : Bool) (kept t : List ℕ) → long ≡ true → IsTail long kept t → 0 < length t
+long_some true kept t e h = omega arith
+long_some false kept t e h = absurd cc
+
+kept_some : (long : Bool) (kept t : List ℕ) → long ≡ false → IsTail long kept t → kept ≡ t
+kept_some true kept t e h = absurd cc
+kept_some false kept t e h = h
+
+pub end_long : (bytes : List ℕ) (long : Bool) (kept : List ℕ) (p : Option Progress) → long ≡ true → length bytes ≤ 67108864 → HoldsAs false None bytes long kept p → fault bytes ≡ Some faults.Truncated
+end_long bytes long kept p e few h = fault_truncated bytes few h.1.good (truncated_tail bytes (long_some long kept (cut bytes).1 e h.1.tail_is))
+
+pub end_tail : (bytes : List ℕ) (long : Bool) (kept : List ℕ) (p : Option Progress) → long ≡ false → 0 < length kept → length bytes ≤ 67108864 → HoldsAs false None bytes long kept p → fault bytes ≡ Some faults.Truncated
+end_tail bytes long kept p e some few h = fault_truncated bytes few h.1.good (truncated_tail bytes (omega (arith, some, ap length (kept_some long kept (cut bytes).1 e h.1.tail_is))))
+
+none_held : (o : Option Progress) (ls : List Line) → o ≡ None → IsHeld o ls → ls ≡ []
+none_held None ls e h = h
+none_held (Some p) ls e h = absurd cc
+
+pub end_nothing : (bytes : List ℕ) (long : Bool) (kept : List ℕ) (p : Option Progress) → p ≡ None → length bytes ≤ 67108864 → HoldsAs false None bytes long kept p → fault bytes ≡ Some faults.Truncated
+end_nothing bytes long kept p e few h = fault_truncated bytes few h.1.good (truncated_nothing bytes (no_lines bytes (h.1.said ∙ ap (map Some) (none_held p h.0 e h.1.held))))
+
+-- ---- a bundle
+
+event_events : (es : List Event) → length (flat_map is_event (map lines.Event es)) ≡ length es
+event_events [] = refl
+event_events (e ∷ es) = ap suc (event_events es)
+
+act_events : (list : List Act) → flat_map is_event (map lines.Act list) ≡ []
+act_events [] = refl
+act_events (a ∷ list) = act_events list
+
+acts_events : (o : Option (List Act)) → flat_map is_event (act_lines o) ≡ []
+acts_events None = refl
+acts_events (Some list) = act_events list
+
+stream_events : (ss : List Stream) → length (flat_map is_event (flat_map process_lines ss)) ≡ length (flat_map {X = Stream} {A = Event} (λ s. s.events) ss)
+stream_events [] = refl
+stream_events (s ∷ ss) =
+    ap length (flat_map-append is_event (map lines.Event s.events) (flat_map process_lines ss))
+    ∙ omega (arith, length-append (flat_map is_event (map lines.Event s.events)) (flat_map is_event (flat_map process_lines ss)), event_events s.events, stream_events ss, length-append s.events (flat_map {X = Stream} {A = Event} (λ s. s.events) ss))
+
+all_events : (wide : Bool) (ss : List Stream) (o : Option (List Act)) → length (flat_map is_event (so_far wide ss o)) ≡ length (flat_map {X = Stream} {A = Event} (λ s. s.events) ss)
+all_events wide ss o =
+    ap length (flat_map-append is_event (flat_map process_lines ss) (act_lines o) ∙ ap (λ (x : List Line). flat_map is_event (flat_map process_lines ss) ++ x) (acts_events o) ∙ append-nil (flat_map is_event (flat_map process_lines ss))) ∙ stream_events ss
+
+acts_are : (o : Option (List Act)) → length (acts_of o) ≡ acts_len o
+acts_are None = refl
+acts_are (Some list) = refl
+
+-- the finished lines are the text of a bundle within the limits
+reads : (bytes : List ℕ) (ls : List Line) (p : Progress) (b : Bundle) → length bytes ≤ 67108864 → (cut bytes).1 ≡ [] → sayings bytes ≡ map Some ls → first_fault [] (sayings bytes) ≡ None → IsSound p ls → IsFinished ls p b → Reads bytes (contents b)
+reads bytes ls p b few over said clean s fin =
+    let whole : bytes ≡ flat_map ended ls = spelled_by bytes ls said ∙ ap (λ (x : List ℕ). flat_map ended ls ++ x) over ∙ append-nil (flat_map ended ls) in
+    let says : sayings bytes ≡ map Some (lines.Header p.wide ∷ body (contents b)) = said ∙ ap (map Some) fin.lines in
+    let spelled : bytes ≡ spelling (contents b) = spelled_whole bytes p.wide (contents b) says clean (ap closing_fault (sym fin.lines) ∙ fin.closes) (whole ∙ ap (flat_map ended) fin.lines) in
+    let processes : length p.draft ≡ p.processes = omega (arith, s.processes_are, ap length s.pids_are, length-map p.draft (λ (x : Stream). x.pid)) in
+    let events : length (flat_map {X = Stream} {A = Event} (λ s. s.events) p.draft) ≡ p.events = sym (all_events p.wide p.draft p.acts) ∙ ap (λ (x : List Line). length (flat_map is_event x)) (sym s.lines) ∙ sym s.events_are in
+    record {
+      text = record {
+        bundle = record { streams = fin.streams; listed = b.listed; fits = body_fits bytes p.wide (contents b) says };
+        spelled = spelled;
+      };
+      within = record {
+        bytes = omega (arith, few, ap length spelled);
+        processes = omega (arith, processes, p.few_processes, ap length fin.draft);
+        events = omega (arith, events, p.few_events, ap (λ (d : List Stream). length (flat_map {X = Stream} {A = Event} (λ s. s.events) d)) fin.draft);
+        acts = omega (arith, p.few_acts, ap acts_len fin.acts, acts_are b.acts);
+      };
+    }
+
+-- no text has more lines than bytes
+few_lines : (bytes : List ℕ) → length (cut bytes).0 ≤ length bytes
+few_lines [] = omega arith
+few_lines (b ∷ bytes) = by (eqb b 10) (few_lines bytes)
+  where
+    onto : (b : ℕ) (ls : List (List ℕ)) (t : List ℕ) → length (onto_first b ls t).0 ≤ length ls
+    onto b [] t = omega arith
+    onto b (l ∷ ls) t = omega arith
+
+    by : (t : Bool) → length (cut bytes).0 ≤ length bytes → length (cond t ([] ∷ (cut bytes).0, (cut bytes).1) (onto_first b (cut bytes).0 (cut bytes).1)).0 ≤ length (b ∷ bytes)
+    by true le = omega arith
+    by false le = omega (arith, onto b (cut bytes).0 (cut bytes).1)
+
+some_held : (o : Option Progress) (p : Progress) (ls : List Line) → o ≡ Some p → IsHeld o ls → IsSound p ls
+some_held o p ls e h = subst (λ (x : Option Progress). IsHeld x ls) e h
+
+pub end_finish : (bytes : List ℕ) (long : Bool) (kept : List ℕ) (o : Option Progress) (p : Progress) (r : Result Bundle ReadFault) → long ≡ false → kept ≡ [] → o ≡ Some p → length bytes ≤ 67108864
+    → ((ls : List Line) → IsSound p ls → length ls < 2 ^ 64 → Finishes ls p r) → HoldsAs false None bytes long kept o → Answers bytes r
+end_finish bytes long kept o p r el empty eo few fin h =
+    let ls = h.0 in
+    let s : IsSound p ls = some_held o p ls eo h.1.held in
+    let over : (cut bytes).1 ≡ [] = sym (kept_some long kept (cut bytes).1 el h.1.tail_is) ∙ empty in
+    let count : length (cut bytes).0 ≡ length ls = omega (arith, length-map (cut bytes).0 line_of, ap length h.1.said, length-map ls (λ (l : Line). Some l)) in
+    let some : 0 < length (cut bytes).0 = omega (arith, count, ap length s.lines) in
+    let whole : fault bytes ≡ closing_fault ls = fault_at_end bytes ls few h.1.good (truncated_none bytes over some) h.1.said in
+    by r (fin ls s (omega (arith, few, count, few_lines bytes))) s over whole
+  where
+    by : (r : Result Bundle ReadFault) → Finishes h.0 p r → IsSound p h.0 → (cut bytes).1 ≡ [] → fault bytes ≡ closing_fault h.0 → Answers bytes r
+    by (Ok b) f s over whole = reads bytes h.0 p b few over h.1.said h.1.good s f
+    by (Err e) f s over whole = answers_err bytes e (whole ∙ f)

@@ -1,0 +1,77 @@
+-- Lines: what is read is spelled so, and what is spelled so is read.
+use Rattle.std.proofs.Common.{◌≡◌, ℕ, true, false, eqb, List, [], ◌++◌, length, Some, refl, sym, ap, subst, ◌∙◌, append_assoc}
+use Rattle.std.specs.Prelude.{codes}
+use Rattle.std.proofs.lemmas.Bool.{eqb-true}
+use Rattle.std.proofs.lemmas.List.{append-nil, nil_from_length}
+use Rattle.st_core.specs.declared.types.Act.{Act}
+use Rattle.st_core.specs.declared.types.Act.TheVariants as acts
+use Rattle.st_text.specs.declared.line.Line.{Line}
+use Rattle.st_text.specs.declared.line.Line.TheVariants as lines
+use Rattle.st_text.specs.Spelling.{event, act, line}
+use Rattle.st_text.specs.Range.{Fits}
+use Rattle.st_text.specs.Reading.{◌>>=◌, pid_at, event_at, act_at, line_at, line_of}
+use Rattle.st_text.proofs.Numbers.{Stops, chosen}
+use Rattle.st_text.proofs.Fields.{bind_some, some_is, begins_cases, Takes, pid_takes, pid_again}
+use Rattle.st_text.proofs.EventLemmas.{event_rest, event_is, event_takes, event_again}
+use Rattle.st_text.proofs.ActLemmas.{act_takes, act_again}
+
+line_at_takes : (bytes : List ℕ) (x : Line × List ℕ) → line_at bytes ≡ Some x → Takes line Fits bytes x
+unfolding line_at
+line_at_takes bytes x e =
+    begins_cases (Takes line Fits bytes x) (codes "{seq_trace,") bytes _ _ x e
+    (λ rest parts e. bind_some (Takes line Fits bytes x) (event_at rest) _ x e λ v ev e.
+    let p1 = event_takes rest v ev in
+    let whole : bytes ≡ event v.0 ++ v.1 = parts ∙ ap (λ (b : List ℕ). codes "{seq_trace," ++ b) p1.parts ∙ sym (append_assoc (codes "{seq_trace,") (event_rest v.0) v.1) ∙ ap (λ (b : List ℕ). b ++ v.1) (sym (event_is v.0)) in
+    subst (λ (y : Line × List ℕ). Takes line Fits bytes y) (some_is (lines.Event v.0, v.1) x e) (record { parts = whole; fits = p1.fits }))
+    (λ e. begins_cases (Takes line Fits bytes x) (codes "process ") bytes _ _ x e
+    (λ rest parts e. bind_some (Takes line Fits bytes x) (pid_at rest) _ x e λ p ep e.
+    let p1 = pid_takes rest p ep in
+    subst (λ (y : Line × List ℕ). Takes line Fits bytes y) (some_is (lines.Process p.0, p.1) x e) (record { parts = cc; fits = p1.fits }))
+    (λ e. begins_cases (Takes line Fits bytes x) (codes "acts") bytes _ _ x e
+    (λ rest parts e. subst (λ (y : Line × List ℕ). Takes line Fits bytes y) (some_is (lines.Acts, rest) x e) (record { parts = parts; fits = tt }))
+    (λ e. begins_cases (Takes line Fits bytes x) (codes "seqtrace 1") bytes _ _ x e
+    (λ rest parts e. subst (λ (y : Line × List ℕ). Takes line Fits bytes y) (some_is (lines.Header false, rest) x e) (record { parts = parts; fits = tt }))
+    (λ e. begins_cases (Takes line Fits bytes x) (codes "seqtrace 2") bytes _ _ x e
+    (λ rest parts e. subst (λ (y : Line × List ℕ). Takes line Fits bytes y) (some_is (lines.Header true, rest) x e) (record { parts = parts; fits = tt }))
+    (λ e. bind_some (Takes line Fits bytes x) (act_at bytes) _ x e λ a ea e.
+    let p1 = act_takes bytes a ea in
+    subst (λ (y : Line × List ℕ). Takes line Fits bytes y) (some_is (lines.Act a.0, a.1) x e) (record { parts = p1.parts; fits = p1.fits }))))))
+
+line_again : (l : Line) (rest : List ℕ) → Fits l → Stops rest → line_at (line l ++ rest) ≡ Some (l, rest)
+unfolding line_at
+line_again (lines.Header false) rest fits stops = refl
+line_again (lines.Header true) rest fits stops = refl
+line_again (lines.Process p) rest fits stops = rw (pid_again p rest fits) refl
+line_again (lines.Event v) rest fits stops = ap (λ (b : List ℕ). line_at (b ++ rest)) (event_is v) ∙ rw (event_again v rest fits) refl
+line_again lines.Acts rest fits stops = refl
+line_again (lines.Act a) rest fits stops = rw (no_word a rest) (rw (act_again a rest fits stops) refl)
+  where
+    no_word : (a : Act) (rest : List ℕ) → line_at (act a ++ rest) ≡ (act_at (act a ++ rest) >>= λ b. Some (lines.Act b.0, b.1))
+    no_word (acts.Send p q v) rest = refl
+    no_word (acts.Receive p w) rest = refl
+    no_word (acts.Print p v) rest = refl
+    no_word (acts.PrintAt p l v) rest = refl
+    no_word (acts.Set p c) rest = refl
+    no_word (acts.Clear p) rest = refl
+    no_word (acts.Restore p t) rest = refl
+    no_word (acts.Look p) rest = refl
+    no_word (acts.Reset p) rest = refl
+    no_word (acts.Tracer p b) rest = refl
+
+-- What a line says is spelled so.
+pub line_takes : (bytes : List ℕ) (l : Line) → line_of bytes ≡ Some l → (bytes ≡ line l) × Fits l
+unfolding line_of
+line_takes bytes l e =
+    bind_some ((bytes ≡ line l) × Fits l) (line_at bytes) _ l e λ x ex e.
+    let t = line_at_takes bytes x ex in
+    let g = chosen (eqb (length x.1) 0) (Some x.0) l e in
+    let none : x.1 ≡ [] = nil_from_length x.1 (eqb-true _ _ g.0) in
+    let whole : bytes ≡ line x.0 = t.parts ∙ ap (λ (r : List ℕ). line x.0 ++ r) none ∙ append-nil (line x.0) in
+    subst (λ (k : Line). (bytes ≡ line k) × Fits k) (some_is x.0 l g.1) (whole, t.fits)
+
+-- What is spelled so is what the line says.
+pub line_is : (l : Line) → Fits l → line_of (line l) ≡ Some l
+unfolding line_of
+line_is l fits =
+    let at : line_at (line l) ≡ Some (l, []) = ap line_at (sym (append-nil (line l))) ∙ line_again l [] fits refl in
+    rw at refl

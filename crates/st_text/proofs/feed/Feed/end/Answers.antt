@@ -1,0 +1,9 @@
+use Rattle.std.proofs.Common.{Bool, subst}
+use Rattle.st_text.specs.Fed.{FedAs}
+use Rattle.st_text.proofs.Cuts.{fault_too_large}
+use Rattle.st_text.proofs.feed.Feed.end.Goals as goal
+
+pub returns-then-large-clause-answers : goal.returns-then-large-clause-answers
+returns-then-large-clause-answers c = λ bytes fed.
+    let f = c.args.self in
+    fault_too_large bytes (subst (λ (b : Bool). FedAs b f.cutter.out bytes f.count f.cutter) c.if-large.true fed)

@@ -1,0 +1,12 @@
+use Rattle.std.proofs.Common.{◌∙◌, length, sym, arith}
+use Rattle.std.specs.Char.{is_ascii_digit}
+use Rattle.std.proofs.lemmas.List.Sums.{prefix_len_is}
+use Rattle.st_text.proofs.number.digits_len.Goals as goal
+
+pub returns-then-not-is_ascii_digit : goal.returns-then-not-is_ascii_digit
+returns-then-not-is_ascii_digit c =
+    sym (prefix_len_is is_ascii_digit c.args.bytes.now c.loop-i.i 0 c.loop-i.auto.i-end c.loop-i.invariant (λ _. sym c.is_ascii_digit.ensures.value ∙ c.if-not-is_ascii_digit.true))
+
+pub returns : goal.returns
+returns c =
+    sym (prefix_len_is is_ascii_digit c.args.bytes.now (length c.args.bytes.now) 0 (omega arith) (λ k h. c.loop-i.invariant k (omega arith)) (λ h. absurd (omega arith)))

@@ -1,0 +1,6 @@
+-- What the `Bundle` of the code holds.
+use Rattle.st_text.specs.declared.bundle.Bundle.{Bundle}
+use Rattle.st_text.specs.Text.{Contents}
+
+abbrev pub contents : Bundle → Contents
+contents b = record { streams = b.streams; acts = b.acts }

@@ -1,0 +1,168 @@
+-- The refusal of bytes that are no text of a bundle, told from all the bytes and their lines.
+-- In order: too many bytes; the first faulty line; bytes behind the last newline, or none at all; a needless header 2;
+-- the first line that names an unlisted pid.
+use Rattle.std.specs.Prelude.{ℕ, ◌+◌, ◌-◌, Bool, true, false, not, ◌&&◌, ◌||◌, List, [], ◌∷◌, ◌++◌, length, map, Option, Some, None, nat_lt, nat_le, ◌==◌, if◌then◌else◌, option_to_list}
+use Rattle.std.specs.List.{flat_map, list_any, list_all, slice_get}
+use Rattle.std.specs.Ordering.{is_lt}
+use Rattle.st_core.specs.declared.types.Pid.{Pid}
+use Rattle.st_core.specs.Pid.{pid_cmp}
+use Rattle.st_core.specs.Step.{actor, receiver}
+use Rattle.st_core.specs.Streams.{is_own}
+use Rattle.st_text.specs.declared.line.Line.{Line}
+use Rattle.st_text.specs.declared.line.Line.TheVariants as lines
+use Rattle.st_text.specs.declared.fault.ReadFault.{ReadFault}
+use Rattle.st_text.specs.declared.fault.ReadFault.TheVariants as faults
+use Rattle.st_text.specs.Limits.{most_bytes, most_processes, most_events, most_acts}
+use Rattle.st_text.specs.Reading.{line_of}
+use Rattle.st_text.specs.Text.{is_remote, is_among}
+
+-- ---- the lines of bytes
+
+-- the lines, each ended by a newline, and the bytes behind the last newline
+abbrev pub onto_first : ℕ → List (List ℕ) → List ℕ → List (List ℕ) × List ℕ
+onto_first b [] tail = ([], b ∷ tail)
+onto_first b (l ∷ ls) tail = ((b ∷ l) ∷ ls, tail)
+
+abbrev pub cut : List ℕ → List (List ℕ) × List ℕ
+cut [] = ([], [])
+cut (b ∷ bytes) = if b == 10 then ([] ∷ (cut bytes).0, (cut bytes).1) else onto_first b (cut bytes).0 (cut bytes).1
+
+-- what each line says, where it says anything
+abbrev pub sayings : List ℕ → List (Option Line)
+sayings bytes = map line_of (cut bytes).0
+
+-- ---- what lines before say
+
+abbrev pub pid_of : Line → List Pid
+pid_of (lines.Process p) = p ∷ []
+pid_of l = []
+
+abbrev pub is_event : Line → List Line
+is_event (lines.Event e) = lines.Event e ∷ []
+is_event l = []
+
+abbrev pub is_act : Line → List Line
+is_act (lines.Act a) = lines.Act a ∷ []
+is_act l = []
+
+abbrev pub is_acts : Line → Bool
+is_acts lines.Acts = true
+is_acts l = false
+
+-- the listed pids, and whether the acts have begun
+abbrev pub pids : List Line → List Pid
+pids ls = flat_map pid_of ls
+
+abbrev pub has_acts : List Line → Bool
+has_acts ls = list_any is_acts ls
+
+abbrev pub last : {A : Type 0} → List A → Option A
+last xs = slice_get xs (length xs - 1)
+
+-- ---- the faults of one line behind good ones
+
+-- the test of the last process before, if there is one
+abbrev pub last_passes : (Pid → Bool) → Option Pid → Bool
+last_passes test None = false
+last_passes test (Some q) = test q
+
+-- may the line stand behind a header, by whether acts have begun and by the last process?
+abbrev pub may_follow : Bool → Option Pid → Line → Bool
+may_follow begun last (lines.Header b) = false
+may_follow begun last (lines.Process p) = not begun
+may_follow begun last (lines.Event e) = not begun && last_passes (λ q. true) last
+may_follow begun last lines.Acts = not begun
+may_follow begun last (lines.Act a) = begun
+
+abbrev pub is_wide : Line → Bool
+is_wide (lines.Header b) = b
+is_wide l = false
+
+abbrev pub is_header : Line → Bool
+is_header (lines.Header b) = true
+is_header l = false
+
+-- The header comes first, and only header 2 lets pids of other nodes in.
+abbrev pub may_stand : List Line → Line → Bool
+may_stand [] l = is_header l
+may_stand (first ∷ ls) l = may_follow (has_acts (first ∷ ls)) (last (pids (first ∷ ls))) l && (is_wide first || not (is_remote l))
+
+-- a process whose pid isn't greater than the last one
+abbrev pub is_out_of_order : Option Pid → Line → Bool
+is_out_of_order last (lines.Process p) = last_passes (λ q. not (is_lt (pid_cmp q p))) last
+is_out_of_order last l = false
+
+-- an event that isn't one of the last process
+abbrev pub is_foreign : Option Pid → Line → Bool
+is_foreign last (lines.Event e) = last_passes (λ q. not (is_own q e)) last
+is_foreign last l = false
+
+-- more than there may be, by how many processes, events and acts there were
+abbrev pub is_one_too_many : ℕ → ℕ → ℕ → Line → Bool
+is_one_too_many processes events acts (lines.Process p) = nat_le most_processes processes
+is_one_too_many processes events acts (lines.Event e) = nat_le most_events events
+is_one_too_many processes events acts (lines.Act a) = nat_le most_acts acts
+is_one_too_many processes events acts l = false
+
+-- the fault of a line behind good ones, by its number n
+abbrev pub fault_at : ℕ → List Line → Line → Option ReadFault
+fault_at n ls l =
+    if not (may_stand ls l) then Some (faults.Line n)
+    else (if is_out_of_order (last (pids ls)) l then Some (faults.Order n)
+    else (if is_foreign (last (pids ls)) l then Some (faults.Foreign n)
+    else (if is_one_too_many (length (pids ls)) (length (flat_map is_event ls)) (length (flat_map is_act ls)) l then Some (faults.TooMany n) else None)))
+
+-- the same of bytes that may say no line; lines count from 1
+unfoldable pub line_fault : List Line → Option Line → Option ReadFault
+line_fault ls None = Some (faults.Line (length ls + 1))
+line_fault ls (Some l) = fault_at (length ls + 1) ls l
+
+abbrev pub first_of : {A : Type 0} → Option A → Option A → Option A
+first_of (Some x) o = Some x
+first_of None o = o
+
+-- the fault of the first faulty line, of these behind good ones
+unfoldable pub first_fault : List Line → List (Option Line) → Option ReadFault
+first_fault ls [] = None
+first_fault ls (None ∷ more) = line_fault ls None
+first_fault ls (Some l ∷ more) = first_of (line_fault ls (Some l)) (first_fault (ls ++ l ∷ []) more)
+
+-- ---- the faults of the whole
+
+-- what the good lines say
+abbrev pub said : List (Option Line) → List Line
+said [] = []
+said (None ∷ more) = said more
+said (Some l ∷ more) = l ∷ said more
+
+-- bytes behind the last newline, or no bytes at all
+abbrev pub truncated : List ℕ → Option ReadFault
+truncated bytes = if length (cut bytes).1 == 0 && not (length (cut bytes).0 == 0) then None else Some faults.Truncated
+
+-- header 2 where no line names a pid of another node
+abbrev pub needless : List Line → Option ReadFault
+needless ls = if list_any is_wide ls && not (list_any is_remote ls) then Some (faults.Line 1) else None
+
+-- the pids that have to be listed: an event's ends, an actor, a send's receiver
+abbrev pub must_be_listed : Line → List Pid
+must_be_listed (lines.Event e) = e.from ∷ option_to_list e.to
+must_be_listed (lines.Act a) = actor a ∷ receiver a ∷ []
+must_be_listed l = []
+
+abbrev pub is_unknown : List Pid → Line → Bool
+is_unknown ps l = not (list_all (is_among ps) (must_be_listed l))
+
+-- the first line, counted from n, that names an unlisted pid
+unfoldable pub unknown_from : List Pid → ℕ → List Line → Option ReadFault
+unknown_from ps n [] = None
+unknown_from ps n (l ∷ ls) = if is_unknown ps l then Some (faults.Unknown n) else unknown_from ps (n + 1) ls
+
+-- the fault of lines that are each good: a needless header, else the first unlisted pid
+abbrev pub closing_fault : List Line → Option ReadFault
+closing_fault ls = first_of (needless ls) (unknown_from (pids ls) 1 ls)
+
+-- the refusal of all the bytes, if there is one
+unfoldable pub fault : List ℕ → Option ReadFault
+fault bytes =
+    if nat_lt most_bytes (length bytes) then Some faults.TooLarge
+    else first_of (first_fault [] (sayings bytes)) (first_of (truncated bytes) (closing_fault (said (sayings bytes))))

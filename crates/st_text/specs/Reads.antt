@@ -1,0 +1,38 @@
+-- What the reader answers of a source: by the bytes that its calls gave in a row, whatever else the source tells.
+use Rattle.std.specs.Prelude.{◌≡◌, ℕ, ◌+◌, ◌≤◌, Bool, true, false, List, length, Result, Err}
+use Rattle.st_core.specs.Device.{InARow}
+use Rattle.st_text.specs.declared.bundle.Bundle.{Bundle}
+use Rattle.st_text.specs.declared.fault.ReadFault.{ReadFault}
+use Rattle.st_text.specs.declared.fault.ReadFault.TheVariants as faults
+use Rattle.st_text.specs.Limits.{most_bytes}
+use Rattle.st_text.specs.Answer.{Answers}
+
+-- a call failed, and there weren't too many bytes before it
+pub record Fails {S : Type 0} (failed : S → Bool) (bytes : List ℕ) (new : S) : Type 0 where
+  pub mark : failed new ≡ true
+  pub small : length bytes ≤ most_bytes
+
+-- one byte too many came, and none after it was taken
+pub record Overflows {S : Type 0} (failed : S → Bool) (bytes : List ℕ) (old new : S) : Type 0 where
+  pub count : length bytes ≡ most_bytes + 1
+  pub before : failed old ≡ false
+  pub after : failed new ≡ false
+
+-- the source ended, and the bytes have this answer
+pub record Ends {S : Type 0} (ended : S → Type 0) (failed : S → Bool) (bytes : List ℕ) (old new : S) (r : Result Bundle ReadFault) : Type 0 where
+  pub end : ended new
+  pub small : length bytes ≤ most_bytes
+  pub before : failed old ≡ false
+  pub after : failed new ≡ false
+  pub answer : Answers bytes r
+
+abbrev pub ReadsAs : {S : Type 0} → (S → Type 0) → (S → Bool) → List ℕ → S → S → Result Bundle ReadFault → Type 0
+ReadsAs ended failed bytes old new (Err faults.Device) = Fails failed bytes new
+ReadsAs ended failed bytes old new (Err faults.TooLarge) = Overflows failed bytes old new
+ReadsAs ended failed bytes old new r = Ends ended failed bytes old new r
+
+-- the reader's calls gave some bytes in a row, and it answers of them
+pub record ReadsSource {S : Type 0} (gives : S → List ℕ → S → Type 0) (ended : S → Type 0) (failed : S → Bool) (old new : S) (r : Result Bundle ReadFault) : Type 0 where
+  pub bytes : List ℕ
+  pub given : InARow gives old bytes new
+  pub answer : ReadsAs ended failed bytes old new r

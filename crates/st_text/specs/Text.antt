@@ -1,0 +1,121 @@
+-- Which bytes are the text of which bundle: the bundle's lines in order, each in its one spelling and ended by a newline.
+use Rattle.std.specs.Prelude.{◌≡◌, ℕ, ◌≤◌, Bool, true, not, ◌&&◌, List, [], ◌∷◌, ◌++◌, length, map, Option, Some, None, ◌==◌, option_to_list, option_map, position}
+use Rattle.std.specs.List.{flat_map, list_any, list_all, AllByRecursion}
+use Rattle.std.specs.Borrow.{Bor}
+use Rattle.st_core.specs.declared.types.Pid.{Pid}
+use Rattle.st_core.specs.declared.types.Want.{Want}
+use Rattle.st_core.specs.declared.types.Want.TheVariants as wants
+use Rattle.st_core.specs.declared.types.Act.{Act}
+use Rattle.st_core.specs.declared.types.Act.TheVariants as acts
+use Rattle.st_core.specs.Pid.{pid_eq}
+use Rattle.st_core.specs.Step.{actor, receiver}
+use Rattle.st_core.specs.Run.{Stream, pids_of}
+use Rattle.st_core.specs.Streams.{IsStreams}
+use Rattle.st_text.specs.declared.line.Line.{Line}
+use Rattle.st_text.specs.declared.line.Line.TheVariants as lines
+use Rattle.st_text.specs.Spelling.{line}
+use Rattle.st_text.specs.Range.{Fits}
+use Rattle.st_text.specs.Limits.{most_bytes, most_processes, most_events, most_acts}
+
+-- what a bundle holds: streams, and acts where there are any
+pub record Contents : Type 0 where
+  pub streams : List Stream
+  pub acts : Option (List Act)
+
+-- streams, and acts behind a reference where there are any
+abbrev pub parts : List Stream → Option (Bor (List Act)) → Contents
+parts streams acts = record { streams = streams; acts = option_map (λ a. a.now) acts }
+
+-- ---- the pids of a line
+
+-- the pids that a want names
+abbrev pub wanted : Want → List Pid
+wanted (wants.From p) = p ∷ []
+wanted (wants.Both p v) = p ∷ []
+wanted w = []
+
+-- the pids that an act names: its actor, a send's receiver, and those of a want or a restored token
+abbrev pub named : Act → List Pid
+named (acts.Send p q v) = p ∷ q ∷ []
+named (acts.Receive p w) = p ∷ wanted w
+named (acts.Restore p t) = p ∷ t.from ∷ []
+named a = actor a ∷ []
+
+-- the pids that a line names
+abbrev pub names : Line → List Pid
+names (lines.Header b) = []
+names (lines.Process p) = p ∷ []
+names (lines.Event e) = e.from ∷ option_to_list e.to
+names lines.Acts = []
+names (lines.Act a) = named a
+
+-- a process of another node than 0
+abbrev pub is_away : Pid → Bool
+is_away p = not (p.node == 0)
+
+-- a line names one
+abbrev pub is_remote : Line → Bool
+is_remote l = list_any is_away (names l)
+
+-- ---- the lines of a bundle
+
+-- a process, then its events
+abbrev pub process_lines : Stream → List Line
+process_lines s = lines.Process s.pid ∷ map lines.Event s.events
+
+-- where there are acts, the word and the acts
+abbrev pub act_lines : Option (List Act) → List Line
+act_lines None = []
+act_lines (Some list) = lines.Acts ∷ map lines.Act list
+
+-- all lines behind the header
+abbrev pub body : Contents → List Line
+body c = flat_map process_lines c.streams ++ act_lines c.acts
+
+-- header 2 exactly where a pid of another node is named
+abbrev pub lines_of : Contents → List Line
+lines_of c = lines.Header (list_any is_remote (body c)) ∷ body c
+
+-- a line and its newline
+abbrev pub ended : Line → List ℕ
+ended l = line l ++ 10 ∷ []
+
+-- the one spelling of a bundle
+abbrev pub spelling : Contents → List ℕ
+spelling c = flat_map ended (lines_of c)
+
+-- ---- bundles
+
+-- a pid is among these
+abbrev pub is_among : List Pid → Pid → Bool
+is_among ps q = list_any (λ p. pid_eq p q) ps
+
+-- the actor, and a send's receiver, are listed
+abbrev pub is_listed : List Pid → Act → Bool
+is_listed ps a = is_among ps (actor a) && is_among ps (receiver a)
+
+abbrev pub acts_of : Option (List Act) → List Act
+acts_of None = []
+acts_of (Some list) = list
+
+-- the number of the first act whose actor or receiver isn't listed
+abbrev pub unlisted_act : List Stream → Option (List Act) → Option ℕ
+unlisted_act streams acts = position (λ a. not (is_listed (pids_of streams) a)) (acts_of acts)
+
+-- a bundle: streams, acts of listed processes, and each line a value that has a spelling
+pub record IsBundle (c : Contents) : Type 0 where
+  pub streams : IsStreams c.streams
+  pub listed : list_all (is_listed (pids_of c.streams)) (acts_of c.acts) ≡ true
+  pub fits : AllByRecursion Fits (body c)
+
+-- the bytes are the text of the bundle
+pub record IsText (bytes : List ℕ) (c : Contents) : Type 0 where
+  pub bundle : IsBundle c
+  pub spelled : bytes ≡ spelling c
+
+-- within the reader's limits
+pub record IsWithin (c : Contents) : Type 0 where
+  pub bytes : length (spelling c) ≤ most_bytes
+  pub processes : length c.streams ≤ most_processes
+  pub events : length (flat_map (λ s. s.events) c.streams) ≤ most_events
+  pub acts : length (acts_of c.acts) ≤ most_acts

@@ -1,0 +1,196 @@
+//! Bytes in pieces, cut at their newlines. Whole lines are read where they lie in the piece; of the unfinished line so
+//! much is kept as a line can have. It counts no bytes.
+
+ghost use Rattle.std.specs.Prelude.{◌≡◌, ◌≤◌, ◌++◌, ◌∷◌, ◌||◌, [], List, ℕ, is_some, None, Some, false, IfOk, OnOk, vec_len, length};
+ghost use Rattle.st_text.specs.declared.line.Line.{Line};
+ghost use Rattle.st_text.specs.Held.{IsHeld, TakesSaid, header_of};
+ghost use Rattle.st_text.specs.Reading.{line_of};
+ghost use Rattle.st_text.specs.Tail.{IsTail, IsPlain};
+
+use crate::bundle::Bundle;
+use crate::fault::ReadFault;
+use crate::finish::finish;
+use crate::line::{Line, read_line};
+use crate::progress::Progress;
+use crate::step::Step;
+use memchr::memchr;
+use std::alloc::{AllocError, Global};
+
+/// The length of the longest line: a receive event with the greatest number in each place.
+const LONGEST: usize = 131;
+
+/// The lines of the bytes so far, and the unfinished line.
+#[derive(Debug, Drop)]
+pub(crate) struct Cutter {
+    pub(crate) alloc: Global,
+    /// The unfinished line.
+    pub(crate) tail: Vec<u8>,
+    /// The unfinished line is longer than any line, and isn't kept.
+    pub(crate) long: bool,
+    /// What the lines came to; nothing before the header.
+    pub(crate) progress: Option<Progress>,
+    /// The fault of the first faulty line. Later bytes aren't looked at.
+    pub(crate) fault: Option<ReadFault>,
+    /// A growth was refused.
+    pub(crate) out: bool,
+    ghost short: { vec_len tail ≤ 131 },
+}
+
+/// The header that a line says, if it does.
+fn header_of(said: Option<Line>) -> Option<bool>
+    ensures { result ≡ header_of said }
+{
+    match said {
+        Some(Line::Header(wide)) => Some(wide),
+        _ => None,
+    }
+}
+
+/// Takes the next line, or bytes that say none. The first has to be a header.
+fn take_said(alloc: Global, progress: &mut Option<Progress>, said: Option<Line>) -> Step
+    ensures { (ls : List Line) → IsHeld progress.old ls → TakesSaid ls said progress.new result }
+{
+    match progress {
+        Some(progress) => progress.take(said),
+        None => match header_of(said) {
+            Some(wide) => {
+                *progress = Some(Progress::new(alloc, wide));
+                Step::Goes
+            }
+            None => Step::Stops(ReadFault::Line(1)),
+        },
+    }
+}
+
+/// What the unfinished line says once the rest of it is there, and the place for the next one. No line is longer than
+/// the longest, so a longer one says nothing.
+fn whole_line(long: bool, tail: &mut Vec<u8>, rest: &[u8]) -> Result<Option<Line>, AllocError>
+    requires { vec_len tail.old ≤ 131 }
+    ensures said { (t : List ℕ) → IsTail long tail.old.items t → IfOk result (λ s. s ≡ line_of (t ++ rest.now)) }
+    ensures short { vec_len tail.new ≤ 131 }
+    ensures empty { OnOk result (tail.new.items ≡ []) }
+{
+    if long {
+        tail.clear();
+        return Ok(None);
+    }
+    if rest.len() > LONGEST - tail.len() {
+        tail.clear();
+        return Ok(None);
+    }
+    if tail.is_empty() {
+        return Ok(read_line(rest));
+    }
+    tail.extend_from_slice(rest)?;
+    let said = read_line(tail);
+    tail.clear();
+    Ok(said)
+}
+
+impl Cutter {
+    ghost use Rattle.st_text.specs.Holds.{Holds};
+    ghost use Rattle.st_text.specs.Answer.{Answers};
+
+    /// No bytes so far. Takes no memory.
+    pub(crate) fn new(alloc: Global) -> Cutter
+        ensures { Holds [] result }
+    {
+        Cutter {
+            alloc,
+            tail: Vec::new(alloc),
+            long: false,
+            progress: None,
+            fault: None,
+            out: false,
+        }
+    }
+
+    /// Adds to the unfinished line.
+    fn keep(&mut self, rest: &[u8])
+        requires going { self.old.out ≡ false }
+        requires good { self.old.fault ≡ None }
+        ensures fault { self.new.fault ≡ None }
+        ensures holds { (bytes : List ℕ) → IsPlain rest.now → Holds bytes self.old → Holds (bytes ++ rest.now) self.new }
+    {
+        if self.long {
+            return;
+        }
+        if rest.len() > LONGEST - self.tail.len() {
+            self.tail.clear();
+            self.long = true;
+            return;
+        }
+        if self.tail.extend_from_slice(rest).is_err() {
+            self.out = true;
+        }
+    }
+
+    /// Takes the rest of the unfinished line, and its newline.
+    fn end_line(&mut self, rest: &[u8])
+        requires going { self.old.out ≡ false }
+        requires good { self.old.fault ≡ None }
+        ensures { (bytes : List ℕ) → IsPlain rest.now → Holds bytes self.old → Holds (bytes ++ (rest.now ++ 10 ∷ [])) self.new }
+    {
+        let Ok(said) = whole_line(self.long, &mut self.tail, rest) else {
+            self.out = true;
+            return;
+        };
+        self.long = false;
+        match take_said(self.alloc, &mut self.progress, said) {
+            Step::Goes => {}
+            Step::Stops(fault) => self.fault = Some(fault),
+            Step::Halts => self.out = true,
+        }
+    }
+
+    /// Whether a line is faulty or a growth was refused, so that more bytes change nothing.
+    fn is_over(&self) -> bool
+        ensures { result ≡ (self.now.out || is_some self.now.fault) }
+    {
+        self.out || self.fault.is_some()
+    }
+
+    /// Takes a piece.
+    pub(crate) fn take(&mut self, piece: &[u8])
+        ensures { (bytes : List ℕ) → Holds bytes self.old → Holds (bytes ++ piece.now) self.new }
+    {
+        let mut rest = piece;
+        while !self.is_over() {
+            let Some(i) = memchr(b'\n', rest) else {
+                self.keep(rest);
+                return;
+            };
+            let (line, more) = rest.split_at(i);
+            self.end_line(line);
+            rest = more.split_at(1).1;
+        }
+    }
+
+    /// The bundle whose text the pieces were, or their refusal.
+    pub(crate) fn end(self) -> Result<Bundle, ReadFault>
+        requires { self.out ≡ false }
+        ensures { (bytes : List ℕ) → length bytes ≤ 67108864 → Holds bytes self → Answers bytes result }
+    {
+        let Cutter {
+            alloc: _,
+            tail,
+            long,
+            progress,
+            fault,
+            out: _,
+        } = self;
+        if let Some(fault) = fault {
+            return Err(fault);
+        }
+        if long {
+            return Err(ReadFault::Truncated);
+        }
+        if !tail.is_empty() {
+            return Err(ReadFault::Truncated);
+        }
+        match progress {
+            None => Err(ReadFault::Truncated),
+            Some(progress) => finish(progress),
+        }
+    }
+}

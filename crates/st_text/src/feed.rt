@@ -1,0 +1,85 @@
+//! A reader of a bundle's text that takes it in pieces, however it is cut. It counts the bytes; the lines are the cutter's.
+
+ghost use Rattle.std.specs.Prelude.{◌≡◌, ◌≤◌, ◌++◌, [], List, ℕ, Some, Err, IsSome};
+
+use crate::bundle::Bundle;
+use crate::cutter::Cutter;
+use crate::fault::ReadFault;
+use std::alloc::Global;
+
+/// The most bytes that a text may have.
+pub(crate) const LIMIT: u64 = 67_108_864;
+
+/// Takes a bundle's text in pieces. It keeps what the lines so far came to and the unfinished line, as far as a line can
+/// be long.
+#[derive(Debug, Drop)]
+pub struct Feed {
+    count: u64,
+    /// There were more bytes than a text may have.
+    large: bool,
+    cutter: Cutter,
+    ghost small: { count ≤ 67108864 },
+}
+
+impl Feed {
+    ghost use Rattle.st_text.specs.declared.fault.ReadFault.{ReadFault};
+    ghost use Rattle.st_text.specs.Fed.{IsFed, refusal, answer_of};
+    ghost use Rattle.st_text.specs.Answer.{Answers};
+
+    /// No bytes yet. Takes no memory.
+    pub fn new(alloc: Global) -> Feed
+        ensures { IsFed [] result }
+    {
+        Feed {
+            count: 0,
+            large: false,
+            cutter: Cutter::new(alloc),
+        }
+    }
+
+    /// Takes the next piece of the text. It answers `TooLarge` (refusal 3) at byte 67,108,865 and `Memory` (refusal 1)
+    /// where a growth was refused, and either again from then on; other faults are told at the end.
+    pub fn piece(&mut self, piece: &[u8]) -> Result<(), ReadFault>
+        // However the text is cut into pieces.
+        ensures fed { (bytes : List ℕ) → IsFed bytes self.old → IsFed (bytes ++ piece.now) self.new }
+        ensures answer { result ≡ answer_of (refusal self.new) }
+        ensures again { (f : ReadFault) → refusal self.old ≡ Some f → refusal self.new ≡ Some f }
+    {
+        if self.large {
+            return Err(ReadFault::TooLarge);
+        }
+        if self.cutter.out {
+            return Err(ReadFault::Memory);
+        }
+        let len = piece.len() as u64;
+        if len > LIMIT - self.count {
+            self.large = true;
+            return Err(ReadFault::TooLarge);
+        }
+        self.count += len;
+        self.cutter.take(piece);
+        if self.cutter.out {
+            return Err(ReadFault::Memory);
+        }
+        Ok(())
+    }
+
+    /// The bundle whose text the pieces were, or their refusal.
+    pub fn end(self) -> Result<Bundle, ReadFault>
+        ensures answers { (bytes : List ℕ) → IsFed bytes self → Answers bytes result }
+        ensures again { (f : ReadFault) → refusal self ≡ Some f → result ≡ Err f }
+    {
+        let Feed {
+            count: _,
+            large,
+            cutter,
+        } = self;
+        if large {
+            return Err(ReadFault::TooLarge);
+        }
+        if cutter.out {
+            return Err(ReadFault::Memory);
+        }
+        cutter.end()
+    }
+}

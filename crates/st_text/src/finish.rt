@@ -1,0 +1,67 @@
+//! The end of a text whose lines are each good: its bundle, or the fault that only the whole shows.
+
+ghost use Rattle.std.specs.Prelude.{◌≡◌, ◌<◌, ◌^◌, ◌&&◌, not, List, length};
+ghost use Rattle.st_text.specs.declared.line.Line.{Line};
+ghost use Rattle.st_text.specs.Finish.{event_line, Finishes};
+ghost use Rattle.st_text.specs.Sofar.{IsSound};
+
+use crate::bundle::Bundle;
+use crate::fault::ReadFault;
+use crate::progress::Progress;
+use st_core::{Draft, Pid};
+
+/// The line of an event, where it is one that a text can have.
+fn event_line(draft: &Draft, pid: Pid, index: u64) -> u64
+    ensures { event_line draft.now pid index < 2 ^ 64 → result ≡ event_line draft.now pid index }
+{
+    let mut n: u64 = 2;
+    for p in draft.pids() {
+        if *p == pid {
+            return n.saturating_add(1).saturating_add(index);
+        }
+        n = n
+            .saturating_add(1)
+            .saturating_add(draft.events(*p).len() as u64);
+    }
+    n
+}
+
+/// Whether header 2 stands where no line names a pid of another node.
+fn is_needless(wide: bool, remote: bool) -> bool
+    ensures { result ≡ (wide && not remote) }
+{
+    wide && !remote
+}
+
+/// The bundle that the lines made.
+pub(crate) fn finish(progress: Progress) -> Result<Bundle, ReadFault>
+    ensures { (ls : List Line) → IsSound progress ls → length ls < 2 ^ 64 → Finishes ls progress result }
+{
+    let Progress {
+        alloc: _,
+        wide,
+        remote,
+        draft,
+        acts,
+        last: _,
+        lines: _,
+        processes,
+        events,
+    } = progress;
+    if is_needless(wide, remote) {
+        return Err(ReadFault::Line(1));
+    }
+    match draft.close() {
+        Err(unlisted) => {
+            let n = event_line(&unlisted.draft, unlisted.pid, unlisted.index);
+            Err(ReadFault::Unknown(n))
+        }
+        Ok(streams) => match Bundle::new(streams, acts) {
+            Err(unknown) => {
+                let first = 3 + processes + events;
+                Err(ReadFault::Unknown(first.saturating_add(unknown.n)))
+            }
+            Ok(bundle) => Ok(bundle),
+        },
+    }
+}

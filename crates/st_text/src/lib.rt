@@ -1,0 +1,33 @@
+//! The text of a bundle: collected streams and acts, one to a line, read exactly and written in its one spelling.
+//! The grammar and the refusals are definitions in specs/; the files here read and write, and are proved to meet them.
+#![tactic(auto)]
+
+mod acts;
+mod bundle;
+mod cutter;
+mod events;
+mod fault;
+mod feed;
+mod finish;
+pub mod laws;
+mod line;
+mod number;
+mod progress;
+mod reader;
+mod remote;
+mod sink;
+mod spell;
+mod step;
+mod words;
+mod writer;
+
+pub use bundle::{Bundle, UnknownAct};
+pub use fault::ReadFault;
+pub use feed::Feed;
+pub use reader::read;
+pub use sink::{Device, flush, make_room};
+pub use spell::{Buffer, put_bytes, put_number, put_pid};
+pub use writer::{write, write_act, write_event, write_parts, write_pid};
+
+#[cfg(test)]
+mod tests;

@@ -1,0 +1,39 @@
+//! Reading a bundle from a source, to the source's end or one byte too many.
+
+ghost use Rattle.st_text.specs.Reads.{ReadsSource};
+
+use crate::bundle::Bundle;
+use crate::fault::ReadFault;
+use crate::feed::{Feed, LIMIT};
+use st_core::ByteSource;
+use std::alloc::Global;
+
+/// The most bytes that are asked for at once.
+const PIECE: u64 = 16_384;
+
+/// The bundle whose text the source gives, in pieces.
+///
+/// It reads on to the end of the source, a failure (`Device`) or byte 67,108,865 (`TooLarge`), and takes no byte after
+/// that one; so these two come first. Then comes the first faulty line; on one line the order is `Line`, `Order`,
+/// `Foreign`, `TooMany`. Then `Truncated`; then `Line(1)` for a header 2 that no line needs; then `Unknown` for the first
+/// line that names an unlisted pid. `Memory` can stand in place of any of these but the first two.
+pub fn read<S: ByteSource>(alloc: Global, source: &mut S) -> Result<Bundle, ReadFault>
+    ensures { ReadsSource S.gives S.ended S.failed source.old source.new result }
+{
+    let mut feed = Feed::new(alloc);
+    let mut count: u64 = 0;
+    let mut buffer = [0u8; 16_384];
+    while count <= LIMIT {
+        // No byte past the first one too many is asked for.
+        let room = (LIMIT + 1 - count).min(PIECE) as usize;
+        match source.take(&mut buffer[..room]) {
+            Err(_) => return Err(ReadFault::Device),
+            Ok(0) => return feed.end(),
+            Ok(n) => {
+                let _answer = feed.piece(&buffer[..n]);
+                count += n as u64;
+            }
+        }
+    }
+    Err(ReadFault::TooLarge)
+}

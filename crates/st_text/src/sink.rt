@@ -1,0 +1,54 @@
+//! Bytes on their way to a sink: all of a piece, and through a buffer on the stack. Nothing here knows of lines.
+
+ghost use Rattle.std.specs.Prelude.{◌≡◌, ◌≤◌, ◌+◌, [], ◌++◌, length, MatchResult, OnOk, false};
+ghost use Rattle.arrayvec.specs.ArrayVec.{array_vec_len};
+ghost use Rattle.st_core.specs.Device.{InARow};
+ghost use Rattle.st_text.specs.Writing.{Goes, GoesOn, WritesPart};
+
+use crate::spell::Buffer;
+use st_core::ByteSink;
+use thiserror::Error;
+
+/// The sink failed. Refusal 1 of each call that writes; a prefix of the text was written.
+#[derive(Clone, Copy, Debug, PartialEq, Eq, Error)]
+#[error("the device failed")]
+pub struct Device;
+
+/// The most bytes that a line and its newline take here.
+pub(crate) const LINE: usize = 256;
+
+/// Writes all the bytes, in as many calls as the sink needs.
+pub(crate) fn put_all<S: ByteSink>(sink: &mut S, bytes: &[u8]) -> Result<(), Device>
+    ensures { GoesOn S.puts S.failed bytes.now sink.old sink.new [] [] result }
+{
+    let mut rest = bytes;
+    while !rest.is_empty() {
+        match sink.put(rest) {
+            Ok(n) => rest = rest.split_at(n).1,
+            Err(_) => return Err(Device),
+        }
+    }
+    Ok(())
+}
+
+/// Writes what waits.
+pub fn flush<S: ByteSink>(sink: &mut S, buffer: &mut Buffer) -> Result<(), Device>
+    ensures goes { GoesOn S.puts S.failed [] sink.old sink.new buffer.old.items buffer.new.items result }
+    ensures empty { OnOk result (buffer.new.items ≡ []) }
+    ensures len { OnOk result (array_vec_len buffer.new ≡ 0) }
+{
+    put_all(sink, buffer.as_slice())?;
+    buffer.clear();
+    Ok(())
+}
+
+/// Makes room for a line.
+pub fn make_room<S: ByteSink>(sink: &mut S, buffer: &mut Buffer) -> Result<(), Device>
+    ensures goes { GoesOn S.puts S.failed [] sink.old sink.new buffer.old.items buffer.new.items result }
+    ensures room { OnOk result (array_vec_len buffer.new + 256 ≤ 8192) }
+{
+    if buffer.remaining_capacity() < LINE {
+        flush(sink, buffer)?;
+    }
+    Ok(())
+}

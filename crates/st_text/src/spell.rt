@@ -1,0 +1,307 @@
+//! Values spelled into a buffer on the stack, which never takes memory. Each function appends the one spelling of its
+//! value; that there is room is its caller's to know. Nothing here knows of a device.
+
+ghost use Rattle.std.specs.Prelude.{◌≡◌, ◌+◌, ◌≤◌, ◌++◌, length, decimal};
+ghost use Rattle.arrayvec.specs.ArrayVec.{array_vec_len};
+ghost use Rattle.st_text.specs.Spelling as spelled;
+ghost use Rattle.st_text.specs.Text.{ended};
+
+use crate::line::Line;
+use arrayvec::ArrayVec;
+use st_core::{Act, Component, Event, Flags, Kind, Label, Pid, Serial, Token, Want};
+
+/// Bytes that wait to be written.
+pub type Buffer = ArrayVec<u8, 8192>;
+
+/// Appends bytes.
+pub fn put_bytes(buffer: &mut Buffer, bytes: &[u8])
+    requires { array_vec_len buffer.old + length bytes.now ≤ 8192 }
+    ensures items { buffer.new.items ≡ buffer.old.items ++ bytes.now }
+    ensures len { array_vec_len buffer.new ≡ array_vec_len buffer.old + length bytes.now }
+{
+    let Ok(()) = buffer.try_extend_from_slice(bytes) else {
+        unreachable!()
+    };
+}
+
+/// Appends a decimal number.
+pub fn put_number(buffer: &mut Buffer, number: u64)
+    requires { array_vec_len buffer.old + 20 ≤ 8192 }
+    ensures items { buffer.new.items ≡ buffer.old.items ++ decimal number }
+    ensures len { array_vec_len buffer.new ≤ array_vec_len buffer.old + 20 }
+{
+    let mut digits = itoa::Buffer::new();
+    put_bytes(buffer, digits.format(number).as_bytes());
+}
+
+fn put_bool(buffer: &mut Buffer, flag: bool)
+    requires { array_vec_len buffer.old + 5 ≤ 8192 }
+    ensures items { buffer.new.items ≡ buffer.old.items ++ spelled.bool flag }
+    ensures len { array_vec_len buffer.new ≤ array_vec_len buffer.old + 5 }
+{
+    if flag {
+        put_bytes(buffer, b"true");
+    } else {
+        put_bytes(buffer, b"false");
+    }
+}
+
+/// Appends a pid, as `<0.30.0>`.
+pub fn put_pid(buffer: &mut Buffer, pid: Pid)
+    requires { array_vec_len buffer.old + 45 ≤ 8192 }
+    ensures items { buffer.new.items ≡ buffer.old.items ++ spelled.pid pid }
+    ensures len { array_vec_len buffer.new ≤ array_vec_len buffer.old + 45 }
+{
+    put_bytes(buffer, b"<");
+    put_number(buffer, u64::from(pid.node()));
+    put_bytes(buffer, b".");
+    put_number(buffer, u64::from(pid.number()));
+    put_bytes(buffer, b".0>");
+}
+
+fn put_label(buffer: &mut Buffer, label: Label)
+    requires { array_vec_len buffer.old + 20 ≤ 8192 }
+    ensures items { buffer.new.items ≡ buffer.old.items ++ spelled.label label }
+    ensures len { array_vec_len buffer.new ≤ array_vec_len buffer.old + 20 }
+{
+    put_number(buffer, u64::from(label.0));
+}
+
+fn put_serial(buffer: &mut Buffer, serial: Serial)
+    requires { array_vec_len buffer.old + 43 ≤ 8192 }
+    ensures items { buffer.new.items ≡ buffer.old.items ++ spelled.serial serial }
+    ensures len { array_vec_len buffer.new ≤ array_vec_len buffer.old + 43 }
+{
+    put_bytes(buffer, b"{");
+    put_number(buffer, serial.prev);
+    put_bytes(buffer, b",");
+    put_number(buffer, serial.this);
+    put_bytes(buffer, b"}");
+}
+
+fn put_kind(buffer: &mut Buffer, kind: Kind)
+    requires { array_vec_len buffer.old + 9 ≤ 8192 }
+    ensures items { buffer.new.items ≡ buffer.old.items ++ spelled.kind kind }
+    ensures len { array_vec_len buffer.new ≤ array_vec_len buffer.old + 9 }
+{
+    match kind {
+        Kind::Send => put_bytes(buffer, b"send"),
+        Kind::Receive => put_bytes(buffer, b"'receive'"),
+        Kind::Print => put_bytes(buffer, b"print"),
+    }
+}
+
+fn put_place(buffer: &mut Buffer, place: Option<Pid>)
+    requires { array_vec_len buffer.old + 45 ≤ 8192 }
+    ensures items { buffer.new.items ≡ buffer.old.items ++ spelled.place place }
+    ensures len { array_vec_len buffer.new ≤ array_vec_len buffer.old + 45 }
+{
+    match place {
+        None => put_bytes(buffer, b"[]"),
+        Some(pid) => put_pid(buffer, pid),
+    }
+}
+
+fn put_head(buffer: &mut Buffer, event: &Event)
+    requires { array_vec_len buffer.old + 32 ≤ 8192 }
+    ensures items { buffer.new.items ≡ buffer.old.items ++ spelled.head event.now }
+    ensures len { array_vec_len buffer.new ≤ array_vec_len buffer.old + 32 }
+{
+    put_label(buffer, event.label);
+    put_bytes(buffer, b",{");
+    put_kind(buffer, event.kind);
+    put_bytes(buffer, b",");
+}
+
+fn put_ends(buffer: &mut Buffer, event: &Event)
+    requires { array_vec_len buffer.old + 91 ≤ 8192 }
+    ensures items { buffer.new.items ≡ buffer.old.items ++ spelled.ends event.now }
+    ensures len { array_vec_len buffer.new ≤ array_vec_len buffer.old + 91 }
+{
+    put_pid(buffer, event.from);
+    put_bytes(buffer, b",");
+    put_place(buffer, event.to);
+}
+
+pub(crate) fn put_event(buffer: &mut Buffer, event: &Event)
+    requires { array_vec_len buffer.old + 201 ≤ 8192 }
+    ensures items { buffer.new.items ≡ buffer.old.items ++ spelled.event event.now }
+    ensures len { array_vec_len buffer.new ≤ array_vec_len buffer.old + 201 }
+{
+    put_bytes(buffer, b"{seq_trace,");
+    put_head(buffer, event);
+    put_serial(buffer, event.serial);
+    put_bytes(buffer, b",");
+    put_ends(buffer, event);
+    put_bytes(buffer, b",");
+    put_number(buffer, event.value);
+    put_bytes(buffer, b"}}");
+}
+
+fn put_component(buffer: &mut Buffer, component: Component)
+    requires { array_vec_len buffer.old + 26 ≤ 8192 }
+    ensures items { buffer.new.items ≡ buffer.old.items ++ spelled.component component }
+    ensures len { array_vec_len buffer.new ≤ array_vec_len buffer.old + 26 }
+{
+    match component {
+        Component::Label(label) => {
+            put_bytes(buffer, b"label ");
+            put_label(buffer, label);
+        }
+        Component::Send(flag) => {
+            put_bytes(buffer, b"send ");
+            put_bool(buffer, flag);
+        }
+        Component::Receive(flag) => {
+            put_bytes(buffer, b"receive ");
+            put_bool(buffer, flag);
+        }
+        Component::Print(flag) => {
+            put_bytes(buffer, b"print ");
+            put_bool(buffer, flag);
+        }
+    }
+}
+
+fn put_want(buffer: &mut Buffer, want: Want)
+    requires { array_vec_len buffer.old + 71 ≤ 8192 }
+    ensures items { buffer.new.items ≡ buffer.old.items ++ spelled.want want }
+    ensures len { array_vec_len buffer.new ≤ array_vec_len buffer.old + 71 }
+{
+    match want {
+        Want::First => put_bytes(buffer, b"first"),
+        Want::From(pid) => {
+            put_bytes(buffer, b"from ");
+            put_pid(buffer, pid);
+        }
+        Want::Value(value) => {
+            put_bytes(buffer, b"value ");
+            put_number(buffer, value);
+        }
+        Want::Both(pid, value) => {
+            put_bytes(buffer, b"both ");
+            put_pid(buffer, pid);
+            put_bytes(buffer, b" ");
+            put_number(buffer, value);
+        }
+        Want::Place(place) => {
+            put_bytes(buffer, b"place ");
+            put_number(buffer, place);
+        }
+    }
+}
+
+fn put_flags(buffer: &mut Buffer, flags: Flags)
+    requires { array_vec_len buffer.old + 17 ≤ 8192 }
+    ensures items { buffer.new.items ≡ buffer.old.items ++ spelled.flags flags }
+    ensures len { array_vec_len buffer.new ≤ array_vec_len buffer.old + 17 }
+{
+    put_bool(buffer, flags.send);
+    put_bytes(buffer, b" ");
+    put_bool(buffer, flags.receive);
+    put_bytes(buffer, b" ");
+    put_bool(buffer, flags.print);
+}
+
+fn put_token(buffer: &mut Buffer, token: &Token)
+    requires { array_vec_len buffer.old + 126 ≤ 8192 }
+    ensures items { buffer.new.items ≡ buffer.old.items ++ spelled.token token.now }
+    ensures len { array_vec_len buffer.new ≤ array_vec_len buffer.old + 126 }
+{
+    put_label(buffer, token.label);
+    put_bytes(buffer, b" ");
+    put_flags(buffer, token.flags);
+    put_bytes(buffer, b" ");
+    put_number(buffer, token.serial.prev);
+    put_bytes(buffer, b" ");
+    put_number(buffer, token.serial.this);
+    put_bytes(buffer, b" ");
+    put_pid(buffer, token.from);
+}
+
+/// A word, a space, a pid and, where more follows, another space.
+fn put_actor(buffer: &mut Buffer, word: &[u8], pid: Pid, space: &[u8])
+    requires { array_vec_len buffer.old + length word.now + length space.now + 45 ≤ 8192 }
+    ensures items { buffer.new.items ≡ buffer.old.items ++ (word.now ++ spelled.pid pid ++ space.now) }
+    ensures len { array_vec_len buffer.new ≤ array_vec_len buffer.old + length word.now + length space.now + 45 }
+{
+    put_bytes(buffer, word);
+    put_pid(buffer, pid);
+    put_bytes(buffer, space);
+}
+
+fn put_send(buffer: &mut Buffer, sender: Pid, receiver: Pid, value: u64)
+    requires { array_vec_len buffer.old + 180 ≤ 8192 }
+    ensures items { buffer.new.items ≡ buffer.old.items ++ spelled.act (Act.Send sender receiver value) }
+    ensures len { array_vec_len buffer.new ≤ array_vec_len buffer.old + 180 }
+{
+    put_actor(buffer, b"send ", sender, b" ");
+    put_pid(buffer, receiver);
+    put_bytes(buffer, b" ");
+    put_number(buffer, value);
+}
+
+fn put_print_at(buffer: &mut Buffer, pid: Pid, label: Label, value: u64)
+    requires { array_vec_len buffer.old + 180 ≤ 8192 }
+    ensures items { buffer.new.items ≡ buffer.old.items ++ spelled.act (Act.PrintAt pid label value) }
+    ensures len { array_vec_len buffer.new ≤ array_vec_len buffer.old + 180 }
+{
+    put_actor(buffer, b"printat ", pid, b" ");
+    put_label(buffer, label);
+    put_bytes(buffer, b" ");
+    put_number(buffer, value);
+}
+
+pub(crate) fn put_act(buffer: &mut Buffer, act: &Act)
+    requires { array_vec_len buffer.old + 180 ≤ 8192 }
+    ensures items { buffer.new.items ≡ buffer.old.items ++ spelled.act act.now }
+    ensures len { array_vec_len buffer.new ≤ array_vec_len buffer.old + 180 }
+{
+    match act {
+        Act::Send(sender, receiver, value) => put_send(buffer, *sender, *receiver, *value),
+        Act::Receive(pid, want) => {
+            put_actor(buffer, b"receive ", *pid, b" ");
+            put_want(buffer, *want);
+        }
+        Act::Print(pid, value) => {
+            put_actor(buffer, b"print ", *pid, b" ");
+            put_number(buffer, *value);
+        }
+        Act::PrintAt(pid, label, value) => put_print_at(buffer, *pid, *label, *value),
+        Act::Set(pid, component) => {
+            put_actor(buffer, b"set ", *pid, b" ");
+            put_component(buffer, *component);
+        }
+        Act::Clear(pid) => put_actor(buffer, b"clear ", *pid, b""),
+        Act::Restore(pid, token) => {
+            put_actor(buffer, b"restore ", *pid, b" ");
+            put_token(buffer, token);
+        }
+        Act::Look(pid) => put_actor(buffer, b"look ", *pid, b""),
+        Act::Reset(pid) => put_actor(buffer, b"reset ", *pid, b""),
+        Act::Tracer(pid, flag) => {
+            put_actor(buffer, b"tracer ", *pid, b" ");
+            put_bool(buffer, *flag);
+        }
+    }
+}
+
+/// A line and its newline.
+pub(crate) fn put_line(buffer: &mut Buffer, line: &Line)
+    requires { array_vec_len buffer.old + 256 ≤ 8192 }
+    ensures items { buffer.new.items ≡ buffer.old.items ++ ended line.now }
+    ensures len { array_vec_len buffer.new ≤ array_vec_len buffer.old + 256 }
+{
+    match line {
+        Line::Header(false) => put_bytes(buffer, b"seqtrace 1"),
+        Line::Header(true) => put_bytes(buffer, b"seqtrace 2"),
+        Line::Process(pid) => {
+            put_bytes(buffer, b"process ");
+            put_pid(buffer, *pid);
+        }
+        Line::Event(event) => put_event(buffer, event),
+        Line::Acts => put_bytes(buffer, b"acts"),
+        Line::Act(act) => put_act(buffer, act),
+    }
+    put_bytes(buffer, b"\n");
+}

@@ -1,0 +1,14 @@
+//! What a line leads to.
+
+use crate::fault::ReadFault;
+
+/// What a line leads to.
+#[derive(Clone, Copy, Debug, PartialEq, Eq)]
+pub(crate) enum Step {
+    /// It is good.
+    Goes,
+    /// It has this fault.
+    Stops(ReadFault),
+    /// A growth was refused.
+    Halts,
+}

@@ -1,0 +1,197 @@
+//! What no contract says: worked texts, read whole and in pieces, limits, and failing devices.
+
+ghost use Rattle.std.specs.Prelude.{◌<◌};
+
+mod limits;
+mod texts;
+
+use crate::{Bundle, Feed, ReadFault, read, write, write_act, write_event, write_parts, write_pid};
+use st_core::{
+    Act, Draft, EndlessSource, Event, Kind, Label, MemorySink, MemorySource, Pid, Sequence, Serial,
+};
+use std::alloc::Global;
+use std::process::Abort;
+use std::test::Fail;
+use texts::{CERTIFICATE, PRINT_ONE, REFUSED, WANT_AWAY};
+
+fn refusal(rt: &impl Abort, answer: Result<Bundle, ReadFault>) -> ReadFault {
+    match answer {
+        Ok(_) => panic!(rt; "a bundle"),
+        Err(fault) => fault,
+    }
+}
+
+/// The text of the bundle that was answered.
+fn text_of(rt: &impl Abort, alloc: Global, answer: Result<Bundle, ReadFault>) -> MemorySink {
+    match answer {
+        Err(fault) => panic!(rt; "{fault:?}"),
+        Ok(bundle) => {
+            let mut sink = sink(rt, alloc, 4096);
+            assert!(rt; write(&mut sink, &bundle).is_ok());
+            sink
+        }
+    }
+}
+
+fn sink(rt: &impl Abort, alloc: Global, room: usize) -> MemorySink {
+    match MemorySink::new(alloc, room, None) {
+        Ok(sink) => sink,
+        Err(_) => panic!(rt; "memory"),
+    }
+}
+
+/// The answer to a text in pieces of n bytes.
+fn in_pieces(alloc: Global, text: &[u8], n: usize) -> Result<Bundle, ReadFault>
+    requires { 0 < n }
+{
+    let mut feed = Feed::new(alloc);
+    for piece in text.chunks(n) {
+        let _answer = feed.piece(piece);
+    }
+    feed.end()
+}
+
+#[test]
+fn refused_texts(rt: HostRuntime) {
+    let alloc = rt.alloc();
+    for (text, fault) in REFUSED {
+        let answer = read(alloc, &mut MemorySource::new(text.as_bytes(), None));
+        assert_eq!(rt; refusal(&rt, answer), fault);
+    }
+}
+
+#[test]
+fn refused_texts_in_pieces(rt: HostRuntime) {
+    let alloc = rt.alloc();
+    for (text, fault) in REFUSED {
+        for n in [1, 2, 3, 7] {
+            if n > 0 {
+                assert_eq!(rt; refusal(&rt, in_pieces(alloc, text.as_bytes(), n)), fault);
+            }
+        }
+    }
+}
+
+#[test]
+fn read_texts_are_written_again(rt: HostRuntime) {
+    let alloc = rt.alloc();
+    for text in [PRINT_ONE, CERTIFICATE, WANT_AWAY] {
+        let answer = read(alloc, &mut MemorySource::new(text.as_bytes(), None));
+        assert_eq!(rt; text_of(&rt, alloc, answer).written(), text.as_bytes());
+    }
+}
+
+#[test]
+fn certificate_in_pieces(rt: HostRuntime) {
+    let alloc = rt.alloc();
+    for n in [1, 2, 3, 7] {
+        if n > 0 {
+            let answer = in_pieces(alloc, CERTIFICATE.as_bytes(), n);
+            assert_eq!(rt;
+                text_of(&rt, alloc, answer).written(),
+                CERTIFICATE.as_bytes()
+            );
+        }
+    }
+}
+
+#[test]
+fn certificate_cut_once_at_each_byte(rt: HostRuntime) {
+    let alloc = rt.alloc();
+    let text = CERTIFICATE.as_bytes();
+    for i in 0..text.len() {
+        let (front, back) = text.split_at(i);
+        let mut feed = Feed::new(alloc);
+        assert_eq!(rt; feed.piece(front), Ok(()));
+        assert_eq!(rt; feed.piece(back), Ok(()));
+        assert_eq!(rt; text_of(&rt, alloc, feed.end()).written(), text);
+    }
+}
+
+#[test]
+fn endless_source_is_too_large(rt: HostRuntime) {
+    let answer = read(rt.alloc(), &mut EndlessSource::new());
+    assert_eq!(rt; refusal(&rt, answer), ReadFault::TooLarge);
+}
+
+#[test]
+fn failing_source_is_a_device_fault(rt: HostRuntime) {
+    let answer = read(
+        rt.alloc(),
+        &mut MemorySource::new(PRINT_ONE.as_bytes(), Some(20)),
+    );
+    assert_eq!(rt; refusal(&rt, answer), ReadFault::Device);
+}
+
+#[test]
+fn failing_sink_has_a_prefix(rt: HostRuntime) {
+    let alloc = rt.alloc();
+    let answer = read(alloc, &mut MemorySource::new(PRINT_ONE.as_bytes(), None));
+    match answer {
+        Err(fault) => panic!(rt; "{fault:?}"),
+        Ok(bundle) => {
+            let mut sink = sink(&rt, alloc, 9);
+            assert!(rt; write(&mut sink, &bundle).is_err());
+            assert_eq!(rt; sink.written(), b"seqtrace ".as_slice());
+        }
+    }
+}
+
+#[test]
+fn values_are_written(rt: HostRuntime) {
+    let mut sink = sink(&rt, rt.alloc(), 4096);
+    let event = Event {
+        label: Label(17),
+        kind: Kind::Receive,
+        serial: Serial { prev: 2, this: 4 },
+        from: Pid::new(31),
+        to: Some(Pid::on(1, 30)),
+        value: u64::MAX,
+    };
+    assert!(rt; write_pid(&mut sink, Pid::on(65_535, 0)).is_ok());
+    assert!(rt; write_event(&mut sink, &event).is_ok());
+    assert!(rt; write_act(&mut sink, &Act::PrintAt(Pid::new(30), Label(1), 7)).is_ok());
+    let text =
+        "<65535.0.0>{seq_trace,17,{'receive',{2,4},<0.31.0>,<1.30.0>,18446744073709551615}}printat <0.30.0> 1 7";
+    assert_eq!(rt; sink.written(), text.as_bytes());
+}
+
+#[test]
+fn parts_are_written(rt: HostRuntime) -> Result<(), Fail> {
+    let alloc = rt.alloc();
+    let mut draft = Draft::new(alloc);
+    draft.open(Pid::new(30))?;
+    let mut sink = sink(&rt, alloc, 4096);
+    match draft.close() {
+        Err(_) => panic!(rt; "an unlisted pid"),
+        Ok(streams) => {
+            let acts = [Act::Look(Pid::new(30))];
+            assert!(rt; write_parts(&mut sink, &streams, Some(acts.as_slice())).is_ok());
+        }
+    }
+    let text = "seqtrace 1\nprocess <0.30.0>\nacts\nlook <0.30.0>\n";
+    assert_eq!(rt; sink.written(), text.as_bytes());
+    Ok(())
+}
+
+#[test]
+fn bundle_of_an_unlisted_actor_comes_back(rt: HostRuntime) -> Result<(), Fail> {
+    let alloc = rt.alloc();
+    let mut draft = Draft::new(alloc);
+    draft.open(Pid::new(30))?;
+    let mut acts = Sequence::new(alloc);
+    acts.push(Act::Look(Pid::new(30)))?;
+    acts.push(Act::Send(Pid::new(30), Pid::new(31), 5))?;
+    match draft.close() {
+        Err(_) => panic!(rt; "an unlisted pid"),
+        Ok(streams) => match Bundle::new(streams, Some(acts)) {
+            Ok(_) => panic!(rt; "a bundle"),
+            Err(unknown) => {
+                assert_eq!(rt; unknown.n, 1);
+                assert_eq!(rt; unknown.streams.pids().len(), 1);
+                assert_eq!(rt; unknown.acts.map_or(0, |acts| acts.len()), 2);
+            }
+        },
+    }
+    Ok(())
+}

@@ -1,0 +1,85 @@
+//! The reader's limits, on generated texts.
+
+use super::refusal;
+use crate::{Feed, ReadFault, read};
+use st_core::MemorySource;
+use std::alloc::Global;
+use std::process::Abort;
+use std::test::Fail;
+
+/// The refusal of a head and then a line so many times, fed line by line.
+fn repeated(rt: &impl Abort, alloc: Global, head: &str, line: &str, times: u64) -> ReadFault {
+    let mut feed = Feed::new(alloc);
+    assert_eq!(rt; feed.piece(head.as_bytes()), Ok(()));
+    for _ in 0..times {
+        assert_eq!(rt; feed.piece(line.as_bytes()), Ok(()));
+    }
+    refusal(rt, feed.end())
+}
+
+#[test]
+fn events(rt: HostRuntime) {
+    let head = "seqtrace 1\nprocess <0.0.0>\n";
+    let line = "{seq_trace,0,{print,{0,1},<0.0.0>,[],0}}\n";
+    assert_eq!(rt;
+        repeated(&rt, rt.alloc(), head, line, 1_000_001),
+        ReadFault::TooMany(1_000_003)
+    );
+}
+
+#[test]
+fn acts(rt: HostRuntime) {
+    let head = "seqtrace 1\nprocess <0.0.0>\nacts\n";
+    let line = "look <0.0.0>\n";
+    assert_eq!(rt;
+        repeated(&rt, rt.alloc(), head, line, 4_000_001),
+        ReadFault::TooMany(4_000_004)
+    );
+}
+
+#[test]
+fn processes(rt: HostRuntime) -> Result<(), Fail> {
+    let alloc = rt.alloc();
+    let mut feed = Feed::new(alloc);
+    assert_eq!(rt; feed.piece(b"seqtrace 1\n"), Ok(()));
+    for n in 0..1_024u16 {
+        let line = format!(in alloc; "process <0.{n}.0>\n")?;
+        assert_eq!(rt; feed.piece(line.as_bytes()), Ok(()));
+    }
+    match feed.end() {
+        Err(fault) => panic!(rt; "{fault:?}"),
+        Ok(bundle) => assert_eq!(rt; bundle.streams.pids().len(), 1_024),
+    }
+    let mut feed = Feed::new(alloc);
+    assert_eq!(rt; feed.piece(b"seqtrace 1\n"), Ok(()));
+    for n in 0..1_025u16 {
+        let line = format!(in alloc; "process <0.{n}.0>\n")?;
+        assert_eq!(rt; feed.piece(line.as_bytes()), Ok(()));
+    }
+    assert_eq!(rt; refusal(&rt, feed.end()), ReadFault::TooMany(1_026));
+    Ok(())
+}
+
+#[test]
+fn bytes(rt: HostRuntime) -> Result<(), Fail> {
+    let alloc = rt.alloc();
+    let mut text = vec![in alloc; b'x'; 67_108_864]?;
+    let answer = read(alloc, &mut MemorySource::new(&text, None));
+    assert_eq!(rt; refusal(&rt, answer), ReadFault::Truncated);
+    text.push(b'x')?;
+    let answer = read(alloc, &mut MemorySource::new(&text, None));
+    assert_eq!(rt; refusal(&rt, answer), ReadFault::TooLarge);
+    Ok(())
+}
+
+#[test]
+fn too_large_again(rt: HostRuntime) -> Result<(), Fail> {
+    let alloc = rt.alloc();
+    let text = vec![in alloc; b'x'; 67_108_865]?;
+    let mut feed = Feed::new(alloc);
+    assert_eq!(rt; feed.piece(&text), Err(ReadFault::TooLarge));
+    assert_eq!(rt; feed.piece(b"seqtrace 1\n"), Err(ReadFault::TooLarge));
+    assert_eq!(rt; feed.piece(b""), Err(ReadFault::TooLarge));
+    assert_eq!(rt; refusal(&rt, feed.end()), ReadFault::TooLarge);
+    Ok(())
+}

@@ -1,0 +1,76 @@
+//! The words and small values at the front of some bytes: each function answers the value and the bytes after it.
+
+ghost use Rattle.std.specs.Prelude.{◌≡◌};
+ghost use Rattle.st_text.specs.Reading.{Gives, after, bool_at, pid_at, label_at, serial_at, actor_at};
+
+use crate::number::number;
+use st_core::{Label, Pid, Serial};
+
+/// The greatest node and number of a pid.
+const MOST_PID: u64 = 65_535;
+
+/// The greatest label.
+const MOST_LABEL: u64 = 4_294_967_295;
+
+/// The bytes after a word that they begin with.
+#[inline]
+pub(crate) fn after<'a>(word: &[u8], bytes: &'a [u8]) -> Option<&'a [u8]>
+    ensures { Gives (λ x. x.now) result (after word.now bytes.now) }
+{
+    bytes.strip_prefix(word)
+}
+
+#[tactic(auto, unfolding(crate::specs::Reading::bool_at))]
+pub(crate) fn bool_at(bytes: &[u8]) -> Option<(bool, &[u8])>
+    ensures { Gives (λ x. (x.0, x.1.now)) result (bool_at bytes.now) }
+{
+    if let Some(rest) = after(b"true", bytes) {
+        return Some((true, rest));
+    }
+    if let Some(rest) = after(b"false", bytes) {
+        return Some((false, rest));
+    }
+    None
+}
+
+#[tactic(auto, unfolding(crate::specs::Reading::pid_at))]
+pub(crate) fn pid_at(bytes: &[u8]) -> Option<(Pid, &[u8])>
+    ensures { Gives (λ x. (x.0, x.1.now)) result (pid_at bytes.now) }
+{
+    let rest = after(b"<", bytes)?;
+    let (node, rest) = number(MOST_PID, rest)?;
+    let rest = after(b".", rest)?;
+    let (number, rest) = number(MOST_PID, rest)?;
+    let rest = after(b".0>", rest)?;
+    Some((Pid::on(node as u16, number as u16), rest))
+}
+
+#[tactic(auto, unfolding(crate::specs::Reading::label_at))]
+pub(crate) fn label_at(bytes: &[u8]) -> Option<(Label, &[u8])>
+    ensures { Gives (λ x. (x.0, x.1.now)) result (label_at bytes.now) }
+{
+    let (label, rest) = number(MOST_LABEL, bytes)?;
+    Some((Label(label as u32), rest))
+}
+
+#[tactic(auto, unfolding(crate::specs::Reading::serial_at))]
+pub(crate) fn serial_at(bytes: &[u8]) -> Option<(Serial, &[u8])>
+    ensures { Gives (λ x. (x.0, x.1.now)) result (serial_at bytes.now) }
+{
+    let rest = after(b"{", bytes)?;
+    let (prev, rest) = number(u64::MAX, rest)?;
+    let rest = after(b",", rest)?;
+    let (this, rest) = number(u64::MAX, rest)?;
+    let rest = after(b"}", rest)?;
+    Some((Serial { prev, this }, rest))
+}
+
+/// A pid and the space behind it.
+#[tactic(auto, unfolding(crate::specs::Reading::actor_at))]
+pub(crate) fn actor_at(bytes: &[u8]) -> Option<(Pid, &[u8])>
+    ensures { Gives (λ x. (x.0, x.1.now)) result (actor_at bytes.now) }
+{
+    let (pid, rest) = pid_at(bytes)?;
+    let rest = after(b" ", rest)?;
+    Some((pid, rest))
+}
