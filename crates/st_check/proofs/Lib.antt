@@ -1,0 +1,9 @@
+pub mod Appended
+pub mod Places
+pub mod Fronts
+pub mod Passing
+pub mod Verdicts
+pub mod TagLists
+pub mod Advancing
+pub mod Deciding
+pub mod Records

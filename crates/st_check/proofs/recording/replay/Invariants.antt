@@ -1,0 +1,6 @@
+use Rattle.std.proofs.Common.{take}
+use Rattle.st_check.specs.Recorded.{IsRecorded}
+use Rattle.st_check.proofs.recording.replay.Given as goal
+
+abbrev pub invariant-loop-number : goal.invariant-loop-number
+invariant-loop-number g l = IsRecorded g.row.TOP l.pids (take l.number l.acts) l.recording.world l.recording.streams l.recording.replies

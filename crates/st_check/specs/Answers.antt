@@ -1,0 +1,55 @@
+-- What the checker's and the replay's answers mean.
+use Rattle.std.specs.Prelude.{◌≡◌, ℕ, ◌+◌, ◌<◌, List, length, map, take, Some, None, IsSome, All}
+use Rattle.st_core.specs.declared.types.Pid.{Pid}
+use Rattle.st_core.specs.declared.types.Act.{Act}
+use Rattle.st_core.specs.Pid.{IsRising}
+use Rattle.st_core.specs.Step.{Outcome}
+use Rattle.st_core.specs.Run.{Stream, pids_of, run, stream}
+use Rattle.st_core.specs.Pairs.{Follows}
+use Rattle.st_core.specs.Verdict as verdicts
+use Rattle.st_check.specs.declared.verdict.Verdict.{Verdict}
+use Rattle.st_check.specs.declared.verdict.Verdict.TheVariants as told
+use Rattle.st_check.specs.declared.verdict.Replayed.{Replayed}
+use Rattle.st_check.specs.declared.verdict.Replayed.TheVariants as replayed
+use Rattle.st_check.specs.declared.verdict.ReplayFault.{ReplayFault}
+use Rattle.st_check.specs.declared.verdict.ReplayFault.TheVariants as fault
+
+-- the checker's answer as a verdict
+abbrev pub verdict_of : Verdict → verdicts.Verdict
+verdict_of (told.Stuck n) = verdicts.Stuck n
+verdict_of (told.Differs n) = verdicts.Differs n
+verdict_of (told.Left p) = verdicts.Left p
+verdict_of (told.Yes ps) = verdicts.Yes ps
+
+-- on a yes, in the run of the acts each pair's receive follows its send, and no send stands twice
+abbrev pub FollowsAll : ℕ → List Stream → List Act → verdicts.Verdict → Type 0
+FollowsAll top streams acts (verdicts.Yes ps) = (os : List Outcome) → run top (pids_of streams) acts ≡ Some os → Follows acts os ps
+FollowsAll top streams acts v = Unit {0}
+
+-- in each event of the streams the serial rises
+abbrev pub AllRise : List Stream → Type 0
+AllRise streams = All (λ x. All (λ e. e.serial.prev < e.serial.this) x.events) streams
+
+-- on a yes, the serials of the streams rise
+abbrev pub RisesOnYes : List Stream → verdicts.Verdict → Type 0
+RisesOnYes streams (verdicts.Yes ps) = AllRise streams
+RisesOnYes streams v = Unit {0}
+
+-- what each process reported in the run of the acts
+abbrev pub reported : List Pid → List Act → List Outcome → List Stream
+reported pids acts os = map (λ p. record { pid = p; events = stream acts os p }) pids
+
+-- the acts have this run's streams and replies; or act n is the first that has no step
+abbrev pub IsReplay : ℕ → List Pid → List Act → Replayed → Type 0
+IsReplay top pids acts (replayed.Ran streams replies) = (os : List Outcome) × (run top pids acts ≡ Some os) × (streams ≡ reported pids acts os) × (replies ≡ map (λ o. o.reply) os)
+IsReplay top pids acts (replayed.Stuck n) = (n < length acts) × IsSome (run top pids (take n acts)) × (run top pids (take (n + 1) acts) ≡ None)
+
+-- when there is no replay: for want of memory only where the pids rise
+abbrev pub IsReplayFault : List Pid → ReplayFault → Type 0
+IsReplayFault pids fault.Memory = IsRising pids
+IsReplayFault pids fault.NotRising = ¬ IsRising pids
+
+-- where there is a run, the serials of its streams rise
+abbrev pub RisesOnRun : Replayed → Type 0
+RisesOnRun (replayed.Ran streams replies) = AllRise streams
+RisesOnRun (replayed.Stuck n) = Unit {0}

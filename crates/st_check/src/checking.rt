@@ -1,0 +1,42 @@
+//! The checker.
+
+ghost use Rattle.std.specs.Prelude.{IfOk};
+ghost use Rattle.st_check.specs.Answers.{verdict_of, FollowsAll, RisesOnYes};
+ghost use Rattle.st_core.specs.Verdict.{IsVerdict};
+
+use crate::progress::{Progress, Stop};
+use crate::verdict::{CheckFault, Verdict};
+use st_core::{Act, Streams};
+use std::alloc::Global;
+
+/// Whether the acts are a run from zero clocks in which each process reports exactly its stream.
+///
+/// Its time grows with the acts, the events and the walks in the queues. An act takes no memory
+/// but a send, for its message, and a reported receive, for its pair.
+pub fn check<const TOP: u64>(
+    alloc: Global,
+    streams: &Streams,
+    acts: &[Act],
+) -> Result<Verdict, CheckFault>
+    ensures verdict { IfOk result (λ v. IsVerdict TOP streams.now acts.now (verdict_of v)) }
+
+    // What every run keeps, of the run that a yes is about.
+    ensures follows { IfOk result (λ v. FollowsAll TOP streams.now acts.now (verdict_of v)) }
+    ensures rises { IfOk result (λ v. RisesOnYes streams.now (verdict_of v)) }
+{
+    let Ok(mut progress) = Progress::<TOP>::new(alloc, streams) else {
+        return Err(CheckFault::Memory);
+    };
+    for number in 0..acts.len() {
+        match progress.advance(streams, acts, number) {
+            Ok(()) => {}
+            Err(Stop::Memory) => return Err(CheckFault::Memory),
+            Err(Stop::Stuck) => return Ok(Verdict::Stuck(number as u64)),
+            Err(Stop::Differs) => return Ok(Verdict::Differs(number as u64)),
+        }
+    }
+    match progress.left(streams) {
+        Some(pid) => Ok(Verdict::Left(pid)),
+        None => Ok(Verdict::Yes(progress.into_pairs())),
+    }
+}

@@ -1,0 +1,17 @@
+//! The exact checker of certificates, and the replay of acts.
+//!
+//! `check` answers the definition's verdict of streams and acts, `replay` what acts report and
+//! reply. Both step a `World`; neither reads nor writes text.
+#![tactic(auto)]
+
+mod checking;
+mod progress;
+mod recording;
+mod tags;
+#[cfg(test)]
+mod tests;
+mod verdict;
+
+pub use checking::check;
+pub use recording::replay;
+pub use verdict::{CheckFault, ReplayFault, Replayed, Verdict};

@@ -1,0 +1,138 @@
+//! The replay of acts: the world, and what each process reported and each act replied so far.
+
+ghost use Rattle.std.specs.Prelude.{◌≡◌, ◌<◌, ◌+◌, [], length, take, IfOk, IfErr, OnOk, MatchBool, None, true};
+ghost use Rattle.std.specs.Option.{ForSome};
+ghost use Rattle.st_check.specs.Answers.{reported, IsReplay, IsReplayFault, RisesOnRun};
+ghost use Rattle.st_check.specs.Recorded.{recorded, IsRecorded};
+ghost use Rattle.st_core.specs.Pid.{IsRising};
+ghost use Rattle.st_core.specs.Run.{pids_of, run};
+ghost use Rattle.st_core.specs.Streams.{is_own, lists};
+
+use crate::tags::actor;
+use crate::verdict::{ReplayFault, Replayed};
+use st_core::{Act, AddFault, Draft, Event, OpenFault, Pid, Reply, Sequence};
+use st_world::{NewFault, StepFault, World};
+use std::alloc::{AllocError, Global};
+
+/// What is recorded while acts have a run.
+#[derive(Drop)]
+struct Recording<const TOP: u64> {
+    /// The state that the acts lead to.
+    world: World<TOP>,
+    /// What each process reported.
+    streams: Draft,
+    /// What each act replied.
+    replies: Sequence<Reply>,
+}
+
+/// What the acts report and reply in their run from zero clocks over these processes, where they
+/// have one.
+pub fn replay<const TOP: u64>(
+    alloc: Global,
+    pids: &[Pid],
+    acts: &[Act],
+) -> Result<Replayed, ReplayFault>
+    ensures replay { IfOk result (IsReplay TOP pids.now acts.now) }
+    ensures rising { OnOk result (IsRising pids.now) }
+    ensures fault { IfErr result (IsReplayFault pids.now) }
+
+    // What every run keeps.
+    ensures rises { IfOk result RisesOnRun }
+{
+    let mut recording = Recording::<TOP>::new(alloc, pids)?;
+    for number in 0..acts.len() {
+        let Ok(has_step) = recording.advance(acts, number) else {
+            return Err(ReplayFault::Memory);
+        };
+        if !has_step {
+            return Ok(Replayed::Stuck(number as u64));
+        }
+    }
+    let Recording {
+        world: _,
+        streams,
+        replies,
+    } = recording;
+    match streams.close() {
+        Ok(streams) => Ok(Replayed::Ran(streams, replies)),
+        // The events of a run name only its processes.
+        Err(_) => unreachable!(),
+    }
+}
+
+impl<const TOP: u64> Recording<TOP> {
+    /// No acts yet.
+    fn new(alloc: Global, pids: &[Pid]) -> Result<Recording<TOP>, ReplayFault>
+        ensures recorded { IfOk result (λ r. IsRecorded TOP pids.now [] r.world r.streams r.replies) }
+        ensures rising { OnOk result (IsRising pids.now) }
+        ensures fault { IfErr result (IsReplayFault pids.now) }
+    {
+        let world = match World::new(alloc, pids) {
+            Ok(world) => world,
+            Err(NewFault::NotRising) => return Err(ReplayFault::NotRising),
+            Err(NewFault::Memory) => return Err(ReplayFault::Memory),
+        };
+        let Ok(streams) = opened(alloc, pids) else {
+            return Err(ReplayFault::Memory);
+        };
+        Ok(Recording {
+            world,
+            streams,
+            replies: Sequence::new(alloc),
+        })
+    }
+
+    /// Takes the act of this number, and answers whether it has a step.
+    fn advance(&mut self, acts: &[Act], number: usize) -> Result<bool, AllocError>
+        requires within { number < length acts.now }
+        requires recorded { IsRecorded TOP (pids_of self.old.streams) (take number acts.now) self.old.world self.old.streams self.old.replies }
+        ensures { IfOk result (λ has_step. MatchBool has_step
+            (IsRecorded TOP (pids_of self.old.streams) (take (number + 1) acts.now) self.new.world self.new.streams self.new.replies)
+            (run TOP (pids_of self.old.streams) (take (number + 1) acts.now) ≡ None)) }
+    {
+        let act = &acts[number];
+        let told = match self.world.step(act) {
+            Ok(told) => told,
+            Err(StepFault::Memory) => return Err(AllocError),
+            Err(StepFault::Unknown) => return Ok(false),
+            Err(StepFault::ClockFull) => return Ok(false),
+        };
+        record(&mut self.streams, actor(act), told.report)?;
+        self.replies.push(told.reply)?;
+        Ok(true)
+    }
+}
+
+/// Adds the event that a listed process reported, if it did.
+fn record(streams: &mut Draft, pid: Pid, report: Option<Event>) -> Result<(), AllocError>
+    requires listed { lists streams.old pid ≡ true }
+    requires own { ForSome report (λ e. is_own pid e ≡ true) }
+    ensures { OnOk result (streams.new ≡ recorded streams.old pid report) }
+{
+    let Some(event) = report else {
+        return Ok(());
+    };
+    match streams.add(pid, event) {
+        Ok(()) => Ok(()),
+        Err(AddFault::Memory) => Err(AllocError),
+        Err(AddFault::Unknown) => unreachable!(),
+        Err(AddFault::Foreign) => unreachable!(),
+    }
+}
+
+/// A draft of these processes, with no events.
+fn opened(alloc: Global, pids: &[Pid]) -> Result<Draft, AllocError>
+    requires { IsRising pids.now }
+    ensures { IfOk result (λ draft. draft ≡ reported pids.now [] []) }
+{
+    let mut draft = Draft::new(alloc);
+    for pid in pids {
+        match draft.open(*pid) {
+            Ok(()) => {}
+            Err(OpenFault::Memory) => return Err(AllocError),
+            // Each pid is above those before it.
+            Err(OpenFault::NotRising) => unreachable!(),
+        }
+    }
+    Ok(draft)
+}

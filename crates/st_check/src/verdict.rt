@@ -1,0 +1,48 @@
+//! What the checker and the replay answer.
+
+use st_core::{Pid, Reply, Sequence, Streams};
+use thiserror::Error;
+
+/// Whether acts are a certificate of streams. Acts are numbered from 0.
+#[derive(Debug, Drop)]
+pub enum Verdict {
+    /// This act has no step: its process or its receiver isn't there, or a clock is full. All acts
+    /// before it pass.
+    Stuck(u64),
+    /// This act has a step that reports something else than the next event of its actor's stream.
+    /// All acts before it pass.
+    Differs(u64),
+    /// All acts pass, and this is the least process with events left.
+    Left(Pid),
+    /// The acts are a run in which each process reports exactly its stream. For each reported
+    /// receive, by rising number, its number and that of the send whose message it took.
+    Yes(Sequence<(u64, u64)>),
+}
+
+/// Why there is no verdict.
+#[derive(Clone, Copy, Debug, PartialEq, Eq, Error)]
+pub enum CheckFault {
+    /// Refusal 1: a growth was refused.
+    #[error("no memory")]
+    Memory,
+}
+
+/// What comes of acts that are replayed.
+#[derive(Debug, Drop)]
+pub enum Replayed {
+    /// The acts have a run: what each process reported in it, and each act's reply.
+    Ran(Streams, Sequence<Reply>),
+    /// This act is the first that has no step.
+    Stuck(u64),
+}
+
+/// Why acts weren't replayed.
+#[derive(Clone, Copy, Debug, PartialEq, Eq, Error)]
+pub enum ReplayFault {
+    /// Refusal 1, after the other: a growth was refused.
+    #[error("no memory")]
+    Memory,
+    /// Refusal 2: the pids don't rise strictly.
+    #[error("the pids don't rise")]
+    NotRising,
+}
