@@ -1,0 +1,33 @@
+-- The definitions of the output, computed on worked values.
+use Rattle.std.proofs.Common.{◌≡◌, ℕ, List, [], ◌∷◌, codes, refl}
+use Rattle.std.specs.Fmt.{digits}
+use Rattle.st_core.specs.Pid.{pid_on}
+use Rattle.st_core.specs.Verdict.{Stuck, Differs, Left, Yes}
+use Rattle.st_text.specs.declared.fault.ReadFault.TheVariants as faults
+use Rattle.seqaudit.specs.Output.{judged, refused, no_acts, usage}
+
+two_pairs : (judged (Yes ((9, 4) ∷ (10, 8) ∷ []))).text ≡ codes "yes\npair 9 4\npair 10 8\n"
+unfolding digits
+two_pairs = refl
+
+no_pairs : (judged (Yes [])).text ≡ codes "yes\n"
+no_pairs = refl
+
+stuck_at_4 : (judged (Stuck 4)).text ≡ codes "no stuck 4\n"
+unfolding digits
+stuck_at_4 = refl
+
+differs_at_10 : (judged (Differs 10)).text ≡ codes "no differs 10\n"
+unfolding digits
+differs_at_10 = refl
+
+events_left : (judged (Left (pid_on 1 30))).text ≡ codes "no left <1.30.0>\n"
+unfolding digits
+events_left = refl
+
+too_many : (refused (faults.TooMany 1026)).text ≡ codes "fault too many 1026\n"
+unfolding digits
+too_many = refl
+
+statuses : (judged (Yes [])).status ∷ (judged (Stuck 0)).status ∷ no_acts.status ∷ (refused faults.Truncated).status ∷ usage.status ∷ (refused faults.Memory).status ∷ [] ≡ 0 ∷ 1 ∷ 2 ∷ 2 ∷ 3 ∷ 4 ∷ []
+statuses = refl

@@ -1,0 +1,9 @@
+use Rattle.seqaudit.specs.Lines.{text_of}
+use Rattle.st_text.proofs.Puts.{finishes}
+use Rattle.seqaudit.proofs.Texts.{line_some}
+use Rattle.seqaudit.specs.Lines.{words}
+use Rattle.seqaudit.proofs.lines.send_line.Goals as goal
+
+pub returns : goal.returns
+returns g c =
+    finishes g.W.ByteSink.puts g.W.ByteSink.failed (text_of c.args.line) _ _ _ _ _ c.flush.result (line_some (words c.args.line)) (rw c.new-buffer.ensures at c.in_ok-write_line.ensures) c.flush.ensures.goes c.flush.ensures.empty

@@ -1,0 +1,18 @@
+use Rattle.std.proofs.Common.{map}
+use Rattle.seqaudit.specs.Command.{ForCommand}
+use Rattle.seqaudit.specs.Parts.{refusal_output}
+use Rattle.seqaudit.proofs.Refusals.{owes_refusal}
+use Rattle.seqaudit.proofs.program.run.Goals as goal
+
+pub returns-in-Ok : goal.returns-in-Ok
+returns-in-Ok g c =
+    let told = c.run_task.ensures in
+    record { output = told.output; owed = ForCommand c.in-Ok.task told.output c.in-Ok.ensures.task told.owed; delivered = told.delivered }
+
+pub returns-in-Err : goal.returns-in-Err
+returns-in-Err g c =
+    record {
+      output = refusal_output c.in-Err.refusal;
+      owed = owes_refusal (map g.S.AsStr.text c.args.words.now) g.R.ByteSource.gives g.R.ByteSource.ended g.R.ByteSource.failed c.args.reader.now c.in-Err.refusal c.in-Err.ensures.refusal;
+      delivered = c.tell_refusal.ensures;
+    }

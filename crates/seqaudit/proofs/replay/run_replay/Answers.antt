@@ -1,0 +1,24 @@
+use Rattle.st_text.specs.Contents.{contents}
+use Rattle.seqaudit.specs.Output.{refused}
+use Rattle.seqaudit.specs.Replayed.{IsReplayed, Faulty}
+use Rattle.seqaudit.proofs.Telling.{owes_fault, owes_replay, was_read}
+use Rattle.seqaudit.proofs.replay.run_replay.Goals as goal
+
+pub returns-in-Ok : goal.returns-in-Ok
+returns-in-Ok g c =
+    let told = c.replay_bundle.ensures in
+    let reader = g.R.ByteSource in
+    record {
+      output = told.output;
+      owed = owes_replay reader.gives reader.ended reader.failed _ _ (contents c.in-Ok.bundle) (was_read reader.gives reader.ended reader.failed _ _ c.in-Ok.bundle c.in-Ok.ensures) told.output told.owed;
+      delivered = told.delivered;
+    }
+
+pub returns-in-Err : goal.returns-in-Err
+returns-in-Err g c =
+    let reader = g.R.ByteSource in
+    record {
+      output = refused c.in-Err.fault;
+      owed = owes_fault IsReplayed reader.gives reader.ended reader.failed _ _ Faulty c.in-Err.fault c.in-Err.ensures;
+      delivered = c.tell_fault.ensures;
+    }

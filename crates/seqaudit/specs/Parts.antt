@@ -1,0 +1,45 @@
+-- The outputs of a bundle that was read, for the contracts of the functions that a command is made of. What a command
+-- does in all stands in `Command`.
+use Rattle.std.specs.Prelude.{◌≡◌, ℕ, List, Option, Some, None}
+use Rattle.st_core.specs.declared.types.Pid.{Pid}
+use Rattle.st_core.specs.declared.types.Act.{Act}
+use Rattle.st_core.specs.Step.{Outcome}
+use Rattle.st_core.specs.Run.{Stream, pids_of, run}
+use Rattle.st_core.specs.Verdict.{Verdict, IsVerdict}
+use Rattle.st_check.specs.Answers.{FollowsAll}
+use Rattle.st_check.specs.declared.verdict.Replayed.{Replayed}
+use Rattle.st_check.specs.declared.verdict.Replayed.TheVariants as answers
+use Rattle.st_text.specs.Text.{Contents, spelling}
+use Rattle.seqaudit.specs.declared.words.Refusal.{Refusal}
+use Rattle.seqaudit.specs.declared.words.Refusal.TheVariants as refusals
+use Rattle.seqaudit.specs.Output.{Output, judged, no_acts, no_memory, usage}
+use Rattle.seqaudit.specs.Checked.{top}
+use Rattle.seqaudit.specs.Replayed.{replayed, stuck, IsStuck}
+
+-- the verdict of streams and acts
+pub data ChecksTo (streams : List Stream) (acts : List Act) : Output → Type 0 where
+  Judges : (v : Verdict) → IsVerdict top streams acts v → FollowsAll top streams acts v → ChecksTo streams acts (judged v)
+  NoRoomToCheck : ChecksTo streams acts no_memory
+
+-- what the acts report
+pub data ReplaysTo (streams : List Stream) (acts : List Act) : Output → Type 0 where
+  Runs : (os : List Outcome) → run top (pids_of streams) acts ≡ Some os → ReplaysTo streams acts (replayed (pids_of streams) acts os)
+  Sticks : (n : ℕ) → IsStuck (pids_of streams) acts n → ReplaysTo streams acts (stuck n)
+  NoRoomToReplay : ReplaysTo streams acts no_memory
+
+-- the same of a bundle, which may have no acts
+pub data OfBundle (OfActs : List Stream → List Act → Output → Type 0) (c : Contents) : Output → Type 0 where
+  OfSome : (acts : List Act) (out : Output) → c.acts ≡ Some acts → OfActs c.streams acts out → OfBundle OfActs c out
+  OfNone : c.acts ≡ None → OfBundle OfActs c no_acts
+
+-- the text of streams and acts
+abbrev pub bundled : List Stream → List Act → Output
+bundled streams acts = record { text = spelling (record { streams = streams; acts = Some acts }); status = 0 }
+
+abbrev pub replayed_output : Replayed → List Act → Output
+replayed_output (answers.Ran streams replies) acts = bundled streams acts
+replayed_output (answers.Stuck n) acts = stuck n
+
+abbrev pub refusal_output : Refusal → Output
+refusal_output refusals.Memory = no_memory
+refusal_output refusals.Usage = usage

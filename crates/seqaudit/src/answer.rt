@@ -1,0 +1,91 @@
+//! Outputs: a text written whole, and the status that goes with it, or 4 where the writer failed.
+
+ghost use Rattle.std.specs.Prelude.{◌≡◌, MatchResult};
+ghost use Rattle.st_check.specs.Answers.{verdict_of};
+ghost use Rattle.seqaudit.specs.Command.{Delivers};
+ghost use Rattle.seqaudit.specs.Lines.{text_of};
+ghost use Rattle.seqaudit.specs.Output.{verdict_status, fault_status, judged, refused};
+ghost use Rattle.seqaudit.specs.Parts.{bundled, refusal_output};
+
+use crate::lines::{Line, send_line, send_verdict};
+use crate::words::Refusal;
+use st_check::Verdict;
+use st_core::{Act, ByteSink, Streams};
+use st_text::{Device, ReadFault, write_parts};
+
+/// The status for a text that was written, or for a writer that failed.
+fn status_of(sent: Result<(), Device>, status: u8) -> u8
+    ensures { MatchResult sent (λ _. result ≡ status) (λ _. result ≡ 4) }
+{
+    match sent {
+        Ok(()) => status,
+        Err(_) => 4,
+    }
+}
+
+/// The status of a verdict.
+fn verdict_status(verdict: &Verdict) -> u8
+    ensures { result ≡ verdict_status (verdict_of verdict.now) }
+{
+    match verdict {
+        Verdict::Yes(_) => 0,
+        Verdict::Stuck(_) | Verdict::Differs(_) | Verdict::Left(_) => 1,
+    }
+}
+
+/// The status of a fault.
+fn fault_status(fault: ReadFault) -> u8
+    ensures { result ≡ fault_status fault }
+{
+    match fault {
+        ReadFault::Memory | ReadFault::Device => 4,
+        ReadFault::TooLarge
+        | ReadFault::Line(_)
+        | ReadFault::Order(_)
+        | ReadFault::Foreign(_)
+        | ReadFault::Unknown(_)
+        | ReadFault::TooMany(_)
+        | ReadFault::Truncated => 2,
+    }
+}
+
+/// Answers a line.
+pub(crate) fn tell_line<W: ByteSink>(writer: &mut W, line: Line, status: u8) -> u8
+    ensures { Delivers W.puts W.failed (record { text = text_of line; status = status }) writer.old writer.new result }
+{
+    let sent = send_line(writer, line);
+    status_of(sent, status)
+}
+
+/// Answers a verdict.
+pub(crate) fn tell_verdict<W: ByteSink>(writer: &mut W, verdict: &Verdict) -> u8
+    ensures { Delivers W.puts W.failed (judged (verdict_of verdict.now)) writer.old writer.new result }
+{
+    let sent = send_verdict(writer, verdict);
+    status_of(sent, verdict_status(verdict))
+}
+
+/// Answers a fault.
+pub(crate) fn tell_fault<W: ByteSink>(writer: &mut W, fault: ReadFault) -> u8
+    ensures { Delivers W.puts W.failed (refused fault) writer.old writer.new result }
+{
+    tell_line(writer, Line::Fault(fault), fault_status(fault))
+}
+
+/// Answers the text of streams and acts.
+pub(crate) fn tell_bundle<W: ByteSink>(writer: &mut W, streams: &Streams, acts: &[Act]) -> u8
+    ensures { Delivers W.puts W.failed (bundled streams.now acts.now) writer.old writer.new result }
+{
+    let sent = write_parts(writer, streams, Some(acts));
+    status_of(sent, 0)
+}
+
+/// Answers words that ask for no command.
+pub(crate) fn tell_refusal<W: ByteSink>(writer: &mut W, refusal: Refusal) -> u8
+    ensures { Delivers W.puts W.failed (refusal_output refusal) writer.old writer.new result }
+{
+    match refusal {
+        Refusal::Memory => tell_fault(writer, ReadFault::Memory),
+        Refusal::Usage => tell_line(writer, Line::Usage, 3),
+    }
+}

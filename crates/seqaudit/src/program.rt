@@ -1,0 +1,44 @@
+//! A run of the program: the command that its words ask for, on its reader and its writer.
+
+ghost use Rattle.std.specs.Prelude.{map};
+ghost use Rattle.seqaudit.specs.Command.{IsOutputOf, Owes, OwesFor, Tells};
+
+use crate::answer::tell_refusal;
+use crate::check::run_check;
+use crate::replay::run_replay;
+use crate::words::{Task, read_words};
+use st_core::{ByteSink, ByteSource};
+use std::alloc::Global;
+use std::convert::AsStr;
+
+/// Does what this command does.
+fn run_task<R: ByteSource, W: ByteSink>(
+    alloc: Global,
+    task: Task,
+    reader: &mut R,
+    writer: &mut W,
+) -> u8
+    ensures { Tells (Owes (IsOutputOf task) R.gives R.ended R.failed reader.old reader.new) W.puts W.failed writer.old writer.new result }
+{
+    match task {
+        Task::Check => run_check(alloc, reader, writer),
+        Task::Replay => run_replay(alloc, reader, writer),
+    }
+}
+
+/// Does what the words ask for, of which the first is the program's name, and gives the exit
+/// status. Words that ask for no command are told how to, with status 3. All texts go to the
+/// writer.
+pub fn run<H: AllocGlobal, S: AsStr, R: ByteSource, W: ByteSink>(
+    rt: &H,
+    words: &[S],
+    reader: &mut R,
+    writer: &mut W,
+) -> u8
+    ensures { Tells (OwesFor (map S.text words.now) R.gives R.ended R.failed reader.old reader.new) W.puts W.failed writer.old writer.new result }
+{
+    match read_words(rt.alloc(), words) {
+        Ok(task) => run_task(rt.alloc(), task, reader, writer),
+        Err(refusal) => tell_refusal(writer, refusal),
+    }
+}

@@ -1,0 +1,65 @@
+//! The command `replay`: what the acts of the input's bundle report. The events in the input are
+//! ignored.
+
+ghost use Rattle.std.specs.Prelude.{◌≡◌, ℕ, List};
+ghost use Rattle.st_text.specs.Contents.{contents};
+ghost use Rattle.seqaudit.specs.Command.{Delivers, Owes, Tells};
+ghost use Rattle.seqaudit.specs.Output.{Output};
+ghost use Rattle.seqaudit.specs.Parts.{OfBundle, ReplaysTo, replayed_output};
+ghost use Rattle.seqaudit.specs.Replayed.{IsReplayed};
+
+use crate::answer::{tell_bundle, tell_fault, tell_line};
+use crate::check::TOP;
+use crate::lines::Line;
+use st_check::{ReplayFault, Replayed, replay};
+use st_core::{Act, ByteSink, ByteSource, Streams};
+use st_text::{Bundle, ReadFault, read};
+use std::alloc::Global;
+
+/// Answers what acts that were replayed came to.
+fn tell_replayed<W: ByteSink>(writer: &mut W, replayed: &Replayed, acts: &[Act]) -> u8
+    ensures { Delivers W.puts W.failed (replayed_output replayed.now acts.now) writer.old writer.new result }
+{
+    match replayed {
+        Replayed::Ran(streams, _) => tell_bundle(writer, streams, acts),
+        Replayed::Stuck(n) => tell_line(writer, Line::Stuck(*n), 1),
+    }
+}
+
+/// Answers what the acts report in a run over the streams' processes.
+fn replay_acts<W: ByteSink>(alloc: Global, streams: &Streams, acts: &[Act], writer: &mut W) -> u8
+    ensures { Tells (ReplaysTo streams.now acts.now) W.puts W.failed writer.old writer.new result }
+{
+    match replay::<TOP>(alloc, streams.pids(), acts) {
+        Ok(replayed) => tell_replayed(writer, &replayed, acts),
+        Err(ReplayFault::Memory) => tell_fault(writer, ReadFault::Memory),
+        Err(ReplayFault::NotRising) => unreachable!(),
+    }
+}
+
+/// Answers what a bundle's acts report.
+fn replay_bundle<W: ByteSink>(alloc: Global, bundle: &Bundle, writer: &mut W) -> u8
+    ensures { Tells (OfBundle ReplaysTo (contents bundle.now)) W.puts W.failed writer.old writer.new result }
+{
+    match &bundle.acts {
+        Some(acts) => replay_acts(alloc, &bundle.streams, acts.as_slice(), writer),
+        None => tell_line(writer, Line::NoActs, 2),
+    }
+}
+
+/// Reads a bundle and answers the bundle of what its acts report, with status 0, or the first act
+/// without a step, with status 1. Faulty input is 2; want of memory, and a reader or a writer that
+/// fails, are 4.
+pub fn run_replay<R: ByteSource, W: ByteSink>(alloc: Global, reader: &mut R, writer: &mut W) -> u8
+    ensures { Tells (Owes IsReplayed R.gives R.ended R.failed reader.old reader.new) W.puts W.failed writer.old writer.new result }
+{
+    match read(alloc, reader) {
+        Ok(bundle) => replay_bundle(alloc, &bundle, writer),
+        Err(fault) => tell_fault(writer, fault),
+    }
+}
+
+/// Law: bytes have one output of the replay at most.
+pub fn one_replay()
+    ensures { (bytes : List ℕ) (one other : Output) → IsReplayed bytes one → IsReplayed bytes other → one ≡ other }
+{}

@@ -1,0 +1,67 @@
+//! A certificate with hidden sends, whole and cut short at every byte.
+
+use super::expect;
+
+/// Two processes that report no send, and acts that explain their streams.
+static CERTIFICATE: &str = "seqtrace 1\n\
+    process <0.30.0>\n\
+    {seq_trace,17,{print,{0,1},<0.30.0>,[],7}}\n\
+    {seq_trace,17,{'receive',{2,4},<0.31.0>,<0.30.0>,6}}\n\
+    process <0.31.0>\n\
+    {seq_trace,17,{'receive',{0,2},<0.30.0>,<0.31.0>,5}}\n\
+    {seq_trace,17,{print,{2,3},<0.31.0>,[],8}}\n\
+    acts\n\
+    tracer <0.30.0> true\n\
+    restore <0.30.0> 17 false false true 0 0 <0.30.0>\n\
+    print <0.30.0> 7\n\
+    restore <0.30.0> 17 false true false 0 0 <0.30.0>\n\
+    send <0.30.0> <0.31.0> 5\n\
+    receive <0.31.0> place 0\n\
+    restore <0.31.0> 17 false false true 0 0 <0.31.0>\n\
+    print <0.31.0> 8\n\
+    restore <0.31.0> 17 false true false 0 0 <0.31.0>\n\
+    send <0.31.0> <0.30.0> 6\n\
+    receive <0.30.0> place 0\n";
+
+/// What `check` answers of the certificate's first bytes, by the lines that they end.
+fn cut_short(head: &[u8]) -> (&'static str, u8) {
+    let lines = head.iter().filter(|b| **b == b'\n').count();
+    match (head.last(), lines) {
+        (Some(b'\n'), 4) => ("fault unknown 4\n", 2),
+        (Some(b'\n'), 1..=7) => ("fault no acts\n", 2),
+        (Some(b'\n'), _) => ("no left <0.30.0>\n", 1),
+        (_, _) => ("fault truncated\n", 2),
+    }
+}
+
+#[test]
+fn a_certificate_with_hidden_sends_is_accepted(rt: HostRuntime) {
+    let text = b"yes\n\
+        pair 5 4\n\
+        pair 10 9\n";
+    expect(
+        &rt,
+        "certificate_checked",
+        &["seqaudit", "check"],
+        CERTIFICATE.as_bytes(),
+        text,
+        0,
+    );
+}
+
+#[test]
+fn no_part_of_a_certificate_is_accepted(rt: HostRuntime) {
+    let whole = CERTIFICATE.as_bytes();
+    for n in 0..whole.len() {
+        let head = &whole[..n];
+        let (text, status) = cut_short(head);
+        expect(
+            &rt,
+            "a prefix",
+            &["seqaudit", "check"],
+            head,
+            text.as_bytes(),
+            status,
+        );
+    }
+}

@@ -1,0 +1,184 @@
+//! Acts that are replayed: `replay` answers the bundle of what they report.
+
+use super::{Case, expect_cases};
+
+static CASES: [Case; 7] = [
+    Case {
+        name: "new_trace_after_clear",
+        input: "seqtrace 1\n\
+            process <0.30.0>\n\
+            acts\n\
+            tracer <0.30.0> true\n\
+            set <0.30.0> label 17\n\
+            set <0.30.0> print true\n\
+            print <0.30.0> 7\n\
+            clear <0.30.0>\n\
+            set <0.30.0> label 18\n\
+            set <0.30.0> print true\n\
+            print <0.30.0> 8\n",
+        text: "seqtrace 1\n\
+            process <0.30.0>\n\
+            {seq_trace,17,{print,{0,1},<0.30.0>,[],7}}\n\
+            {seq_trace,18,{print,{1,2},<0.30.0>,[],8}}\n\
+            acts\n\
+            tracer <0.30.0> true\n\
+            set <0.30.0> label 17\n\
+            set <0.30.0> print true\n\
+            print <0.30.0> 7\n\
+            clear <0.30.0>\n\
+            set <0.30.0> label 18\n\
+            set <0.30.0> print true\n\
+            print <0.30.0> 8\n",
+        status: 0,
+    },
+    Case {
+        name: "low_serial_receive",
+        input: "seqtrace 1\n\
+            process <0.30.0>\n\
+            process <0.31.0>\n\
+            process <0.32.0>\n\
+            acts\n\
+            tracer <0.30.0> true\n\
+            set <0.30.0> label 1\n\
+            print <0.30.0> 0\n\
+            print <0.30.0> 0\n\
+            print <0.30.0> 0\n\
+            print <0.30.0> 0\n\
+            send <0.30.0> <0.31.0> 5\n\
+            set <0.32.0> send true\n\
+            print <0.32.0> 0\n\
+            print <0.32.0> 0\n\
+            send <0.32.0> <0.31.0> 3\n\
+            receive <0.31.0> first\n\
+            receive <0.31.0> first\n\
+            send <0.31.0> <0.30.0> 9\n",
+        text: "seqtrace 1\n\
+            process <0.30.0>\n\
+            process <0.31.0>\n\
+            {seq_trace,0,{send,{3,6},<0.31.0>,<0.30.0>,9}}\n\
+            process <0.32.0>\n\
+            {seq_trace,0,{send,{0,3},<0.32.0>,<0.31.0>,3}}\n\
+            acts\n\
+            tracer <0.30.0> true\n\
+            set <0.30.0> label 1\n\
+            print <0.30.0> 0\n\
+            print <0.30.0> 0\n\
+            print <0.30.0> 0\n\
+            print <0.30.0> 0\n\
+            send <0.30.0> <0.31.0> 5\n\
+            set <0.32.0> send true\n\
+            print <0.32.0> 0\n\
+            print <0.32.0> 0\n\
+            send <0.32.0> <0.31.0> 3\n\
+            receive <0.31.0> first\n\
+            receive <0.31.0> first\n\
+            send <0.31.0> <0.30.0> 9\n",
+        status: 0,
+    },
+    Case {
+        name: "silent_print_stamps",
+        input: "seqtrace 1\n\
+            process <0.30.0>\n\
+            acts\n\
+            tracer <0.30.0> true\n\
+            set <0.30.0> label 17\n\
+            print <0.30.0> 5\n\
+            set <0.30.0> print true\n\
+            print <0.30.0> 6\n",
+        text: "seqtrace 1\n\
+            process <0.30.0>\n\
+            {seq_trace,17,{print,{0,2},<0.30.0>,[],6}}\n\
+            acts\n\
+            tracer <0.30.0> true\n\
+            set <0.30.0> label 17\n\
+            print <0.30.0> 5\n\
+            set <0.30.0> print true\n\
+            print <0.30.0> 6\n",
+        status: 0,
+    },
+    Case {
+        name: "printat_other_label",
+        input: "seqtrace 1\n\
+            process <0.30.0>\n\
+            acts\n\
+            tracer <0.30.0> true\n\
+            set <0.30.0> label 17\n\
+            set <0.30.0> print true\n\
+            printat <0.30.0> 18 5\n\
+            print <0.30.0> 6\n",
+        text: "seqtrace 1\n\
+            process <0.30.0>\n\
+            {seq_trace,17,{print,{0,1},<0.30.0>,[],6}}\n\
+            acts\n\
+            tracer <0.30.0> true\n\
+            set <0.30.0> label 17\n\
+            set <0.30.0> print true\n\
+            printat <0.30.0> 18 5\n\
+            print <0.30.0> 6\n",
+        status: 0,
+    },
+    Case {
+        name: "queue_places",
+        input: "seqtrace 1\n\
+            process <0.30.0>\n\
+            process <0.31.0>\n\
+            acts\n\
+            tracer <0.30.0> true\n\
+            set <0.30.0> receive true\n\
+            send <0.30.0> <0.31.0> 8\n\
+            send <0.30.0> <0.31.0> 9\n\
+            send <0.30.0> <0.31.0> 8\n\
+            receive <0.31.0> value 9\n\
+            send <0.30.0> <0.31.0> 4\n\
+            receive <0.31.0> first\n\
+            receive <0.31.0> first\n\
+            receive <0.31.0> first\n\
+            receive <0.31.0> first\n\
+            receive <0.31.0> first\n",
+        text: "seqtrace 1\n\
+            process <0.30.0>\n\
+            process <0.31.0>\n\
+            {seq_trace,0,{'receive',{0,2},<0.30.0>,<0.31.0>,9}}\n\
+            {seq_trace,0,{'receive',{0,1},<0.30.0>,<0.31.0>,8}}\n\
+            {seq_trace,0,{'receive',{0,3},<0.30.0>,<0.31.0>,8}}\n\
+            {seq_trace,0,{'receive',{0,4},<0.30.0>,<0.31.0>,4}}\n\
+            acts\n\
+            tracer <0.30.0> true\n\
+            set <0.30.0> receive true\n\
+            send <0.30.0> <0.31.0> 8\n\
+            send <0.30.0> <0.31.0> 9\n\
+            send <0.30.0> <0.31.0> 8\n\
+            receive <0.31.0> value 9\n\
+            send <0.30.0> <0.31.0> 4\n\
+            receive <0.31.0> first\n\
+            receive <0.31.0> first\n\
+            receive <0.31.0> first\n\
+            receive <0.31.0> first\n\
+            receive <0.31.0> first\n",
+        status: 0,
+    },
+    Case {
+        name: "replay_no_acts",
+        input: "seqtrace 1\n\
+            process <0.30.0>\n",
+        text: "fault no acts\n",
+        status: 2,
+    },
+    Case {
+        name: "header_2_by_want_replayed",
+        input: "seqtrace 2\n\
+            process <0.30.0>\n\
+            acts\n\
+            receive <0.30.0> from <1.5.0>\n",
+        text: "seqtrace 2\n\
+            process <0.30.0>\n\
+            acts\n\
+            receive <0.30.0> from <1.5.0>\n",
+        status: 0,
+    },
+];
+
+#[test]
+fn acts_are_replayed(rt: HostRuntime) {
+    expect_cases(&rt, "replay", &CASES);
+}
