@@ -7,7 +7,7 @@ ghost use Rattle.st_check.specs.Progress.{counted, pair_to, stop_of, IsPassed, I
 ghost use Rattle.st_core.specs.Run.{pids_of};
 ghost use Rattle.st_core.specs.Streams.{IsStreams};
 
-use crate::tags::{actor, place_of, retag};
+use crate::tags::retag;
 use st_arena::Lists;
 use st_core::{Act, Event, Pid, Sequence, Streams};
 use st_world::{StepFault, World};
@@ -73,9 +73,8 @@ impl<const TOP: u64> Progress<TOP> {
         ensures stop { IfErr result (IsStop TOP streams.now (take (number + 1) acts.now)) }
     {
         let act = &acts[number];
-        let pids = streams.pids();
-        let me = actor(act);
-        let Some(place) = place_of(pids, me) else {
+        let me = act.actor();
+        let Some(place) = streams.place_of(me) else {
             return Err(Stop::Stuck);
         };
         let told = match self.world.step(act) {
@@ -85,7 +84,14 @@ impl<const TOP: u64> Progress<TOP> {
         if !self.count(place, streams.events(me), told.report) {
             return Err(Stop::Differs);
         }
-        let Ok(sent) = retag(&mut self.tags, pids, place, act, number as u64, told.place) else {
+        let Ok(sent) = retag(
+            &mut self.tags,
+            streams,
+            place,
+            act,
+            number as u64,
+            told.place,
+        ) else {
             return Err(Stop::Memory);
         };
         let Ok(()) = pair(&mut self.pairs, number as u64, told.report.and(sent)) else {

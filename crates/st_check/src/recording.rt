@@ -8,7 +8,6 @@ ghost use Rattle.st_core.specs.Pid.{IsRising};
 ghost use Rattle.st_core.specs.Run.{pids_of, run};
 ghost use Rattle.st_core.specs.Streams.{is_own, lists};
 
-use crate::tags::actor;
 use crate::verdict::{ReplayFault, Replayed};
 use st_core::{Act, AddFault, Draft, Event, OpenFault, Pid, Reply, Sequence};
 use st_world::{NewFault, StepFault, World};
@@ -97,7 +96,7 @@ impl<const TOP: u64> Recording<TOP> {
             Err(StepFault::Unknown) => return Ok(false),
             Err(StepFault::ClockFull) => return Ok(false),
         };
-        record(&mut self.streams, actor(act), told.report)?;
+        record(&mut self.streams, act.actor(), told.report)?;
         self.replies.push(told.reply)?;
         Ok(true)
     }

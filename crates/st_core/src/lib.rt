@@ -4,6 +4,7 @@
 mod device;
 pub mod laws;
 mod local;
+mod places;
 mod sequence;
 mod streams;
 mod types;

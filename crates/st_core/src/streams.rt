@@ -10,8 +10,9 @@ ghost use Rattle.st_core.specs.Run.{pids_of};
 ghost use Rattle.st_core.specs.Streams.{lists, events_of, total_of, unlisted, is_own, added, ComesLast, IsOpenFault, IsAddFault, IsDraft, IsStreams};
 ghost use Rattle.st_core.specs.Collected.{is_among, names_among, first_failing};
 
+use crate::places::Places;
 use crate::sequence::Sequence;
-use crate::types::{Event, Kind, Pid};
+use crate::types::{Event, Pid};
 use std::alloc::{AllocError, Global};
 use std::marker::Model;
 use thiserror::Error;
@@ -48,6 +49,7 @@ pub struct Draft {
     pids: Vec<Pid>,
     events: Vec<Sequence<Event>>,
     total: u64,
+    places: Places,
 }
 
 impl Model for Draft {
@@ -62,33 +64,6 @@ impl Model for Draft {
     ghost invariant = { λ a. IsCollected a.pids.items a.events.items a.total };
 }
 
-/// Where the pid stands among pids that rise.
-fn place_of(pids: &[Pid], pid: Pid) -> Option<usize>
-    requires { IsRising pids.now }
-    ensures found { IfSome result (λ i. slice_get pids.now i ≡ Some pid) }
-    ensures missing { IfNone result (AllByRecursion (λ p. pid_eq p pid ≡ false) pids.now) }
-{
-    // Collected events mostly come for the process that was opened last.
-    if let Some(last) = pids.last() {
-        if *last == pid {
-            return Some(pids.len() - 1);
-        }
-    }
-    pids.binary_search(&pid).ok()
-}
-
-/// Whether the event is one that this process reports: from it for a send or a print, to it for
-/// a receive, and with a `to` exactly where it isn't a print.
-fn is_own(pid: Pid, event: &Event) -> bool
-    ensures { result ≡ is_own pid event.now }
-{
-    match (event.kind, event.to) {
-        (Kind::Send, Some(_)) | (Kind::Print, None) => event.from == pid,
-        (Kind::Receive, Some(to)) => to == pid,
-        (Kind::Send | Kind::Receive, None) | (Kind::Print, Some(_)) => false,
-    }
-}
-
 impl Draft {
     /// No processes. Takes no memory.
     pub fn new(alloc: Global) -> Draft
@@ -98,6 +73,7 @@ impl Draft {
             pids: Vec::new(alloc),
             events: Vec::new(alloc),
             total: 0,
+            places: Places::new(),
         }
     }
 
@@ -118,6 +94,7 @@ impl Draft {
         let Ok(()) = self.events.push(Sequence::new(alloc)) else {
             return Err(OpenFault::Memory);
         };
+        self.places.expect(pid, self.pids.len());
         self.pids.push(pid).unwrap();
         Ok(())
     }
@@ -130,10 +107,10 @@ impl Draft {
         ensures fault { IfErr result (IsAddFault self.old pid event) }
         ensures err { OnErr result (self.new ≡ self.old) }
     {
-        let Some(place) = place_of(&self.pids, pid) else {
+        let Some(place) = self.places.place_of(&self.pids, pid) else {
             return Err(AddFault::Unknown);
         };
-        if !is_own(pid, &event) {
+        if !event.is_own(pid) {
             return Err(AddFault::Foreign);
         }
         // No memory holds so many events that their count leaves its range.
@@ -170,7 +147,7 @@ impl Draft {
         ensures place { result ≡ unlisted self.now }
         ensures draft { IsDraft self.now }
     {
-        first_failing(&self.pids, &self.events)
+        first_failing(&self.places, &self.pids, &self.events)
     }
 
     /// The processes so far, by strictly rising pid.
@@ -186,10 +163,18 @@ impl Draft {
         ensures value { result.now ≡ events_of self.now pid }
         ensures draft { IsDraft self.now }
     {
-        match place_of(&self.pids, pid) {
+        match self.places.place_of(&self.pids, pid) {
             None => &[],
             Some(place) => self.events[place].as_slice(),
         }
+    }
+
+    /// Where the pid stands among the processes so far.
+    fn place_of(&self, pid: Pid) -> Option<usize>
+        ensures found { IfSome result (λ i. slice_get (pids_of self.now) i ≡ Some pid) }
+        ensures missing { IfNone result (AllByRecursion (λ p. pid_eq p pid ≡ false) (pids_of self.now)) }
+    {
+        self.places.place_of(&self.pids, pid)
     }
 
     /// The number of all events.
@@ -238,6 +223,15 @@ impl Streams {
         ensures streams { IsStreams self.now }
     {
         self.draft.pids()
+    }
+
+    /// Where the process stands in `pids`; none where it isn't listed. Constant time for most pids,
+    /// and at worst that of a binary search.
+    pub fn place_of(&self, pid: Pid) -> Option<usize>
+        ensures found { IfSome result (λ i. slice_get (pids_of self.now) i ≡ Some pid) }
+        ensures missing { IfNone result (AllByRecursion (λ p. pid_eq p pid ≡ false) (pids_of self.now)) }
+    {
+        self.draft.place_of(pid)
     }
 
     /// The events of a process in order; none where it isn't listed.
@@ -294,32 +288,32 @@ fn push_at(events: &mut [Sequence<Event>], place: usize, event: Event) -> Result
 }
 
 /// Whether the pid is among these, which rise.
-fn is_among(pids: &[Pid], pid: Pid) -> bool
+fn is_among(places: &Places, pids: &[Pid], pid: Pid) -> bool
     requires { IsRising pids.now }
     ensures { result ≡ is_among pids.now pid }
 {
-    match place_of(pids, pid) {
+    match places.place_of(pids, pid) {
         None => false,
         Some(_) => true,
     }
 }
 
 /// Whether the pids that the event names are among these, which rise.
-fn names_among(pids: &[Pid], event: &Event) -> bool
+fn names_among(places: &Places, pids: &[Pid], event: &Event) -> bool
     requires { IsRising pids.now }
     ensures { result ≡ names_among pids.now event.now }
 {
-    if !is_among(pids, event.from) {
+    if !is_among(places, pids, event.from) {
         return false;
     }
     match event.to {
         None => true,
-        Some(to) => is_among(pids, to),
+        Some(to) => is_among(places, pids, to),
     }
 }
 
 /// The first event that names a pid that isn't among these, which rise.
-fn unlisted_index(pids: &[Pid], events: &[Event]) -> Option<usize>
+fn unlisted_index(places: &Places, pids: &[Pid], events: &[Event]) -> Option<usize>
     requires { IsRising pids.now }
     ensures { result ≡ position (λ e. not (names_among pids.now e)) events.now }
 {
@@ -327,18 +321,18 @@ fn unlisted_index(pids: &[Pid], events: &[Event]) -> Option<usize>
         |event: &Event| -> bool
             requires { IsRising pids.now }
             ensures { result ≡ not (names_among pids.entry.now event.now) }
-        { !names_among(pids, event) },
+        { !names_among(places, pids, event) },
     )
 }
 
 /// The first process with such an event, and the event's index.
-fn first_failing(pids: &[Pid], lists: &[Sequence<Event>]) -> Option<(Pid, u64)>
+fn first_failing(places: &Places, pids: &[Pid], lists: &[Sequence<Event>]) -> Option<(Pid, u64)>
     requires rising { IsRising pids.now }
     requires even { length lists.now ≡ length pids.now }
     ensures { result ≡ first_failing (names_among pids.now) pids.now lists.now }
 {
     for (place, events) in lists.iter().enumerate() {
-        if let Some(index) = unlisted_index(pids, events.as_slice()) {
+        if let Some(index) = unlisted_index(places, pids, events.as_slice()) {
             return Some((pids[place], index as u64));
         }
     }

@@ -2,9 +2,9 @@
 //! comes back where a growth was refused (`rt try --test --fail-alloc 1..` refuses each in turn).
 
 use crate::{
-    AddFault, ByteSink, ByteSource, Component, Draft, EndlessSource, Event, Failed, Flags, Kind,
-    Label, Local, MemorySink, MemorySource, OpenFault, Pid, ReadFrom, Sequence, Serial, Token,
-    WriteTo,
+    Act, AddFault, ByteSink, ByteSource, Component, Draft, EndlessSource, Event, Failed, Flags,
+    Kind, Label, Local, MemorySink, MemorySource, OpenFault, Pid, ReadFrom, Sequence, Serial,
+    Token, WriteTo,
 };
 use std::test::Fail;
 
@@ -179,7 +179,33 @@ fn a_draft_comes_back_with_its_unlisted_place_and_closes_later(
     assert_eq!(rt; streams.event(p30(), 0), Some(send));
     assert_eq!(rt; streams.event(p30(), 1), None);
     assert_eq!(rt; streams.total(), 1);
+    assert_eq!(rt; streams.place_of(p31()), Some(1));
+    assert_eq!(rt; streams.place_of(Pid::on(1, 31)), None);
     Ok(())
+}
+
+#[test]
+fn pids_of_one_slot_are_told_apart(rt: HostRuntime) -> Result<(), Fail> {
+    let (near, far) = (Pid::new(30), Pid::new(30 + 2_048));
+    let mut draft = Draft::new(rt.alloc());
+    for pid in [near, far] {
+        if draft.open(pid).is_err() {
+            return Ok(());
+        }
+    }
+    let streams = draft.close().ok().ok_or("unlisted")?;
+    assert_eq!(rt; streams.place_of(near), Some(0));
+    assert_eq!(rt; streams.place_of(far), Some(1));
+    assert_eq!(rt; streams.place_of(Pid::new(30 + 2 * 2_048)), None);
+    Ok(())
+}
+
+#[test]
+fn an_act_names_its_actor_first(rt: HostRuntime) {
+    assert_eq!(rt; Act::Send(p31(), p30(), 5).actor(), p31());
+    assert_eq!(rt; Act::Look(p30()).actor(), p30());
+    assert!(rt; event(Kind::Receive, p30(), Some(p31())).is_own(p31()));
+    assert!(rt; !event(Kind::Receive, p30(), Some(p31())).is_own(p30()));
 }
 
 #[test]

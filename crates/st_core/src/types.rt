@@ -7,6 +7,8 @@
 ghost use Rattle.std.specs.Prelude.{◌≡◌};
 ghost use Rattle.st_core.specs.Local.{component_of, default_token, with_component};
 ghost use Rattle.st_core.specs.Pid.{node_of, number_of, pid_on};
+ghost use Rattle.st_core.specs.Step.{actor};
+ghost use Rattle.st_core.specs.Streams.{is_own};
 
 /// The identifier of a process: a node and a number there, each 0 to 65,535 (own profile). It is
 /// written `<NODE.NUMBER.0>`, and ordered by node, then number.
@@ -170,6 +172,20 @@ pub struct Event {
     pub value: u64,
 }
 
+impl Event {
+    /// Whether the event is one that this process reports: from it for a send or a print, to it for
+    /// a receive, and with a `to` exactly where it isn't a print.
+    pub fn is_own(&self, pid: Pid) -> bool
+        ensures { result ≡ is_own pid self.now }
+    {
+        match (self.kind, self.to) {
+            (Kind::Send, Some(_)) | (Kind::Print, None) => self.from == pid,
+            (Kind::Receive, Some(to)) => to == pid,
+            (Kind::Send | Kind::Receive, None) | (Kind::Print, Some(_)) => false,
+        }
+    }
+}
+
 /// A component of a token that can be set (manual; its serial is left out, which users should
 /// never set).
 #[derive(Clone, Copy, Debug, PartialEq, Eq, PartialOrd, Ord, Hash)]
@@ -222,6 +238,26 @@ pub enum Act {
     Reset(Pid),
     /// `seq_trace:set_system_tracer/1` with some tracer or none, for the process's node.
     Tracer(Pid, bool),
+}
+
+impl Act {
+    /// The process that acts.
+    pub fn actor(&self) -> Pid
+        ensures { result ≡ actor self.now }
+    {
+        match *self {
+            Act::Send(me, _, _)
+            | Act::Receive(me, _)
+            | Act::Print(me, _)
+            | Act::PrintAt(me, _, _)
+            | Act::Set(me, _)
+            | Act::Clear(me)
+            | Act::Restore(me, _)
+            | Act::Look(me)
+            | Act::Reset(me)
+            | Act::Tracer(me, _) => me,
+        }
+    }
 }
 
 /// What an act answers its actor.

@@ -25,55 +25,37 @@ pub struct UnknownAct {
     pub acts: Option<Sequence<Act>>,
 }
 
-/// Where the pid stands among these, which rise.
-fn place_of(pids: &[Pid], pid: Pid) -> Option<usize>
-    requires { IsRising pids.now }
-    ensures found { IfSome result (λ i. slice_get pids.now i ≡ Some pid) }
-    ensures missing { IfNone result (AllByRecursion (λ p. pid_eq p pid ≡ false) pids.now) }
+/// Whether the pid is listed in the streams.
+fn is_among(streams: &Streams, pid: Pid) -> bool
+    ensures { result ≡ is_among (pids_of streams.now) pid }
 {
-    pids.binary_search(&pid).ok()
-}
-
-/// Whether the pid is among these, which rise.
-fn is_among(pids: &[Pid], pid: Pid) -> bool
-    requires { IsRising pids.now }
-    ensures { result ≡ is_among pids.now pid }
-{
-    match place_of(pids, pid) {
+    match streams.place_of(pid) {
         None => false,
         Some(_) => true,
     }
 }
 
-/// Whether the act's actor, and a send's receiver, are among these pids, which rise.
-fn is_listed(pids: &[Pid], act: &Act) -> bool
-    requires { IsRising pids.now }
-    ensures { result ≡ is_listed pids.now act.now }
+/// Whether the act's actor, and a send's receiver, are listed in the streams.
+fn is_listed(streams: &Streams, act: &Act) -> bool
+    ensures { result ≡ is_listed (pids_of streams.now) act.now }
 {
+    if !is_among(streams, act.actor()) {
+        return false;
+    }
     match act {
-        Act::Send(sender, receiver, _) => is_among(pids, *sender) && is_among(pids, *receiver),
-        Act::Receive(pid, _)
-        | Act::Print(pid, _)
-        | Act::PrintAt(pid, _, _)
-        | Act::Set(pid, _)
-        | Act::Clear(pid)
-        | Act::Restore(pid, _)
-        | Act::Look(pid)
-        | Act::Reset(pid)
-        | Act::Tracer(pid, _) => is_among(pids, *pid),
+        Act::Send(_, receiver, _) => is_among(streams, *receiver),
+        _ => true,
     }
 }
 
-/// The first act whose actor or receiver isn't among these pids, which rise.
-fn first_unlisted(pids: &[Pid], acts: &[Act]) -> Option<usize>
-    requires { IsRising pids.now }
-    ensures { result ≡ position (λ a. not (is_listed pids.now a)) acts.now }
+/// The first act whose actor or receiver isn't listed in the streams.
+fn first_unlisted(streams: &Streams, acts: &[Act]) -> Option<usize>
+    ensures { result ≡ position (λ a. not (is_listed (pids_of streams.now) a)) acts.now }
 {
     acts.iter().position(
         |act: &Act| -> bool
-            requires { IsRising pids.now }
-            ensures { result ≡ not (is_listed pids.entry.now act.now) }
-        { !is_listed(pids, act) },
+            ensures { result ≡ not (is_listed (pids_of streams.entry.now) act.now) }
+        { !is_listed(streams, act) },
     )
 }
 
@@ -81,10 +63,9 @@ fn first_unlisted(pids: &[Pid], acts: &[Act]) -> Option<usize>
 fn unlisted_act(streams: &Streams, acts: &Option<Sequence<Act>>) -> Option<usize>
     ensures { result ≡ unlisted_act streams.now acts.now }
 {
-    let pids = streams.pids();
     match acts {
         None => None,
-        Some(acts) => first_unlisted(pids, acts.as_slice()),
+        Some(acts) => first_unlisted(streams, acts.as_slice()),
     }
 }
 

@@ -4,12 +4,13 @@ use Rattle.st_check.specs.Progress.{pair_to, IsPassed}
 use Rattle.st_arena.specs.Arena.{Arena}
 use Rattle.std.proofs.lemmas.Bool.{false≢true}
 use Rattle.st_check.proofs.Advancing.{length-counts, length-tags, unlisted_at, refused_at, differs_at, passed_at}
+use Rattle.st_core.specs.Run.{pids_of}
 use Rattle.st_check.proofs.progress.Progress.advance.Goals as goal
 
 pub returns-in_default-clause-stop : goal.returns-in_default-clause-stop
 returns-in_default-clause-stop g c =
     unlisted_at g.row.TOP c.args.streams.now c.args.acts.now c.args.number _ c.args.self.now.world c.args.self.now.counts.items c.args.self.now.tags.lists c.args.self.now.pairs c.requires.within c.requires.passed
-    c.pids-pids.result.now c.actor-me.result c.pids-pids.ensures.value c.actor-me.ensures c.in_default.ensures.missing
+    (pids_of c.args.streams.now) c.actor-me.result refl c.actor-me.ensures c.in_default.ensures.missing
 
 pub returns-in-Err-clause-stop : goal.returns-in-Err-clause-stop
 returns-in-Err-clause-stop g c =
@@ -19,14 +20,13 @@ returns-in-Err-clause-stop g c =
 pub count-requires : goal.count-requires
 count-requires g c =
     let same = length-counts g.row.TOP c.args.streams.now _ c.args.self.now.world c.args.self.now.counts.items c.args.self.now.tags.lists c.args.self.now.pairs c.requires.passed in
-    let pids = ap length c.pids-pids.ensures.value in
-    let within = slice_get_within c.pids-pids.result.now c.in-Some.place c.actor-me.result c.in-Some.ensures.found in
+    let within = slice_get_within (pids_of c.args.streams.now) c.in-Some.place c.actor-me.result c.in-Some.ensures.found in
     (omega arith, omega arith)
 
 pub returns-then-not-count-clause-stop : goal.returns-then-not-count-clause-stop
 returns-then-not-count-clause-stop g c =
     differs_at g.row.TOP c.args.streams.now c.args.acts.now c.args.number _ c.args.self.now.world c.args.self.now.counts.items c.args.self.now.tags.lists c.args.self.now.pairs c.requires.within c.requires.passed
-    c.pids-pids.result.now c.actor-me.result c.in-Some.place c.events.result.now _ c.pids-pids.ensures.streams.draft.rising c.pids-pids.ensures.value c.actor-me.ensures c.in-Some.ensures.found c.events.ensures.value c.in-Ok.ensures.step
+    (pids_of c.args.streams.now) c.actor-me.result c.in-Some.place c.events.result.now _ c.events.ensures.streams.draft.rising refl c.actor-me.ensures c.in-Some.ensures.found c.events.ensures.value c.in-Ok.ensures.step
     (λ next. false≢true (sym c.if-not-count.true ∙ c.count.ensures.next.1 next))
 
 pub returns-clause-passed : goal.returns-clause-passed
@@ -34,7 +34,7 @@ returns-clause-passed g c =
     let kept = c.if-not-count.ensures in
     subst (λ s. IsPassed g.row.TOP c.args.streams.now (take (c.args.number + 1) c.args.acts.now) s c.count.new.self.counts.items c.retag.new.tags.lists c.pair.new.pairs) (sym kept.world)
     (passed_at g.row.TOP c.args.streams.now c.args.acts.now c.args.number _ c.args.self.now.world c.args.self.now.counts.items c.args.self.now.tags.lists c.args.self.now.pairs c.requires.within c.requires.passed
-    c.pids-pids.result.now c.actor-me.result c.in-Some.place c.events.result.now _ c.pids-pids.ensures.streams.draft.rising c.pids-pids.ensures.value c.actor-me.ensures c.in-Some.ensures.found c.events.ensures.value c.in-Ok.ensures.step
+    (pids_of c.args.streams.now) c.actor-me.result c.in-Some.place c.events.result.now _ c.events.ensures.streams.draft.rising refl c.actor-me.ensures c.in-Some.ensures.found c.events.ensures.value c.in-Ok.ensures.step
     c.count.new.self.counts.items c.retag.new.tags.lists c.pair.new.pairs c.in-Ok-retag.sent
     (c.count.ensures.next.0 c.if-not-count.false)
     (c.count.ensures.counts c.if-not-count.false)
