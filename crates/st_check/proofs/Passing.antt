@@ -1,20 +1,20 @@
 -- One more act after acts that pass: it passes, has no step, or reports another event.
-use Rattle.std.proofs.Common.{◌≡◌, ℕ, ◌+◌, ◌<◌, zero, suc, Bool, true, false, cond, List, [], ◌∷◌, ◌++◌, length, map, get_or, set, replicate, Option, Some, None, IsSome, is_some, option_map, option_and_then, option_to_list, All, refl, sym, ◌∙◌, ap, subst, arith, append-nil, length-append, if◌then◌else◌}
+use Rattle.std.proofs.Common.{◌≡◌, ℕ, ◌+◌, ◌<◌, Bool, true, false, cond, List, [], ◌∷◌, ◌++◌, length, map, get_or, set, replicate, Option, Some, None, IsSome, is_some, option_map, option_and_then, option_to_list, refl, sym, ◌∙◌, ap, subst, arith, append-nil, length-append, if◌then◌else◌}
 use mathlib.Core.List.{IsPrefix}
 use Rattle.std.specs.Option.{ForSome}
 use Rattle.std.specs.List.{AllByRecursion, slice_get}
-use Rattle.std.proofs.lemmas.Option.{same_Some, none-some, slice_get_within, get_or_from_slice_get, slice_get-map}
+use Rattle.std.proofs.lemmas.Option.{same_Some, slice_get_within, get_or_from_slice_get}
 use Rattle.std.proofs.lemmas.List.{get_or-map, length-map}
 use Rattle.st_core.specs.declared.types.Pid.{Pid}
 use Rattle.st_core.specs.declared.types.Event.{Event}
 use Rattle.st_core.specs.declared.types.Act.{Act}
 use Rattle.st_core.specs.Pid.{pid_eq, IsRising}
-use Rattle.st_core.specs.State.{Process, State, process, zero_local, zero_state}
+use Rattle.st_core.specs.State.{Process, State, process, zero_state}
 use Rattle.st_core.specs.Step.{Outcome, actor, receiver, acted, outcome_of, step}
 use Rattle.st_core.specs.Run.{Stream, pids_of, run, run_from, stream}
 use Rattle.st_core.specs.Streams.{events_of}
 use Rattle.st_core.specs.Pairs.{tags_after, pairs}
-use Rattle.st_core.specs.Verdict.{IsPassing, Passes}
+use Rattle.st_core.specs.Verdict.{Passes}
 use Rattle.st_core.proofs.Pids.{pid_eq-true, pid_eq-same, pid_eq-swap}
 use Rattle.st_core.proofs.Others.{run_parts, leaves_others}
 use Rattle.st_check.specs.Progress.{state_from, tags_of, count_of, counted, IsPassed}

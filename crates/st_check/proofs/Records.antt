@@ -1,8 +1,8 @@
 -- One more act after acts that have a run: the streams and the replies that are recorded.
-use Rattle.std.proofs.Common.{◌≡◌, ℕ, ◌+◌, ◌<◌, ◌≤◌, ◌⊎◌, inl, inr, zero, suc, Bool, true, false, cond, not, ◌&&◌, ◌||◌, nat_lt, List, [], ◌∷◌, ◌++◌, length, map, take, get_or, find, position, Option, Some, None, is_some, option_map, option_to_list, All, refl, sym, ◌∙◌, ap, subst, arith, take_all, if◌then◌else◌}
+use Rattle.std.proofs.Common.{◌≡◌, ℕ, ◌+◌, ◌<◌, ◌⊎◌, inl, inr, zero, suc, Bool, true, false, cond, not, ◌&&◌, ◌||◌, List, [], ◌∷◌, ◌++◌, length, map, take, get_or, position, Option, Some, None, is_some, option_map, option_to_list, All, refl, sym, ◌∙◌, ap, subst, arith, if◌then◌else◌}
 use Rattle.std.specs.Option.{ForSome, option_map_or}
-use Rattle.std.specs.List.{AllByRecursion, AllZip, list_any, slice_get, position_or_len}
-use Rattle.std.proofs.lemmas.Bool.{ltb-false, le-ltb}
+use Rattle.std.specs.List.{AllByRecursion, AllZip, slice_get, position_or_len}
+use Rattle.std.proofs.lemmas.Bool.{le-ltb}
 use Rattle.std.proofs.lemmas.List.{take_more, map_push}
 use Rattle.std.proofs.lemmas.Option.{none-some, slice_get-get_or}
 use Rattle.st_core.specs.declared.types.Pid.{Pid}
@@ -12,14 +12,13 @@ use Rattle.st_core.specs.declared.types.Act.{Act}
 use Rattle.st_core.specs.Pid.{pid_eq, IsBelow, IsRising}
 use Rattle.st_core.specs.State.{Process, State, process, zero_state}
 use Rattle.st_core.specs.Step.{Outcome, actor, step}
-use Rattle.st_core.specs.Run.{Stream, pids_of, run, run_from, stream}
+use Rattle.st_core.specs.Run.{Stream, pids_of, run, stream}
 use Rattle.st_core.specs.Streams.{stream_of, lists, names_listed, unlisted_among, unlisted, with_event, added, is_own, ComesLast}
 use Rattle.st_core.specs.Collected.{is_among, names_among}
 use Rattle.st_core.specs.Laws.{IsReportAmong, ReportsAmong}
 use Rattle.st_core.proofs.Pids.{pid_eq-true, pid_eq-swap, all_at}
-use Rattle.st_core.proofs.Others.{Stepped, step_parts}
+use Rattle.st_core.proofs.Others.{step_parts}
 use Rattle.st_core.proofs.Names.{run_named}
-use Rattle.st_check.specs.Progress.{state_from}
 use Rattle.st_check.specs.Answers.{reported, AllRise}
 use Rattle.st_check.proofs.Verdicts.{Rises, stream_rises}
 use Rattle.st_core.proofs.Sound.{run_sound}

@@ -1,5 +1,5 @@
 -- The lists of tags over one act.
-use Rattle.std.proofs.Common.{◌≡◌, ℕ, ◌+◌, ◌<◌, ◌≤◌, suc, Bool, true, false, cond, List, [], ◌∷◌, ◌++◌, length, map, take, drop, get_or, set, Option, Some, None, option_and_then, refl, sym, ◌∙◌, ap, subst, arith, append-nil, take_all, inl, inr, if◌then◌else◌}
+use Rattle.std.proofs.Common.{◌≡◌, ℕ, ◌≤◌, suc, false, cond, List, [], ◌∷◌, ◌++◌, length, map, take, get_or, set, Option, Some, None, option_and_then, refl, sym, ◌∙◌, ap, arith, append-nil, take_all, inl, inr, if◌then◌else◌}
 use Rattle.std.specs.Option.{OnSome, IfNone}
 use Rattle.std.specs.List.{AllByRecursion, slice_get, remove}
 use Rattle.std.proofs.lemmas.Option.{none-some, slice_get-get_or}

@@ -1,9 +1,9 @@
 -- The verdict of acts that all pass, and what a verdict shows.
-use Rattle.std.proofs.Common.{◌≡◌, ℕ, ◌+◌, ◌<◌, ◌≤◌, zero, suc, Bool, true, false, cond, nat_lt, List, [], ◌∷◌, ◌++◌, length, map, get_or, find, Option, Some, None, option_to_list, All, refl, sym, ◌∙◌, ap, subst, arith, append-nil, length-append, if◌then◌else◌}
+use Rattle.std.proofs.Common.{◌≡◌, ℕ, ◌+◌, ◌<◌, ◌≤◌, zero, suc, Bool, true, false, cond, nat_lt, List, [], ◌∷◌, ◌++◌, length, get_or, find, Option, Some, None, option_to_list, All, refl, sym, ◌∙◌, ap, subst, arith, append-nil, length-append, if◌then◌else◌}
 use mathlib.Core.List.{IsPrefix}
 use Rattle.std.specs.List.{slice_get}
 use Rattle.std.proofs.lemmas.Bool.{lt-ltb, le-ltb}
-use Rattle.std.proofs.lemmas.Option.{same_Some, slice_get_within, get_or_from_slice_get, slice_get-get_or}
+use Rattle.std.proofs.lemmas.Option.{same_Some, slice_get_within, slice_get-get_or}
 use Rattle.std.proofs.lemmas.List.{get_or-map, length-map, nil_from_length}
 use Rattle.std.proofs.lemmas.List.Elements.{All-nil, All-cons, All-head, All-tail, All-append}
 use Rattle.st_core.specs.declared.types.Pid.{Pid}
@@ -11,7 +11,7 @@ use Rattle.st_core.specs.declared.types.Event.{Event}
 use Rattle.st_core.specs.declared.types.Act.{Act}
 use Rattle.st_core.specs.Pid.{pid_eq, IsRising}
 use Rattle.st_core.specs.Step.{Outcome, actor}
-use Rattle.st_core.specs.Run.{Stream, pids_of, run, stream}
+use Rattle.st_core.specs.Run.{Stream, pids_of, stream}
 use Rattle.st_core.specs.Streams.{events_of}
 use Rattle.st_core.specs.Pairs.{Follows, pairs}
 use Rattle.st_core.specs.Verdict.{Verdict, Stuck, Differs, Left, Yes, left_over, IsVerdict}
@@ -20,7 +20,7 @@ use Rattle.st_core.specs.State.{State}
 use Rattle.st_core.proofs.Sound.{run_sound}
 use Rattle.st_core.proofs.Following.{receives_follow}
 use Rattle.st_check.specs.Progress.{count_of, IsPassed}
-use Rattle.st_check.specs.Answers.{FollowsAll, AllRise, RisesOnYes}
+use Rattle.st_check.specs.Answers.{FollowsAll, RisesOnYes}
 use Rattle.st_check.proofs.Places.{entry_at, events_at}
 
 -- THE FIRST THAT PASSES A TEST

@@ -1,4 +1,4 @@
-use Rattle.std.proofs.Common.{◌<◌, length, arith}
+use Rattle.std.proofs.Common.{arith}
 use Rattle.std.proofs.lemmas.Option.{slice_get_within}
 use Rattle.st_check.proofs.TagLists.{push_missing, push_found}
 use Rattle.st_core.specs.Run.{pids_of}

@@ -1,6 +1,6 @@
 use Rattle.std.proofs.Common.{◌≡◌, Some, map, subst, sym, ◌∙◌, ap}
 use Rattle.st_core.specs.declared.types.Act.{Act}
-use Rattle.st_core.specs.Pairs.{Tags, tags_after, pair_at}
+use Rattle.st_core.specs.Pairs.{tags_after, pair_at}
 use Rattle.st_core.specs.Step.{actor}
 use Rattle.st_check.specs.Progress.{pair_to}
 use Rattle.st_check.proofs.TagLists.{without_is, pair_is}
