@@ -1,10 +1,10 @@
 -- Each report is its actor's own event, and names only processes that are there.
-use Rattle.std.proofs.Common.{◌≡◌, ℕ, ◌+◌, ◌<◌, ◌≤◌, Bool, true, false, cond, ◌&&◌, ◌||◌, List, [], ◌∷◌, ◌++◌, map, Option, Some, None, is_some, option_map, All, refl, sym, ◌∙◌, ap, subst, if◌then◌else◌}
+use Rattle.std.proofs.Common.{◌≡◌, ℕ, Bool, true, false, cond, ◌&&◌, ◌||◌, List, [], ◌∷◌, ◌++◌, map, Option, Some, None, option_map, All, refl, sym, ◌∙◌, ap, subst, if◌then◌else◌}
 use Rattle.std.specs.Option.{ForSome, option_map_or}
-use Rattle.std.specs.List.{AllZip, list_any, slice_get}
-use Rattle.std.proofs.lemmas.Bool.{and_from, or_left, or_right}
+use Rattle.std.specs.List.{AllZip}
+use Rattle.std.proofs.lemmas.Bool.{and_from}
 use Rattle.std.proofs.lemmas.Option.{same_Some, none-some, cond_some}
-use Rattle.std.proofs.lemmas.List.Elements.{All-nil, All-cons, All-push, All-map, All-weaker}
+use Rattle.std.proofs.lemmas.List.Elements.{All-nil, All-push, All-map}
 use Rattle.st_core.specs.declared.types.Pid.{Pid}
 use Rattle.st_core.specs.declared.types.Token.{Token}
 use Rattle.st_core.specs.declared.types.Message.{Message}
@@ -21,12 +21,12 @@ use Rattle.st_core.specs.Stamp.{stamp, stamp_any}
 use Rattle.st_core.specs.Local.{has_label}
 use Rattle.st_core.specs.Pick.{pick}
 use Rattle.st_core.specs.Report.{flag_of, report}
-use Rattle.st_core.specs.Step.{Acted, Outcome, acted, actor, receiver, answers, sends, prints, receives, untraced, changed, step}
+use Rattle.st_core.specs.Step.{Acted, Outcome, acted, actor, receiver, answers, sends, prints, untraced, changed, step}
 use Rattle.st_core.specs.Run.{run, run_from}
-use Rattle.st_core.specs.Streams.{is_of, is_own}
-use Rattle.st_core.specs.Collected.{is_among, names_among}
-use Rattle.st_core.specs.Laws.{IsStamped, IsSound, KeepsSound, IsReportAmong, ReportsAmong}
-use Rattle.st_core.proofs.Others.{pid_eq-refl, process_pid, mapped, Stepped, step_parts, run_parts, leaves_others}
+use Rattle.st_core.specs.Streams.{is_of}
+use Rattle.st_core.specs.Collected.{is_among}
+use Rattle.st_core.specs.Laws.{IsStamped, IsSound, IsReportAmong, ReportsAmong}
+use Rattle.st_core.proofs.Others.{pid_eq-refl, process_pid, mapped, step_parts, run_parts, leaves_others}
 use Rattle.st_core.proofs.Sound.{All_at, All-remove, IsAfterStamp, stamp_sound, stamp_any_sound, pick_found, process_holds, step_sound, zero_sound}
 use Rattle.st_core.proofs.Queues.{queue_after, changed_queue, IsReceive, acted_queue, receive_none, receive_some}
 
