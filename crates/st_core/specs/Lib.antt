@@ -1,3 +1,5 @@
+-- The definitions, in the order in which they build on each other: from `Pid` to `Verdict` the machine, its runs and what
+-- they show; then byte devices, collected streams, and the laws of every run.
 pub mod Pid
 pub mod State
 pub mod Stamp
