@@ -1,5 +1,5 @@
 -- Words and numbers at the front: what is read is spelled so, and what is spelled so is read.
-use Rattle.std.proofs.Common.{◌≡◌, ℕ, suc, ◌+◌, ◌^◌, ◌<◌, ◌≤◌, ◌⊎◌, Bool, true, false, ◌&&◌, cond, eqb, leb, List, [], ◌∷◌, ◌++◌, length, get_or, take, drop, Option, Some, None, refl, sym, ap, subst, ◌∙◌, arith, inl, inr}
+use Rattle.std.proofs.Common.{◌≡◌, ℕ, suc, ◌+◌, ◌-◌, ◌*◌, ◌^◌, ◌<◌, ◌≤◌, ◌⊎◌, Bool, true, false, ◌&&◌, cond, eqb, leb, List, [], ◌∷◌, ◌++◌, length, get_or, take, drop, Option, Some, None, refl, sym, ap, subst, ◌∙◌, arith, inl, inr}
 use Rattle.std.specs.Prelude.{decimal, MatchOption}
 use Rattle.std.specs.Borrow.{Bor}
 use Rattle.std.specs.Char.{is_ascii_digit, digit_value}
@@ -9,9 +9,13 @@ use Rattle.std.specs.Cmp.Lexicographic.{pointwise}
 use Rattle.std.specs.Str.Parse.{AllDigits, digits_value}
 use Rattle.std.proofs.lemmas.Bool.{cases_lt}
 use Rattle.std.proofs.lemmas.Bool.Decides.{nat_tests, Decides-eqb}
-use Rattle.std.proofs.lemmas.List.{take_at, drop_at, take-append-drop}
+use Rattle.std.proofs.lemmas.Int.Digits.{digits_value_more}
+use Rattle.std.proofs.lemmas.List.{take_at, take_all, drop_at, take-append-drop, get_or-take}
+use Rattle.std.proofs.lemmas.List.Folds.{length-prefix_len}
+use Rattle.std.proofs.lemmas.List.Sums.{prefix_len-le-length, prefix_len_passes, prefix_len_stops}
 use Rattle.std.proofs.lemmas.Slice.Eq.{bytes_eq-Decides, strip_prefix_is}
-use Rattle.std.proofs.lemmas.Str.Parse.{IsNumeralModel, numerals_by_value, tells_digits}
+use Rattle.std.proofs.lemmas.Str.{digit_value_digit}
+use Rattle.std.proofs.lemmas.Str.Parse.{IsNumeralModel, numerals_by_value, tells_digits, digits_value-take-le, digit_at}
 use Rattle.std.proofs.lemmas.Fmt.{decimal_is_IsNumeral, decimal_digit, first_decimal, decimal-digits_value}
 use Rattle.st_text.specs.Reading.{Gives, after, number_from, number}
 
@@ -81,6 +85,66 @@ digits_front (b ∷ bs) = by (is_ascii_digit b) refl (digits_front bs)
         rw one (digit_small b e, more)
     by false e more = tt
 
+-- how many digits are at the front, and these digits
+abbrev pub digits_len : List ℕ → ℕ
+digits_len bytes = prefix_len is_ascii_digit bytes
+
+abbrev pub front : List ℕ → List ℕ
+front bytes = take (digits_len bytes) bytes
+
+-- what the first i digits at the front are worth
+abbrev pub worth : ℕ → List ℕ → ℕ
+worth i bytes = digits_value 10 (take i (front bytes))
+
+more_digits : (bytes : List ℕ) (i : ℕ) → i ≤ digits_len bytes → i < length bytes → is_ascii_digit (get_or bytes i 0) ≡ true → i < digits_len bytes
+more_digits bytes i le lt is =
+    elim (cases_lt i (digits_len bytes)) [
+      | inl below ↦ below
+      | inr above ↦
+          let same : digits_len bytes ≡ i = omega arith in
+          let stops : is_ascii_digit (get_or bytes (digits_len bytes) 0) ≡ false = prefix_len_stops is_ascii_digit bytes 0 (omega arith) in
+          absurd (cc (ap (λ (k : ℕ). is_ascii_digit (get_or bytes k 0)) same))
+    ]
+
+-- a digit behind the first i
+pub record Further (bytes : List ℕ) (i b : ℕ) : Type 0 where
+  pub within : i + 1 ≤ digits_len bytes
+  pub low : 48 ≤ b
+  pub high : b < 58
+  pub value : worth (i + 1) bytes ≡ worth i bytes * 10 + (b - 48)
+  pub grows : worth (i + 1) bytes ≤ digits_value 10 (front bytes)
+
+pub further : (bytes : List ℕ) (i : ℕ) → i ≤ digits_len bytes → i < length bytes → is_ascii_digit (get_or bytes i 0) ≡ true → Further bytes i (get_or bytes i 0)
+further bytes i le lt is =
+    let inside = more_digits bytes i le lt is in
+    let count = length-prefix_len is_ascii_digit bytes in
+    let same : get_or (front bytes) i 0 ≡ get_or bytes i 0 = get_or-take (digits_len bytes) bytes i 0 inside in
+    let digit = digit_at (front bytes) i (digits_front bytes) (omega arith) in
+    let value = digit_value_digit _ digit in
+    record {
+      within = omega arith;
+      low = omega (arith, digit, same);
+      high = omega (arith, digit, same);
+      value = omega (arith, digits_value_more 10 (front bytes) i (omega arith), value, digit, same);
+      grows = digits_value-take-le 10 (front bytes) (i + 1) (omega arith);
+    }
+
+-- the first i digits are all of them
+pub all_digits : (bytes : List ℕ) (i n : ℕ) → i ≤ digits_len bytes → (i < length bytes → is_ascii_digit (get_or bytes i 0) ≡ false) → n < 2 ^ 64 → n ≡ worth i bytes
+    → (digits_value 10 (front bytes) < 2 ^ 64) × (◌≡◌ {A = ℕ × ℕ} (n, i) (digits_value 10 (front bytes), digits_len bytes))
+all_digits bytes i n le stops small is =
+    elim (cases_lt i (digits_len bytes)) [
+      | inl below ↦
+          let test = prefix_len_passes is_ascii_digit bytes i 0 below in
+          let other = stops (omega (arith, prefix_len-le-length is_ascii_digit bytes)) in
+          absurd cc
+      | inr above ↦
+          let all : take i (front bytes) ≡ front bytes = take_all i (front bytes) (omega (arith, length-prefix_len is_ascii_digit bytes)) in
+          let value : n ≡ digits_value 10 (front bytes) = is ∙ ap (digits_value 10) all in
+          let count : i ≡ digits_len bytes = omega arith in
+          (omega arith, cc)
+    ]
+
 -- what follows a number begins with no digit
 abbrev pub Stops : List ℕ → Type 0
 Stops rest = prefix_len is_ascii_digit rest ≡ 0
@@ -119,10 +183,13 @@ some_by most ds rest small all some lead le =
     rw (same, fits) refl
 
 -- the digits and the rest as the code has them
-pub number_is : (most : ℕ) (bytes : List ℕ) (k : ℕ) (ds rest : List ℕ) → k ≡ prefix_len is_ascii_digit bytes → ds ≡ take k bytes → rest ≡ drop k bytes → (number most bytes ≡ number_from most ds rest) × AllDigits 10 ds
+pub number_is : (most : ℕ) (bytes : List ℕ) (n k : ℕ) (ds rest : List ℕ) → ◌≡◌ {A = ℕ × ℕ} (n, k) (digits_value 10 (front bytes), digits_len bytes) → ds ≡ take k bytes → rest ≡ drop k bytes
+    → (number most bytes ≡ number_from most ds rest) × AllDigits 10 ds × (n ≡ digits_value 10 ds)
 unfolding number
-number_is most bytes k ds rest len front back =
-    rw (front, back, len) (refl, digits_front bytes)
+number_is most bytes n k ds rest both ahead behind =
+    let len : k ≡ digits_len bytes = ap (λ (x : ℕ × ℕ). x.1) both in
+    let value : n ≡ digits_value 10 (front bytes) = ap (λ (x : ℕ × ℕ). x.0) both in
+    rw (ahead, behind, len) (refl, digits_front bytes, value)
 
 pub number_takes : (most : ℕ) (bytes : List ℕ) (x : ℕ × List ℕ) → number most bytes ≡ Some x → (bytes ≡ decimal x.0 ++ x.1) × (x.0 ≤ most)
 unfolding number

@@ -1,49 +1,56 @@
 //! Decimal numbers: digits without a leading zero, up to the limit of their place. Every number of a text is read here.
 
-ghost use Rattle.std.specs.Prelude.{◌≡◌, ◌≤◌, ◌<◌, ◌^◌, length, IfSome};
+ghost use Rattle.std.specs.Prelude.{◌≡◌, ◌≤◌, ◌<◌, ◌+◌, ◌*◌, ◌^◌, take, IfSome};
 ghost use Rattle.std.specs.Option.{SomeIff};
 ghost use Rattle.std.specs.Char.{is_ascii_digit};
 ghost use Rattle.std.specs.List.{prefix_len};
-ghost use Rattle.std.specs.Str.Parse.{AllDigits, digits_value};
+ghost use Rattle.std.specs.Str.Parse.{digits_value};
 ghost use Rattle.st_text.specs.Reading.{Gives, number};
 
-/// How many digits the bytes begin with.
-fn digits_len(bytes: &[u8]) -> usize
-    ensures { result ≡ prefix_len is_ascii_digit bytes.now }
+/// Another digit fits behind any number below this one.
+const FITS_BELOW: u64 = u64::MAX / 10;
+
+/// The number with another digit behind it, where that fits.
+#[inline(always)]
+fn with_digit(n: u64, digit: u8) -> Option<u64>
+    requires { digit < 10 }
+    ensures { SomeIff result (n * 10 + digit < 2 ^ 64) (n * 10 + digit) }
 {
-    for (i, b) in bytes.iter().enumerate() {
-        if !b.is_ascii_digit() {
-            return i;
-        }
+    if n < FITS_BELOW {
+        return Some(n * 10 + u64::from(digit));
     }
-    bytes.len()
+    n.checked_mul(10)?.checked_add(u64::from(digit))
 }
 
-/// What the digits are worth, where that fits.
-fn value_of(digits: &[u8]) -> Option<u64>
-    requires { AllDigits 10 digits.now }
-    ensures { SomeIff result (digits_value 10 digits.now < 2 ^ 64) (digits_value 10 digits.now) }
+/// What the digits at the front of the bytes are worth, and how many they are, where their worth fits.
+#[inline(always)]
+fn digits_at(bytes: &[u8]) -> Option<(u64, usize)>
+    ensures { let count = prefix_len is_ascii_digit bytes.now in let digits = take count bytes.now in SomeIff result (digits_value 10 digits < 2 ^ 64) (digits_value 10 digits, count) }
 {
     let mut n: u64 = 0;
-    for b in digits {
-        n = n.checked_mul(10)?.checked_add(u64::from(*b - b'0'))?;
+    for (i, b) in bytes.iter().enumerate() {
+        if !b.is_ascii_digit() {
+            return Some((n, i));
+        }
+        n = with_digit(n, *b - b'0')?;
     }
-    Some(n)
+    Some((n, bytes.len()))
 }
 
 /// The number of at most `most` that the bytes begin with, and the bytes after it.
+#[inline]
 pub(crate) fn number(most: u64, bytes: &[u8]) -> Option<(u64, &[u8])>
     ensures exact { Gives (λ x. (x.0, x.1.now)) result (number most bytes.now) }
     ensures bound { IfSome result (λ x. x.0 ≤ most) }
 {
-    let (digits, rest) = bytes.split_at(digits_len(bytes));
+    let (n, count) = digits_at(bytes)?;
+    let (digits, rest) = bytes.split_at(count);
     if digits.is_empty() {
         return None;
     }
     if digits[0] == b'0' && digits.len() > 1 {
         return None;
     }
-    let n = value_of(digits)?;
     if n > most {
         return None;
     }

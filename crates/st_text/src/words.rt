@@ -20,6 +20,7 @@ pub(crate) fn after<'a>(word: &[u8], bytes: &'a [u8]) -> Option<&'a [u8]>
     bytes.strip_prefix(word)
 }
 
+#[inline]
 #[tactic(auto, unfolding(crate::specs::Reading::bool_at))]
 pub(crate) fn bool_at(bytes: &[u8]) -> Option<(bool, &[u8])>
     ensures { Gives (λ x. (x.0, x.1.now)) result (bool_at bytes.now) }
@@ -45,6 +46,7 @@ pub(crate) fn pid_at(bytes: &[u8]) -> Option<(Pid, &[u8])>
     Some((Pid::on(node as u16, number as u16), rest))
 }
 
+#[inline]
 #[tactic(auto, unfolding(crate::specs::Reading::label_at))]
 pub(crate) fn label_at(bytes: &[u8]) -> Option<(Label, &[u8])>
     ensures { Gives (λ x. (x.0, x.1.now)) result (label_at bytes.now) }
@@ -53,6 +55,7 @@ pub(crate) fn label_at(bytes: &[u8]) -> Option<(Label, &[u8])>
     Some((Label(label as u32), rest))
 }
 
+#[inline]
 #[tactic(auto, unfolding(crate::specs::Reading::serial_at))]
 pub(crate) fn serial_at(bytes: &[u8]) -> Option<(Serial, &[u8])>
     ensures { Gives (λ x. (x.0, x.1.now)) result (serial_at bytes.now) }
@@ -66,6 +69,7 @@ pub(crate) fn serial_at(bytes: &[u8]) -> Option<(Serial, &[u8])>
 }
 
 /// A pid and the space behind it.
+#[inline]
 #[tactic(auto, unfolding(crate::specs::Reading::actor_at))]
 pub(crate) fn actor_at(bytes: &[u8]) -> Option<(Pid, &[u8])>
     ensures { Gives (λ x. (x.0, x.1.now)) result (actor_at bytes.now) }
