@@ -164,12 +164,13 @@ pub said_none : (old : Option Progress) (ls : List Line) (said : Option Line) �
 said_none old ls said e is h = rw (none_held old ls e h) (header_none said is)
 
 -- a good line
-pub line_goes : (out : Bool) (fault : Option ReadFault) (bytes xs : List ℕ) (long : Bool) (kept kept' : List ℕ) (p new : Option Progress) (said : Option Line) → out ≡ false → fault ≡ None → IsPlain xs → kept' ≡ []
+pub line_goes : (out : Bool) (fault : Option ReadFault) (bytes xs : List ℕ) (long long' : Bool) (kept kept' : List ℕ) (p new : Option Progress) (said : Option Line) → out ≡ false → fault ≡ None → long' ≡ false → IsPlain xs → kept' ≡ []
     → (IsTail long kept (cut bytes).1 → said ≡ line_of ((cut bytes).1 ++ xs)) → ((ls : List Line) → IsHeld p ls → TakesSaid ls said new Goes)
-    → HoldsAs out fault bytes long kept p → HoldsAs out fault (bytes ++ (xs ++ 10 ∷ [])) false kept' new
-line_goes true fault bytes xs long kept kept' p new said eo ef plain empty says takes h = absurd cc
-line_goes false (Some f) bytes xs long kept kept' p new said eo ef plain empty says takes h = absurd cc
-line_goes false None bytes xs long kept kept' p new said eo ef plain empty says takes h =
+    → HoldsAs out fault bytes long kept p → HoldsAs out fault (bytes ++ (xs ++ 10 ∷ [])) long' kept' new
+line_goes true fault bytes xs long long' kept kept' p new said eo ef el plain empty says takes h = absurd cc
+line_goes false (Some f) bytes xs long long' kept kept' p new said eo ef el plain empty says takes h = absurd cc
+line_goes false None bytes xs long true kept kept' p new said eo ef el plain empty says takes h = absurd cc
+line_goes false None bytes xs long false kept kept' p new said eo ef el plain empty says takes h =
     let ls = h.0 in
     let t = takes ls h.1.held in
     let all : sayings (bytes ++ (xs ++ 10 ∷ [])) ≡ map Some ls ++ Some t.0 ∷ [] = sayings_line bytes xs plain ∙ rw (h.1.said, ← says h.1.tail_is, t.1.said_is) refl in

@@ -1,9 +1,10 @@
 //! Bytes in pieces, cut at their newlines. Whole lines are read where they lie in the piece; of the unfinished line so
 //! much is kept as a line can have. It counts no bytes.
 
-ghost use Rattle.std.specs.Prelude.{◌≡◌, ◌≤◌, ◌++◌, ◌∷◌, ◌||◌, [], List, ℕ, is_some, None, Some, false, IfOk, OnOk, vec_len, length};
+ghost use Rattle.std.specs.Prelude.{◌≡◌, ◌≤◌, ◌++◌, ◌∷◌, ◌||◌, [], List, ℕ, Bool, is_some, None, Some, false, IfOk, OnOk, vec_len, length};
 ghost use Rattle.st_text.specs.declared.line.Line.{Line};
 ghost use Rattle.st_text.specs.Held.{IsHeld, TakesSaid, header_of};
+ghost use Rattle.st_text.specs.Fault.{cut};
 ghost use Rattle.st_text.specs.Reading.{line_of};
 ghost use Rattle.st_text.specs.Tail.{IsTail, IsPlain};
 
@@ -37,18 +38,18 @@ pub(crate) struct Cutter {
 }
 
 /// The header that a line says, if it does.
-fn header_of(said: Option<Line>) -> Option<bool>
-    ensures { result ≡ header_of said }
+fn header_of(said: &Option<Line>) -> Option<bool>
+    ensures { result ≡ header_of said.now }
 {
     match said {
-        Some(Line::Header(wide)) => Some(wide),
+        Some(Line::Header(wide)) => Some(*wide),
         _ => None,
     }
 }
 
 /// Takes the next line, or bytes that say none. The first has to be a header.
-fn take_said(alloc: Global, progress: &mut Option<Progress>, said: Option<Line>) -> Step
-    ensures { (ls : List Line) → IsHeld progress.old ls → TakesSaid ls said progress.new result }
+fn take_said(alloc: Global, progress: &mut Option<Progress>, said: &Option<Line>) -> Step
+    ensures { (ls : List Line) → IsHeld progress.old ls → TakesSaid ls said.now progress.new result }
 {
     match progress {
         Some(progress) => progress.take(said),
@@ -62,8 +63,8 @@ fn take_said(alloc: Global, progress: &mut Option<Progress>, said: Option<Line>)
     }
 }
 
-/// What the unfinished line says once the rest of it is there, and the place for the next one. No line is longer than
-/// the longest, so a longer one says nothing.
+/// What a line that began in an earlier piece says once the rest of it is there, and the place for the next one. No line
+/// is longer than the longest, so a longer one says nothing.
 fn whole_line(long: bool, tail: &mut Vec<u8>, rest: &[u8]) -> Result<Option<Line>, AllocError>
     requires { vec_len tail.old ≤ 131 }
     ensures said { (t : List ℕ) → IsTail long tail.old.items t → IfOk result (λ s. s ≡ line_of (t ++ rest.now)) }
@@ -78,9 +79,6 @@ fn whole_line(long: bool, tail: &mut Vec<u8>, rest: &[u8]) -> Result<Option<Line
         tail.clear();
         return Ok(None);
     }
-    if tail.is_empty() {
-        return Ok(read_line(rest));
-    }
     tail.extend_from_slice(rest)?;
     let said = read_line(tail);
     tail.clear();
@@ -88,7 +86,7 @@ fn whole_line(long: bool, tail: &mut Vec<u8>, rest: &[u8]) -> Result<Option<Line
 }
 
 impl Cutter {
-    ghost use Rattle.st_text.specs.Holds.{Holds};
+    ghost use Rattle.st_text.specs.Holds.{Holds, HoldsAs};
     ghost use Rattle.st_text.specs.Answer.{Answers};
 
     /// No bytes so far. Takes no memory.
@@ -125,8 +123,23 @@ impl Cutter {
         }
     }
 
-    /// Takes the rest of the unfinished line, and its newline.
-    fn end_line(&mut self, rest: &[u8])
+    /// Takes what the unfinished line, now ended, says. The place for the next one is empty.
+    fn take_line(&mut self, said: &Option<Line>)
+        requires going { self.old.out ≡ false }
+        requires good { self.old.fault ≡ None }
+        requires short { self.old.long ≡ false }
+        requires empty { self.old.tail.items ≡ [] }
+        ensures { (bytes rest : List ℕ) (long : Bool) (kept : List ℕ) → IsPlain rest → (IsTail long kept (cut bytes).1 → said.now ≡ line_of ((cut bytes).1 ++ rest)) → HoldsAs self.old.out self.old.fault bytes long kept self.old.progress → Holds (bytes ++ (rest ++ 10 ∷ [])) self.new }
+    {
+        match take_said(self.alloc, &mut self.progress, said) {
+            Step::Goes => {}
+            Step::Stops(fault) => self.fault = Some(fault),
+            Step::Halts => self.out = true,
+        }
+    }
+
+    /// Takes the rest of a line that began in an earlier piece, and its newline.
+    fn end_begun_line(&mut self, rest: &[u8])
         requires going { self.old.out ≡ false }
         requires good { self.old.fault ≡ None }
         ensures { (bytes : List ℕ) → IsPlain rest.now → Holds bytes self.old → Holds (bytes ++ (rest.now ++ 10 ∷ [])) self.new }
@@ -136,11 +149,21 @@ impl Cutter {
             return;
         };
         self.long = false;
-        match take_said(self.alloc, &mut self.progress, said) {
-            Step::Goes => {}
-            Step::Stops(fault) => self.fault = Some(fault),
-            Step::Halts => self.out = true,
+        self.take_line(&said);
+    }
+
+    /// Takes the rest of the unfinished line, and its newline. Most lines lie whole in their piece: such a line is read
+    /// where it lies, and what it says is copied once, to its list.
+    fn end_line(&mut self, rest: &[u8])
+        requires going { self.old.out ≡ false }
+        requires good { self.old.fault ≡ None }
+        ensures { (bytes : List ℕ) → IsPlain rest.now → Holds bytes self.old → Holds (bytes ++ (rest.now ++ 10 ∷ [])) self.new }
+    {
+        if self.long || !self.tail.is_empty() {
+            self.end_begun_line(rest);
+            return;
         }
+        self.take_line(&read_line(rest));
     }
 
     /// Whether a line is faulty or a growth was refused, so that more bytes change nothing.

@@ -129,11 +129,11 @@ impl Progress {
     }
 
     /// Takes an event line.
-    fn report(&mut self, event: Event) -> Step
-        ensures { (ls : List Line) → IsSound self.old ls → Takes ls (lines.Event event) self.new result }
+    fn report(&mut self, event: &Event) -> Step
+        ensures { (ls : List Line) → IsSound self.old ls → Takes ls (lines.Event event.now) self.new result }
     {
         let n = self.lines + 1;
-        let away = is_event_remote(&event);
+        let away = is_event_remote(event);
         if self.acts.is_some() {
             return Step::Stops(ReadFault::Line(n));
         }
@@ -143,14 +143,14 @@ impl Progress {
         let Some(last) = self.last else {
             return Step::Stops(ReadFault::Line(n));
         };
-        if !is_own(last, &event) {
+        if !is_own(last, event) {
             return Step::Stops(ReadFault::Foreign(n));
         }
         if self.events >= MOST_EVENTS {
             return Step::Stops(ReadFault::TooMany(n));
         }
         // The process was opened and the event is its own, so that this is want of memory.
-        let Ok(()) = self.draft.add(last, event) else {
+        let Ok(()) = self.draft.add(last, *event) else {
             return Step::Halts;
         };
         self.events += 1;
@@ -172,11 +172,11 @@ impl Progress {
     }
 
     /// Takes an act line.
-    fn act(&mut self, act: Act) -> Step
-        ensures { (ls : List Line) → IsSound self.old ls → Takes ls (lines.Act act) self.new result }
+    fn act(&mut self, act: &Act) -> Step
+        ensures { (ls : List Line) → IsSound self.old ls → Takes ls (lines.Act act.now) self.new result }
     {
         let n = self.lines + 1;
-        let away = is_act_remote(&act);
+        let away = is_act_remote(act);
         if keeps_out(self.wide, away) {
             return Step::Stops(ReadFault::Line(n));
         }
@@ -186,7 +186,7 @@ impl Progress {
                 if acts.len() >= MOST_ACTS {
                     return Step::Stops(ReadFault::TooMany(n));
                 }
-                let Ok(()) = acts.push(act) else {
+                let Ok(()) = acts.push(*act) else {
                     return Step::Halts;
                 };
             }
@@ -197,11 +197,11 @@ impl Progress {
     }
 
     /// Takes a line.
-    fn take_line(&mut self, line: Line) -> Step
-        ensures { (ls : List Line) → IsSound self.old ls → Takes ls line self.new result }
+    fn take_line(&mut self, line: &Line) -> Step
+        ensures { (ls : List Line) → IsSound self.old ls → Takes ls line.now self.new result }
     {
         match line {
-            Line::Process(pid) => self.open(pid),
+            Line::Process(pid) => self.open(*pid),
             Line::Event(event) => self.report(event),
             Line::Acts => self.begin(),
             Line::Act(act) => self.act(act),
@@ -210,8 +210,8 @@ impl Progress {
     }
 
     /// Takes the next line, or bytes that say none.
-    pub(crate) fn take(&mut self, said: Option<Line>) -> Step
-        ensures { (ls : List Line) → IsSound self.old ls → TakesLine ls said self.new result }
+    pub(crate) fn take(&mut self, said: &Option<Line>) -> Step
+        ensures { (ls : List Line) → IsSound self.old ls → TakesLine ls said.now self.new result }
     {
         match said {
             Some(line) => self.take_line(line),

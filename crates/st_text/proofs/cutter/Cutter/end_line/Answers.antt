@@ -1,16 +1,20 @@
-use Rattle.std.proofs.Common.{false}
+use Rattle.std.proofs.Common.{◌≡◌, ◌∙◌, ◌++◌, ℕ, List, ap, sym, arith}
+use Rattle.std.proofs.lemmas.Bool.{eqb-true}
+use Rattle.std.proofs.lemmas.List.{nil_from_length}
 use Rattle.st_text.specs.Fault.{cut}
-use Rattle.st_text.proofs.Cutting.{line_goes, line_stops}
+use Rattle.st_text.proofs.Cutting.{kept_says}
 use Rattle.st_text.proofs.cutter.Cutter.end_line.Goals as goal
 
-pub returns-in-Goes : goal.returns-in-Goes
-returns-in-Goes c = λ bytes plain h.
+pub take_line-requires-clause-empty : goal.take_line-requires-clause-empty
+take_line-requires-clause-empty c =
     let s = c.args.self.now in
-    line_goes s.out s.fault bytes c.args.rest.now s.long s.tail.items c.whole_line.new.tail.items s.progress c.take_said.new.progress c.in-Ok.said c.requires.going c.requires.good plain c.in-Ok.ensures.empty
-    (c.in-Ok.ensures.said (cut bytes).1) c.in-Goes.ensures h
+    let none = eqb-true _ _ (sym c.is_empty.ensures ∙ c.if-not-is_empty.false) in
+    nil_from_length s.tail.items (omega (arith, s.tail.ok.0, none))
 
-pub returns-in-Stops : goal.returns-in-Stops
-returns-in-Stops c = λ bytes plain h.
+pub returns : goal.returns
+returns c = λ bytes plain h.
     let s = c.args.self.now in
-    line_stops s.out s.fault bytes c.args.rest.now s.long false s.tail.items c.whole_line.new.tail.items s.progress c.take_said.new.progress c.in-Ok.said c.in-Stops.fault c.requires.going c.requires.good plain
-    (c.in-Ok.ensures.said (cut bytes).1) c.in-Stops.ensures h
+    let rest = c.args.rest.now in
+    let none = nil_from_length s.tail.items (omega (arith, s.tail.ok.0, eqb-true _ _ (sym c.is_empty.ensures ∙ c.if-not-is_empty.false))) in
+    let whole : rest ≡ s.tail.items ++ rest = ap (λ (k : List ℕ). k ++ rest) (sym none) in
+    c.take_line.ensures bytes rest s.long s.tail.items plain (kept_says s.long s.tail.items (cut bytes).1 rest rest c.read_line.result c.if-self.false whole c.read_line.ensures) h

@@ -10,43 +10,43 @@ use Rattle.st_text.proofs.progress.Progress.report.Goals as goal
 pub returns-then-is_some : goal.returns-then-is_some
 returns-then-is_some c = λ ls s.
     let p = c.args.self.now in
-    report_fault p ls c.args.event s ∙ no_line (p.lines + 1) _ _ _ _ (out_first (not (is_some p.acts)) (last_passes (λ r. true) p.last) (p.wide || not (is_event_remote c.args.event)) (begun_out (is_some p.acts) (last_passes (λ r. true) p.last) (sym c.is_some.ensures ∙ c.if-is_some.true)))
+    report_fault p ls c.args.event.now s ∙ no_line (p.lines + 1) _ _ _ _ (out_first (not (is_some p.acts)) (last_passes (λ r. true) p.last) (p.wide || not (is_event_remote c.args.event.now)) (begun_out (is_some p.acts) (last_passes (λ r. true) p.last) (sym c.is_some.ensures ∙ c.if-is_some.true)))
 
 pub returns-then-keeps_out : goal.returns-then-keeps_out
 returns-then-keeps_out c = λ ls s.
     let p = c.args.self.now in
-    let out : (is_event_remote c.args.event && not p.wide) ≡ true = ap (λ b. b && not p.wide) (sym c.is_event_remote-away.ensures) ∙ sym c.keeps_out.ensures ∙ c.if-keeps_out.true in
-    report_fault p ls c.args.event s ∙ no_line (p.lines + 1) _ _ _ _ (away_out _ _ _ out)
+    let out : (is_event_remote c.args.event.now && not p.wide) ≡ true = ap (λ b. b && not p.wide) (sym c.is_event_remote-away.ensures) ∙ sym c.keeps_out.ensures ∙ c.if-keeps_out.true in
+    report_fault p ls c.args.event.now s ∙ no_line (p.lines + 1) _ _ _ _ (away_out _ _ _ out)
 
 pub returns-in_default : goal.returns-in_default
 returns-in_default c = λ ls s.
     let p = c.args.self.now in
-    report_fault p ls c.args.event s ∙ no_line (p.lines + 1) _ _ _ _ (out_first (not (is_some p.acts)) (last_passes (λ r. true) p.last) (p.wide || not (is_event_remote c.args.event)) (out_second (not (is_some p.acts)) (last_passes (λ r. true) p.last) (passes_none (λ r. true) p.last c.in_default.is)))
+    report_fault p ls c.args.event.now s ∙ no_line (p.lines + 1) _ _ _ _ (out_first (not (is_some p.acts)) (last_passes (λ r. true) p.last) (p.wide || not (is_event_remote c.args.event.now)) (out_second (not (is_some p.acts)) (last_passes (λ r. true) p.last) (passes_none (λ r. true) p.last c.in_default.is)))
 
 pub returns-then-not-is_own : goal.returns-then-not-is_own
 returns-then-not-is_own c = λ ls s.
     let p = c.args.self.now in
-    let out : (is_event_remote c.args.event && not p.wide) ≡ false = ap (λ b. b && not p.wide) (sym c.is_event_remote-away.ensures) ∙ sym c.keeps_out.ensures ∙ c.if-keeps_out.false in
+    let out : (is_event_remote c.args.event.now && not p.wide) ≡ false = ap (λ b. b && not p.wide) (sym c.is_event_remote-away.ensures) ∙ sym c.keeps_out.ensures ∙ c.if-keeps_out.false in
     let follows = both_true (not (is_some p.acts)) _ (not_begun _ (sym c.is_some.ensures ∙ c.if-is_some.false)) (passes_at (λ r. true) p.last c.in-Some.last true c.in-Some.is refl) in
-    let foreign = passes_at (λ r. not (is_own r c.args.event)) p.last c.in-Some.last true c.in-Some.is (ap not (sym c.is_own.ensures ∙ c.if-not-is_own.true)) in
-    report_fault p ls c.args.event s ∙ not_own (p.lines + 1) _ _ _ _ (let_in _ p.wide (is_event_remote c.args.event) follows out) refl foreign
+    let foreign = passes_at (λ r. not (is_own r c.args.event.now)) p.last c.in-Some.last true c.in-Some.is (ap not (sym c.is_own.ensures ∙ c.if-not-is_own.true)) in
+    report_fault p ls c.args.event.now s ∙ not_own (p.lines + 1) _ _ _ _ (let_in _ p.wide (is_event_remote c.args.event.now) follows out) refl foreign
 
 pub returns-then-self-ge-MOST_EVENTS : goal.returns-then-self-ge-MOST_EVENTS
 returns-then-self-ge-MOST_EVENTS c = λ ls s.
     let p = c.args.self.now in
-    let out : (is_event_remote c.args.event && not p.wide) ≡ false = ap (λ b. b && not p.wide) (sym c.is_event_remote-away.ensures) ∙ sym c.keeps_out.ensures ∙ c.if-keeps_out.false in
+    let out : (is_event_remote c.args.event.now && not p.wide) ≡ false = ap (λ b. b && not p.wide) (sym c.is_event_remote-away.ensures) ∙ sym c.keeps_out.ensures ∙ c.if-keeps_out.false in
     let follows = both_true (not (is_some p.acts)) _ (not_begun _ (sym c.is_some.ensures ∙ c.if-is_some.false)) (passes_at (λ r. true) p.last c.in-Some.last true c.in-Some.is refl) in
-    let foreign = passes_at (λ r. not (is_own r c.args.event)) p.last c.in-Some.last false c.in-Some.is (ap not (sym c.is_own.ensures ∙ c.if-not-is_own.false)) in
-    report_fault p ls c.args.event s ∙ too_many (p.lines + 1) _ _ _ _ (let_in _ p.wide (is_event_remote c.args.event) follows out) refl foreign (at_most 1000000 p.events c.if-self-ge-MOST_EVENTS.true)
+    let foreign = passes_at (λ r. not (is_own r c.args.event.now)) p.last c.in-Some.last false c.in-Some.is (ap not (sym c.is_own.ensures ∙ c.if-not-is_own.false)) in
+    report_fault p ls c.args.event.now s ∙ too_many (p.lines + 1) _ _ _ _ (let_in _ p.wide (is_event_remote c.args.event.now) follows out) refl foreign (at_most 1000000 p.events c.if-self-ge-MOST_EVENTS.true)
 
 pub returns : goal.returns
 returns c = λ ls s.
     let p = c.args.self.now in
     let begun : is_some p.acts ≡ false = sym c.is_some.ensures ∙ c.if-is_some.false in
-    let out : (is_event_remote c.args.event && not p.wide) ≡ false = ap (λ b. b && not p.wide) (sym c.is_event_remote-away.ensures) ∙ sym c.keeps_out.ensures ∙ c.if-keeps_out.false in
+    let out : (is_event_remote c.args.event.now && not p.wide) ≡ false = ap (λ b. b && not p.wide) (sym c.is_event_remote-away.ensures) ∙ sym c.keeps_out.ensures ∙ c.if-keeps_out.false in
     let follows = both_true (not (is_some p.acts)) _ (not_begun _ begun) (passes_at (λ r. true) p.last c.in-Some.last true c.in-Some.is refl) in
-    let foreign = passes_at (λ r. not (is_own r c.args.event)) p.last c.in-Some.last false c.in-Some.is (ap not (sym c.is_own.ensures ∙ c.if-not-is_own.false)) in
+    let foreign = passes_at (λ r. not (is_own r c.args.event.now)) p.last c.in-Some.last false c.in-Some.is (ap not (sym c.is_own.ensures ∙ c.if-not-is_own.false)) in
     let remote = c.is_either-self.ensures ∙ ap (λ b. p.remote || b) c.is_event_remote-away.ensures in (
-      report_fault p ls c.args.event s ∙ no_fault (p.lines + 1) _ _ _ _ (let_in _ p.wide (is_event_remote c.args.event) follows out) refl foreign (below 1000000 p.events c.if-self-ge-MOST_EVENTS.false),
-      sound_event p _ ls c.in-Some.last c.args.event s (none_of_acts p.acts begun) c.in-Some.is refl refl c.in-Ok.ensures.ok refl refl refl refl remote,
+      report_fault p ls c.args.event.now s ∙ no_fault (p.lines + 1) _ _ _ _ (let_in _ p.wide (is_event_remote c.args.event.now) follows out) refl foreign (below 1000000 p.events c.if-self-ge-MOST_EVENTS.false),
+      sound_event p _ ls c.in-Some.last c.args.event.now s (none_of_acts p.acts begun) c.in-Some.is refl refl c.in-Ok.ensures.ok refl refl refl refl remote,
     )

@@ -1,0 +1,12 @@
+use Rattle.st_text.proofs.Cutting.{line_goes, line_stops}
+use Rattle.st_text.proofs.cutter.Cutter.take_line.Goals as goal
+
+pub returns-in-Goes : goal.returns-in-Goes
+returns-in-Goes c = λ bytes rest long kept plain says h.
+    let s = c.args.self.now in
+    line_goes s.out s.fault bytes rest long s.long kept s.tail.items s.progress c.take_said.new.progress c.args.said.now c.requires.going c.requires.good c.requires.short plain c.requires.empty says c.in-Goes.ensures h
+
+pub returns-in-Stops : goal.returns-in-Stops
+returns-in-Stops c = λ bytes rest long kept plain says h.
+    let s = c.args.self.now in
+    line_stops s.out s.fault bytes rest long s.long kept s.tail.items s.progress c.take_said.new.progress c.args.said.now c.in-Stops.fault c.requires.going c.requires.good plain says c.in-Stops.ensures h
