@@ -244,14 +244,19 @@ act_at bytes =
 
 -- ---- lines
 
+-- a line that stands once in a text, or once for each process
+unfoldable pub rare_at : List ℕ → Option (Line × List ℕ)
+rare_at bytes =
+    begins (codes "process ") bytes (λ rest. pid_at rest >>= λ p. Some (lines.Process p.0, p.1))
+    (begins (codes "acts") bytes (λ rest. Some (lines.Acts, rest))
+    (begins (codes "seqtrace 1") bytes (λ rest. Some (lines.Header false, rest))
+    (begins (codes "seqtrace 2") bytes (λ rest. Some (lines.Header true, rest)) None)))
+
+-- No two lines begin alike, so the order of the tests is free: the commonest come first.
 unfoldable pub line_at : List ℕ → Option (Line × List ℕ)
 line_at bytes =
     begins (codes "{seq_trace,") bytes (λ rest. event_at rest >>= λ e. Some (lines.Event e.0, e.1))
-    (begins (codes "process ") bytes (λ rest. pid_at rest >>= λ p. Some (lines.Process p.0, p.1))
-    (begins (codes "acts") bytes (λ rest. Some (lines.Acts, rest))
-    (begins (codes "seqtrace 1") bytes (λ rest. Some (lines.Header false, rest))
-    (begins (codes "seqtrace 2") bytes (λ rest. Some (lines.Header true, rest))
-    (act_at bytes >>= λ a. Some (lines.Act a.0, a.1))))))
+    (on_some (act_at bytes) (λ a. Some (lines.Act a.0, a.1)) (rare_at bytes))
 
 -- what all the bytes of a line say
 unfoldable pub line_of : List ℕ → Option Line

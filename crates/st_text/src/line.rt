@@ -1,7 +1,7 @@
 //! One line of a text: what it may say, and the reader of a whole line. It knows nothing of the lines around it.
 
 ghost use Rattle.std.specs.Prelude.{◌≡◌};
-ghost use Rattle.st_text.specs.Reading.{Gives, line_at, line_of};
+ghost use Rattle.st_text.specs.Reading.{Gives, rare_at, line_at, line_of};
 
 use crate::acts::act_at;
 use crate::events::event_at;
@@ -20,14 +20,11 @@ pub enum Line {
     Act(Act),
 }
 
-#[tactic(auto, unfolding(crate::specs::Reading::line_at))]
-fn line_at(bytes: &[u8]) -> Option<(Line, &[u8])>
-    ensures { Gives (λ x. (x.0, x.1.now)) result (line_at bytes.now) }
+/// A line that stands once in a text, or once for each process.
+#[tactic(auto, unfolding(crate::specs::Reading::rare_at))]
+fn rare_at(bytes: &[u8]) -> Option<(Line, &[u8])>
+    ensures { Gives (λ x. (x.0, x.1.now)) result (rare_at bytes.now) }
 {
-    if let Some(rest) = after(b"{seq_trace,", bytes) {
-        let (event, rest) = event_at(rest)?;
-        return Some((Line::Event(event), rest));
-    }
     if let Some(rest) = after(b"process ", bytes) {
         let (pid, rest) = pid_at(rest)?;
         return Some((Line::Process(pid), rest));
@@ -41,8 +38,22 @@ fn line_at(bytes: &[u8]) -> Option<(Line, &[u8])>
     if let Some(rest) = after(b"seqtrace 2", bytes) {
         return Some((Line::Header(true), rest));
     }
-    let (act, rest) = act_at(bytes)?;
-    Some((Line::Act(act), rest))
+    None
+}
+
+/// The commonest lines are tried first.
+#[tactic(auto, unfolding(crate::specs::Reading::line_at))]
+fn line_at(bytes: &[u8]) -> Option<(Line, &[u8])>
+    ensures { Gives (λ x. (x.0, x.1.now)) result (line_at bytes.now) }
+{
+    if let Some(rest) = after(b"{seq_trace,", bytes) {
+        let (event, rest) = event_at(rest)?;
+        return Some((Line::Event(event), rest));
+    }
+    if let Some((act, rest)) = act_at(bytes) {
+        return Some((Line::Act(act), rest));
+    }
+    rare_at(bytes)
 }
 
 /// What a line says, all of it, without its newline.
