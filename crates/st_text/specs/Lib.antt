@@ -1,3 +1,5 @@
+-- First what a text is and which fault it has: `Spelling` to `Writing`, which public contracts cite. Then what the parts of
+-- the reader keep and hand on, `Remote` to `Holds`, and what comes of that in all: `Answer` to `Laws`, public again.
 pub mod Spelling
 pub mod Range
 pub mod Reading

@@ -4,7 +4,6 @@
 ghost use Rattle.std.specs.Prelude.{◌≡◌, ◌≤◌, ◌+◌, ◌&&◌, ◌||◌, not, List, ◌∷◌, [], Some};
 ghost use Rattle.std.specs.Ordering.{is_lt};
 ghost use Rattle.st_core.specs.Pid.{pid_cmp};
-ghost use Rattle.st_core.specs.Streams.{is_own};
 ghost use Rattle.st_text.specs.declared.line.Line.{Line};
 ghost use Rattle.st_text.specs.declared.line.Line.TheVariants as lines;
 ghost use Rattle.st_text.specs.Counts.{acts_len, acts_lines};
@@ -14,7 +13,7 @@ use crate::fault::ReadFault;
 use crate::line::Line;
 use crate::remote::{is_act_remote, is_away, is_event_remote};
 use crate::step::Step;
-use st_core::{Act, Draft, Event, Kind, Pid, Sequence};
+use st_core::{Act, Draft, Event, Pid, Sequence};
 use std::alloc::Global;
 
 /// The most processes, events and acts that a text may have.
@@ -43,17 +42,6 @@ pub(crate) struct Progress {
     ghost few_events: { events ≤ 1000000 },
     ghost few_acts: { acts_len acts ≤ 4000000 },
     ghost counted: { lines ≡ 1 + processes + events + acts_lines acts },
-}
-
-/// Whether the event is one that this process reports.
-fn is_own(pid: Pid, event: &Event) -> bool
-    ensures { result ≡ is_own pid event.now }
-{
-    match (event.kind, event.to) {
-        (Kind::Send, Some(_)) | (Kind::Print, None) => event.from == pid,
-        (Kind::Receive, Some(to)) => to == pid,
-        (Kind::Send | Kind::Receive, None) | (Kind::Print, Some(_)) => false,
-    }
 }
 
 /// Whether a line that names a pid of another node may not stand: under header 1.
@@ -143,7 +131,7 @@ impl Progress {
         let Some(last) = self.last else {
             return Step::Stops(ReadFault::Line(n));
         };
-        if !is_own(last, event) {
+        if !event.is_own(last) {
             return Step::Stops(ReadFault::Foreign(n));
         }
         if self.events >= MOST_EVENTS {
