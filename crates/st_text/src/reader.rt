@@ -9,7 +9,7 @@ use st_core::ByteSource;
 use std::alloc::Global;
 
 /// The most bytes that are asked for at once.
-const PIECE: u64 = 16_384;
+const PIECE: u64 = 65_536;
 
 /// The bundle whose text the source gives, in pieces.
 ///
@@ -22,7 +22,7 @@ pub fn read<S: ByteSource>(alloc: Global, source: &mut S) -> Result<Bundle, Read
 {
     let mut feed = Feed::new(alloc);
     let mut count: u64 = 0;
-    let mut buffer = [0u8; 16_384];
+    let mut buffer = [0u8; 65_536];
     while count <= LIMIT {
         // No byte past the first one too many is asked for.
         let room = (LIMIT + 1 - count).min(PIECE) as usize;
