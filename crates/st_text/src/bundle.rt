@@ -1,9 +1,9 @@
 //! A bundle: collected streams, and the acts that are said to have made them, where there are any.
 
-ghost use Rattle.std.specs.Prelude.{◌≡◌, IsTrue, IfOk, IfErr, OnOk, IfSome, IfNone, Some, None, false, not, position, slice_get};
-ghost use Rattle.std.specs.List.{list_all, AllByRecursion};
-ghost use Rattle.st_core.specs.Pid.{IsRising, pid_eq};
+ghost use Rattle.std.specs.Prelude.{◌≡◌, IsTrue, IfOk, IfErr, OnOk, Some, None, false, not, position};
+ghost use Rattle.std.specs.List.{list_all};
 ghost use Rattle.st_core.specs.Run.{pids_of};
+ghost use Rattle.st_core.specs.Step.{receiver};
 ghost use Rattle.st_text.specs.Text.{is_among, is_listed, acts_of, unlisted_act};
 
 use st_core::{Act, Pid, Sequence, Streams};
@@ -35,17 +35,21 @@ fn is_among(streams: &Streams, pid: Pid) -> bool
     }
 }
 
+/// The receiver of a send, and of other acts the actor again.
+fn receiver(act: &Act) -> Pid
+    ensures { result ≡ receiver act.now }
+{
+    match act {
+        Act::Send(_, receiver, _) => *receiver,
+        _ => act.actor(),
+    }
+}
+
 /// Whether the act's actor, and a send's receiver, are listed in the streams.
 fn is_listed(streams: &Streams, act: &Act) -> bool
     ensures { result ≡ is_listed (pids_of streams.now) act.now }
 {
-    if !is_among(streams, act.actor()) {
-        return false;
-    }
-    match act {
-        Act::Send(_, receiver, _) => is_among(streams, *receiver),
-        _ => true,
-    }
+    is_among(streams, act.actor()) && is_among(streams, receiver(act))
 }
 
 /// The first act whose actor or receiver isn't listed in the streams.

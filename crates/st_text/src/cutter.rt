@@ -48,6 +48,7 @@ fn header_of(said: &Option<Line>) -> Option<bool>
 }
 
 /// Takes the next line, or bytes that say none. The first has to be a header.
+#[inline(always)]
 fn take_said(alloc: Global, progress: &mut Option<Progress>, said: &Option<Line>) -> Step
     ensures { (ls : List Line) → IsHeld progress.old ls → TakesSaid ls said.now progress.new result }
 {
@@ -124,6 +125,7 @@ impl Cutter {
     }
 
     /// Takes what the unfinished line, now ended, says. The place for the next one is empty.
+    #[inline(always)]
     fn take_line(&mut self, said: &Option<Line>)
         requires going { self.old.out ≡ false }
         requires good { self.old.fault ≡ None }
@@ -152,8 +154,9 @@ impl Cutter {
         self.take_line(&said);
     }
 
-    /// Takes the rest of the unfinished line, and its newline. Most lines lie whole in their piece: such a line is read
-    /// where it lies, and what it says is copied once, to its list.
+    /// Takes the rest of the unfinished line, and its newline. Most lines lie whole in their piece, and are read where
+    /// they lie.
+    #[inline(always)]
     fn end_line(&mut self, rest: &[u8])
         requires going { self.old.out ≡ false }
         requires good { self.old.fault ≡ None }

@@ -117,6 +117,7 @@ impl Progress {
     }
 
     /// Takes an event line.
+    #[inline(always)]
     fn report(&mut self, event: &Event) -> Step
         ensures { (ls : List Line) → IsSound self.old ls → Takes ls (lines.Event event.now) self.new result }
     {
@@ -160,6 +161,7 @@ impl Progress {
     }
 
     /// Takes an act line.
+    #[inline(always)]
     fn act(&mut self, act: &Act) -> Step
         ensures { (ls : List Line) → IsSound self.old ls → Takes ls (lines.Act act.now) self.new result }
     {
@@ -185,6 +187,7 @@ impl Progress {
     }
 
     /// Takes a line.
+    #[inline(always)]
     fn take_line(&mut self, line: &Line) -> Step
         ensures { (ls : List Line) → IsSound self.old ls → Takes ls line.now self.new result }
     {
@@ -198,6 +201,7 @@ impl Progress {
     }
 
     /// Takes the next line, or bytes that say none.
+    #[inline(always)]
     pub(crate) fn take(&mut self, said: &Option<Line>) -> Step
         ensures { (ls : List Line) → IsSound self.old ls → TakesLine ls said.now self.new result }
     {
