@@ -1,7 +1,7 @@
 //! The numbers of the sends whose messages lie in each queue: one list for each process, in step
 //! with its queue.
 
-ghost use Rattle.std.specs.Prelude.{◌≡◌, ◌<◌, ◌++◌, false, [], ◌∷◌, map, length, Some, IfSome, IfNone, IfOk, OnOk, slice_get, option_and_then, if◌then◌else◌};
+ghost use Rattle.std.specs.Prelude.{◌≡◌, ◌<◌, ◌++◌, [], ◌∷◌, map, length, Some, IfOk, OnOk, slice_get, option_and_then, if◌then◌else◌};
 ghost use Rattle.st_arena.specs.Arena.{list_at};
 ghost use Rattle.st_check.specs.Progress.{without_tag, pair_to};
 ghost use Rattle.st_core.specs.Pairs.{Tags, tags_after, pair_at};

@@ -1,6 +1,6 @@
 //! Worked values: mails between processes 30 and 31 over two mailboxes.
 
-ghost use Rattle.std.specs.Prelude.{◌≡◌, ◌<◌, ◌≤◌, length, OnOk, IfOk};
+ghost use Rattle.std.specs.Prelude.{◌≡◌, ◌<◌, length, IfOk};
 
 use crate::Mailboxes;
 use st_core::{Message, Pid, Serial, Token, Want};

@@ -1,6 +1,5 @@
 //! Acts, from the front of some bytes. Each act is a word and its fields, with one space between.
 
-ghost use Rattle.std.specs.Prelude.{◌≡◌};
 ghost use Rattle.st_text.specs.Reading.{Gives, component_at, both_at, want_at, flags_at, token_at, send_at, receive_at, print_at, printat_at, set_at, restore_at, tracer_at, alone_at, act_at};
 
 use crate::number::number;

@@ -1,6 +1,5 @@
 //! The system tracer's tuples, from the front of some bytes.
 
-ghost use Rattle.std.specs.Prelude.{◌≡◌};
 ghost use Rattle.st_text.specs.Reading.{Gives, kind_at, head_at, some_pid_at, place_at, ends_at, event_at};
 
 use crate::number::number;

@@ -1,6 +1,6 @@
 //! A reader of a bundle's text that takes it in pieces, however it is cut. It counts the bytes; the lines are the cutter's.
 
-ghost use Rattle.std.specs.Prelude.{◌≡◌, ◌≤◌, ◌++◌, [], List, ℕ, Some, Err, IsSome};
+ghost use Rattle.std.specs.Prelude.{◌≡◌, ◌≤◌, ◌++◌, [], List, ℕ, Some, Err};
 
 use crate::bundle::Bundle;
 use crate::cutter::Cutter;

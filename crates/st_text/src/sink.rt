@@ -1,9 +1,8 @@
 //! Bytes on their way to a sink: all of a piece, and through a buffer on the stack. Nothing here knows of lines.
 
-ghost use Rattle.std.specs.Prelude.{◌≡◌, ◌≤◌, ◌+◌, [], ◌++◌, length, MatchResult, OnOk, false};
+ghost use Rattle.std.specs.Prelude.{◌≡◌, ◌≤◌, ◌+◌, [], OnOk};
 ghost use Rattle.arrayvec.specs.ArrayVec.{array_vec_len};
-ghost use Rattle.st_core.specs.Device.{InARow};
-ghost use Rattle.st_text.specs.Writing.{Goes, GoesOn, WritesPart};
+ghost use Rattle.st_text.specs.Writing.{GoesOn};
 
 use crate::spell::Buffer;
 use st_core::ByteSink;

@@ -1,6 +1,5 @@
 //! The words and small values at the front of some bytes: each function answers the value and the bytes after it.
 
-ghost use Rattle.std.specs.Prelude.{◌≡◌};
 ghost use Rattle.st_text.specs.Reading.{Gives, after, bool_at, pid_at, label_at, serial_at, actor_at};
 
 use crate::number::number;

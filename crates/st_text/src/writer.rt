@@ -1,8 +1,7 @@
 //! Writing a bundle: its one text, to any sink, through a buffer on the stack. Writing takes no memory.
 
-ghost use Rattle.std.specs.Prelude.{◌≡◌, ◌≤◌, ◌+◌, [], ◌∷◌, ◌++◌, length, map, MatchResult};
+ghost use Rattle.std.specs.Prelude.{◌∷◌, map};
 ghost use Rattle.std.specs.List.{flat_map};
-ghost use Rattle.arrayvec.specs.ArrayVec.{array_vec_len};
 ghost use Rattle.st_core.specs.Streams.{events_of};
 ghost use Rattle.st_text.specs.declared.line.Line.TheVariants as lines;
 ghost use Rattle.st_text.specs.Spelling as spelled;

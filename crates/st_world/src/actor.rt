@@ -1,7 +1,7 @@
 //! What an act does to its actor: to what that process keeps for tracing, and to its queue. Nothing
 //! here knows of other processes.
 
-ghost use Rattle.std.specs.Prelude.{◌≡◌, ◌<◌, List, [], false, true, length, set, IfOk, OnErr};
+ghost use Rattle.std.specs.Prelude.{◌≡◌, ◌<◌, List, true, length, set, IfOk, OnErr};
 ghost use Rattle.std.specs.Result.{result_ok};
 ghost use Rattle.st_core.specs.declared.types.Message.{Message};
 ghost use Rattle.st_core.specs.Local.{IsMeetable};

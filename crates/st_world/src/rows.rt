@@ -1,7 +1,7 @@
 //! The rows of a world: how they are made, where a pid stands in them, and where the processes of a
 //! node do. The same number stands for one process in each row.
 
-ghost use Rattle.std.specs.Prelude.{◌≡◌, ◌↔◌, [], map, nat_le, nat_lt, position, replicate, IfOk, IsTrue};
+ghost use Rattle.std.specs.Prelude.{◌≡◌, ◌↔◌, nat_le, nat_lt, position, replicate, IfOk, IsTrue};
 ghost use Rattle.std.specs.Ordering.{is_lt};
 ghost use Rattle.st_core.specs.Pid.{pid_cmp, pid_eq, IsRising};
 ghost use Rattle.st_core.specs.State.{zero_local};

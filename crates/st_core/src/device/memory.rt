@@ -2,7 +2,7 @@
 //!
 //! Their contracts say to the byte what gets through and when a call fails.
 
-ghost use Rattle.std.specs.Prelude.{◌≡◌, ◌≤◌, ◌<◌, ◌-◌, [], min, length, take, true, false, IfOk, OnErr, MatchResult, Some, None};
+ghost use Rattle.std.specs.Prelude.{◌≡◌, ◌≤◌, ◌<◌, ◌-◌, [], min, length, take, true, false, IfOk, MatchResult, Some, None};
 ghost use Rattle.std.specs.Result.{result_ok};
 ghost use Rattle.std.specs.Io.KnownBytes.{ReadConsumes, WriteAppends};
 ghost use Rattle.st_core.specs.Device.{Marks, through, burnt, let_through, taken_count, put_count, after_take, after_put, AreZeros};

@@ -1,6 +1,6 @@
 //! The machine once more, as plainly as its rules read, over vectors and with no care for speed.
 
-ghost use Rattle.std.specs.Prelude.{◌<◌, length, vec_len, IfSome};
+ghost use Rattle.std.specs.Prelude.{◌<◌, length, IfSome};
 
 use crate::{Outcome, StepFault};
 use st_core::{
