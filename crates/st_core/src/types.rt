@@ -154,7 +154,8 @@ pub enum Kind {
     Print,
 }
 
-/// What the system tracer gets (manual: `{seq_trace, Label, {Kind, Serial, From, To, Value}}`).
+/// What the system tracer gets (manual: `{seq_trace, Label, {Kind, Serial, From, To, Value}}`). The
+/// fields stand in an order that leaves no gaps between them in memory.
 #[derive(Clone, Copy, Debug, PartialEq, Eq, PartialOrd, Ord, Hash)]
 pub struct Event {
     /// The label of the token in force: the stamped one of a send or a print, the message's of a
@@ -162,12 +163,12 @@ pub struct Event {
     pub label: Label,
     /// What happened.
     pub kind: Kind,
-    /// The serial of the token in force.
-    pub serial: Serial,
-    /// The sender of a send or a receive, or who printed.
-    pub from: Pid,
     /// The receiver of a send or a receive. A print has none.
     pub to: Option<Pid>,
+    /// The sender of a send or a receive, or who printed.
+    pub from: Pid,
+    /// The serial of the token in force.
+    pub serial: Serial,
     /// What was sent or printed.
     pub value: u64,
 }
