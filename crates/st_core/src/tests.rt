@@ -1,5 +1,5 @@
 //! Tests of what no clause says: worked values, that each call succeeds with ample memory, and what
-//! comes back where a growth was refused (`rt try --test --fail-alloc 1..` refuses each in turn).
+//! comes back where a growth was refused (`rt try --test --fail-alloc N` refuses the N-th).
 
 use crate::{
     Act, AddFault, ByteSink, ByteSource, Component, Draft, EndlessSource, Event, Failed, Flags,
