@@ -9,12 +9,12 @@ use Rattle.st_core.specs.State.{zero_state}
 use Rattle.st_core.specs.Step.{Outcome}
 use Rattle.st_core.specs.Run.{Stream, pids_of, run}
 use Rattle.st_core.specs.Verdict.{Verdict, IsVerdict}
-use Rattle.st_core.proofs.Runs.{one_verdict, run_from-take}
+use Rattle.st_core.proofs.ForCallers.{one_verdict, run_from-take}
 use Rattle.st_text.specs.declared.fault.ReadFault.{ReadFault}
 use Rattle.st_text.specs.Text.{Contents, IsText, IsWithin}
 use Rattle.st_text.specs.Fault.{fault}
-use Rattle.st_text.proofs.One.{text_one}
-use Rattle.st_text.proofs.Whole.{text_sound}
+use Rattle.st_text.proofs.ForCallers.{text_one}
+use Rattle.st_text.proofs.ForCallers.{text_sound}
 use Rattle.seqaudit.specs.Output.{Output, judged, refused}
 use Rattle.seqaudit.specs.Checked.{top, IsJudged, LacksActs, IsChecked}
 use Rattle.seqaudit.specs.Checked as checked

@@ -12,7 +12,7 @@ use Rattle.st_text.specs.Limits.{most_bytes}
 use Rattle.st_text.specs.Text.{Contents, IsText, IsWithin}
 use Rattle.st_text.specs.Fault.{fault}
 use Rattle.st_text.specs.Reads.{ReadsSource}
-use Rattle.st_text.proofs.Cuts.{fault_too_large}
+use Rattle.st_text.proofs.ForCallers.{fault_too_large}
 use Rattle.st_text.specs.Writing.{Writes, WritesPart, WritesText}
 use Rattle.seqaudit.specs.Output.{Output, judged, refused, no_acts, no_memory}
 use Rattle.seqaudit.specs.Checked.{top, IsJudged, LacksActs, IsChecked, Judged}

@@ -8,7 +8,7 @@ use Rattle.st_core.specs.State.{State}
 use Rattle.st_core.specs.Step.{Outcome, actor, step}
 use Rattle.st_core.specs.Run.{run_from, stream}
 use Rattle.st_core.specs.Pairs.{Tags, tags_after, pair_at, pairs_from}
-use Rattle.st_core.proofs.Others.{run_parts}
+use Rattle.st_core.proofs.ForCallers.{run_parts}
 use Rattle.st_check.specs.Progress.{state_from, tags_from}
 
 pub length-run : (top : ℕ) (s : State) (acts : List Act) (os : List Outcome) → run_from top s acts ≡ Some os → length os ≡ length acts

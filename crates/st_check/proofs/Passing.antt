@@ -15,8 +15,8 @@ use Rattle.st_core.specs.Run.{Stream, pids_of, run, run_from, stream}
 use Rattle.st_core.specs.Streams.{events_of}
 use Rattle.st_core.specs.Pairs.{tags_after, pairs}
 use Rattle.st_core.specs.Verdict.{Passes}
-use Rattle.st_core.proofs.Pids.{pid_eq-true, pid_eq-same, pid_eq-swap}
-use Rattle.st_core.proofs.Others.{run_parts, leaves_others}
+use Rattle.st_core.proofs.ForCallers.{pid_eq-true, pid_eq-same, pid_eq-swap}
+use Rattle.st_core.proofs.ForCallers.{run_parts, leaves_others}
 use Rattle.st_check.specs.Progress.{state_from, tags_of, count_of, counted, IsPassed}
 use Rattle.st_check.proofs.Appended.{length-run, run-append, state_from-append, stream-append, tags_from-append, pair_of, pairs_from-append}
 use Rattle.st_check.proofs.Places.{map_at, entry_at, events_at}

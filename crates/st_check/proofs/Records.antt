@@ -16,12 +16,12 @@ use Rattle.st_core.specs.Run.{Stream, pids_of, run, stream}
 use Rattle.st_core.specs.Streams.{stream_of, lists, names_listed, unlisted_among, unlisted, with_event, added, is_own, ComesLast}
 use Rattle.st_core.specs.Collected.{is_among, names_among}
 use Rattle.st_core.specs.Laws.{IsReportAmong, ReportsAmong}
-use Rattle.st_core.proofs.Pids.{pid_eq-true, pid_eq-swap, all_at}
-use Rattle.st_core.proofs.Others.{step_parts}
-use Rattle.st_core.proofs.Names.{run_named}
+use Rattle.st_core.proofs.ForCallers.{pid_eq-true, pid_eq-swap, all_at}
+use Rattle.st_core.proofs.ForCallers.{step_parts}
+use Rattle.st_core.proofs.ForCallers.{run_named}
 use Rattle.st_check.specs.Answers.{reported, AllRise}
 use Rattle.st_check.proofs.Verdicts.{Rises, stream_rises}
-use Rattle.st_core.proofs.Sound.{run_sound}
+use Rattle.st_core.proofs.ForCallers.{run_sound}
 use Rattle.std.proofs.lemmas.List.Elements.{All-map}
 use Rattle.st_check.specs.Recorded.{IsRecorded, recorded}
 use Rattle.st_check.proofs.Appended.{length-run, run-append, state_from-append}

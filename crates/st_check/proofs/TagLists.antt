@@ -10,7 +10,7 @@ use Rattle.st_core.specs.declared.types.Want.{Want}
 use Rattle.st_core.specs.declared.types.Act.TheVariants as act
 use Rattle.st_core.specs.Pid.{pid_eq, IsRising}
 use Rattle.st_core.specs.Pairs.{Tags, tags_after, pair_at}
-use Rattle.st_core.proofs.Pids.{pid_eq-same}
+use Rattle.st_core.proofs.ForCallers.{pid_eq-same}
 use Rattle.st_arena.specs.Arena.{Arena}
 use Rattle.st_check.specs.Progress.{without_tag, pair_to}
 use Rattle.st_check.proofs.Places.{map_apart, map_at, entry_at}

@@ -17,8 +17,8 @@ use Rattle.st_core.specs.Pairs.{Follows, pairs}
 use Rattle.st_core.specs.Verdict.{Verdict, Stuck, Differs, Left, Yes, left_over, IsVerdict}
 use Rattle.st_core.specs.Laws.{KeepsSound}
 use Rattle.st_core.specs.State.{State}
-use Rattle.st_core.proofs.Sound.{run_sound}
-use Rattle.st_core.proofs.Following.{receives_follow}
+use Rattle.st_core.proofs.ForCallers.{run_sound}
+use Rattle.st_core.proofs.ForCallers.{receives_follow}
 use Rattle.st_check.specs.Progress.{count_of, IsPassed}
 use Rattle.st_check.specs.Answers.{FollowsAll, RisesOnYes}
 use Rattle.st_check.proofs.Places.{entry_at, events_at}

@@ -12,3 +12,4 @@ pub mod Names
 mod Cases
 pub mod Pids
 pub mod Collections
+pub mod ForCallers

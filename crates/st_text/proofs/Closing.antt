@@ -13,7 +13,7 @@ use Rattle.st_core.specs.Step.{actor, receiver}
 use Rattle.st_core.specs.Run.{Stream, pids_of}
 use Rattle.st_core.specs.Streams.{lists, events_of, names_listed, unlisted_among, unlisted}
 use Rattle.std.proofs.lemmas.List.Quantifiers.{position-Some}
-use Rattle.st_core.proofs.Pids.{pid_eq-same, pid_eq-true, IsBelow-apart}
+use Rattle.st_core.proofs.ForCallers.{pid_eq-same, pid_eq-true, IsBelow-apart}
 use Rattle.st_text.specs.declared.line.Line.{Line}
 use Rattle.st_text.specs.declared.line.Line.TheVariants as lines
 use Rattle.st_text.specs.declared.fault.ReadFault.{ReadFault}

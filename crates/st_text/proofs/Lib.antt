@@ -22,3 +22,4 @@ pub mod OfText
 pub mod Sound
 pub mod Whole
 pub mod One
+pub mod ForCallers

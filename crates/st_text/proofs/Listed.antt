@@ -8,7 +8,7 @@ use Rattle.st_core.specs.declared.types.Event.{Event}
 use Rattle.st_core.specs.Pid.{pid_eq, IsBelow, IsRising}
 use Rattle.st_core.specs.Run.{Stream, pids_of}
 use Rattle.st_core.specs.Streams.{stream_of, events_of}
-use Rattle.st_core.proofs.Pids.{pid_eq-same, IsBelow-apart}
+use Rattle.st_core.proofs.ForCallers.{pid_eq-same, IsBelow-apart}
 use Rattle.st_text.specs.declared.line.Line.{Line}
 use Rattle.st_text.specs.Text.{process_lines}
 

@@ -11,7 +11,7 @@ use Rattle.st_core.specs.declared.types.Act.{Act}
 use Rattle.st_core.specs.Pid.{pid_eq, IsBelow, IsRising}
 use Rattle.st_core.specs.Run.{Stream, pids_of}
 use Rattle.st_core.specs.Streams.{ComesLast, added, with_event}
-use Rattle.st_core.proofs.Pids.{IsRising-push, IsBelow-apart, pid_eq-same, all_at}
+use Rattle.st_core.proofs.ForCallers.{IsRising-push, IsBelow-apart, pid_eq-same, all_at}
 use Rattle.st_text.specs.declared.line.Line.{Line}
 use Rattle.st_text.specs.declared.line.Line.TheVariants as lines
 use Rattle.st_text.specs.declared.progress.Progress.{Progress}

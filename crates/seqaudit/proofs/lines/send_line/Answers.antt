@@ -1,5 +1,5 @@
 use Rattle.seqaudit.specs.Lines.{text_of}
-use Rattle.st_text.proofs.Puts.{finishes}
+use Rattle.st_text.proofs.ForCallers.{finishes}
 use Rattle.seqaudit.proofs.Texts.{line_some}
 use Rattle.seqaudit.specs.Lines.{words}
 use Rattle.seqaudit.proofs.lines.send_line.Goals as goal

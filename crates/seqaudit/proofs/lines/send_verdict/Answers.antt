@@ -1,6 +1,6 @@
 use Rattle.st_check.specs.Answers.{verdict_of}
 use Rattle.seqaudit.specs.Output.{verdict_text}
-use Rattle.st_text.proofs.Puts.{finishes}
+use Rattle.st_text.proofs.ForCallers.{finishes}
 use Rattle.seqaudit.proofs.Texts.{verdict_some}
 use Rattle.seqaudit.proofs.lines.send_verdict.Goals as goal
 

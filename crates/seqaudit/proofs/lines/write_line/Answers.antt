@@ -1,6 +1,6 @@
 use Rattle.std.proofs.Common.{[]}
 use Rattle.seqaudit.specs.Lines.{text_of}
-use Rattle.st_text.proofs.Puts.{part_longer, goes_then, goes_buffer, on_err}
+use Rattle.st_text.proofs.ForCallers.{part_longer, goes_then, goes_buffer, on_err}
 use Rattle.seqaudit.proofs.lines.write_line.Goals as goal
 
 pub returns-in_err-make_room : goal.returns-in_err-make_room

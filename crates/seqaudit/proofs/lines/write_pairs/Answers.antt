@@ -1,6 +1,6 @@
 use Rattle.std.proofs.Common.{refl}
 use Rattle.seqaudit.specs.Output.{pair_line}
-use Rattle.st_text.proofs.Puts.{goes_still, one_more, one_failed, all_done, on_err}
+use Rattle.st_text.proofs.ForCallers.{goes_still, one_more, one_failed, all_done, on_err}
 use Rattle.seqaudit.proofs.lines.write_pairs.Goals as goal
 
 pub loop-pair-init : goal.loop-pair-init

@@ -2,7 +2,7 @@ use Rattle.std.specs.List.{flat_map}
 use Rattle.seqaudit.specs.declared.lines.Line.TheVariants as lines
 use Rattle.seqaudit.specs.Lines.{text_of}
 use Rattle.seqaudit.specs.Output.{pair_line}
-use Rattle.st_text.proofs.Puts.{part_longer, then_on, on_err}
+use Rattle.st_text.proofs.ForCallers.{part_longer, then_on, on_err}
 use Rattle.seqaudit.proofs.lines.write_yes.Goals as goal
 
 pub returns-in_err-write_line : goal.returns-in_err-write_line

@@ -1,5 +1,5 @@
 use Rattle.std.proofs.Common.{sym}
-use Rattle.st_core.proofs.Collections.{is_among-found, is_among-missing}
+use Rattle.st_core.proofs.ForCallers.{is_among-found, is_among-missing}
 use Rattle.st_core.specs.Run.{pids_of}
 use Rattle.st_text.proofs.bundle.is_among.Goals as goal
 
