@@ -1,15 +1,20 @@
-# On a fresh machine with the Rattle toolchain two commands do it:
-#   make demo   builds the proved program and runs it on examples/
-#   make test   runs the merge gate
+# On a fresh machine with the Rattle toolchain:
+#   make try FILE=..   runs the program on an input without its proofs, in under a minute
+#   make demo          proves and builds the program, and runs it on examples/
+#   make test          runs the merge gate
 
 PREFIX ?= /usr/local
 PROGRAM = bin/seqaudit
 
-.PHONY: test demo install bench program clean
+.PHONY: test layers try demo install bench program clean
 
 # Every proof from nothing, the wrong bodies, and the tests.
-test:
+test: layers
 	rt ci
+
+# What a crate's proofs cite of another crate's proofs is its module of lemmas for callers alone.
+layers:
+	@.ci/layers
 
 # Proves the program and all below it, saying how far it is, and builds it.
 program: $(PROGRAM)
@@ -19,17 +24,16 @@ $(PROGRAM): crates.txt $(shell find crates -path '*/out' -prune -o -type f -prin
 	mkdir -p bin
 	cp crates/seqaudit/out/seqaudit $@
 
+# Runs the proved program on the inputs of examples/, and compares what it answers with the files beside them.
 demo: $(PROGRAM)
-	@echo '== A traced print, and the acts that explain it: yes.'
-	@$(PROGRAM) check < examples/print.txt
-	@echo '== Two receives whose sends nobody reported. Act 5 took the message of act 4, act 10 that of act 9.'
-	@$(PROGRAM) check < examples/hidden_sends.txt
-	@echo '== The stream has one print more than the acts report: refused, with the process.'
-	@$(PROGRAM) check < examples/event_left.txt || [ $$? = 1 ]
-	@echo '== A label with a leading zero is not the spelling of a number: refused, with the line.'
-	@$(PROGRAM) check < examples/leading_zero.txt || [ $$? = 2 ]
-	@echo '== The streams that a run of the acts gives.'
-	@$(PROGRAM) replay < examples/print.txt
+	@examples/demo $(PROGRAM)
+
+# Runs the program on one input without proving it first, which takes under a minute.
+COMMAND ?= check
+FILE ?= examples/request.txt
+try:
+	@echo 'An unproved run: the program is built without its proofs. "make demo" proves it first.'
+	@cd crates/seqaudit && rt try -- $(COMMAND) < "$(abspath $(FILE))" || echo "exit status $$?"
 
 install: $(PROGRAM)
 	install -D $(PROGRAM) $(DESTDIR)$(PREFIX)/bin/seqaudit
