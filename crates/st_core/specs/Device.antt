@@ -1,10 +1,14 @@
 -- Devices: where bytes come from and go to (own profile).
 -- Words for the contracts of the byte sources and sinks; nothing here is about tracing.
-use Rattle.std.specs.Prelude.{◌≡◌, ℕ, ◌-◌, ◌==◌, ◌&&◌, ◌||◌, nat_lt, Bool, true, false, List, [], ◌++◌, length, drop, replicate, min, Option, Some, None, Result, MatchResult, option_map, if◌then◌else◌}
+use Rattle.std.specs.Prelude.{◌≡◌, ℕ, ◌-◌, ◌==◌, ◌&&◌, ◌||◌, nat_lt, Bool, true, false, List, [], ◌++◌, length, drop, replicate, min, Option, Some, None, Result, Ok, MatchResult, option_map, if◌then◌else◌}
 
 -- the mark of a device is false until a call fails, then true, and each later call fails
 abbrev pub Marks : {T E : Type 0} → Bool → Bool → Result T E → Type 0
 Marks old new r = MatchResult r (λ _. (old ≡ false) × (new ≡ false)) (λ _. new ≡ true)
+
+-- a device that hasn't failed takes an empty piece, of which it passes nothing, and stays as it was
+abbrev pub PassesEmpty : {S E : Type 0} → Bool → List ℕ → S → S → Result ℕ E → Type 0
+PassesEmpty failed piece old new r = failed ≡ false → piece ≡ [] → (r ≡ Ok 0) × (new ≡ old)
 
 -- calls in a row from one state of a device to another, and the bytes that they passed, one piece after the other
 pub data InARow {S : Type 0} (passes : S → List ℕ → S → Type 0) : S → List ℕ → S → Type 0 where

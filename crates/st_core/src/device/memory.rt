@@ -5,7 +5,7 @@
 ghost use Rattle.std.specs.Prelude.{◌≡◌, ◌≤◌, ◌<◌, ◌-◌, [], min, length, take, true, false, IfOk, MatchResult, Some, None};
 ghost use Rattle.std.specs.Result.{result_ok};
 ghost use Rattle.std.specs.Io.KnownBytes.{ReadConsumes, WriteAppends};
-ghost use Rattle.st_core.specs.Device.{Marks, through, burnt, let_through, taken_count, put_count, after_take, after_put, AreZeros};
+ghost use Rattle.st_core.specs.Device.{Marks, PassesEmpty, through, burnt, let_through, taken_count, put_count, after_take, after_put, AreZeros};
 
 use crate::device::sink::ByteSink;
 use crate::device::source::{ByteSource, Failed};
@@ -94,6 +94,7 @@ impl<'a> ByteSource for MemorySource<'a> {
         ensures bytes { ReadConsumes (Some self.old.left) (Some self.new.left) result piece.new }
         ensures given { MatchResult result (λ n. self.old.left ≡ take n piece.new ++ self.new.left) (λ _. self.old.left ≡ [] ++ self.new.left) }
         ensures end { IfOk result (λ n. n ≡ 0 → 0 < length piece.new → self.new.left ≡ []) }
+        ensures empty { PassesEmpty self.old.failed piece.new self.old self.new result }
         ensures mark { Marks self.old.failed self.new.failed result }
         // How much it gives, when it fails, and what is left.
         ensures count { result_ok result ≡ taken_count self.old (length piece.new) }
@@ -176,6 +177,7 @@ impl ByteSink for MemorySink {
     fn put(&mut self, piece: &[u8]) -> Result<usize, Failed>
         ensures bound { IfOk result (λ n. n ≤ length piece.now) }
         ensures some { IfOk result (λ n. 0 < length piece.now → 0 < n) }
+        ensures empty { PassesEmpty self.old.failed piece.now self.old self.new result }
         ensures bytes { WriteAppends (Some self.old.written) (Some self.new.written) result piece.now }
         ensures wrote { MatchResult result (λ n. self.new.written ≡ self.old.written ++ take n piece.now) (λ _. self.new.written ≡ self.old.written ++ []) }
         ensures mark { Marks self.old.failed self.new.failed result }
@@ -231,6 +233,7 @@ impl ByteSource for EndlessSource {
         ensures bytes { ReadConsumes None None result piece.new }
         ensures given { MatchResult result (λ n. AreZeros (take n piece.new)) (λ _. AreZeros []) }
         ensures end { IfOk result (λ n. n ≡ 0 → 0 < length piece.new → ⊥) }
+        ensures empty { PassesEmpty false piece.new self.old self.new result }
         ensures mark { Marks false false result }
         ensures whole { result ≡ Ok (length piece.new) }
     {

@@ -2,7 +2,7 @@
 
 ghost use Rattle.std.specs.Prelude.{◌≤◌, ◌<◌, take, List, [], ℕ, Bool, Option, IfOk, MatchResult, length};
 ghost use Rattle.std.specs.Io.KnownBytes.{WriteAppends, Appends};
-ghost use Rattle.st_core.specs.Device.{Marks};
+ghost use Rattle.st_core.specs.Device.{Marks, PassesEmpty};
 
 use crate::device::source::Failed;
 
@@ -18,11 +18,13 @@ pub trait ByteSink {
     // also one that doesn't tell what was written.
     ghost puts: { Self → List ℕ → Self → Type 0 };
 
-    /// Writes bytes from the front of the piece, and says how many: none only of an empty piece.
-    /// A call that fails has written nothing, and after a failure each call fails.
+    /// Writes bytes from the front of the piece, and says how many: none only of an empty piece,
+    /// which a sink that hasn't failed always takes. A call that fails has written nothing, and
+    /// after a failure each call fails.
     fn put(&mut self, piece: &[u8]) -> Result<usize, Failed>
         ensures bound { IfOk result (λ n. n ≤ length piece.now) }
         ensures some { IfOk result (λ n. 0 < length piece.now → 0 < n) }
+        ensures empty { PassesEmpty (failed self.old) piece.now self.old self.new result }
         ensures bytes { WriteAppends (written self.old) (written self.new) result piece.now }
         ensures wrote { MatchResult result (λ n. puts self.old (take n piece.now) self.new) (λ _. puts self.old [] self.new) }
         ensures mark { Marks (failed self.old) (failed self.new) result };

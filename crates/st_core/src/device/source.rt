@@ -2,7 +2,7 @@
 
 ghost use Rattle.std.specs.Prelude.{◌≡◌, ◌≤◌, ◌<◌, take, List, [], ℕ, Bool, Option, IfOk, MatchResult, length};
 ghost use Rattle.std.specs.Io.KnownBytes.{ReadConsumes, Consumes};
-ghost use Rattle.st_core.specs.Device.{Marks};
+ghost use Rattle.st_core.specs.Device.{Marks, PassesEmpty};
 
 use thiserror::Error;
 
@@ -27,12 +27,14 @@ pub trait ByteSource {
     ghost ended: { Self → Type 0 };
 
     /// Writes the next bytes to the front of the piece, and says how many. None, for a piece with
-    /// room, means the end. After a failure each call fails.
+    /// room, means the end. A piece without room is no question: a source that hasn't failed answers
+    /// none of it and stays as it was. After a failure each call fails.
     fn take(&mut self, piece: &mut [u8]) -> Result<usize, Failed>
         ensures bound { IfOk result (λ n. n ≤ length piece.new) }
         ensures bytes { ReadConsumes (left self.old) (left self.new) result piece.new }
         ensures given { MatchResult result (λ n. gives self.old (take n piece.new) self.new) (λ _. gives self.old [] self.new) }
         ensures end { IfOk result (λ n. n ≡ 0 → 0 < length piece.new → ended self.new) }
+        ensures empty { PassesEmpty (failed self.old) piece.new self.old self.new result }
         ensures mark { Marks (failed self.old) (failed self.new) result };
 
     // What was given stood at the front of what was left, where the source tells it.

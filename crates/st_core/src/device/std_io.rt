@@ -7,7 +7,8 @@ use crate::device::source::{ByteSource, Failed};
 use std::io::{Read, Write};
 use std::marker::Model;
 
-/// A source over a reader of std's. Any error of the reader counts as a failure.
+/// A source over a reader of std's. Any error of the reader counts as a failure, and an empty piece
+/// isn't asked of it.
 #[derive(Drop)]
 pub struct ReadFrom<R> {
     reader: R,
@@ -52,6 +53,10 @@ impl<R: Read> ByteSource for ReadFrom<R> {
         if self.failed {
             return Err(Failed);
         }
+        // No contract says what a reader of std's does on an empty piece.
+        if piece.is_empty() {
+            return Ok(0);
+        }
         match self.reader.read(piece) {
             Ok(given) => Ok(given),
             Err(_) => {
@@ -63,7 +68,7 @@ impl<R: Read> ByteSource for ReadFrom<R> {
 }
 
 /// A sink over a writer of std's. Any error of the writer counts as a failure, as does a write
-/// that takes no byte of a piece that isn't empty.
+/// that takes no byte of a piece that isn't empty; an empty one isn't handed to it.
 #[derive(Drop)]
 pub struct WriteTo<W> {
     writer: W,
@@ -106,8 +111,12 @@ impl<W: Write> ByteSink for WriteTo<W> {
         if self.failed {
             return Err(Failed);
         }
+        // Nor what a writer does on one.
+        if piece.is_empty() {
+            return Ok(0);
+        }
         match self.writer.write(piece) {
-            Ok(0) if !piece.is_empty() => {
+            Ok(0) => {
                 self.failed = true;
                 Err(Failed)
             }

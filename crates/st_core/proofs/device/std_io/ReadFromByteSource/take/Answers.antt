@@ -5,6 +5,9 @@ use Rattle.st_core.proofs.device.std_io.ReadFromByteSource.take.Goals as goal
 pub returns-then-self-clause-given : goal.returns-then-self-clause-given
 returns-then-self-clause-given g c = (passed _ _ _, search rules)
 
+pub returns-then-is_empty-clause-given : goal.returns-then-is_empty-clause-given
+returns-then-is_empty-clause-given g c = (passed _ _ _, search rules)
+
 pub returns-in-Ok-clause-given : goal.returns-in-Ok-clause-given
 returns-in-Ok-clause-given g c = (passed _ _ _, search rules)
 
