@@ -1,7 +1,6 @@
 -- Each reported receive follows the send whose message it took.
-use Rattle.std.proofs.Common.{◌≡◌, ℕ, ◌+◌, ◌<◌, ◌≢◌, ◌⊎◌, ◌&&◌, List, [], ◌∷◌, ◌++◌, drop, Option, Some, None, is_some, option_and_then, All, refl, sym, ◌∙◌, ap, subst, arith, inl, inr, if◌then◌else◌}
-use Rattle.std.specs.List.{AllZip, slice_get}
-use Rattle.std.proofs.lemmas.List.Elements.{All-map}
+use Rattle.std.proofs.Common.{◌≡◌, ℕ, ◌+◌, ◌<◌, ◌≢◌, ◌⊎◌, ◌&&◌, List, [], ◌∷◌, ◌++◌, Option, Some, None, is_some, option_and_then, All, refl, sym, ◌∙◌, ap, subst, arith, inl, inr, if◌then◌else◌}
+use Rattle.std.specs.List.{slice_get}
 use Rattle.std.proofs.lemmas.Option.{none-some, cond_some}
 use Rattle.st_core.specs.declared.types.Pid.{Pid}
 use Rattle.st_core.specs.declared.types.Token.{Token}
@@ -11,18 +10,18 @@ use Rattle.st_core.specs.declared.types.Event.{Event}
 use Rattle.st_core.specs.declared.types.Want.{Want}
 use Rattle.st_core.specs.declared.types.Act.{Act}
 use Rattle.st_core.specs.declared.types.Act.TheVariants as act
-use Rattle.st_core.specs.State.{Process, State, process, zero_local, zero_state}
+use Rattle.st_core.specs.State.{State, process, zero_state}
 use Rattle.st_core.specs.Pick.{pick}
 use Rattle.st_core.specs.Report.{flag_of, report}
 use Rattle.st_core.specs.Step.{Acted, Outcome, step}
-use Rattle.st_core.specs.Run.{run, run_from}
+use Rattle.st_core.specs.Run.{run}
 use Rattle.st_core.specs.Pairs.{Tags, tags_after, pair_at, pairs_from, pairs, IsFollowing, Follows}
-use Rattle.st_core.specs.Laws.{IsSound}
-use Rattle.st_core.proofs.Others.{process_pid, Stepped, step_parts, run_parts}
-use Rattle.st_core.proofs.Sound.{All_at, pick_found, process_holds, step_sound, zero_sound}
-use Rattle.st_core.proofs.Zips.{AllZip_at, AllPairs_cons, drop_first, drop_rest}
-use Rattle.st_core.proofs.Tags.{AreKnown, no_tags, no_tags_known, known_step, IsGone, pairs_gone, taken_gone}
-use Rattle.st_core.proofs.Queues.{IsTag, AreTags, receive_none, receive_some, tags_step}
+use Rattle.st_core.proofs.Others.{process_pid, Stepped, step_parts}
+use Rattle.st_core.proofs.Sound.{All_at, pick_found}
+use Rattle.st_core.proofs.Zips.{AllZip_at, AllPairs_cons}
+use Rattle.st_core.proofs.Tags.{AreKnown, no_tags, IsGone, pairs_gone, taken_gone}
+use Rattle.st_core.proofs.Queues.{IsTag, AreTags, receive_none, receive_some}
+use Rattle.st_core.proofs.Underway.{Underway, starts, next}
 
 -- ONE RECEIVE
 
@@ -125,32 +124,26 @@ follows_nil acts os = record { each = tt; once = λ i j d below within. absurd (
 follows_cons : (acts : List Act) (os : List Outcome) (n : ℕ) (i : ℕ) (ps : List (ℕ × ℕ)) → IsFollowing acts os n i → All (λ x. i ≢ x.1) ps → Follows acts os ps → Follows acts os ((n, i) ∷ ps)
 follows_cons acts os n i ps one apart rest = record { each = (one, rest.each); once = AllPairs_cons (λ (x y : ℕ × ℕ). x.1 ≢ y.1) (n, i) ps apart rest.once }
 
-follows_from : (top : ℕ) (acts : List Act) (os : List Outcome) (n : ℕ) (s : State) (tags : Tags) (rest : List Act) (outs : List Outcome) → drop n acts ≡ rest → drop n os ≡ outs → run_from top s rest ≡ Some outs → All (IsSound top) s → AreKnown acts n tags → AreTags acts os s tags → Follows acts os (pairs_from tags n rest outs)
-follows_from top acts os n s tags [] outs is out h sound known are = follows_nil acts os
-follows_from top acts os n s tags (a ∷ rest) outs is out h sound known are =
-    let t = run_parts top s a rest outs h in
-    let o = t.first in
-    let at = drop_first n acts a rest is in
-    let now : drop n os ≡ o ∷ t.others = out ∙ t.is_whole in
-    let here = drop_first n os o t.others now in
+follows_from : (top : ℕ) (acts : List Act) (os : List Outcome) (n : ℕ) (s : State) (tags : Tags) (rest : List Act)
+    (outs : List Outcome) → Underway top acts os n s tags rest outs → Follows acts os (pairs_from tags n rest outs)
+follows_from top acts os n s tags [] outs u = follows_nil acts os
+follows_from top acts os n s tags (a ∷ rest) outs u =
+    let t = next top acts os n s tags a rest outs u in
+    let o = t.outcome in
     let later = tags_after tags n a o.place in
-    let kept = step_sound top s a o t.is_first sound in
     let tail = pairs_from later (n + 1) rest t.others in
-    let others : Follows acts os tail =
-    follows_from top acts os (n + 1) o.after later rest t.others (drop_rest n acts a rest is) (drop_rest n os o t.others now) t.is_rest kept.processes (known_step acts n tags a o.place at known) (tags_step top acts os n s tags a o at here t.is_first sound are) in
+    let others : Follows acts os tail = follows_from top acts os (n + 1) o.after later rest t.others t.later in
     let whole : Follows acts os ((if is_some o.report then pair_at tags n a o.place else []) ++ tail) =
-    elim (reported_pair top acts os n s tags a o t.is_first here known are) [
+    elim (reported_pair top acts os n s tags a o t.is_step t.outcome_at u.known u.are) [
       | inl none ↦ subst (λ ps. Follows acts os (ps ++ tail)) (sym none) others
-      | inr one ↦ subst (λ ps. Follows acts os (ps ++ tail)) (sym one.is) (follows_cons acts os n one.send tail one.follows (pairs_gone later (n + 1) rest t.others one.send one.gone) others)
+      | inr one ↦ subst (λ ps. Follows acts os (ps ++ tail)) (sym one.is)
+          (follows_cons acts os n one.send tail one.follows
+          (pairs_gone later (n + 1) rest t.others one.send one.gone) others)
     ] in
     subst (λ xs. Follows acts os (pairs_from tags n (a ∷ rest) xs)) (sym t.is_whole) whole
 
-zero_queue : (pids : List Pid) (p : Pid) (r : Process) → process (zero_state pids) p ≡ Some r → r.queue ≡ []
-zero_queue pids p r is = process_holds (λ x. x.queue ≡ []) (zero_state pids) p r is (All-map (λ (x : Process). x.queue ≡ []) (λ q. record { pid = q; local = zero_local; queue = [] }) pids (λ k d within. refl))
-
-pub no_tags_are : (acts : List Act) (os : List Outcome) (pids : List Pid) → AreTags acts os (zero_state pids) no_tags
-no_tags_are acts os pids = record { queues = λ p r is. subst (AllZip (IsTag acts os p) []) (sym (zero_queue pids p r is)) tt }
-
 -- in every run
-pub receives_follow : (top : ℕ) (pids : List Pid) (acts : List Act) (os : List Outcome) → run top pids acts ≡ Some os → Follows acts os (pairs acts os)
-receives_follow top pids acts os h = follows_from top acts os 0 (zero_state pids) no_tags acts os refl refl h (zero_sound top pids) (no_tags_known acts) (no_tags_are acts os pids)
+pub receives_follow : (top : ℕ) (pids : List Pid) (acts : List Act) (os : List Outcome) → run top pids acts ≡ Some os
+    → Follows acts os (pairs acts os)
+receives_follow top pids acts os h =
+    follows_from top acts os 0 (zero_state pids) no_tags acts os (starts top pids acts os h)

@@ -6,19 +6,17 @@ pub use Rattle.st_core.proofs.Pids.{pid_eq-true, pid_eq-same, pid_eq-swap, pid_c
 pub use Rattle.st_core.proofs.Pids.{IsBelow-trans, IsBelow-apart, IsRising-push, missing_from_search, all_at}
 pub use Rattle.st_core.proofs.Others.{pid_same, pid_eq-refl}
 pub use Rattle.st_core.proofs.Collections.{is_among-found, is_among-missing}
-
 -- ---- a step and a run, in parts
 pub use Rattle.st_core.proofs.Others.{process_pid, process-map, mapped, Stepped, step_parts, run_parts, process_after}
 pub use Rattle.st_core.proofs.Others.{leaves_others}
 pub use Rattle.st_core.proofs.Steps.{changed_pid, changed_untouched}
 pub use Rattle.st_core.proofs.Runs.{one_verdict, run_from-take}
 pub use Rattle.st_core.proofs.Zips.{AllZip_length, drop_first, drop_rest}
-
 -- ---- what every run keeps
 pub use Rattle.st_core.proofs.Sound.{All_at, run_sound, stamp_any_sound, process_holds, pick_found, step_sound, zero_sound}
 pub use Rattle.st_core.proofs.Names.{run_named}
-pub use Rattle.st_core.proofs.Following.{receives_follow, no_tags_are}
-
+pub use Rattle.st_core.proofs.Following.{receives_follow}
+pub use Rattle.st_core.proofs.Paired.{receives_are_paired}
 -- ---- the numbers of the sends in the queues
 pub use Rattle.st_core.proofs.Tags.{no_tags}
-pub use Rattle.st_core.proofs.Queues.{IsTag, AreTags, receive_none, receive_some, tags_step}
+pub use Rattle.st_core.proofs.Queues.{IsTag, AreTags, no_tags_are, receive_none, receive_some, tags_step}

@@ -6,7 +6,9 @@ pub mod Sound
 pub mod Zips
 pub mod Tags
 pub mod Queues
+pub mod Underway
 pub mod Following
+pub mod Paired
 pub mod Exists
 pub mod Names
 mod Cases

@@ -2,6 +2,7 @@
 use Rattle.std.proofs.Common.{◌≡◌, ℕ, true, false, cond, List, [], ◌∷◌, ◌++◌, map, Option, Some, None, option_map, option_and_then, All, refl, sym, ◌∙◌, ap, subst, if◌then◌else◌}
 use Rattle.std.specs.Option.{ForSome}
 use Rattle.std.specs.List.{AllZip, slice_get, remove}
+use Rattle.std.proofs.lemmas.List.Elements.{All-map}
 use Rattle.std.proofs.lemmas.Option.{same_Some, none-some}
 use Rattle.st_core.specs.declared.types.Pid.{Pid}
 use Rattle.st_core.specs.declared.types.Token.{Token}
@@ -11,7 +12,7 @@ use Rattle.st_core.specs.declared.types.Act.{Act}
 use Rattle.st_core.specs.declared.types.Act.TheVariants as act
 use Rattle.st_core.specs.declared.types.Reply.TheVariants as reply
 use Rattle.st_core.specs.Pid.{pid_eq, node_eq}
-use Rattle.st_core.specs.State.{LocalState, Process, State, process}
+use Rattle.st_core.specs.State.{LocalState, Process, State, process, zero_local, zero_state}
 use Rattle.st_core.specs.Local.{wiped, has_label}
 use Rattle.st_core.specs.Stamp.{stamp, stamp_any}
 use Rattle.st_core.specs.Pick.{pick}
@@ -20,6 +21,7 @@ use Rattle.st_core.specs.Pairs.{Tags, tags_after}
 use Rattle.st_core.specs.Laws.{IsSound}
 use Rattle.st_core.proofs.Others.{pid_same, pid_eq-refl, process_pid, mapped, Stepped, step_parts, process_after}
 use Rattle.st_core.proofs.Sound.{acted_sound, process_holds}
+use Rattle.st_core.proofs.Tags.{no_tags}
 use Rattle.st_core.proofs.Zips.{AllZip_push, AllZip_remove, AllZip_map}
 
 -- after act i the record of p has this token
@@ -207,3 +209,11 @@ tags_step top acts os n s tags a o at out h sound are =
           subst (λ k. AllZip (IsTag acts os x) (tags_after tags n a k x) r.queue) place
           (subst (AllZip (IsTag acts os x) (tags_after tags n a t.done.place x)) queue (tags_of_queue top acts os n s tags a o t at out sound x old parts.1 (are.queues x old parts.1)));
     }
+
+-- AT THE START
+
+zero_queue : (pids : List Pid) (p : Pid) (r : Process) → process (zero_state pids) p ≡ Some r → r.queue ≡ []
+zero_queue pids p r is = process_holds (λ x. x.queue ≡ []) (zero_state pids) p r is (All-map (λ (x : Process). x.queue ≡ []) (λ q. record { pid = q; local = zero_local; queue = [] }) pids (λ k d within. refl))
+
+pub no_tags_are : (acts : List Act) (os : List Outcome) (pids : List Pid) → AreTags acts os (zero_state pids) no_tags
+no_tags_are acts os pids = record { queues = λ p r is. subst (AllZip (IsTag acts os p) []) (sym (zero_queue pids p r is)) tt }

@@ -7,7 +7,7 @@ ghost use Rattle.st_core.specs.declared.types.Act.{Act};
 ghost use Rattle.st_core.specs.declared.types.Pid.{Pid};
 ghost use Rattle.st_core.specs.declared.types.Token.{Token};
 ghost use Rattle.st_core.specs.Laws.{LeavesOthers, IsStamped, KeepsSound, ReportsAmong};
-ghost use Rattle.st_core.specs.Pairs.{Follows, pairs};
+ghost use Rattle.st_core.specs.Pairs.{AllPaired, Follows, pairs};
 ghost use Rattle.st_core.specs.Run.{Shows, Stream, run};
 ghost use Rattle.st_core.specs.State.{LocalState, State};
 ghost use Rattle.st_core.specs.Step.{Outcome, step};
@@ -38,6 +38,11 @@ pub fn reports_are_own()
 /// In every run each reported receive follows the send whose message it took, and no send stands twice.
 pub fn receives_follow()
     ensures { (top : ℕ) (pids : List Pid) (acts : List Act) (os : List Outcome) → run top pids acts ≡ Some os → Follows acts os (pairs acts os) }
+{}
+
+/// In every run each act that reported a receive stands in a pair.
+pub fn receives_are_paired()
+    ensures { (top : ℕ) (pids : List Pid) (acts : List Act) (os : List Outcome) → run top pids acts ≡ Some os → AllPaired os (pairs acts os) }
 {}
 
 /// Streams and acts have a verdict.
