@@ -87,7 +87,7 @@ events_stop all es n i rest e =
 -- ---- streams
 
 -- no event names an unlisted pid, or the first that does stands at this line, one of these
-abbrev place_of : List Stream → ℕ → List Stream → List Line → Option (Pid × ℕ) → Type 0
+abbrev pub place_of : List Stream → ℕ → List Stream → List Line → Option (Pid × ℕ) → Type 0
 place_of all n ss rest None = unknown_from (pids_of all) n (flat_map process_lines ss ++ rest) ≡ unknown_from (pids_of all) (n + length (flat_map process_lines ss)) rest
 place_of all n ss rest (Some x) =
     (unknown_from (pids_of all) n (flat_map process_lines ss ++ rest) ≡ Some (faults.Unknown (line_at_place (λ q. length (events_of all q)) n (pids_of ss) x.0 x.1)))
@@ -112,7 +112,7 @@ or_true : (b : Bool) → (b || true) ≡ true
 or_true true = refl
 or_true false = refl
 
-streams_place : (all ss : List Stream) (n : ℕ) (rest : List Line) → AllByRecursion (λ s. events_of all s.pid ≡ s.events) ss → IsRising (pids_of ss) → place_of all n ss rest (unlisted_among all ss)
+pub streams_place : (all ss : List Stream) (n : ℕ) (rest : List Line) → AllByRecursion (λ s. events_of all s.pid ≡ s.events) ss → IsRising (pids_of ss) → place_of all n ss rest (unlisted_among all ss)
 unfolding unknown_from
 streams_place all [] n rest own rising = ap (λ k. unknown_from (pids_of all) k rest) (omega arith)
 streams_place all (x ∷ ss) n rest own rising = by (position (λ e. not (names_listed all e)) x.events) refl (streams_place all ss (n + 1 + length x.events) rest own.1 rising.1)
@@ -168,7 +168,7 @@ unknown_acts ps (a ∷ list) n j =
     by true more = refl
     by false more = more
 
-acts_place : (ss : List Stream) (o : Option (List Act)) (n : ℕ) → unknown_from (pids_of ss) n (act_lines o) ≡ place_or (unlisted_act ss o) (n + 1) None
+pub acts_place : (ss : List Stream) (o : Option (List Act)) (n : ℕ) → unknown_from (pids_of ss) n (act_lines o) ≡ place_or (unlisted_act ss o) (n + 1) None
 unfolding unknown_from
 acts_place ss None n = refl
 acts_place ss (Some list) n =

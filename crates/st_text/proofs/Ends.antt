@@ -1,9 +1,8 @@
 -- What is answered at the end of the bytes.
 use Rattle.std.proofs.Common.{◌≡◌, ℕ, suc, ◌^◌, ◌<◌, ◌≤◌, Bool, true, false, cond, eqb, List, [], ◌∷◌, ◌++◌, length, map, Option, Some, None, refl, sym, ap, subst, ◌∙◌, arith}
 use Rattle.std.specs.Prelude.{Result, Ok, Err}
-use Rattle.std.specs.List.{flat_map}
+use Rattle.std.specs.List.{flat_map, count_by}
 use Rattle.std.proofs.lemmas.List.{append-nil, length-append, length-map}
-use Rattle.std.proofs.lemmas.List.Concat.{flat_map-append}
 use Rattle.st_core.specs.declared.types.Event.{Event}
 use Rattle.st_core.specs.declared.types.Act.{Act}
 use Rattle.st_core.specs.Run.{Stream}
@@ -25,6 +24,7 @@ use Rattle.st_text.specs.Tail.{IsTail}
 use Rattle.st_text.specs.Holds.{HoldsAs}
 use Rattle.st_text.specs.Answer.{Answers, Reads}
 use Rattle.st_text.proofs.Cuts.{spelled_by, no_lines, fault_of_line, fault_truncated, fault_at_end, truncated_tail, truncated_nothing, truncated_none}
+use Rattle.st_text.proofs.Sound.{count-append, count-cons}
 use Rattle.st_text.proofs.Headers.{spelled_whole, body_fits}
 
 pub answers_err : (bytes : List ℕ) (f : ReadFault) → fault bytes ≡ Some f → Answers bytes (Err f)
@@ -73,27 +73,33 @@ end_nothing bytes long kept p e few h = fault_truncated bytes few h.1.good (trun
 
 -- ---- a bundle
 
-event_events : (es : List Event) → length (flat_map is_event (map lines.Event es)) ≡ length es
+event_events : (es : List Event) → count_by is_event (map lines.Event es) ≡ length es
 event_events [] = refl
-event_events (e ∷ es) = ap suc (event_events es)
+event_events (e ∷ es) = omega (arith, count-cons is_event (lines.Event e) (map lines.Event es), event_events es)
 
-act_events : (list : List Act) → flat_map is_event (map lines.Act list) ≡ []
+act_events : (list : List Act) → count_by is_event (map lines.Act list) ≡ 0
 act_events [] = refl
-act_events (a ∷ list) = act_events list
+act_events (a ∷ list) = omega (arith, count-cons is_event (lines.Act a) (map lines.Act list), act_events list)
 
-acts_events : (o : Option (List Act)) → flat_map is_event (act_lines o) ≡ []
+acts_events : (o : Option (List Act)) → count_by is_event (act_lines o) ≡ 0
 acts_events None = refl
-acts_events (Some list) = act_events list
+acts_events (Some list) = omega (arith, count-cons is_event lines.Acts (map lines.Act list), act_events list)
 
-stream_events : (ss : List Stream) → length (flat_map is_event (flat_map process_lines ss)) ≡ length (flat_map {X = Stream} {A = Event} (λ s. s.events) ss)
+abbrev pub all_of : List Stream → List Event
+all_of ss = flat_map {X = Stream} {A = Event} (λ s. s.events) ss
+
+stream_events : (ss : List Stream) → count_by is_event (flat_map process_lines ss) ≡ length (all_of ss)
 stream_events [] = refl
 stream_events (s ∷ ss) =
-    ap length (flat_map-append is_event (map lines.Event s.events) (flat_map process_lines ss))
-    ∙ omega (arith, length-append (flat_map is_event (map lines.Event s.events)) (flat_map is_event (flat_map process_lines ss)), event_events s.events, stream_events ss, length-append s.events (flat_map {X = Stream} {A = Event} (λ s. s.events) ss))
+    let split = count-append is_event (process_lines s) (flat_map process_lines ss) in
+    let first = count-cons is_event (lines.Process s.pid) (map lines.Event s.events) in
+    omega (arith, split, first, event_events s.events, stream_events ss, length-append s.events (all_of ss))
 
-all_events : (wide : Bool) (ss : List Stream) (o : Option (List Act)) → length (flat_map is_event (so_far wide ss o)) ≡ length (flat_map {X = Stream} {A = Event} (λ s. s.events) ss)
+pub all_events : (wide : Bool) (ss : List Stream) (o : Option (List Act)) → count_by is_event (so_far wide ss o) ≡ length (all_of ss)
 all_events wide ss o =
-    ap length (flat_map-append is_event (flat_map process_lines ss) (act_lines o) ∙ ap (λ (x : List Line). flat_map is_event (flat_map process_lines ss) ++ x) (acts_events o) ∙ append-nil (flat_map is_event (flat_map process_lines ss))) ∙ stream_events ss
+    let header = count-cons is_event (lines.Header wide) (flat_map process_lines ss ++ act_lines o) in
+    let split = count-append is_event (flat_map process_lines ss) (act_lines o) in
+    omega (arith, header, split, acts_events o, stream_events ss)
 
 acts_are : (o : Option (List Act)) → length (acts_of o) ≡ acts_len o
 acts_are None = refl
@@ -106,7 +112,7 @@ reads bytes ls p b few over said clean s fin =
     let says : sayings bytes ≡ map Some (lines.Header p.wide ∷ body (contents b)) = said ∙ ap (map Some) fin.lines in
     let spelled : bytes ≡ spelling (contents b) = spelled_whole bytes p.wide (contents b) says clean (ap closing_fault (sym fin.lines) ∙ fin.closes) (whole ∙ ap (flat_map ended) fin.lines) in
     let processes : length p.draft ≡ p.processes = omega (arith, s.processes_are, ap length s.pids_are, length-map p.draft (λ (x : Stream). x.pid)) in
-    let events : length (flat_map {X = Stream} {A = Event} (λ s. s.events) p.draft) ≡ p.events = sym (all_events p.wide p.draft p.acts) ∙ ap (λ (x : List Line). length (flat_map is_event x)) (sym s.lines) ∙ sym s.events_are in
+    let events : length (flat_map {X = Stream} {A = Event} (λ s. s.events) p.draft) ≡ p.events = sym (all_events p.wide p.draft p.acts) ∙ ap (λ (x : List Line). count_by is_event x) (sym s.lines) ∙ sym s.events_are in
     record {
       text = record {
         bundle = record { streams = fin.streams; listed = b.listed; fits = body_fits bytes p.wide (contents b) says };

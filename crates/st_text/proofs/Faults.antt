@@ -23,7 +23,7 @@ use Rattle.st_text.specs.Fault.{pids, last, last_passes, has_acts, may_follow, m
 pub fault_by : ℕ → Bool → Bool → Bool → Bool → Option ReadFault
 fault_by n stands out foreign many = cond (not stands) (Some (faults.Line n)) (cond out (Some (faults.Order n)) (cond foreign (Some (faults.Foreign n)) (cond many (Some (faults.TooMany n)) None)))
 
-stands_is : (ls b : List Line) (w begun : Bool) (o : Option Pid) (l : Line) → ls ≡ lines.Header w ∷ b → has_acts ls ≡ begun → last (pids ls) ≡ o → may_stand ls l ≡ (may_follow begun o l && (w || not (is_remote l)))
+pub stands_is : (ls b : List Line) (w begun : Bool) (o : Option Pid) (l : Line) → ls ≡ lines.Header w ∷ b → has_acts ls ≡ begun → last (pids ls) ≡ o → may_stand ls l ≡ (may_follow begun o l && (w || not (is_remote l)))
 stands_is ls b w begun o l e h p =
     ap (λ (x : List Line). may_stand x l) e ∙ rw (sym (ap has_acts e) ∙ h, sym (ap (λ (x : List Line). last (pids x)) e) ∙ p) refl
 

@@ -4,6 +4,7 @@
 -- ---- texts and faults
 pub use Rattle.st_text.proofs.One.{text_one}
 pub use Rattle.st_text.proofs.Whole.{text_sound}
+pub use Rattle.st_text.proofs.Readable.{readable}
 pub use Rattle.st_text.proofs.Cuts.{fault_too_large}
 
 -- ---- writing through a buffer

@@ -22,4 +22,6 @@ pub mod OfText
 pub mod Sound
 pub mod Whole
 pub mod One
+pub mod Readable
+pub mod First
 pub mod ForCallers

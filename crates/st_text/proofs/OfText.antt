@@ -1,7 +1,7 @@
 -- Device and TooLarge are faults of no text.
 use Rattle.std.proofs.Common.{◌≡◌, ℕ, ◌+◌, ◌≤◌, Bool, true, false, not, cond, List, [], ◌∷◌, ◌++◌, length, Option, Some, None, subst, nat_lt, eqb, ◌&&◌, arith}
 use Rattle.std.specs.Prelude.{Result, Ok, Err}
-use Rattle.std.specs.List.{list_any, flat_map}
+use Rattle.std.specs.List.{list_any, count_by}
 use Rattle.std.proofs.lemmas.Bool.Decides.{nat_tests}
 use Rattle.st_text.specs.declared.bundle.Bundle.{Bundle}
 use Rattle.st_core.specs.declared.types.Pid.{Pid}
@@ -42,7 +42,7 @@ line_of_text ls (Some l) =
     test_of (not (may_stand ls l)) _ _ tt
     (test_of (is_out_of_order (last (pids ls)) l) _ _ tt
     (test_of (is_foreign (last (pids ls)) l) _ _ tt
-    (test_of (is_one_too_many (length (pids ls)) (length (flat_map is_event ls)) (length (flat_map is_act ls)) l) _ _ tt tt)))
+    (test_of (is_one_too_many (length (pids ls)) (count_by is_event ls) (count_by is_act ls) l) _ _ tt tt)))
 
 first_of_text : (ls : List Line) (rs : List (Option Line)) → AllOfText (first_fault ls rs)
 unfolding first_fault

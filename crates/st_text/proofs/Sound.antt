@@ -1,10 +1,11 @@
 -- The lines of a readable bundle have no fault.
-use Rattle.std.proofs.Common.{◌≡◌, ℕ, ◌+◌, ◌-◌, ◌≤◌, Bool, true, false, not, ◌||◌, leb, List, [], ◌∷◌, ◌++◌, length, map, Option, Some, None, refl, sym, ap, subst, ◌∙◌, append_assoc, arith}
-use Rattle.std.specs.List.{list_any, flat_map, AllByRecursion, slice_get}
+use Rattle.std.proofs.Common.{◌≡◌, ℕ, ◌+◌, ◌-◌, ◌≤◌, Bool, true, false, not, ◌||◌, cond, leb, List, [], ◌∷◌, ◌++◌, length, map, Option, Some, None, refl, sym, ap, subst, ◌∙◌, append_assoc, arith}
+use Rattle.std.specs.List.{list_any, flat_map, count_by, AllByRecursion, slice_get}
 use Rattle.std.proofs.lemmas.Bool.Decides.{nat_tests}
 use Rattle.std.proofs.lemmas.List.{length-append, length_push, append-nil}
 use Rattle.std.proofs.lemmas.List.Concat.{flat_map-append}
 use Rattle.std.proofs.lemmas.List.Folds.{list_any-append}
+use Rattle.std.proofs.lemmas.List.Sums.{sum_by-append, sum_by-cons}
 use Rattle.st_core.specs.declared.types.Pid.{Pid}
 use Rattle.st_core.specs.declared.types.Event.{Event}
 use Rattle.st_core.specs.declared.types.Act.{Act}
@@ -21,22 +22,28 @@ use Rattle.st_text.specs.Fault.{first_fault, line_fault, fault_at, may_stand, ma
 pub record Came (ls : List Line) (wide : Bool) (ps : List Pid) (events acts : ℕ) (begun : Bool) : Type 0 where
   pub header : (first : Line) × (more : List Line) × (ls ≡ first ∷ more) × (is_wide first ≡ wide)
   pub pids_are : pids ls ≡ ps
-  pub event_count : length (flat_map is_event ls) ≡ events
-  pub act_count : length (flat_map is_act ls) ≡ acts
+  pub event_count : count_by is_event ls ≡ events
+  pub act_count : count_by is_act ls ≡ acts
   pub begun_is : has_acts ls ≡ begun
 
 pub or_false : (b : Bool) → (b || false) ≡ b
 or_false true = refl
 or_false false = refl
 
+pub count-append : (f : Line → Bool) (a b : List Line) → count_by f (a ++ b) ≡ count_by f a + count_by f b
+count-append f a b = sum_by-append (λ x. cond (f x) 1 0) a b
+
+pub count-cons : (f : Line → Bool) (l : Line) (ls : List Line) → count_by f (l ∷ ls) ≡ cond (f l) 1 0 + count_by f ls
+count-cons f l ls = sum_by-cons (λ x. cond (f x) 1 0) l ls
+
 came_more : (ls : List Line) (wide : Bool) (ps : List Pid) (events acts : ℕ) (begun : Bool) (l : Line) → Came ls wide ps events acts begun
-    → Came (ls ++ l ∷ []) wide (ps ++ flat_map pid_of (l ∷ [])) (events + length (flat_map is_event (l ∷ []))) (acts + length (flat_map is_act (l ∷ []))) (begun || (is_acts l || false))
+    → Came (ls ++ l ∷ []) wide (ps ++ flat_map pid_of (l ∷ [])) (events + count_by is_event (l ∷ [])) (acts + count_by is_act (l ∷ [])) (begun || (is_acts l || false))
 came_more ls wide ps events acts begun l c =
     record {
       header = (c.header.0, c.header.1 ++ l ∷ [], ap (λ (x : List Line). x ++ l ∷ []) c.header.2, c.header.3);
       pids_are = flat_map-append pid_of ls (l ∷ []) ∙ ap (λ (x : List Pid). x ++ flat_map pid_of (l ∷ [])) c.pids_are;
-      event_count = ap length (flat_map-append is_event ls (l ∷ [])) ∙ length-append (flat_map is_event ls) (flat_map is_event (l ∷ [])) ∙ ap (λ (n : ℕ). n + length (flat_map is_event (l ∷ []))) c.event_count;
-      act_count = ap length (flat_map-append is_act ls (l ∷ [])) ∙ length-append (flat_map is_act ls) (flat_map is_act (l ∷ [])) ∙ ap (λ (n : ℕ). n + length (flat_map is_act (l ∷ []))) c.act_count;
+      event_count = count-append is_event ls (l ∷ []) ∙ ap (λ (n : ℕ). n + count_by is_event (l ∷ [])) c.event_count;
+      act_count = count-append is_act ls (l ∷ []) ∙ ap (λ (n : ℕ). n + count_by is_act (l ∷ [])) c.act_count;
       begun_is = list_any-append is_acts ls (l ∷ []) ∙ ap (λ (b : Bool). b || (is_acts l || false)) c.begun_is;
     }
 

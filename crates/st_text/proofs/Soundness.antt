@@ -1,10 +1,11 @@
 -- One more good line, and what is kept of it.
 use Rattle.std.proofs.Common.{◌≡◌, ℕ, suc, ◌+◌, ◌-◌, Bool, true, false, ◌||◌, cond, List, [], ◌∷◌, ◌++◌, length, map, Some, None, refl, sym, ap, subst, ◌∙◌, append_assoc, arith}
 use Rattle.std.specs.Prelude.{is_some}
-use Rattle.std.specs.List.{flat_map, list_any, slice_get, AllByRecursion}
+use Rattle.std.specs.List.{flat_map, count_by, list_any, slice_get, AllByRecursion}
 use Rattle.std.proofs.lemmas.List.{append-nil, length-append, length_push, map-append}
 use Rattle.std.proofs.lemmas.List.Concat.{flat_map-append}
 use Rattle.std.proofs.lemmas.List.Folds.{list_any-append}
+use Rattle.std.proofs.lemmas.List.Sums.{sum_by_push}
 use Rattle.st_core.specs.declared.types.Pid.{Pid}
 use Rattle.st_core.specs.declared.types.Event.{Event}
 use Rattle.st_core.specs.declared.types.Act.{Act}
@@ -36,30 +37,30 @@ last_push xs x =
 pub pids_push : (ls : List Line) (l : Line) → pids (ls ++ l ∷ []) ≡ pids ls ++ pid_of l
 pids_push ls l = flat_map-append pid_of ls (l ∷ []) ∙ ap (λ (x : List Pid). pids ls ++ x) (append-nil (pid_of l))
 
-pub kind_push : (f : Line → List Line) (ls : List Line) (l : Line) → length (flat_map f (ls ++ l ∷ [])) ≡ length (flat_map f ls) + length (f l)
-kind_push f ls l = ap length (flat_map-append f ls (l ∷ []) ∙ ap (λ (x : List Line). flat_map f ls ++ x) (append-nil (f l))) ∙ length-append (flat_map f ls) (f l)
+pub count_push : (f : Line → Bool) (ls : List Line) (l : Line) → count_by f (ls ++ l ∷ []) ≡ count_by f ls + cond (f l) 1 0
+count_push f ls l = sum_by_push (λ x. cond (f x) 1 0) ls l
 
 pub any_push : (f : Line → Bool) (ls : List Line) (l : Line) → list_any f (ls ++ l ∷ []) ≡ (list_any f ls || f l)
 any_push f ls l = list_any-append f ls (l ∷ []) ∙ ap (λ b. list_any f ls || b) (or_false (f l))
 
 -- ---- lines so far
 
-so_far_open : (wide : Bool) (ss : List Stream) (q : Pid) → so_far wide (ss ++ record { pid = q; events = [] } ∷ []) None ≡ so_far wide ss None ++ lines.Process q ∷ []
+pub so_far_open : (wide : Bool) (ss : List Stream) (q : Pid) → so_far wide (ss ++ record { pid = q; events = [] } ∷ []) None ≡ so_far wide ss None ++ lines.Process q ∷ []
 so_far_open wide ss q =
     let more : flat_map process_lines (ss ++ record { pid = q; events = [] } ∷ []) ≡ flat_map process_lines ss ++ lines.Process q ∷ [] = flat_map-append process_lines ss (record { pid = q; events = [] } ∷ []) in
     ap (λ (x : List Line). lines.Header wide ∷ x) (append-nil (flat_map process_lines (ss ++ record { pid = q; events = [] } ∷ [])) ∙ more ∙ ap (λ (x : List Line). x ++ lines.Process q ∷ []) (sym (append-nil (flat_map process_lines ss))))
 
-so_far_begin : (wide : Bool) (ss : List Stream) → so_far wide ss (Some []) ≡ so_far wide ss None ++ lines.Acts ∷ []
+pub so_far_begin : (wide : Bool) (ss : List Stream) → so_far wide ss (Some []) ≡ so_far wide ss None ++ lines.Acts ∷ []
 so_far_begin wide ss = ap (λ (x : List Line). lines.Header wide ∷ x ++ lines.Acts ∷ []) (sym (append-nil (flat_map process_lines ss)))
 
-so_far_act : (wide : Bool) (ss : List Stream) (list : List Act) (a : Act) → so_far wide ss (Some (list ++ a ∷ [])) ≡ so_far wide ss (Some list) ++ lines.Act a ∷ []
+pub so_far_act : (wide : Bool) (ss : List Stream) (list : List Act) (a : Act) → so_far wide ss (Some (list ++ a ∷ [])) ≡ so_far wide ss (Some list) ++ lines.Act a ∷ []
 so_far_act wide ss list a =
     ap (λ (x : List Line). lines.Header wide ∷ flat_map process_lines ss ++ lines.Acts ∷ x) (map-append lines.Act list (a ∷ []))
     ∙ sym (append_assoc (lines.Header wide ∷ flat_map process_lines ss) (lines.Acts ∷ map lines.Act list) (lines.Act a ∷ []))
 
 -- ---- one more event
 
-last_cons : (p q : Pid) (ps : List Pid) → last (p ∷ q ∷ ps) ≡ last (q ∷ ps)
+pub last_cons : (p q : Pid) (ps : List Pid) → last (p ∷ q ∷ ps) ≡ last (q ∷ ps)
 last_cons p q ps =
     let n : length (p ∷ q ∷ ps) - 1 ≡ length (q ∷ ps) - 1 + 1 = omega arith in
     rw n (at (length (q ∷ ps) - 1))
@@ -95,11 +96,11 @@ same_pid p e x = by (pid_eq x.pid p)
     by true = refl
     by false = refl
 
-added_pids : (ss : List Stream) (p : Pid) (e : Event) → pids_of (added ss p e) ≡ pids_of ss
+pub added_pids : (ss : List Stream) (p : Pid) (e : Event) → pids_of (added ss p e) ≡ pids_of ss
 added_pids [] p e = refl
 added_pids (x ∷ ss) p e = ap (λ (q : Pid). q ∷ pids_of (added ss p e)) (same_pid p e x) ∙ ap (λ (ps : List Pid). x.pid ∷ ps) (added_pids ss p e)
 
-so_far_event : (wide : Bool) (ss : List Stream) (p : Pid) (e : Event) → IsRising (pids_of ss) → last (pids_of ss) ≡ Some p → so_far wide (added ss p e) None ≡ so_far wide ss None ++ lines.Event e ∷ []
+pub so_far_event : (wide : Bool) (ss : List Stream) (p : Pid) (e : Event) → IsRising (pids_of ss) → last (pids_of ss) ≡ Some p → so_far wide (added ss p e) None ≡ so_far wide ss None ++ lines.Event e ∷ []
 so_far_event wide ss p e rising at =
     ap (λ (x : List Line). lines.Header wide ∷ x) (append-nil (flat_map process_lines (added ss p e)) ∙ added_lines ss p e rising at ∙ ap (λ (x : List Line). x ++ lines.Event e ∷ []) (sym (append-nil (flat_map process_lines ss))))
 
@@ -121,8 +122,8 @@ sound_open p n ls q s none wide acts draft at count processes events remote abov
       pids_are = pids_are ∙ sym new_pids;
       last_is = at ∙ sym (ap last pids_are ∙ last_push (pids_of p.draft) q);
       processes_are = omega (arith, processes, s.processes_are, ap length (pids_push ls (lines.Process q)), length_push (pids ls) q);
-      events_are = omega (arith, events, s.events_are, kind_push is_event ls (lines.Process q));
-      acts_are = omega (arith, ap acts_len acts, s.acts_are, kind_push is_act ls (lines.Process q));
+      events_are = omega (arith, events, s.events_are, count_push is_event ls (lines.Process q));
+      acts_are = omega (arith, ap acts_len acts, s.acts_are, count_push is_act ls (lines.Process q));
       begun_is = ap is_some acts ∙ s.begun_is ∙ sym (any_push is_acts ls (lines.Process q) ∙ or_false (has_acts ls));
       remote_is = remote ∙ ap (λ b. b || is_away q) s.remote_is ∙ ap (λ b. list_any is_remote ls || b) (sym (or_false (is_away q))) ∙ sym (any_push is_remote ls (lines.Process q));
       wide_is = wide ∙ s.wide_is ∙ sym (any_push is_wide ls (lines.Process q) ∙ or_false (list_any is_wide ls));
@@ -141,8 +142,8 @@ sound_event p n ls q e s none last_pid wide acts draft at count processes events
       pids_are = same ∙ s.pids_are ∙ sym new_pids;
       last_is = at ∙ s.last_is ∙ ap last (sym same);
       processes_are = processes ∙ s.processes_are ∙ ap length (sym same);
-      events_are = omega (arith, events, s.events_are, kind_push is_event ls (lines.Event e));
-      acts_are = omega (arith, ap acts_len acts, s.acts_are, kind_push is_act ls (lines.Event e));
+      events_are = omega (arith, events, s.events_are, count_push is_event ls (lines.Event e));
+      acts_are = omega (arith, ap acts_len acts, s.acts_are, count_push is_act ls (lines.Event e));
       begun_is = ap is_some acts ∙ s.begun_is ∙ sym (any_push is_acts ls (lines.Event e) ∙ or_false (has_acts ls));
       remote_is = remote ∙ ap (λ b. b || is_event_remote e) s.remote_is ∙ sym (any_push is_remote ls (lines.Event e));
       wide_is = wide ∙ s.wide_is ∙ sym (any_push is_wide ls (lines.Event e) ∙ or_false (list_any is_wide ls));
@@ -159,8 +160,8 @@ sound_begin p n ls s none wide acts draft at count processes events remote =
       pids_are = same ∙ s.pids_are ∙ ap pids_of (sym draft);
       last_is = at ∙ s.last_is ∙ ap last (sym same);
       processes_are = processes ∙ s.processes_are ∙ ap length (sym same);
-      events_are = omega (arith, events, s.events_are, kind_push is_event ls lines.Acts);
-      acts_are = omega (arith, ap acts_len acts, ap acts_len none, s.acts_are, kind_push is_act ls lines.Acts);
+      events_are = omega (arith, events, s.events_are, count_push is_event ls lines.Acts);
+      acts_are = omega (arith, ap acts_len acts, ap acts_len none, s.acts_are, count_push is_act ls lines.Acts);
       begun_is = ap is_some acts ∙ sym (any_push is_acts ls lines.Acts ∙ or_true (has_acts ls));
       remote_is = remote ∙ s.remote_is ∙ sym (any_push is_remote ls lines.Acts ∙ or_false (list_any is_remote ls));
       wide_is = wide ∙ s.wide_is ∙ sym (any_push is_wide ls lines.Acts ∙ or_false (list_any is_wide ls));
@@ -181,8 +182,8 @@ sound_act p n ls list a s some wide acts draft at count processes events remote 
       pids_are = same ∙ s.pids_are ∙ ap pids_of (sym draft);
       last_is = at ∙ s.last_is ∙ ap last (sym same);
       processes_are = processes ∙ s.processes_are ∙ ap length (sym same);
-      events_are = omega (arith, events, s.events_are, kind_push is_event ls (lines.Act a));
-      acts_are = omega (arith, ap acts_len acts, ap acts_len some, s.acts_are, kind_push is_act ls (lines.Act a), length_push list a);
+      events_are = omega (arith, events, s.events_are, count_push is_event ls (lines.Act a));
+      acts_are = omega (arith, ap acts_len acts, ap acts_len some, s.acts_are, count_push is_act ls (lines.Act a), length_push list a);
       begun_is = ap is_some acts ∙ sym (ap is_some some) ∙ s.begun_is ∙ sym (any_push is_acts ls (lines.Act a) ∙ or_false (has_acts ls));
       remote_is = remote ∙ ap (λ b. b || is_act_remote a) s.remote_is ∙ sym (any_push is_remote ls (lines.Act a));
       wide_is = wide ∙ s.wide_is ∙ sym (any_push is_wide ls (lines.Act a) ∙ or_false (list_any is_wide ls));

@@ -246,7 +246,7 @@ narrow_body c = all-append (λ l. is_wide l ≡ false) (flat_map process_lines c
     acts_all None = tt
     acts_all (Some list) = (refl, list_acts list)
 
-process_pids : (ss : List Stream) → flat_map pid_of (flat_map process_lines ss) ≡ pids_of ss
+pub process_pids : (ss : List Stream) → flat_map pid_of (flat_map process_lines ss) ≡ pids_of ss
 process_pids [] = refl
 process_pids (s ∷ ss) =
     flat_map-append pid_of (process_lines s) (flat_map process_lines ss)
@@ -257,7 +257,7 @@ process_pids (s ∷ ss) =
     none [] = refl
     none (e ∷ es) = none es
 
-act_pids : (o : Option (List Act)) → flat_map pid_of (act_lines o) ≡ []
+pub act_pids : (o : Option (List Act)) → flat_map pid_of (act_lines o) ≡ []
 act_pids None = refl
 act_pids (Some list) = none list
   where

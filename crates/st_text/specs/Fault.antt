@@ -2,7 +2,7 @@
 -- In order: too many bytes; the first faulty line; bytes behind the last newline, or none at all; a needless header 2;
 -- the first line that names an unlisted pid.
 use Rattle.std.specs.Prelude.{ℕ, ◌+◌, ◌-◌, Bool, true, false, not, ◌&&◌, ◌||◌, List, [], ◌∷◌, ◌++◌, length, map, Option, Some, None, nat_lt, nat_le, ◌==◌, if◌then◌else◌, option_to_list}
-use Rattle.std.specs.List.{flat_map, list_any, list_all, slice_get}
+use Rattle.std.specs.List.{flat_map, count_by, list_any, list_all, slice_get}
 use Rattle.std.specs.Ordering.{is_lt}
 use Rattle.st_core.specs.declared.types.Pid.{Pid}
 use Rattle.st_core.specs.Pid.{pid_cmp}
@@ -37,13 +37,13 @@ abbrev pub pid_of : Line → List Pid
 pid_of (lines.Process p) = p ∷ []
 pid_of l = []
 
-abbrev pub is_event : Line → List Line
-is_event (lines.Event e) = lines.Event e ∷ []
-is_event l = []
+abbrev pub is_event : Line → Bool
+is_event (lines.Event e) = true
+is_event l = false
 
-abbrev pub is_act : Line → List Line
-is_act (lines.Act a) = lines.Act a ∷ []
-is_act l = []
+abbrev pub is_act : Line → Bool
+is_act (lines.Act a) = true
+is_act l = false
 
 abbrev pub is_acts : Line → Bool
 is_acts lines.Acts = true
@@ -110,7 +110,7 @@ fault_at n ls l =
     if not (may_stand ls l) then Some (faults.Line n)
     else (if is_out_of_order (last (pids ls)) l then Some (faults.Order n)
     else (if is_foreign (last (pids ls)) l then Some (faults.Foreign n)
-    else (if is_one_too_many (length (pids ls)) (length (flat_map is_event ls)) (length (flat_map is_act ls)) l then Some (faults.TooMany n) else None)))
+    else (if is_one_too_many (length (pids ls)) (count_by is_event ls) (count_by is_act ls) l then Some (faults.TooMany n) else None)))
 
 -- the same of bytes that may say no line; lines count from 1
 unfoldable pub line_fault : List Line → Option Line → Option ReadFault

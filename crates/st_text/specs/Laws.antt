@@ -1,5 +1,7 @@
 -- Laws of the text form, each the contract of a function of `laws`.
-use Rattle.std.specs.Prelude.{◌≡◌, ℕ, List, Some, None, Result, Ok, Err}
+use Rattle.std.specs.Prelude.{◌≡◌, ℕ, ◌+◌, Bool, true, false, List, [], ◌∷◌, ◌++◌, length, map, Option, Some, None, Result, Ok, Err}
+use Rattle.std.specs.List.{list_any}
+use Rattle.st_core.specs.declared.types.Pid.{Pid}
 use Rattle.st_text.specs.declared.line.Line.{Line}
 use Rattle.st_text.specs.declared.bundle.Bundle.{Bundle}
 use Rattle.st_text.specs.declared.fault.ReadFault.{ReadFault}
@@ -9,7 +11,7 @@ use Rattle.st_text.specs.Range.{Fits}
 use Rattle.st_text.specs.Reading.{line_of}
 use Rattle.st_text.specs.Text.{Contents, spelling, IsBundle, IsText, IsWithin}
 use Rattle.st_text.specs.Contents.{contents}
-use Rattle.st_text.specs.Fault.{fault}
+use Rattle.st_text.specs.Fault.{line_fault, first_fault, is_unknown, unknown_from, fault}
 use Rattle.st_text.specs.Answer.{Reads, Answers}
 
 -- what is read from the bytes of a line is spelled so
@@ -27,6 +29,37 @@ TextIsOne = (bytes : List ℕ) (c d : Contents) → IsText bytes c → IsText by
 -- the text of a bundle within the limits has no fault
 abbrev pub TextHasNoFault : Type 0
 TextHasNoFault = (bytes : List ℕ) (c : Contents) → Reads bytes c → fault bytes ≡ None
+
+-- bytes without a fault are the text of a bundle within the limits
+abbrev pub NoFaultIsText : Type 0
+NoFaultIsText = (bytes : List ℕ) → fault bytes ≡ None → (c : Contents) × Reads bytes c
+
+-- the lines before are good, and the next one has the fault
+pub record FailsFirst (rs : List (Option Line)) (f : ReadFault) : Type 0 where
+  pub before : List Line
+  pub here : Option Line
+  pub after : List (Option Line)
+  pub lines : rs ≡ map Some before ++ here ∷ after
+  pub good : first_fault [] (map Some before) ≡ None
+  pub fault : line_fault before here ≡ Some f
+
+-- the fault of lines is that of the first faulty one
+abbrev pub FaultIsFirst : Type 0
+FaultIsFirst = (rs : List (Option Line)) (f : ReadFault) → first_fault [] rs ≡ Some f → FailsFirst rs f
+
+-- the first line that names an unlisted pid, of these from number n on
+pub record IsFirstUnknown (ps : List Pid) (n : ℕ) (ls : List Line) (f : ReadFault) : Type 0 where
+  pub before : List Line
+  pub here : Line
+  pub after : List Line
+  pub lines : ls ≡ before ++ here ∷ after
+  pub known : list_any (is_unknown ps) before ≡ false
+  pub unknown : is_unknown ps here ≡ true
+  pub fault : f ≡ faults.Unknown (n + length before)
+
+-- an unlisted pid is told of the first line that names one
+abbrev pub UnknownIsFirst : Type 0
+UnknownIsFirst = (ps : List Pid) (ls : List Line) (f : ReadFault) → unknown_from ps 1 ls ≡ Some f → IsFirstUnknown ps 1 ls f
 
 -- an answer is this bundle, or want of memory
 abbrev pub IsReadBack : Contents → Result Bundle ReadFault → Type 0

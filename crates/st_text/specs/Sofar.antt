@@ -1,6 +1,6 @@
 -- What a text under way has come to: the lines from the header on, all good, and what is kept of them.
 use Rattle.std.specs.Prelude.{◌≡◌, Bool, List, [], ◌∷◌, ◌++◌, length, Option, Some, None, is_some}
-use Rattle.std.specs.List.{flat_map, list_any}
+use Rattle.std.specs.List.{count_by, list_any}
 use Rattle.st_core.specs.declared.types.Act.{Act}
 use Rattle.st_core.specs.Pid.{IsRising}
 use Rattle.st_core.specs.Run.{Stream, pids_of}
@@ -24,8 +24,8 @@ pub record IsSound (p : Progress) (ls : List Line) : Type 0 where
   pub pids_are : pids ls ≡ pids_of p.draft
   pub last_is : p.last ≡ last (pids ls)
   pub processes_are : p.processes ≡ length (pids ls)
-  pub events_are : p.events ≡ length (flat_map is_event ls)
-  pub acts_are : acts_len p.acts ≡ length (flat_map is_act ls)
+  pub events_are : p.events ≡ count_by is_event ls
+  pub acts_are : acts_len p.acts ≡ count_by is_act ls
   pub begun_is : is_some p.acts ≡ has_acts ls
   pub remote_is : p.remote ≡ list_any is_remote ls
   pub wide_is : p.wide ≡ list_any is_wide ls

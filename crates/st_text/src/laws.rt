@@ -1,6 +1,7 @@
 //! Laws of the definitions. The functions do nothing: their contracts are the laws.
 
-ghost use Rattle.st_text.specs.Laws.{ReadIsSpelled, SpelledIsRead, TextIsOne, TextHasNoFault, WrittenIsRead};
+ghost use Rattle.st_text.specs.Laws.{ReadIsSpelled, SpelledIsRead, TextIsOne, TextHasNoFault, NoFaultIsText};
+ghost use Rattle.st_text.specs.Laws.{FaultIsFirst, UnknownIsFirst, WrittenIsRead};
 
 /// One line is read exactly as it is spelled.
 pub fn line_is_read_as_spelled()
@@ -16,6 +17,17 @@ pub fn text_is_one()
 /// The text of a bundle within the limits has no fault.
 pub fn text_has_no_fault()
     ensures { TextHasNoFault }
+{}
+
+/// Bytes without a fault are the text of a bundle within the limits: each byte string is one or has a fault, and not both.
+pub fn text_or_fault()
+    ensures { NoFaultIsText }
+{}
+
+/// The fault of lines is that of the first faulty one, and an unlisted pid is told of the first line that names one.
+pub fn fault_is_first()
+    ensures line { FaultIsFirst }
+    ensures unknown { UnknownIsFirst }
 {}
 
 /// What is written of a bundle within the limits is read as that bundle.
