@@ -1,0 +1,159 @@
+-- Worked cases: the definitions computed. Nothing cites this file; it shows that the definitions say what is meant.
+use Rattle.std.specs.Prelude.{◌≡◌, ℕ, Bool, true, false, List, [], ◌∷◌, map, Option, Some, None, refl}
+use Rattle.st_core.specs.declared.types.Pid.{Pid}
+use Rattle.st_core.specs.declared.types.Event.{Event}
+use Rattle.st_core.specs.declared.types.Kind.TheVariants as kind
+use Rattle.st_core.specs.Pid.{pid_on}
+use Rattle.st_core.specs.Run.{Stream}
+use Rattle.st_pair.specs.declared.answer.PairFault.TheVariants as fault
+use Rattle.st_pair.specs.declared.answer.Source.TheVariants as source
+use Rattle.st_pair.specs.Pairing.{refusal, source_at, receiver_at}
+
+abbrev pub sent : ℕ → ℕ → ℕ → Pid → Pid → ℕ → Event
+sent n prev this p q v = record {
+  label = record { 0 = n };
+  kind = kind.Send;
+  serial = record { prev = prev; this = this };
+  from = p;
+  to = Some q;
+  value = v;
+}
+
+abbrev pub got : ℕ → ℕ → ℕ → Pid → Pid → ℕ → Event
+got n prev this p q v = record {
+  label = record { 0 = n };
+  kind = kind.Receive;
+  serial = record { prev = prev; this = this };
+  from = p;
+  to = Some q;
+  value = v;
+}
+
+abbrev pub printed : ℕ → ℕ → ℕ → Pid → ℕ → Event
+printed n prev this p v = record {
+  label = record { 0 = n };
+  kind = kind.Print;
+  serial = record { prev = prev; this = this };
+  from = p;
+  to = None;
+  value = v;
+}
+
+abbrev pub a : Pid
+a = pid_on 0 30
+
+abbrev pub b : Pid
+b = pid_on 0 31
+
+abbrev pub c : Pid
+c = pid_on 0 32
+
+abbrev pub of : Pid → List Event → Stream
+of p es = record { pid = p; events = es }
+
+-- the vector 'Hidden sends'
+abbrev pub hidden_sends : List Stream
+hidden_sends = of a (printed 17 0 1 a 7 ∷ got 17 2 4 b a 6 ∷ []) ∷ of b
+    (got 17 0 2 a b 5 ∷ printed 17 2 3 b 8 ∷ []) ∷ []
+
+hidden_paired : refusal hidden_sends ≡ None
+hidden_paired = refl
+
+hidden_source : source_at hidden_sends a 1 ≡ Some source.Hidden
+hidden_source = refl
+
+-- the vector 'Not replayed'
+abbrev pub not_replayed : List Stream
+not_replayed = of a [] ∷ of b (got 1 0 2 a b 5 ∷ got 1 0 1 c b 4 ∷ printed 1 1 2 b 9 ∷ []) ∷ of c [] ∷ []
+
+not_replayed_paired : refusal not_replayed ≡ None
+not_replayed_paired = refl
+
+-- each reason, and the order of the reasons
+prev_first : refusal (of a (printed 1 0 5 a 1 ∷ printed 1 0 5 a 1 ∷ printed 1 5 5 a 1 ∷ []) ∷ [])
+    ≡ Some (fault.PrevNotBefore a 2)
+prev_first = refl
+
+abbrev pub falling : List Stream
+falling = of a (printed 1 0 5 a 1 ∷ printed 1 0 6 a 1 ∷ got 1 0 3 b a 1 ∷ printed 1 0 6 a 1 ∷ []) ∷ of b [] ∷ []
+
+rising_last : refusal falling ≡ Some (fault.NotRising a 3 1)
+rising_last = refl
+
+repeated_twice : refusal (of a (got 1 0 3 b a 1 ∷ []) ∷ of b (got 1 0 3 b b 2 ∷ got 1 0 3 b b 2 ∷ []) ∷ [])
+    ≡ Some (fault.Repeated b 0 a 0)
+repeated_twice = refl
+
+mismatched : refusal (of a (got 1 0 3 b a 1 ∷ []) ∷ of b (printed 1 0 2 b 1 ∷ sent 1 2 3 b a 1 ∷ []) ∷ [])
+    ≡ Some (fault.Mismatch a 0 b 1)
+mismatched = refl
+
+reset_repeats : refusal (of a [] ∷ of b (got 17 0 1 a b 5 ∷ got 17 0 1 a b 5 ∷ []) ∷ [])
+    ≡ Some (fault.Repeated b 1 b 0)
+reset_repeats = refl
+
+-- a paired send
+abbrev matched : List Stream
+matched = of a (got 1 2 3 b a 1 ∷ []) ∷ of b (printed 1 0 2 b 1 ∷ sent 1 2 3 b a 1 ∷ []) ∷ []
+
+matched_source : source_at matched a 0 ≡ Some (source.Event b 1)
+matched_source = refl
+
+matched_receiver : receiver_at matched b 1 ≡ Some (a, 0)
+matched_receiver = refl
+
+-- a send has no source, and a receive no receiver
+matched_no_source : source_at matched b 1 ≡ None
+matched_no_source = refl
+
+matched_no_receiver : receiver_at matched a 0 ≡ None
+matched_no_receiver = refl
+
+-- a print with its count is not the send of a receive, whatever else is equal
+printed_count : refusal (of a (printed 17 0 1 a 5 ∷ []) ∷ of b (got 17 0 1 a b 5 ∷ []) ∷ [])
+    ≡ Some (fault.Mismatch b 0 a 0)
+printed_count = refl
+
+-- nor is a send of another label, prev, receiver or value
+abbrev pub beside : Event → List Stream
+beside f = of a (f ∷ []) ∷ of b (got 17 0 1 a b 5 ∷ []) ∷ of c [] ∷ []
+
+other_label : refusal (beside (sent 18 0 1 a b 5)) ≡ Some (fault.Mismatch b 0 a 0)
+other_label = refl
+
+other_prev : refusal (of a (sent 17 1 2 a b 5 ∷ []) ∷ of b (got 17 0 2 a b 5 ∷ []) ∷ [])
+    ≡ Some (fault.Mismatch b 0 a 0)
+other_prev = refl
+
+other_receiver : refusal (beside (sent 17 0 1 a c 5)) ≡ Some (fault.Mismatch b 0 a 0)
+other_receiver = refl
+
+other_value : refusal (beside (sent 17 0 1 a b 6)) ≡ Some (fault.Mismatch b 0 a 0)
+other_value = refl
+
+no_other : refusal (beside (sent 17 0 1 a b 5)) ≡ None
+no_other = refl
+
+-- one stamp received by two processes: the second is named, with the first
+repeated_elsewhere : refusal (of a [] ∷ of b (got 17 0 1 a b 5 ∷ []) ∷ of c (got 17 0 1 a c 5 ∷ []) ∷ [])
+    ≡ Some (fault.Repeated c 0 b 0)
+repeated_elsewhere = refl
+
+-- two processes that receive the same count from themselves repeat nothing, and both sends are hidden
+abbrev pub self_sends : List Stream
+self_sends = of a (got 17 0 1 a a 5 ∷ []) ∷ of b (got 17 0 1 b b 5 ∷ []) ∷ []
+
+self_sends_paired : refusal self_sends ≡ None
+self_sends_paired = refl
+
+self_sends_hidden : source_at self_sends b 0 ≡ Some source.Hidden
+self_sends_hidden = refl
+
+-- a low count of a receive is no reason
+low_receive : refusal (of a (printed 17 0 5 a 1 ∷ got 17 0 3 b a 1 ∷ printed 17 3 6 a 1 ∷ []) ∷ of b [] ∷ []) ≡ None
+low_receive = refl
+
+-- PrevNotBefore at a later place comes before NotRising
+prev_before_rising : refusal (of a (printed 17 0 2 a 1 ∷ printed 17 0 1 a 1 ∷ printed 17 3 3 a 1 ∷ []) ∷ [])
+    ≡ Some (fault.PrevNotBefore a 2)
+prev_before_rising = refl

@@ -1,0 +1,8 @@
+pub mod Noted
+pub mod Firsts
+pub mod Owned
+pub mod Ruled
+pub mod Linkage
+pub mod Accepted
+mod Cases
+pub mod ForCallers

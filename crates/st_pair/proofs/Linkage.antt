@@ -1,0 +1,225 @@
+-- What a pairing's links say of its streams.
+use Rattle.std.proofs.Common.{
+  ◌≡◌,
+  ℕ,
+  ◌+◌,
+  ◌<◌,
+  zero,
+  suc,
+  true,
+  false,
+  cond,
+  if◌then◌else◌,
+  List,
+  [],
+  ◌∷◌,
+  ◌++◌,
+  length,
+  map,
+  take,
+  find,
+  get_or,
+  Option,
+  None,
+  Some,
+  slice_get,
+  option_map,
+  option_and_then,
+  refl,
+  sym,
+  ◌∙◌,
+  ap,
+  subst,
+  arith,
+}
+use Rattle.std.specs.List.{AllByRecursion}
+use Rattle.std.proofs.lemmas.List.{get_or_default}
+use Rattle.std.proofs.lemmas.Option.{same_Some}
+use Rattle.st_core.specs.declared.types.Pid.{Pid}
+use Rattle.st_core.specs.declared.types.Kind.TheVariants as kind
+use Rattle.st_core.specs.declared.types.Event.{Event}
+use Rattle.st_core.specs.Pid.{pid_eq, IsBelow, IsRising}
+use Rattle.st_core.specs.Run.{Stream, pids_of}
+use Rattle.st_core.specs.Streams.{events_of, stream_of}
+use Rattle.st_core.proofs.ForCallers.{pid_eq-true, pid_eq-same, IsBelow-apart, all_at}
+use Rattle.st_pair.specs.declared.answer.Source.{Source}
+use Rattle.st_pair.specs.declared.pairing.Link.{Link}
+use Rattle.st_pair.specs.Places.{event_at, is_stamp}
+use Rattle.st_pair.specs.Pairing.{receive_of, stamp_of, source_of, source_at, receiver_at, is_send}
+use Rattle.st_pair.specs.Links.{
+  Linked,
+  sent_link,
+  received_link,
+  link_of,
+  links_in,
+  linked,
+  IsPairing,
+  rows,
+  link_at,
+  source_in,
+  receiver_in,
+}
+use Rattle.st_pair.proofs.Firsts.{is_at, at_get_or, events_in}
+
+-- ROWS
+
+pub row_missing : (ps : List Pid) (ls : List (List Link)) (p : Pid) → AllByRecursion (λ q. pid_eq q p ≡ false) ps
+    → find (λ (x : Linked). pid_eq x.pid p) (rows ps ls) ≡ None
+row_missing [] ls p all = refl
+row_missing (q ∷ ps) [] p all = refl
+row_missing (q ∷ ps) (l ∷ ls) p all = rw all.0 (row_missing ps ls p all.1)
+
+above_apart : (ps : List Pid) (q p : Pid) (i : ℕ) → AllByRecursion (IsBelow q) ps → slice_get ps i ≡ Some p
+    → pid_eq q p ≡ false
+above_apart ps q p i all at = IsBelow-apart q p (all_at (IsBelow q) ps i p all at)
+
+pub row_found : (ps : List Pid) (ls : List (List Link)) (p : Pid) (i : ℕ) → length ls ≡ length ps → IsRising ps
+    → slice_get ps i ≡ Some p → find (λ (x : Linked). pid_eq x.pid p) (rows ps ls)
+    ≡ Some (record { pid = p; links = get_or ls i [] })
+row_found [] ls p i even rising at = absurd (cc)
+row_found (q ∷ ps) [] p i even rising at = absurd (omega arith)
+row_found (q ∷ ps) (l ∷ ls) p zero even rising at = let same = same_Some q p at in rw (same, pid_eq-same p) refl
+row_found (q ∷ ps) (l ∷ ls) p (suc i) even rising at =
+    rw (above_apart ps q p i rising.0 at) (row_found ps ls p i (omega arith) rising.1 at)
+
+place_within : {A : Type 0} (xs : List A) (i : ℕ) (x : A) → slice_get xs i ≡ Some x → i < length xs
+place_within [] i x at = absurd (cc)
+place_within (y ∷ xs) zero x at = omega arith
+place_within (y ∷ xs) (suc i) x at = let rest = place_within xs i x at in omega arith
+
+abbrev row_links : Option Linked → List Link
+row_links o = elim o [ None ↦ [] | Some x ↦ x.links ]
+
+pub row_none : (ps : List Pid) (ls : List (List Link)) (p : Pid) (i : ℕ)
+    → AllByRecursion (λ q. pid_eq q p ≡ false) ps → None ≡ link_at (rows ps ls) p i
+row_none ps ls p i all = sym (ap (λ (o : Option Linked). slice_get (row_links o) i) (row_missing ps ls p all))
+
+pub row_read : (ps : List Pid) (ls : List (List Link)) (p : Pid) (k i : ℕ) (read : List Link) → length ls ≡ length ps
+    → IsRising ps → slice_get ps k ≡ Some p → read ≡ get_or ls k read → slice_get read i ≡ link_at (rows ps ls) p i
+row_read ps ls p k i read even rising at is =
+    let below = place_within ps k p at in
+    let within : k < length ls = omega arith in
+    ap (λ (l : List Link). slice_get l i) (is ∙ get_or_default ls k read [] within)
+    ∙ sym (ap (λ (o : Option Linked). slice_get (row_links o) i) (row_found ps ls p k even rising at))
+
+pub rows_linked : (all streams : List Stream)
+    → rows (pids_of streams) (map (links_in all) streams) ≡ linked all streams
+rows_linked all [] = refl
+rows_linked all (s ∷ streams) = ap (λ (xs : List Linked). record { pid = s.pid; links = links_in all s } ∷ xs)
+    (rows_linked all streams)
+
+pub links_even : (all streams : List Stream) → length (map (links_in all) streams) ≡ length (pids_of streams)
+links_even all [] = refl
+links_even all (s ∷ streams) = let rest = links_even all streams in omega arith
+
+-- ONE PROCESS MORE
+
+take_map : {A B : Type 0} (f : A → B) (xs : List A) (k : ℕ) (x : A) → slice_get xs k ≡ Some x
+    → map f (take (suc k) xs) ≡ map f (take k xs) ++ f x ∷ []
+take_map f [] k x at = absurd (cc)
+take_map f (y ∷ xs) zero x at = ap (λ z. f z ∷ []) (same_Some y x at)
+take_map f (y ∷ xs) (suc k) x at = ap (λ zs. f y ∷ zs) (take_map f xs k x at)
+
+pub linked_more : (all streams : List Stream) (pids : List Pid) (k : ℕ) (d : Pid) (es : List Event)
+    (before : List (List Link)) (links : List Link) → IsRising (pids_of streams) → pids ≡ pids_of streams
+    → k < length pids → es ≡ events_of streams (get_or pids k d)
+    → links ≡ map (link_of all (get_or pids k d)) es → before ≡ map (links_in all) (take k streams)
+    → before ++ links ∷ [] ≡ map (links_in all) (take (k + 1) streams)
+linked_more all streams pids k d es before links rising are within events is far =
+    let p = get_or pids k d in
+    let at = at_get_or pids k d within in
+    let s = is_at streams k p rising (subst (λ (ps : List Pid). slice_get ps k ≡ Some p) are at) in
+    let same : s.stream.events ≡ es = sym (ap events_in s.found) ∙ sym events in
+    let here : links_in all s.stream ≡ links = ap (λ (q : Pid). map (link_of all q) s.stream.events) s.pid
+    ∙ ap (map (link_of all p)) same ∙ sym is in
+    let next : suc k ≡ k + 1 = omega arith in
+    ap (λ (ls : List (List Link)). ls ++ links ∷ []) far
+    ∙ ap (λ (l : List Link). map (links_in all) (take k streams) ++ l ∷ []) (sym here)
+    ∙ sym (take_map (links_in all) streams k s.stream s.at)
+    ∙ ap (λ (n : ℕ). map (links_in all) (take n streams)) next
+
+-- WHAT A LINK SAYS
+
+slice_get_map : {A B : Type 0} (f : A → B) (xs : List A) (i : ℕ)
+    → slice_get (map f xs) i ≡ option_map f (slice_get xs i)
+slice_get_map f [] i = refl
+slice_get_map f (x ∷ xs) zero = refl
+slice_get_map f (x ∷ xs) (suc i) = slice_get_map f xs i
+
+link_at_linked : (all streams : List Stream) (p : Pid) (i : ℕ)
+    → link_at (linked all streams) p i ≡ option_map (link_of all p) (event_at streams p i)
+link_at_linked all [] p i = refl
+link_at_linked all (s ∷ streams) p i = elim (pid_eq s.pid p)
+    as (λ b. pid_eq s.pid p ≡ b → slice_get
+    (row_links (cond b (Some (record { pid = s.pid; links = links_in all s }))
+    (find (λ (x : Linked). pid_eq x.pid p) (linked all streams)))) i
+    ≡ option_map (link_of all p) (slice_get (events_in (cond b (Some s) (stream_of streams p))) i)) [
+      | true ↦ λ e. slice_get_map (link_of all s.pid) s.events i
+          ∙ ap (λ (q : Pid). option_map (link_of all q) (slice_get s.events i)) (pid_eq-true s.pid p e)
+      | false ↦ λ e. link_at_linked all streams p i
+    ] refl
+
+source_link : (streams : List Stream) (p : Pid) (e : Event)
+    → source_in (link_of streams p e) ≡ (if is_stamp e then None else Some (source_of streams e))
+source_link streams p e = elim e.kind
+    as (λ k. source_in (elim k [
+      | kind.Send ↦ sent_link (receive_of streams p e.serial.this)
+      | kind.Receive ↦
+          received_link e.from (stamp_of streams e.from e.serial.this)
+      | kind.Print ↦
+          Rattle.st_pair.specs.declared.pairing.Link.TheVariants.Printed
+    ])
+    ≡ cond (elim k [ kind.Send ↦ true | kind.Receive ↦ false | kind.Print ↦ true ]) None
+    (Some (source_of streams e))) [
+      | kind.Send ↦ elim (receive_of streams p e.serial.this)
+          as (λ o. source_in (sent_link o) ≡ None) [ None ↦ refl | Some at ↦ refl ]
+      | kind.Receive ↦ elim (stamp_of streams e.from e.serial.this)
+          as (λ o. source_in (received_link e.from o)
+          ≡ Some (elim o [
+            | None ↦ Rattle.st_pair.specs.declared.answer.Source.TheVariants.Hidden
+            | Some f ↦
+                Rattle.st_pair.specs.declared.answer.Source.TheVariants.Event e.from f.0
+          ])) [ None ↦ refl | Some f ↦ refl ]
+      | kind.Print ↦ refl
+    ]
+
+receiver_link : (streams : List Stream) (p : Pid) (e : Event)
+    → receiver_in (link_of streams p e) ≡ (if is_send e then receive_of streams p e.serial.this else None)
+receiver_link streams p e = elim e.kind
+    as (λ k. receiver_in (elim k [
+      | kind.Send ↦ sent_link (receive_of streams p e.serial.this)
+      | kind.Receive ↦
+          received_link e.from (stamp_of streams e.from e.serial.this)
+      | kind.Print ↦
+          Rattle.st_pair.specs.declared.pairing.Link.TheVariants.Printed
+    ])
+    ≡ cond (elim k [ kind.Send ↦ true | kind.Receive ↦ false | kind.Print ↦ false ])
+    (receive_of streams p e.serial.this) None) [
+      | kind.Send ↦ elim (receive_of streams p e.serial.this)
+          as (λ o. receiver_in (sent_link o) ≡ o) [ None ↦ refl | Some at ↦ refl ]
+      | kind.Receive ↦ elim (stamp_of streams e.from e.serial.this)
+          as (λ o. receiver_in (received_link e.from o) ≡ None) [ None ↦ refl | Some f ↦ refl ]
+      | kind.Print ↦ refl
+    ]
+
+module _ (streams : List Stream) (pairing : List Linked) (p : Pid) (i : ℕ) (made : IsPairing streams pairing) where
+  read_link : link_at pairing p i ≡ option_map (link_of streams p) (event_at streams p i)
+  read_link = ap (λ (x : List Linked). link_at x p i) made.links ∙ link_at_linked streams streams p i
+
+  pub source_read : option_and_then source_in (link_at pairing p i) ≡ source_at streams p i
+  source_read = ap (option_and_then source_in) read_link ∙ elim (event_at streams p i)
+      as (λ o. option_and_then source_in (option_map (link_of streams p) o)
+      ≡ option_and_then (λ (e : Event). if is_stamp e then None else Some (source_of streams e)) o) [
+        | None ↦
+            refl
+        | Some e ↦ source_link streams p e
+      ]
+
+  pub receiver_read : option_and_then receiver_in (link_at pairing p i) ≡ receiver_at streams p i
+  receiver_read = ap (option_and_then receiver_in) read_link ∙ elim (event_at streams p i)
+      as (λ o. option_and_then receiver_in (option_map (link_of streams p) o)
+      ≡ option_and_then (λ (e : Event). if is_send e then receive_of streams p e.serial.this else None) o) [
+        | None ↦
+            refl
+        | Some e ↦ receiver_link streams p e
+      ]

@@ -1,0 +1,12 @@
+use Rattle.std.proofs.Common.{◌∙◌, ap, option_and_then}
+use Rattle.st_pair.specs.Links.{receiver_in}
+use Rattle.st_pair.proofs.Linkage.{receiver_read}
+use Rattle.st_pair.proofs.pairing.Pairing.receiver.Goals as goal
+
+pub returns-in-None : goal.returns-in-None
+returns-in-None c = λ streams made. ap (option_and_then receiver_in) c.in-None.ensures
+    ∙ receiver_read streams _ c.args.pid c.args.index made
+
+pub returns-in-Some : goal.returns-in-Some
+returns-in-Some c = λ streams made. c.receiver.ensures ∙ ap (option_and_then receiver_in) c.in-Some.ensures
+    ∙ receiver_read streams _ c.args.pid c.args.index made

@@ -1,0 +1,12 @@
+use Rattle.st_pair.specs.Pairing.{prev_not_before}
+use Rattle.st_pair.proofs.Firsts.{first-given, first-passed}
+use Rattle.st_pair.proofs.rules.prev_not_before.Goals as goal
+
+pub returns-in-Some : goal.returns-in-Some
+returns-in-Some c = first-given prev_not_before _ c.pids-pid-items.ensures.streams.draft.rising _ _ _ _ _
+    c.pids-pid-items.ensures.value c.loop-pid-test.true c.events.ensures.value c.in-Some.ensures c.loop-pid.invariant
+
+pub loop-pid-preserved : goal.loop-pid-preserved
+loop-pid-preserved c = first-passed prev_not_before _ c.pids-pid-items.ensures.streams.draft.rising _ _ _ _
+    c.pids-pid-items.ensures.value c.loop-pid-test.true c.events.ensures.value c.in_default.ensures
+    c.loop-pid.invariant

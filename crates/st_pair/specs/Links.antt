@@ -1,0 +1,74 @@
+-- How a pairing is kept: for each event what it is paired with.
+use Rattle.std.specs.Prelude.{◌≡◌, ℕ, List, [], ◌∷◌, map, length, find, Option, Some, None, slice_get}
+use Rattle.st_core.specs.declared.types.Pid.{Pid}
+use Rattle.st_core.specs.declared.types.Kind.TheVariants as kind
+use Rattle.st_core.specs.declared.types.Event.{Event}
+use Rattle.st_core.specs.Pid.{pid_eq, IsRising}
+use Rattle.st_core.specs.Run.{Stream}
+use Rattle.st_pair.specs.declared.answer.Source.{Source}
+use Rattle.st_pair.specs.declared.answer.Source.TheVariants as source
+use Rattle.st_pair.specs.declared.pairing.Link.{Link}
+use Rattle.st_pair.specs.declared.pairing.Link.TheVariants as link
+use Rattle.st_pair.specs.Pairing.{refusal, receive_of, stamp_of}
+
+-- a send, with the receive that is paired with it
+abbrev pub sent_link : Option (Pid × ℕ) → Link
+sent_link None = link.Unpaired
+sent_link (Some at) = link.To at.0 at.1
+
+-- a receive from q, with its send
+abbrev pub received_link : Pid → Option (ℕ × Event) → Link
+received_link q None = link.Hidden
+received_link q (Some f) = link.From q f.0
+
+-- what an event of p is paired with
+abbrev pub link_of : List Stream → Pid → Event → Link
+link_of streams p e = elim e.kind [
+  | kind.Send ↦ sent_link (receive_of streams p e.serial.this)
+  | kind.Receive ↦
+      received_link e.from (stamp_of streams e.from e.serial.this)
+  | kind.Print ↦ link.Printed
+]
+
+-- a process with what each of its events is paired with
+pub record Linked : Type 0 where
+  pub pid : Pid
+  pub links : List Link
+
+abbrev pub links_in : List Stream → Stream → List Link
+links_in all s = map (link_of all s.pid) s.events
+
+-- these of all streams
+abbrev pub linked : List Stream → List Stream → List Linked
+linked all streams = map (λ s. record { pid = s.pid; links = links_in all s }) streams
+
+-- the streams have no reason against them, and these are what their events are paired with
+pub record IsPairing (streams : List Stream) (pairing : List Linked) : Type 0 where
+  pub accepted : refusal streams ≡ None
+  pub links : pairing ≡ linked streams streams
+
+-- each pid with its links
+abbrev pub rows : List Pid → List (List Link) → List Linked
+rows [] lists = []
+rows (p ∷ ps) [] = []
+rows (p ∷ ps) (links ∷ lists) = record { pid = p; links = links } ∷ rows ps lists
+
+-- as many lists as pids, which rise
+pub record AreRows (pids : List Pid) (lists : List (List Link)) : Type 0 where
+  pub even : length lists ≡ length pids
+  pub rising : IsRising pids
+
+-- the link at a place
+abbrev pub link_at : List Linked → Pid → ℕ → Option Link
+link_at pairing p i = slice_get (elim (find (λ x. pid_eq x.pid p) pairing) [ None ↦ [] | Some x ↦ x.links ]) i
+
+-- of a receive, where its message came from
+abbrev pub source_in : Link → Option Source
+source_in (link.From q j) = Some (source.Event q j)
+source_in link.Hidden = Some source.Hidden
+source_in l = None
+
+-- of a send, the receive that is paired with it
+abbrev pub receiver_in : Link → Option (Pid × ℕ)
+receiver_in (link.To p i) = Some (p, i)
+receiver_in l = None

@@ -1,0 +1,63 @@
+-- Tables from a sender and a count to the first event that has them.
+use Rattle.std.specs.Prelude.{
+  ◌≡◌,
+  ℕ,
+  ◌==◌,
+  ◌&&◌,
+  ◌||◌,
+  not,
+  nat_lt,
+  Bool,
+  List,
+  Option,
+  Some,
+  None,
+  if◌then◌else◌,
+  option_map,
+  option_and_then,
+}
+use Rattle.st_core.specs.declared.types.Pid.{Pid}
+use Rattle.st_core.specs.declared.types.Event.{Event}
+use Rattle.st_core.specs.Pid.{pid_eq}
+use Rattle.st_pair.specs.declared.tables.Key.{Key}
+use Rattle.st_core.specs.Run.{Stream}
+use Rattle.st_pair.specs.declared.answer.PairFault.{PairFault}
+use Rattle.st_pair.specs.declared.answer.PairFault.TheVariants as fault
+use Rattle.st_pair.specs.Places.{is_stamp}
+use Rattle.st_pair.specs.Pairing.{stamp_before, receive_of, stamp_of}
+
+-- k and l are one sender and one count
+abbrev pub key_eq : Key → Key → Bool
+key_eq k l = pid_eq k.from l.from && k.this == l.this
+
+-- the first if it is there, else the second
+abbrev pub or_else : {X : Type 0} → Option X → Option X → Option X
+or_else o rest = elim o [ None ↦ rest | Some x ↦ Some x ]
+
+-- the place where the key is this one
+abbrev pub here : {X : Type 0} → Key → X → Key → Option X
+here key place k = if key_eq key k then Some place else None
+
+-- the place of a receive from this sender with this count
+abbrev pub receive_rule : Key → Pid → ℕ → Event → Option (Pid × ℕ)
+receive_rule k p i e = if is_stamp e then None else if pid_eq e.from k.from && e.serial.this == k.this then Some
+    (p, i) else None
+
+-- the place of a send or print of this process with this count
+abbrev pub stamp_rule : Key → Pid → ℕ → Event → Option (Pid × ℕ)
+stamp_rule k p i e = if is_stamp e then (if pid_eq p k.from && e.serial.this == k.this then Some
+    (p, i) else None) else None
+
+-- a table gives the place of the first receive from each sender with each count
+abbrev pub HasReceives : List Stream → (Key → Option (Pid × ℕ)) → Type 0
+HasReceives streams table = (k : Key) → table k ≡ receive_of streams k.from k.this
+
+-- a table gives the place of the first send or print of each process with each count
+abbrev pub HasStamps : List Stream → (Key → Option (Pid × ℕ)) → Type 0
+HasStamps streams table = (k : Key) → table k ≡ option_map (λ f. (k.from, f.0)) (stamp_of streams k.from k.this)
+
+-- rule 3 in a stream of these events
+abbrev pub not_rising_in : List Event → Pid → ℕ → Event → Option PairFault
+not_rising_in es p i e = option_and_then
+    (λ f. if not (is_stamp e) || nat_lt f.1.serial.this e.serial.this then None else Some (fault.NotRising p i f.0))
+    (stamp_before es i)

@@ -1,0 +1,37 @@
+//! What pairing answers.
+
+use st_core::Pid;
+use thiserror::Error;
+
+/// Why streams can't hang together. A place is a process and an index in its stream, counted from
+/// 0. Each reason is tried over all places before the next, and the least place is named, by pid
+/// and then index (own profile).
+#[derive(Clone, Copy, Debug, PartialEq, Eq, Error)]
+pub enum PairFault {
+    /// Refusal 1: a growth was refused. It can come in place of any other answer.
+    #[error("no memory")]
+    Memory,
+    /// Refusal 2: the serial of this event doesn't rise: its prev isn't less than its this.
+    #[error("a serial doesn't rise")]
+    PrevNotBefore(Pid, u64),
+    /// Refusal 3: this send or print counts no higher than the last one of its process before it,
+    /// which stands at the second index.
+    #[error("the sends and prints of a process don't rise")]
+    NotRising(Pid, u64, u64),
+    /// Refusal 4: this receive has the sender and the count of the earlier one at the second place.
+    #[error("a message is received twice")]
+    Repeated(Pid, u64, Pid, u64),
+    /// Refusal 5: the send or print at the second place has the count of this receive, and is not
+    /// the send of its message.
+    #[error("a receive differs from its send")]
+    Mismatch(Pid, u64, Pid, u64),
+}
+
+/// Where the message of a reported receive came from.
+#[derive(Clone, Copy, Debug, PartialEq, Eq)]
+pub enum Source {
+    /// From the send at this place.
+    Event(Pid, u64),
+    /// From a send that nobody reported.
+    Hidden,
+}

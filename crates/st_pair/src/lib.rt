@@ -1,0 +1,15 @@
+//! Which send each reported receive took, or the first reason why streams cannot hang together.
+//!
+//! A send stamps a serial, and a receive reports the serial that it took: so a receive's message is
+//! from the send of its sender that has its count. `pair` says so of all receives at once, and
+//! refuses streams that no acts explain without a reset. It knows the streams of `st_core` and no
+//! machine.
+#![tactic(auto)]
+
+mod answer;
+mod pairing;
+mod rules;
+mod tables;
+
+pub use answer::{PairFault, Source};
+pub use pairing::{Pairing, pair};

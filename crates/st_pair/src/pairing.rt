@@ -1,0 +1,227 @@
+//! What each receive follows.
+
+ghost use Rattle.std.specs.Prelude.{◌≡◌, false, List, map, Some, IfOk, IfErr, IfSome, IfNone};
+ghost use Rattle.std.specs.Prelude.{slice_get};
+ghost use Rattle.std.specs.List.{AllByRecursion};
+ghost use Rattle.indexmap.specs.IndexMap.{get};
+ghost use Rattle.st_core.specs.Pid.{pid_eq, IsRising};
+ghost use Rattle.st_core.specs.Run.{Stream};
+ghost use Rattle.st_pair.specs.Pairing.{source_at, receiver_at, IsPairFault};
+ghost use Rattle.st_pair.specs.Links.{IsPairing, link_at, link_of, linked, links_in, receiver_in, source_in};
+ghost use Rattle.st_pair.specs.Tables.{key_eq, HasReceives, HasStamps};
+
+use crate::answer::{PairFault, Source};
+use crate::rules::{mismatch, not_rising, prev_not_before, repeated};
+use crate::tables::{Table, lookup, receives, stamps};
+use st_core::{Event, Kind, Pid, Sequence, Streams};
+use std::alloc::{AllocError, Global};
+use std::marker::Model;
+
+/// What an event is paired with.
+#[derive(Clone, Copy, Debug, PartialEq, Eq)]
+pub enum Link {
+    /// A print.
+    Printed,
+    /// A send without a receive.
+    Unpaired,
+    /// A send, with its receive.
+    To(Pid, u64),
+    /// A receive, with its send.
+    From(Pid, u64),
+    /// A receive of a hidden send.
+    Hidden,
+}
+
+impl Link {
+    /// Of a receive, where its message came from.
+    fn source(self) -> Option<Source>
+        ensures { result ≡ source_in self }
+    {
+        match self {
+            Link::From(pid, index) => Some(Source::Event(pid, index)),
+            Link::Hidden => Some(Source::Hidden),
+            Link::Printed | Link::Unpaired | Link::To(..) => None,
+        }
+    }
+
+    /// Of a send, the place of its receive.
+    fn receiver(self) -> Option<(Pid, u64)>
+        ensures { result ≡ receiver_in self }
+    {
+        match self {
+            Link::To(pid, index) => Some((pid, index)),
+            Link::Printed | Link::Unpaired | Link::From(..) | Link::Hidden => None,
+        }
+    }
+}
+
+/// The sources of the receives of streams that no reason stands against, and the receivers of
+/// their sends: 16 bytes an event.
+#[derive(Debug, Drop)]
+pub struct Pairing {
+    pids: Vec<Pid>,
+    links: Vec<Sequence<Link>>,
+}
+
+impl Model for Pairing {
+    ghost use Rattle.std.specs.Prelude.{List};
+    ghost use Rattle.st_pair.specs.Links.{Linked, rows, AreRows};
+
+    ghost Value = { List Linked };
+
+    ghost view = { λ a. rows a.pids.items a.links.items };
+
+    ghost invariant = { λ a. AreRows a.pids.items a.links.items };
+}
+
+impl Pairing {
+    /// What the event at this place is paired with.
+    fn link(&self, pid: Pid, index: u64) -> Option<Link>
+        ensures { result ≡ link_at self.now pid index }
+    {
+        match place_of(&self.pids, pid) {
+            None => None,
+            Some(place) => read(self.links[place].as_slice(), index),
+        }
+    }
+
+    /// Where the message of the receive at this place came from; none where there is no receive.
+    pub fn source(&self, pid: Pid, index: u64) -> Option<Source>
+        ensures { (streams : List Stream) → IsPairing streams self.now → result ≡ source_at streams pid index }
+    {
+        match self.link(pid, index) {
+            None => None,
+            Some(link) => link.source(),
+        }
+    }
+
+    /// The receive that is paired with the send at this place; none where there is no such send.
+    pub fn receiver(&self, pid: Pid, index: u64) -> Option<(Pid, u64)>
+        ensures { (streams : List Stream) → IsPairing streams self.now → result ≡ receiver_at streams pid index }
+    {
+        match self.link(pid, index) {
+            None => None,
+            Some(link) => link.receiver(),
+        }
+    }
+}
+
+/// The link at an index.
+fn read(links: &[Link], index: u64) -> Option<Link>
+    ensures { result ≡ slice_get links.now index }
+{
+    links.get(index as usize).copied()
+}
+
+/// Where the pid stands among these, which rise.
+fn place_of(pids: &[Pid], pid: Pid) -> Option<usize>
+    requires { IsRising pids.now }
+    ensures found { IfSome result (λ i. slice_get pids.now i ≡ Some pid) }
+    ensures missing { IfNone result (AllByRecursion (λ p. pid_eq p pid ≡ false) pids.now) }
+{
+    pids.binary_search(&pid).ok()
+}
+
+/// What an event is paired with.
+fn link_of(streams: &Streams, got: &Table, sent: &Table, pid: Pid, event: &Event) -> Link
+    requires got { HasReceives streams.now (get key_eq got.now) }
+    requires sent { HasStamps streams.now (get key_eq sent.now) }
+    ensures { result ≡ link_of streams.now pid event.now }
+{
+    match event.kind {
+        Kind::Print => Link::Printed,
+        Kind::Send => match lookup(got, pid, event.serial.this) {
+            None => Link::Unpaired,
+            Some((to, index)) => Link::To(to, index),
+        },
+        Kind::Receive => match lookup(sent, event.from, event.serial.this) {
+            None => Link::Hidden,
+            Some((from, index)) => Link::From(from, index),
+        },
+    }
+}
+
+/// What the events of one process are paired with.
+fn links_of(
+    alloc: Global,
+    streams: &Streams,
+    got: &Table,
+    sent: &Table,
+    pid: Pid,
+    events: &[Event],
+) -> Result<Vec<Link>, AllocError>
+    requires got { HasReceives streams.now (get key_eq got.now) }
+    requires sent { HasStamps streams.now (get key_eq sent.now) }
+    ensures { IfOk result (λ links. links.items ≡ map (link_of streams.now pid) events.now) }
+{
+    let mut links = Vec::with_capacity(alloc, events.len())?;
+    for event in events {
+        links.push(link_of(streams, got, sent, pid, event))?;
+    }
+    Ok(links)
+}
+
+/// The links of all processes.
+fn all_links(
+    alloc: Global,
+    streams: &Streams,
+    got: &Table,
+    sent: &Table,
+) -> Result<Vec<Sequence<Link>>, AllocError>
+    requires got { HasReceives streams.now (get key_eq got.now) }
+    requires sent { HasStamps streams.now (get key_eq sent.now) }
+    ensures { IfOk result (λ lists. lists.items ≡ map (links_in streams.now) streams.now) }
+{
+    let mut lists = Vec::new(alloc);
+    for &pid in streams.pids() {
+        let links = links_of(alloc, streams, got, sent, pid, streams.events(pid))?;
+        lists.push(Sequence::from_vec(links))?;
+    }
+    Ok(lists)
+}
+
+/// The pairing of streams that no reason stands against.
+fn linked(
+    alloc: Global,
+    streams: &Streams,
+    got: &Table,
+    sent: &Table,
+) -> Result<Pairing, AllocError>
+    requires got { HasReceives streams.now (get key_eq got.now) }
+    requires sent { HasStamps streams.now (get key_eq sent.now) }
+    ensures { IfOk result (λ pairing. pairing ≡ linked streams.now streams.now) }
+{
+    let links = all_links(alloc, streams, got, sent)?;
+    let mut pids = Vec::new(alloc);
+    pids.extend_from_slice(streams.pids())?;
+    Ok(Pairing { pids, links })
+}
+
+/// Pairs the receives of streams with their sends, or tells the first reason against them.
+pub fn pair(alloc: Global, streams: &Streams) -> Result<Pairing, PairFault>
+    ensures ok { IfOk result (IsPairing streams.now) }
+    ensures err { IfErr result (IsPairFault streams.now) }
+{
+    if let Some(fault) = prev_not_before(streams) {
+        return Err(fault);
+    }
+    if let Some(fault) = not_rising(streams) {
+        return Err(fault);
+    }
+    let Ok(got) = receives(alloc, streams) else {
+        return Err(PairFault::Memory);
+    };
+    if let Some(fault) = repeated(streams, &got) {
+        return Err(fault);
+    }
+    let Ok(sent) = stamps(alloc, streams) else {
+        return Err(PairFault::Memory);
+    };
+    if let Some(fault) = mismatch(streams, &sent) {
+        return Err(fault);
+    }
+    match linked(alloc, streams, &got, &sent) {
+        Err(_) => Err(PairFault::Memory),
+        Ok(pairing) => Ok(pairing),
+    }
+}
