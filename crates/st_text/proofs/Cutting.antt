@@ -1,8 +1,8 @@
 -- More bytes, in pieces and by whole lines.
-use Rattle.std.proofs.Common.{◌≡◌, ℕ, zero, suc, ◌+◌, ◌<◌, ◌≤◌, Bool, true, false, eqb, ◌||◌, List, [], ◌∷◌, ◌++◌, length, map, take, drop, get_or, drop-cons, Option, Some, None, refl, sym, ap, subst, ◌∙◌, append_assoc, arith}
+use Rattle.std.proofs.Common.{◌≡◌, ℕ, zero, suc, ◌+◌, ◌<◌, ◌≤◌, Bool, true, false, eqb, ◌||◌, List, [], ◌∷◌, ◌++◌, length, map, take, drop, get_or, drop-cons, Option, Some, None, refl, sym, ap, subst, ◌∙◌, append_assoc, inl, inr, arith}
 use Rattle.std.specs.Prelude.{is_some}
 use Rattle.std.proofs.lemmas.Bool.{eqb-true}
-use Rattle.std.proofs.lemmas.List.{append-nil, length-append, map_push, take_all, take-append-drop}
+use Rattle.std.proofs.lemmas.List.{append-nil, length-append, length_push, map_push, take_all, take-append-drop}
 use Rattle.st_text.specs.declared.line.Line.{Line}
 use Rattle.st_text.specs.declared.line.Line.TheVariants as lines
 use Rattle.st_text.specs.declared.fault.ReadFault.{ReadFault}
@@ -15,7 +15,9 @@ use Rattle.st_text.specs.Fault.{cut, sayings, first_fault, line_fault}
 use Rattle.st_text.specs.Sofar.{IsSound, TakesLine}
 use Rattle.st_text.specs.Held.{IsHeld, TakesSaid, header_of}
 use Rattle.st_text.specs.Tail.{IsPlain, IsTail}
-use Rattle.st_text.specs.Holds.{HoldsAs}
+use Rattle.st_text.specs.Growth.{EndsKept, EndsWithin, Grows, KeepsLine, EndsLine, LeavesBytes}
+use Rattle.st_text.specs.declared.cutter.Cutter.{Cutter}
+use Rattle.st_text.specs.Holds.{Holds, HoldsAs, Comes, AddsBytes, EndsOne}
 use Rattle.st_text.proofs.Cuts.{cut_newline, cut_byte, sayings_newline, sayings_byte, fault_push, fault_stays}
 use Rattle.st_text.proofs.Longest.{too_long}
 
@@ -113,10 +115,10 @@ kept_says false kept t xs whole s e w says h = says ∙ ap line_of (w ∙ ap (λ
 pub said_by : (ls : List Line) (said : Option Line) (new : Progress) (step : Step) → TakesLine ls said new step → TakesSaid ls said (Some new) step
 said_by ls (Some l) new Goes h = (l, record { said_is = refl; good = h.0; held = h.1 })
 said_by ls (Some l) new (Stops f) h = h
-said_by ls (Some l) new Halts h = tt
+said_by ls (Some l) new Halts h = h
 said_by ls None new Goes h = absurd h
 said_by ls None new (Stops f) h = h
-said_by ls None new Halts h = tt
+said_by ls None new Halts h = absurd h
 
 pub first_is_header : (wide : Bool) → line_fault [] (Some (lines.Header wide)) ≡ None
 unfolding line_fault
@@ -196,6 +198,52 @@ line_stops false None bytes xs long long' kept kept' p new said f eo ef plain sa
     let all : sayings (bytes ++ (xs ++ 10 ∷ [])) ≡ map Some ls ++ said ∷ [] = sayings_line bytes xs plain ∙ rw (h.1.said, ← says h.1.tail_is) refl in
     ap (first_fault []) all ∙ at ∙ takes ls h.1.held
 
+-- a good line for which there was no room
+pub line_halts : (out : Bool) (fault : Option ReadFault) (bytes xs : List ℕ) (long : Bool) (kept : List ℕ) (p new : Option Progress) (said : Option Line) → out ≡ false → fault ≡ None → IsPlain xs
+    → (IsTail long kept (cut bytes).1 → said ≡ line_of ((cut bytes).1 ++ xs)) → ((ls : List Line) → IsHeld p ls → TakesSaid ls said new Halts)
+    → HoldsAs out fault bytes long kept p → EndsKept (bytes ++ (xs ++ 10 ∷ []))
+line_halts true fault bytes xs long kept p new said eo ef plain says takes h = absurd cc
+line_halts false (Some f) bytes xs long kept p new said eo ef plain says takes h = absurd cc
+line_halts false None bytes xs long kept p new said eo ef plain says takes h =
+    let ls = h.0 in
+    let t = takes ls h.1.held in
+    let all : sayings (bytes ++ (xs ++ 10 ∷ [])) ≡ map Some ls ++ Some t.line ∷ [] = sayings_line bytes xs plain ∙ rw (h.1.said, ← says h.1.tail_is, t.said_is) refl in
+    let at : first_fault [] (map Some ls ++ Some t.line ∷ []) ≡ line_fault ls (Some t.line) = fault_push [] ls (Some t.line) (ap (first_fault []) (sym h.1.said) ∙ h.1.good) in
+    record {
+      before = ls;
+      line = t.line;
+      lines = all ∙ sym (map_push Some ls t.line);
+      good = ap (first_fault []) all ∙ at ∙ t.good;
+      kept = t.kept;
+    }
+
+-- bytes join the unfinished line
+pub adds_bytes : (out : Bool) (fault : Option ReadFault) (bytes xs : List ℕ) (long : Bool) (kept : List ℕ) (p : Option Progress) → out ≡ false → fault ≡ None → IsPlain xs → 0 < length xs
+    → HoldsAs out fault bytes long kept p → AddsBytes bytes xs
+adds_bytes true fault bytes xs long kept p eo ef plain some h = absurd cc
+adds_bytes false (Some f) bytes xs long kept p eo ef plain some h = absurd cc
+adds_bytes false None bytes xs long kept p eo ef plain some h =
+    record {
+      within = record {
+        good = ap (first_fault []) (sayings_plain bytes xs plain) ∙ h.1.good;
+        some = omega (arith, some, ap length (tail_plain bytes xs plain), length-append (cut bytes).1 xs);
+      };
+      some = some;
+    }
+
+-- a line that is kept so far has begun
+pub ends_within : (out : Bool) (fault : Option ReadFault) (bytes : List ℕ) (long : Bool) (kept : List ℕ) (p : Option Progress) → out ≡ false → fault ≡ None → long ≡ false → 0 < length kept
+    → HoldsAs out fault bytes long kept p → EndsWithin bytes
+ends_within true fault bytes long kept p eo ef el some h = absurd cc
+ends_within false (Some f) bytes long kept p eo ef el some h = absurd cc
+ends_within false None bytes true kept p eo ef el some h = absurd cc
+ends_within false None bytes false kept p eo ef el some h = record { good = h.1.good; some = omega (arith, some, ap length h.1.tail_is) }
+
+-- memory didn't run out
+pub not_out : {R : Type 0} (out : Bool) → out ≡ false → out ≡ true → R
+not_out true e f = absurd cc
+not_out false e f = absurd cc
+
 -- after a fault, or without memory, more bytes change nothing
 pub holds_over : (out : Bool) (fault : Option ReadFault) (bytes xs : List ℕ) (long : Bool) (kept : List ℕ) (p : Option Progress) → (out || is_some fault) ≡ true → HoldsAs out fault bytes long kept p → HoldsAs out fault (bytes ++ xs) long kept p
 holds_over true fault bytes xs long kept p over h = tt
@@ -232,3 +280,42 @@ at_newline xs k lt e =
     let from : drop k xs ≡ 10 ∷ drop (suc k) xs = drop-cons xs k 0 lt ∙ ap (λ b. b ∷ drop (suc k) xs) ten in
     let rest : drop 1 (drop k xs) ≡ drop (suc k) xs = ap (drop 1) from in
     sym (take-append-drop k xs) ∙ ap (λ (t : List ℕ). take k xs ++ t) (from ∙ ap (λ (t : List ℕ). 10 ∷ t) (sym rest)) ∙ sym (append_assoc (take k xs) (10 ∷ []) (drop 1 (drop k xs)))
+
+-- a piece under way: what is done of it is whole lines, and the rest of it is left
+pub record IsUnderWay (piece rest : List ℕ) (old now : Cutter) : Type 0 where
+  pub done : List ℕ
+  pub parts : piece ≡ done ++ rest
+  pub whole : (bytes : List ℕ) → 0 < length (cut (bytes ++ done)).1 → done ≡ []
+  pub comes : (bytes : List ℕ) → Holds bytes old → Comes (bytes ++ done) now (old.out ≡ false → Grows bytes piece)
+
+-- what a line's growth is for the piece
+pub grows_by : (bytes piece done xs more : List ℕ) → piece ≡ done ++ ((xs ++ 10 ∷ []) ++ more) → (0 < length (cut (bytes ++ done)).1 → done ≡ [])
+    → EndsOne (bytes ++ done) xs → Grows bytes piece
+grows_by bytes piece done xs more parts whole h = by h
+  where
+    some : 0 < length piece
+    some = omega (arith, ap length parts, length-append done ((xs ++ 10 ∷ []) ++ more), length-append (xs ++ 10 ∷ []) more, length_push xs 10)
+
+    from_done : EndsWithin (bytes ++ done) → EndsWithin bytes
+    from_done w = subst EndsWithin (ap (λ (x : List ℕ). bytes ++ x) (whole w.some) ∙ append-nil bytes) w
+
+    kept : EndsKept ((bytes ++ done) ++ (xs ++ 10 ∷ [])) → Grows bytes piece
+    kept k =
+        KeepsLine (done ++ (xs ++ 10 ∷ [])) more (parts ∙ sym (append_assoc done (xs ++ 10 ∷ []) more))
+        (subst EndsKept (append_assoc bytes done (xs ++ 10 ∷ [])) k)
+
+    by : EndsOne (bytes ++ done) xs → Grows bytes piece
+    by (inl w) = EndsLine (from_done w) some
+    by (inr k) = kept k
+
+-- behind a newline nothing is unfinished
+pub line_whole : (bytes done xs : List ℕ) → 0 < length (cut (bytes ++ (done ++ (xs ++ 10 ∷ [])))).1 → done ++ (xs ++ 10 ∷ []) ≡ []
+line_whole bytes done xs some =
+    let at : (cut (bytes ++ (done ++ (xs ++ 10 ∷ [])))).1 ≡ [] = ap (λ (x : List ℕ). (cut x).1) (sym (append_assoc bytes done (xs ++ 10 ∷ []))) ∙ tail_line (bytes ++ done) xs in
+    absurd (omega (arith, some, ap length at))
+
+-- what the rest's growth is for the piece
+pub grows_at_end : (bytes piece done rest : List ℕ) → piece ≡ done ++ rest → AddsBytes (bytes ++ done) rest → Grows bytes piece
+grows_at_end bytes piece done rest parts h =
+    let all : (bytes ++ done) ++ rest ≡ bytes ++ piece = append_assoc bytes done rest ∙ ap (λ (x : List ℕ). bytes ++ x) (sym parts) in
+    LeavesBytes (subst EndsWithin all h.within) (omega (arith, ap length parts, length-append done rest, h.some))

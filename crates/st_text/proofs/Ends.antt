@@ -22,27 +22,29 @@ use Rattle.st_text.specs.Finish.{IsFinished, Finishes}
 use Rattle.st_text.specs.Held.{IsHeld}
 use Rattle.st_text.specs.Tail.{IsTail}
 use Rattle.st_text.specs.Holds.{HoldsAs}
-use Rattle.st_text.specs.Answer.{Answers, Reads}
+use Rattle.st_text.specs.Answer.{Answers, IsAnswer, Reads}
 use Rattle.st_text.proofs.Cuts.{spelled_by, no_lines, fault_of_line, fault_truncated, fault_at_end, truncated_tail, truncated_nothing, truncated_none}
 use Rattle.st_text.proofs.Sound.{count-append, count-cons}
 use Rattle.st_text.proofs.Headers.{spelled_whole, body_fits}
 
-pub answers_err : (bytes : List ℕ) (f : ReadFault) → fault bytes ≡ Some f → Answers bytes (Err f)
-answers_err bytes faults.Memory e = tt
-answers_err bytes faults.Device e = e
-answers_err bytes faults.TooLarge e = e
-answers_err bytes (faults.Line n) e = e
-answers_err bytes (faults.Order n) e = e
-answers_err bytes (faults.Foreign n) e = e
-answers_err bytes (faults.Unknown n) e = e
-answers_err bytes (faults.TooMany n) e = e
-answers_err bytes faults.Truncated e = e
+-- an answer without want of memory is one
+pub answers : (bytes : List ℕ) (r : Result Bundle ReadFault) → IsAnswer bytes r → Answers bytes r
+answers bytes (Ok b) h = h
+answers bytes (Err faults.Memory) h = tt
+answers bytes (Err faults.Device) h = h
+answers bytes (Err faults.TooLarge) h = h
+answers bytes (Err (faults.Line n)) h = h
+answers bytes (Err (faults.Order n)) h = h
+answers bytes (Err (faults.Foreign n)) h = h
+answers bytes (Err (faults.Unknown n)) h = h
+answers bytes (Err (faults.TooMany n)) h = h
+answers bytes (Err faults.Truncated) h = h
 
 -- a fault was met
-pub end_fault : (bytes : List ℕ) (out : Bool) (o : Option ReadFault) (long : Bool) (kept : List ℕ) (p : Option Progress) (f : ReadFault) → out ≡ false → o ≡ Some f → length bytes ≤ 67108864 → HoldsAs out o bytes long kept p → Answers bytes (Err f)
+pub end_fault : (bytes : List ℕ) (out : Bool) (o : Option ReadFault) (long : Bool) (kept : List ℕ) (p : Option Progress) (f : ReadFault) → out ≡ false → o ≡ Some f → length bytes ≤ 67108864 → HoldsAs out o bytes long kept p → fault bytes ≡ Some f
 end_fault bytes true o long kept p f eo ef few h = absurd cc
 end_fault bytes false None long kept p f eo ef few h = absurd cc
-end_fault bytes false (Some g) long kept p f eo ef few h = let same : g ≡ f = cc in answers_err bytes f (fault_of_line bytes f few (subst (λ (x : ReadFault). first_fault [] (sayings bytes) ≡ Some x) same h))
+end_fault bytes false (Some g) long kept p f eo ef few h = let same : g ≡ f = cc in fault_of_line bytes f few (subst (λ (x : ReadFault). first_fault [] (sayings bytes) ≡ Some x) same h)
 
 -- none was met
 pub good : (bytes : List ℕ) (out : Bool) (o : Option ReadFault) (long : Bool) (kept : List ℕ) (p : Option Progress) → out ≡ false → o ≡ None → HoldsAs out o bytes long kept p → HoldsAs false None bytes long kept p
@@ -143,7 +145,7 @@ some_held : (o : Option Progress) (p : Progress) (ls : List Line) → o ≡ Some
 some_held o p ls e h = subst (λ (x : Option Progress). IsHeld x ls) e h
 
 pub end_finish : (bytes : List ℕ) (long : Bool) (kept : List ℕ) (o : Option Progress) (p : Progress) (r : Result Bundle ReadFault) → long ≡ false → kept ≡ [] → o ≡ Some p → length bytes ≤ 67108864
-    → ((ls : List Line) → IsSound p ls → length ls < 2 ^ 64 → Finishes ls p r) → HoldsAs false None bytes long kept o → Answers bytes r
+    → ((ls : List Line) → IsSound p ls → length ls < 2 ^ 64 → Finishes ls p r) → HoldsAs false None bytes long kept o → IsAnswer bytes r
 end_finish bytes long kept o p r el empty eo few fin h =
     let ls = h.0 in
     let s : IsSound p ls = some_held o p ls eo h.1.held in
@@ -153,6 +155,6 @@ end_finish bytes long kept o p r el empty eo few fin h =
     let whole : fault bytes ≡ closing_fault ls = fault_at_end bytes ls few h.1.good (truncated_none bytes over some) h.1.said in
     by r (fin ls s (omega (arith, few, count, few_lines bytes))) s over whole
   where
-    by : (r : Result Bundle ReadFault) → Finishes h.0 p r → IsSound p h.0 → (cut bytes).1 ≡ [] → fault bytes ≡ closing_fault h.0 → Answers bytes r
+    by : (r : Result Bundle ReadFault) → Finishes h.0 p r → IsSound p h.0 → (cut bytes).1 ≡ [] → fault bytes ≡ closing_fault h.0 → IsAnswer bytes r
     by (Ok b) f s over whole = reads bytes h.0 p b few over h.1.said h.1.good s f
-    by (Err e) f s over whole = answers_err bytes e (whole ∙ f)
+    by (Err e) f s over whole = whole ∙ f

@@ -16,7 +16,8 @@ use Rattle.st_text.specs.declared.progress.Progress.{Progress}
 use Rattle.st_text.specs.Counts.{acts_len}
 use Rattle.st_text.specs.Remote.{is_event_remote, is_act_remote}
 use Rattle.st_text.specs.Text.{is_away, is_remote}
-use Rattle.st_text.specs.Sofar.{IsSound}
+use Rattle.st_text.specs.Growth.{is_kept}
+use Rattle.st_text.specs.Sofar.{IsSound, NeedsRoom}
 use Rattle.st_text.specs.Fault.{pids, last, last_passes, has_acts, may_follow, may_stand, is_out_of_order, is_foreign, is_one_too_many, line_fault}
 
 -- the fault by the tests in their order
@@ -127,3 +128,26 @@ out_second false b e = refl
 pub unsaid_fault : (p : Progress) (ls : List Line) → IsSound p ls → line_fault ls None ≡ Some (faults.Line (p.lines + 1))
 unfolding line_fault
 unsaid_fault p ls s = ap (λ n. Some (faults.Line (n + 1))) (sym s.count)
+
+-- ---- a line that is kept
+
+pub open_good : (p : Progress) (ls : List Line) (q : Pid) → IsSound p ls → is_some p.acts ≡ false → (is_away q && not p.wide) ≡ false
+    → last_passes (λ r. not (is_lt (pid_cmp r q))) p.last ≡ false → p.processes < 1024 → line_fault ls (Some (lines.Process q)) ≡ None
+open_good p ls q s begun out order few =
+    let stands = let_in (not (is_some p.acts)) p.wide (is_away q) (not_begun _ begun) out in
+    open_fault p ls q s ∙ no_fault (p.lines + 1) _ _ _ _ stands order refl (below 1024 p.processes few)
+
+pub report_good : (p : Progress) (ls : List Line) (e : Event) (q : Pid) → IsSound p ls → is_some p.acts ≡ false → (is_event_remote e && not p.wide) ≡ false
+    → p.last ≡ Some q → is_own q e ≡ true → p.events < 1000000 → line_fault ls (Some (lines.Event e)) ≡ None
+report_good p ls e q s begun out at own few =
+    let follows = both_true (not (is_some p.acts)) _ (not_begun _ begun) (passes_at (λ r. true) p.last q true at refl) in
+    let foreign = passes_at (λ r. not (is_own r e)) p.last q false at (ap not own) in
+    report_fault p ls e s ∙ no_fault (p.lines + 1) _ _ _ _ (let_in _ p.wide (is_event_remote e) follows out) refl foreign (below 1000000 p.events few)
+
+pub act_good : (p : Progress) (ls : List Line) (a : Act) (list : List Act) → IsSound p ls → p.acts ≡ Some list → (is_act_remote a && not p.wide) ≡ false
+    → acts_len p.acts < 4000000 → line_fault ls (Some (lines.Act a)) ≡ None
+act_good p ls a list s some out few =
+    act_fault p ls a s ∙ no_fault (p.lines + 1) _ _ _ _ (let_in _ p.wide (is_act_remote a) (ap is_some some) out) refl refl (below 4000000 (acts_len p.acts) few)
+
+pub needs_room : (ls : List Line) (l : Line) → line_fault ls (Some l) ≡ None → is_kept l ≡ true → NeedsRoom ls (Some l)
+needs_room ls l good kept = record { line = l; said_is = refl; good = good; kept = kept }

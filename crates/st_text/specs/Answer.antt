@@ -12,7 +12,12 @@ pub record Reads (bytes : List ℕ) (c : Contents) : Type 0 where
   pub text : IsText bytes c
   pub within : IsWithin c
 
--- A bundle of which the bytes are the text, or their refusal. Memory may stand in place of each but TooLarge.
+-- a bundle of which the bytes are the text, or their fault
+abbrev pub IsAnswer : List ℕ → Result Bundle ReadFault → Type 0
+IsAnswer bytes (Ok b) = Reads bytes (contents b)
+IsAnswer bytes (Err f) = fault bytes ≡ Some f
+
+-- The same, where Memory may stand in place of each but TooLarge.
 abbrev pub Answers : List ℕ → Result Bundle ReadFault → Type 0
 Answers bytes (Ok b) = Reads bytes (contents b)
 Answers bytes (Err faults.Memory) = Unit {0}

@@ -6,7 +6,7 @@ use Rattle.st_text.specs.declared.progress.Progress.{Progress}
 use Rattle.st_text.specs.declared.step.Step.{Step}
 use Rattle.st_text.specs.declared.step.Step.TheVariants.{Goes, Stops, Halts}
 use Rattle.st_text.specs.Fault.{line_fault}
-use Rattle.st_text.specs.Sofar.{IsSound}
+use Rattle.st_text.specs.Sofar.{IsSound, NeedsRoom}
 
 -- these are the lines so far
 abbrev pub IsHeld : Option Progress → List Line → Type 0
@@ -22,7 +22,7 @@ pub record Adds (ls : List Line) (said : Option Line) (new : Option Progress) (l
 abbrev pub TakesSaid : List Line → Option Line → Option Progress → Step → Type 0
 TakesSaid ls said new Goes = (l : Line) × Adds ls said new l
 TakesSaid ls said new (Stops f) = line_fault ls said ≡ Some f
-TakesSaid ls said new Halts = Unit {0}
+TakesSaid ls said new Halts = NeedsRoom ls said
 
 abbrev pub header_of : Option Line → Option Bool
 header_of (Some (lines.Header wide)) = Some wide

@@ -6,6 +6,7 @@ pub mod Reading
 pub mod Limits
 pub mod Text
 pub mod Fault
+pub mod Growth
 pub mod Contents
 pub mod Writing
 pub mod Remote

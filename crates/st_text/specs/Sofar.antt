@@ -1,5 +1,5 @@
 -- What a text under way has come to: the lines from the header on, all good, and what is kept of them.
-use Rattle.std.specs.Prelude.{◌≡◌, Bool, List, [], ◌∷◌, ◌++◌, length, Option, Some, None, is_some}
+use Rattle.std.specs.Prelude.{◌≡◌, Bool, true, List, [], ◌∷◌, ◌++◌, length, Option, Some, None, is_some}
 use Rattle.std.specs.List.{count_by, list_any}
 use Rattle.st_core.specs.declared.types.Act.{Act}
 use Rattle.st_core.specs.Pid.{IsRising}
@@ -11,6 +11,7 @@ use Rattle.st_text.specs.declared.step.Step.{Step}
 use Rattle.st_text.specs.declared.step.Step.TheVariants.{Goes, Stops, Halts}
 use Rattle.st_text.specs.Text.{body, is_remote}
 use Rattle.st_text.specs.Fault.{pids, last, has_acts, is_event, is_act, is_wide, line_fault}
+use Rattle.st_text.specs.Growth.{is_kept}
 use Rattle.st_text.specs.Counts.{acts_len}
 
 -- the lines of a header and what is behind it
@@ -31,15 +32,22 @@ pub record IsSound (p : Progress) (ls : List Line) : Type 0 where
   pub wide_is : p.wide ≡ list_any is_wide ls
   pub rising : IsRising (pids_of p.draft)
 
--- a next line goes on, or has a fault, or memory ran out
+-- the line says l, which has no fault, and is one that has to be kept
+pub record NeedsRoom (ls : List Line) (said : Option Line) : Type 0 where
+  pub line : Line
+  pub said_is : said ≡ Some line
+  pub good : line_fault ls (Some line) ≡ None
+  pub kept : is_kept line ≡ true
+
+-- a next line goes on, or has a fault, or there was no room for it
 abbrev pub Takes : List Line → Line → Progress → Step → Type 0
 Takes ls l new Goes = (line_fault ls (Some l) ≡ None) × IsSound new (ls ++ l ∷ [])
 Takes ls l new (Stops f) = line_fault ls (Some l) ≡ Some f
-Takes ls l new Halts = Unit {0}
+Takes ls l new Halts = NeedsRoom ls (Some l)
 
 -- the same of bytes that may say no line
 abbrev pub TakesLine : List Line → Option Line → Progress → Step → Type 0
 TakesLine ls (Some l) new step = Takes ls l new step
 TakesLine ls None new Goes = ⊥
 TakesLine ls None new (Stops f) = line_fault ls None ≡ Some f
-TakesLine ls None new Halts = Unit {0}
+TakesLine ls None new Halts = ⊥

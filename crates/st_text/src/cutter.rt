@@ -1,12 +1,14 @@
 //! Bytes in pieces, cut at their newlines. Whole lines are read where they lie in the piece; of the unfinished line so
 //! much is kept as a line can have. It counts no bytes.
 
-ghost use Rattle.std.specs.Prelude.{◌≡◌, ◌≤◌, ◌++◌, ◌∷◌, ◌||◌, [], List, ℕ, Bool, is_some, None, Some, false, IfOk, OnOk, vec_len, length};
+ghost use Rattle.std.specs.Prelude.{◌≡◌, ◌<◌, ◌≤◌, ◌++◌, ◌∷◌, ◌||◌, [], List, ℕ, Bool, is_some, None, Some, false};
+ghost use Rattle.std.specs.Prelude.{IfOk, OnOk, OnErr, vec_len, length};
 ghost use Rattle.st_text.specs.declared.line.Line.{Line};
 ghost use Rattle.st_text.specs.Held.{IsHeld, TakesSaid, header_of};
 ghost use Rattle.st_text.specs.Fault.{cut};
 ghost use Rattle.st_text.specs.Reading.{line_of};
 ghost use Rattle.st_text.specs.Tail.{IsTail, IsPlain};
+ghost use Rattle.st_text.specs.Growth.{EndsKept, Grows};
 
 use crate::bundle::Bundle;
 use crate::fault::ReadFault;
@@ -71,6 +73,7 @@ fn whole_line(long: bool, tail: &mut Vec<u8>, rest: &[u8]) -> Result<Option<Line
     ensures said { (t : List ℕ) → IsTail long tail.old.items t → IfOk result (λ s. s ≡ line_of (t ++ rest.now)) }
     ensures short { vec_len tail.new ≤ 131 }
     ensures empty { OnOk result (tail.new.items ≡ []) }
+    ensures err { OnErr result (long ≡ false) }
 {
     if long {
         tail.clear();
@@ -87,12 +90,13 @@ fn whole_line(long: bool, tail: &mut Vec<u8>, rest: &[u8]) -> Result<Option<Line
 }
 
 impl Cutter {
-    ghost use Rattle.st_text.specs.Holds.{Holds, HoldsAs};
-    ghost use Rattle.st_text.specs.Answer.{Answers};
+    ghost use Rattle.st_text.specs.Holds.{Holds, HoldsAs, Comes, AddsBytes, EndsOne};
+    ghost use Rattle.st_text.specs.Answer.{IsAnswer};
 
     /// No bytes so far. Takes no memory.
     pub(crate) fn new(alloc: Global) -> Cutter
-        ensures { Holds [] result }
+        ensures holds { Holds [] result }
+        ensures fresh { result.out ≡ false }
     {
         Cutter {
             alloc,
@@ -109,7 +113,7 @@ impl Cutter {
         requires going { self.old.out ≡ false }
         requires good { self.old.fault ≡ None }
         ensures fault { self.new.fault ≡ None }
-        ensures holds { (bytes : List ℕ) → IsPlain rest.now → Holds bytes self.old → Holds (bytes ++ rest.now) self.new }
+        ensures holds { (bytes : List ℕ) → IsPlain rest.now → Holds bytes self.old → Comes (bytes ++ rest.now) self.new (AddsBytes bytes rest.now) }
     {
         if self.long {
             return;
@@ -131,7 +135,7 @@ impl Cutter {
         requires good { self.old.fault ≡ None }
         requires short { self.old.long ≡ false }
         requires empty { self.old.tail.items ≡ [] }
-        ensures { (bytes rest : List ℕ) (long : Bool) (kept : List ℕ) → IsPlain rest → (IsTail long kept (cut bytes).1 → said.now ≡ line_of ((cut bytes).1 ++ rest)) → HoldsAs self.old.out self.old.fault bytes long kept self.old.progress → Holds (bytes ++ (rest ++ 10 ∷ [])) self.new }
+        ensures { (bytes rest : List ℕ) (long : Bool) (kept : List ℕ) → IsPlain rest → (IsTail long kept (cut bytes).1 → said.now ≡ line_of ((cut bytes).1 ++ rest)) → HoldsAs self.old.out self.old.fault bytes long kept self.old.progress → Comes (bytes ++ (rest ++ 10 ∷ [])) self.new (EndsKept (bytes ++ (rest ++ 10 ∷ []))) }
     {
         match take_said(self.alloc, &mut self.progress, said) {
             Step::Goes => {}
@@ -144,7 +148,8 @@ impl Cutter {
     fn end_begun_line(&mut self, rest: &[u8])
         requires going { self.old.out ≡ false }
         requires good { self.old.fault ≡ None }
-        ensures { (bytes : List ℕ) → IsPlain rest.now → Holds bytes self.old → Holds (bytes ++ (rest.now ++ 10 ∷ [])) self.new }
+        requires begun { self.old.long ≡ false → 0 < length self.old.tail.items }
+        ensures { (bytes : List ℕ) → IsPlain rest.now → Holds bytes self.old → Comes (bytes ++ (rest.now ++ 10 ∷ [])) self.new (EndsOne bytes rest.now) }
     {
         let Ok(said) = whole_line(self.long, &mut self.tail, rest) else {
             self.out = true;
@@ -160,7 +165,7 @@ impl Cutter {
     fn end_line(&mut self, rest: &[u8])
         requires going { self.old.out ≡ false }
         requires good { self.old.fault ≡ None }
-        ensures { (bytes : List ℕ) → IsPlain rest.now → Holds bytes self.old → Holds (bytes ++ (rest.now ++ 10 ∷ [])) self.new }
+        ensures { (bytes : List ℕ) → IsPlain rest.now → Holds bytes self.old → Comes (bytes ++ (rest.now ++ 10 ∷ [])) self.new (EndsOne bytes rest.now) }
     {
         if self.long || !self.tail.is_empty() {
             self.end_begun_line(rest);
@@ -178,7 +183,7 @@ impl Cutter {
 
     /// Takes a piece.
     pub(crate) fn take(&mut self, piece: &[u8])
-        ensures { (bytes : List ℕ) → Holds bytes self.old → Holds (bytes ++ piece.now) self.new }
+        ensures { (bytes : List ℕ) → Holds bytes self.old → Comes (bytes ++ piece.now) self.new (self.old.out ≡ false → Grows bytes piece.now) }
     {
         let mut rest = piece;
         while !self.is_over() {
@@ -195,7 +200,7 @@ impl Cutter {
     /// The bundle whose text the pieces were, or their refusal.
     pub(crate) fn end(self) -> Result<Bundle, ReadFault>
         requires { self.out ≡ false }
-        ensures { (bytes : List ℕ) → length bytes ≤ 67108864 → Holds bytes self → Answers bytes result }
+        ensures { (bytes : List ℕ) → length bytes ≤ 67108864 → Holds bytes self → IsAnswer bytes result }
     {
         let Cutter {
             alloc: _,

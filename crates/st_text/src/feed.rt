@@ -1,6 +1,7 @@
 //! A reader of a bundle's text that takes it in pieces, however it is cut. It counts the bytes; the lines are the cutter's.
 
-ghost use Rattle.std.specs.Prelude.{◌≡◌, ◌≤◌, ◌++◌, [], List, ℕ, Some, Err};
+ghost use Rattle.std.specs.Prelude.{◌≡◌, ◌≤◌, ◌++◌, [], List, ℕ, Some, None, Err};
+ghost use Rattle.st_text.specs.Growth.{Grows};
 
 use crate::bundle::Bundle;
 use crate::cutter::Cutter;
@@ -24,11 +25,13 @@ pub struct Feed {
 impl Feed {
     ghost use Rattle.st_text.specs.declared.fault.ReadFault.{ReadFault};
     ghost use Rattle.st_text.specs.Fed.{IsFed, refusal, answer_of};
-    ghost use Rattle.st_text.specs.Answer.{Answers};
+    ghost use Rattle.st_text.specs.Answer.{Answers, IsAnswer};
+    ghost use Rattle.st_text.specs.declared.fault.ReadFault.TheVariants as faults;
 
     /// No bytes yet. Takes no memory.
     pub fn new(alloc: Global) -> Feed
-        ensures { IsFed [] result }
+        ensures fed { IsFed [] result }
+        ensures fresh { refusal result ≡ None }
     {
         Feed {
             count: 0,
@@ -44,6 +47,7 @@ impl Feed {
         ensures fed { (bytes : List ℕ) → IsFed bytes self.old → IsFed (bytes ++ piece.now) self.new }
         ensures answer { result ≡ answer_of (refusal self.new) }
         ensures again { (f : ReadFault) → refusal self.old ≡ Some f → refusal self.new ≡ Some f }
+        ensures memory { (bytes : List ℕ) → IsFed bytes self.old → refusal self.old ≡ None → refusal self.new ≡ Some faults.Memory → Grows bytes piece.now }
     {
         if self.large {
             return Err(ReadFault::TooLarge);
@@ -64,9 +68,10 @@ impl Feed {
         Ok(())
     }
 
-    /// The bundle whose text the pieces were, or their refusal.
+    /// The bundle whose text the pieces were, or their refusal. Takes no memory.
     pub fn end(self) -> Result<Bundle, ReadFault>
         ensures answers { (bytes : List ℕ) → IsFed bytes self → Answers bytes result }
+        ensures exact { (bytes : List ℕ) → IsFed bytes self → refusal self ≡ None → IsAnswer bytes result }
         ensures again { (f : ReadFault) → refusal self ≡ Some f → result ≡ Err f }
     {
         let Feed {

@@ -7,7 +7,7 @@ use Rattle.st_text.proofs.OfText.{reads_end}
 use Rattle.st_text.proofs.reader.read.Goals as goal
 
 pub loop-count-init : goal.loop-count-init
-loop-count-init g c = ([], NoCall _, c.new-feed.ensures, refl, omega arith, refl, refl, λ some. absurd (omega arith))
+loop-count-init g c = ([], NoCall _, c.new-feed.ensures.fed, refl, omega arith, refl, refl, λ some. absurd (omega arith))
 
 pub loop-count-preserved : goal.loop-count-preserved
 loop-count-preserved g c =

@@ -1,5 +1,5 @@
 use Rattle.st_text.proofs.Cutting.{holds_nothing}
 use Rattle.st_text.proofs.cutter.Cutter.new.Goals as goal
 
-pub returns : goal.returns
-returns c = holds_nothing _ c.new.ensures.items
+pub returns-clause-holds : goal.returns-clause-holds
+returns-clause-holds c = holds_nothing _ c.new.ensures.items

@@ -1,7 +1,7 @@
 use Rattle.std.proofs.Common.{◌≡◌, ◌+◌, ◌∙◌, ◌&&◌, ◌||◌, not, true, false, refl, sym, ap}
 use Rattle.std.specs.Prelude.{is_some}
 use Rattle.st_text.specs.Text.{is_away}
-use Rattle.st_text.proofs.Faults.{open_fault, no_line, no_order, too_many, no_fault, begun_out, away_out, let_in, not_begun, none_of_acts, at_most, below}
+use Rattle.st_text.proofs.Faults.{open_fault, open_good, needs_room, no_line, no_order, too_many, begun_out, away_out, let_in, not_begun, none_of_acts, at_most}
 use Rattle.st_text.proofs.Soundness.{sound_open}
 use Rattle.st_text.proofs.progress.Progress.open.Goals as goal
 
@@ -30,13 +30,21 @@ returns-then-self-ge-MOST_PROCESSES c = λ ls s.
     let stands = let_in (not (is_some p.acts)) p.wide (is_away c.args.pid) (not_begun _ (sym c.is_some.ensures ∙ c.if-is_some.false)) out in
     open_fault p ls c.args.pid s ∙ too_many (p.lines + 1) _ _ _ _ stands (sym c.is_out_of_order.ensures ∙ c.if-is_out_of_order.false) refl (at_most 1024 p.processes c.if-self-ge-MOST_PROCESSES.true)
 
+pub returns-in_default : goal.returns-in_default
+returns-in_default c = λ ls s.
+    let p = c.args.self.now in
+    let begun : is_some p.acts ≡ false = sym c.is_some.ensures ∙ c.if-is_some.false in
+    let out : (is_away c.args.pid && not p.wide) ≡ false = ap (λ b. b && not p.wide) (sym c.is_away-away.ensures) ∙ sym c.keeps_out.ensures ∙ c.if-keeps_out.false in
+    let order = sym c.is_out_of_order.ensures ∙ c.if-is_out_of_order.false in
+    needs_room ls _ (open_good p ls c.args.pid s begun out order c.if-self-ge-MOST_PROCESSES.false) refl
+
 pub returns : goal.returns
 returns c = λ ls s.
     let p = c.args.self.now in
     let begun : is_some p.acts ≡ false = sym c.is_some.ensures ∙ c.if-is_some.false in
     let out : (is_away c.args.pid && not p.wide) ≡ false = ap (λ b. b && not p.wide) (sym c.is_away-away.ensures) ∙ sym c.keeps_out.ensures ∙ c.if-keeps_out.false in
-    let stands = let_in (not (is_some p.acts)) p.wide (is_away c.args.pid) (not_begun _ begun) out in
+    let order = sym c.is_out_of_order.ensures ∙ c.if-is_out_of_order.false in
     let remote = c.is_either-self.ensures ∙ ap (λ b. p.remote || b) c.is_away-away.ensures in (
-      open_fault p ls c.args.pid s ∙ no_fault (p.lines + 1) _ _ _ _ stands (sym c.is_out_of_order.ensures ∙ c.if-is_out_of_order.false) refl (below 1024 p.processes c.if-self-ge-MOST_PROCESSES.false),
+      open_good p ls c.args.pid s begun out order c.if-self-ge-MOST_PROCESSES.false,
       sound_open p _ ls c.args.pid s (none_of_acts p.acts begun) refl refl c.in-Ok.ensures.ok refl refl refl refl remote c.in-Ok.ensures.rising,
     )

@@ -1,0 +1,17 @@
+-- Where memory ran out in this piece, the cutter tells the growth that was refused.
+use Rattle.std.proofs.Common.{◌≡◌, ℕ, Bool, true, false, List}
+use Rattle.st_text.specs.declared.cutter.Cutter.{Cutter}
+use Rattle.st_text.specs.Fed.{FedAs, IsCounted}
+use Rattle.st_text.proofs.feed.Feed.piece.Goals as goal
+
+counted : (large out : Bool) (bytes : List ℕ) (count : ℕ) (cutter : Cutter) → large ≡ false → out ≡ false
+    → FedAs large out bytes count cutter → IsCounted bytes count cutter
+counted true out bytes count cutter el eo fed = absurd cc
+counted false true bytes count cutter el eo fed = absurd cc
+counted false false bytes count cutter el eo fed = fed
+
+pub returns-then-self-3-clause-memory : goal.returns-then-self-3-clause-memory
+returns-then-self-3-clause-memory c = λ bytes fed going ran.
+    let s = c.args.self.now in
+    let was = counted s.large s.cutter.out bytes s.count s.cutter c.if-self.false c.if-self-2.false fed in
+    (c.take.ensures bytes was.holds).growth c.if-self-3.true c.if-self-2.false
