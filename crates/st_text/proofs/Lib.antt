@@ -24,4 +24,5 @@ pub mod Whole
 pub mod One
 pub mod Readable
 pub mod First
+pub mod Readers
 pub mod ForCallers

@@ -1,5 +1,5 @@
 -- Device and TooLarge are faults of no text.
-use Rattle.std.proofs.Common.{◌≡◌, ℕ, ◌+◌, ◌≤◌, Bool, true, false, not, cond, List, [], ◌∷◌, ◌++◌, length, Option, Some, None, subst, nat_lt, eqb, ◌&&◌, arith}
+use Rattle.std.proofs.Common.{◌≡◌, ℕ, ◌+◌, ◌≤◌, Bool, true, false, not, cond, List, [], ◌∷◌, ◌++◌, length, Option, Some, None, ap, ◌∙◌, subst, nat_lt, eqb, ◌&&◌, arith}
 use Rattle.std.specs.Prelude.{Result, Ok, Err}
 use Rattle.std.specs.List.{list_any, count_by}
 use Rattle.std.proofs.lemmas.Bool.Decides.{nat_tests}
@@ -10,6 +10,7 @@ use Rattle.st_text.specs.declared.fault.ReadFault.{ReadFault}
 use Rattle.st_text.specs.declared.fault.ReadFault.TheVariants as faults
 use Rattle.st_text.specs.Fault.{cut, pids, last, is_event, is_act, may_stand, is_out_of_order, is_foreign, is_one_too_many, line_fault, first_fault, first_of, truncated, needless, is_wide, is_unknown, unknown_from, closing_fault, fault, sayings, said}
 use Rattle.st_text.specs.Text.{is_remote}
+use Rattle.st_text.specs.Answer.{IsAnswer}
 use Rattle.st_text.specs.Reads.{Ends, ReadsAs}
 
 abbrev pub OfText : ReadFault → Type 0
@@ -79,3 +80,10 @@ reads_end ended failed bytes old new (Err (faults.Foreign n)) small e = e
 reads_end ended failed bytes old new (Err (faults.Unknown n)) small e = e
 reads_end ended failed bytes old new (Err (faults.TooMany n)) small e = e
 reads_end ended failed bytes old new (Err faults.Truncated) small e = e
+
+-- no text has Memory for its fault
+pub no_memory : (bytes : List ℕ) (r : Result Bundle ReadFault) → length bytes ≤ 67108864 → IsAnswer bytes r → r ≡ Err faults.Memory → ⊥
+no_memory bytes (Ok b) small h e = absurd cc
+no_memory bytes (Err f) small h e =
+    let same : f ≡ faults.Memory = cc in
+    of_text bytes faults.Memory small (h ∙ ap (λ (x : ReadFault). Some x) same)

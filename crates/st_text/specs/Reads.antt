@@ -1,11 +1,12 @@
 -- What the reader answers of a source: by the bytes that its calls gave in a row, whatever else the source tells.
-use Rattle.std.specs.Prelude.{◌≡◌, ℕ, ◌+◌, ◌≤◌, Bool, true, false, List, length, Result, Err}
+use Rattle.std.specs.Prelude.{◌≡◌, ℕ, ◌+◌, ◌≤◌, Bool, true, false, List, ◌++◌, length, Result, Err}
 use Rattle.st_core.specs.Device.{InARow}
 use Rattle.st_text.specs.declared.bundle.Bundle.{Bundle}
 use Rattle.st_text.specs.declared.fault.ReadFault.{ReadFault}
 use Rattle.st_text.specs.declared.fault.ReadFault.TheVariants as faults
 use Rattle.st_text.specs.Limits.{most_bytes}
 use Rattle.st_text.specs.Answer.{Answers}
+use Rattle.st_text.specs.Growth.{Grows}
 
 -- a call failed, and there weren't too many bytes before it
 pub record Fails {S : Type 0} (failed : S → Bool) (bytes : List ℕ) (new : S) : Type 0 where
@@ -31,8 +32,21 @@ ReadsAs ended failed bytes old new (Err faults.Device) = Fails failed bytes new
 ReadsAs ended failed bytes old new (Err faults.TooLarge) = Overflows failed bytes old new
 ReadsAs ended failed bytes old new r = Ends ended failed bytes old new r
 
--- the reader's calls gave some bytes in a row, and it answers of them
+-- one of the calls gave a piece of these bytes in whose reading something had to be kept
+pub record HadGrowth {S : Type 0} (gives : S → List ℕ → S → Type 0) (bytes : List ℕ) (old : S) : Type 0 where
+  pub before : List ℕ
+  pub piece : List ℕ
+  pub after : List ℕ
+  pub parts : bytes ≡ before ++ (piece ++ after)
+  pub from : S
+  pub to : S
+  pub earlier : InARow gives old before from
+  pub call : gives from piece to
+  pub growth : Grows before piece
+
+-- The reader's calls gave some bytes in a row, and it answers of them; Memory only where a call gave bytes to keep.
 pub record ReadsSource {S : Type 0} (gives : S → List ℕ → S → Type 0) (ended : S → Type 0) (failed : S → Bool) (old new : S) (r : Result Bundle ReadFault) : Type 0 where
   pub bytes : List ℕ
   pub given : InARow gives old bytes new
   pub answer : ReadsAs ended failed bytes old new r
+  pub memory : r ≡ Err faults.Memory → HadGrowth gives bytes old

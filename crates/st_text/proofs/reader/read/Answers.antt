@@ -1,55 +1,103 @@
-use Rattle.std.proofs.Common.{◌≡◌, ◌<◌, ◌≤◌, ◌+◌, ◌∙◌, [], ◌++◌, List, ℕ, take, drop, length, refl, sym, subst, arith}
+-- Each call's bytes are added to those before; at the source's end the feed's answer is that of them all.
+use Rattle.std.proofs.Common.{◌≡◌, ◌<◌, ◌≤◌, ◌+◌, ◌∙◌, [], ◌++◌, List, ℕ, Some, Err, take, drop, length, refl, sym, ap, subst, arith}
+use Rattle.std.specs.Prelude.{Result}
 use Rattle.std.proofs.lemmas.List.{length-append, length-take, length-drop, take-append-le}
 use Rattle.st_core.specs.Device.{NoCall, OneMore}
-use Rattle.st_text.specs.Fed.{IsFed}
+use Rattle.st_text.specs.declared.fault.ReadFault.{ReadFault}
+use Rattle.st_text.specs.declared.fault.ReadFault.TheVariants as faults
+use Rattle.st_text.specs.Growth.{Grows}
+use Rattle.st_text.specs.Fed.{IsFed, refusal}
 use Rattle.st_text.proofs.Puts.{put_none}
 use Rattle.st_text.proofs.OfText.{reads_end}
+use Rattle.st_text.proofs.Readers.{growth_after, growth_at_end, never_fresh}
 use Rattle.st_text.proofs.reader.read.Goals as goal
 
 pub loop-count-init : goal.loop-count-init
-loop-count-init g c = ([], NoCall _, c.new-feed.ensures.fed, refl, omega arith, refl, refl, λ some. absurd (omega arith))
+loop-count-init g c =
+    record {
+      bytes = [];
+      given = NoCall _;
+      fed = c.new-feed.ensures.fed;
+      counted = refl;
+      few = omega arith;
+      size = refl;
+      mark = refl;
+      sound = λ some. absurd (omega arith);
+      memory = λ ran. absurd (never_fresh _ faults.Memory c.new-feed.ensures.fresh ran);
+    }
 
 pub loop-count-preserved : goal.loop-count-preserved
 loop-count-preserved g c =
     let i = c.loop-count.invariant in
+    let gives = g.S.ByteSource.gives in
     let piece = c.take.new.piece in
     let given : List ℕ = take c.in-Ok.n piece in
     let within : c.in-Ok.n ≤ length piece = c.in-Ok.ensures.bound in
-    let room : length piece ≤ c.min-room.result = omega (arith, c.take.auto.piece, length-take c.min-room.result c.loop-count.buffer) in
-    let len : length (i.0 ++ given) ≡ c.loop-count.count + c.in-Ok.n = omega (arith, length-append i.0 given, length-take c.in-Ok.n piece, i.3, within) in
-    let same : take c.in-Ok.n (piece ++ drop c.min-room.result c.loop-count.buffer) ≡ given = take-append-le c.in-Ok.n piece (drop c.min-room.result c.loop-count.buffer) within in
-    let fed = subst (λ (x : List ℕ). IsFed (i.0 ++ x) c.piece-answer.new.self) same (c.piece-answer.ensures.fed i.0 i.2) in (
-      i.0 ++ given,
-      OneMore _ _ _ i.0 given i.1 c.in-Ok.ensures.given,
-      fed,
-      sym len,
-      omega (arith, c.min-room.ensures, room, within, i.4),
-      omega (arith, length-append piece (drop c.min-room.result c.loop-count.buffer), length-drop c.min-room.result c.loop-count.buffer, c.take.auto.piece, length-take c.min-room.result c.loop-count.buffer, c.min-room.ensures, i.5),
-      c.in-Ok.ensures.mark.1 ∙ sym c.in-Ok.ensures.mark.0 ∙ i.6,
-      λ _. sym i.6 ∙ c.in-Ok.ensures.mark.0,
-    )
+    let asked = length-take c.min-room.result c.loop-count.buffer in
+    let left = length-drop c.min-room.result c.loop-count.buffer in
+    let room : length piece ≤ c.min-room.result = omega (arith, c.take.auto.piece, asked) in
+    let len : length (i.bytes ++ given) ≡ c.loop-count.count + c.in-Ok.n =
+    omega (arith, length-append i.bytes given, length-take c.in-Ok.n piece, i.counted, within) in
+    let back = drop c.min-room.result c.loop-count.buffer in
+    let same : take c.in-Ok.n (piece ++ back) ≡ given = take-append-le c.in-Ok.n piece back within in
+    let feed = c.piece-answer.new.self in
+    let memory = subst (λ (x : List ℕ). refusal feed ≡ Some faults.Memory → Grows i.bytes x) same in
+    record {
+      bytes = i.bytes ++ given;
+      given = OneMore _ _ _ i.bytes given i.given c.in-Ok.ensures.given;
+      fed = subst (λ (x : List ℕ). IsFed (i.bytes ++ x) feed) same (c.piece-answer.ensures.fed i.bytes i.fed);
+      counted = sym len;
+      few = omega (arith, c.min-room.ensures, room, within, i.few);
+      size = omega (arith, length-append piece back, left, c.take.auto.piece, asked, c.min-room.ensures, i.size);
+      mark = c.in-Ok.ensures.mark.1 ∙ sym c.in-Ok.ensures.mark.0 ∙ i.mark;
+      sound = λ _. sym i.mark ∙ c.in-Ok.ensures.mark.0;
+      memory = growth_after gives _ _ _ i.bytes given (refusal c.loop-count.feed) (refusal feed) i.given c.in-Ok.ensures.given i.memory
+          (λ fresh. memory (c.piece-answer.ensures.memory i.bytes i.fed fresh)) c.piece-answer.ensures.again;
+    }
 
 pub returns-in-Err : goal.returns-in-Err
 returns-in-Err g c =
     let i = c.loop-count.invariant in
-    record { bytes = i.0; given = put_none g.S.ByteSource.gives _ _ _ i.0 i.1 c.in-Err.ensures.given; answer = record { mark = c.in-Err.ensures.mark; small = omega (arith, i.3) } }
+    record {
+      bytes = i.bytes;
+      given = put_none g.S.ByteSource.gives _ _ _ i.bytes i.given c.in-Err.ensures.given;
+      answer = record { mark = c.in-Err.ensures.mark; small = omega (arith, i.counted) };
+      memory = λ e. absurd cc;
+    }
 
 pub returns-in-Ok-eq0 : goal.returns-in-Ok-eq0
 returns-in-Ok-eq0 g c =
     let i = c.loop-count.invariant in
     let e = c.in-Ok-eq0.ensures in
+    let gives = g.S.ByteSource.gives in
+    let failed = g.S.ByteSource.failed in
     let piece = c.take.new.piece in
-    let room : 0 < length piece = omega (arith, c.take.auto.piece, c.min-room.ensures, length-take c.min-room.result c.loop-count.buffer, i.5) in
-    let none = subst (λ (k : ℕ). g.S.ByteSource.gives c.loop-count.source (take k piece) c.take.new.self) c.in-Ok-eq0.field-0-test e.given in
-    let small : length i.0 ≤ 67108864 = omega (arith, i.3) in
+    let asked = length-take c.min-room.result c.loop-count.buffer in
+    let room : 0 < length piece = omega (arith, c.take.auto.piece, c.min-room.ensures, asked, i.size) in
+    let zero = c.in-Ok-eq0.field-0-test in
+    let none = subst (λ (k : ℕ). gives c.loop-count.source (take k piece) c.take.new.self) zero e.given in
+    let small : length i.bytes ≤ 67108864 = omega (arith, i.counted) in
     record {
-      bytes = i.0;
-      given = put_none g.S.ByteSource.gives _ _ _ i.0 i.1 none;
-      answer = reads_end g.S.ByteSource.ended g.S.ByteSource.failed i.0 _ _ c.end.result small (record { end = e.end c.in-Ok-eq0.field-0-test room; small = small; before = sym i.6 ∙ e.mark.0; after = e.mark.1; answer = c.end.ensures.answers i.0 i.2 });
+      bytes = i.bytes;
+      given = put_none gives _ _ _ i.bytes i.given none;
+      answer = reads_end g.S.ByteSource.ended failed i.bytes _ _ c.end.result small (record {
+        end = e.end zero room;
+        small = small;
+        before = sym i.mark ∙ e.mark.0;
+        after = e.mark.1;
+        answer = c.end.ensures.answers i.bytes i.fed;
+      });
+      memory = growth_at_end gives _ i.bytes (refusal c.loop-count.feed) c.end.result small i.memory
+          (c.end.ensures.exact i.bytes i.fed) c.end.ensures.again;
     }
 
 pub returns : goal.returns
 returns g c =
     let i = c.loop-count.invariant in
     let some : 0 < c.loop-count.count = omega arith in
-    record { bytes = i.0; given = i.1; answer = record { count = omega (arith, i.3, i.4); before = i.7 some; after = i.6 ∙ i.7 some } }
+    record {
+      bytes = i.bytes;
+      given = i.given;
+      answer = record { count = omega (arith, i.counted, i.few); before = i.sound some; after = i.mark ∙ i.sound some };
+      memory = λ e. absurd cc;
+    }
