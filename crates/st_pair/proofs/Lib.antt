@@ -1,4 +1,5 @@
 pub mod Noted
+pub mod Tabled
 pub mod Firsts
 pub mod Owned
 pub mod Ruled

@@ -1,41 +1,10 @@
--- A table after one more place is noted.
-use Rattle.std.proofs.Common.{
-  ◌≡◌,
-  ◌&&◌,
-  Bool,
-  true,
-  false,
-  cond,
-  Option,
-  None,
-  Some,
-  is_some,
-  refl,
-  sym,
-  ◌∙◌,
-  ap,
-  subst,
-}
-use Rattle.std.proofs.lemmas.Bool.{eqb-true, true≢false}
-use Rattle.std.specs.Option.{option_copied}
-use Rattle.std.specs.Borrow.{Bor}
-use Rattle.st_core.proofs.ForCallers.{pid_eq-true}
+-- A row at the end of a list is what the list gives for its key, unless an earlier row has that key.
+use Rattle.std.proofs.Common.{◌≡◌, ℕ, true, false, cond, List, [], ◌∷◌, ◌++◌, Option, None, Some, find, option_map, refl}
+use Rattle.std.proofs.Common.{Result, Ok, Err, IfOk}
+use Rattle.st_core.specs.declared.types.Pid.{Pid}
 use Rattle.st_pair.specs.declared.tables.Key.{Key}
-use Rattle.st_pair.specs.Tables.{key_eq, or_else, here}
-
-and_left : (x y : Bool) → (x && y) ≡ true → x ≡ true
-and_left true y h = refl
-and_left false y h = h
-
-and_right : (x y : Bool) → (x && y) ≡ true → y ≡ true
-and_right true y h = h
-and_right false y h = cc
-
-pub key_eq-true : (k l : Key) → key_eq k l ≡ true → k ≡ l
-key_eq-true k l h =
-    let pids = pid_eq-true k.from l.from (and_left _ _ h) in
-    let counts = eqb-true k.this l.this (and_right _ _ h) in
-    λ i. record { from = pids i; this = counts i }
+use Rattle.st_pair.specs.declared.tables.Row.{Row}
+use Rattle.st_pair.specs.Tables.{key_eq, key_of, place_in, or_else, here}
 
 module _ {X : Type 0} where
   pub or_none : (o : Option X) → or_else o None ≡ o
@@ -46,32 +15,21 @@ module _ {X : Type 0} where
   or_assoc None b c = refl
   or_assoc (Some x) b c = refl
 
-  or_there : (o p : Option X) → is_some o ≡ true → o ≡ or_else o p
-  or_there None p h = absurd (true≢false (sym h))
-  or_there (Some x) p h = refl
+-- where the event of a row stands
+abbrev pub row_place : Row → Pid × ℕ
+row_place r = (r.pid, r.index)
 
-  -- a key that is there already
-  pub noted_before : (f : Key → Option X) (key : Key) (place : X) → is_some (f key) ≡ true → (k : Key)
-      → f k ≡ or_else (f k) (here key place k)
-  noted_before f key place there k = elim (key_eq key k)
-      as (λ b. key_eq key k ≡ b → f k ≡ or_else (f k) (cond b (Some place) None)) [
-        | true ↦ λ e. or_there (f k) (Some place)
-            (subst (λ (q : Key). is_some (f q) ≡ true) (key_eq-true key k e) there)
-        | false ↦ λ e. sym (or_none (f k))
-      ] refl
+module _ (row : Row) (k : Key) where
+  pub place_in-push : (rows : List Row) → place_in (rows ++ row ∷ []) k
+      ≡ or_else (place_in rows k) (here (key_of row) (row_place row) k)
+  place_in-push [] = elim (key_eq (key_of row) k) as (λ b. option_map row_place (cond b (Some row) None)
+      ≡ cond b (Some (row_place row)) None) [ true ↦ refl | false ↦ refl ]
+  place_in-push (r ∷ rows) = elim (key_eq (key_of r) k) as (λ b. option_map row_place
+      (cond b (Some r) (find (λ s. key_eq (key_of s) k) (rows ++ row ∷ [])))
+      ≡ or_else (option_map row_place (cond b (Some r) (find (λ s. key_eq (key_of s) k) rows)))
+      (here (key_of row) (row_place row) k)) [ true ↦ refl | false ↦ place_in-push rows ]
 
-  -- a new key
-  pub noted_now : (f g : Key → Option X) (key : Key) (place : X) → f key ≡ None
-      → ((q : Key) → g q ≡ cond (key_eq key q) (Some place) (f q)) → (k : Key)
-      → g k ≡ or_else (f k) (here key place k)
-  noted_now f g key place none is k = is k ∙ elim (key_eq key k)
-      as (λ b. key_eq key k ≡ b → cond b (Some place) (f k) ≡ or_else (f k) (cond b (Some place) None)) [
-        | true ↦ λ e. ap (λ (o : Option X). or_else o (Some place))
-            (sym (subst (λ (q : Key). f q ≡ None) (key_eq-true key k e) none))
-        | false ↦ λ e. sym (or_none (f k))
-      ] refl
-
-pub none_copied : {X : Type 0} (r : Option (Bor X)) (o : Option X) → option_copied r ≡ o → is_some r ≡ false
-    → o ≡ None
-none_copied None o is h = sym is
-none_copied (Some x) o is h = absurd (true≢false h)
+-- what a call says of its value, and what follows from it
+pub ok_then : {A E : Type 0} (r : Result A E) (P Q : A → Type 0) → IfOk r P → ((x : A) → P x → Q x) → IfOk r Q
+ok_then (Ok x) P Q holds then = then x holds
+ok_then (Err e) P Q holds then = tt

@@ -14,12 +14,16 @@ use Rattle.std.specs.Prelude.{
   None,
   if◌then◌else◌,
   option_map,
+  find,
   option_and_then,
 }
 use Rattle.st_core.specs.declared.types.Pid.{Pid}
 use Rattle.st_core.specs.declared.types.Event.{Event}
-use Rattle.st_core.specs.Pid.{pid_eq}
+use Rattle.std.specs.declared.cmp.Ordering.{Ordering}
+use Rattle.std.specs.Ordering.{nat_cmp, ordering_then}
+use Rattle.st_core.specs.Pid.{pid_eq, pid_cmp}
 use Rattle.st_pair.specs.declared.tables.Key.{Key}
+use Rattle.st_pair.specs.declared.tables.Row.{Row}
 use Rattle.st_core.specs.Run.{Stream}
 use Rattle.st_pair.specs.declared.answer.PairFault.{PairFault}
 use Rattle.st_pair.specs.declared.answer.PairFault.TheVariants as fault
@@ -29,6 +33,22 @@ use Rattle.st_pair.specs.Pairing.{stamp_before, receive_of, stamp_of}
 -- k and l are one sender and one count
 abbrev pub key_eq : Key → Key → Bool
 key_eq k l = pid_eq k.from l.from && k.this == l.this
+
+-- by sender, then count
+abbrev pub key_cmp : Key → Key → Ordering
+key_cmp k l = ordering_then (pid_cmp k.from l.from) (nat_cmp k.this l.this)
+
+-- the sender and count of a row
+abbrev pub key_of : Row → Key
+key_of r = record { from = r.from; this = r.this }
+
+-- the place in the first row with this key
+abbrev pub place_in : List Row → Key → Option (Pid × ℕ)
+place_in rows k = option_map (λ r. (r.pid, r.index)) (find (λ r. key_eq (key_of r) k) rows)
+
+-- the place of a row, if its key is this one
+abbrev pub place_under : Key → Row → Option (Pid × ℕ)
+place_under k r = if key_eq (key_of r) k then Some (r.pid, r.index) else None
 
 -- the first if it is there, else the second
 abbrev pub or_else : {X : Type 0} → Option X → Option X → Option X

@@ -3,16 +3,15 @@
 ghost use Rattle.std.specs.Prelude.{◌≡◌, false, List, map, Some, IfOk, IfErr, IfSome, IfNone};
 ghost use Rattle.std.specs.Prelude.{slice_get};
 ghost use Rattle.std.specs.List.{AllByRecursion};
-ghost use Rattle.indexmap.specs.IndexMap.{get};
 ghost use Rattle.st_core.specs.Pid.{pid_eq, IsRising};
 ghost use Rattle.st_core.specs.Run.{Stream};
 ghost use Rattle.st_pair.specs.Pairing.{source_at, receiver_at, IsPairFault};
 ghost use Rattle.st_pair.specs.Links.{IsPairing, link_at, link_of, linked, links_in, receiver_in, source_in};
-ghost use Rattle.st_pair.specs.Tables.{key_eq, HasReceives, HasStamps};
+ghost use Rattle.st_pair.specs.Tables.{place_in, HasReceives, HasStamps};
 
 use crate::answer::{PairFault, Source};
 use crate::rules::{mismatch, not_rising, prev_not_before, repeated};
-use crate::tables::{Table, lookup, receives, stamps};
+use crate::tables::{Table, receive_count, receives, stamps};
 use st_core::{Event, Kind, Pid, Sequence, Streams};
 use std::alloc::{AllocError, Global};
 use std::marker::Model;
@@ -124,17 +123,17 @@ fn place_of(pids: &[Pid], pid: Pid) -> Option<usize>
 
 /// What an event is paired with.
 fn link_of(streams: &Streams, got: &Table, sent: &Table, pid: Pid, event: &Event) -> Link
-    requires got { HasReceives streams.now (get key_eq got.now) }
-    requires sent { HasStamps streams.now (get key_eq sent.now) }
+    requires got { HasReceives streams.now (place_in got.now) }
+    requires sent { HasStamps streams.now (place_in sent.now) }
     ensures { result ≡ link_of streams.now pid event.now }
 {
     match event.kind {
         Kind::Print => Link::Printed,
-        Kind::Send => match lookup(got, pid, event.serial.this) {
+        Kind::Send => match got.find(pid, event.serial.this) {
             None => Link::Unpaired,
             Some((to, index)) => Link::To(to, index),
         },
-        Kind::Receive => match lookup(sent, event.from, event.serial.this) {
+        Kind::Receive => match sent.find(event.from, event.serial.this) {
             None => Link::Hidden,
             Some((from, index)) => Link::From(from, index),
         },
@@ -150,8 +149,8 @@ fn links_of(
     pid: Pid,
     events: &[Event],
 ) -> Result<Vec<Link>, AllocError>
-    requires got { HasReceives streams.now (get key_eq got.now) }
-    requires sent { HasStamps streams.now (get key_eq sent.now) }
+    requires got { HasReceives streams.now (place_in got.now) }
+    requires sent { HasStamps streams.now (place_in sent.now) }
     ensures { IfOk result (λ links. links.items ≡ map (link_of streams.now pid) events.now) }
 {
     let mut links = Vec::with_capacity(alloc, events.len())?;
@@ -168,8 +167,8 @@ fn all_links(
     got: &Table,
     sent: &Table,
 ) -> Result<Vec<Sequence<Link>>, AllocError>
-    requires got { HasReceives streams.now (get key_eq got.now) }
-    requires sent { HasStamps streams.now (get key_eq sent.now) }
+    requires got { HasReceives streams.now (place_in got.now) }
+    requires sent { HasStamps streams.now (place_in sent.now) }
     ensures { IfOk result (λ lists. lists.items ≡ map (links_in streams.now) streams.now) }
 {
     let mut lists = Vec::new(alloc);
@@ -187,8 +186,8 @@ fn linked(
     got: &Table,
     sent: &Table,
 ) -> Result<Pairing, AllocError>
-    requires got { HasReceives streams.now (get key_eq got.now) }
-    requires sent { HasStamps streams.now (get key_eq sent.now) }
+    requires got { HasReceives streams.now (place_in got.now) }
+    requires sent { HasStamps streams.now (place_in sent.now) }
     ensures { IfOk result (λ pairing. pairing ≡ linked streams.now streams.now) }
 {
     let links = all_links(alloc, streams, got, sent)?;
@@ -208,13 +207,15 @@ pub fn pair(alloc: Global, streams: &Streams) -> Result<Pairing, PairFault>
     if let Some(fault) = not_rising(streams) {
         return Err(fault);
     }
-    let Ok(got) = receives(alloc, streams) else {
+    let count = receive_count(streams);
+    let Ok(got) = receives(alloc, streams, count) else {
         return Err(PairFault::Memory);
     };
     if let Some(fault) = repeated(streams, &got) {
         return Err(fault);
     }
-    let Ok(sent) = stamps(alloc, streams) else {
+    let stamp_count = (streams.total() as usize).saturating_sub(count);
+    let Ok(sent) = stamps(alloc, streams, stamp_count) else {
         return Err(PairFault::Memory);
     };
     if let Some(fault) = mismatch(streams, &sent) {

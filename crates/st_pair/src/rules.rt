@@ -1,16 +1,15 @@
 //! The four rules, each at one event, then in one stream, then in all.
 
 ghost use Rattle.std.specs.Prelude.{◌≡◌, ◌==◌, ◌&&◌, ℕ, Some, option_map, slice_get};
-ghost use Rattle.indexmap.specs.IndexMap.{get};
 ghost use Rattle.st_core.specs.Pid.{pid_eq};
 ghost use Rattle.st_core.specs.Streams.{events_of};
 ghost use Rattle.st_pair.specs.declared.tables.Key.{Key as KeyValue};
 ghost use Rattle.st_pair.specs.Pairing.{agrees, mismatch, not_rising, prev_not_before, repeated, to_eq};
 ghost use Rattle.st_pair.specs.Places.{first, first_from};
-ghost use Rattle.st_pair.specs.Tables.{key_eq, HasReceives, HasStamps, not_rising_in};
+ghost use Rattle.st_pair.specs.Tables.{place_in, HasReceives, HasStamps, not_rising_in};
 
 use crate::answer::PairFault;
-use crate::tables::{Table, lookup};
+use crate::tables::Table;
 use st_core::{Event, Kind, Pid, Streams};
 
 /// Rule 2 in one stream.
@@ -86,12 +85,12 @@ fn repeated_at(
     index: u64,
     event: &Event,
 ) -> Option<PairFault>
-    requires { HasReceives streams.now (get key_eq table.now) }
+    requires { HasReceives streams.now (place_in table.now) }
     ensures { result ≡ repeated streams.now pid index event.now }
 {
     match event.kind {
         Kind::Send | Kind::Print => None,
-        Kind::Receive => match lookup(table, event.from, event.serial.this) {
+        Kind::Receive => match table.find(event.from, event.serial.this) {
             None => None,
             Some((first, place)) => {
                 if is_place(first, place, pid, index) {
@@ -106,7 +105,7 @@ fn repeated_at(
 
 /// Rule 4 in one stream.
 fn repeated_in(streams: &Streams, table: &Table, pid: Pid, events: &[Event]) -> Option<PairFault>
-    requires { HasReceives streams.now (get key_eq table.now) }
+    requires { HasReceives streams.now (place_in table.now) }
     ensures { result ≡ first_from (repeated streams.now) pid 0 events.now }
 {
     for (i, event) in events.iter().enumerate() {
@@ -119,7 +118,7 @@ fn repeated_in(streams: &Streams, table: &Table, pid: Pid, events: &[Event]) -> 
 
 /// Rule 4: the least place of a receive that isn't the first from its sender with its count.
 pub fn repeated(streams: &Streams, table: &Table) -> Option<PairFault>
-    requires { HasReceives streams.now (get key_eq table.now) }
+    requires { HasReceives streams.now (place_in table.now) }
     ensures { result ≡ first (repeated streams.now) streams.now }
 {
     for &pid in streams.pids() {
@@ -165,12 +164,12 @@ fn mismatch_at(
     index: u64,
     event: &Event,
 ) -> Option<PairFault>
-    requires { HasStamps streams.now (get key_eq table.now) }
+    requires { HasStamps streams.now (place_in table.now) }
     ensures { result ≡ mismatch streams.now pid index event.now }
 {
     match event.kind {
         Kind::Send | Kind::Print => None,
-        Kind::Receive => match lookup(table, event.from, event.serial.this) {
+        Kind::Receive => match table.find(event.from, event.serial.this) {
             None => None,
             Some((_, place)) => match streams.event(event.from, place) {
                 None => None,
@@ -188,7 +187,7 @@ fn mismatch_at(
 
 /// Rule 5 in one stream.
 fn mismatch_in(streams: &Streams, table: &Table, pid: Pid, events: &[Event]) -> Option<PairFault>
-    requires { HasStamps streams.now (get key_eq table.now) }
+    requires { HasStamps streams.now (place_in table.now) }
     ensures { result ≡ first_from (mismatch streams.now) pid 0 events.now }
 {
     for (i, event) in events.iter().enumerate() {
@@ -201,7 +200,7 @@ fn mismatch_in(streams: &Streams, table: &Table, pid: Pid, events: &[Event]) -> 
 
 /// Rule 5: the least place of a receive whose sender has its count on an event that isn't its send.
 pub fn mismatch(streams: &Streams, table: &Table) -> Option<PairFault>
-    requires { HasStamps streams.now (get key_eq table.now) }
+    requires { HasStamps streams.now (place_in table.now) }
     ensures { result ≡ first (mismatch streams.now) streams.now }
 {
     for &pid in streams.pids() {

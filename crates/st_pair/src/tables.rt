@@ -1,19 +1,23 @@
-//! Tables from a sender and a count to the first event that has them.
+//! Tables from a sender and a count to the place of the first event that has them.
+//!
+//! A table is a list of rows that a stable sort put in order: 24 bytes a row and no gaps, where a
+//! hash table of the same keys takes twice as much. The rows of sends and prints stand in order
+//! before the sort, since processes rise and, where `pair` builds them, the counts of each do.
 
-ghost use Rattle.std.specs.Prelude.{◌≡◌, IfOk, OnOk, option_map};
-ghost use Rattle.indexmap.specs.IndexMap.{get};
+ghost use Rattle.std.specs.Prelude.{◌≡◌, IfOk, OnOk, option_and_then, slice_get};
+ghost use Rattle.std.specs.List.Sorted.{IsSortedByKey};
 ghost use Rattle.st_core.specs.Run.{Stream};
 ghost use Rattle.st_pair.specs.declared.tables.Key.{Key as KeyValue};
-ghost use Rattle.st_pair.specs.Pairing.{receive_of, stamp_of};
 ghost use Rattle.st_pair.specs.Places.{first_from};
-ghost use Rattle.st_pair.specs.Tables.{key_eq, HasReceives, HasStamps, or_else, here, receive_rule, stamp_rule};
+ghost use Rattle.st_pair.specs.Tables.{HasReceives, HasStamps, here, key_cmp, key_of, or_else, place_in};
+ghost use Rattle.st_pair.specs.Tables.{place_under, receive_rule, stamp_rule};
 
-use indexmap::IndexMap;
 use st_core::{Event, Kind, Pid, Streams};
 use std::alloc::{AllocError, Global};
+use std::marker::Model;
 
-/// A sender and a count that it stamped.
-#[derive(Clone, Copy, Debug, PartialEq, Eq, Hash)]
+/// A sender and a count that it stamped, in this order.
+#[derive(Clone, Copy, Debug, PartialEq, Eq, PartialOrd, Ord)]
 pub struct Key {
     /// The sender.
     pub from: Pid,
@@ -21,27 +25,127 @@ pub struct Key {
     pub this: u64,
 }
 
-/// For each sender and count the place of the first event that has them.
-pub type Table = IndexMap<Key, (Pid, u64)>;
+/// The place of an event, under its sender and count. The fields stand so that they leave no gaps.
+#[derive(Clone, Copy, Debug)]
+pub struct Row {
+    /// The sender.
+    from: Pid,
+    /// The process in whose stream the event stands.
+    pid: Pid,
+    /// The sender's count.
+    this: u64,
+    /// The event's index.
+    index: u64,
+}
 
-/// Notes the place under the key, if nothing stands there.
-fn note(table: &mut Table, key: Key, place: (Pid, u64)) -> Result<(), AllocError>
-    ensures { OnOk result ((k : KeyValue) →
-        get key_eq table.new k ≡ or_else (get key_eq table.old k) (here key place k)) }
-{
-    if table.get(&key).is_some() {
-        return Ok(());
+impl Row {
+    /// Its sender and count.
+    fn key(&self) -> Key
+        ensures { result ≡ key_of self.now }
+    {
+        Key {
+            from: self.from,
+            this: self.this,
+        }
     }
-    let Ok(_) = table.insert(key, place) else {
-        return Err(AllocError);
-    };
+
+    /// Its place, if this is its key.
+    fn place_under(&self, key: Key) -> Option<(Pid, u64)>
+        ensures { result ≡ place_under key self.now }
+    {
+        if self.from == key.from && self.this == key.this {
+            Some((self.pid, self.index))
+        } else {
+            None
+        }
+    }
+}
+
+/// For each sender and count the place of the first event that has them.
+#[derive(Debug, Drop)]
+pub struct Table {
+    rows: Vec<Row>,
+}
+
+impl Model for Table {
+    ghost use Rattle.std.specs.Prelude.{List};
+    ghost use Rattle.std.specs.List.Sorted.{IsSortedByKey};
+    ghost use Rattle.st_pair.specs.declared.tables.Row.{Row};
+    ghost use Rattle.st_pair.specs.Tables.{key_cmp, key_of};
+
+    ghost Value = { List Row };
+
+    ghost view = { λ a. a.rows.items };
+
+    ghost invariant = { λ a. IsSortedByKey key_of key_cmp a.rows.items };
+}
+
+impl Table {
+    /// The rows in the order of their keys; those of one key stay as they stand.
+    fn sorted(mut rows: Vec<Row>) -> Result<Table, AllocError>
+        ensures { IfOk result (λ table. (k : KeyValue) → place_in table k ≡ place_in rows.items k) }
+    {
+        rows.sort_by_key(|row| row.key())?;
+        Ok(Table { rows })
+    }
+
+    /// The place of the first event with this sender and count, if there is one.
+    pub fn find(&self, from: Pid, this: u64) -> Option<(Pid, u64)>
+        ensures { result ≡ place_in self.now (record { from = from; this = this }) }
+    {
+        let key = Key { from, this };
+        let start = start_of(&self.rows, key);
+        match row_at(&self.rows, start) {
+            None => None,
+            Some(row) => row.place_under(key),
+        }
+    }
+}
+
+/// Where the rows with this key begin, or would: a search by halves.
+fn start_of(rows: &[Row], key: Key) -> usize
+    requires { IsSortedByKey key_of key_cmp rows.now }
+    ensures { place_in rows.now key ≡ option_and_then (place_under key) (slice_get rows.now result) }
+{
+    rows.partition_point(|row| row.key().cmp(&key).is_lt())
+}
+
+/// The row at an index, if there is one.
+fn row_at(rows: &[Row], index: usize) -> Option<Row>
+    ensures { result ≡ slice_get rows.now index }
+{
+    rows.get(index).copied()
+}
+
+/// Notes the place of an event under its key.
+fn note(rows: &mut Vec<Row>, key: Key, place: (Pid, u64)) -> Result<(), AllocError>
+    ensures { OnOk result ((k : KeyValue) →
+        place_in rows.new.items k ≡ or_else (place_in rows.old.items k) (here key place k)) }
+{
+    let (pid, index) = place;
+    rows.push(Row {
+        from: key.from,
+        pid,
+        this: key.this,
+        index,
+    })?;
     Ok(())
 }
 
+/// How many receives there are. Only the room that a table takes at first depends on it.
+pub fn receive_count(streams: &Streams) -> usize {
+    let mut count: usize = 0;
+    for &pid in streams.pids() {
+        let events = streams.events(pid).iter();
+        count = count.saturating_add(events.filter(|e| matches!(e.kind, Kind::Receive)).count());
+    }
+    count
+}
+
 /// Notes the receives of one process.
-fn note_receives(table: &mut Table, pid: Pid, events: &[Event]) -> Result<(), AllocError>
+fn note_receives(rows: &mut Vec<Row>, pid: Pid, events: &[Event]) -> Result<(), AllocError>
     ensures { OnOk result ((k : KeyValue) →
-        get key_eq table.new k ≡ or_else (get key_eq table.old k) (first_from (receive_rule k) pid 0 events.now)) }
+        place_in rows.new.items k ≡ or_else (place_in rows.old.items k) (first_from (receive_rule k) pid 0 events.now)) }
 {
     for (i, event) in events.iter().enumerate() {
         match event.kind {
@@ -51,7 +155,7 @@ fn note_receives(table: &mut Table, pid: Pid, events: &[Event]) -> Result<(), Al
                     from: event.from,
                     this: event.serial.this,
                 };
-                note(table, key, (pid, i as u64))?;
+                note(rows, key, (pid, i as u64))?;
             }
         }
     }
@@ -59,20 +163,28 @@ fn note_receives(table: &mut Table, pid: Pid, events: &[Event]) -> Result<(), Al
 }
 
 /// The place of the first receive from each sender with each count.
-pub fn receives(alloc: Global, streams: &Streams) -> Result<Table, AllocError>
-    ensures { IfOk result (λ table. HasReceives streams.now (get key_eq table)) }
+pub fn receives(alloc: Global, streams: &Streams, count: usize) -> Result<Table, AllocError>
+    ensures { IfOk result (λ table. HasReceives streams.now (place_in table)) }
 {
-    let mut table = IndexMap::new(alloc);
+    let rows = receive_rows(alloc, streams, count)?;
+    Table::sorted(rows)
+}
+
+/// The places of all receives, in their order.
+fn receive_rows(alloc: Global, streams: &Streams, count: usize) -> Result<Vec<Row>, AllocError>
+    ensures { IfOk result (λ rows. HasReceives streams.now (place_in rows.items)) }
+{
+    let mut rows = Vec::with_capacity(alloc, count)?;
     for &pid in streams.pids() {
-        note_receives(&mut table, pid, streams.events(pid))?;
+        note_receives(&mut rows, pid, streams.events(pid))?;
     }
-    Ok(table)
+    Ok(rows)
 }
 
 /// Notes the sends and prints of one process.
-fn note_stamps(table: &mut Table, pid: Pid, events: &[Event]) -> Result<(), AllocError>
+fn note_stamps(rows: &mut Vec<Row>, pid: Pid, events: &[Event]) -> Result<(), AllocError>
     ensures { OnOk result ((k : KeyValue) →
-        get key_eq table.new k ≡ or_else (get key_eq table.old k) (first_from (stamp_rule k) pid 0 events.now)) }
+        place_in rows.new.items k ≡ or_else (place_in rows.old.items k) (first_from (stamp_rule k) pid 0 events.now)) }
 {
     for (i, event) in events.iter().enumerate() {
         match event.kind {
@@ -82,7 +194,7 @@ fn note_stamps(table: &mut Table, pid: Pid, events: &[Event]) -> Result<(), Allo
                     from: pid,
                     this: event.serial.this,
                 };
-                note(table, key, (pid, i as u64))?;
+                note(rows, key, (pid, i as u64))?;
             }
         }
     }
@@ -90,19 +202,20 @@ fn note_stamps(table: &mut Table, pid: Pid, events: &[Event]) -> Result<(), Allo
 }
 
 /// The place of the first send or print of each process with each count.
-pub fn stamps(alloc: Global, streams: &Streams) -> Result<Table, AllocError>
-    ensures { IfOk result (λ table. HasStamps streams.now (get key_eq table)) }
+pub fn stamps(alloc: Global, streams: &Streams, count: usize) -> Result<Table, AllocError>
+    ensures { IfOk result (λ table. HasStamps streams.now (place_in table)) }
 {
-    let mut table = IndexMap::new(alloc);
-    for &pid in streams.pids() {
-        note_stamps(&mut table, pid, streams.events(pid))?;
-    }
-    Ok(table)
+    let rows = stamp_rows(alloc, streams, count)?;
+    Table::sorted(rows)
 }
 
-/// What the table gives for a sender and a count.
-pub fn lookup(table: &Table, from: Pid, this: u64) -> Option<(Pid, u64)>
-    ensures { result ≡ get key_eq table.now (record { from = from; this = this }) }
+/// The places of all sends and prints, in their order.
+fn stamp_rows(alloc: Global, streams: &Streams, count: usize) -> Result<Vec<Row>, AllocError>
+    ensures { IfOk result (λ rows. HasStamps streams.now (place_in rows.items)) }
 {
-    table.get(&Key { from, this }).copied()
+    let mut rows = Vec::with_capacity(alloc, count)?;
+    for &pid in streams.pids() {
+        note_stamps(&mut rows, pid, streams.events(pid))?;
+    }
+    Ok(rows)
 }
