@@ -66,3 +66,9 @@ AreZeros bytes = bytes ≡ replicate (length bytes) 0
 pub record Marked (A : Type 0) : Type 0 where
   pub inner : A
   pub failed : Bool
+
+-- a device with a record of all that passed through it, and its mark
+pub record Recorded (A : Type 0) : Type 0 where
+  pub inner : A
+  pub passed : List ℕ
+  pub failed : Bool

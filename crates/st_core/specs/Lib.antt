@@ -12,6 +12,7 @@ pub mod Pairs
 pub mod Verdict
 pub mod Device
 pub mod Passed
+pub mod Rows
 pub mod Streams
 pub mod Collected
 pub mod Laws

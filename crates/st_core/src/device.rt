@@ -5,11 +5,13 @@
 //! bytes standard input holds, so a `take` says by `gives` what it gave, whatever the source tells.
 
 mod memory;
+mod recorder;
 mod sink;
 mod source;
 mod std_io;
 
 pub use memory::{EndlessSource, MemorySink, MemorySource};
+pub use recorder::Recorder;
 pub use sink::ByteSink;
 pub use source::{ByteSource, Failed};
 pub use std_io::{ReadFrom, WriteTo};

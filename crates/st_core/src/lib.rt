@@ -10,7 +10,8 @@ mod streams;
 mod types;
 
 pub use device::{
-    ByteSink, ByteSource, EndlessSource, Failed, MemorySink, MemorySource, ReadFrom, WriteTo,
+    ByteSink, ByteSource, EndlessSource, Failed, MemorySink, MemorySource, ReadFrom, Recorder,
+    WriteTo,
 };
 pub use local::{ClockFull, Local};
 pub use sequence::Sequence;

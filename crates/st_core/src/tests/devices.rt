@@ -1,0 +1,159 @@
+//! Devices, among them std's readers and writers, of whose errors no clause speaks.
+
+ghost use Rattle.std.specs.Prelude.{◌≤◌, IfOk};
+
+use super::MANY;
+use crate::{
+    ByteSink, ByteSource, EndlessSource, Failed, MemorySink, MemorySource, ReadFrom, Recorder,
+    WriteTo,
+};
+use std::io::{self, Error, ErrorKind, Read, Write};
+use std::test::Fail;
+
+/// A reader and writer that passes three bytes a call at most, and errs at one of its calls.
+#[derive(Drop)]
+struct Unsteady {
+    calls: u32,
+    errs_at: u32,
+    kind: ErrorKind,
+}
+
+impl Unsteady {
+    /// Errs at this call, counted from 1, with such an error.
+    fn new(errs_at: u32, kind: ErrorKind) -> Unsteady {
+        Unsteady {
+            calls: 0,
+            errs_at,
+            kind,
+        }
+    }
+
+    /// How much of a piece of n bytes this call passes.
+    fn pass(&mut self, n: usize) -> io::Result<usize>
+        ensures { IfOk result (λ passed. passed ≤ n) }
+    {
+        self.calls = self.calls.wrapping_add(1);
+        if self.calls == self.errs_at {
+            return Err(Error::from(self.kind));
+        }
+        Ok(n.min(3))
+    }
+}
+
+impl Read for Unsteady {
+    fn read(&mut self, piece: &mut [u8]) -> io::Result<usize> {
+        let n = self.pass(piece.len())?;
+        piece[..n].fill(b'x');
+        Ok(n)
+    }
+}
+
+impl Write for Unsteady {
+    fn write(&mut self, piece: &[u8]) -> io::Result<usize> {
+        self.pass(piece.len())
+    }
+
+    fn flush(&mut self) -> io::Result<()> {
+        Ok(())
+    }
+}
+
+/// Errors that a reader or writer may give once and then work again.
+const ERRORS: [ErrorKind; 2] = [ErrorKind::Interrupted, ErrorKind::BrokenPipe];
+
+#[test]
+fn a_reader_that_errs_once_has_failed_for_good(rt: HostRuntime) {
+    let mut piece = [0; 8];
+    for kind in ERRORS {
+        let mut source = ReadFrom::new(Unsteady::new(2, kind));
+        // Not a call of the reader.
+        assert!(rt; source.take(&mut []) == Ok(0));
+        assert!(rt; source.take(&mut piece) == Ok(3));
+        // The reader would work again.
+        assert!(rt; source.take(&mut piece) == Err(Failed));
+        assert!(rt; source.take(&mut piece) == Err(Failed));
+    }
+    assert!(rt; piece.starts_with(b"xxx\0"));
+}
+
+#[test]
+fn a_writer_that_errs_once_has_failed_for_good(rt: HostRuntime) {
+    for kind in ERRORS {
+        let mut sink = WriteTo::new(Unsteady::new(2, kind));
+        assert!(rt; sink.put(b"") == Ok(0));
+        assert!(rt; sink.put(b"seqtrace") == Ok(3));
+        assert!(rt; sink.put(b"trace") == Err(Failed));
+        assert!(rt; sink.put(b"trace") == Err(Failed));
+    }
+}
+
+#[test]
+fn readers_and_writers_of_short_pieces_work_on_and_on(rt: HostRuntime) {
+    let mut piece = [0; 8];
+    let mut source = ReadFrom::new(Unsteady::new(0, ErrorKind::BrokenPipe));
+    let mut sink = WriteTo::new(Unsteady::new(0, ErrorKind::BrokenPipe));
+    for _ in 0..MANY {
+        assert!(rt; source.take(&mut piece) == Ok(3));
+        assert!(rt; sink.put(b"seqtrace") == Ok(3));
+    }
+}
+
+#[test]
+fn readers_end_and_writers_fill_up(rt: HostRuntime) {
+    let mut piece = [0; 8];
+    let mut source = ReadFrom::new(b"acts\n".as_slice());
+    assert!(rt; source.take(&mut piece) == Ok(5));
+    assert!(rt; piece.starts_with(b"acts\n\0"));
+    assert!(rt; source.take(&mut piece) == Ok(0));
+    let mut room = [0; 2];
+    let mut sink = WriteTo::new(room.as_mut_slice());
+    assert!(rt; sink.put(b"yes") == Ok(2));
+    assert!(rt; sink.put(b"s") == Err(Failed));
+    assert!(rt; room == *b"ye");
+}
+
+#[test]
+fn a_source_fails_where_its_fuse_burns_and_from_then_on(rt: HostRuntime) {
+    let mut source = MemorySource::new(b"seqtrace", Some(5));
+    let mut piece = [0; 4];
+    assert!(rt; source.take(&mut piece) == Ok(4));
+    assert!(rt; piece == *b"seqt");
+    assert!(rt; source.take(&mut piece) == Ok(1));
+    assert!(rt; source.take(&mut piece) == Err(Failed));
+    assert!(rt; source.take(&mut []) == Err(Failed));
+    let mut ended = MemorySource::new(b"", Some(0));
+    assert!(rt; ended.take(&mut []) == Ok(0));
+    assert!(rt; ended.take(&mut piece) == Err(Failed));
+}
+
+#[test]
+fn a_full_sink_fails(rt: HostRuntime) -> Result<(), Fail> {
+    let mut sink = MemorySink::new(rt.alloc(), 3, None)?;
+    assert!(rt; sink.put(b"ye") == Ok(2));
+    assert!(rt; sink.put(b"s\n") == Ok(1));
+    assert!(rt; sink.put(b"\n") == Err(Failed));
+    assert!(rt; sink.written() == b"yes".as_slice());
+    Ok(())
+}
+
+#[test]
+fn an_endless_source_gives_zeros(rt: HostRuntime) {
+    let mut piece = [7; 3];
+    assert!(rt; EndlessSource::new().take(&mut piece) == Ok(3));
+    assert!(rt; piece == [0; 3]);
+}
+
+#[test]
+fn a_recorder_keeps_what_passed_over_devices_that_tell_nothing(rt: HostRuntime) {
+    let mut piece = [0; 8];
+    let mut source = Recorder::new(rt.alloc(), ReadFrom::new(b"yes\nno\n".as_slice()));
+    assert!(rt; source.take(&mut piece[..4]) == Ok(4));
+    assert!(rt; source.take(&mut piece) == Ok(3));
+    assert!(rt; source.passed() == b"yes\nno\n".as_slice());
+    let mut sink = Recorder::new(rt.alloc(), WriteTo::new(Unsteady::new(3, ERRORS[0])));
+    assert!(rt; sink.put(b"yes\n") == Ok(3));
+    assert!(rt; sink.put(b"\n") == Ok(1));
+    assert!(rt; sink.put(b"no\n") == Err(Failed));
+    assert!(rt; sink.put(b"no\n") == Err(Failed));
+    assert!(rt; sink.passed() == b"yes\n".as_slice());
+}
