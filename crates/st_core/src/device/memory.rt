@@ -2,7 +2,7 @@
 //!
 //! Their contracts say to the byte what gets through and when a call fails.
 
-ghost use Rattle.std.specs.Prelude.{◌≡◌, ◌≤◌, ◌<◌, ◌-◌, [], min, length, take, true, false, IfOk, MatchResult, Some, None};
+ghost use Rattle.std.specs.Prelude.{◌≡◌, ◌≤◌, ◌<◌, ◌-◌, [], min, length, take, true, false, IfOk, IsOk, MatchResult, Some, None};
 ghost use Rattle.std.specs.Result.{result_ok};
 ghost use Rattle.std.specs.Io.KnownBytes.{ReadConsumes, WriteAppends};
 ghost use Rattle.st_core.specs.Device.{Marks, PassesEmpty, through, burnt, let_through, taken_count, put_count, after_take, after_put, AreZeros};
@@ -144,7 +144,8 @@ impl MemorySink {
     /// is the number of bytes after which it fails; `None` never fails before its room is full.
     /// `AllocError` is refusal 1, for want of memory.
     pub fn new(alloc: Global, room: usize, fuse: Option<u64>) -> Result<MemorySink, AllocError>
-        ensures { IfOk result (λ s. s ≡ record { written = []; room = room; fuse = fuse; failed = false }) }
+        ensures ok { IfOk result (λ s. s ≡ record { written = []; room = room; fuse = fuse; failed = false }) }
+        ensures no_room { room ≡ 0 → IsOk result }
     {
         let bytes = Vec::with_capacity(alloc, room)?;
         Ok(MemorySink {
