@@ -1,6 +1,8 @@
 //! The mailboxes. Each call is on one of them by its number, and leaves all others as they are.
 
-ghost use Rattle.std.specs.Prelude.{◌≡◌, ◌<◌, ◌≤◌, ◌+◌, ◌==◌, ◌&&◌, if◌then◌else◌, is_some, nat_lt, [], ◌∷◌, ◌++◌, length, map, option_map, position, replicate, set, slice_get, IfOk, IsOk, OnOk, OnErr};
+ghost use Rattle.std.specs.Prelude.{◌≡◌, ◌<◌, ◌≤◌, ◌+◌, ◌==◌, ◌&&◌, if◌then◌else◌, is_some, nat_lt};
+ghost use Rattle.std.specs.Prelude.{[], ◌∷◌, ◌++◌, length, map, option_map, position, replicate, set};
+ghost use Rattle.std.specs.Prelude.{slice_get, IfOk, IsOk, OnOk, OnErr};
 ghost use Rattle.st_core.specs.Pick.{pick};
 ghost use Rattle.st_core.specs.Pid.{pid_eq};
 ghost use Rattle.st_core.specs.Step.{untraced};
@@ -45,9 +47,12 @@ impl Mailboxes {
         Ok(Mailboxes { queues })
     }
 
-    /// Makes room for `count` more messages, in whichever mailboxes. Refusal 1: no memory.
+    /// Makes room for `count` more messages, in whichever mailboxes. Nothing changes where there is
+    /// room already. Refusal 1: no memory, only where there isn't.
     pub fn reserve(&mut self, count: usize) -> Result<(), AllocError>
         ensures room { OnOk result (count ≤ self.new.spare) }
+        ensures succeeds { count ≤ self.old.spare → IsOk result }
+        ensures had_room { count ≤ self.old.spare → self.new ≡ self.old }
         ensures spare { self.old.spare ≤ self.new.spare }
         ensures boxes { self.new.boxes ≡ self.old.boxes }
     {
@@ -73,12 +78,14 @@ impl Mailboxes {
     /// Puts a message at the end of the mailbox. Refusal 1: no memory, only where there is no room.
     pub fn put(&mut self, mailbox: usize, message: Message) -> Result<(), AllocError>
         requires { mailbox < length self.old.boxes }
-        ensures ok { OnOk result (self.new.boxes ≡ set self.old.boxes mailbox (queue_in self.old.boxes mailbox ++ message ∷ [])) }
+        ensures ok { OnOk result (
+            self.new.boxes ≡ set self.old.boxes mailbox (queue_in self.old.boxes mailbox ++ message ∷ [])) }
         ensures err { OnErr result (self.new.boxes ≡ self.old.boxes) }
         ensures succeeds { 0 < self.old.spare → IsOk result }
 
-        // At most the room of one message goes, and where there was none, none.
+        // At most the room of one message goes, and after a refusal none.
         ensures spare { self.old.spare ≤ self.new.spare + 1 }
+        ensures had_room { 0 < self.old.spare → self.old.spare ≡ self.new.spare + 1 }
         ensures spare_stays { OnErr result (self.old.spare ≤ self.new.spare) }
     {
         let Ok(()) = self.queues.push_back(mailbox, message) else {
@@ -162,7 +169,8 @@ impl Mailboxes {
     pub fn take(&mut self, mailbox: usize, want: &Want) -> Option<(u64, Message)>
         requires { mailbox < length self.old.boxes }
         ensures took { result ≡ pick want.now (queue_in self.old.boxes mailbox) }
-        ensures boxes { self.new.boxes ≡ set self.old.boxes mailbox (left_by result (queue_in self.old.boxes mailbox)) }
+        ensures boxes { self.new.boxes
+            ≡ set self.old.boxes mailbox (left_by result (queue_in self.old.boxes mailbox)) }
         ensures spare { self.new.spare ≡ self.old.spare + (if is_some result then 1 else 0) }
     {
         let Some(place) = self.find(mailbox, want) else {
