@@ -1,1 +1,3 @@
-pub mod Picks
+mod Picks
+mod Fits
+pub mod ForCallers

@@ -1,6 +1,6 @@
-pub mod Pids
-pub mod Fits
-pub mod States
-pub mod RowLemmas
-pub mod Steps
-pub mod Nodes
+mod Pids
+mod States
+mod RowLemmas
+mod Nodes
+mod Steps
+mod Answering

@@ -11,7 +11,8 @@ use Rattle.st_core.specs.declared.types.Act.TheVariants as act
 use Rattle.st_core.specs.Local.{wiped}
 use Rattle.st_core.specs.State.{LocalState, Process}
 use Rattle.st_core.specs.Step.{reached, untraced}
-use Rattle.st_world.specs.Rows.{process_of, state_of, IsNodeRange}
+use Rattle.st_mail.specs.Actor.{process_of}
+use Rattle.st_world.specs.Rows.{state_of, IsNodeRange}
 use Rattle.st_world.proofs.RowLemmas.{length-rows, at_rows, set_rows}
 
 front : (f : Process → Process) (n : ℕ) (s : List Process) → ((i : ℕ) (r : Process) → i < n → slice_get s i ≡ Some r → f r ≡ r) → s ≡ map f (take n s) ++ drop n s

@@ -1,3 +1,4 @@
--- How a world's rows make one state, which the public contracts see, and what its calls answer of it.
-pub mod Rows
+-- What the public calls of a world answer.
 pub mod World
+-- What the parts of a world need: how its rows make one state.
+pub mod Rows

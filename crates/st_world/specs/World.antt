@@ -1,14 +1,16 @@
 -- What the public calls of a world answer.
-use Rattle.std.specs.Prelude.{◌≡◌, ℕ, Bool, true, false, ◌⊎◌, List, Option, None, IsSome, option_and_then, position}
+use Rattle.std.specs.Prelude.{◌≡◌, ℕ, ◌<◌, ◌≤◌, Bool, true, false, ◌⊎◌, List, Option, Some, None, Result, Err}
+use Rattle.std.specs.Prelude.{IsSome, IfSome, IfOk, IfErr, OnErr, option_and_then, position}
 use Rattle.st_core.specs.declared.types.Pid.{Pid}
 use Rattle.st_core.specs.declared.types.Token.{Token}
+use Rattle.st_core.specs.declared.types.Event.{Event}
 use Rattle.st_core.specs.declared.types.Act.{Act}
 use Rattle.st_core.specs.declared.types.Act.TheVariants as act
 use Rattle.st_core.specs.Pid.{IsRising}
-use Rattle.st_core.specs.State.{State, process}
+use Rattle.st_core.specs.State.{LocalState, State, process}
 use Rattle.st_core.specs.Step.{Outcome, actor, receiver, step}
 use Rattle.st_mail.specs.Mail.{is_stamp}
-use Rattle.st_world.specs.declared.outcome.Outcome.{Outcome as Told}
+use Rattle.st_mail.specs.declared.outcome.Outcome.{Outcome as Told}
 use Rattle.st_world.specs.declared.outcome.NewFault.{NewFault}
 use Rattle.st_world.specs.declared.outcome.NewFault.TheVariants as new_fault
 use Rattle.st_world.specs.declared.outcome.StepFault.{StepFault}
@@ -23,11 +25,13 @@ abbrev pub IsNewFault : List Pid → NewFault → Type 0
 IsNewFault pids new_fault.Memory = IsRising pids
 IsNewFault pids new_fault.NotRising = ¬ IsRising pids
 
--- when a step is refused. The cases exclude each other, and the last two exclude an outcome: so each comes exactly where it is said
+-- when a step is refused. The cases exclude each other, and the last two exclude an outcome: so each
+-- comes exactly where it is said
 abbrev pub IsFault : ℕ → State → Act → StepFault → Type 0
 IsFault top s a fault.Memory = IsSome (step top s a)
 IsFault top s a fault.Unknown = (process s (actor a) ≡ None) ⊎ (process s (receiver a) ≡ None)
-IsFault top s a fault.ClockFull = IsSome (process s (actor a)) × IsSome (process s (receiver a)) × (step top s a ≡ None)
+IsFault top s a fault.ClockFull =
+    IsSome (process s (actor a)) × IsSome (process s (receiver a)) × (step top s a ≡ None)
 
 -- the act is a send
 abbrev pub is_send : Act → Bool
@@ -40,4 +44,24 @@ token_of s p = option_and_then (λ r. r.local.token) (process s p)
 
 -- in the queue of p the least place whose message has a token with this from and this own count
 abbrev pub place_in : State → Pid → Pid → ℕ → Option ℕ
-place_in s p from this = option_and_then (λ r. position (λ m. is_stamp from this m.token) r.queue) (process s p)
+place_in s p from this =
+    option_and_then (λ r. position (λ m. is_stamp from this m.token) r.queue) (process s p)
+
+-- the last count is at most the clock, and the clock at most TOP
+pub record AreOrdered (top : ℕ) (l : LocalState) : Type 0 where
+  pub last : l.last ≤ l.clock
+  pub clock : l.clock ≤ top
+
+-- the serial of the event rises: what was known before is below its own count
+abbrev pub Rises : Event → Type 0
+Rises e = e.serial.prev < e.serial.this
+
+-- what a step of the act answers and leaves, from the old state to the new: the clauses of `step` in
+-- one word, for the parts that it is made of
+pub record IsStep (top : ℕ) (old : State) (a : Act) (r : Result Told StepFault) (new : State) : Type 0 where
+  pub steps : IfOk r (λ told. step top old a ≡ Some (outcome_to told new))
+  pub rises : IfOk r (λ told. IfSome told.report Rises)
+  pub stays : OnErr r (new ≡ old)
+  pub refused : IfErr r (IsFault top old a)
+  pub stepless : IfErr r (λ f. (f ≡ fault.Memory) ⊎ (step top old a ≡ None))
+  pub memory : r ≡ Err fault.Memory → is_send a ≡ true

@@ -5,13 +5,13 @@
 //! and definitions of `st_core` and the mailboxes of `st_mail`; pids are numbered by `indexmap`.
 #![tactic(auto)]
 
-mod actor;
 mod node;
 mod outcome;
 mod rows;
 mod world;
 
-pub use outcome::{NewFault, Outcome, StepFault};
+pub use outcome::{NewFault, StepFault};
+pub use st_mail::Outcome;
 pub use world::World;
 
 #[cfg(test)]

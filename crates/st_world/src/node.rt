@@ -4,7 +4,7 @@ ghost use Rattle.std.specs.Prelude.{◌≡◌, List, length, map, None};
 ghost use Rattle.st_core.specs.declared.types.Message.{Message};
 ghost use Rattle.st_core.specs.Pid.{IsRising};
 ghost use Rattle.st_core.specs.Step.{reached};
-ghost use Rattle.st_world.specs.Rows.{state_of, IsSound};
+ghost use Rattle.st_world.specs.Rows.{state_of, AreAligned};
 
 use crate::rows::node_range;
 use st_core::{Act, Local, Pid};
@@ -17,9 +17,10 @@ pub fn reset<const TOP: u64>(
     locals: &mut [Local<TOP>],
     queues: &mut Mailboxes,
 )
-    requires { IsSound TOP pids.now locals.old queues.old.boxes }
-    ensures state { state_of pids.now locals.new queues.new.boxes ≡ map (reached (Act.Reset me) None) (state_of pids.now locals.old queues.old.boxes) }
-    ensures sound { IsSound TOP pids.now locals.new queues.new.boxes }
+    requires { AreAligned pids.now locals.old queues.old.boxes }
+    ensures state { state_of pids.now locals.new queues.new.boxes
+        ≡ map (reached (Act.Reset me) None) (state_of pids.now locals.old queues.old.boxes) }
+    ensures aligned { AreAligned pids.now locals.new queues.new.boxes }
 {
     let (first, end) = node_range(pids, me.node());
     for number in first..end {
@@ -32,7 +33,9 @@ pub fn reset<const TOP: u64>(
 pub fn trace<const TOP: u64>(me: Pid, on: bool, pids: &[Pid], locals: &mut [Local<TOP>])
     requires rising { IsRising pids.now }
     requires len { length locals.old ≡ length pids.now }
-    ensures { (queues : List (List Message)) → length queues ≡ length pids.now → state_of pids.now locals.new queues ≡ map (reached (Act.Tracer me on) None) (state_of pids.now locals.old queues) }
+    ensures { (queues : List (List Message)) → length queues ≡ length pids.now
+        → state_of pids.now locals.new queues
+        ≡ map (reached (Act.Tracer me on) None) (state_of pids.now locals.old queues) }
 {
     let (start, end) = node_range(pids, me.node());
     for number in start..end {

@@ -1,17 +1,4 @@
-//! What a world answers: outcomes and refusals. Plain values, for callers to match on.
-
-use st_core::{Event, Reply};
-
-/// What came of a step.
-#[derive(Clone, Copy, Debug, PartialEq, Eq)]
-pub struct Outcome {
-    /// What the act answers its actor.
-    pub reply: Reply,
-    /// What the system tracer gets, if the act is reported.
-    pub report: Option<Event>,
-    /// Where in its queue a receive took its message, the oldest at place 0.
-    pub place: Option<u64>,
-}
+//! What a world refuses. Plain values, for callers to match on.
 
 /// Why there is no new world.
 #[derive(Clone, Copy, Debug, PartialEq, Eq)]

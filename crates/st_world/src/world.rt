@@ -1,20 +1,20 @@
 //! The processes of a world, and one step of them. The public calls are here: each looks its
 //! processes up by pid, and leaves the rest to the functions on one process or on one node.
 
-ghost use Rattle.std.specs.Prelude.{◌≡◌, ◌⊎◌, true, option_map, IfErr, IfOk, OnErr, OnOk};
+ghost use Rattle.std.specs.Prelude.{◌≡◌, ◌⊎◌, true, option_map, IfErr, IfOk, IfSome, OnErr, OnOk};
 ghost use Rattle.st_core.specs.Pid.{IsRising};
 ghost use Rattle.st_core.specs.State.{process, zero_state};
 ghost use Rattle.st_core.specs.Step.{actor, step};
-ghost use Rattle.st_world.specs.Rows.{is_inner};
-ghost use Rattle.st_world.specs.World.{is_send, outcome_to, place_in, token_of, IsFault, IsNewFault};
+ghost use Rattle.st_mail.specs.Actor.{is_inner};
+ghost use Rattle.st_world.specs.World.{is_send, outcome_to, place_in, token_of, AreOrdered, IsFault, IsNewFault, IsStep, Rises};
 
-use crate::actor::{answer, event, inner, receive, stamped};
 use crate::node::{reset, trace};
-use crate::outcome::{NewFault, Outcome, StepFault};
+use crate::outcome::{NewFault, StepFault};
 use crate::rows::{is_rising, number_of, numbered, zeros};
 use indexmap::IndexSet;
 use st_core::{Act, Kind, Local, Message, Pid, Reply, Token, Want};
-use st_mail::Mailboxes;
+use st_mail::actor::{answer, event, inner, receive, stamped};
+use st_mail::{Mailboxes, Outcome};
 use std::alloc::Global;
 use std::marker::Model;
 
@@ -32,13 +32,13 @@ pub struct World<const TOP: u64> {
 
 impl<const TOP: u64> Model for World<TOP> {
     ghost use Rattle.st_core.specs.State.{State};
-    ghost use Rattle.st_world.specs.Rows.{state_of, IsSound};
+    ghost use Rattle.st_world.specs.Rows.{state_of, AreRows};
 
     ghost Value = { State };
 
     ghost view = { λ a. state_of a.pids.keys a.locals.items a.queues.boxes };
 
-    ghost invariant = { λ a. IsSound TOP a.pids.keys a.locals.items a.queues.boxes };
+    ghost invariant = { λ a. AreRows TOP a.pids.keys a.locals.items a.queues.boxes };
 }
 
 impl<const TOP: u64> World<TOP> {
@@ -78,9 +78,11 @@ impl<const TOP: u64> World<TOP> {
         self.locals[number].token()
     }
 
-    /// The clock of the process. None where the process is unknown.
+    /// The clock of the process, which is never below its last count nor above `TOP`. None where the
+    /// process is unknown.
     pub fn clock(&self, pid: Pid) -> Option<u64>
-        ensures { result ≡ option_map (λ r. r.local.clock) (process self.now pid) }
+        ensures value { result ≡ option_map (λ r. r.local.clock) (process self.now pid) }
+        ensures ordered { IfSome (process self.now pid) (λ r. AreOrdered TOP r.local) }
     {
         let Some(number) = number_of(&self.pids, pid) else {
             return None;
@@ -88,10 +90,12 @@ impl<const TOP: u64> World<TOP> {
         Some(self.locals[number].clock())
     }
 
-    /// The count of the last message with a token that the process took. None where the process is
+    /// The last count of the process: that of the last message with a token that it took, or its clock
+    /// where a new trace began after that. It is never above the clock. None where the process is
     /// unknown.
     pub fn last(&self, pid: Pid) -> Option<u64>
-        ensures { result ≡ option_map (λ r. r.local.last) (process self.now pid) }
+        ensures value { result ≡ option_map (λ r. r.local.last) (process self.now pid) }
+        ensures ordered { IfSome (process self.now pid) (λ r. AreOrdered TOP r.local) }
     {
         let Some(number) = number_of(&self.pids, pid) else {
             return None;
@@ -115,6 +119,8 @@ impl<const TOP: u64> World<TOP> {
     /// as before. No act but a send takes memory, so only a send can be refused for want of it.
     pub fn step(&mut self, act: &Act) -> Result<Outcome, StepFault>
         ensures step { IfOk result (λ told. step TOP self.old act.now ≡ Some (outcome_to told self.new)) }
+        ensures rises { IfOk result (λ told. IfSome told.report Rises) }
+
         ensures err { OnErr result (self.new ≡ self.old) }
         ensures fault { IfErr result (IsFault TOP self.old act.now) }
         ensures no_step { IfErr result (λ fault. (fault ≡ StepFault.Memory) ⊎ (step TOP self.old act.now ≡ None)) }
@@ -138,10 +144,7 @@ impl<const TOP: u64> World<TOP> {
     fn inner(&mut self, me: Pid, act: &Act) -> Result<Outcome, StepFault>
         requires inner { is_inner act.now ≡ true }
         requires me { actor act.now ≡ me }
-        ensures step { IfOk result (λ told. step TOP self.old act.now ≡ Some (outcome_to told self.new)) }
-        ensures err { OnErr result (self.new ≡ self.old) }
-        ensures fault { IfErr result (IsFault TOP self.old act.now) }
-        ensures no_step { OnErr result (step TOP self.old act.now ≡ None) }
+        ensures { IsStep TOP self.old act.now result self.new }
     {
         let Some(number) = number_of(&self.pids, me) else {
             return Err(StepFault::Unknown);
@@ -154,10 +157,7 @@ impl<const TOP: u64> World<TOP> {
 
     /// A receive.
     fn receive(&mut self, me: Pid, want: &Want) -> Result<Outcome, StepFault>
-        ensures step { IfOk result (λ told. step TOP self.old (Act.Receive me want.now) ≡ Some (outcome_to told self.new)) }
-        ensures err { OnErr result (self.new ≡ self.old) }
-        ensures fault { IfErr result (IsFault TOP self.old (Act.Receive me want.now)) }
-        ensures no_step { OnErr result (step TOP self.old (Act.Receive me want.now) ≡ None) }
+        ensures { IsStep TOP self.old (Act.Receive me want.now) result self.new }
     {
         let Some(number) = number_of(&self.pids, me) else {
             return Err(StepFault::Unknown);
@@ -168,10 +168,7 @@ impl<const TOP: u64> World<TOP> {
     /// A send. The message carries the stamped token, and memory is asked for before anything
     /// changes.
     fn send(&mut self, me: Pid, to: Pid, value: u64) -> Result<Outcome, StepFault>
-        ensures step { IfOk result (λ told. step TOP self.old (Act.Send me to value) ≡ Some (outcome_to told self.new)) }
-        ensures err { OnErr result (self.new ≡ self.old) }
-        ensures fault { IfErr result (IsFault TOP self.old (Act.Send me to value)) }
-        ensures no_step { IfErr result (λ fault. (fault ≡ StepFault.Memory) ⊎ (step TOP self.old (Act.Send me to value) ≡ None)) }
+        ensures { IsStep TOP self.old (Act.Send me to value) result self.new }
     {
         let Some(from_number) = number_of(&self.pids, me) else {
             return Err(StepFault::Unknown);
@@ -201,10 +198,7 @@ impl<const TOP: u64> World<TOP> {
 
     /// A reset of the node of `me`.
     fn reset(&mut self, me: Pid) -> Result<Outcome, StepFault>
-        ensures step { IfOk result (λ told. step TOP self.old (Act.Reset me) ≡ Some (outcome_to told self.new)) }
-        ensures err { OnErr result (self.new ≡ self.old) }
-        ensures fault { IfErr result (IsFault TOP self.old (Act.Reset me)) }
-        ensures no_step { OnErr result (step TOP self.old (Act.Reset me) ≡ None) }
+        ensures { IsStep TOP self.old (Act.Reset me) result self.new }
     {
         let Some(_) = number_of(&self.pids, me) else {
             return Err(StepFault::Unknown);
@@ -215,10 +209,7 @@ impl<const TOP: u64> World<TOP> {
 
     /// A tracer change on the node of `me`.
     fn trace(&mut self, me: Pid, on: bool) -> Result<Outcome, StepFault>
-        ensures step { IfOk result (λ told. step TOP self.old (Act.Tracer me on) ≡ Some (outcome_to told self.new)) }
-        ensures err { OnErr result (self.new ≡ self.old) }
-        ensures fault { IfErr result (IsFault TOP self.old (Act.Tracer me on)) }
-        ensures no_step { OnErr result (step TOP self.old (Act.Tracer me on) ≡ None) }
+        ensures { IsStep TOP self.old (Act.Tracer me on) result self.new }
     {
         let Some(number) = number_of(&self.pids, me) else {
             return Err(StepFault::Unknown);

@@ -1,19 +1,18 @@
 //! What an act does to its actor: to what that process keeps for tracing, and to its queue. Nothing
-//! here knows of other processes.
+//! here knows of other processes: a send's message goes to its receiver by the caller's hand, and
+//! what a reset or a tracer change does to a process is `st_core`'s.
 
-ghost use Rattle.std.specs.Prelude.{◌≡◌, ◌<◌, List, true, length, set, IfOk, OnErr};
+ghost use Rattle.std.specs.Prelude.{◌≡◌, ◌<◌, true, length, set, IfOk, OnErr};
 ghost use Rattle.std.specs.Result.{result_ok};
-ghost use Rattle.st_core.specs.declared.types.Message.{Message};
 ghost use Rattle.st_core.specs.Local.{IsMeetable};
 ghost use Rattle.st_core.specs.Report.{report};
 ghost use Rattle.st_core.specs.Stamp.{stamp_any};
 ghost use Rattle.st_core.specs.Step.{acted, actor};
+ghost use Rattle.st_mail.specs.Actor.{process_of, part_of, is_inner, QueueFits, ActsOutside, HasNoPart};
 ghost use Rattle.st_mail.specs.Mail.{queue_in};
-ghost use Rattle.st_world.specs.Rows.{process_of, part_of, QueueFits, is_inner};
 
-use crate::outcome::Outcome;
+use crate::{Mailboxes, Outcome};
 use st_core::{Act, ClockFull, Event, Kind, Label, Local, Pid, Reply, Token, Want};
-use st_mail::Mailboxes;
 
 /// An outcome of a reply alone.
 pub fn answer(reply: Reply) -> Outcome
@@ -26,7 +25,8 @@ pub fn answer(reply: Reply) -> Outcome
     }
 }
 
-/// The event of a token in force, if the process is traced and the kind's flag is set.
+/// The event of a token in force, if the process is traced and the kind's flag is set (`seq_trace`
+/// manual page; that a process is traced is own profile).
 pub fn event(
     traced: bool,
     kind: Kind,
@@ -56,7 +56,8 @@ pub fn event(
     }
 }
 
-/// What a process keeps after a send or a print: stamped where it has a token.
+/// What a process keeps after a send or a print: stamped where it has a token. Refusal 1: the clock
+/// is at `TOP`.
 pub fn stamped<const TOP: u64>(me: Pid, local: &Local<TOP>) -> Result<Local<TOP>, ClockFull>
     ensures stamp { result_ok result ≡ stamp_any TOP me local.now }
     ensures fit { IfOk result (λ l. IsMeetable TOP l.token) }
@@ -71,8 +72,8 @@ pub fn stamped<const TOP: u64>(me: Pid, local: &Local<TOP>) -> Result<Local<TOP>
 
 /// A print: the stamp, whatever the flag, and its event.
 fn print<const TOP: u64>(me: Pid, local: &mut Local<TOP>, value: u64) -> Result<Outcome, ClockFull>
-    ensures acted { IfOk result (λ told. (queue : List Message) → acted TOP (process_of me local.old queue) (Act.Print me value) ≡ Some (part_of told local.new queue)) }
-    ensures full { OnErr result ((queue : List Message) → acted TOP (process_of me local.old queue) (Act.Print me value) ≡ None) }
+    ensures acted { IfOk result (ActsOutside TOP (Act.Print me value) me local.old local.new) }
+    ensures full { OnErr result (HasNoPart TOP (Act.Print me value) me local.old) }
     ensures err { OnErr result (local.new ≡ local.old) }
 {
     let traced = local.traced();
@@ -94,8 +95,9 @@ fn print_at<const TOP: u64>(
     label: Label,
     value: u64,
 ) -> Result<Outcome, ClockFull>
-    ensures acted { IfOk result (λ told. (queue : List Message) → acted TOP (process_of me local.old queue) (Act.PrintAt me label value) ≡ Some (part_of told local.new queue)) }
-    ensures full { OnErr result ((queue : List Message) → acted TOP (process_of me local.old queue) (Act.PrintAt me label value) ≡ None) }
+    ensures acted { IfOk result (
+        ActsOutside TOP (Act.PrintAt me label value) me local.old local.new) }
+    ensures full { OnErr result (HasNoPart TOP (Act.PrintAt me label value) me local.old) }
     ensures err { OnErr result (local.new ≡ local.old) }
 {
     match local.token() {
@@ -104,7 +106,8 @@ fn print_at<const TOP: u64>(
     }
 }
 
-/// An act that leaves all queues.
+/// An act that leaves all queues: no send, receive, reset or tracer change. Refusal 1: the clock is
+/// at `TOP`, and the act stamps.
 pub fn inner<const TOP: u64>(
     me: Pid,
     local: &mut Local<TOP>,
@@ -112,8 +115,8 @@ pub fn inner<const TOP: u64>(
 ) -> Result<Outcome, ClockFull>
     requires inner { is_inner act.now ≡ true }
     requires me { actor act.now ≡ me }
-    ensures acted { IfOk result (λ told. (queue : List Message) → acted TOP (process_of me local.old queue) act.now ≡ Some (part_of told local.new queue)) }
-    ensures full { OnErr result ((queue : List Message) → acted TOP (process_of me local.old queue) act.now ≡ None) }
+    ensures acted { IfOk result (ActsOutside TOP act.now me local.old local.new) }
+    ensures full { OnErr result (HasNoPart TOP act.now me local.old) }
     ensures err { OnErr result (local.new ≡ local.old) }
 {
     match *act {
@@ -127,22 +130,24 @@ pub fn inner<const TOP: u64>(
     }
 }
 
-/// A receive from the queue of this number.
+/// A receive from the mailbox of this number. Each token that lies in it is one that the process can
+/// meet.
 pub fn receive<const TOP: u64>(
     me: Pid,
     local: &mut Local<TOP>,
     queues: &mut Mailboxes,
-    number: usize,
+    mailbox: usize,
     want: &Want,
 ) -> Outcome
-    requires number { number < length queues.old.boxes }
-    requires fit { QueueFits TOP (queue_in queues.old.boxes number) }
-    ensures acted { acted TOP (process_of me local.old (queue_in queues.old.boxes number)) (Act.Receive me want.now) ≡ Some (part_of result local.new (queue_in queues.new.boxes number)) }
-    ensures others { queues.new.boxes ≡ set queues.old.boxes number (queue_in queues.new.boxes number) }
-    ensures fit { QueueFits TOP (queue_in queues.new.boxes number) }
+    requires mailbox { mailbox < length queues.old.boxes }
+    requires fit { QueueFits TOP (queue_in queues.old.boxes mailbox) }
+    ensures acted { acted TOP (process_of me local.old (queue_in queues.old.boxes mailbox)) (Act.Receive me want.now)
+        ≡ Some (part_of result local.new (queue_in queues.new.boxes mailbox)) }
+    ensures others { queues.new.boxes ≡ set queues.old.boxes mailbox (queue_in queues.new.boxes mailbox) }
+    ensures fit { QueueFits TOP (queue_in queues.new.boxes mailbox) }
 {
     let traced = local.traced();
-    match queues.take(number, want) {
+    match queues.take(mailbox, want) {
         None => answer(Reply::Nothing),
         Some((place, message)) => {
             local.meet(message.token);

@@ -1,0 +1,37 @@
+-- Each token in a queue can still be met after a change of the queue, since no change puts one in that can't.
+use Rattle.std.proofs.Common.{◌≡◌, ℕ, suc, List, [], ◌∷◌, ◌++◌, map, take, drop, Option, Some, None, All}
+use Rattle.std.proofs.lemmas.List.Elements.{All-append, All-drop, All-map, All-push, All-take}
+use Rattle.st_core.specs.declared.types.Message.{Message}
+use Rattle.st_core.specs.declared.types.Want.{Want}
+use Rattle.st_core.specs.Local.{IsMeetable}
+use Rattle.st_core.specs.Pick.{pick}
+use Rattle.st_core.specs.Step.{untraced}
+use Rattle.st_core.proofs.ForCallers.{All_at, pick_found}
+use Rattle.st_mail.specs.Actor.{QueueFits}
+use Rattle.st_mail.specs.Mail.{left_by}
+
+module _ (top : ℕ) where
+  abbrev Fits : Message → Type 0
+  Fits m = IsMeetable top m.token
+
+  -- the message that a receive takes
+  pub pick_fits : (w : Want) (ms : List Message) (k : ℕ) (m : Message)
+      → QueueFits top ms → pick w ms ≡ Some (k, m) → IsMeetable top m.token
+  pick_fits w ms k m fit picked = All_at Fits ms k m (pick_found w ms (k, m) picked) fit
+
+  -- what is left
+  pub left_fits : (o : Option (ℕ × Message)) (ms : List Message) → QueueFits top ms → QueueFits top (left_by o ms)
+  left_fits None ms fit = fit
+  left_fits (Some found) ms fit =
+      let front : All Fits (take found.0 ms) = All-take Fits found.0 ms fit in
+      let back : All Fits (drop (suc found.0) ms) = All-drop Fits (suc found.0) ms fit in
+      All-append Fits (take found.0 ms) (drop (suc found.0) ms) front back
+
+  -- with one more
+  pub push_fits : (ms : List Message) (m : Message)
+      → QueueFits top ms → IsMeetable top m.token → QueueFits top (ms ++ m ∷ [])
+  push_fits ms m fit here = All-push Fits ms m fit here
+
+  -- without tokens
+  pub untraced_fits : (ms : List Message) → QueueFits top (map untraced ms)
+  untraced_fits ms = All-map Fits untraced ms (λ k m within. tt)
