@@ -8,6 +8,7 @@ pub mod Text
 pub mod Fault
 pub mod Growth
 pub mod Contents
+pub mod Room
 pub mod Writing
 pub mod Remote
 pub mod Counts

@@ -1,7 +1,8 @@
 //! Bytes on their way to a sink: all of a piece, and through a buffer on the stack. Nothing here knows of lines.
 
-ghost use Rattle.std.specs.Prelude.{◌≡◌, ◌≤◌, ◌+◌, [], OnOk};
+ghost use Rattle.std.specs.Prelude.{◌≡◌, ◌≤◌, ◌+◌, [], OnOk, OnErr};
 ghost use Rattle.arrayvec.specs.ArrayVec.{array_vec_len};
+ghost use Rattle.st_text.specs.Room.{line_room, buffer_room};
 ghost use Rattle.st_text.specs.Writing.{GoesOn};
 
 use crate::spell::Buffer;
@@ -13,7 +14,7 @@ use thiserror::Error;
 #[error("the device failed")]
 pub struct Device;
 
-/// The most bytes that a line and its newline take here.
+/// The most bytes that a line and its newline take here: an event's room, rounded up.
 pub(crate) const LINE: usize = 256;
 
 /// Writes all the bytes, in as many calls as the sink needs.
@@ -30,21 +31,23 @@ pub(crate) fn put_all<S: ByteSink>(sink: &mut S, bytes: &[u8]) -> Result<(), Dev
     Ok(())
 }
 
-/// Writes what waits.
+/// Writes what waits. After a failure it waits still, though the sink may have taken a part of it.
 pub fn flush<S: ByteSink>(sink: &mut S, buffer: &mut Buffer) -> Result<(), Device>
     ensures goes { GoesOn S.puts S.failed [] sink.old sink.new buffer.old.items buffer.new.items result }
     ensures empty { OnOk result (buffer.new.items ≡ []) }
     ensures len { OnOk result (array_vec_len buffer.new ≡ 0) }
+    ensures err { OnErr result (buffer.new.items ≡ buffer.old.items) }
 {
     put_all(sink, buffer.as_slice())?;
     buffer.clear();
     Ok(())
 }
 
-/// Makes room for a line.
+/// Makes room for a line: where less is left, what waits is written.
 pub fn make_room<S: ByteSink>(sink: &mut S, buffer: &mut Buffer) -> Result<(), Device>
     ensures goes { GoesOn S.puts S.failed [] sink.old sink.new buffer.old.items buffer.new.items result }
-    ensures room { OnOk result (array_vec_len buffer.new + 256 ≤ 8192) }
+    ensures room { OnOk result (array_vec_len buffer.new + line_room ≤ buffer_room) }
+    ensures err { OnErr result (buffer.new.items ≡ buffer.old.items) }
 {
     if buffer.remaining_capacity() < LINE {
         flush(sink, buffer)?;

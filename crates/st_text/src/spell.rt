@@ -5,17 +5,23 @@ ghost use Rattle.std.specs.Prelude.{◌≡◌, ◌+◌, ◌≤◌, ◌++◌, len
 ghost use Rattle.arrayvec.specs.ArrayVec.{array_vec_len};
 ghost use Rattle.st_text.specs.Spelling as spelled;
 ghost use Rattle.st_text.specs.Text.{ended};
+ghost use Rattle.st_text.specs.Room.{buffer_room, line_room, number_room, bool_room, pid_room, serial_room, kind_room};
+ghost use Rattle.st_text.specs.Room.{head_room, ends_room, event_room, component_room, want_room, flags_room};
+ghost use Rattle.st_text.specs.Room.{token_room, act_room};
 
 use crate::line::Line;
 use arrayvec::ArrayVec;
 use st_core::{Act, Component, Event, Flags, Kind, Label, Pid, Serial, Token, Want};
 
+/// The most bytes that wait to be written: 32 lines, so that a sink is called once for some kilobytes.
+const BUFFER: usize = 8192;
+
 /// Bytes that wait to be written.
-pub type Buffer = ArrayVec<u8, 8192>;
+pub type Buffer = ArrayVec<u8, BUFFER>;
 
 /// Appends bytes.
 pub fn put_bytes(buffer: &mut Buffer, bytes: &[u8])
-    requires { array_vec_len buffer.old + length bytes.now ≤ 8192 }
+    requires { array_vec_len buffer.old + length bytes.now ≤ buffer_room }
     ensures items { buffer.new.items ≡ buffer.old.items ++ bytes.now }
     ensures len { array_vec_len buffer.new ≡ array_vec_len buffer.old + length bytes.now }
 {
@@ -26,18 +32,18 @@ pub fn put_bytes(buffer: &mut Buffer, bytes: &[u8])
 
 /// Appends a decimal number.
 pub fn put_number(buffer: &mut Buffer, number: u64)
-    requires { array_vec_len buffer.old + 20 ≤ 8192 }
+    requires { array_vec_len buffer.old + number_room ≤ buffer_room }
     ensures items { buffer.new.items ≡ buffer.old.items ++ decimal number }
-    ensures len { array_vec_len buffer.new ≤ array_vec_len buffer.old + 20 }
+    ensures len { array_vec_len buffer.new ≤ array_vec_len buffer.old + number_room }
 {
     let mut digits = itoa::Buffer::new();
     put_bytes(buffer, digits.format(number).as_bytes());
 }
 
 fn put_bool(buffer: &mut Buffer, flag: bool)
-    requires { array_vec_len buffer.old + 5 ≤ 8192 }
+    requires { array_vec_len buffer.old + bool_room ≤ buffer_room }
     ensures items { buffer.new.items ≡ buffer.old.items ++ spelled.bool flag }
-    ensures len { array_vec_len buffer.new ≤ array_vec_len buffer.old + 5 }
+    ensures len { array_vec_len buffer.new ≤ array_vec_len buffer.old + bool_room }
 {
     if flag {
         put_bytes(buffer, b"true");
@@ -48,9 +54,9 @@ fn put_bool(buffer: &mut Buffer, flag: bool)
 
 /// Appends a pid, as `<0.30.0>`.
 pub fn put_pid(buffer: &mut Buffer, pid: Pid)
-    requires { array_vec_len buffer.old + 45 ≤ 8192 }
+    requires { array_vec_len buffer.old + pid_room ≤ buffer_room }
     ensures items { buffer.new.items ≡ buffer.old.items ++ spelled.pid pid }
-    ensures len { array_vec_len buffer.new ≤ array_vec_len buffer.old + 45 }
+    ensures len { array_vec_len buffer.new ≤ array_vec_len buffer.old + pid_room }
 {
     put_bytes(buffer, b"<");
     put_number(buffer, u64::from(pid.node()));
@@ -60,17 +66,17 @@ pub fn put_pid(buffer: &mut Buffer, pid: Pid)
 }
 
 fn put_label(buffer: &mut Buffer, label: Label)
-    requires { array_vec_len buffer.old + 20 ≤ 8192 }
+    requires { array_vec_len buffer.old + number_room ≤ buffer_room }
     ensures items { buffer.new.items ≡ buffer.old.items ++ spelled.label label }
-    ensures len { array_vec_len buffer.new ≤ array_vec_len buffer.old + 20 }
+    ensures len { array_vec_len buffer.new ≤ array_vec_len buffer.old + number_room }
 {
     put_number(buffer, u64::from(label.0));
 }
 
 fn put_serial(buffer: &mut Buffer, serial: Serial)
-    requires { array_vec_len buffer.old + 43 ≤ 8192 }
+    requires { array_vec_len buffer.old + serial_room ≤ buffer_room }
     ensures items { buffer.new.items ≡ buffer.old.items ++ spelled.serial serial }
-    ensures len { array_vec_len buffer.new ≤ array_vec_len buffer.old + 43 }
+    ensures len { array_vec_len buffer.new ≤ array_vec_len buffer.old + serial_room }
 {
     put_bytes(buffer, b"{");
     put_number(buffer, serial.prev);
@@ -80,9 +86,9 @@ fn put_serial(buffer: &mut Buffer, serial: Serial)
 }
 
 fn put_kind(buffer: &mut Buffer, kind: Kind)
-    requires { array_vec_len buffer.old + 9 ≤ 8192 }
+    requires { array_vec_len buffer.old + kind_room ≤ buffer_room }
     ensures items { buffer.new.items ≡ buffer.old.items ++ spelled.kind kind }
-    ensures len { array_vec_len buffer.new ≤ array_vec_len buffer.old + 9 }
+    ensures len { array_vec_len buffer.new ≤ array_vec_len buffer.old + kind_room }
 {
     match kind {
         Kind::Send => put_bytes(buffer, b"send"),
@@ -92,9 +98,9 @@ fn put_kind(buffer: &mut Buffer, kind: Kind)
 }
 
 fn put_place(buffer: &mut Buffer, place: Option<Pid>)
-    requires { array_vec_len buffer.old + 45 ≤ 8192 }
+    requires { array_vec_len buffer.old + pid_room ≤ buffer_room }
     ensures items { buffer.new.items ≡ buffer.old.items ++ spelled.place place }
-    ensures len { array_vec_len buffer.new ≤ array_vec_len buffer.old + 45 }
+    ensures len { array_vec_len buffer.new ≤ array_vec_len buffer.old + pid_room }
 {
     match place {
         None => put_bytes(buffer, b"[]"),
@@ -103,9 +109,9 @@ fn put_place(buffer: &mut Buffer, place: Option<Pid>)
 }
 
 fn put_head(buffer: &mut Buffer, event: &Event)
-    requires { array_vec_len buffer.old + 32 ≤ 8192 }
+    requires { array_vec_len buffer.old + head_room ≤ buffer_room }
     ensures items { buffer.new.items ≡ buffer.old.items ++ spelled.head event.now }
-    ensures len { array_vec_len buffer.new ≤ array_vec_len buffer.old + 32 }
+    ensures len { array_vec_len buffer.new ≤ array_vec_len buffer.old + head_room }
 {
     put_label(buffer, event.label);
     put_bytes(buffer, b",{");
@@ -114,9 +120,9 @@ fn put_head(buffer: &mut Buffer, event: &Event)
 }
 
 fn put_ends(buffer: &mut Buffer, event: &Event)
-    requires { array_vec_len buffer.old + 91 ≤ 8192 }
+    requires { array_vec_len buffer.old + ends_room ≤ buffer_room }
     ensures items { buffer.new.items ≡ buffer.old.items ++ spelled.ends event.now }
-    ensures len { array_vec_len buffer.new ≤ array_vec_len buffer.old + 91 }
+    ensures len { array_vec_len buffer.new ≤ array_vec_len buffer.old + ends_room }
 {
     put_pid(buffer, event.from);
     put_bytes(buffer, b",");
@@ -124,9 +130,9 @@ fn put_ends(buffer: &mut Buffer, event: &Event)
 }
 
 pub(crate) fn put_event(buffer: &mut Buffer, event: &Event)
-    requires { array_vec_len buffer.old + 201 ≤ 8192 }
+    requires { array_vec_len buffer.old + event_room ≤ buffer_room }
     ensures items { buffer.new.items ≡ buffer.old.items ++ spelled.event event.now }
-    ensures len { array_vec_len buffer.new ≤ array_vec_len buffer.old + 201 }
+    ensures len { array_vec_len buffer.new ≤ array_vec_len buffer.old + event_room }
 {
     put_bytes(buffer, b"{seq_trace,");
     put_head(buffer, event);
@@ -139,9 +145,9 @@ pub(crate) fn put_event(buffer: &mut Buffer, event: &Event)
 }
 
 fn put_component(buffer: &mut Buffer, component: Component)
-    requires { array_vec_len buffer.old + 26 ≤ 8192 }
+    requires { array_vec_len buffer.old + component_room ≤ buffer_room }
     ensures items { buffer.new.items ≡ buffer.old.items ++ spelled.component component }
-    ensures len { array_vec_len buffer.new ≤ array_vec_len buffer.old + 26 }
+    ensures len { array_vec_len buffer.new ≤ array_vec_len buffer.old + component_room }
 {
     match component {
         Component::Label(label) => {
@@ -164,9 +170,9 @@ fn put_component(buffer: &mut Buffer, component: Component)
 }
 
 fn put_want(buffer: &mut Buffer, want: Want)
-    requires { array_vec_len buffer.old + 71 ≤ 8192 }
+    requires { array_vec_len buffer.old + want_room ≤ buffer_room }
     ensures items { buffer.new.items ≡ buffer.old.items ++ spelled.want want }
-    ensures len { array_vec_len buffer.new ≤ array_vec_len buffer.old + 71 }
+    ensures len { array_vec_len buffer.new ≤ array_vec_len buffer.old + want_room }
 {
     match want {
         Want::First => put_bytes(buffer, b"first"),
@@ -192,9 +198,9 @@ fn put_want(buffer: &mut Buffer, want: Want)
 }
 
 fn put_flags(buffer: &mut Buffer, flags: Flags)
-    requires { array_vec_len buffer.old + 17 ≤ 8192 }
+    requires { array_vec_len buffer.old + flags_room ≤ buffer_room }
     ensures items { buffer.new.items ≡ buffer.old.items ++ spelled.flags flags }
-    ensures len { array_vec_len buffer.new ≤ array_vec_len buffer.old + 17 }
+    ensures len { array_vec_len buffer.new ≤ array_vec_len buffer.old + flags_room }
 {
     put_bool(buffer, flags.send);
     put_bytes(buffer, b" ");
@@ -204,9 +210,9 @@ fn put_flags(buffer: &mut Buffer, flags: Flags)
 }
 
 fn put_token(buffer: &mut Buffer, token: &Token)
-    requires { array_vec_len buffer.old + 126 ≤ 8192 }
+    requires { array_vec_len buffer.old + token_room ≤ buffer_room }
     ensures items { buffer.new.items ≡ buffer.old.items ++ spelled.token token.now }
-    ensures len { array_vec_len buffer.new ≤ array_vec_len buffer.old + 126 }
+    ensures len { array_vec_len buffer.new ≤ array_vec_len buffer.old + token_room }
 {
     put_label(buffer, token.label);
     put_bytes(buffer, b" ");
@@ -221,9 +227,9 @@ fn put_token(buffer: &mut Buffer, token: &Token)
 
 /// A word, a space, a pid and, where more follows, another space.
 fn put_actor(buffer: &mut Buffer, word: &[u8], pid: Pid, space: &[u8])
-    requires { array_vec_len buffer.old + length word.now + length space.now + 45 ≤ 8192 }
+    requires { array_vec_len buffer.old + length word.now + length space.now + pid_room ≤ buffer_room }
     ensures items { buffer.new.items ≡ buffer.old.items ++ (word.now ++ spelled.pid pid ++ space.now) }
-    ensures len { array_vec_len buffer.new ≤ array_vec_len buffer.old + length word.now + length space.now + 45 }
+    ensures len { array_vec_len buffer.new ≤ array_vec_len buffer.old + length word.now + length space.now + pid_room }
 {
     put_bytes(buffer, word);
     put_pid(buffer, pid);
@@ -231,9 +237,9 @@ fn put_actor(buffer: &mut Buffer, word: &[u8], pid: Pid, space: &[u8])
 }
 
 fn put_send(buffer: &mut Buffer, sender: Pid, receiver: Pid, value: u64)
-    requires { array_vec_len buffer.old + 180 ≤ 8192 }
+    requires { array_vec_len buffer.old + act_room ≤ buffer_room }
     ensures items { buffer.new.items ≡ buffer.old.items ++ spelled.act (Act.Send sender receiver value) }
-    ensures len { array_vec_len buffer.new ≤ array_vec_len buffer.old + 180 }
+    ensures len { array_vec_len buffer.new ≤ array_vec_len buffer.old + act_room }
 {
     put_actor(buffer, b"send ", sender, b" ");
     put_pid(buffer, receiver);
@@ -242,9 +248,9 @@ fn put_send(buffer: &mut Buffer, sender: Pid, receiver: Pid, value: u64)
 }
 
 fn put_print_at(buffer: &mut Buffer, pid: Pid, label: Label, value: u64)
-    requires { array_vec_len buffer.old + 180 ≤ 8192 }
+    requires { array_vec_len buffer.old + act_room ≤ buffer_room }
     ensures items { buffer.new.items ≡ buffer.old.items ++ spelled.act (Act.PrintAt pid label value) }
-    ensures len { array_vec_len buffer.new ≤ array_vec_len buffer.old + 180 }
+    ensures len { array_vec_len buffer.new ≤ array_vec_len buffer.old + act_room }
 {
     put_actor(buffer, b"printat ", pid, b" ");
     put_label(buffer, label);
@@ -253,9 +259,9 @@ fn put_print_at(buffer: &mut Buffer, pid: Pid, label: Label, value: u64)
 }
 
 pub(crate) fn put_act(buffer: &mut Buffer, act: &Act)
-    requires { array_vec_len buffer.old + 180 ≤ 8192 }
+    requires { array_vec_len buffer.old + act_room ≤ buffer_room }
     ensures items { buffer.new.items ≡ buffer.old.items ++ spelled.act act.now }
-    ensures len { array_vec_len buffer.new ≤ array_vec_len buffer.old + 180 }
+    ensures len { array_vec_len buffer.new ≤ array_vec_len buffer.old + act_room }
 {
     match act {
         Act::Send(sender, receiver, value) => put_send(buffer, *sender, *receiver, *value),
@@ -288,9 +294,9 @@ pub(crate) fn put_act(buffer: &mut Buffer, act: &Act)
 
 /// A line and its newline.
 pub(crate) fn put_line(buffer: &mut Buffer, line: &Line)
-    requires { array_vec_len buffer.old + 256 ≤ 8192 }
+    requires { array_vec_len buffer.old + line_room ≤ buffer_room }
     ensures items { buffer.new.items ≡ buffer.old.items ++ ended line.now }
-    ensures len { array_vec_len buffer.new ≤ array_vec_len buffer.old + 256 }
+    ensures len { array_vec_len buffer.new ≤ array_vec_len buffer.old + line_room }
 {
     match line {
         Line::Header(false) => put_bytes(buffer, b"seqtrace 1"),

@@ -1,0 +1,55 @@
+-- How much room a spelling takes in a buffer at most. Each number is given the room of the longest, labels and the parts of
+-- pids too, since one function writes them all.
+use Rattle.std.specs.Prelude.{ℕ, ◌+◌}
+
+-- a buffer: 32 lines of the greatest room, so that a sink is called once for some kilobytes, and the stack bears it
+abbrev pub buffer_room : ℕ
+buffer_room = 8192
+
+-- a line and its newline: an event's room, rounded up
+abbrev pub line_room : ℕ
+line_room = 256
+
+-- the digits of 18446744073709551615
+abbrev pub number_room : ℕ
+number_room = 20
+
+abbrev pub bool_room : ℕ
+bool_room = 5
+
+-- `<`, `.` and `.0>` around two numbers
+abbrev pub pid_room : ℕ
+pid_room = 5 + number_room + number_room
+
+abbrev pub serial_room : ℕ
+serial_room = 3 + number_room + number_room
+
+abbrev pub kind_room : ℕ
+kind_room = 9
+
+abbrev pub head_room : ℕ
+head_room = 3 + number_room + kind_room
+
+abbrev pub ends_room : ℕ
+ends_room = 1 + pid_room + pid_room
+
+abbrev pub event_room : ℕ
+event_room = 15 + head_room + serial_room + ends_room + number_room
+
+-- a component's word, and a label or a truth value
+abbrev pub component_room : ℕ
+component_room = 6 + number_room
+
+-- `both`, a pid and a number
+abbrev pub want_room : ℕ
+want_room = 6 + pid_room + number_room
+
+abbrev pub flags_room : ℕ
+flags_room = 2 + bool_room + bool_room + bool_room
+
+abbrev pub token_room : ℕ
+token_room = 4 + number_room + flags_room + number_room + number_room + pid_room
+
+-- `restore`, a pid and a token
+abbrev pub act_room : ℕ
+act_room = 9 + pid_room + token_room
