@@ -1,0 +1,113 @@
+%% @doc `NAME.terms', which says what each number of a bundle stands for.
+%%
+%% It is text in UTF-8, a line an entry, with tabs between its parts: `process PID NAME WHAT',
+%% `label NUMBER TERM' and `value NUMBER TERM'. All of them are kept as binaries, as they stand in
+%% the text of a bundle and in what `seqaudit' answers.
+-module(seqaudit_legend).
+
+-export([text/3, read/1, process/2, about/2, label/2, value/2, find_label/2, format_error/1]).
+-export_type([legend/0]).
+
+-define(HEADER, <<"seqaudit terms 1">>).
+
+-opaque legend() :: #{{process | about | label | value, binary()} => binary()}.
+
+%% @doc The text of the file: the processes by pid, with a short name and all that is known of each,
+%% then the labels and the values by number.
+-spec text([{string(), string(), iodata()}], [{non_neg_integer(), term()}],
+           [{non_neg_integer(), term()}]) -> iodata().
+text(Processes, Labels, Values) ->
+    [?HEADER, $\n,
+     [utf8(["process\t", Pid, $\t, Name, $\t, What, $\n]) || {Pid, Name, What} <- Processes],
+     [entry("label", Entry) || Entry <- Labels],
+     [entry("value", Entry) || Entry <- Values]].
+
+entry(Kind, {Number, Term}) ->
+    utf8([Kind, $\t, integer_to_list(Number), $\t, seqaudit_terms:text(Term), $\n]).
+
+utf8(Characters) ->
+    unicode:characters_to_binary(Characters).
+
+%% @doc Reads the file.
+-spec read(file:filename()) -> {ok, legend()} | {error, term()}.
+read(File) ->
+    case file:read_file(File) of
+        {ok, Text} ->
+            case binary:split(Text, <<"\n">>, [global, trim]) of
+                [?HEADER | Lines] -> read_lines(Lines, 2, #{}, File);
+                _ -> {error, {not_terms, File, 1}}
+            end;
+        {error, Reason} ->
+            {error, {file, File, Reason}}
+    end.
+
+read_lines([], _Number, Legend, _File) ->
+    {ok, Legend};
+read_lines([Line | Lines], Number, Legend, File) ->
+    case binary:split(Line, <<"\t">>, [global]) of
+        [<<"process">>, Pid, Name, What] ->
+            Named = Legend#{{process, Pid} => Name, {about, Pid} => What},
+            read_lines(Lines, Number + 1, Named, File);
+        [<<"label">>, Label, Term] ->
+            read_lines(Lines, Number + 1, Legend#{{label, Label} => Term}, File);
+        [<<"value">>, Value, Term] ->
+            read_lines(Lines, Number + 1, Legend#{{value, Value} => Term}, File);
+        _ ->
+            {error, {not_terms, File, Number}}
+    end.
+
+%% @doc The short name of a process, its pid where the legend hasn't it.
+-spec process(binary(), legend()) -> binary().
+process(Pid, Legend) -> maps:get({process, Pid}, Legend, Pid).
+
+%% @doc All that is known of a process.
+-spec about(binary(), legend()) -> binary().
+about(Pid, Legend) -> maps:get({about, Pid}, Legend, <<"not in NAME.terms">>).
+
+%% @doc The term of a label, its number where the legend hasn't it.
+-spec label(binary(), legend()) -> binary().
+label(Number, Legend) -> maps:get({label, Number}, Legend, Number).
+
+%% @doc The term of a message, its number after a number sign where the legend hasn't it.
+-spec value(binary(), legend()) -> binary().
+value(Number, Legend) -> maps:get({value, Number}, Legend, <<"#", Number/binary>>).
+
+%% @doc The number of the label that is printed so, or is the term that this text spells, or has
+%% this number.
+-spec find_label(string(), legend()) -> {ok, binary()} | {error, term()}.
+find_label(Text, Legend) ->
+    Spelled = [utf8(Text) | [utf8(seqaudit_terms:text(Term)) || Term <- parse(Text)]],
+    Numbers = lists:usort([Number || {{label, Number}, Term} <- maps:to_list(Legend),
+                                     lists:member(Term, Spelled)]),
+    case Numbers of
+        [Number] -> {ok, Number};
+        [_ | _] -> {error, {labels_alike, Text, Numbers}};
+        [] when is_map_key({label, hd(Spelled)}, Legend) -> {ok, hd(Spelled)};
+        [] -> {error, {no_label, Text, lists:usort([Term || {{label, _}, Term}
+                                                                <- maps:to_list(Legend)])}}
+    end.
+
+parse(Text) ->
+    case seqaudit_text:read(utf8(Text)) of
+        {ok, [{_, [Term]}]} -> [Term];
+        _ -> []
+    end.
+
+%% @doc A reason of this module in words, with what to do about it.
+-spec format_error(term()) -> string().
+format_error({file, File, Reason}) ->
+    text("~ts: ~ts; `seqaudit-node convert' writes it", [File, file:format_error(Reason)]);
+format_error({not_terms, File, Line}) ->
+    text("~ts, line ~b, is no entry of NAME.terms; `seqaudit-node convert' writes it anew",
+         [File, Line]);
+format_error({labels_alike, Text, Numbers}) ->
+    text("several labels are printed ~ts; give the number of the one that is meant: ~ts",
+         [Text, lists:join(", ", Numbers)]);
+format_error({no_label, Text, []}) ->
+    text("there is no label ~ts, as the trace has no events", [Text]);
+format_error({no_label, Text, Labels}) ->
+    text("there is no label ~ts; the trace has ~ts",
+         [Text, lists:join(", ", lists:sublist(Labels, 20))]).
+
+text(Format, Values) ->
+    lists:flatten(io_lib:format(Format, Values)).
