@@ -5,10 +5,17 @@
 %% the text of a bundle and in what `seqaudit' answers.
 -module(seqaudit_legend).
 
--export([text/3, read/1, process/2, about/2, label/2, value/2, find_label/2, format_error/1]).
+-export([text/3, read/1, process/2, about/2, label/2, value/2, brief/2]).
+-export([find_label/2, format_error/1]).
 -export_type([legend/0]).
 
 -define(HEADER, <<"seqaudit terms 1">>).
+
+%% Messages of gen_server: a call, a cast, and the replies to an alias and to a reference.
+-define(BRIEF, [{"^\\{'\\$gen_call',\\{[^,]*,(?:\\[alias\\|#Ref<[0-9.]*>\\]|#Ref<[0-9.]*>)\\},(.*)\\}$",
+                 <<"call ">>},
+                {"^\\{'\\$gen_cast',(.*)\\}$", <<"cast ">>},
+                {"^\\{(?:\\[alias\\|#Ref<[0-9.]*>\\]|#Ref<[0-9.]*>),(.*)\\}$", <<"reply ">>}]).
 
 -opaque legend() :: #{{process | about | label | value, binary()} => binary()}.
 
@@ -71,6 +78,19 @@ label(Number, Legend) -> maps:get({label, Number}, Legend, Number).
 %% @doc The term of a message, its number after a number sign where the legend hasn't it.
 -spec value(binary(), legend()) -> binary().
 value(Number, Legend) -> maps:get({value, Number}, Legend, <<"#", Number/binary>>).
+
+%% @doc The term of a message without what every call and reply of OTP's servers has.
+-spec brief(binary(), legend()) -> binary().
+brief(Number, Legend) ->
+    brief_text(value(Number, Legend), ?BRIEF).
+
+brief_text(Text, []) ->
+    Text;
+brief_text(Text, [{Pattern, Word} | Patterns]) ->
+    case re:run(Text, Pattern, [unicode, dotall, {capture, [1], binary}]) of
+        {match, [Inner]} -> <<Word/binary, Inner/binary>>;
+        nomatch -> brief_text(Text, Patterns)
+    end.
 
 %% @doc The number of the label that is printed so, or is the term that this text spells, or has
 %% this number.

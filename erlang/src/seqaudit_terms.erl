@@ -15,8 +15,8 @@
 %% what prints a term isn't quick on every term.
 -define(PARTS, 1_000).
 -define(DEPTH, 40).
--define(BYTES, 1_000).
--define(CHARACTERS, 4_000).
+-define(BYTES, 500).
+-define(CHARACTERS, 2_000).
 
 %% @doc A number for each different label: its own where it is a whole number in range, else one
 %% that no label has.

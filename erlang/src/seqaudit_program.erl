@@ -1,0 +1,52 @@
+%% @doc Runs the program `seqaudit'.
+-module(seqaudit_program).
+
+-export([find/0, run/3, format_error/1]).
+
+%% The file goes to the program's standard input, which a port can't close.
+-define(SHELL, "exec \"$0\" \"$@\" <\"$SEQAUDIT_INPUT\"").
+
+%% @doc Where the program is: where the variable SEQAUDIT says, beside this application (in its
+%% folder or in `bin' beside that), or on the path.
+-spec find() -> {ok, file:filename()} | {error, {no_program, [file:filename()]}}.
+find() ->
+    Home = filename:dirname(filename:dirname(filename:absname(code:which(?MODULE)))),
+    Beside = [filename:join(Home, "seqaudit"),
+              filename:join([filename:dirname(Home), "bin", "seqaudit"])],
+    Said = [File || File <- [os:getenv("SEQAUDIT")], File =/= false],
+    OnPath = [File || File <- [os:find_executable("seqaudit")], File =/= false],
+    case [File || File <- Said ++ Beside ++ OnPath, filelib:is_regular(File)] of
+        [File | _] -> {ok, File};
+        [] -> {error, {no_program, Beside}}
+    end.
+
+%% @doc Runs a program with these words on this file: its exit status and what it wrote.
+-spec run(file:filename(), [string()], file:filename()) ->
+          {ok, {non_neg_integer(), binary()}} | {error, {file, file:filename(), term()}}.
+run(Program, Words, Input) ->
+    case file:open(Input, [read, raw]) of
+        {ok, Device} ->
+            ok = file:close(Device),
+            Port = open_port({spawn_executable, "/bin/sh"},
+                             [{args, ["-c", ?SHELL, Program | Words]},
+                              {env, [{"SEQAUDIT_INPUT", Input}]}, binary, exit_status]),
+            {ok, output(Port, [])};
+        {error, Reason} ->
+            {error, {file, Input, Reason}}
+    end.
+
+output(Port, Output) ->
+    receive
+        {Port, {data, Data}} -> output(Port, [Data | Output]);
+        {Port, {exit_status, Status}} -> {Status, iolist_to_binary(lists:reverse(Output))}
+    end.
+
+%% @doc A reason of this module in words, with what to do about it.
+-spec format_error(term()) -> string().
+format_error({no_program, Beside}) ->
+    lists:flatten(io_lib:format("there is no seqaudit on the path, nor at ~ts; build it with "
+                                "`make program' in the repository, or say where it is in the "
+                                "variable SEQAUDIT", [lists:join(" or ", Beside)]));
+format_error({file, File, Reason}) ->
+    lists:flatten(io_lib:format("~ts: ~ts; `seqaudit-node convert' writes it",
+                                [File, file:format_error(Reason)])).
