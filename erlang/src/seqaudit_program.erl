@@ -1,10 +1,19 @@
 %% @doc Runs the program `seqaudit'.
 -module(seqaudit_program).
 
--export([find/0, run/3, format_error/1]).
+-export([ask/2, find/0, run/3, format_error/1]).
 
 %% The file goes to the program's standard input, which a port can't close.
 -define(SHELL, "exec \"$0\" \"$@\" <\"$SEQAUDIT_INPUT\"").
+
+%% @doc What the program answers to these words on this file: its exit status and what it wrote.
+-spec ask([string()], file:filename()) ->
+          {ok, {non_neg_integer(), binary()}} | {error, term()}.
+ask(Words, Input) ->
+    case find() of
+        {ok, Program} -> run(Program, Words, Input);
+        {error, Reason} -> {error, Reason}
+    end.
 
 %% @doc Where the program is: where the variable SEQAUDIT says, beside this application (in its
 %% folder or in `bin' beside that), or on the path.

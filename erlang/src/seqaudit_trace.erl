@@ -53,6 +53,7 @@ start(Options) ->
         [] ->
             case gen_server:start({local, ?MODULE}, ?MODULE, maps:merge(Defaults, Options), []) of
                 {ok, _} -> ok;
+                {error, {shutdown, Reason}} -> {error, Reason};
                 {error, Reason} -> {error, Reason}
             end;
         Unknown ->
@@ -118,7 +119,7 @@ text(Format, Values) ->
     lists:flatten(io_lib:format(Format, Values)).
 
 %% @private
--spec init(options()) -> {ok, #state{}} | {stop, term()}.
+-spec init(options()) -> {ok, #state{}} | {stop, {shutdown, term()}}.
 init(#{nodes := Nodes, name := Name, limit := Limit, reset := Reset}) ->
     Options = #{owner => self(), limit => Limit, reset => Reset},
     maybe_start(seqaudit_events:writable(Name), lists:usort(Nodes), Options, Name).
@@ -126,10 +127,10 @@ init(#{nodes := Nodes, name := Name, limit := Limit, reset := Reset}) ->
 maybe_start(ok, Nodes, Options, Name) ->
     case start_all(Nodes, Options, []) of
         {ok, Collectors} -> {ok, #state{name = Name, collectors = Collectors}};
-        {error, Reason} -> {stop, Reason}
+        {error, Reason} -> {stop, {shutdown, Reason}}
     end;
 maybe_start({error, Reason}, _Nodes, _Options, _Name) ->
-    {stop, Reason}.
+    {stop, {shutdown, Reason}}.
 
 %% @private
 -spec handle_call(stop, gen_server:from(), #state{}) ->

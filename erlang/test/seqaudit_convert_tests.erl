@@ -1,0 +1,207 @@
+%% From collected events to bundles.
+-module(seqaudit_convert_tests).
+
+-export([captures_test_/0, equal_terms_test/0, numbers_test/0, parties_test/0, aliases_test/0,
+         counts_test/0, limits_test/0, lost_test/0, hostile_test_/0, hostile_trace_test_/0,
+         text_test/0, text_faults_test/0, external_test/0, trace_file_test/0]).
+
+%% What the auditor says of traces of real programs that were captured on a node.
+captures_test_() ->
+    [{Name, {timeout, 60, fun() -> capture(Name, Said) end}}
+     || {Name, Said} <- [{"bank", fits}, {"gs_chain", fits}, {"call_timeout", fits},
+                         {"term_labels", fits}, {"timestamps", fits}, {"scatter20", fits},
+                         {"ring10", fits}, {"prints", fits}, {"selective", fits},
+                         {"oddities", fits}, {"manual_example", fits}, {"send_only", fits},
+                         {"dist_two_nodes", fits},
+                         {"exclude_idiom_after_receive", <<" uncaused\n">>}]].
+
+capture(Name, Said) ->
+    Folder = filename:join([filename:dirname(filename:dirname(seqaudit_audits:file("x"))), "captures"]),
+    {ok, Collections} = seqaudit_events:read(filename:join(Folder, Name ++ ".txt")),
+    File = seqaudit_audits:file(Name),
+    {ok, #{dropped := 0}} = seqaudit_convert:files(Collections, File),
+    case Said of
+        fits ->
+            seqaudit_audits:fits(File);
+        Reason ->
+            case seqaudit_audits:audit(File) of
+                {1, <<"unfit ", Answer/binary>>} -> {_, _} = binary:match(Answer, Reason);
+                skipped -> skipped
+            end
+    end.
+
+%% Equal terms have one number, and terms that are only alike have two.
+equal_terms_test() ->
+    Messages = [{a, "b"}, 1, 1.0, {a, "b"}, 1, <<"b">>, "b"],
+    Events = [{seq_trace, 0, {print, {K, K + 1}, self(), [], Message}}
+              || {K, Message} <- lists:zip(lists:seq(0, 6), Messages)],
+    #{seqtrace := Text} = convert(Events),
+    {match, Numbers} = re:run(Text, "\\[\\],([0-9]+)", [global, {capture, [1], list}]),
+    [["0"], ["1"], ["2"], ["0"], ["1"], ["3"], ["4"]] = Numbers.
+
+%% A process keeps its number, unless another one has it or it is out of range.
+numbers_test() ->
+    Pids = [pid('a@h', N, S) || {N, S} <- [{80, 0}, {80, 3}, {65_535, 0}, {70_000, 0}, {81, 2}]],
+    Other = pid('b@h', 80, 0),
+    Numbers = seqaudit_processes:number([Other | Pids]),
+    [{0, 80}, {0, 65_534}, {0, 65_535}, {0, 65_533}, {0, 81}] = [maps:get(Pid, Numbers) || Pid <- Pids],
+    {1, 80} = maps:get(Other, Numbers),
+    #{} = seqaudit_processes:number([]).
+
+%% Ports, names and aliases that nothing resolves are parties of their own.
+parties_test() ->
+    Port = hd(erlang:ports()),
+    Alias = make_ref(),
+    #{seqtrace := Text, notes := Notes} =
+        convert([{seq_trace, 0, {send, {0, 1}, self(), Port, x}},
+                 {seq_trace, 0, {send, {0, 2}, self(), Alias, x}},
+                 {seq_trace, 0, {send, {0, 3}, self(), {srv, node()}, x}},
+                 {seq_trace, 0, {send, {0, 4}, self(), srv, x}},
+                 {seq_trace, 0, {'receive', {1, 9}, Port, self(), {Port, data}}}]),
+    [_, _, _, _] = [Line || <<"process ", _/binary>> = Line <- binary:split(Text, <<"\n">>, [global])],
+    true = lists:any(fun(Note) -> has(Note, "3 sends to an alias or a name that nothing") end, Notes),
+    true = lists:any(fun(Note) -> has(Note, "<0.65535.0> is port #Port<") end, Notes).
+
+%% The receive says best who has an alias, then the request.
+aliases_test() ->
+    [A, B, C] = [pid(node(), N, 0) || N <- [30, 31, 32]],
+    [R1, R2] = [make_ref(), make_ref()],
+    Request = fun(Owner, Alias) -> {'$gen_call', {Owner, [alias | Alias]}, x} end,
+    {Events, #{by_receive := 1, by_request := 1}} =
+        seqaudit_resolve:events([#{node => node(), events => [
+            {seq_trace, 0, {send, {0, 1}, A, B, Request(A, R1)}},
+            {seq_trace, 0, {send, {0, 2}, A, B, Request(A, R2)}},
+            {seq_trace, 0, {send, {1, 2}, B, R1, {R1, ok}}},
+            {seq_trace, 0, {send, {1, 3}, B, R2, {R2, ok}}},
+            {seq_trace, 0, {'receive', {1, 2}, B, C, {R1, ok}}}]}]),
+    [B, B, C, A, C] = [element(5, Event) || Event <- Events].
+
+%% What is no event is counted.
+counts_test() ->
+    Strays = [hello, {seq_trace, 1, {send, {0, 1}, self(), "x", x}}, {seq_trace, 1, 2},
+              {seq_trace, 1, {print, {0, -1}, self(), [], x}}, {seq_trace, 1, {spawn, {0, 1}, 2, 3, 4}},
+              {seq_trace, 1, {print, {0, 1 bsl 64}, self(), [], x}}],
+    #{events := 1, dropped := 9, notes := [Dropped, Own, Left]} =
+        seqaudit_convert:convert([#{node => 'a@h', dropped => 2, own => 1, strays => 0, events =>
+            [{seq_trace, 1, {print, {0, 1}, self(), [], x}} | Strays]}]),
+    true = has(Dropped, "a@h: 2 events came beyond the limit"),
+    true = has(Own, "a@h: 1 events that named the collector"),
+    true = has(Left, "6 entries were no events").
+
+%% What the program's reader won't take is said.
+limits_test() ->
+    Events = [{seq_trace, 1, {print, {0, 1}, pid('a@h', N, 0), [], x}} || N <- lists:seq(1, 1025)],
+    #{processes := 1025, notes := [Note]} = convert(Events),
+    true = has(Note, "it has 1025 processes, and the reader takes 1024").
+
+lost_test() ->
+    #{events := 0, notes := [Note]} = seqaudit_convert:convert([#{node => 'a@h', lost => noconnection}]),
+    true = has(Note, "a@h: its collector went down (noconnection)").
+
+%% Large terms are cut in what is printed, and not in what is compared.
+hostile_test_() ->
+    {timeout, 120, fun() ->
+        Terms = hostile(),
+        Changed = [{lists:seq(1, 1_000_000) ++ [x]}, {lists:seq(1, 1_000_000) ++ [y]}],
+        Events = [{seq_trace, Term, {print, {K, K + 1}, self(), [], Term}}
+                  || {K, Term} <- lists:enumerate(0, Terms ++ Changed)],
+        {Microseconds, #{terms := Legend}} = timer:tc(fun() -> convert(Events) end),
+        true = Microseconds < 20_000_000,
+        Lines = binary:split(iolist_to_binary(Legend), <<"\n">>, [global, trim]),
+        Length = 2 * length(Events) + 2,
+        Length = length(Lines),
+        [] = [Line || Line <- Lines, byte_size(Line) > 8_200],
+        [_] = lists:usort([lists:last(binary:split(Line, <<"\t">>, [global]))
+                           || Line <- lists:nthtail(Length - 2, Lines)])
+    end}.
+
+%% The same on their way through the tracer of a node.
+hostile_trace_test_() ->
+    {timeout, 120, fun() ->
+        Terms = hostile(),
+        Name = seqaudit_audits:file("hostile"),
+        ok = seqaudit_trace:start(#{name => Name}),
+        seqaudit_trace:with_trace(1, fun() ->
+            [begin self() ! Term, receive _ -> ok end end || Term <- Terms]
+        end),
+        Count = 2 * length(Terms),
+        {ok, #{events := Count}} = seqaudit_trace:stop(),
+        {ok, [#{events := Events}]} = seqaudit_events:read(Name ++ ".events"),
+        Count = length(Events),
+        seqaudit_audits:fits(Name)
+    end}.
+
+hostile() ->
+    Deep = fun(Wrap) -> lists:foldl(fun(_, Term) -> Wrap(Term) end, x, lists:seq(1, 300_000)) end,
+    [Deep(fun(T) -> [T] end), Deep(fun(T) -> {T, y} end), Deep(fun(T) -> #{k => T} end),
+     Deep(fun(T) -> [y | T] end), lists:seq(1, 1_000_000), lists:duplicate(1_000_000, $a),
+     lists:duplicate(1_000_000, 16#1F600), binary:copy(<<"abc">>, 3_000_000),
+     <<(binary:copy(<<200, 0>>, 1_000_000))/binary, 1:3>>, 1 bsl 1_000_000, -(1 bsl 1_000_000),
+     maps:from_list([{K, K} || K <- lists:seq(1, 300_000)]), list_to_tuple(lists:seq(1, 1_000_000)),
+     [lists:duplicate(400, $a) || _ <- lists:seq(1, 1_000)],
+     fun() -> hostile end, fun lists:map/2, make_ref(), self(), hd(erlang:ports()),
+     list_to_atom(lists:duplicate(255, 16#10FFFF)), "\t\n\"<&>", 'a\nb\tc', [], {}, #{}, <<>>, 1.0e300].
+
+%% Text as io:format prints it, with what Erlang doesn't read back.
+text_test() ->
+    Terms = [{seq_trace, {l, <<1, 2>>}, {send, {0, 1}, self(), {srv, 'b@h'}, "a 'b' {<0.1.0>"}},
+             {seq_trace, 1.5, {print, {0, 1}, self(), [], #{$a => [hd(erlang:ports()) | make_ref()]}}}],
+    Text = unicode:characters_to_binary([io_lib:format("~tp~n", [Term]) || Term <- Terms]),
+    {ok, [{Node, [First, Second]}]} = seqaudit_text:read(<<"%% node ", (atom_to_binary(node()))/binary,
+                                                           "\n\n", Text/binary>>),
+    Node = node(),
+    First = hd(Terms),
+    Printed = io_lib:format("~tp", [lists:last(Terms)]),
+    Printed = io_lib:format("~tp", [Second]),
+    Away = <<"% node a@h\n% channel 77 b@h\n{<77.1.2>,<78.1.2>,<0.1.2>, #Fun<m.1.2>}.\n">>,
+    {ok, [{'a@h', [{B, Unknown, A, {'fun', "m.1.2"}}]}]} = seqaudit_text:read(Away),
+    ['b@h', channel_78, 'a@h'] = [node(Pid) || Pid <- [B, Unknown, A]].
+
+text_faults_test() ->
+    [{Line, _} = element(2, seqaudit_text:read(Text))
+     || {Line, Text} <- [{1, <<"{a">>}, {2, <<"a\n{b,\n\nc,}\n">>}, {3, <<"{a,\n\"b}\"}\n'c">>},
+                         {1, <<"<0.1>">>}, {1, <<"#Ref<1>">>}, {1, <<255>>}, {3, <<"a\n\n#Port<0.1.2>">>}]],
+    {ok, []} = seqaudit_text:read(<<"\n% nothing\n">>).
+
+external_test() ->
+    File = seqaudit_audits:file("external.bin"),
+    Events = [{seq_trace, 1, {print, {0, 1}, self(), [], x}}],
+    ok = file:write_file(File, term_to_binary(Events)),
+    {ok, [#{events := Events}]} = seqaudit_events:read(File),
+    ok = file:write_file(File, term_to_binary(Events, [compressed])),
+    {ok, [#{events := Events}]} = seqaudit_events:read(File),
+    ok = file:write_file(File, <<131, 1, 2, 3>>),
+    {error, {not_events, File}} = seqaudit_events:read(File),
+    {error, {file, "/no/such/file", enoent}} = seqaudit_events:read("/no/such/file").
+
+%% A trace port of dbg writes what it drops as counts.
+trace_file_test() ->
+    case code:ensure_loaded(dbg) of
+        {error, _} ->
+            io:format(user, "trace file: skipped, there is no dbg (erlang-runtime-tools)~n", []);
+        {module, dbg} ->
+            File = seqaudit_audits:file("port.trace"),
+            _ = file:delete(File),
+            Port = (dbg:trace_port(file, File))(),
+            false = seq_trace:set_system_tracer(Port),
+            seqaudit_trace:with_trace(1, fun() -> self() ! me, receive me -> ok end end),
+            Port = seq_trace:set_system_tracer(false),
+            true = port_close(Port),
+            {ok, [#{events := [_, _], dropped := 0} = Collection]} = seqaudit_events:read(File),
+            Name = seqaudit_audits:file("port"),
+            {ok, #{events := 2}} = seqaudit_convert:files([Collection], Name),
+            seqaudit_audits:fits(Name),
+            ok = file:write_file(File, <<1, 7:32, 0, 9:32, 1>>),
+            {error, {broken_trace, File, _}} = seqaudit_events:read(File)
+    end.
+
+convert(Events) ->
+    seqaudit_convert:convert([#{node => node(), events => Events}]).
+
+has(Text, Part) ->
+    string:find(Text, Part) =/= nomatch.
+
+%% A process of any node, by the external term format.
+pid(Node, Number, Serial) ->
+    <<131, Atom/binary>> = term_to_binary(Node),
+    binary_to_term(<<131, 88, Atom/binary, Number:32, Serial:32, 0:32>>).

@@ -1,0 +1,255 @@
+%% Programs that run on this node, and on two, are traced, converted and audited.
+-module(seqaudit_trace_tests).
+
+-export([fitting_test_/0, term_labels_test/0, registered_names_test/0, timestamps_test/0,
+         full_collector_test/0, former_tracer_is_put_back_test/0, second_tracer_stays_test/0,
+         owner_ends_test/0, collector_stays_out_test/0, token_is_taken_off_test/0,
+         nothing_is_lost_test_/0, start_refuses_test/0, two_nodes_test_/0, unfit_is_unfit_test/0]).
+
+-define(FLAGS, [send, 'receive', print]).
+
+%% Each program runs under a trace with all flags, and fits.
+fitting_test_() ->
+    [{Name, {timeout, 60, fun() -> fits(Name, Program) end}} || {Name, Program} <- programs()].
+
+fits(Name, Program) ->
+    Run = Program(),
+    {Events, _} = traced(Name, #{}, fun() -> seqaudit_trace:with_trace(17, Run) end),
+    true = Events > 0,
+    ok_or_skipped(seqaudit_audits:fits(seqaudit_audits:file(Name))).
+
+%% The first part of each program makes its processes, before any token is set.
+programs() ->
+    [{"client_server_server", fun() ->
+          B = seqaudit_test_server:start(fun({get, K}) -> K * 2 end),
+          A = seqaudit_test_server:start(fun({lookup, K}) -> gen_server:call(B, {get, K}) + 1 end),
+          fun() -> 21 = gen_server:call(A, {lookup, 10}) end
+      end},
+     {"ring", fun() ->
+          Self = self(),
+          Ring = [spawn(fun() -> receive {next, Next} -> pass(Next) end end) || _ <- lists:seq(1, 9)],
+          lists:foldr(fun(Pid, Next) -> Pid ! {next, Next}, Pid end, Self, Ring),
+          fun() ->
+              [begin hd(Ring) ! {round, K}, receive {round, K} -> ok end end || K <- [1, 2, 3]]
+          end
+      end},
+     {"scatter_and_gather", fun() ->
+          Workers = [spawn(fun() -> echo(K) end) || K <- lists:seq(1, 20)],
+          fun() ->
+              [Worker ! {self(), job} || Worker <- Workers],
+              [receive {Worker, _} -> ok end || Worker <- Workers],
+              seq_trace:print(gathered)
+          end
+      end},
+     {"call_that_times_out", fun() ->
+          Slow = seqaudit_test_server:start(fun(Ms) -> receive after Ms -> Ms end end),
+          fun() ->
+              {'EXIT', {timeout, _}} = (catch gen_server:call(Slow, 60, 20)),
+              0 = gen_server:call(Slow, 0)
+          end
+      end},
+     {"casts", fun() ->
+          Self = self(),
+          Server = seqaudit_test_server:start(fun(K) -> seq_trace:print({got, K}), Self ! {done, K} end),
+          fun() ->
+              [gen_server:cast(Server, K) || K <- lists:seq(1, 5)],
+              [receive {done, K} -> ok end || K <- lists:seq(1, 5)]
+          end
+      end},
+     {"self_send", fun() ->
+          fun() -> self() ! me, receive me -> seq_trace:print(mine) end end
+      end},
+     {"dead_receiver", fun() ->
+          {Pid, Monitor} = spawn_monitor(fun() -> ok end),
+          receive {'DOWN', Monitor, process, Pid, normal} -> ok end,
+          fun() -> Pid ! hello, seq_trace:print(sent), self() ! on, receive on -> ok end end
+      end}].
+
+pass(Next) -> receive Message -> Next ! Message, pass(Next) end.
+echo(K) -> receive {From, Job} -> From ! {self(), {K, Job}}, echo(K) end.
+
+term_labels_test() ->
+    Server = seqaudit_test_server:start(fun(X) -> X end),
+    Labels = [{request, <<"abc">>}, -5, 7, make_ref()],
+    {16, Legend} = traced("term_labels", #{}, fun() ->
+        [seqaudit_trace:with_trace(Label, fun() -> gen_server:call(Server, Label) end)
+         || Label <- Labels]
+    end),
+    {ok, <<"7">>} = seqaudit_legend:find_label("7", Legend),
+    {ok, <<"1000000">>} = seqaudit_legend:find_label("{request, <<\"abc\">>}", Legend),
+    {ok, <<"1000001">>} = seqaudit_legend:find_label("-5", Legend),
+    {error, {no_label, "8", _}} = seqaudit_legend:find_label("8", Legend),
+    ok_or_skipped(seqaudit_audits:fits(seqaudit_audits:file("term_labels"))).
+
+registered_names_test() ->
+    Server = seqaudit_test_server:start(seqaudit_test_alice, fun(X) -> X end),
+    {Events, Legend} = traced("names", #{}, fun() ->
+        seqaudit_trace:with_trace(1, fun() -> gen_server:call(seqaudit_test_alice, hello) end)
+    end),
+    4 = Events,
+    ok = gen_server:stop(Server),
+    Pid = list_to_binary(pid_to_list(Server)),
+    <<"seqaudit_test_alice">> = seqaudit_legend:process(Pid, Legend),
+    {_, _} = binary:match(seqaudit_legend:about(Pid, Legend),
+                          <<"registered as seqaudit_test_alice, started by seqaudit_test_server:init/1">>),
+    ok_or_skipped(seqaudit_audits:fits(seqaudit_audits:file("names"))).
+
+timestamps_test() ->
+    Server = seqaudit_test_server:start(fun(X) -> X end),
+    ok = seqaudit_trace:start(#{name => seqaudit_audits:file("timestamps")}),
+    seqaudit_trace:with_trace(1, [monotonic_timestamp | ?FLAGS],
+                              fun() -> gen_server:call(Server, hello) end),
+    {ok, #{events := 4, dropped := 0, notes := Notes}} = seqaudit_trace:stop(),
+    true = lists:member("4 timestamps were left out", Notes),
+    ok_or_skipped(seqaudit_audits:fits(seqaudit_audits:file("timestamps"))).
+
+full_collector_test() ->
+    Name = seqaudit_audits:file("full"),
+    ok = seqaudit_trace:start(#{name => Name, limit => 10}),
+    seqaudit_trace:with_trace(1, fun() -> [seq_trace:print(K) || K <- lists:seq(1, 25)] end),
+    {ok, #{events := 10, dropped := 15, notes := [Note]}} = seqaudit_trace:stop(),
+    {match, _} = re:run(Note, ": 15 events came beyond the limit"),
+    ok_or_skipped(seqaudit_audits:fits(Name)).
+
+former_tracer_is_put_back_test() ->
+    Former = spawn(fun() -> receive stop -> ok end end),
+    false = seq_trace:set_system_tracer(Former),
+    {1, _} = traced("former", #{}, fun() ->
+        seqaudit_trace:with_trace(1, fun() -> seq_trace:print(seen) end)
+    end),
+    Former = seq_trace:set_system_tracer(false),
+    {messages, []} = process_info(Former, messages),
+    exit(Former, kill),
+    false = seq_trace:get_system_tracer(),
+    ok.
+
+%% Whoever put another tracer in the collector's place keeps it, and the notes say so.
+second_tracer_stays_test() ->
+    Second = spawn(fun() -> receive stop -> ok end end),
+    ok = seqaudit_trace:start(#{name => seqaudit_audits:file("second")}),
+    seq_trace:set_system_tracer(Second),
+    {ok, #{notes := [Note]}} = seqaudit_trace:stop(),
+    {match, _} = re:run(Note, "another system tracer took the collector's place"),
+    Second = seq_trace:set_system_tracer(false),
+    exit(Second, kill),
+    ok.
+
+owner_ends_test() ->
+    Owner = spawn(fun() -> receive stop -> ok end end),
+    {ok, Collector} = seqaudit_collector:start(#{owner => Owner, limit => 10, reset => false}),
+    Collector = seq_trace:get_system_tracer(),
+    Monitor = monitor(process, Collector),
+    exit(Owner, kill),
+    receive {'DOWN', Monitor, process, Collector, normal} -> ok end,
+    false = seq_trace:get_system_tracer(),
+    ok.
+
+%% A traced process that writes to the collector leaves the collector untraced.
+collector_stays_out_test() ->
+    {2, _} = traced("stays_out", #{}, fun() ->
+        seqaudit_trace:with_trace(1, fun() ->
+            seq_trace:print(before),
+            seqaudit_collector ! stray,
+            receive after 20 -> ok end,
+            seq_trace:print(behind)
+        end)
+    end),
+    ok_or_skipped(seqaudit_audits:fits(seqaudit_audits:file("stays_out"))).
+
+token_is_taken_off_test() ->
+    done = seqaudit_trace:with_trace(1, fun() -> [_ | _] = tuple_to_list(seq_trace:get_token()), done end),
+    [] = seq_trace:get_token(),
+    {'EXIT', _} = (catch seqaudit_trace:with_trace(1, fun() -> error(deliberate) end)),
+    [] = seq_trace:get_token(),
+    thrown = (catch seqaudit_trace:with_trace({a, term}, [send], fun() -> throw(thrown) end)),
+    [] = seq_trace:get_token(),
+    {'EXIT', {badarg, _}} = (catch seqaudit_trace:with_trace(1, [sent], fun() -> ok end)),
+    ok.
+
+%% 20,000 events of 20 processes at once: all of them come, in each process's order.
+nothing_is_lost_test_() ->
+    {timeout, 60, fun() ->
+        Run = fun() -> [seq_trace:print(K) || K <- lists:seq(1, 1000)] end,
+        {20_000, _} = traced("many", #{}, fun() ->
+            Started = [spawn_monitor(fun() -> seqaudit_trace:with_trace(L, Run) end)
+                       || L <- lists:seq(1, 20)],
+            [receive {'DOWN', Monitor, process, Pid, normal} -> ok end || {Pid, Monitor} <- Started]
+        end)
+    end}.
+
+start_refuses_test() ->
+    {error, {unknown_options, [nodess]}} = seqaudit_trace:start(#{nodess => []}),
+    {error, not_started} = seqaudit_trace:stop(),
+    ok = seqaudit_trace:start(#{name => seqaudit_audits:file("twice")}),
+    {error, {already_started, _} = Reason} = seqaudit_trace:start(),
+    true = is_list(seqaudit_trace:format_error(Reason)),
+    {ok, #{events := 0}} = seqaudit_trace:stop(),
+    {error, {file, _, enoent}} = seqaudit_trace:start(#{name => "/no/such/folder/x"}),
+    {error, {node, 'nobody@localhost', unreachable}} =
+        seqaudit_trace:start(#{name => seqaudit_audits:file("nobody"),
+                               nodes => [node(), 'nobody@localhost']}),
+    false = seq_trace:get_system_tracer(),
+    ok.
+
+%% A token that is put back after a receive moves the clock of a standard node.
+unfit_is_unfit_test() ->
+    Log = seqaudit_test_server:start(fun(_) -> ok end),
+    Server = seqaudit_test_server:start(fun(X) ->
+        Token = seq_trace:set_token([]),
+        ok = gen_server:call(Log, {log, X}),
+        seq_trace:set_token(Token),
+        X
+    end),
+    traced("put_back", #{}, fun() ->
+        seqaudit_trace:with_trace(11, fun() -> [gen_server:call(Server, K) || K <- [1, 2, 3]] end)
+    end),
+    case seqaudit_audits:audit(seqaudit_audits:file("put_back")) of
+        {1, Answer} -> {match, _} = re:run(Answer, "^unfit <[0-9.]*> 1 uncaused\n");
+        skipped -> skipped
+    end.
+
+%% A client here calls a server there by its process and by its name.
+two_nodes_test_() ->
+    {timeout, 60, fun() ->
+        case seqaudit_test_nodes:start() of
+            {ok, Stop, There} -> two_nodes(Stop, There);
+            {error, Reason} -> io:format(user, "two nodes: skipped, ~0tp~n", [Reason])
+        end
+    end}.
+
+two_nodes(Stop, There) ->
+    Name = seqaudit_audits:file("two_nodes"),
+    try
+        Server = erpc:call(There, seqaudit_test_server, start, [remote, fun erlang:abs/1]),
+        ok = seqaudit_trace:start(#{name => Name, nodes => [node(), There]}),
+        false = erpc:call(There, seq_trace, get_system_tracer, []) =:= false,
+        seqaudit_trace:with_trace({to, There}, fun() ->
+            5 = gen_server:call(Server, -5),
+            6 = gen_server:call({remote, There}, -6),
+            seq_trace:print(asked)
+        end),
+        {ok, #{events := Events}} = seqaudit_trace:stop(),
+        false = erpc:call(There, seq_trace, get_system_tracer, []),
+        true = Events >= 9,
+        {ok, Legend} = seqaudit_legend:read(Name ++ ".terms"),
+        {ok, Text} = file:read_file(Name ++ ".seqtrace"),
+        {match, [Pid]} = re:run(Text, "<1\\.[0-9]+\\.0>", [{capture, first, binary}]),
+        Remote = list_to_binary("remote on " ++ atom_to_list(There)),
+        Remote = seqaudit_legend:process(Pid, Legend),
+        ok_or_skipped(seqaudit_audits:fits(Name))
+    after
+        Stop()
+    end.
+
+%% Runs the function under a trace; how many events there are, and the legend.
+traced(Name, Options, Run) ->
+    File = seqaudit_audits:file(Name),
+    ok = seqaudit_trace:start(Options#{name => File}),
+    Run(),
+    {ok, #{events := Events, files := Files}} = seqaudit_trace:stop(),
+    4 = length([ok || Written <- Files, filelib:is_regular(Written)]),
+    {ok, Legend} = seqaudit_legend:read(File ++ ".terms"),
+    {Events, Legend}.
+
+ok_or_skipped(ok) -> ok;
+ok_or_skipped(skipped) -> skipped.
