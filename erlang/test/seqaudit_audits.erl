@@ -2,7 +2,7 @@
 %% the program where it is built and has the command; then both must write the same.
 -module(seqaudit_audits).
 
--export([file/1, fits/1, audit/1, chart/2, has/1, tools/0, model/0]).
+-export([file/1, fits/1, audit/1, has/1, has/2, tools/0, model/0]).
 
 %% A name for files of a test, in a folder that git ignores.
 file(Name) ->
@@ -30,7 +30,6 @@ confirmed(Name, Answer) ->
     ok.
 
 audit(Name) -> answer(["audit"], Name).
-chart(Name, Label) -> answer(["chart", "--label", Label], Name).
 
 answer([Command | _] = Words, Name) ->
     Answers = [begin

@@ -1,0 +1,135 @@
+%% The command, run as a program of its own.
+-module(seqaudit_node_tests).
+
+-export([usage_test_/0, convert_test_/0, audit_and_chart_test_/0, no_program_test_/0, collect_test_/0,
+         printing/0]).
+
+usage_test_() ->
+    {timeout, 60, fun() ->
+        {0, Help} = command("--help"),
+        {_, _} = binary:match(Help, <<"usage: seqaudit-node COMMAND">>),
+        {0, Help} = command("audit --help"),
+        [{3, _} = command(Words)
+         || Words <- ["", "frobnicate", "audit", "audit a b", "audit a --label", "chart a",
+                      "convert x", "collect --node a@h -o x", "convert -o"]],
+        {3, Text} = command("collect --node a@h --seconds ten -o x"),
+        {_, _} = binary:match(Text, <<"--seconds and --limit take whole numbers">>)
+    end}.
+
+convert_test_() ->
+    {timeout, 60, fun() ->
+        Name = seqaudit_audits:file("command"),
+        {4, Missing} = command("convert /no/such/file -o " ++ Name),
+        {_, _} = binary:match(Missing, <<"/no/such/file: no such file">>),
+        ok = file:write_file(Name ++ ".txt", <<"{seq_trace,\n\n1">>),
+        {2, Broken} = command(["convert ", Name, ".txt -o ", Name]),
+        {_, _} = binary:match(Broken, <<"command.txt, line 1: this is no Erlang term">>),
+        {4, _} = command(["convert ", capture("ring10"), " -o /no/such/folder/x"]),
+        {0, Done} = command(["convert ", capture("ring10"), " -o ", Name]),
+        {_, _} = binary:match(Done, <<"60 events of 10 processes">>)
+    end}.
+
+capture(Name) ->
+    Out = filename:dirname(seqaudit_audits:file("x")),
+    filename:join([filename:dirname(Out), "captures", Name ++ ".txt"]).
+
+%% Asked of the program where it has the commands, and of the model.
+audit_and_chart_test_() ->
+    {timeout, 120, fun() ->
+        Name = seqaudit_audits:file("asked"),
+        {0, _} = command(["convert ", capture("term_labels"), " -o ", Name]),
+        case {seqaudit_audits:has("audit") andalso seqaudit_audits:has("chart"),
+              seqaudit_audits:model()} of
+            {true, Models} -> [asked(Name, Model) || Model <- Models ++ built()];
+            {false, _} -> skipped
+        end
+    end}.
+
+built() ->
+    [Program || {ok, Program} <- [seqaudit_program:find()], seqaudit_audits:has(Program, "chart")].
+
+asked(Name, Program) ->
+    _ = file:delete(Name ++ ".svg"),
+    {0, Fits} = command(["audit ", Name], Program),
+    {_, _} = binary:match(Fits, <<"fits: 12 events of 2 processes">>),
+    {ok, <<"seqtrace 1\n", _/binary>>} = file:read_file(Name ++ ".answer"),
+    {0, Whole} = command(["audit ", Name, " --whole"], Program),
+    {_, _} = binary:match(Whole, <<", label {request,<<\"abc\">>}">>),
+    {0, Chart} = command(["chart ", Name, " --label '{request, <<\"abc\">>}' --svg ", Name, ".svg"], Program),
+    {_, _} = binary:match(Chart, <<"label {request,<<\"abc\">>}\n">>),
+    {_, _} = binary:match(Chart, <<" call 1  start\n">>),
+    {ok, <<"<?xml", _/binary>>} = file:read_file(Name ++ ".svg"),
+    {1, Other} = command(["chart ", Name, " --label other"], Program),
+    {_, _} = binary:match(Other, <<"there is no label other; the trace has #Ref<">>),
+    {4, Gone} = command(["audit ", Name, "x"], Program),
+    {_, _} = binary:match(Gone, <<"askedx.terms: no such file or directory; `seqaudit-node convert'">>),
+    Unfit = Name ++ "_unfit",
+    {0, _} = command(["convert ", capture("exclude_idiom_after_receive"), " -o ", Unfit]),
+    {1, Why} = command(["audit ", Unfit], Program),
+    {_, _} = binary:match(Why, <<"(uncaused)">>).
+
+%% A program that knows no audit is said to be one.
+no_program_test_() ->
+    {timeout, 60, fun() ->
+        Name = seqaudit_audits:file("old"),
+        {0, _} = command(["convert ", capture("ring10"), " -o ", Name]),
+        ok = file:write_file(Name ++ ".sh", <<"#!/bin/sh\necho usage: seqaudit check\nexit 3\n">>),
+        ok = file:change_mode(Name ++ ".sh", 8#755),
+        {3, Old} = command(["audit ", Name], Name ++ ".sh"),
+        {_, _} = binary:match(Old, <<"this seqaudit has no audit yet; build a later one">>)
+    end}.
+
+%% The command traces another node, where nothing of it is installed.
+collect_test_() ->
+    {timeout, 120, fun() ->
+        {4, Text} = command(["collect --node nobody@localhost --cookie c --seconds 1 -o ",
+                             seqaudit_audits:file("nobody")]),
+        {_, _} = binary:match(Text, <<"node nobody@localhost can't be reached">>),
+        case seqaudit_test_nodes:start() of
+            {ok, Stop, There} ->
+                try collect(There) after Stop() end;
+            {error, Reason} ->
+                io:format(user, "collect: skipped, ~0tp~n", [Reason])
+        end
+    end}.
+
+collect(There) ->
+    {_, Binary, File} = code:get_object_code(?MODULE),
+    {module, _} = erpc:call(There, code, load_binary, [?MODULE, File, Binary]),
+    Name = seqaudit_audits:file("collected"),
+    Self = self(),
+    Words = ["collect --node ", atom_to_list(There), " --cookie ", atom_to_list(erlang:get_cookie()),
+             " --seconds 3 --reset -o ", Name],
+    _ = spawn_link(fun() -> Self ! {collected, command(Words)} end),
+    traced(There),
+    {0, Said} = receive {collected, Answer} -> Answer end,
+    {_, _} = binary:match(Said, <<"1 events of 1 processes">>),
+    false = erpc:call(There, seq_trace, get_system_tracer, []),
+    seqaudit_audits:fits(Name).
+
+%% Once the tracer is on, the node itself has with_trace.
+traced(There) ->
+    case erpc:call(There, seq_trace, get_system_tracer, []) of
+        false -> receive after 50 -> traced(There) end;
+        _ -> erpc:call(There, seqaudit_trace, with_trace, [1, fun ?MODULE:printing/0])
+    end.
+
+printing() -> seq_trace:print(seen).
+
+command(Words) ->
+    command(Words, false).
+
+%% Its status and what it wrote, errors too; `Program' stands for seqaudit.
+command(Words, Program) ->
+    Command = filename:join(filename:dirname(filename:dirname(filename:absname(
+                                code:which(seqaudit_node)))), "seqaudit-node"),
+    Port = open_port({spawn_executable, "/bin/sh"},
+                     [{args, ["-c", lists:flatten([Command, " ", Words, " 2>&1"])]},
+                      {env, [{"SEQAUDIT", Program}]}, binary, exit_status]),
+    output(Port, <<>>).
+
+output(Port, Output) ->
+    receive
+        {Port, {data, Data}} -> output(Port, <<Output/binary, Data/binary>>);
+        {Port, {exit_status, Status}} -> {Status, Output}
+    end.
