@@ -28,16 +28,46 @@ abbrev label_of : ℕ → Label
 label_of n = record { 0 = n }
 
 abbrev token_of : ℕ → Bool → Bool → Bool → Pid → Token
-token_of n s r p from = record { label = label_of n; flags = record { send = s; receive = r; print = p }; serial = record { prev = 0; this = 0 }; from = from }
+token_of n s r p from =
+    record {
+      label = label_of n;
+      flags = record { send = s; receive = r; print = p };
+      serial = record { prev = 0; this = 0 };
+      from = from;
+    }
 
 abbrev sent : ℕ → ℕ → ℕ → Pid → Pid → ℕ → Event
-sent n prev this p q v = record { label = label_of n; kind = kind.Send; serial = record { prev = prev; this = this }; from = p; to = Some q; value = v }
+sent n prev this p q v =
+    record {
+      label = label_of n;
+      kind = kind.Send;
+      serial = record { prev = prev; this = this };
+      from = p;
+      to = Some q;
+      value = v;
+    }
 
 abbrev got : ℕ → ℕ → ℕ → Pid → Pid → ℕ → Event
-got n prev this p q v = record { label = label_of n; kind = kind.Receive; serial = record { prev = prev; this = this }; from = p; to = Some q; value = v }
+got n prev this p q v =
+    record {
+      label = label_of n;
+      kind = kind.Receive;
+      serial = record { prev = prev; this = this };
+      from = p;
+      to = Some q;
+      value = v;
+    }
 
 abbrev printed : ℕ → ℕ → ℕ → Pid → ℕ → Event
-printed n prev this p v = record { label = label_of n; kind = kind.Print; serial = record { prev = prev; this = this }; from = p; to = None; value = v }
+printed n prev this p v =
+    record {
+      label = label_of n;
+      kind = kind.Print;
+      serial = record { prev = prev; this = this };
+      from = p;
+      to = None;
+      value = v;
+    }
 
 abbrev a : Pid
 a = pid_on 0 30
@@ -50,14 +80,17 @@ c = pid_on 0 32
 
 -- a message with a low serial after one with a high one
 abbrev low_acts : List Act
-low_acts = act.Tracer a true ∷ act.Set a (component.Label (label_of 1)) ∷ act.Print a 0 ∷ act.Print a 0 ∷ act.Print a 0 ∷ act.Print a 0
+low_acts =
+    act.Tracer a true ∷ act.Set a (component.Label (label_of 1)) ∷ act.Print a 0 ∷ act.Print a 0 ∷ act.Print a 0 ∷
+    act.Print a 0
     ∷ act.Send a b 5 ∷ act.Set c (component.Send true) ∷ act.Print c 0 ∷ act.Print c 0 ∷ act.Send c b 3
     ∷ act.Receive b want.First ∷ act.Receive b want.First ∷ act.Send b a 9 ∷ []
 
 abbrev streams_of : List Pid → List Act → Option (List (List Event))
 streams_of pids acts = option_map (λ os. map (stream acts os) pids) (run top pids acts)
 
-low_serial_receive : streams_of (a ∷ b ∷ c ∷ []) low_acts ≡ Some ([] ∷ (sent 0 3 6 b a 9 ∷ []) ∷ (sent 0 0 3 c b 3 ∷ []) ∷ [])
+low_serial_receive :
+    streams_of (a ∷ b ∷ c ∷ []) low_acts ≡ Some ([] ∷ (sent 0 3 6 b a 9 ∷ []) ∷ (sent 0 0 3 c b 3 ∷ []) ∷ [])
 low_serial_receive = refl
 
 -- the clock and last of p after each act
@@ -65,16 +98,23 @@ abbrev counts_of : Pid → Outcome → ℕ × ℕ
 counts_of p o = elim (process o.after p) [ None ↦ (0, 0) | Some r ↦ (r.local.clock, r.local.last) ]
 
 low_serial_counts : option_map (map (counts_of b)) (run top (a ∷ b ∷ c ∷ []) low_acts)
-    ≡ Some ((0, 0) ∷ (0, 0) ∷ (0, 0) ∷ (0, 0) ∷ (0, 0) ∷ (0, 0) ∷ (0, 0) ∷ (0, 0) ∷ (0, 0) ∷ (0, 0) ∷ (0, 0) ∷ (5, 5) ∷ (5, 3) ∷ (6, 3) ∷ [])
+    ≡ Some
+    ((0, 0) ∷ (0, 0) ∷ (0, 0) ∷ (0, 0) ∷ (0, 0) ∷ (0, 0) ∷ (0, 0) ∷ (0, 0) ∷ (0, 0) ∷ (0, 0) ∷ (0, 0) ∷ (5, 5) ∷
+    (5, 3) ∷ (6, 3) ∷ [])
 low_serial_counts = refl
 
 -- a certificate of 11 acts, two of them sends that nobody reports
 abbrev certificate_streams : List Stream
-certificate_streams = record { pid = a; events = printed 17 0 1 a 7 ∷ got 17 2 4 b a 6 ∷ [] } ∷ record { pid = b; events = got 17 0 2 a b 5 ∷ printed 17 2 3 b 8 ∷ [] } ∷ []
+certificate_streams =
+    record { pid = a; events = printed 17 0 1 a 7 ∷ got 17 2 4 b a 6 ∷ [] } ∷ record
+    { pid = b; events = got 17 0 2 a b 5 ∷ printed 17 2 3 b 8 ∷ [] } ∷ []
 
 abbrev certificate_acts : List Act
-certificate_acts = act.Tracer a true ∷ act.Restore a (token_of 17 false false true a) ∷ act.Print a 7 ∷ act.Restore a (token_of 17 false true false a) ∷ act.Send a b 5
-    ∷ act.Receive b (want.Place 0) ∷ act.Restore b (token_of 17 false false true b) ∷ act.Print b 8 ∷ act.Restore b (token_of 17 false true false b) ∷ act.Send b a 6
+certificate_acts =
+    act.Tracer a true ∷ act.Restore a (token_of 17 false false true a) ∷ act.Print a 7 ∷ act.Restore a
+    (token_of 17 false true false a) ∷ act.Send a b 5
+    ∷ act.Receive b (want.Place 0) ∷ act.Restore b (token_of 17 false false true b) ∷ act.Print b 8 ∷ act.Restore b
+    (token_of 17 false true false b) ∷ act.Send b a 6
     ∷ act.Receive a (want.Place 0) ∷ []
 
 certificate_checked : IsVerdict top certificate_streams certificate_acts (Yes ((5, 4) ∷ (10, 9) ∷ []))
@@ -86,10 +126,15 @@ certificate_cut = computed top certificate_streams (take 10 certificate_acts) (L
 
 -- acts that stop too early
 abbrev unfit_streams : List Stream
-unfit_streams = record { pid = a; events = [] } ∷ record { pid = b; events = got 1 0 2 a b 5 ∷ got 1 0 1 c b 4 ∷ printed 1 1 2 b 9 ∷ [] } ∷ record { pid = c; events = [] } ∷ []
+unfit_streams =
+    record { pid = a; events = [] } ∷ record
+    { pid = b; events = got 1 0 2 a b 5 ∷ got 1 0 1 c b 4 ∷ printed 1 1 2 b 9 ∷ [] } ∷ record { pid = c; events = [] }
+    ∷ []
 
 abbrev unfit_acts : List Act
-unfit_acts = act.Tracer a true ∷ act.Restore c (token_of 1 false true false c) ∷ act.Send c b 4 ∷ act.Restore a (token_of 1 false false false a) ∷ act.Print a 0
+unfit_acts =
+    act.Tracer a true ∷ act.Restore c (token_of 1 false true false c) ∷ act.Send c b 4 ∷ act.Restore a
+    (token_of 1 false false false a) ∷ act.Print a 0
     ∷ act.Restore a (token_of 1 false true false a) ∷ act.Send a b 5 ∷ []
 
 unfit_verdict : IsVerdict top unfit_streams unfit_acts (Left b)
@@ -103,89 +148,130 @@ abbrev e : Pid
 e = pid_on 2 31
 
 abbrev nodes_streams : List Stream
-nodes_streams = record { pid = d; events = [] } ∷ record { pid = e; events = got 17 0 1 d e 5 ∷ got 17 0 1 d e 5 ∷ [] } ∷ []
+nodes_streams =
+    record { pid = d; events = [] } ∷ record { pid = e; events = got 17 0 1 d e 5 ∷ got 17 0 1 d e 5 ∷ [] } ∷ []
 
 abbrev nodes_acts : Pid → List Act
-nodes_acts x = act.Tracer d true ∷ act.Tracer e true ∷ act.Set d (component.Label (label_of 17)) ∷ act.Set d (component.Receive true) ∷ act.Send d e 5
+nodes_acts x =
+    act.Tracer d true ∷ act.Tracer e true ∷ act.Set d (component.Label (label_of 17)) ∷ act.Set d
+    (component.Receive true) ∷ act.Send d e 5
     ∷ act.Reset x ∷ act.Set d (component.Label (label_of 17)) ∷ act.Set d (component.Receive true) ∷ act.Send d e 5
     ∷ act.Receive e want.First ∷ act.Receive e want.First ∷ []
 
 node_reset_leaves_other_node : IsVerdict top nodes_streams (nodes_acts d) (Yes ((9, 4) ∷ (10, 8) ∷ []))
 node_reset_leaves_other_node = computed top nodes_streams (nodes_acts d) (Yes ((9, 4) ∷ (10, 8) ∷ [])) refl
 
--- a reset of the receiver's node empties the queued token, so the next message is the first that is reported, and one event stays
+-- a reset of the receiver's node empties the queued token, so the next message is the first that is reported, and one
+-- event stays
 reset_there : IsVerdict top nodes_streams (nodes_acts e) (Differs 10)
 reset_there = computed top nodes_streams (nodes_acts e) (Differs 10) refl
 
 -- one process's event in a stream of another label, an act of a process that isn't there, and a clock at TOP
-other_label : IsVerdict top (record { pid = a; events = printed 18 0 1 a 7 ∷ [] } ∷ []) (take 3 certificate_acts) (Differs 2)
-other_label = computed top (record { pid = a; events = printed 18 0 1 a 7 ∷ [] } ∷ []) (take 3 certificate_acts) (Differs 2) refl
+other_label :
+    IsVerdict top (record { pid = a; events = printed 18 0 1 a 7 ∷ [] } ∷ []) (take 3 certificate_acts) (Differs 2)
+other_label =
+    computed top (record { pid = a; events = printed 18 0 1 a 7 ∷ [] } ∷ []) (take 3 certificate_acts) (Differs 2) refl
 
 not_there : IsVerdict top certificate_streams (act.Look a ∷ act.Look c ∷ []) (Stuck 1)
 not_there = computed top certificate_streams (act.Look a ∷ act.Look c ∷ []) (Stuck 1) refl
 
-full : IsVerdict 1 (record { pid = a; events = [] } ∷ []) (act.Set a (component.Send true) ∷ act.Print a 0 ∷ act.Print a 0 ∷ []) (Stuck 2)
-full = computed 1 (record { pid = a; events = [] } ∷ []) (act.Set a (component.Send true) ∷ act.Print a 0 ∷ act.Print a 0 ∷ []) (Stuck 2) refl
+full :
+    IsVerdict 1 (record { pid = a; events = [] } ∷ [])
+    (act.Set a (component.Send true) ∷ act.Print a 0 ∷ act.Print a 0 ∷ []) (Stuck 2)
+full =
+    computed 1 (record { pid = a; events = [] } ∷ [])
+    (act.Set a (component.Send true) ∷ act.Print a 0 ∷ act.Print a 0 ∷ []) (Stuck 2) refl
 
 -- the streams of a run of p alone that begins with its tracer
 abbrev alone : List Act → Option (List Event)
 alone acts = option_map (λ os. stream (act.Tracer a true ∷ acts) os a) (run top (a ∷ []) (act.Tracer a true ∷ acts))
 
 -- a set on no token begins a new trace: last becomes the clock, so the second print's prev is 1
-new_trace_after_clear : alone (act.Set a (component.Label (label_of 17)) ∷ act.Set a (component.Print true) ∷ act.Print a 7 ∷ act.Clear a
-    ∷ act.Set a (component.Label (label_of 18)) ∷ act.Set a (component.Print true) ∷ act.Print a 8 ∷ [])
+new_trace_after_clear : alone (act.Set a (component.Label (label_of 17)) ∷ act.Set a (component.Print true)
+    ∷ act.Print a 7 ∷ act.Clear a ∷ act.Set a (component.Label (label_of 18)) ∷ act.Set a (component.Print true)
+    ∷ act.Print a 8 ∷ [])
     ≡ Some (printed 17 0 1 a 7 ∷ printed 18 1 2 a 8 ∷ [])
 new_trace_after_clear = refl
 
 -- a print whose flag is off isn't reported, and moves the clock all the same
-silent_print_stamps : alone (act.Set a (component.Label (label_of 17)) ∷ act.Print a 5 ∷ act.Set a (component.Print true) ∷ act.Print a 6 ∷ [])
+silent_print_stamps :
+    alone
+    (act.Set a (component.Label (label_of 17)) ∷ act.Print a 5 ∷ act.Set a (component.Print true) ∷ act.Print a 6 ∷
+    [])
     ≡ Some (printed 17 0 2 a 6 ∷ [])
 silent_print_stamps = refl
 
 -- a printat at another label than the token's does nothing
-printat_other_label : alone (act.Set a (component.Label (label_of 17)) ∷ act.Set a (component.Print true) ∷ act.PrintAt a (label_of 18) 5 ∷ act.Print a 6 ∷ [])
+printat_other_label :
+    alone
+    (act.Set a (component.Label (label_of 17)) ∷ act.Set a (component.Print true) ∷ act.PrintAt a (label_of 18) 5 ∷
+    act.Print a 6 ∷ [])
     ≡ Some (printed 17 0 1 a 6 ∷ [])
 printat_other_label = refl
 
 -- at its own label it is a print
-printat_own_label : alone (act.Set a (component.Label (label_of 17)) ∷ act.Set a (component.Print true) ∷ act.PrintAt a (label_of 17) 5 ∷ [])
+printat_own_label :
+    alone
+    (act.Set a (component.Label (label_of 17)) ∷ act.Set a (component.Print true) ∷ act.PrintAt a (label_of 17) 5 ∷
+    [])
     ≡ Some (printed 17 0 1 a 5 ∷ [])
 printat_own_label = refl
 
 -- a process that sends to itself takes its own message with its stamped token, and goes on
 abbrev self_acts : List Act
-self_acts = act.Tracer a true ∷ act.Set a (component.Label (label_of 17)) ∷ act.Set a (component.Receive true) ∷ act.Send a a 5 ∷ act.Receive a want.First
+self_acts =
+    act.Tracer a true ∷ act.Set a (component.Label (label_of 17)) ∷ act.Set a (component.Receive true) ∷ act.Send a a 5
+    ∷ act.Receive a want.First
     ∷ act.Set a (component.Send true) ∷ act.Send a a 6 ∷ []
 
-self_send : IsVerdict top (record { pid = a; events = got 17 0 1 a a 5 ∷ sent 17 1 2 a a 6 ∷ [] } ∷ []) self_acts (Yes ((4, 3) ∷ []))
-self_send = computed top (record { pid = a; events = got 17 0 1 a a 5 ∷ sent 17 1 2 a a 6 ∷ [] } ∷ []) self_acts (Yes ((4, 3) ∷ [])) refl
+self_send :
+    IsVerdict top (record { pid = a; events = got 17 0 1 a a 5 ∷ sent 17 1 2 a a 6 ∷ [] } ∷ []) self_acts
+    (Yes ((4, 3) ∷ []))
+self_send =
+    computed top (record { pid = a; events = got 17 0 1 a a 5 ∷ sent 17 1 2 a a 6 ∷ [] } ∷ []) self_acts
+    (Yes ((4, 3) ∷ [])) refl
 
 -- a tracer change reaches its own node alone: without one on the second node its receive isn't reported
-tracer_of_one_node : IsVerdict top (record { pid = d; events = [] } ∷ record { pid = e; events = got 17 0 1 d e 5 ∷ [] } ∷ [])
-    (act.Tracer d true ∷ act.Set d (component.Label (label_of 17)) ∷ act.Set d (component.Receive true) ∷ act.Send d e 5 ∷ act.Receive e want.First ∷ []) (Left e)
-tracer_of_one_node = computed top (record { pid = d; events = [] } ∷ record { pid = e; events = got 17 0 1 d e 5 ∷ [] } ∷ [])
-    (act.Tracer d true ∷ act.Set d (component.Label (label_of 17)) ∷ act.Set d (component.Receive true) ∷ act.Send d e 5 ∷ act.Receive e want.First ∷ []) (Left e) refl
+tracer_of_one_node :
+    IsVerdict top (record { pid = d; events = [] } ∷ record { pid = e; events = got 17 0 1 d e 5 ∷ [] } ∷ [])
+    (act.Tracer d true ∷ act.Set d (component.Label (label_of 17)) ∷ act.Set d (component.Receive true) ∷ act.Send d e
+    5 ∷ act.Receive e want.First ∷ []) (Left e)
+tracer_of_one_node =
+    computed top (record { pid = d; events = [] } ∷ record { pid = e; events = got 17 0 1 d e 5 ∷ [] } ∷ [])
+    (act.Tracer d true ∷ act.Set d (component.Label (label_of 17)) ∷ act.Set d (component.Receive true) ∷ act.Send d e
+    5 ∷ act.Receive e want.First ∷ []) (Left e) refl
 
 -- and it answers what the actor's own mark was before
 abbrev replies_of : List Act → Option (List Reply)
 replies_of acts = option_map (map (λ (o : Outcome). o.reply)) (run top (d ∷ e ∷ []) acts)
 
-tracer_replies : replies_of (act.Tracer d true ∷ act.Tracer e true ∷ act.Tracer d false ∷ []) ≡ Some (reply.Was false ∷ reply.Was false ∷ reply.Was true ∷ [])
+tracer_replies :
+    replies_of (act.Tracer d true ∷ act.Tracer e true ∷ act.Tracer d false ∷ [])
+    ≡ Some (reply.Was false ∷ reply.Was false ∷ reply.Was true ∷ [])
 tracer_replies = refl
 
 -- a reset empties the token that is queued on its node: the receive takes the message, and isn't reported
 reset_empties_queued_tokens : IsVerdict top (record { pid = a; events = [] } ∷ record { pid = b; events = [] } ∷ [])
-    (act.Tracer a true ∷ act.Set a (component.Label (label_of 17)) ∷ act.Set a (component.Receive true) ∷ act.Send a b 5 ∷ act.Reset a ∷ act.Receive b want.First ∷ []) (Yes [])
+    (act.Tracer a true ∷ act.Set a (component.Label (label_of 17)) ∷ act.Set a (component.Receive true) ∷ act.Send a b
+    5 ∷ act.Reset a ∷ act.Receive b want.First ∷ []) (Yes [])
 reset_empties_queued_tokens = computed top (record { pid = a; events = [] } ∷ record { pid = b; events = [] } ∷ [])
-    (act.Tracer a true ∷ act.Set a (component.Label (label_of 17)) ∷ act.Set a (component.Receive true) ∷ act.Send a b 5 ∷ act.Reset a ∷ act.Receive b want.First ∷ []) (Yes []) refl
+    (act.Tracer a true ∷ act.Set a (component.Label (label_of 17)) ∷ act.Set a (component.Receive true) ∷ act.Send a b
+    5 ∷ act.Reset a ∷ act.Receive b want.First ∷ []) (Yes []) refl
 
 -- a clock at TOP 3: the fourth print has no step; a clear does, and then a send without a token
 small_clock : option_map (map (λ (o : Outcome). o.reply)) (run 3 (a ∷ [])
-    (act.Set a (component.Label (label_of 1)) ∷ act.Print a 0 ∷ act.Print a 0 ∷ act.Print a 0 ∷ act.Clear a ∷ act.Send a a 5 ∷ []))
-    ≡ Some (reply.Old None ∷ reply.Done ∷ reply.Done ∷ reply.Done ∷ reply.Previous (Some (record (token_of 1 false false false a) { serial = record { prev = 0; this = 3 } })) ∷ reply.Done ∷ [])
+    (act.Set a (component.Label (label_of 1)) ∷ act.Print a 0 ∷ act.Print a 0 ∷ act.Print a 0
+    ∷ act.Clear a ∷ act.Send a a 5 ∷ []))
+    ≡ Some
+    (reply.Old None ∷ reply.Done ∷ reply.Done ∷ reply.Done ∷ reply.Previous
+    (Some (record (token_of 1 false false false a) { serial = record { prev = 0; this = 3 } })) ∷ reply.Done ∷
+    [])
 small_clock = refl
 
-full_clock : run 3 (a ∷ []) (act.Set a (component.Label (label_of 1)) ∷ act.Print a 0 ∷ act.Print a 0 ∷ act.Print a 0 ∷ act.Print a 0 ∷ []) ≡ None
+full_clock :
+    run 3 (a ∷ [])
+    (act.Set a (component.Label (label_of 1)) ∷ act.Print a 0 ∷ act.Print a 0 ∷ act.Print a 0 ∷ act.Print a 0 ∷ [])
+    ≡ None
 full_clock = refl
 
 -- the five wants, on messages 8, 9, 8 of <0.30.0> and 9 of <0.32.0>
@@ -198,5 +284,8 @@ four = message_of a 8 ∷ message_of a 9 ∷ message_of a 8 ∷ message_of c 9 �
 abbrev place : Want → Option ℕ
 place w = option_map (λ found. found.0) (pick w four)
 
-picks : map place (want.First ∷ want.From c ∷ want.Value 9 ∷ want.Both c 9 ∷ want.Place 2 ∷ want.Place 4 ∷ want.Both c 8 ∷ []) ≡ Some 0 ∷ Some 3 ∷ Some 1 ∷ Some 3 ∷ Some 2 ∷ None ∷ None ∷ []
+picks :
+    map place
+    (want.First ∷ want.From c ∷ want.Value 9 ∷ want.Both c 9 ∷ want.Place 2 ∷ want.Place 4 ∷ want.Both c 8 ∷ [])
+    ≡ Some 0 ∷ Some 3 ∷ Some 1 ∷ Some 3 ∷ Some 2 ∷ None ∷ None ∷ []
 picks = refl

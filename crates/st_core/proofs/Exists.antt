@@ -1,5 +1,8 @@
--- Streams and acts have a verdict.
-use Rattle.std.proofs.Common.{◌≡◌, ℕ, ◌+◌, ◌≤◌, ◌⊎◌, zero, suc, Bool, true, false, cond, nat_lt, List, [], ◌∷◌, ◌++◌, length, take, get_or, find, Option, Some, None, is_some, All, refl, sym, ◌∙◌, ap, subst, arith, inl, inr, length-append}
+-- Streams and acts have a verdict: whether the acts up to n pass can be decided for each n, so that there is a first
+-- n at which they don't, or none.
+use Rattle.std.proofs.Common.{◌≡◌, ℕ, ◌+◌, ◌≤◌, ◌⊎◌, zero, suc, Bool, true, false, cond, nat_lt, List, [], ◌∷◌, ◌++◌}
+use Rattle.std.proofs.Common.{length, take, get_or, find, Option, Some, None, is_some, All, refl, sym, ◌∙◌, ap, subst}
+use Rattle.std.proofs.Common.{arith, inl, inr, length-append}
 use mathlib.Core.List.{IsPrefix}
 use Rattle.std.proofs.lemmas.Bool.{cases_eq, ltb-false}
 use Rattle.std.proofs.lemmas.List.{take_all, append-nil, nil_from_length}
@@ -24,14 +27,22 @@ Decided P = P ⊎ (P → ⊥)
 pid_decided : (p q : Pid) → Decided (p ≡ q)
 pid_decided p q = elim (cases_eq p.node q.node) [
   | inr apart ↦ inr (λ h. apart (ap (λ (x : Pid). x.node) h))
-  | inl node ↦ elim (cases_eq p.number q.number) [ inr apart ↦ inr (λ h. apart (ap (λ (x : Pid). x.number) h)) | inl number ↦ inl (λ i. record { node = node i; number = number i }) ]
+  | inl node ↦
+      elim (cases_eq p.number q.number) [
+        | inr apart ↦ inr (λ h. apart (ap (λ (x : Pid). x.number) h))
+        | inl number ↦ inl (λ i. record { node = node i; number = number i })
+      ]
 ]
 
 to_decided : (p q : Option Pid) → Decided (p ≡ q)
 to_decided None None = inl refl
 to_decided None (Some q) = inr (λ h. cc)
 to_decided (Some p) None = inr (λ h. cc)
-to_decided (Some p) (Some q) = elim (pid_decided p q) [ inl same ↦ inl (ap (λ (x : Pid). Some x) same) | inr apart ↦ inr (λ h. apart (same_Some p q h)) ]
+to_decided (Some p) (Some q) =
+    elim (pid_decided p q) [
+      | inl same ↦ inl (ap (λ (x : Pid). Some x) same)
+      | inr apart ↦ inr (λ h. apart (same_Some p q h))
+    ]
 
 kind_decided : (k l : Kind) → Decided (k ≡ l)
 kind_decided kind.Send kind.Send = inl refl
@@ -59,10 +70,12 @@ record SameNumbers (d e : Event) : Type 0 where
 numbers_decided : (d e : Event) → Decided (SameNumbers d e)
 numbers_decided d e =
     let counts : Decided ((d.serial.prev ≡ e.serial.prev) × (d.serial.this ≡ e.serial.this)) =
-    both (cases_eq d.serial.prev e.serial.prev) (cases_eq d.serial.this e.serial.this) (λ h. h.0) (λ h. h.1) (λ p q. (p, q)) in
+    both (cases_eq d.serial.prev e.serial.prev) (cases_eq d.serial.this e.serial.this) (λ h. h.0) (λ h. h.1)
+    (λ p q. (p, q)) in
     let others : Decided ((d.label.0 ≡ e.label.0) × (d.value ≡ e.value)) =
     both (cases_eq d.label.0 e.label.0) (cases_eq d.value e.value) (λ h. h.0) (λ h. h.1) (λ p q. (p, q)) in
-    both counts others (λ h. (h.prev, h.this)) (λ h. (h.label, h.value)) (λ p q. record { label = q.0; prev = p.0; this = p.1; value = q.1 })
+    both counts others (λ h. (h.prev, h.this)) (λ h. (h.label, h.value))
+    (λ p q. record { label = q.0; prev = p.0; this = p.1; value = q.1 })
 
 -- who and what two events are about is the same
 record SameParties (d e : Event) : Type 0 where
@@ -72,17 +85,39 @@ record SameParties (d e : Event) : Type 0 where
 
 parties_decided : (d e : Event) → Decided (SameParties d e)
 parties_decided d e =
-    let ends : Decided ((d.from ≡ e.from) × (d.to ≡ e.to)) = both (pid_decided d.from e.from) (to_decided d.to e.to) (λ h. h.0) (λ h. h.1) (λ p q. (p, q)) in
-    both (kind_decided d.kind e.kind) ends (λ h. h.kind) (λ h. (h.from, h.to)) (λ p q. record { kind = p; from = q.0; to = q.1 })
+    let ends : Decided ((d.from ≡ e.from) × (d.to ≡ e.to)) =
+    both (pid_decided d.from e.from) (to_decided d.to e.to) (λ h. h.0) (λ h. h.1) (λ p q. (p, q)) in
+    both (kind_decided d.kind e.kind) ends (λ h. h.kind) (λ h. (h.from, h.to))
+    (λ p q. record { kind = p; from = q.0; to = q.1 })
 
 same_event : (d e : Event) → SameNumbers d e → SameParties d e → d ≡ e
-same_event d e n p = λ i. record { label = record { 0 = n.label i }; kind = p.kind i; serial = record { prev = n.prev i; this = n.this i }; from = p.from i; to = p.to i; value = n.value i }
+same_event d e n p =
+    λ i.
+    record {
+      label = record { 0 = n.label i };
+      kind = p.kind i;
+      serial = record { prev = n.prev i; this = n.this i };
+      from = p.from i;
+      to = p.to i;
+      value = n.value i;
+    }
 
 pub event_decided : (d e : Event) → Decided (d ≡ e)
 event_decided d e =
     both (numbers_decided d e) (parties_decided d e)
-    (λ h. record { label = ap (λ (x : Event). x.label.0) h; prev = ap (λ (x : Event). x.serial.prev) h; this = ap (λ (x : Event). x.serial.this) h; value = ap (λ (x : Event). x.value) h })
-    (λ h. record { kind = ap (λ (x : Event). x.kind) h; from = ap (λ (x : Event). x.from) h; to = ap (λ (x : Event). x.to) h })
+    (λ h.
+    record {
+      label = ap (λ (x : Event). x.label.0) h;
+      prev = ap (λ (x : Event). x.serial.prev) h;
+      this = ap (λ (x : Event). x.serial.this) h;
+      value = ap (λ (x : Event). x.value) h;
+    })
+    (λ h.
+    record {
+      kind = ap (λ (x : Event). x.kind) h;
+      from = ap (λ (x : Event). x.from) h;
+      to = ap (λ (x : Event). x.to) h;
+    })
     (same_event d e)
 
 front_decided : (xs ys : List Event) → Decided (IsPrefix xs ys)
@@ -96,16 +131,25 @@ front_decided (x ∷ xs) (y ∷ ys) =
 
 All_decided : {A : Type 0} (P : A → Type 0) → ((x : A) → Decided (P x)) → (xs : List A) → Decided (All P xs)
 All_decided P decided [] = inl (All-nil P)
-All_decided P decided (x ∷ xs) = both (decided x) (All_decided P decided xs) (All-head P x xs) (All-tail P x xs) (All-cons P x xs)
+All_decided P decided (x ∷ xs) =
+    both (decided x) (All_decided P decided xs) (All-head P x xs) (All-tail P x xs) (All-cons P x xs)
 
 -- ACTS PASS OR NOT
 
-passes_at : (top : ℕ) (streams : List Stream) (acts : List Act) (outs : Option (List Outcome)) → run top (pids_of streams) acts ≡ outs → Decided (Passes top streams acts)
+passes_at : (top : ℕ) (streams : List Stream) (acts : List Act) (outs : Option (List Outcome))
+    → run top (pids_of streams) acts ≡ outs → Decided (Passes top streams acts)
 passes_at top streams acts None e = inr (λ h. none-some h.0 (sym e ∙ h.1.runs))
-passes_at top streams acts (Some os) e = elim (All_decided (λ x. IsPrefix (stream acts os x.pid) x.events) (λ (x : Stream). front_decided (stream acts os x.pid) x.events) streams) [
-  | inl all ↦ inl (os, record { runs = e; fronts = all })
-  | inr apart ↦ inr (λ h. apart (subst (λ outs. All (λ (x : Stream). IsPrefix (stream acts outs x.pid) x.events) streams) (same_Some _ _ (sym h.1.runs ∙ e)) h.1.fronts))
-]
+passes_at top streams acts (Some os) e =
+    let front = λ (x : Stream). IsPrefix (stream acts os x.pid) x.events in
+    elim (All_decided front (λ (x : Stream). front_decided (stream acts os x.pid) x.events) streams) [
+      | inl all ↦ inl (os, record { runs = e; fronts = all })
+      | inr apart ↦
+          inr
+          (λ h.
+          apart
+          (subst (λ outs. All (λ (x : Stream). IsPrefix (stream acts outs x.pid) x.events) streams)
+          (same_Some _ _ (sym h.1.runs ∙ e)) h.1.fronts))
+    ]
 
 passes_decided : (top : ℕ) (streams : List Stream) (acts : List Act) → Decided (Passes top streams acts)
 passes_decided top streams acts = passes_at top streams acts (run top (pids_of streams) acts) refl
@@ -114,7 +158,8 @@ pub none_passes : (top : ℕ) (streams : List Stream) → Passes top streams []
 none_passes top streams = ([], record { runs = refl; fronts = λ k d within. ((get_or streams k d).events, refl) })
 
 -- the first n acts pass, or an act among them is the first to fail
-passing_front : (top : ℕ) (streams : List Stream) (acts : List Act) (n : ℕ) → n ≤ length acts → Passes top streams (take n acts) ⊎ ((m : ℕ) × FailsAt top streams acts m)
+passing_front : (top : ℕ) (streams : List Stream) (acts : List Act) (n : ℕ) → n ≤ length acts
+    → Passes top streams (take n acts) ⊎ ((m : ℕ) × FailsAt top streams acts m)
 passing_front top streams acts zero within = inl (none_passes top streams)
 passing_front top streams acts (suc n) within = elim (passing_front top streams acts n (omega arith)) [
   | inr failed ↦ inr failed
@@ -131,9 +176,12 @@ passing_front top streams acts (suc n) within = elim (passing_front top streams 
 abbrev pub HasVerdict : ℕ → List Stream → List Act → Type 0
 HasVerdict top streams acts = (v : Verdict) × IsVerdict top streams acts v
 
-failed_verdict : (top : ℕ) (streams : List Stream) (acts : List Act) (n : ℕ) → FailsAt top streams acts n → (outs : Option (List Outcome)) → run top (pids_of streams) (take (n + 1) acts) ≡ outs → HasVerdict top streams acts
+failed_verdict : (top : ℕ) (streams : List Stream) (acts : List Act) (n : ℕ) → FailsAt top streams acts n
+    → (outs : Option (List Outcome)) → run top (pids_of streams) (take (n + 1) acts) ≡ outs
+    → HasVerdict top streams acts
 failed_verdict top streams acts n f None e = (Stuck n, (f.within, f.before, e))
-failed_verdict top streams acts n f (Some os) e = (Differs n, (f.within, f.before, ap (λ (o : Option (List Outcome)). is_some o) e, f.fails))
+failed_verdict top streams acts n f (Some os) e =
+    (Differs n, (f.within, f.before, ap (λ (o : Option (List Outcome)). is_some o) e, f.fails))
 
 none_found : {A : Type 0} (p : A → Bool) (xs : List A) → find p xs ≡ None → All (λ x. p x ≡ false) xs
 none_found p [] h = All-nil (λ x. p x ≡ false)
@@ -149,26 +197,38 @@ whole_front xs ys front long =
     sym (append-nil xs) ∙ ap (λ zs. xs ++ zs) (sym (nil_from_length front.0 (omega arith))) ∙ front.1
 
 -- where the acts pass and nothing is left over, the verdict is yes
-pub passed_yes : (top : ℕ) (streams : List Stream) (acts : List Act) (os : List Outcome) → IsPassing top streams acts os → left_over streams acts os ≡ None → IsVerdict top streams acts (Yes (pairs acts os))
+pub passed_yes : (top : ℕ) (streams : List Stream) (acts : List Act) (os : List Outcome) → IsPassing top streams acts os
+    → left_over streams acts os ≡ None → IsVerdict top streams acts (Yes (pairs acts os))
 passed_yes top streams acts os passing e =
-    let full = none_found (λ x. nat_lt (length (stream acts os x.pid)) (length x.events)) streams e in
-    (os, passing.runs, (λ k d within. let x = get_or streams k d in whole_front (stream acts os x.pid) x.events (passing.fronts k d within) (ltb-false _ _ (full k d within))), refl)
+    let full = none_found (λ x. nat_lt (length (stream acts os x.pid)) (length x.events)) streams e in (
+      os,
+      passing.runs,
+      (λ k d within.
+          let x = get_or streams k d in
+          whole_front (stream acts os x.pid) x.events (passing.fronts k d within) (ltb-false _ _ (full k d within))),
+      refl,
+    )
 
-passed_verdict : (top : ℕ) (streams : List Stream) (acts : List Act) (os : List Outcome) → IsPassing top streams acts os → (left : Option Stream) → left_over streams acts os ≡ left → HasVerdict top streams acts
+passed_verdict : (top : ℕ) (streams : List Stream) (acts : List Act) (os : List Outcome) → IsPassing top streams acts os
+    → (left : Option Stream) → left_over streams acts os ≡ left → HasVerdict top streams acts
 passed_verdict top streams acts os passing (Some x) e = (Left x.pid, (os, passing, x, e, refl))
 passed_verdict top streams acts os passing None e = (Yes (pairs acts os), passed_yes top streams acts os passing e)
 
 pub a_verdict : (top : ℕ) (streams : List Stream) (acts : List Act) → HasVerdict top streams acts
 a_verdict top streams acts = elim (passing_front top streams acts (length acts) (omega arith)) [
-  | inr failed ↦ failed_verdict top streams acts failed.0 failed.1 (run top (pids_of streams) (take (failed.0 + 1) acts)) refl
+  | inr failed ↦
+      failed_verdict top streams acts failed.0 failed.1 (run top (pids_of streams) (take (failed.0 + 1) acts)) refl
   | inl pass ↦
-      let whole : Passes top streams acts = subst (Passes top streams) (take_all (length acts) acts (omega arith)) pass in
+      let whole : Passes top streams acts =
+      subst (Passes top streams) (take_all (length acts) acts (omega arith)) pass in
       passed_verdict top streams acts whole.0 whole.1 (left_over streams acts whole.0) refl
 ]
 
 -- the verdict is yes exactly where the acts show the streams
-pub yes_shows : (top : ℕ) (streams : List Stream) (acts : List Act) → ((ps : List (ℕ × ℕ)) × IsVerdict top streams acts (Yes ps)) → Shows top streams acts
+pub yes_shows : (top : ℕ) (streams : List Stream) (acts : List Act)
+    → ((ps : List (ℕ × ℕ)) × IsVerdict top streams acts (Yes ps)) → Shows top streams acts
 yes_shows top streams acts v = (v.1.0, v.1.1, v.1.2)
 
-pub shows_yes : (top : ℕ) (streams : List Stream) (acts : List Act) → Shows top streams acts → (ps : List (ℕ × ℕ)) × IsVerdict top streams acts (Yes ps)
+pub shows_yes : (top : ℕ) (streams : List Stream) (acts : List Act) → Shows top streams acts
+    → (ps : List (ℕ × ℕ)) × IsVerdict top streams acts (Yes ps)
 shows_yes top streams acts h = (pairs acts h.0, (h.0, h.1, h.2, refl))

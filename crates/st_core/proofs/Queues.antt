@@ -1,5 +1,7 @@
--- The tags of a run are those of its queues: each queued message with the number of the act that sent it.
-use Rattle.std.proofs.Common.{◌≡◌, ℕ, true, false, cond, List, [], ◌∷◌, ◌++◌, map, Option, Some, None, option_map, option_and_then, All, refl, sym, ◌∙◌, ap, subst, if◌then◌else◌}
+-- The tags of a run are those of its queues, since an act does to the tags of a queue what it does to the queue: a
+-- send appends to both, a receive takes out of both at one place, and a reset keeps the places.
+use Rattle.std.proofs.Common.{◌≡◌, ℕ, true, false, cond, List, [], ◌∷◌, ◌++◌, map, Option, Some, None, option_map}
+use Rattle.std.proofs.Common.{option_and_then, All, refl, sym, ◌∙◌, ap, subst, if◌then◌else◌}
 use Rattle.std.specs.Option.{ForSome}
 use Rattle.std.specs.List.{AllZip, slice_get, remove}
 use Rattle.std.proofs.lemmas.List.Elements.{All-map}
@@ -16,10 +18,12 @@ use Rattle.st_core.specs.State.{LocalState, Process, State, process, zero_local,
 use Rattle.st_core.specs.Local.{wiped, has_label}
 use Rattle.st_core.specs.Stamp.{stamp, stamp_any}
 use Rattle.st_core.specs.Pick.{pick}
-use Rattle.st_core.specs.Step.{Acted, Outcome, acted, actor, answers, sends, prints, receives, untraced, reached, changed, step}
+use Rattle.st_core.specs.Step.{Acted, Outcome, acted, actor, answers, sends, prints, receives, untraced, reached}
+use Rattle.st_core.specs.Step.{changed, step}
 use Rattle.st_core.specs.Pairs.{Tags, tags_after}
 use Rattle.st_core.specs.Laws.{IsSound}
-use Rattle.st_core.proofs.Others.{pid_same, pid_eq-refl, process_pid, mapped, Stepped, step_parts, process_after}
+use Rattle.st_core.proofs.Pids.{pid_eq-true, pid_eq-same}
+use Rattle.st_core.proofs.Others.{process_pid, mapped, Stepped, step_parts, process_after}
 use Rattle.st_core.proofs.Sound.{acted_sound, process_holds}
 use Rattle.st_core.proofs.Tags.{no_tags}
 use Rattle.st_core.proofs.Zips.{AllZip_push, AllZip_remove, AllZip_map}
@@ -44,16 +48,32 @@ pub record AreTags (acts : List Act) (os : List Outcome) (s : State) (tags : Tag
 
 -- what reaches a queue beside the actor's own part
 abbrev pub queue_after : Act → Option Token → Pid → List Message → List Message
-queue_after (act.Send p q v) token x queue = if pid_eq x q then queue ++ record { from = p; value = v; token = token } ∷ [] else queue
+queue_after (act.Send p q v) token x queue =
+    if pid_eq x q then queue ++ record { from = p; value = v; token = token } ∷ [] else queue
 queue_after (act.Reset p) token x queue = if node_eq x p then map untraced queue else queue
 queue_after a token x queue = queue
 
-reached_queue : (a : Act) (token : Option Token) (r : Process) → (reached a token r).queue ≡ queue_after a token r.pid r.queue
+reached_queue : (a : Act) (token : Option Token) (r : Process)
+    → (reached a token r).queue ≡ queue_after a token r.pid r.queue
 reached_queue (act.Send p q v) token r =
     let m : Message = record { from = p; value = v; token = token } in
-    elim (pid_eq r.pid q) as (λ b. (cond b (record r { queue = r.queue ++ m ∷ [] }) r).queue ≡ cond b (r.queue ++ m ∷ []) r.queue) [ true ↦ refl | false ↦ refl ]
-reached_queue (act.Reset p) token r = elim (node_eq r.pid p) as (λ b. (cond b (record r { local = wiped r.local; queue = map untraced r.queue }) r).queue ≡ cond b (map untraced r.queue) r.queue) [ true ↦ refl | false ↦ refl ]
-reached_queue (act.Tracer p on) token r = elim (node_eq r.pid p) as (λ b. (cond b (record r { local = record r.local { traced = on } }) r).queue ≡ r.queue) [ true ↦ refl | false ↦ refl ]
+    elim (pid_eq r.pid q) as (λ b.
+    (cond b (record r { queue = r.queue ++ m ∷ [] }) r).queue ≡ cond b (r.queue ++ m ∷ []) r.queue) [
+      | true ↦ refl
+      | false ↦ refl
+    ]
+reached_queue (act.Reset p) token r =
+    elim (node_eq r.pid p) as (λ b.
+    (cond b (record r { local = wiped r.local; queue = map untraced r.queue }) r).queue
+    ≡ cond b (map untraced r.queue) r.queue) [
+      | true ↦ refl
+      | false ↦ refl
+    ]
+reached_queue (act.Tracer p on) token r =
+    elim (node_eq r.pid p) as (λ b. (cond b (record r { local = record r.local { traced = on } }) r).queue ≡ r.queue) [
+      | true ↦ refl
+      | false ↦ refl
+    ]
 reached_queue (act.Receive p w) token r = refl
 reached_queue (act.Print p v) token r = refl
 reached_queue (act.PrintAt p n v) token r = refl
@@ -63,28 +83,45 @@ reached_queue (act.Restore p t) token r = refl
 reached_queue (act.Look p) token r = refl
 
 -- a process's queue after an act: the actor's by its part, and what reaches it
-pub changed_queue : (a : Act) (done : Acted) (r : Process) → (changed a done r).queue ≡ queue_after a done.local.token r.pid (if pid_eq r.pid (actor a) then done.queue else r.queue)
+pub changed_queue : (a : Act) (done : Acted) (r : Process)
+    → (changed a done r).queue
+    ≡ queue_after a done.local.token r.pid (if pid_eq r.pid (actor a) then done.queue else r.queue)
 changed_queue a done r =
-    reached_queue a done.local.token (if pid_eq r.pid (actor a) then record r { local = done.local; queue = done.queue } else r)
-    ∙ elim (pid_eq r.pid (actor a)) as (λ b. queue_after a done.local.token (cond b (record r { local = done.local; queue = done.queue }) r).pid (cond b (record r { local = done.local; queue = done.queue }) r).queue ≡ queue_after a done.local.token r.pid (cond b done.queue r.queue)) [ true ↦ refl | false ↦ refl ]
+    reached_queue a done.local.token
+    (if pid_eq r.pid (actor a) then record r { local = done.local; queue = done.queue } else r)
+    ∙ elim (pid_eq r.pid (actor a)) as (λ b.
+    queue_after a done.local.token (cond b (record r { local = done.local; queue = done.queue }) r).pid
+    (cond b (record r { local = done.local; queue = done.queue }) r).queue
+    ≡ queue_after a done.local.token r.pid (cond b done.queue r.queue)) [
+      | true ↦ refl
+      | false ↦ refl
+    ]
 
 abbrev pub IsReceive : Act → Type 0
 IsReceive (act.Receive p w) = Unit {0}
 IsReceive a = ⊥
 
-printed_queue : (r : Process) (v : ℕ) (stamped : Option LocalState) (done : Acted) → option_map (prints r v) stamped ≡ Some done → done.queue ≡ r.queue
-printed_queue r v stamped done h = let parts = mapped (prints r v) stamped done h in ap (λ (x : Acted). x.queue) (sym parts.2)
+printed_queue : (r : Process) (v : ℕ) (stamped : Option LocalState) (done : Acted)
+    → option_map (prints r v) stamped ≡ Some done → done.queue ≡ r.queue
+printed_queue r v stamped done h =
+    let parts = mapped (prints r v) stamped done h in
+    ap (λ (x : Acted). x.queue) (sym parts.2)
 
 some_queue : (x done : Acted) → Some x ≡ Some done → done.queue ≡ x.queue
 some_queue x done h = ap (λ (y : Acted). y.queue) (sym (same_Some x done h))
 
 -- the actor's part of any other act leaves its queue
-pub acted_queue : (top : ℕ) (a : Act) (r : Process) (done : Acted) → ¬ IsReceive a → acted top r a ≡ Some done → done.queue ≡ r.queue
+pub acted_queue : (top : ℕ) (a : Act) (r : Process) (done : Acted) → ¬ IsReceive a → acted top r a ≡ Some done
+    → done.queue ≡ r.queue
 acted_queue top (act.Receive p w) r done other h = absurd (other tt)
-acted_queue top (act.Send p q v) r done other h = let parts = mapped (sends r q v) (stamp_any top r.pid r.local) done h in ap (λ (x : Acted). x.queue) (sym parts.2)
+acted_queue top (act.Send p q v) r done other h =
+    let parts = mapped (sends r q v) (stamp_any top r.pid r.local) done h in
+    ap (λ (x : Acted). x.queue) (sym parts.2)
 acted_queue top (act.Print p v) r done other h = printed_queue r v (stamp_any top r.pid r.local) done h
 acted_queue top (act.PrintAt p n v) r done other h =
-    elim (has_label n r.local.token) as (λ b. cond b (option_map (prints r v) (stamp top r.pid r.local)) (Some (answers r r.local reply.Done)) ≡ Some done → done.queue ≡ r.queue) [
+    elim (has_label n r.local.token) as (λ b.
+    cond b (option_map (prints r v) (stamp top r.pid r.local)) (Some (answers r r.local reply.Done)) ≡ Some done
+    → done.queue ≡ r.queue) [
       | true ↦ λ h. printed_queue r v (stamp top r.pid r.local) done h
       | false ↦ λ h. some_queue (answers r r.local reply.Done) done h
     ] h
@@ -96,45 +133,66 @@ acted_queue top (act.Reset p) r done other h = some_queue _ done h
 acted_queue top (act.Tracer p b) r done other h = some_queue _ done h
 
 -- the process that acts is the actor's
-actor_is : (s : State) (q p : Pid) (before r : Process) → process s q ≡ Some before → process s p ≡ Some r → pid_eq r.pid q ≡ true → before ≡ r
+actor_is : (s : State) (q p : Pid) (before r : Process) → process s q ≡ Some before → process s p ≡ Some r
+    → pid_eq r.pid q ≡ true → before ≡ r
 actor_is s q p before r is_before is_r same =
-    let who : q ≡ p = sym (pid_same r.pid q same) ∙ process_pid s p r is_r in
+    let who : q ≡ p = sym (pid_eq-true r.pid q same) ∙ process_pid s p r is_r in
     same_Some before r (sym is_before ∙ ap (process s) who ∙ is_r)
 
 -- the queue of a process after its own part of an act that is no receive
-own_queue : (top : ℕ) (s : State) (a : Act) (o : Outcome) (t : Stepped top s a o) (p : Pid) (r : Process) → ¬ IsReceive a → process s p ≡ Some r → (if pid_eq r.pid (actor a) then t.done.queue else r.queue) ≡ r.queue
+own_queue : (top : ℕ) (s : State) (a : Act) (o : Outcome) (t : Stepped top s a o) (p : Pid) (r : Process)
+    → ¬ IsReceive a → process s p ≡ Some r → (if pid_eq r.pid (actor a) then t.done.queue else r.queue) ≡ r.queue
 own_queue top s a o t p r other is_r =
     elim (pid_eq r.pid (actor a)) as (λ b. pid_eq r.pid (actor a) ≡ b → cond b t.done.queue r.queue ≡ r.queue) [
-      | true ↦ λ e. acted_queue top a t.before t.done other t.is_done ∙ ap (λ (x : Process). x.queue) (actor_is s (actor a) p t.before r t.is_before is_r e)
+      | true ↦ λ e.
+          acted_queue top a t.before t.done other t.is_done
+          ∙ ap (λ (x : Process). x.queue) (actor_is s (actor a) p t.before r t.is_before is_r e)
       | false ↦ λ e. refl
     ] refl
 
 -- A SEND
 
 -- the token that a send gave its message is its sender's after it
-sender_token : (top : ℕ) (s : State) (p q : Pid) (v : ℕ) (o : Outcome) (t : Stepped top s (act.Send p q v) o) (os : List Outcome) (n : ℕ) → slice_get os n ≡ Some o → ForSome t.done.local.token (TokenAfter os n p)
+sender_token : (top : ℕ) (s : State) (p q : Pid) (v : ℕ) (o : Outcome) (t : Stepped top s (act.Send p q v) o)
+    (os : List Outcome) (n : ℕ) → slice_get os n ≡ Some o → ForSome t.done.local.token (TokenAfter os n p)
 sender_token top s p q v o t os n at token is =
     let a = act.Send p q v in
     let own : Process = record t.before { local = t.done.local; queue = t.done.queue } in
     let m : Message = record { from = p; value = v; token = t.done.local.token } in
-    let mine : pid_eq t.before.pid p ≡ true = ap (λ x. pid_eq x p) (process_pid s p t.before t.is_before) ∙ pid_eq-refl p in
+    let mine : pid_eq t.before.pid p ≡ true =
+    ap (λ x. pid_eq x p) (process_pid s p t.before t.is_before) ∙ pid_eq-same p in
     let local : (changed a t.done t.before).local ≡ t.done.local =
     ap (λ b. (reached a t.done.local.token (cond b own t.before)).local) mine
-    ∙ elim (pid_eq t.before.pid q) as (λ b. (cond b (record own { queue = own.queue ++ m ∷ [] }) own).local ≡ t.done.local) [ true ↦ refl | false ↦ refl ] in
+    ∙ elim (pid_eq t.before.pid q) as (λ b.
+    (cond b (record own { queue = own.queue ++ m ∷ [] }) own).local ≡ t.done.local) [
+      | true ↦ refl
+      | false ↦ refl
+    ] in
     record {
       sender = changed a t.done t.before;
-      is_sender = ap (option_and_then (λ (x : Outcome). process x.after p)) at ∙ process_after top s a o t p ∙ ap (option_map (changed a t.done)) t.is_before;
+      is_sender =
+          ap (option_and_then (λ (x : Outcome). process x.after p)) at
+          ∙ process_after top s a o t p
+          ∙ ap (option_map (changed a t.done)) t.is_before;
       stamped = ap (λ (l : LocalState). l.token) local ∙ is;
     }
 
-tags_send : (top : ℕ) (acts : List Act) (os : List Outcome) (n : ℕ) (s : State) (tags : Tags) (p q : Pid) (v : ℕ) (o : Outcome) (t : Stepped top s (act.Send p q v) o) → slice_get acts n ≡ Some (act.Send p q v) → slice_get os n ≡ Some o → All (IsSound top) s → (x : Pid) (queue : List Message) → AllZip (IsTag acts os x) (tags x) queue
-    → AllZip (IsTag acts os x) (if pid_eq x q then tags x ++ n ∷ [] else tags x) (queue_after (act.Send p q v) t.done.local.token x queue)
+tags_send : (top : ℕ) (acts : List Act) (os : List Outcome) (n : ℕ) (s : State) (tags : Tags) (p q : Pid) (v : ℕ)
+    (o : Outcome) (t : Stepped top s (act.Send p q v) o) → slice_get acts n ≡ Some (act.Send p q v)
+    → slice_get os n ≡ Some o → All (IsSound top) s → (x : Pid) (queue : List Message)
+    → AllZip (IsTag acts os x) (tags x) queue
+    → AllZip (IsTag acts os x) (if pid_eq x q then tags x ++ n ∷ [] else tags x)
+    (queue_after (act.Send p q v) t.done.local.token x queue)
 tags_send top acts os n s tags p q v o t at out sound x queue all =
     let m : Message = record { from = p; value = v; token = t.done.local.token } in
-    let part = acted_sound top (act.Send p q v) t.before t.done (process_pid s p t.before t.is_before) (process_holds (IsSound top) s p t.before t.is_before sound) t.is_done in
-    elim (pid_eq x q) as (λ b. pid_eq x q ≡ b → AllZip (IsTag acts os x) (cond b (tags x ++ n ∷ []) (tags x)) (cond b (queue ++ m ∷ []) queue)) [
+    let part =
+    acted_sound top (act.Send p q v) t.before t.done (process_pid s p t.before t.is_before)
+    (process_holds (IsSound top) s p t.before t.is_before sound) t.is_done in
+    elim (pid_eq x q) as (λ b.
+    pid_eq x q ≡ b
+    → AllZip (IsTag acts os x) (cond b (tags x ++ n ∷ []) (tags x)) (cond b (queue ++ m ∷ []) queue)) [
       | true ↦ λ e. AllZip_push (IsTag acts os x) (tags x) queue n m all (record {
-        sent = at ∙ ap (λ y. Some (act.Send p y v)) (sym (pid_same x q e));
+        sent = at ∙ ap (λ y. Some (act.Send p y v)) (sym (pid_eq-true x q e));
         from = λ token is. (part.sent token is).from;
         token = sender_token top s p q v o t os n out;
       })
@@ -143,38 +201,61 @@ tags_send top acts os n s tags p q v o t at out sound x queue all =
 
 -- A RESET
 
-tag_untraced : (acts : List Act) (os : List Outcome) (p : Pid) (i : ℕ) (m : Message) → IsTag acts os p i m → IsTag acts os p i (untraced m)
-tag_untraced acts os p i m is = record { sent = is.sent; from = λ t e. absurd (none-some t e); token = λ t e. absurd (none-some t e) }
+tag_untraced : (acts : List Act) (os : List Outcome) (p : Pid) (i : ℕ) (m : Message) → IsTag acts os p i m
+    → IsTag acts os p i (untraced m)
+tag_untraced acts os p i m is =
+    record { sent = is.sent; from = λ t e. absurd (none-some t e); token = λ t e. absurd (none-some t e) }
 
-tags_reset : (acts : List Act) (os : List Outcome) (tags : Tags) (p : Pid) (token : Option Token) (x : Pid) (queue : List Message) → AllZip (IsTag acts os x) (tags x) queue → AllZip (IsTag acts os x) (tags x) (queue_after (act.Reset p) token x queue)
+tags_reset : (acts : List Act) (os : List Outcome) (tags : Tags) (p : Pid) (token : Option Token) (x : Pid)
+    (queue : List Message) → AllZip (IsTag acts os x) (tags x) queue
+    → AllZip (IsTag acts os x) (tags x) (queue_after (act.Reset p) token x queue)
 tags_reset acts os tags p token x queue all =
-    elim (node_eq x p) as (λ b. AllZip (IsTag acts os x) (tags x) (cond b (map untraced queue) queue)) [ true ↦ AllZip_map (IsTag acts os x) untraced (tag_untraced acts os x) (tags x) queue all | false ↦ all ]
+    elim (node_eq x p) as (λ b. AllZip (IsTag acts os x) (tags x) (cond b (map untraced queue) queue)) [
+      | true ↦ AllZip_map (IsTag acts os x) untraced (tag_untraced acts os x) (tags x) queue all
+      | false ↦ all
+    ]
 
 -- A RECEIVE
 
 -- the parts of a receive that took no message, and of one that took this one
-pub receive_none : (top : ℕ) (r : Process) (p : Pid) (w : Want) (done : Acted) → pick w r.queue ≡ None → acted top r (act.Receive p w) ≡ Some done → answers r r.local reply.Nothing ≡ done
+pub receive_none : (top : ℕ) (r : Process) (p : Pid) (w : Want) (done : Acted) → pick w r.queue ≡ None
+    → acted top r (act.Receive p w) ≡ Some done → answers r r.local reply.Nothing ≡ done
 receive_none top r p w done is h = ap (receives r) (sym is) ∙ same_Some _ done h
 
-pub receive_some : (top : ℕ) (r : Process) (p : Pid) (w : Want) (done : Acted) (found : ℕ × Message) → pick w r.queue ≡ Some found → acted top r (act.Receive p w) ≡ Some done → receives r (Some found) ≡ done
+pub receive_some : (top : ℕ) (r : Process) (p : Pid) (w : Want) (done : Acted) (found : ℕ × Message)
+    → pick w r.queue ≡ Some found → acted top r (act.Receive p w) ≡ Some done → receives r (Some found) ≡ done
 receive_some top r p w done found is h = ap (receives r) (sym is) ∙ same_Some _ done h
 
-tags_receive : (top : ℕ) (acts : List Act) (os : List Outcome) (n : ℕ) (s : State) (tags : Tags) (p : Pid) (w : Want) (o : Outcome) (t : Stepped top s (act.Receive p w) o) → (x : Pid) (r : Process) → process s x ≡ Some r → AllZip (IsTag acts os x) (tags x) r.queue
-    → AllZip (IsTag acts os x) (tags_after tags n (act.Receive p w) t.done.place x) (if pid_eq r.pid p then t.done.queue else r.queue)
+tags_receive : (top : ℕ) (acts : List Act) (os : List Outcome) (n : ℕ) (s : State) (tags : Tags) (p : Pid) (w : Want)
+    (o : Outcome) (t : Stepped top s (act.Receive p w) o) → (x : Pid) (r : Process) → process s x ≡ Some r
+    → AllZip (IsTag acts os x) (tags x) r.queue
+    → AllZip (IsTag acts os x) (tags_after tags n (act.Receive p w) t.done.place x)
+    (if pid_eq r.pid p then t.done.queue else r.queue)
 tags_receive top acts os n s tags p w o t x r is_r all =
     let R = IsTag acts os x in
     let who = process_pid s x r is_r in
-    let P = λ (done : Acted). AllZip R (tags_after tags n (act.Receive p w) done.place x) (if pid_eq r.pid p then done.queue else r.queue) in
+    let P =
+    λ (done : Acted).
+    AllZip R (tags_after tags n (act.Receive p w) done.place x) (if pid_eq r.pid p then done.queue else r.queue) in
     elim (pick w t.before.queue) as (λ found. pick w t.before.queue ≡ found → P t.done) [
       | None ↦ λ e. subst P (receive_none top t.before p w t.done e t.is_done)
           (elim (pid_eq r.pid p) as (λ b. pid_eq r.pid p ≡ b → AllZip R (tags x) (cond b t.before.queue r.queue)) [
-            | true ↦ λ same. subst (λ (y : Process). AllZip R (tags x) y.queue) (sym (actor_is s p x t.before r t.is_before is_r same)) all
+            | true ↦ λ same.
+                subst (λ (y : Process). AllZip R (tags x) y.queue)
+                (sym (actor_is s p x t.before r t.is_before is_r same)) all
             | false ↦ λ same. all
           ] refl)
       | Some found ↦ λ e. subst P (receive_some top t.before p w t.done found e t.is_done)
-          (subst (λ y. AllZip R (if pid_eq y p then remove (tags x) found.0 else tags x) (if pid_eq r.pid p then remove t.before.queue found.0 else r.queue)) who
-          (elim (pid_eq r.pid p) as (λ b. pid_eq r.pid p ≡ b → AllZip R (cond b (remove (tags x) found.0) (tags x)) (cond b (remove t.before.queue found.0) r.queue)) [
-            | true ↦ λ same. subst (λ (y : Process). AllZip R (remove (tags x) found.0) (remove y.queue found.0)) (sym (actor_is s p x t.before r t.is_before is_r same)) (AllZip_remove R (tags x) r.queue found.0 all)
+          (subst (λ y.
+          AllZip R (if pid_eq y p then remove (tags x) found.0 else tags x)
+          (if pid_eq r.pid p then remove t.before.queue found.0 else r.queue)) who
+          (elim (pid_eq r.pid p) as (λ b.
+          pid_eq r.pid p ≡ b
+          → AllZip R (cond b (remove (tags x) found.0) (tags x))
+          (cond b (remove t.before.queue found.0) r.queue)) [
+            | true ↦ λ same.
+                subst (λ (y : Process). AllZip R (remove (tags x) found.0) (remove y.queue found.0))
+                (sym (actor_is s p x t.before r t.is_before is_r same)) (AllZip_remove R (tags x) r.queue found.0 all)
             | false ↦ λ same. all
           ] refl))
     ] refl
@@ -182,20 +263,37 @@ tags_receive top acts os n s tags p w o t x r is_r all =
 -- EACH ACT
 
 -- the tags of x's queue after the act, by the act
-tags_of_queue : (top : ℕ) (acts : List Act) (os : List Outcome) (n : ℕ) (s : State) (tags : Tags) (a : Act) (o : Outcome) (t : Stepped top s a o) → slice_get acts n ≡ Some a → slice_get os n ≡ Some o → All (IsSound top) s → (x : Pid) (r : Process) → process s x ≡ Some r → AllZip (IsTag acts os x) (tags x) r.queue
-    → AllZip (IsTag acts os x) (tags_after tags n a t.done.place x) (queue_after a t.done.local.token x (if pid_eq r.pid (actor a) then t.done.queue else r.queue))
-tags_of_queue top acts os n s tags (act.Send p q v) o t at out sound x r is all = tags_send top acts os n s tags p q v o t at out sound x _ (subst (AllZip (IsTag acts os x) (tags x)) (sym (own_queue top s (act.Send p q v) o t x r (λ h. h) is)) all)
-tags_of_queue top acts os n s tags (act.Receive p w) o t at out sound x r is all = tags_receive top acts os n s tags p w o t x r is all
-tags_of_queue top acts os n s tags (act.Reset p) o t at out sound x r is all = tags_reset acts os tags p t.done.local.token x _ (subst (AllZip (IsTag acts os x) (tags x)) (sym (own_queue top s (act.Reset p) o t x r (λ h. h) is)) all)
-tags_of_queue top acts os n s tags (act.Print p v) o t at out sound x r is all = subst (AllZip (IsTag acts os x) (tags x)) (sym (own_queue top s (act.Print p v) o t x r (λ h. h) is)) all
-tags_of_queue top acts os n s tags (act.PrintAt p l v) o t at out sound x r is all = subst (AllZip (IsTag acts os x) (tags x)) (sym (own_queue top s (act.PrintAt p l v) o t x r (λ h. h) is)) all
-tags_of_queue top acts os n s tags (act.Set p c) o t at out sound x r is all = subst (AllZip (IsTag acts os x) (tags x)) (sym (own_queue top s (act.Set p c) o t x r (λ h. h) is)) all
-tags_of_queue top acts os n s tags (act.Clear p) o t at out sound x r is all = subst (AllZip (IsTag acts os x) (tags x)) (sym (own_queue top s (act.Clear p) o t x r (λ h. h) is)) all
-tags_of_queue top acts os n s tags (act.Restore p token) o t at out sound x r is all = subst (AllZip (IsTag acts os x) (tags x)) (sym (own_queue top s (act.Restore p token) o t x r (λ h. h) is)) all
-tags_of_queue top acts os n s tags (act.Look p) o t at out sound x r is all = subst (AllZip (IsTag acts os x) (tags x)) (sym (own_queue top s (act.Look p) o t x r (λ h. h) is)) all
-tags_of_queue top acts os n s tags (act.Tracer p b) o t at out sound x r is all = subst (AllZip (IsTag acts os x) (tags x)) (sym (own_queue top s (act.Tracer p b) o t x r (λ h. h) is)) all
+tags_of_queue : (top : ℕ) (acts : List Act) (os : List Outcome) (n : ℕ) (s : State) (tags : Tags) (a : Act)
+    (o : Outcome) (t : Stepped top s a o) → slice_get acts n ≡ Some a → slice_get os n ≡ Some o → All (IsSound top) s
+    → (x : Pid) (r : Process) → process s x ≡ Some r → AllZip (IsTag acts os x) (tags x) r.queue
+    → AllZip (IsTag acts os x) (tags_after tags n a t.done.place x)
+    (queue_after a t.done.local.token x (if pid_eq r.pid (actor a) then t.done.queue else r.queue))
+tags_of_queue top acts os n s tags (act.Send p q v) o t at out sound x r is all =
+    tags_send top acts os n s tags p q v o t at out sound x _
+    (subst (AllZip (IsTag acts os x) (tags x)) (sym (own_queue top s (act.Send p q v) o t x r (λ h. h) is)) all)
+tags_of_queue top acts os n s tags (act.Receive p w) o t at out sound x r is all =
+    tags_receive top acts os n s tags p w o t x r is all
+tags_of_queue top acts os n s tags (act.Reset p) o t at out sound x r is all =
+    tags_reset acts os tags p t.done.local.token x _
+    (subst (AllZip (IsTag acts os x) (tags x)) (sym (own_queue top s (act.Reset p) o t x r (λ h. h) is)) all)
+tags_of_queue top acts os n s tags (act.Print p v) o t at out sound x r is all =
+    subst (AllZip (IsTag acts os x) (tags x)) (sym (own_queue top s (act.Print p v) o t x r (λ h. h) is)) all
+tags_of_queue top acts os n s tags (act.PrintAt p l v) o t at out sound x r is all =
+    subst (AllZip (IsTag acts os x) (tags x)) (sym (own_queue top s (act.PrintAt p l v) o t x r (λ h. h) is)) all
+tags_of_queue top acts os n s tags (act.Set p c) o t at out sound x r is all =
+    subst (AllZip (IsTag acts os x) (tags x)) (sym (own_queue top s (act.Set p c) o t x r (λ h. h) is)) all
+tags_of_queue top acts os n s tags (act.Clear p) o t at out sound x r is all =
+    subst (AllZip (IsTag acts os x) (tags x)) (sym (own_queue top s (act.Clear p) o t x r (λ h. h) is)) all
+tags_of_queue top acts os n s tags (act.Restore p token) o t at out sound x r is all =
+    subst (AllZip (IsTag acts os x) (tags x)) (sym (own_queue top s (act.Restore p token) o t x r (λ h. h) is)) all
+tags_of_queue top acts os n s tags (act.Look p) o t at out sound x r is all =
+    subst (AllZip (IsTag acts os x) (tags x)) (sym (own_queue top s (act.Look p) o t x r (λ h. h) is)) all
+tags_of_queue top acts os n s tags (act.Tracer p b) o t at out sound x r is all =
+    subst (AllZip (IsTag acts os x) (tags x)) (sym (own_queue top s (act.Tracer p b) o t x r (λ h. h) is)) all
 
-pub tags_step : (top : ℕ) (acts : List Act) (os : List Outcome) (n : ℕ) (s : State) (tags : Tags) (a : Act) (o : Outcome) → slice_get acts n ≡ Some a → slice_get os n ≡ Some o → step top s a ≡ Some o → All (IsSound top) s → AreTags acts os s tags → AreTags acts os o.after (tags_after tags n a o.place)
+pub tags_step : (top : ℕ) (acts : List Act) (os : List Outcome) (n : ℕ) (s : State) (tags : Tags) (a : Act)
+    (o : Outcome) → slice_get acts n ≡ Some a → slice_get os n ≡ Some o → step top s a ≡ Some o → All (IsSound top) s
+    → AreTags acts os s tags → AreTags acts os o.after (tags_after tags n a o.place)
 tags_step top acts os n s tags a o at out h sound are =
     let t = step_parts top s a o h in
     let place : t.done.place ≡ o.place = ap (λ (x : Outcome). x.place) t.is_outcome in
@@ -204,16 +302,25 @@ tags_step top acts os n s tags a o at out h sound are =
           let parts = mapped (changed a t.done) (process s x) r (sym (process_after top s a o t x) ∙ is) in
           let old = parts.0 in
           let who = process_pid s x old parts.1 in
-          let queue : queue_after a t.done.local.token x (if pid_eq old.pid (actor a) then t.done.queue else old.queue) ≡ r.queue =
-          ap (λ y. queue_after a t.done.local.token y (if pid_eq old.pid (actor a) then t.done.queue else old.queue)) (sym who) ∙ sym (changed_queue a t.done old) ∙ ap (λ (y : Process). y.queue) parts.2 in
+          let queue : queue_after a t.done.local.token x (if pid_eq old.pid (actor a) then t.done.queue else old.queue)
+          ≡ r.queue =
+          ap (λ y. queue_after a t.done.local.token y (if pid_eq old.pid (actor a) then t.done.queue else old.queue))
+          (sym who)
+          ∙ sym (changed_queue a t.done old)
+          ∙ ap (λ (y : Process). y.queue) parts.2 in
           subst (λ k. AllZip (IsTag acts os x) (tags_after tags n a k x) r.queue) place
-          (subst (AllZip (IsTag acts os x) (tags_after tags n a t.done.place x)) queue (tags_of_queue top acts os n s tags a o t at out sound x old parts.1 (are.queues x old parts.1)));
+          (subst (AllZip (IsTag acts os x) (tags_after tags n a t.done.place x)) queue
+          (tags_of_queue top acts os n s tags a o t at out sound x old parts.1 (are.queues x old parts.1)));
     }
 
 -- AT THE START
 
 zero_queue : (pids : List Pid) (p : Pid) (r : Process) → process (zero_state pids) p ≡ Some r → r.queue ≡ []
-zero_queue pids p r is = process_holds (λ x. x.queue ≡ []) (zero_state pids) p r is (All-map (λ (x : Process). x.queue ≡ []) (λ q. record { pid = q; local = zero_local; queue = [] }) pids (λ k d within. refl))
+zero_queue pids p r is =
+    process_holds (λ x. x.queue ≡ []) (zero_state pids) p r is
+    (All-map (λ (x : Process). x.queue ≡ []) (λ q. record { pid = q; local = zero_local; queue = [] }) pids
+    (λ k d within. refl))
 
 pub no_tags_are : (acts : List Act) (os : List Outcome) (pids : List Pid) → AreTags acts os (zero_state pids) no_tags
-no_tags_are acts os pids = record { queues = λ p r is. subst (AllZip (IsTag acts os p) []) (sym (zero_queue pids p r is)) tt }
+no_tags_are acts os pids =
+    record { queues = λ p r is. subst (AllZip (IsTag acts os p) []) (sym (zero_queue pids p r is)) tt }

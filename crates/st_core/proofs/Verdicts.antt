@@ -1,5 +1,8 @@
--- The verdict by computation, to evaluate worked cases, and that it is the verdict.
-use Rattle.std.proofs.Common.{◌≡◌, ℕ, ◌+◌, ◌<◌, ◌≤◌, ◌==◌, ◌&&◌, zero, suc, Bool, true, false, not, cond, List, [], ◌∷◌, ◌++◌, length, take, find, Option, Some, None, is_some, ◌⊎◌, inl, inr, refl, sym, ◌∙◌, ap, subst, arith}
+-- A verdict that computes is the verdict, since it looks at each front of the run in turn; by it worked cases
+-- evaluate.
+use Rattle.std.proofs.Common.{◌≡◌, ℕ, ◌+◌, ◌<◌, ◌≤◌, ◌==◌, ◌&&◌, zero, suc, Bool, true, false, not, cond, List, [], ◌∷◌}
+use Rattle.std.proofs.Common.{◌++◌, length, take, find, Option, Some, None, is_some, ◌⊎◌, inl, inr, refl, sym, ◌∙◌, ap}
+use Rattle.std.proofs.Common.{subst, arith}
 use Rattle.std.specs.List.{AllByRecursion, list_all}
 use mathlib.Core.List.{IsPrefix}
 use Rattle.std.proofs.lemmas.Bool.{eqb-true, eq-eqb, false≢true, cases_lt}
@@ -35,8 +38,8 @@ to_eq _ _ = false
 
 -- d and e are one event
 abbrev pub event_eq : Event → Event → Bool
-event_eq d e = d.label.0 == e.label.0 && (kind_eq d.kind e.kind && (d.serial.prev == e.serial.prev && (d.serial.this == e.serial.this
-    && (pid_eq d.from e.from && (to_eq d.to e.to && d.value == e.value)))))
+event_eq d e = d.label.0 == e.label.0 && (kind_eq d.kind e.kind && (d.serial.prev == e.serial.prev
+    && (d.serial.this == e.serial.this && (pid_eq d.from e.from && (to_eq d.to e.to && d.value == e.value)))))
 
 -- the first events stand at the front of the second ones
 abbrev pub is_front : List Event → List Event → Bool
@@ -132,11 +135,28 @@ event_eq-true d e h =
     let from = pid_eq-true d.from e.from five.0 in
     let to = to_eq-true d.to e.to six.0 in
     let value = eqb-true d.value e.value six.1 in
-    λ i. record { label = record { 0 = label i }; kind = kind i; serial = record { prev = prev i; this = this i }; from = from i; to = to i; value = value i }
+    λ i.
+    record {
+      label = record { 0 = label i };
+      kind = kind i;
+      serial = record { prev = prev i; this = this i };
+      from = from i;
+      to = to i;
+      value = value i;
+    }
 
 event_eq-same : (e : Event) → event_eq e e ≡ true
 event_eq-same e =
-    rw (eq-eqb e.label.0 e.label.0 refl, kind_eq-same e.kind, eq-eqb e.serial.prev e.serial.prev refl, eq-eqb e.serial.this e.serial.this refl, pid_eq-same e.from, to_eq-same e.to, eq-eqb e.value e.value refl) refl
+    rw (
+      eq-eqb e.label.0 e.label.0 refl,
+      kind_eq-same e.kind,
+      eq-eqb e.serial.prev e.serial.prev refl,
+      eq-eqb
+          e.serial.this e.serial.this refl,
+      pid_eq-same e.from,
+      to_eq-same e.to,
+      eq-eqb e.value e.value refl,
+    ) refl
 
 -- FRONTS
 
@@ -156,26 +176,45 @@ front_complete (d ∷ ds) (e ∷ es) left h =
     let tail : ds ++ left ≡ es = cc in
     rw (head, event_eq-same e) (front_complete ds es left tail)
 
-all_sound : (acts : List Act) (os : List Outcome) (streams : List Stream) → list_all (λ x. is_front (stream acts os x.pid) x.events) streams ≡ true → AllByRecursion (λ x. IsPrefix (stream acts os x.pid) x.events) streams
+all_sound : (acts : List Act) (os : List Outcome) (streams : List Stream)
+    → list_all (λ x. is_front (stream acts os x.pid) x.events) streams ≡ true
+    → AllByRecursion (λ x. IsPrefix (stream acts os x.pid) x.events) streams
 all_sound acts os [] h = tt
-all_sound acts os (x ∷ streams) h = let parts = both _ _ h in (front_sound (stream acts os x.pid) x.events parts.0, all_sound acts os streams parts.1)
+all_sound acts os (x ∷ streams) h =
+    let parts = both _ _ h in
+    (front_sound (stream acts os x.pid) x.events parts.0, all_sound acts os streams parts.1)
 
-all_complete : (acts : List Act) (os : List Outcome) (streams : List Stream) → AllByRecursion (λ x. IsPrefix (stream acts os x.pid) x.events) streams → list_all (λ x. is_front (stream acts os x.pid) x.events) streams ≡ true
+all_complete : (acts : List Act) (os : List Outcome) (streams : List Stream)
+    → AllByRecursion (λ x. IsPrefix (stream acts os x.pid) x.events) streams
+    → list_all (λ x. is_front (stream acts os x.pid) x.events) streams ≡ true
 all_complete acts os [] all = refl
-all_complete acts os (x ∷ streams) all = rw (front_complete (stream acts os x.pid) x.events all.0.0 all.0.1) (all_complete acts os streams all.1)
+all_complete acts os (x ∷ streams) all =
+    rw (front_complete (stream acts os x.pid) x.events all.0.0 all.0.1) (all_complete acts os streams all.1)
 
 -- ACTS THAT PASS
 
-fronts_sound : (top : ℕ) (streams : List Stream) (acts : List Act) (outs : Option (List Outcome)) → run top (pids_of streams) acts ≡ outs → fronts streams acts outs ≡ true → Passes top streams acts
+fronts_sound : (top : ℕ) (streams : List Stream) (acts : List Act) (outs : Option (List Outcome))
+    → run top (pids_of streams) acts ≡ outs → fronts streams acts outs ≡ true → Passes top streams acts
 fronts_sound top streams acts None e h = absurd (false≢true h)
-fronts_sound top streams acts (Some os) e h = (os, record { runs = e; fronts = All-from_recursion (λ x. IsPrefix (stream acts os x.pid) x.events) streams (all_sound acts os streams h) })
+fronts_sound top streams acts (Some os) e h = (
+  os,
+  record {
+    runs = e;
+    fronts = All-from_recursion (λ x. IsPrefix (stream acts os x.pid) x.events) streams
+        (all_sound acts os streams h);
+  },
+)
 
-passes_sound : (top : ℕ) (streams : List Stream) (acts : List Act) → passes top streams acts ≡ true → Passes top streams acts
+passes_sound : (top : ℕ) (streams : List Stream) (acts : List Act) → passes top streams acts ≡ true
+    → Passes top streams acts
 passes_sound top streams acts h = fronts_sound top streams acts (run top (pids_of streams) acts) refl h
 
-passes_complete : (top : ℕ) (streams : List Stream) (acts : List Act) → Passes top streams acts → passes top streams acts ≡ true
+passes_complete : (top : ℕ) (streams : List Stream) (acts : List Act) → Passes top streams acts
+    → passes top streams acts ≡ true
 passes_complete top streams acts h =
-    ap (fronts streams acts) h.1.runs ∙ all_complete acts h.0 streams (recursion_from_All (λ x. IsPrefix (stream acts h.0 x.pid) x.events) streams h.1.fronts)
+    ap (fronts streams acts) h.1.runs
+    ∙ all_complete acts h.0 streams
+    (recursion_from_All (λ x. IsPrefix (stream acts h.0 x.pid) x.events) streams h.1.fronts)
 
 not_false : (b : Bool) → not b ≡ false → b ≡ true
 not_false true h = refl
@@ -197,13 +236,20 @@ record IsFirst (test : ℕ → Bool) (k : ℕ) (acts : List Act) (n : ℕ) : Typ
 below_or_at : (k m : ℕ) → k ≤ m → (k ≡ m) ⊎ (k + 1 ≤ m)
 below_or_at k m above = elim (cases_lt k m) [ inl below ↦ inr (omega arith) | inr at ↦ inl (omega arith) ]
 
-number_found : (test : ℕ → Bool) (k : ℕ) (acts : List Act) (n : ℕ) → find test (numbers_from k acts) ≡ Some n → IsFirst test k acts n
+number_found : (test : ℕ → Bool) (k : ℕ) (acts : List Act) (n : ℕ) → find test (numbers_from k acts) ≡ Some n
+    → IsFirst test k acts n
 number_found test k [] n h = absurd (none-some n h)
 number_found test k (a ∷ acts) n h =
-    elim (test k) as (λ b. test k ≡ b → cond b (Some k) (find test (numbers_from (k + 1) acts)) ≡ Some n → IsFirst test k (a ∷ acts) n) [
+    elim (test k) as (λ b.
+    test k ≡ b → cond b (Some k) (find test (numbers_from (k + 1) acts)) ≡ Some n → IsFirst test k (a ∷ acts) n) [
       | true ↦ λ e h.
           let same : k ≡ n = same_Some k n h in
-          record { within = omega arith; from = omega arith; passes = subst (λ m. test m ≡ true) same e; before = λ m above below. absurd (omega arith) }
+          record {
+            within = omega arith;
+            from = omega arith;
+            passes = subst (λ m. test m ≡ true) same e;
+            before = λ m above below. absurd (omega arith);
+          }
       | false ↦ λ e h.
           let rest = number_found test (k + 1) acts n h in
           let within : n < k + 1 + length acts = rest.within in
@@ -219,10 +265,12 @@ number_found test k (a ∷ acts) n h =
           }
     ] refl h
 
-number_missing : (test : ℕ → Bool) (k : ℕ) (acts : List Act) (m : ℕ) → find test (numbers_from k acts) ≡ None → k ≤ m → m < k + length acts → test m ≡ false
+number_missing : (test : ℕ → Bool) (k : ℕ) (acts : List Act) (m : ℕ) → find test (numbers_from k acts) ≡ None → k ≤ m
+    → m < k + length acts → test m ≡ false
 number_missing test k [] m h above below = absurd (omega arith)
 number_missing test k (a ∷ acts) m h above below =
-    elim (test k) as (λ b. test k ≡ b → cond b (Some k) (find test (numbers_from (k + 1) acts)) ≡ None → test m ≡ false) [
+    elim (test k) as (λ b.
+    test k ≡ b → cond b (Some k) (find test (numbers_from (k + 1) acts)) ≡ None → test m ≡ false) [
       | true ↦ λ e h. absurd (none-some k (sym h))
       | false ↦ λ e h. elim (below_or_at k m above) [
         | inl at ↦ subst (λ i. test i ≡ false) at e
@@ -232,21 +280,28 @@ number_missing test k (a ∷ acts) m h above below =
 
 -- THE VERDICT
 
-passing_before : (top : ℕ) (streams : List Stream) (acts : List Act) (n : ℕ) → ((m : ℕ) → m < n → not (passes top streams (take (m + 1) acts)) ≡ false) → Passes top streams (take n acts)
+passing_before : (top : ℕ) (streams : List Stream) (acts : List Act) (n : ℕ)
+    → ((m : ℕ) → m < n → not (passes top streams (take (m + 1) acts)) ≡ false) → Passes top streams (take n acts)
 passing_before top streams acts zero before = none_passes top streams
 passing_before top streams acts (suc n) before =
     let next : n + 1 ≡ suc n = omega arith in
-    subst (λ k. Passes top streams (take k acts)) next (passes_sound top streams (take (n + 1) acts) (not_false _ (before n (omega arith))))
+    subst (λ k. Passes top streams (take k acts)) next
+    (passes_sound top streams (take (n + 1) acts) (not_false _ (before n (omega arith))))
 
-failed_is : (top : ℕ) (streams : List Stream) (acts : List Act) (n : ℕ) → FailsAt top streams acts n → (outs : Option (List Outcome)) → run top (pids_of streams) (take (n + 1) acts) ≡ outs → IsVerdict top streams acts (failed n outs)
+failed_is : (top : ℕ) (streams : List Stream) (acts : List Act) (n : ℕ) → FailsAt top streams acts n
+    → (outs : Option (List Outcome)) → run top (pids_of streams) (take (n + 1) acts) ≡ outs
+    → IsVerdict top streams acts (failed n outs)
 failed_is top streams acts n f None e = (f.within, f.before, e)
-failed_is top streams acts n f (Some os) e = (f.within, f.before, ap (λ (o : Option (List Outcome)). is_some o) e, f.fails)
+failed_is top streams acts n f (Some os) e =
+    (f.within, f.before, ap (λ (o : Option (List Outcome)). is_some o) e, f.fails)
 
-passed_is : (top : ℕ) (streams : List Stream) (acts : List Act) (os : List Outcome) → IsPassing top streams acts os → (left : Option Stream) → left_over streams acts os ≡ left → IsVerdict top streams acts (passed acts os left)
+passed_is : (top : ℕ) (streams : List Stream) (acts : List Act) (os : List Outcome) → IsPassing top streams acts os
+    → (left : Option Stream) → left_over streams acts os ≡ left → IsVerdict top streams acts (passed acts os left)
 passed_is top streams acts os passing (Some x) e = (os, passing, x, e, refl)
 passed_is top streams acts os passing None e = passed_yes top streams acts os passing e
 
-judged_is : (top : ℕ) (streams : List Stream) (acts : List Act) (fault : Option ℕ) → first_fault top streams acts ≡ fault → IsVerdict top streams acts (judged top streams acts fault)
+judged_is : (top : ℕ) (streams : List Stream) (acts : List Act) (fault : Option ℕ)
+    → first_fault top streams acts ≡ fault → IsVerdict top streams acts (judged top streams acts fault)
 judged_is top streams acts (Some n) e =
     let first = number_found (λ n. not (passes top streams (take (n + 1) acts))) 0 acts n e in
     let within : n < 0 + length acts = first.within in
@@ -257,14 +312,20 @@ judged_is top streams acts (Some n) e =
     } in
     failed_is top streams acts n fails (run top (pids_of streams) (take (n + 1) acts)) refl
 judged_is top streams acts None e =
-    let all = passing_before top streams acts (length acts) (λ m below. number_missing (λ n. not (passes top streams (take (n + 1) acts))) 0 acts m e (omega arith) (omega arith)) in
+    let all =
+    passing_before top streams acts (length acts)
+    (λ m below.
+    number_missing (λ n. not (passes top streams (take (n + 1) acts))) 0 acts m e (omega arith) (omega arith)) in
     let whole : Passes top streams acts = subst (Passes top streams) (take_all (length acts) acts (omega arith)) all in
-    subst (λ (outs : Option (List Outcome)). IsVerdict top streams acts (ended streams acts outs)) (sym whole.1.runs) (passed_is top streams acts whole.0 whole.1 (left_over streams acts whole.0) refl)
+    subst (λ (outs : Option (List Outcome)). IsVerdict top streams acts (ended streams acts outs)) (sym whole.1.runs)
+    (passed_is top streams acts whole.0 whole.1 (left_over streams acts whole.0) refl)
 
 -- what is computed is the verdict
-pub verdict_is : (top : ℕ) (streams : List Stream) (acts : List Act) → IsVerdict top streams acts (verdict top streams acts)
+pub verdict_is : (top : ℕ) (streams : List Stream) (acts : List Act)
+    → IsVerdict top streams acts (verdict top streams acts)
 verdict_is top streams acts = judged_is top streams acts (first_fault top streams acts) refl
 
 -- so what it computes to is the verdict
-pub computed : (top : ℕ) (streams : List Stream) (acts : List Act) (v : Verdict) → verdict top streams acts ≡ v → IsVerdict top streams acts v
+pub computed : (top : ℕ) (streams : List Stream) (acts : List Act) (v : Verdict) → verdict top streams acts ≡ v
+    → IsVerdict top streams acts v
 computed top streams acts v h = subst (IsVerdict top streams acts) h (verdict_is top streams acts)

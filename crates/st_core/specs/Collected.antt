@@ -1,13 +1,13 @@
 -- How collected streams are kept: the pids in one list, and beside it the events of each.
 -- For the invariants of `Draft` and `Streams` alone: contracts speak of the list of streams.
-use Rattle.std.specs.Prelude.{◌≡◌, ℕ, ◌&&◌, Bool, true, not, List, [], ◌∷◌, length, position, Option, Some, None}
-use Rattle.std.specs.List.{list_any}
-use Rattle.std.specs.Option.{option_map_or}
+use Rattle.std.specs.Prelude.{◌≡◌, ℕ, Bool, not, List, [], ◌∷◌, length, position, Option, Some, None}
 use Rattle.st_core.specs.declared.types.Pid.{Pid}
 use Rattle.st_core.specs.declared.types.Event.{Event}
-use Rattle.st_core.specs.Pid.{pid_eq, IsRising}
+use Rattle.st_core.specs.Pid.{IsRising}
 use Rattle.st_core.specs.Run.{Stream}
 use Rattle.st_core.specs.Streams.{AreOwn, total_of}
+-- Under this name too, for proofs that cite them here.
+pub use Rattle.st_core.specs.Streams.{is_among, names_among}
 
 -- each pid with its events
 abbrev pub collected : List Pid → List (List Event) → List Stream
@@ -22,16 +22,11 @@ pub record IsCollected (pids : List Pid) (lists : List (List Event)) (total : �
   pub own : AreOwn (collected pids lists)
   pub counted : total ≡ total_of (collected pids lists)
 
--- p is among these pids
-abbrev pub is_among : List Pid → Pid → Bool
-is_among pids p = list_any (λ q. pid_eq q p) pids
-
--- the pids that the event names are among these
-abbrev pub names_among : List Pid → Event → Bool
-names_among pids e = is_among pids e.from && option_map_or (is_among pids) e.to true
-
 -- the first process with an event that fails the test, and the first such event's index
 abbrev pub first_failing : (Event → Bool) → List Pid → List (List Event) → Option (Pid × ℕ)
 first_failing test [] lists = None
 first_failing test (p ∷ ps) [] = None
-first_failing test (p ∷ ps) (events ∷ lists) = elim (position (λ e. not (test e)) events) [ None ↦ first_failing test ps lists | Some i ↦ Some (p, i) ]
+first_failing test (p ∷ ps) (events ∷ lists) = elim (position (λ e. not (test e)) events) [
+  | None ↦ first_failing test ps lists
+  | Some i ↦ Some (p, i)
+]

@@ -1,6 +1,7 @@
 -- Devices: where bytes come from and go to (own profile).
 -- Words for the contracts of the byte sources and sinks; nothing here is about tracing.
-use Rattle.std.specs.Prelude.{◌≡◌, ℕ, ◌-◌, ◌==◌, ◌&&◌, ◌||◌, nat_lt, Bool, true, false, List, [], ◌++◌, length, drop, replicate, min, Option, Some, None, Result, Ok, MatchResult, option_map, if◌then◌else◌}
+use Rattle.std.specs.Prelude.{◌≡◌, ℕ, ◌-◌, ◌==◌, ◌&&◌, ◌||◌, nat_lt, Bool, true, false, List, [], ◌++◌, length, drop}
+use Rattle.std.specs.Prelude.{replicate, min, Option, Some, None, Result, Ok, MatchResult, option_map, if◌then◌else◌}
 
 -- the mark of a device is false until a call fails, then true, and each later call fails
 abbrev pub Marks : {T E : Type 0} → Bool → Bool → Result T E → Type 0
@@ -56,7 +57,12 @@ after_take s n = record { left = drop n s.left; fuse = burnt s.fuse n; failed = 
 
 -- what is written after a put of these bytes
 abbrev pub after_put : MemoryOutput → List ℕ → MemoryOutput
-after_put s bytes = record { written = s.written ++ bytes; room = s.room - length bytes; fuse = burnt s.fuse (length bytes); failed = false }
+after_put s bytes = record {
+  written = s.written ++ bytes;
+  room = s.room - length bytes;
+  fuse = burnt s.fuse (length bytes);
+  failed = false;
+}
 
 -- all of these bytes are zero
 abbrev pub AreZeros : List ℕ → Type 0

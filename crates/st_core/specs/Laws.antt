@@ -7,8 +7,7 @@ use Rattle.st_core.specs.declared.types.Event.{Event}
 use Rattle.st_core.specs.declared.types.Act.{Act}
 use Rattle.st_core.specs.State.{Process, State, process}
 use Rattle.st_core.specs.Step.{Outcome, actor, touches}
-use Rattle.st_core.specs.Streams.{is_own}
-use Rattle.st_core.specs.Collected.{names_among}
+use Rattle.st_core.specs.Streams.{is_own, names_among}
 
 -- an act leaves each process that it doesn't touch as it was, and no process comes or goes
 pub record LeavesOthers (a : Act) (before after : State) : Type 0 where

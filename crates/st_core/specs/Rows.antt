@@ -19,4 +19,5 @@ pub row_appends : {S : Type 0} (written : S → Option (List ℕ)) (puts : S →
     → (a b : S) (bytes : List ℕ) → InARow puts a bytes b → Appends (written a) (written b) bytes
 row_appends written puts each a b bytes (NoCall s) = Appends-nil (written s)
 row_appends written puts each a b bytes (OneMore x y z xs ys row call) =
-    Appends-trans (written x) (written y) (written z) xs ys (row_appends written puts each x y xs row) (each y ys z call)
+    Appends-trans (written x) (written y) (written z) xs ys
+    (row_appends written puts each x y xs row) (each y ys z call)

@@ -1,6 +1,7 @@
 -- Streams: what each process reported, and where they hang together (own profile).
-use Rattle.std.specs.Prelude.{◌≡◌, ℕ, ◌&&◌, Bool, true, false, not, List, [], ◌∷◌, ◌++◌, map, length, sum_by, find, position, Option, Some, None, if◌then◌else◌, is_some, is_none}
-use Rattle.std.specs.List.{AllByRecursion}
+use Rattle.std.specs.Prelude.{◌≡◌, ℕ, ◌&&◌, Bool, true, false, not, List, [], ◌∷◌, ◌++◌, map, length, sum_by, find}
+use Rattle.std.specs.Prelude.{position, Option, Some, None, if◌then◌else◌, is_some, is_none}
+use Rattle.std.specs.List.{AllByRecursion, list_any}
 use Rattle.std.specs.Option.{option_map_or}
 use Rattle.st_core.specs.declared.types.Pid.{Pid}
 use Rattle.st_core.specs.declared.types.Kind.{Kind}
@@ -29,7 +30,8 @@ events_of streams p = elim (stream_of streams p) [ None ↦ [] | Some x ↦ x.ev
 abbrev pub total_of : List Stream → ℕ
 total_of streams = sum_by (λ x. length x.events) streams
 
--- an event of this kind, from and to is one of p: from it for a send, which has a to; to it for a receive; from it for a print, which has none
+-- an event of this kind, from and to is one of p: from it for a send, which has a to; to it for a receive; from it
+-- for a print, which has none
 abbrev pub is_of : Kind → Pid → Option Pid → Pid → Bool
 is_of kind.Send from to p = pid_eq from p && is_some to
 is_of kind.Receive from to p = option_map_or (λ q. pid_eq q p) to false
@@ -39,6 +41,14 @@ is_of kind.Print from to p = pid_eq from p && is_none to
 abbrev pub is_own : Pid → Event → Bool
 is_own p e = is_of e.kind e.from e.to p
 
+-- p is among these pids
+abbrev pub is_among : List Pid → Pid → Bool
+is_among pids p = list_any (λ q. pid_eq q p) pids
+
+-- the pids that the event names are among these
+abbrev pub names_among : List Pid → Event → Bool
+names_among pids e = is_among pids e.from && option_map_or (is_among pids) e.to true
+
 -- the pids that the event names are listed
 abbrev pub names_listed : List Stream → Event → Bool
 names_listed streams e = lists streams e.from && option_map_or (lists streams) e.to true
@@ -46,7 +56,10 @@ names_listed streams e = lists streams e.from && option_map_or (lists streams) e
 -- the first of these streams, and in it the first event, that names a pid which isn't listed in all
 abbrev pub unlisted_among : List Stream → List Stream → Option (Pid × ℕ)
 unlisted_among all [] = None
-unlisted_among all (x ∷ rest) = elim (position (λ e. not (names_listed all e)) x.events) [ None ↦ unlisted_among all rest | Some i ↦ Some (x.pid, i) ]
+unlisted_among all (x ∷ rest) = elim (position (λ e. not (names_listed all e)) x.events) [
+  | None ↦ unlisted_among all rest
+  | Some i ↦ Some (x.pid, i)
+]
 
 -- the least place, by pid and then index, of an event that names an unlisted pid
 abbrev pub unlisted : List Stream → Option (Pid × ℕ)

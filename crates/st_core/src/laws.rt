@@ -21,28 +21,33 @@ pub fn untouched_stay()
 
 /// A stamped token is from its process, its serial rises, and its count is one that a clock can have.
 pub fn stamp_rises()
-    ensures { (top : ℕ) (p : Pid) (l m : LocalState) (t : Token) → l.last ≤ l.clock → stamp top p l ≡ Some m → m.token ≡ Some t → IsStamped top p t }
+    ensures { (top : ℕ) (p : Pid) (l m : LocalState) (t : Token)
+        → l.last ≤ l.clock → stamp top p l ≡ Some m → m.token ≡ Some t → IsStamped top p t }
 {}
 
 /// After each act of every run each process's last is at most its clock and its clock at most TOP,
 /// each queued token was stamped by its message's sender, and the serial of the act's report rises.
 pub fn runs_stay_sound()
-    ensures { (top : ℕ) (pids : List Pid) (acts : List Act) (os : List Outcome) → run top pids acts ≡ Some os → All (KeepsSound top) os }
+    ensures { (top : ℕ) (pids : List Pid) (acts : List Act) (os : List Outcome)
+        → run top pids acts ≡ Some os → All (KeepsSound top) os }
 {}
 
 /// In every run each report is an event that its actor may report, and names only processes of the run.
 pub fn reports_are_own()
-    ensures { (top : ℕ) (pids : List Pid) (acts : List Act) (os : List Outcome) → run top pids acts ≡ Some os → AllZip (ReportsAmong pids) acts os }
+    ensures { (top : ℕ) (pids : List Pid) (acts : List Act) (os : List Outcome)
+        → run top pids acts ≡ Some os → AllZip (ReportsAmong pids) acts os }
 {}
 
 /// In every run each reported receive follows the send whose message it took, and no send stands twice.
 pub fn receives_follow()
-    ensures { (top : ℕ) (pids : List Pid) (acts : List Act) (os : List Outcome) → run top pids acts ≡ Some os → Follows acts os (pairs acts os) }
+    ensures { (top : ℕ) (pids : List Pid) (acts : List Act) (os : List Outcome)
+        → run top pids acts ≡ Some os → Follows acts os (pairs acts os) }
 {}
 
 /// In every run each act that reported a receive stands in a pair.
 pub fn receives_are_paired()
-    ensures { (top : ℕ) (pids : List Pid) (acts : List Act) (os : List Outcome) → run top pids acts ≡ Some os → AllPaired os (pairs acts os) }
+    ensures { (top : ℕ) (pids : List Pid) (acts : List Act) (os : List Outcome)
+        → run top pids acts ≡ Some os → AllPaired os (pairs acts os) }
 {}
 
 /// Streams and acts have a verdict.
@@ -52,10 +57,12 @@ pub fn a_verdict()
 
 /// The verdict is Yes exactly where the acts show the streams.
 pub fn yes_shows()
-    ensures { (top : ℕ) (streams : List Stream) (acts : List Act) → ((ps : List (ℕ × ℕ)) × IsVerdict top streams acts (Verdict.Yes ps)) ↔ Shows top streams acts }
+    ensures { (top : ℕ) (streams : List Stream) (acts : List Act)
+        → ((ps : List (ℕ × ℕ)) × IsVerdict top streams acts (Verdict.Yes ps)) ↔ Shows top streams acts }
 {}
 
 /// Streams and acts have one verdict at most.
 pub fn one_verdict()
-    ensures { (top : ℕ) (streams : List Stream) (acts : List Act) (v w : Verdict) → IsVerdict top streams acts v → IsVerdict top streams acts w → v ≡ w }
+    ensures { (top : ℕ) (streams : List Stream) (acts : List Act) (v w : Verdict)
+        → IsVerdict top streams acts v → IsVerdict top streams acts w → v ≡ w }
 {}

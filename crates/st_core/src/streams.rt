@@ -3,11 +3,14 @@
 //! Both keep the rules of `specs/Streams.antt` in their types, so whoever has `Streams` needn't
 //! check them again. Nothing here steps the machine.
 
-ghost use Rattle.std.specs.Prelude.{◌≡◌, ◌<◌, ◌↔◌, [], ◌∷◌, ◌++◌, length, not, position, true, false, Some, None, IsTrue, IfOk, IfSome, IfNone, IfErr, OnOk, OnErr, slice_get, slice_set, slice_index_or};
+ghost use Rattle.std.specs.Prelude.{◌≡◌, ◌<◌, ◌↔◌, [], ◌∷◌, ◌++◌, length, not, position, true, false, Some, None};
+ghost use Rattle.std.specs.Prelude.{IsTrue, IfOk, IfSome, IfNone, IfErr, OnOk, OnErr, slice_get, slice_set};
+ghost use Rattle.std.specs.Prelude.{slice_index_or};
 ghost use Rattle.std.specs.List.{AllByRecursion};
 ghost use Rattle.st_core.specs.Pid.{pid_eq, IsBelow, IsRising};
 ghost use Rattle.st_core.specs.Run.{pids_of};
-ghost use Rattle.st_core.specs.Streams.{lists, events_of, total_of, unlisted, is_own, added, ComesLast, IsOpenFault, IsAddFault, IsDraft, IsStreams};
+ghost use Rattle.st_core.specs.Streams.{lists, events_of, total_of, unlisted, is_own, added, ComesLast, IsOpenFault};
+ghost use Rattle.st_core.specs.Streams.{IsAddFault, IsDraft, IsStreams};
 ghost use Rattle.st_core.specs.Collected.{is_among, names_among, first_failing};
 
 use crate::places::Places;
@@ -279,7 +282,8 @@ fn comes_last(pids: &[Pid], pid: Pid) -> bool
 /// Puts the event at the end of the list at this place.
 fn push_at(events: &mut [Sequence<Event>], place: usize, event: Event) -> Result<(), AllocError>
     requires { place < length events.old }
-    ensures ok { OnOk result (events.new ≡ slice_set events.old place (slice_index_or events.old place [] ++ event ∷ [])) }
+    ensures ok { OnOk result
+        (events.new ≡ slice_set events.old place (slice_index_or events.old place [] ++ event ∷ [])) }
     ensures err { OnErr result (events.new ≡ events.old) }
 {
     let list = &mut events[place];

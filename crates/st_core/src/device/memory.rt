@@ -2,10 +2,12 @@
 //!
 //! Their contracts say to the byte what gets through and when a call fails.
 
-ghost use Rattle.std.specs.Prelude.{◌≡◌, ◌≤◌, ◌<◌, ◌-◌, [], min, length, take, true, false, IfOk, IsOk, MatchResult, Some, None};
+ghost use Rattle.std.specs.Prelude.{◌≡◌, ◌≤◌, ◌<◌, ◌-◌, [], min, length, take, true, false, IfOk, IsOk, MatchResult};
+ghost use Rattle.std.specs.Prelude.{Some, None};
 ghost use Rattle.std.specs.Result.{result_ok};
 ghost use Rattle.std.specs.Io.KnownBytes.{ReadConsumes, WriteAppends};
-ghost use Rattle.st_core.specs.Device.{Marks, PassesEmpty, through, burnt, let_through, taken_count, put_count, after_take, after_put, AreZeros};
+ghost use Rattle.st_core.specs.Device.{Marks, PassesEmpty, through, burnt, let_through, taken_count, put_count};
+ghost use Rattle.st_core.specs.Device.{after_take, after_put, AreZeros};
 
 use crate::device::sink::ByteSink;
 use crate::device::source::{ByteSource, Failed};
@@ -92,13 +94,17 @@ impl<'a> ByteSource for MemorySource<'a> {
     fn take(&mut self, piece: &mut [u8]) -> Result<usize, Failed>
         ensures bound { IfOk result (λ n. n ≤ length piece.new) }
         ensures bytes { ReadConsumes (Some self.old.left) (Some self.new.left) result piece.new }
-        ensures given { MatchResult result (λ n. self.old.left ≡ take n piece.new ++ self.new.left) (λ _. self.old.left ≡ [] ++ self.new.left) }
+        ensures given { MatchResult result
+            (λ n. self.old.left ≡ take n piece.new ++ self.new.left)
+            (λ _. self.old.left ≡ [] ++ self.new.left) }
         ensures end { IfOk result (λ n. n ≡ 0 → 0 < length piece.new → self.new.left ≡ []) }
         ensures empty { PassesEmpty self.old.failed piece.new self.old self.new result }
         ensures mark { Marks self.old.failed self.new.failed result }
         // How much it gives, when it fails, and what is left.
         ensures count { result_ok result ≡ taken_count self.old (length piece.new) }
-        ensures after { MatchResult result (λ n. self.new ≡ after_take self.old n) (λ _. self.new ≡ record self.old { failed = true }) }
+        ensures after { MatchResult result
+            (λ n. self.new ≡ after_take self.old n)
+            (λ _. self.new ≡ record self.old { failed = true }) }
     {
         let most = through(self.fuse, piece.len());
         match let_through(self.failed, piece.len(), most) {
@@ -180,11 +186,15 @@ impl ByteSink for MemorySink {
         ensures some { IfOk result (λ n. 0 < length piece.now → 0 < n) }
         ensures empty { PassesEmpty self.old.failed piece.now self.old self.new result }
         ensures bytes { WriteAppends (Some self.old.written) (Some self.new.written) result piece.now }
-        ensures wrote { MatchResult result (λ n. self.new.written ≡ self.old.written ++ take n piece.now) (λ _. self.new.written ≡ self.old.written ++ []) }
+        ensures wrote { MatchResult result
+            (λ n. self.new.written ≡ self.old.written ++ take n piece.now)
+            (λ _. self.new.written ≡ self.old.written ++ []) }
         ensures mark { Marks self.old.failed self.new.failed result }
         // How much it takes, when it fails, and what it has then.
         ensures count { result_ok result ≡ put_count self.old (length piece.now) }
-        ensures after { MatchResult result (λ n. self.new ≡ after_put self.old (take n piece.now)) (λ _. self.new ≡ record self.old { failed = true }) }
+        ensures after { MatchResult result
+            (λ n. self.new ≡ after_put self.old (take n piece.now))
+            (λ _. self.new ≡ record self.old { failed = true }) }
     {
         let most = through(self.fuse, piece.len()).min(self.room);
         match let_through(self.failed, piece.len(), most) {

@@ -60,7 +60,8 @@ impl<S: ByteSource> ByteSource for Recorder<S> {
 
     ghost ended = { λ s. S.ended s.inner };
 
-    ghost gives_consumes = { λ a bytes b gave. row_consumes S.left S.gives S.gives_consumes a.inner b.inner bytes gave.1 };
+    ghost gives_consumes = { λ a bytes b gave.
+        row_consumes S.left S.gives S.gives_consumes a.inner b.inner bytes gave.1 };
 
     fn take(&mut self, piece: &mut [u8]) -> Result<usize, Failed> {
         if self.failed {
@@ -97,7 +98,8 @@ impl<S: ByteSink> ByteSink for Recorder<S> {
 
     ghost puts = { λ a bytes b. (b.passed ≡ a.passed ++ bytes) × InARow S.puts a.inner bytes b.inner };
 
-    ghost puts_appends = { λ a bytes b wrote. row_appends S.written S.puts S.puts_appends a.inner b.inner bytes wrote.1 };
+    ghost puts_appends = { λ a bytes b wrote.
+        row_appends S.written S.puts S.puts_appends a.inner b.inner bytes wrote.1 };
 
     fn put(&mut self, piece: &[u8]) -> Result<usize, Failed> {
         if self.failed {

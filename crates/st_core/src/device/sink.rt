@@ -26,9 +26,12 @@ pub trait ByteSink {
         ensures some { IfOk result (λ n. 0 < length piece.now → 0 < n) }
         ensures empty { PassesEmpty (failed self.old) piece.now self.old self.new result }
         ensures bytes { WriteAppends (written self.old) (written self.new) result piece.now }
-        ensures wrote { MatchResult result (λ n. puts self.old (take n piece.now) self.new) (λ _. puts self.old [] self.new) }
+        ensures wrote { MatchResult result
+            (λ n. puts self.old (take n piece.now) self.new)
+            (λ _. puts self.old [] self.new) }
         ensures mark { Marks (failed self.old) (failed self.new) result };
 
     // What was put stands at the end of what was written, where the sink tells it.
-    ghost puts_appends: { (a : Self) (bytes : List ℕ) (b : Self) → puts a bytes b → Appends (written a) (written b) bytes };
+    ghost puts_appends: { (a : Self) (bytes : List ℕ) (b : Self) → puts a bytes b
+        → Appends (written a) (written b) bytes };
 }

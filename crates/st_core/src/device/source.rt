@@ -32,11 +32,14 @@ pub trait ByteSource {
     fn take(&mut self, piece: &mut [u8]) -> Result<usize, Failed>
         ensures bound { IfOk result (λ n. n ≤ length piece.new) }
         ensures bytes { ReadConsumes (left self.old) (left self.new) result piece.new }
-        ensures given { MatchResult result (λ n. gives self.old (take n piece.new) self.new) (λ _. gives self.old [] self.new) }
+        ensures given { MatchResult result
+            (λ n. gives self.old (take n piece.new) self.new)
+            (λ _. gives self.old [] self.new) }
         ensures end { IfOk result (λ n. n ≡ 0 → 0 < length piece.new → ended self.new) }
         ensures empty { PassesEmpty (failed self.old) piece.new self.old self.new result }
         ensures mark { Marks (failed self.old) (failed self.new) result };
 
     // What was given stood at the front of what was left, where the source tells it.
-    ghost gives_consumes: { (a : Self) (bytes : List ℕ) (b : Self) → gives a bytes b → Consumes (left a) (left b) bytes };
+    ghost gives_consumes: { (a : Self) (bytes : List ℕ) (b : Self) → gives a bytes b
+        → Consumes (left a) (left b) bytes };
 }

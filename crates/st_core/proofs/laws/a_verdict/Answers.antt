@@ -1,3 +1,4 @@
+-- By deciding each front of the acts.
 use Rattle.st_core.proofs.Exists as exists
 use Rattle.st_core.proofs.laws.a_verdict.Goals as goal
 

@@ -1,3 +1,4 @@
+-- By what the tags keep along a run.
 use Rattle.st_core.proofs.Following as following
 use Rattle.st_core.proofs.laws.receives_follow.Goals as goal
 

@@ -1,3 +1,4 @@
+-- A stamp puts last before the clock that it lifts by one.
 use Rattle.st_core.proofs.Sound as sound
 use Rattle.st_core.proofs.laws.stamp_rises.Goals as goal
 

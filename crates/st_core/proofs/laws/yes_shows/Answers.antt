@@ -1,3 +1,4 @@
+-- `Yes` says that the acts show the streams, by its definition.
 use Rattle.st_core.proofs.Exists as exists
 use Rattle.st_core.proofs.laws.yes_shows.Goals as goal
 

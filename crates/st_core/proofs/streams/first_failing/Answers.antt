@@ -1,3 +1,4 @@
+-- A list without such an event can be left out of the search.
 use Rattle.std.proofs.Common.{sym, ◌∙◌, ◌<◌, length, arith, add-one}
 use Rattle.st_core.specs.Collected.{names_among}
 use Rattle.st_core.proofs.Collections.{first_failing-drop}
@@ -7,4 +8,6 @@ pub loop-place-preserved : goal.loop-place-preserved
 loop-place-preserved c =
     let none = sym (rw c.as_slice.ensures at c.unlisted_index.ensures) ∙ c.in_default.is in
     let within : c.loop-place.place < length c.args.lists.now = omega arith in
-    rw add-one (c.loop-place.invariant ∙ first_failing-drop (names_among c.args.pids.now) _ _ _ _ c.requires.even within c.index-lists-place.is none)
+    rw add-one
+    (c.loop-place.invariant
+    ∙ first_failing-drop (names_among c.args.pids.now) _ _ _ _ c.requires.even within c.index-lists-place.is none)

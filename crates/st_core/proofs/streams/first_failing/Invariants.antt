@@ -1,7 +1,10 @@
+-- A list without such an event can be left out of the search.
 use Rattle.std.proofs.Common.{◌≡◌, drop}
 use Rattle.st_core.specs.Collected.{names_among, first_failing}
 use Rattle.st_core.proofs.streams.first_failing.Given as goal
 
 -- what is left has the first such event of all
 abbrev pub invariant-loop-place : goal.invariant-loop-place
-invariant-loop-place l = first_failing (names_among l.pids) l.pids l.lists ≡ first_failing (names_among l.pids) (drop l.place l.pids) (drop l.place l.lists)
+invariant-loop-place l =
+    first_failing (names_among l.pids) l.pids l.lists
+    ≡ first_failing (names_among l.pids) (drop l.place l.pids) (drop l.place l.lists)

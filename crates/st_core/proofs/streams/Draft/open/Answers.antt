@@ -1,3 +1,4 @@
+-- A pid above the last of pids that rise is above them all, so both lists may grow by it.
 use Rattle.std.proofs.Common.{sym, ◌∙◌, []}
 use Rattle.std.proofs.lemmas.Bool.{false≢true}
 use Rattle.st_core.proofs.Collections.{ComesLast-collected, ComesLast-pids, collected-push, IsCollected-push}

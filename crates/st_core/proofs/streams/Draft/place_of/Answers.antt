@@ -1,3 +1,4 @@
+-- The pids of the collected streams are the list of pids.
 use Rattle.st_core.proofs.Collections.{pids_of-collected}
 use Rattle.st_core.proofs.streams.Draft.place_of.Goals as goal
 

@@ -1,3 +1,4 @@
+-- The draft answers for the streams that it became.
 use Rattle.st_core.proofs.streams.Streams.place_of.Goals as goal
 
 pub returns-clause-missing : goal.returns-clause-missing

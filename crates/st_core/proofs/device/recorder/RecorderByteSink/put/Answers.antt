@@ -1,3 +1,4 @@
+-- The log grows by exactly what the one call of the other device took; without a call nothing passed.
 use Rattle.std.proofs.Common.{[], sym, ◌∙◌}
 use Rattle.std.proofs.lemmas.List.{append-nil}
 use Rattle.st_core.specs.Device.{NoCall, OneMore}
@@ -19,4 +20,5 @@ returns-in-Ok-clause-wrote g c =
 
 pub returns-in-Err-clause-wrote : goal.returns-in-Err-clause-wrote
 returns-in-Err-clause-wrote g c =
-    rw (← c.self.view_is) (c.reserve.ensures.items ∙ sym (append-nil _), OneMore _ _ _ [] [] (NoCall _) c.in-Err.ensures.wrote)
+    rw (← c.self.view_is)
+    (c.reserve.ensures.items ∙ sym (append-nil _), OneMore _ _ _ [] [] (NoCall _) c.in-Err.ensures.wrote)

@@ -1,3 +1,4 @@
+-- The log grows by exactly what the one call of the other device gave; without a call nothing passed.
 use Rattle.std.proofs.Common.{[], sym, ◌∙◌}
 use Rattle.std.proofs.lemmas.List.{append-nil}
 use Rattle.st_core.specs.Device.{NoCall, OneMore}
@@ -19,4 +20,5 @@ returns-in-Ok-clause-given g c =
 
 pub returns-in-Err-clause-given : goal.returns-in-Err-clause-given
 returns-in-Err-clause-given g c =
-    rw (← c.self.view_is) (c.reserve.ensures.items ∙ sym (append-nil _), OneMore _ _ _ [] [] (NoCall _) c.in-Err.ensures.given)
+    rw (← c.self.view_is)
+    (c.reserve.ensures.items ∙ sym (append-nil _), OneMore _ _ _ [] [] (NoCall _) c.in-Err.ensures.given)
