@@ -31,9 +31,11 @@
 %% trace events. `tracer' says whether the former system tracer was put back, or another had taken
 %% the collector's place meanwhile, or the former one is there no more.
 
+-type tracer() :: pid() | port() | {module(), term()} | false.
+
 -record(state, {owner :: reference(),
                 limit :: non_neg_integer(),
-                former :: seq_trace:tracer(),
+                former :: tracer(),
                 table :: ets:table(),
                 kept = 0 :: non_neg_integer(),
                 dropped = 0 :: non_neg_integer(),
@@ -46,7 +48,7 @@
 -type gone_on() :: {noreply, #state{}} | {noreply, #state{}, timeout()}.
 
 %% @doc Starts the collector of this node and makes it the system tracer.
--spec start(options()) -> {ok, pid()} | {error, {already_started, pid()} | term()}.
+-spec start(options()) -> gen_server:start_ret().
 start(Options) ->
     gen_server:start({local, ?MODULE}, ?MODULE, Options,
                      [{spawn_opt, [{message_queue_data, off_heap}]}]).
@@ -76,9 +78,9 @@ release(Collector) ->
 init(#{owner := Owner, limit := Limit, reset := Reset}) ->
     process_flag(trap_exit, true),
     group_leader(whereis(init), self()),
-    seq_trace:set_token([]),
+    _ = seq_trace:set_token([]),
     Table = ets:new(?MODULE, [ordered_set, private]),
-    Reset andalso seq_trace:reset_trace(),
+    _ = Reset andalso seq_trace:reset_trace(),
     Former = seq_trace:set_system_tracer(self()),
     {ok, #state{owner = monitor(process, Owner), limit = Limit, former = Former, table = Table}}.
 
@@ -120,7 +122,7 @@ go_on(#state{asked = undefined} = State) -> {noreply, State};
 go_on(State) -> {noreply, State, ?SETTLE_MS}.
 
 stray(State) ->
-    seq_trace:set_token([]),
+    _ = seq_trace:set_token([]),
     go_on(State#state{strays = State#state.strays + 1}).
 
 event(Event, Info, State) ->
@@ -178,7 +180,7 @@ put_back(Former) ->
         _ -> put_back
     catch
         error:badarg ->
-            seq_trace:set_system_tracer(false),
+            _ = seq_trace:set_system_tracer(false),
             gone
     end.
 

@@ -33,7 +33,7 @@
 -type place() :: {Lane :: pos_integer(), Row :: non_neg_integer()}.
 
 %% @doc The text of the drawing.
--spec svg(seqaudit_chart:chart(), seqaudit_legend:legend()) -> binary().
+-spec svg(seqaudit_chart:chart(), seqaudit_legend:legend()) -> unicode:chardata().
 svg(#{label := Label, lanes := Lanes, rows := Rows}, Legend) ->
     Numbered = lists:zip(lists:seq(0, length(Rows) - 1), Rows),
     Received = maps:from_list([{{other(Row), Serial}, {lane($R, Row), Number}}
@@ -41,28 +41,27 @@ svg(#{label := Label, lanes := Lanes, rows := Rows}, Legend) ->
                                       <- Numbered]),
     Width = ?LEFT + ?LANE * length(Lanes) + ?LANE,
     Height = y(length(Rows)) + ?ROW,
-    unicode:characters_to_binary(
-      ["<?xml version=\"1.0\" encoding=\"UTF-8\"?>\n",
-       format("<svg xmlns=\"http://www.w3.org/2000/svg\" width=\"~b\" height=\"~b\" "
-              "viewBox=\"0 0 ~b ~b\">\n", [Width, Height, Width, Height]),
-       "<style>", ?STYLE, "</style>\n",
-       "<defs>", arrow_head("s", "#1a5fb4"), arrow_head("d", "#b35900"),
-       "<marker id=\"x\" viewBox=\"0 0 4 10\" refX=\"2\" refY=\"5\" markerWidth=\"5\" "
-       "markerHeight=\"10\" orient=\"auto\"><path d=\"M2 0V10\" stroke=\"#1a5fb4\" "
-       "stroke-width=\"2\"/></marker></defs>\n",
-       "<rect width=\"100%\" height=\"100%\" fill=\"#fff\"/>\n",
-       format("<text class=\"h\" x=\"12\" y=\"28\">label ~ts: ~b rows, ~b processes</text>\n",
-              [escape(label(Label, Legend)), length(Rows), length(Lanes)]),
-       zebra(length(Rows), Width),
-       [life_line(Lane, Height) || Lane <- lists:seq(1, length(Lanes))],
-       %% Texts and names come last, so that no arrow hides them.
-       [tipped(Row, Legend, mark(Number, Row, Received)) || {Number, Row} <- Numbered],
-       [tipped(Row, Legend, text(Number, Row, Legend)) || {Number, Row} <- Numbered],
-       [names(Block, Lanes, Legend) || Block <- lists:seq(0, max(0, length(Rows) - 1)
-                                                                  div ?ROWS_A_BLOCK)],
-       [format("<text class=\"n\" x=\"~b\" y=\"~b\">~b</text>\n", [?LEFT - 50, y(Number) + 4, Number])
-        || {Number, _} <- Numbered],
-       "</svg>\n"]).
+    ["<?xml version=\"1.0\" encoding=\"UTF-8\"?>\n",
+     format("<svg xmlns=\"http://www.w3.org/2000/svg\" width=\"~b\" height=\"~b\" "
+            "viewBox=\"0 0 ~b ~b\">\n", [Width, Height, Width, Height]),
+     "<style>", ?STYLE, "</style>\n",
+     "<defs>", arrow_head("s", "#1a5fb4"), arrow_head("d", "#b35900"),
+     "<marker id=\"x\" viewBox=\"0 0 4 10\" refX=\"2\" refY=\"5\" markerWidth=\"5\" "
+     "markerHeight=\"10\" orient=\"auto\"><path d=\"M2 0V10\" stroke=\"#1a5fb4\" "
+     "stroke-width=\"2\"/></marker></defs>\n",
+     "<rect width=\"100%\" height=\"100%\" fill=\"#fff\"/>\n",
+     format("<text class=\"h\" x=\"12\" y=\"28\">label ~ts: ~b rows, ~b processes</text>\n",
+            [escape(label(Label, Legend)), length(Rows), length(Lanes)]),
+     zebra(length(Rows), Width),
+     [life_line(Lane, Height) || Lane <- lists:seq(1, length(Lanes))],
+     %% Texts and names come last, so that no arrow hides them.
+     [tipped(Row, Legend, mark(Number, Row, Received)) || {Number, Row} <- Numbered],
+     [tipped(Row, Legend, text(Number, Row, Legend)) || {Number, Row} <- Numbered],
+     [names(Block, Lanes, Legend) || Block <- lists:seq(0, max(0, length(Rows) - 1)
+                                                                div ?ROWS_A_BLOCK)],
+     [format("<text class=\"n\" x=\"~b\" y=\"~b\">~b</text>\n", [?LEFT - 50, y(Number) + 4, Number])
+      || {Number, _} <- Numbered],
+     "</svg>\n"].
 
 arrow_head(Id, Colour) ->
     format("<marker id=\"~ts\" viewBox=\"0 0 10 10\" refX=\"9\" refY=\"5\" markerWidth=\"8\" "

@@ -22,7 +22,7 @@
 %% @doc The text of the file: the processes by pid, with a short name and all that is known of each,
 %% then the labels and the values by number.
 -spec text([{string(), string(), iodata()}], [{non_neg_integer(), term()}],
-           [{non_neg_integer(), term()}]) -> iodata().
+           [{non_neg_integer(), term()}]) -> iolist().
 text(Processes, Labels, Values) ->
     [?HEADER, $\n,
      [utf8(["process\t", Pid, $\t, Name, $\t, What, $\n]) || {Pid, Name, What} <- Processes],

@@ -194,7 +194,7 @@ chart(_) ->
 
 draw(?FITS, Answer, Legend, [File | _]) ->
     {ok, Chart} = seqaudit_chart:read(Answer),
-    keep(File, seqaudit_draw:svg(Chart, Legend), ?FITS);
+    keep(File, unicode:characters_to_binary(seqaudit_draw:svg(Chart, Legend)), ?FITS);
 draw(Status, _Answer, _Legend, _Files) ->
     Status.
 

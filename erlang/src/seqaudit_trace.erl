@@ -47,7 +47,7 @@ start() ->
 %% @doc Puts a collector on each node. Either all of them are on afterwards, or none.
 -spec start(options()) -> ok | {error, term()}.
 start(Options) ->
-    seq_trace:set_token([]),
+    _ = seq_trace:set_token([]),
     Defaults = #{nodes => [node()], name => "seqaudit", limit => ?LIMIT, reset => false},
     case maps:keys(maps:without(maps:keys(Defaults), Options)) of
         [] ->
@@ -64,7 +64,7 @@ start(Options) ->
 %% dropped, and which files were written.
 -spec stop() -> {ok, seqaudit_convert:summary()} | {error, term()}.
 stop() ->
-    seq_trace:set_token([]),
+    _ = seq_trace:set_token([]),
     try
         gen_server:call(?MODULE, stop, infinity)
     catch
@@ -81,13 +81,13 @@ with_trace(Label, Fun) ->
 -spec with_trace(term(), [flag()], fun(() -> Result)) -> Result.
 with_trace(Label, Flags, Fun) when is_list(Flags), is_function(Fun, 0) ->
     [] =:= Flags -- ?FLAGS orelse error(badarg, [Label, Flags, Fun]),
-    seq_trace:set_token([]),
+    _ = seq_trace:set_token([]),
     try
-        seq_trace:set_token(label, Label),
+        _ = seq_trace:set_token(label, Label),
         lists:foreach(fun(Flag) -> seq_trace:set_token(Flag, true) end, Flags),
         Fun()
     after
-        seq_trace:set_token([])
+        _ = seq_trace:set_token([])
     end.
 
 %% @doc A reason of `start' or `stop' in words, with what to do about it.

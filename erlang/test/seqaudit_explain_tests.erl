@@ -124,7 +124,7 @@ row(N) ->
 
 draw(Text) ->
     {ok, Chart} = seqaudit_chart:read(Text),
-    seqaudit_draw:svg(Chart, legend()).
+    unicode:characters_to_binary(seqaudit_draw:svg(Chart, legend())).
 
 brief_test() ->
     Ref = make_ref(),
