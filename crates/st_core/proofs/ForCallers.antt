@@ -8,6 +8,7 @@ pub use Rattle.st_core.proofs.Pids.{pid_eq-true, pid_eq-same, pid_eq-swap, pid_c
 pub use Rattle.st_core.proofs.Pids.{IsBelow-trans, IsBelow-apart, IsRising-push, missing_from_search, all_at}
 pub use Rattle.st_core.proofs.Pids.{pid_eq-true as pid_same, pid_eq-same as pid_eq-refl}
 pub use Rattle.st_core.proofs.Collections.{is_among-found, is_among-missing}
+pub use Rattle.st_core.proofs.Leastness.{unlisted_is_least}
 -- ---- a step and a run, in parts
 pub use Rattle.st_core.proofs.Others.{process_pid, process-map, mapped, Stepped, step_parts, run_parts, process_after}
 pub use Rattle.st_core.proofs.Others.{leaves_others}

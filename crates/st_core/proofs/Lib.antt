@@ -14,4 +14,5 @@ pub mod Names
 mod Cases
 pub mod Pids
 pub mod Collections
+pub mod Leastness
 pub mod ForCallers

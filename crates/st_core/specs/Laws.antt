@@ -1,13 +1,15 @@
 -- Laws of the machine: what one act leaves alone, and what holds in every run.
-use Rattle.std.specs.Prelude.{◌≡◌, ℕ, ◌<◌, ◌≤◌, true, false, List, map, All}
+use Rattle.std.specs.Prelude.{◌≡◌, ℕ, ◌<◌, ◌≤◌, true, false, List, map, Some, slice_get, All}
 use Rattle.std.specs.Option.{ForSome}
 use Rattle.st_core.specs.declared.types.Pid.{Pid}
 use Rattle.st_core.specs.declared.types.Token.{Token}
 use Rattle.st_core.specs.declared.types.Event.{Event}
 use Rattle.st_core.specs.declared.types.Act.{Act}
+use Rattle.st_core.specs.Pid.{IsBelow}
 use Rattle.st_core.specs.State.{Process, State, process}
 use Rattle.st_core.specs.Step.{Outcome, actor, touches}
-use Rattle.st_core.specs.Streams.{is_own, names_among}
+use Rattle.st_core.specs.Run.{Stream}
+use Rattle.st_core.specs.Streams.{is_own, names_among, events_of, names_listed}
 
 -- an act leaves each process that it doesn't touch as it was, and no process comes or goes
 pub record LeavesOthers (a : Act) (before after : State) : Type 0 where
@@ -40,3 +42,19 @@ pub record IsReportAmong (pids : List Pid) (p : Pid) (e : Event) : Type 0 where
 -- the report of an act, if it has one, is such an event of its actor
 abbrev pub ReportsAmong : List Pid → Act → Outcome → Type 0
 ReportsAmong pids a o = ForSome o.report (IsReportAmong pids (actor a))
+
+-- each pid that an event names is listed
+abbrev pub AreAllListed : List Stream → Type 0
+AreAllListed streams = (p : Pid) (i : ℕ) (e : Event) → slice_get (events_of streams p) i ≡ Some e
+    → names_listed streams e ≡ true
+
+-- event i of p names a pid that isn't listed, and no event before it does: none of p's with a lower index, and none of a
+-- process with a lower pid
+pub record IsLeastUnlisted (streams : List Stream) (p : Pid) (i : ℕ) : Type 0 where
+  pub event : Event
+  pub at : slice_get (events_of streams p) i ≡ Some event
+  pub names : names_listed streams event ≡ false
+  pub earlier : (j : ℕ) (e : Event) → j < i → slice_get (events_of streams p) j ≡ Some e
+      → names_listed streams e ≡ true
+  pub lower : (q : Pid) (j : ℕ) (e : Event) → IsBelow q p → slice_get (events_of streams q) j ≡ Some e
+      → names_listed streams e ≡ true

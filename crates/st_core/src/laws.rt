@@ -1,14 +1,16 @@
 //! Laws of the machine, as contracts of functions that do nothing: each clause is a theorem over the
 //! definitions of `specs/`, and a proof that calls the function may use it.
 
-ghost use Rattle.std.specs.Prelude.{◌≡◌, ◌≤◌, ◌↔◌, ℕ, List, Some, All};
+ghost use Rattle.std.specs.Prelude.{◌≡◌, ◌≤◌, ◌↔◌, ℕ, List, MatchOption, Some, All};
 ghost use Rattle.std.specs.List.{AllZip};
 ghost use Rattle.st_core.specs.declared.types.Act.{Act};
 ghost use Rattle.st_core.specs.declared.types.Pid.{Pid};
 ghost use Rattle.st_core.specs.declared.types.Token.{Token};
-ghost use Rattle.st_core.specs.Laws.{LeavesOthers, IsStamped, KeepsSound, ReportsAmong};
+ghost use Rattle.st_core.specs.Laws.{AreAllListed, IsLeastUnlisted, LeavesOthers, IsStamped, KeepsSound, ReportsAmong};
+ghost use Rattle.st_core.specs.Pid.{IsRising};
+ghost use Rattle.st_core.specs.Streams.{unlisted};
 ghost use Rattle.st_core.specs.Pairs.{AllPaired, Follows, pairs};
-ghost use Rattle.st_core.specs.Run.{Shows, Stream, run};
+ghost use Rattle.st_core.specs.Run.{Shows, Stream, pids_of, run};
 ghost use Rattle.st_core.specs.State.{LocalState, State};
 ghost use Rattle.st_core.specs.Step.{Outcome, step};
 ghost use Rattle.st_core.specs.Stamp.{stamp};
@@ -65,4 +67,12 @@ pub fn yes_shows()
 pub fn one_verdict()
     ensures { (top : ℕ) (streams : List Stream) (acts : List Act) (v w : Verdict)
         → IsVerdict top streams acts v → IsVerdict top streams acts w → v ≡ w }
+{}
+
+/// In streams by rising pid the unlisted place is the least one, by pid and then index, of an event
+/// that names a pid that isn't listed; where there is none, each pid that an event names is listed.
+pub fn unlisted_is_least()
+    ensures { (streams : List Stream) → IsRising (pids_of streams)
+        → MatchOption (unlisted streams) (AreAllListed streams)
+        (λ place. IsLeastUnlisted streams place.0 place.1) }
 {}
