@@ -1,10 +1,12 @@
-//! Worked runs, act by act.
+//! Worked runs, act by act. Each step and each look is a call of a small function, so that the tests
+//! themselves are short to prove.
 
 mod random;
 mod slow;
 
 use crate::{NewFault, Outcome, StepFault, World};
 use st_core::{Act, Component, Event, Flags, Kind, Label, Pid, Reply, Serial, Token, Want};
+use std::alloc::Global;
 use std::process::Abort;
 use std::test::Fail;
 
@@ -53,11 +55,31 @@ fn play<const TOP: u64>(rt: &impl Abort, world: &mut World<TOP>, acts: &[Played]
     }
 }
 
-/// Plays acts, whatever comes of them.
-fn run<const TOP: u64>(world: &mut World<TOP>, acts: &[Act]) {
+/// Plays acts, each of which must have a step.
+fn run<const TOP: u64>(world: &mut World<TOP>, acts: &[Act]) -> Result<(), StepFault> {
     for act in acts {
-        let _told = world.step(act);
+        let _told = world.step(act)?;
     }
+    Ok(())
+}
+
+/// Asserts the clock and the last count of a process.
+fn assert_counts<const TOP: u64>(
+    rt: &impl Abort,
+    world: &World<TOP>,
+    pid: Pid,
+    clock: u64,
+    last: u64,
+) {
+    let counts = (world.clock(pid), world.last(pid));
+    assert_eq!(rt; counts, (Some(clock), Some(last)), "of {pid:?}");
+}
+
+/// Asserts that nothing is known of a process.
+fn assert_unknown<const TOP: u64>(rt: &impl Abort, world: &World<TOP>, pid: Pid) {
+    assert_eq!(rt; world.token(pid), None);
+    assert_eq!(rt; (world.clock(pid), world.last(pid)), (None, None));
+    assert_eq!(rt; world.place_of(pid, p30(), 1), None);
 }
 
 #[test]
@@ -81,23 +103,6 @@ fn values_out_of_order(rt: HostRuntime) -> Result<(), Fail> {
     Ok(())
 }
 
-#[test]
-fn reset_with_a_queued_message(rt: HostRuntime) -> Result<(), Fail> {
-    let mut world = World::<9>::new(rt.alloc(), &[p30(), p31()])?;
-    run(&mut world, &traced_send(p30(), p31()));
-    assert_eq!(rt; world.clock(p30()), Some(1));
-    assert_eq!(rt; world.place_of(p31(), p30(), 1), Some(0));
-    let acts = [
-        (Act::Reset(p30()), done()),
-        (Act::Receive(p31(), Want::First), mail(p30(), 5, 0)),
-    ];
-    play(&rt, &mut world, &acts);
-    assert_eq!(rt; world.token(p31()), None);
-    assert_eq!(rt; world.clock(p30()), Some(0));
-    assert_eq!(rt; world.clock(p31()), Some(0));
-    Ok(())
-}
-
 /// Starts a trace of label 17, with receives reported, and sends 5 with it.
 fn traced_send(from: Pid, to: Pid) -> [Act; 4] {
     [
@@ -108,20 +113,39 @@ fn traced_send(from: Pid, to: Pid) -> [Act; 4] {
     ]
 }
 
+/// Asserts where a message of that send lies in the queue of the receiver, and what its token is.
+fn assert_queued<const TOP: u64>(rt: &impl Abort, world: &World<TOP>, place: Option<u64>) {
+    assert_eq!(rt; world.place_of(p31(), p30(), 1), place);
+    assert_eq!(rt; world.token(p31()), None);
+}
+
+#[test]
+fn reset_with_a_queued_message(rt: HostRuntime) -> Result<(), Fail> {
+    let mut world = World::<9>::new(rt.alloc(), &[p30(), p31()])?;
+    run(&mut world, &traced_send(p30(), p31()))?;
+    assert_counts(&rt, &world, p30(), 1, 0);
+    assert_queued(&rt, &world, Some(0));
+    let reset = [
+        (Act::Reset(p30()), done()),
+        (Act::Receive(p31(), Want::First), mail(p30(), 5, 0)),
+    ];
+    play(&rt, &mut world, &reset);
+    assert_queued(&rt, &world, None);
+    assert_counts(&rt, &world, p30(), 0, 0);
+    assert_counts(&rt, &world, p31(), 0, 0);
+    Ok(())
+}
+
 #[test]
 fn reset_leaves_the_other_node(rt: HostRuntime) -> Result<(), Fail> {
     let (near, far) = (Pid::on(1, 30), Pid::on(2, 31));
     let mut world = World::<9>::new(rt.alloc(), &[near, far])?;
-    play(
-        &rt,
-        &mut world,
-        &[(Act::Tracer(far, true), only(Reply::Was(false)))],
-    );
-    run(&mut world, &traced_send(near, far));
-    assert_eq!(rt; world.clock(near), Some(1));
-    play(&rt, &mut world, &[(Act::Reset(near), done())]);
-    assert_eq!(rt; world.clock(near), Some(0));
-    run(&mut world, &traced_send(near, far));
+    run(&mut world, &[Act::Tracer(far, true)])?;
+    run(&mut world, &traced_send(near, far))?;
+    assert_counts(&rt, &world, near, 1, 0);
+    run(&mut world, &[Act::Reset(near)])?;
+    assert_counts(&rt, &world, near, 0, 0);
+    run(&mut world, &traced_send(near, far))?;
     let taken = (Act::Receive(far, Want::First), received(near, far));
     play(&rt, &mut world, &[taken, taken]);
     Ok(())
@@ -146,6 +170,12 @@ fn received(from: Pid, to: Pid) -> Result<Outcome, StepFault> {
 #[test]
 fn small_limits(rt: HostRuntime) -> Result<(), Fail> {
     let mut world = World::<3>::new(rt.alloc(), &[p30()])?;
+    let token = Token {
+        label: Label(1),
+        flags: Flags::default(),
+        serial: Serial { prev: 0, this: 3 },
+        from: p30(),
+    };
     let print = Act::Print(p30(), 0);
     let set = Act::Set(p30(), Component::Label(Label(1)));
     let acts = [
@@ -154,31 +184,29 @@ fn small_limits(rt: HostRuntime) -> Result<(), Fail> {
         (print, done()),
         (print, done()),
         (print, Err(StepFault::ClockFull)),
-    ];
-    play(&rt, &mut world, &acts);
-    assert_eq!(rt; world.clock(p30()), Some(3));
-    let token = Token {
-        label: Label(1),
-        flags: Flags::default(),
-        serial: Serial { prev: 0, this: 3 },
-        from: p30(),
-    };
-    let acts = [
         (Act::Clear(p30()), only(Reply::Previous(Some(token)))),
         (Act::Send(p30(), p30(), 5), done()),
     ];
     play(&rt, &mut world, &acts);
+    assert_counts(&rt, &world, p30(), 3, 0);
     Ok(())
+}
+
+/// Why there is no world of these pids, if there is none.
+fn refusal(alloc: Global, pids: &[Pid]) -> Option<NewFault> {
+    match World::<9>::new(alloc, pids) {
+        Ok(_) => None,
+        Err(fault) => Some(fault),
+    }
 }
 
 #[test]
 fn refuses_pids_that_do_not_rise(rt: HostRuntime) -> Result<(), Fail> {
-    let falling = World::<9>::new(rt.alloc(), &[p31(), p30()]);
-    assert!(rt; matches!(falling, Err(NewFault::NotRising)));
-    let twice = World::<9>::new(rt.alloc(), &[p30(), p30()]);
-    assert!(rt; matches!(twice, Err(NewFault::NotRising)));
-    let empty = World::<9>::new(rt.alloc(), &[]);
-    assert!(rt; empty.is_ok());
+    let falling = refusal(rt.alloc(), &[p31(), p30()]);
+    assert_eq!(rt; falling, Some(NewFault::NotRising));
+    let twice = refusal(rt.alloc(), &[p30(), p30()]);
+    assert_eq!(rt; twice, Some(NewFault::NotRising));
+    assert_eq!(rt; refusal(rt.alloc(), &[]), None);
     Ok(())
 }
 
@@ -190,10 +218,7 @@ fn refuses_acts_of_unknown_processes(rt: HostRuntime) -> Result<(), Fail> {
         (Act::Look(p31()), Err(StepFault::Unknown)),
     ];
     play(&rt, &mut world, &acts);
-    assert_eq!(rt; world.token(p31()), None);
-    assert_eq!(rt; world.clock(p31()), None);
-    assert_eq!(rt; world.last(p31()), None);
-    assert_eq!(rt; world.place_of(p31(), p30(), 1), None);
+    assert_unknown(&rt, &world, p31());
     Ok(())
 }
 
@@ -217,17 +242,14 @@ fn two_sends() -> [Act; 11] {
 #[test]
 fn low_serial_receive(rt: HostRuntime) -> Result<(), Fail> {
     let mut world = World::<9>::new(rt.alloc(), &[p30(), p31(), p32()])?;
-    run(&mut world, &two_sends());
+    run(&mut world, &two_sends())?;
     let first = Act::Receive(p31(), Want::First);
     play(&rt, &mut world, &[(first, mail(p30(), 5, 0))]);
-    assert_eq!(rt; (world.clock(p31()), world.last(p31())), (Some(5), Some(5)));
+    assert_counts(&rt, &world, p31(), 5, 5);
     play(&rt, &mut world, &[(first, mail(p32(), 3, 0))]);
-    assert_eq!(rt; (world.clock(p31()), world.last(p31())), (Some(5), Some(3)));
-    play(
-        &rt,
-        &mut world,
-        &[(Act::Send(p31(), p30(), 9), sent(p31(), p30()))],
-    );
+    assert_counts(&rt, &world, p31(), 5, 3);
+    let send = (Act::Send(p31(), p30(), 9), sent(p31(), p30()));
+    play(&rt, &mut world, &[send]);
     Ok(())
 }
 
@@ -247,11 +269,24 @@ fn sent(from: Pid, to: Pid) -> Result<Outcome, StepFault> {
     })
 }
 
+/// 30 sends a value.
+fn send(rt: &impl Abort, world: &mut World<9>, to: Pid, value: u64) {
+    assert_eq!(rt; world.step(&Act::Send(p30(), to, value)), done());
+}
+
+/// A process takes this value of 30 from this place.
+fn take(rt: &impl Abort, world: &mut World<9>, me: Pid, want: Want, value: u64, place: u64) {
+    assert_eq!(rt;
+        world.step(&Act::Receive(me, want)),
+        mail(p30(), value, place)
+    );
+}
+
 /// 30 sends 0 to 9,999, even values to 31 and odd ones to 32.
 fn send_in_turn(rt: &impl Abort, world: &mut World<9>) {
     for value in 0..10_000 {
         let to = if value % 2 == 0 { p31() } else { p32() };
-        assert_eq!(rt; world.step(&Act::Send(p30(), to, value)), done());
+        send(rt, world, to, value);
     }
 }
 
@@ -259,16 +294,21 @@ fn send_in_turn(rt: &impl Abort, world: &mut World<9>) {
 fn take_from_the_back(rt: &impl Abort, world: &mut World<9>) {
     for back in 1..=5_000 {
         let place = 5_000 - back;
-        let receive = Act::Receive(p31(), Want::Value(2 * place));
-        assert_eq!(rt; world.step(&receive), mail(p30(), 2 * place, place));
+        take(rt, world, p31(), Want::Value(2 * place), 2 * place, place);
     }
 }
 
 /// 32 receives 1, 3 and so on up to 9,999.
 fn take_from_the_front(rt: &impl Abort, world: &mut World<9>) {
-    let first = Act::Receive(p32(), Want::First);
     for turn in 0..5_000 {
-        assert_eq!(rt; world.step(&first), mail(p30(), 2 * turn + 1, 0));
+        take(rt, world, p32(), Want::First, 2 * turn + 1, 0);
+    }
+}
+
+/// 30 sends 0 to 4,999 to 31.
+fn send_again(rt: &impl Abort, world: &mut World<9>) {
+    for value in 0..5_000 {
+        send(rt, world, p31(), value);
     }
 }
 
@@ -277,9 +317,46 @@ fn long_queues(rt: HostRuntime) -> Result<(), Fail> {
     let mut world = World::<9>::new(rt.alloc(), &[p30(), p31(), p32()])?;
     send_in_turn(&rt, &mut world);
     take_from_the_back(&rt, &mut world);
-    for value in 0..5_000 {
-        assert_eq!(rt; world.step(&Act::Send(p30(), p31(), value)), done());
-    }
+    send_again(&rt, &mut world);
     take_from_the_front(&rt, &mut world);
+    Ok(())
+}
+
+/// Two processes, the first with a token. Where memory is refused the answer says so, and a second try
+/// has it.
+fn two_at_last(rt: &impl Abort, alloc: Global) -> Result<World<9>, Fail> {
+    let pids = [p30(), p31()];
+    let mut world = match World::new(alloc, &pids) {
+        Ok(world) => world,
+        Err(fault) => {
+            assert_eq!(rt; fault, NewFault::Memory);
+            World::new(alloc, &pids)?
+        }
+    };
+    run(&mut world, &[Act::Set(p30(), Component::Label(Label(1)))])?;
+    Ok(world)
+}
+
+/// A send by which the clock of 30 grows from `clock`. Where memory is refused nothing has changed,
+/// and a second try has it.
+fn send_at_last(rt: &impl Abort, world: &mut World<9>, clock: u64) {
+    let act = Act::Send(p30(), p31(), 7);
+    let mut told = world.step(&act);
+    if told == Err(StepFault::Memory) {
+        assert_counts(rt, world, p30(), clock, 0);
+        assert_eq!(rt; world.place_of(p31(), p30(), clock.wrapping_add(1)), None);
+        told = world.step(&act);
+    }
+    assert_eq!(rt; told, done());
+}
+
+// What a refused growth leaves is seen where this test runs with an allocation that fails.
+#[test]
+fn a_refused_growth_leaves_the_world(rt: HostRuntime) -> Result<(), Fail> {
+    let mut world = two_at_last(&rt, rt.alloc())?;
+    for clock in 0..9 {
+        send_at_last(&rt, &mut world, clock);
+    }
+    assert_counts(&rt, &world, p30(), 9, 0);
     Ok(())
 }

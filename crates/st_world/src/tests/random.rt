@@ -2,9 +2,11 @@
 
 ghost use Rattle.std.specs.Prelude.{◌<◌};
 
-use super::slow::{Process, TOP, find, place_of, processes, step};
+use super::assert_counts;
+use super::slow::{Process, TOP, place_of, processes, step};
 use crate::World;
 use st_core::{Act, Component, Flags, Label, Pid, Serial, Token, Want};
+use std::alloc::AllocError;
 use std::process::Abort;
 use std::test::Fail;
 
@@ -100,31 +102,37 @@ impl Random {
 /// Both tell the same of each process.
 fn assert_same(rt: &impl Abort, world: &World<TOP>, processes: &[Process], from: Pid, this: u64) {
     for process in processes {
+        assert_counts(rt, world, process.pid, process.clock, process.last);
         assert_eq!(rt; world.token(process.pid), process.token);
-        assert_eq!(rt; world.clock(process.pid), Some(process.clock));
-        assert_eq!(rt; world.last(process.pid), Some(process.last));
         let place = place_of(process, from, this);
         assert_eq!(rt; world.place_of(process.pid, from, this), place);
     }
+}
+
+/// One act of both, and a look at both after it.
+fn act_in_both(
+    rt: &impl Abort,
+    world: &mut World<TOP>,
+    processes: &mut [Process],
+    random: &mut Random,
+) -> Result<(), AllocError> {
+    let act = random.act();
+    let told = step(processes, &act)?;
+    assert_eq!(rt; world.step(&act), told, "{act:?}");
+    let (from, this) = (random.pid(), random.below(TOP));
+    assert_same(rt, world, processes, from, this);
+    Ok(())
 }
 
 #[test]
 fn agrees_with_the_slow_machine(rt: HostRuntime) -> Result<(), Fail> {
     let pids = [Pid::new(30), Pid::new(31), Pid::on(1, 30), Pid::on(1, 31)];
     let mut random = Random { state: 5 };
-    for list in 0..2_000 {
+    for _ in 0..2_000 {
         let mut world = World::<TOP>::new(rt.alloc(), &pids)?;
         let mut processes = processes(rt.alloc(), &pids)?;
-        for number in 0..40 {
-            let act = random.act();
-            let told = step(&mut processes, &act)?;
-            assert_eq!(rt;
-                world.step(&act),
-                told,
-                "act {number} of list {list}: {act:?}"
-            );
-            let (from, this) = (random.pid(), random.below(TOP));
-            assert_same(&rt, &world, &processes, from, this);
+        for _ in 0..40 {
+            act_in_both(&rt, &mut world, &mut processes, &mut random)?;
         }
     }
     Ok(())
