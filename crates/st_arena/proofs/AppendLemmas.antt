@@ -1,19 +1,25 @@
 -- A push: the new node joins the chain of its list, and all other lists stay.
-use Rattle.std.proofs.Common.{◌≡◌, ◌≢◌, ℕ, zero, suc, ◌+◌, ◌<◌, ◌≤◌, cond, ltb, List, [], ◌∷◌, ◌++◌, length, get_or, map, set, Option, refl, sym, ap, ◌∙◌, inl, inr, arith, Some, unwrap_or}
+use Rattle.std.proofs.Common.{◌≡◌, ◌≢◌, ℕ, zero, suc, ◌+◌, ◌<◌, ◌≤◌, cond, ltb, List, [], ◌∷◌, ◌++◌, length}
+use Rattle.std.proofs.Common.{get_or, map, set, Option, refl, sym, ap, ◌∙◌, inl, inr, arith, Some, unwrap_or}
 use Rattle.std.proofs.lemmas.Bool.{cases_lt, lt-ltb, le-ltb, cond-true, cond-false}
 use Rattle.std.proofs.lemmas.List.{same_lists, length_push, get_or_append_left, get_or_push}
 use Rattle.st_arena.specs.declared.node.Node.{Node}
 use Rattle.st_arena.specs.declared.node.Ends.{Ends}
-use Rattle.st_arena.specs.Chain.{len_of, ends_at, item_of, next_key, previous_key, items_of, IsChain, IsSound, Appends}
+use Rattle.st_arena.specs.Chain.{len_of, ends_at, item_of, next_key, previous_key, items_of, IsChain, AreChains}
+use Rattle.st_arena.specs.Chain.{Appends}
 use Rattle.st_arena.proofs.ChainLemmas.{SameAt, length-items_of, get_or-items_of, vacant_apart}
 use Rattle.st_arena.proofs.ArenaLemmas.{sound_with, lists_with, list_of_map}
 
 -- ---- on one chain
-module _ {T : Type 0} (old new : ℕ → Option (Node T)) (ends : Ends) (key : ℕ → ℕ) (chain : IsChain old ends key) (after : Ends) (value : T) (change : Appends old new ends after value) (row : ℕ → ℕ) (below : (place : ℕ) → place < ends.len → row place ≡ key place) (at_end : row ends.len ≡ change.key) where
+module _ {T : Type 0} (old new : ℕ → Option (Node T)) (ends : Ends) (key : ℕ → ℕ) (chain : IsChain old ends key)
+    (after : Ends) (value : T) (change : Appends old new ends after value) (row : ℕ → ℕ)
+    (below : (place : ℕ) → place < ends.len → row place ≡ key place) (at_end : row ends.len ≡ change.key) where
   -- the nodes before the new one hold what they held
   append_same : (place : ℕ) → place < ends.len → item_of (new (row place)) ≡ item_of (old (key place))
   append_same place within =
-      rw (below place within) (change.items_stay (key place) (vacant_apart old new ends key chain change.key place change.was_vacant within))
+      rw (below place within)
+      (change.items_stay (key place)
+      (vacant_apart old new ends key chain change.key place change.was_vacant within))
 
   -- the new node holds the value
   append_holds : (place : ℕ) → place ≡ ends.len → item_of (new (row place)) ≡ Some value
@@ -38,19 +44,23 @@ module _ {T : Type 0} (old new : ℕ → Option (Node T)) (ends : Ends) (key : �
             elim (cases_lt place ends.len) [
               | inl inside ↦
                   elim (cases_lt other ends.len) [
-                    | inl other_inside ↦ chain.apart place other inside other_inside (sym (below place inside) ∙ same ∙ below other other_inside)
+                    | inl other_inside ↦ chain.apart place other inside other_inside
+                        (sym (below place inside) ∙ same ∙ below other other_inside)
                     | inr past ↦ absurd (append_differs place other inside (omega (arith, change.len)) same)
                   ]
               | inr past ↦
                   elim (cases_lt other ends.len) [
-                    | inl other_inside ↦ absurd (append_differs other place other_inside (omega (arith, change.len)) (sym same))
+                    | inl other_inside ↦ absurd
+                        (append_differs other place other_inside (omega (arith, change.len)) (sym same))
                     | inr other_past ↦ omega (arith, change.len)
                   ]
             ];
         first = λ some.
             elim (cases_lt 0 ends.len) [
               | inl inside ↦ change.first_stays inside ∙ chain.first inside ∙ sym (below 0 inside)
-              | inr past ↦ let empty : ends.len ≡ 0 = omega arith in change.first_moves empty ∙ sym at_end ∙ ap row empty
+              | inr past ↦
+                  let empty : ends.len ≡ 0 = omega arith in
+                  change.first_moves empty ∙ sym at_end ∙ ap row empty
             ];
         last = λ place is.
             let here : ends.len ≡ place = omega (arith, change.len) in
@@ -60,7 +70,9 @@ module _ {T : Type 0} (old new : ℕ → Option (Node T)) (ends : Ends) (key : �
             elim (cases_lt (suc place) ends.len) [
               | inl before ↦
                   ap (λ k. next_key (new k)) (below place inside)
-                  ∙ change.next_stay (key place) (vacant_apart old new ends key chain change.key place change.was_vacant inside) (λ some. not_last place before)
+                  ∙ change.next_stay (key place)
+                  (vacant_apart old new ends key chain change.key place change.was_vacant inside)
+                  (λ some. not_last place before)
                   ∙ chain.next place before
                   ∙ sym (below (suc place) before)
               | inr past ↦
@@ -74,7 +86,8 @@ module _ {T : Type 0} (old new : ℕ → Option (Node T)) (ends : Ends) (key : �
             elim (cases_lt (suc place) ends.len) [
               | inl before ↦
                   ap (λ k. previous_key (new k)) (below (suc place) before)
-                  ∙ change.previous_stay (key (suc place)) (vacant_apart old new ends key chain change.key (suc place) change.was_vacant before)
+                  ∙ change.previous_stay (key (suc place))
+                  (vacant_apart old new ends key chain change.key (suc place) change.was_vacant before)
                   ∙ chain.previous place before
                   ∙ sym (below place inside)
               | inr past ↦
@@ -93,14 +106,21 @@ module _ {T : Type 0} (old new : ℕ → Option (Node T)) (ends : Ends) (key : �
           apart_from_last : (len place : ℕ) → len ≡ ends.len → suc place < len → key place ≡ ends.last → ⊥
           apart_from_last zero place is before same = absurd (omega arith)
           apart_from_last (suc last) place is before same =
-              let both : place ≡ last = chain.apart place last (omega arith) (omega arith) (same ∙ chain.last last is) in
+              let both : place ≡ last =
+              chain.apart place last (omega arith) (omega arith) (same ∙ chain.last last is) in
               absurd (omega arith)
 
   -- and its value the list
   pub append_items : items_of new after ≡ items_of old ends ++ value ∷ []
   append_items =
       same_lists (items_of new after) (items_of old ends ++ value ∷ [])
-      (omega (arith, length-items_of new after row append_chain, length-items_of old ends key chain, length_push (items_of old ends) value, change.len))
+      (omega (
+        arith,
+        length-items_of new after row append_chain,
+        length-items_of old ends key chain,
+        length_push (items_of old ends) value,
+        change.len,
+      ))
       (λ place default within.
       let inside : place < after.len = omega (arith, length-items_of new after row append_chain) in
       get_or-items_of new after row append_chain place default inside
@@ -108,14 +128,20 @@ module _ {T : Type 0} (old new : ℕ → Option (Node T)) (ends : Ends) (key : �
         | inl before ↦
             ap (λ item. unwrap_or item default) (append_same place before)
             ∙ sym (get_or-items_of old ends key chain place default before)
-            ∙ sym (get_or_append_left (items_of old ends) (value ∷ []) default place (omega (arith, length-items_of old ends key chain)))
+            ∙ sym
+            (get_or_append_left (items_of old ends) (value ∷ []) default place
+            (omega (arith, length-items_of old ends key chain)))
         | inr past ↦
             ap (λ item. unwrap_or item default) (append_holds place (omega (arith, change.len)))
-            ∙ sym (get_or_push (items_of old ends) value default place (omega (arith, change.len, length-items_of old ends key chain)))
+            ∙ sym
+            (get_or_push (items_of old ends) value default place
+            (omega (arith, change.len, length-items_of old ends key chain)))
       ]))
 
 -- ---- among all lists: the new key holds nothing of any list, and the last node is this list's
-module _ {T : Type 0} (old new : ℕ → Option (Node T)) (ends : List Ends) (count capacity : ℕ) (sound : IsSound old ends count capacity) (list : ℕ) (in_range : list < length ends) (after : Ends) (value : T) (change : Appends old new (ends_at ends list) after value) where
+module _ {T : Type 0} (old new : ℕ → Option (Node T)) (ends : List Ends) (count capacity : ℕ)
+    (sound : AreChains old ends count capacity) (list : ℕ) (in_range : list < length ends) (after : Ends) (value : T)
+    (change : Appends old new (ends_at ends list) after value) where
   -- the keys of the list from then on: those that it had, then the new one
   append_row : ℕ → ℕ
   append_row place = cond (ltb place (len_of (ends_at ends list))) (sound.key list place) change.key
@@ -123,15 +149,20 @@ module _ {T : Type 0} (old new : ℕ → Option (Node T)) (ends : List Ends) (co
   -- below the old length they are those that the list had
   append_row-below : (place : ℕ) → place < len_of (ends_at ends list) → append_row place ≡ sound.key list place
   unfolding append_row
-  append_row-below place within = cond-true (ltb place (len_of (ends_at ends list))) (sound.key list place) change.key (lt-ltb place _ within)
+  append_row-below place within =
+      cond-true (ltb place (len_of (ends_at ends list))) (sound.key list place) change.key (lt-ltb place _ within)
 
   -- and at the old length the new one
   append_row-end : append_row (len_of (ends_at ends list)) ≡ change.key
   unfolding append_row
-  append_row-end = cond-false (ltb (len_of (ends_at ends list)) (len_of (ends_at ends list))) (sound.key list (len_of (ends_at ends list))) change.key (le-ltb (len_of (ends_at ends list)) (len_of (ends_at ends list)) (omega arith))
+  append_row-end =
+      cond-false (ltb (len_of (ends_at ends list)) (len_of (ends_at ends list)))
+      (sound.key list (len_of (ends_at ends list))) change.key
+      (le-ltb (len_of (ends_at ends list)) (len_of (ends_at ends list)) (omega arith))
 
   -- no node of another list is the last of this one
-  not_last : (other place : ℕ) → other ≢ list → place < len_of (ends_at ends other) → 0 < len_of (ends_at ends list) → sound.key other place ≢ (ends_at ends list).last
+  not_last : (other place : ℕ) → other ≢ list → place < len_of (ends_at ends other) → 0 < len_of (ends_at ends list)
+      → sound.key other place ≢ (ends_at ends list).last
   not_last other place differs inside some same = by_len (len_of (ends_at ends list)) refl some
     where
       by_len : (len : ℕ) → len ≡ len_of (ends_at ends list) → 0 < len → ⊥
@@ -140,9 +171,12 @@ module _ {T : Type 0} (old new : ℕ → Option (Node T)) (ends : List Ends) (co
           sound.disjoint other list place last differs inside (omega arith) (same ∙ (sound.chain list).last last is)
 
   -- the nodes of all other lists stay as they were
-  append_others : (other place : ℕ) → other ≢ list → place < len_of (ends_at ends other) → SameAt old new (sound.key other place)
+  append_others : (other place : ℕ) → other ≢ list → place < len_of (ends_at ends other)
+      → SameAt old new (sound.key other place)
   append_others other place differs inside =
-      let not_new = vacant_apart old new (ends_at ends other) (sound.key other) (sound.chain other) change.key place change.was_vacant inside in
+      let not_new =
+      vacant_apart old new (ends_at ends other) (sound.key other) (sound.chain other) change.key place
+      change.was_vacant inside in
       record {
         item = change.items_stay _ not_new;
         next = change.next_stay _ not_new (not_last other place differs inside);
@@ -151,12 +185,16 @@ module _ {T : Type 0} (old new : ℕ → Option (Node T)) (ends : List Ends) (co
 
   -- the list is a chain under its new keys
   append_here : IsChain new after append_row
-  append_here = append_chain old new (ends_at ends list) (sound.key list) (sound.chain list) after value change append_row append_row-below append_row-end
+  append_here =
+      append_chain old new (ends_at ends list) (sound.key list) (sound.chain list) after value change append_row
+      append_row-below append_row-end
 
   -- all is sound after a push, with one node more
-  pub append_sound : (new_count new_capacity : ℕ) → new_count ≡ count + 1 → new_count ≤ new_capacity → IsSound new (set ends list after) new_count new_capacity
+  pub append_sound : (new_count new_capacity : ℕ) → new_count ≡ count + 1 → new_count ≤ new_capacity
+      → AreChains new (set ends list after) new_count new_capacity
   append_sound new_count new_capacity more within =
-      sound_with old new ends count capacity sound list in_range after append_row new_count new_capacity append_here append_others
+      sound_with old new ends count capacity sound list in_range after append_row new_count new_capacity append_here
+      append_others
       (λ other place there differs inside other_inside same.
       elim (cases_lt place (len_of (ends_at ends list))) [
         | inl before ↦
@@ -164,15 +202,19 @@ module _ {T : Type 0} (old new : ℕ → Option (Node T)) (ends : List Ends) (co
             (sym (append_row-below place before) ∙ same)
         | inr past ↦
             let at_end : place ≡ len_of (ends_at ends list) = omega (arith, change.len) in
-            vacant_apart old new (ends_at ends other) (sound.key other) (sound.chain other) change.key there change.was_vacant other_inside
+            vacant_apart old new (ends_at ends other) (sound.key other) (sound.chain other) change.key there
+            change.was_vacant other_inside
             (sym same ∙ ap append_row at_end ∙ append_row-end)
       ])
       (omega (arith, change.len))
       within
 
   -- and of all lists only that one changed: the value stands at its end
-  pub append_lists : map (items_of new) (set ends list after) ≡ set (map (items_of old) ends) list (get_or (map (items_of old) ends) list [] ++ value ∷ [])
+  pub append_lists : map (items_of new) (set ends list after)
+      ≡ set (map (items_of old) ends) list (get_or (map (items_of old) ends) list [] ++ value ∷ [])
   append_lists =
-      lists_with old new ends count capacity sound list in_range after (get_or (map (items_of old) ends) list [] ++ value ∷ []) append_others
-      (append_items old new (ends_at ends list) (sound.key list) (sound.chain list) after value change append_row append_row-below append_row-end
+      lists_with old new ends count capacity sound list in_range after
+      (get_or (map (items_of old) ends) list [] ++ value ∷ []) append_others
+      (append_items old new (ends_at ends list) (sound.key list) (sound.chain list) after value change append_row
+      append_row-below append_row-end
       ∙ ap (λ xs. xs ++ value ∷ []) (sym (list_of_map old new ends count capacity sound list in_range after)))

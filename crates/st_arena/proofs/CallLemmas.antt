@@ -1,5 +1,7 @@
--- Lemmas on what a closure made of the items of a list, place by place.
-use Rattle.std.proofs.Common.{◌≡◌, ℕ, zero, suc, ◌<◌, Bool, true, false, ltb, List, [], ◌∷◌, length, get_or, map, Option, Some, None, IfSome, IfNone, slice_get, refl, sym, ap, ◌∙◌, arith}
+-- What a closure that computes a test or a function made of a list place by place is what the test or the function
+-- makes of the whole list.
+use Rattle.std.proofs.Common.{◌≡◌, ℕ, zero, suc, ◌<◌, Bool, true, false, ltb, List, [], ◌∷◌, length, get_or}
+use Rattle.std.proofs.Common.{map, Option, Some, None, IfSome, IfNone, slice_get, refl, sym, ap, ◌∙◌, arith}
 use Rattle.std.specs.List.{AllZip, position}
 use Rattle.std.proofs.lemmas.Bool.{lt-ltb, le-ltb, cond-true, cond-false}
 use Rattle.std.proofs.lemmas.List.Sums.{position_or_len_is}
@@ -9,7 +11,8 @@ use Rattle.st_arena.specs.Chain.{Turns}
 
 module _ {T : Type 0} (R : T → T → Type 0) where
   -- what relates the items at each place relates the lists
-  pub AllZip-from_places : (xs ys : List T) → length xs ≡ length ys → ((place : ℕ) → place < length xs → Turns R (slice_get xs place) (slice_get ys place)) → AllZip R xs ys
+  pub AllZip-from_places : (xs ys : List T) → length xs ≡ length ys
+      → ((place : ℕ) → place < length xs → Turns R (slice_get xs place) (slice_get ys place)) → AllZip R xs ys
   AllZip-from_places [] [] same turns = tt
   AllZip-from_places [] (y ∷ ys) same turns = absurd (omega arith)
   AllZip-from_places (x ∷ xs) [] same turns = absurd (omega arith)
@@ -29,30 +32,42 @@ module _ {T : Type 0} (R : T → T → Type 0) where
       let rest : ys ≡ map f xs = map-from_AllZip f xs ys (λ place. computes (suc place)) each.1 in
       cc
 
-module _ {T : Type 0} (answers : T → Bool → Type 0) (test : T → Bool) (items : List T) (computes : Computes answers test items) where
+module _ {T : Type 0} (answers : T → Bool → Type 0) (test : T → Bool) (items : List T)
+    (computes : Computes answers test items) where
   -- the answer at a place is that of the test
-  tests : (place : ℕ) (answer : Bool) (default : T) → IsAnswered answers items place answer → test (get_or items place default) ≡ answer
+  tests : (place : ℕ) (answer : Bool) (default : T) → IsAnswered answers items place answer
+      → test (get_or items place default) ≡ answer
   tests place answer default is =
-      ap test (get_or_from_slice_get items place is.item default is.is_there) ∙ sym (computes place is.item answer is.is_there is.answered)
+      ap test (get_or_from_slice_get items place is.item default is.is_there)
+      ∙ sym (computes place is.item answer is.is_there is.answered)
 
   -- the first place that was answered true is the position of the test
   position-first : (place : ℕ) → IsFirstAnswered answers items place → position test items ≡ Some place
   position-first place is =
       let inside : place < length items = slice_get_within items place is.found.item is.found.is_there in
-      rw (position_or_len_is test items place is.found.item (omega arith) (λ earlier before. tests earlier false is.found.item (is.before earlier before)) (λ _. tests place true is.found.item is.found))
+      rw
+      (position_or_len_is test items place is.found.item (omega arith)
+      (λ earlier before. tests earlier false is.found.item (is.before earlier before))
+      (λ _. tests place true is.found.item is.found))
       (cond-true (ltb place (length items)) (Some place) None (lt-ltb place (length items) inside))
 
   -- where each was answered false, the test has no position
-  position-none : ((place : ℕ) → place < length items → IsAnswered answers items place false) → position test items ≡ None
+  position-none : ((place : ℕ) → place < length items → IsAnswered answers items place false)
+      → position test items ≡ None
   position-none none = by_items items refl
     where
       by_items : (xs : List T) → items ≡ xs → position test items ≡ None
       by_items [] is = rw is refl
       by_items (x ∷ xs) is =
-          rw (position_or_len_is test items (length items) x (omega arith) (λ earlier before. tests earlier false x (none earlier before)) (λ past. absurd (omega arith)))
-          (cond-false (ltb (length items) (length items)) (Some (length items)) None (le-ltb (length items) (length items) (omega arith)))
+          rw
+          (position_or_len_is test items (length items) x (omega arith)
+          (λ earlier before. tests earlier false x (none earlier before)) (λ past. absurd (omega arith)))
+          (cond-false (ltb (length items) (length items)) (Some (length items)) None
+          (le-ltb (length items) (length items) (omega arith)))
 
   -- what was found is the position of the test
-  pub position-found : (result : Option ℕ) → IfSome result (IsFirstAnswered answers items) → IfNone result ((place : ℕ) → place < length items → IsAnswered answers items place false) → result ≡ position test items
+  pub position-found : (result : Option ℕ) → IfSome result (IsFirstAnswered answers items)
+      → IfNone result ((place : ℕ) → place < length items → IsAnswered answers items place false)
+      → result ≡ position test items
   position-found None found absent = sym (position-none absent)
   position-found (Some place) found absent = sym (position-first place found)

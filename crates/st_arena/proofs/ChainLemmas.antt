@@ -1,5 +1,8 @@
--- Lemmas on the chain of one list: what it holds, and what stays of it where slots change.
-use Rattle.std.proofs.Common.{◌≡◌, ◌≢◌, ℕ, zero, suc, ◌+◌, ◌<◌, false, List, [], ◌∷◌, length, get_or, drop, Option, Some, None, IsSome, is_some, unwrap_or, slice_get, refl, sym, ap, ◌∙◌, inl, inr, arith}
+-- A chain has an item under each of its keys, which stand apart: so a list has as many items as its ends say, and
+-- keeps them where the slots of its keys stay.
+use Rattle.std.proofs.Common.{◌≡◌, ◌≢◌, ℕ, zero, suc, ◌+◌, ◌<◌, false, List, [], ◌∷◌, length, get_or, drop}
+use Rattle.std.proofs.Common.{Option, Some, None, IsSome, is_some, unwrap_or, slice_get, refl, sym, ap, ◌∙◌}
+use Rattle.std.proofs.Common.{inl, inr, arith}
 use Rattle.std.proofs.lemmas.Bool.{cases_lt}
 use Rattle.std.proofs.lemmas.List.{same_lists, length-drop, drop_more}
 use Rattle.std.proofs.lemmas.Option.{unwrap_or-slice_get, slice_get-get_or}
@@ -25,7 +28,8 @@ module _ {T : Type 0} where
 
 module _ {T : Type 0} (slots : ℕ → Option (Node T)) where
   -- the items from a node on begin with its own
-  pub items_at_node : (count key : ℕ) (node : Node T) → slots key ≡ Some node → items slots (suc count) key ≡ node.value ∷ items slots count node.next
+  pub items_at_node : (count key : ℕ) (node : Node T) → slots key ≡ Some node
+      → items slots (suc count) key ≡ node.value ∷ items slots count node.next
   items_at_node count key node is = rw is refl
 
 module _ {T : Type 0} (slots : ℕ → Option (Node T)) (ends : Ends) (key : ℕ → ℕ) (chain : IsChain slots ends key) where
@@ -38,10 +42,12 @@ module _ {T : Type 0} (slots : ℕ → Option (Node T)) (ends : Ends) (key : ℕ
   length-items_from (suc (suc count)) start all =
       let node = held_node (slots (key start)) (chain.held start (omega arith)) in
       let link : node.0.next ≡ key (suc start) = sym (ap next_key node.1) ∙ chain.next start (omega arith) in
-      rw (items_at_node slots (suc count) (key start) node.0 node.1, link) (ap suc (length-items_from (suc count) (suc start) (omega arith)))
+      rw (items_at_node slots (suc count) (key start) node.0 node.1, link)
+      (ap suc (length-items_from (suc count) (suc start) (omega arith)))
 
   -- and each is what its node holds
-  get-items_from : (count start place : ℕ) → start + count ≡ ends.len → place < count → slice_get (items slots count (key start)) place ≡ item_of (slots (key (start + place)))
+  get-items_from : (count start place : ℕ) → start + count ≡ ends.len → place < count
+      → slice_get (items slots count (key start)) place ≡ item_of (slots (key (start + place)))
   get-items_from zero start place all within = absurd (omega arith)
   get-items_from (suc count) start zero all within =
       let node = held_node (slots (key start)) (chain.held start (omega arith)) in
@@ -51,7 +57,8 @@ module _ {T : Type 0} (slots : ℕ → Option (Node T)) (ends : Ends) (key : ℕ
       let node = held_node (slots (key start)) (chain.held start (omega arith)) in
       let link : node.0.next ≡ key (suc start) = sym (ap next_key node.1) ∙ chain.next start (omega arith) in
       let there : start + suc place ≡ suc start + place = omega arith in
-      rw (items_at_node slots count (key start) node.0 node.1, link, there) (get-items_from count (suc start) place (omega arith) (omega arith))
+      rw (items_at_node slots count (key start) node.0 node.1, link, there)
+      (get-items_from count (suc start) place (omega arith) (omega arith))
 
   -- a list has as many items as its ends say
   pub length-items_of : length (items_of slots ends) ≡ ends.len
@@ -62,15 +69,18 @@ module _ {T : Type 0} (slots : ℕ → Option (Node T)) (ends : Ends) (key : ℕ
       ]
 
   -- the item at a place is what the node there holds
-  pub get-items_of : (place : ℕ) → place < ends.len → slice_get (items_of slots ends) place ≡ item_of (slots (key place))
+  pub get-items_of : (place : ℕ) → place < ends.len
+      → slice_get (items_of slots ends) place ≡ item_of (slots (key place))
   get-items_of place within =
       let there : 0 + place ≡ place = omega arith in
       rw (chain.first (omega arith)) (rw there at (get-items_from ends.len 0 place (omega arith) within))
 
   -- the same, read with a default
-  pub get_or-items_of : (place : ℕ) (default : T) → place < ends.len → get_or (items_of slots ends) place default ≡ unwrap_or (item_of (slots (key place))) default
+  pub get_or-items_of : (place : ℕ) (default : T) → place < ends.len
+      → get_or (items_of slots ends) place default ≡ unwrap_or (item_of (slots (key place))) default
   get_or-items_of place default within =
-      sym (unwrap_or-slice_get (items_of slots ends) place default) ∙ ap (λ item. unwrap_or item default) (get-items_of place within)
+      sym (unwrap_or-slice_get (items_of slots ends) place default)
+      ∙ ap (λ item. unwrap_or item default) (get-items_of place within)
 
   -- so many steps from the first node lead to the node at that place
   pub key_after-first : (place : ℕ) → place < ends.len → key_after slots ends.first place ≡ key place
@@ -92,26 +102,34 @@ module _ {T : Type 0} (slots : ℕ → Option (Node T)) (ends : Ends) (chained :
   held_after place within =
       ap (λ k. is_some (slots k)) (step_is place within) ∙ held_at slots ends chained.key chained.chain place within
 
-  pub item_after : (place : ℕ) → place < ends.len → slice_get (items_of slots ends) place ≡ item_of (slots (key_after slots ends.first place))
+  pub item_after : (place : ℕ) → place < ends.len
+      → slice_get (items_of slots ends) place ≡ item_of (slots (key_after slots ends.first place))
   item_after place within =
-      get-items_of slots ends chained.key chained.chain place within ∙ ap (λ k. item_of (slots k)) (sym (step_is place within))
+      get-items_of slots ends chained.key chained.chain place within
+      ∙ ap (λ k. item_of (slots k)) (sym (step_is place within))
 
   -- the last node is so many steps from the first
   pub last_after : (place : ℕ) → suc place ≡ ends.len → ends.last ≡ key_after slots ends.first place
   last_after place is = chained.chain.last place is ∙ sym (step_is place (omega arith))
 
   -- a node names the one a step before it as its previous
-  pub previous_after : (place : ℕ) → suc place < ends.len → previous_key (slots (key_after slots ends.first (suc place))) ≡ key_after slots ends.first place
+  pub previous_after : (place : ℕ) → suc place < ends.len
+      → previous_key (slots (key_after slots ends.first (suc place))) ≡ key_after slots ends.first place
   previous_after place within =
-      ap (λ k. previous_key (slots k)) (step_is (suc place) within) ∙ chained.chain.previous place within ∙ sym (step_is place (omega arith))
+      ap (λ k. previous_key (slots k)) (step_is (suc place) within)
+      ∙ chained.chain.previous place within
+      ∙ sym (step_is place (omega arith))
 
   -- the first node's steps are each at another node
-  pub steps_apart : (place other : ℕ) → place < ends.len → other < ends.len → key_after slots ends.first place ≡ key_after slots ends.first other → place ≡ other
+  pub steps_apart : (place other : ℕ) → place < ends.len → other < ends.len
+      → key_after slots ends.first place ≡ key_after slots ends.first other → place ≡ other
   steps_apart place other within other_within same =
-      chained.chain.apart place other within other_within (sym (step_is place within) ∙ same ∙ step_is other other_within)
+      chained.chain.apart place other within other_within
+      (sym (step_is place within) ∙ same ∙ step_is other other_within)
 
   -- the neighbours of the node at a place, where it has them, are there, and are other nodes
-  module _ (place key : ℕ) (node : Node T) (within : place < ends.len) (is_there : key ≡ key_after slots ends.first place) (is_node : slots key ≡ Some node) where
+  module _ (place key : ℕ) (node : Node T) (within : place < ends.len)
+      (is_there : key ≡ key_after slots ends.first place) (is_node : slots key ≡ Some node) where
     -- the previous of the node is that at the place before
     back_is : (before : ℕ) → suc before ≡ place → node.previous ≡ key_after slots ends.first before
     back_is before is =
@@ -132,7 +150,8 @@ module _ {T : Type 0} (slots : ℕ → Option (Node T)) (ends : Ends) (chained :
         by_place (suc before) is positive = (
           rw (back_is before is) (held_after before (omega arith)),
           λ same.
-              let both : before ≡ place = steps_apart before place (omega arith) within (sym (back_is before is) ∙ same ∙ is_there) in
+              let both : before ≡ place =
+              steps_apart before place (omega arith) within (sym (back_is before is) ∙ same ∙ is_there) in
               absurd (omega arith),
         )
 
@@ -141,7 +160,8 @@ module _ {T : Type 0} (slots : ℕ → Option (Node T)) (ends : Ends) (chained :
     front_there more = (
       rw (front_is more) (held_after (suc place) more),
       λ same.
-          let both : suc place ≡ place = steps_apart (suc place) place more within (sym (front_is more) ∙ same ∙ is_there) in
+          let both : suc place ≡ place =
+          steps_apart (suc place) place more within (sym (front_is more) ∙ same ∙ is_there) in
           absurd (omega arith),
     )
 
@@ -159,10 +179,15 @@ module _ {T : Type 0} (slots : ℕ → Option (Node T)) (whole : List T) (place 
       by_slot (Some node) is = refl
 
   -- it holds the first of them, and its next has those after it
-  pub left_step : (count rest key : ℕ) (node : Node T) → slots key ≡ Some node → items slots count key ≡ drop place whole → suc rest ≡ count → (items slots rest node.next ≡ drop (place + 1) whole) × (slice_get whole place ≡ Some node.value)
+  pub left_step : (count rest key : ℕ) (node : Node T) → slots key ≡ Some node
+      → items slots count key ≡ drop place whole → suc rest ≡ count
+      → (items slots rest node.next ≡ drop (place + 1) whole) × (slice_get whole place ≡ Some node.value)
   left_step count rest key node is left one_less =
       let parts : node.value ∷ items slots rest node.next ≡ get_or whole place node.value ∷ drop (place + 1) whole =
-      sym (items_at_node slots rest key node is) ∙ ap (λ n. items slots n key) one_less ∙ left ∙ drop_more whole place node.value within in
+      sym (items_at_node slots rest key node is)
+      ∙ ap (λ n. items slots n key) one_less
+      ∙ left
+      ∙ drop_more whole place node.value within in
       let first : node.value ≡ get_or whole place node.value = cc in
       (cc, slice_get-get_or whole place node.value within ∙ ap Some (sym first))
 
@@ -186,7 +211,9 @@ module _ {T : Type 0} (old new : ℕ → Option (Node T)) (ends : Ends) (key : �
       }
 
   -- two chains of one length that hold the same at each place have the same items
-  pub items_stay : (after : Ends) (row : ℕ → ℕ) → IsChain new after row → after.len ≡ ends.len → ((place : ℕ) → place < ends.len → item_of (new (row place)) ≡ item_of (old (key place))) → items_of new after ≡ items_of old ends
+  pub items_stay : (after : Ends) (row : ℕ → ℕ) → IsChain new after row → after.len ≡ ends.len
+      → ((place : ℕ) → place < ends.len → item_of (new (row place)) ≡ item_of (old (key place)))
+      → items_of new after ≡ items_of old ends
   items_stay after row later len same =
       same_lists (items_of new after) (items_of old ends)
       (length-items_of new after row later ∙ len ∙ sym (length-items_of old ends key chain))

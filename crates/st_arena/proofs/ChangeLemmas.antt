@@ -1,18 +1,23 @@
 -- A change of the items of one list: every link stays, and so do all other lists.
-use Rattle.std.proofs.Common.{◌≡◌, ◌≢◌, ℕ, suc, ◌<◌, List, length, map, set, Option, refl, sym, ap, ◌∙◌, inl, inr, arith, Some, IsSome, is_some}
+use Rattle.std.proofs.Common.{◌≡◌, ◌≢◌, ℕ, suc, ◌<◌, List, length, map, set, Option, refl, sym, ap, ◌∙◌, inl}
+use Rattle.std.proofs.Common.{inr, arith, Some, IsSome, is_some}
 use Rattle.std.proofs.lemmas.Bool.{cases_lt, cases_eq}
 use Rattle.std.proofs.lemmas.List.{set-get_or}
 use Rattle.std.specs.List.{AllZip}
 use Rattle.st_arena.specs.declared.node.Node.{Node}
 use Rattle.st_arena.specs.declared.node.Ends.{Ends}
-use Rattle.st_arena.specs.Chain.{len_of, no_ends, ends_at, item_of, next_key, items_of, key_after, IsChain, IsSound, Turns, ChangesItems, IsChained, SetsItem}
-use Rattle.st_arena.proofs.ChainLemmas.{SameAt, held_after, steps_apart, is_some-item_of, length-items_of, get-items_of, key_after-first}
+use Rattle.st_arena.specs.Chain.{len_of, no_ends, ends_at, item_of, next_key, items_of, key_after, IsChain}
+use Rattle.st_arena.specs.Chain.{AreChains, Turns, ChangesItems, IsChained, SetsItem}
+use Rattle.st_arena.proofs.ChainLemmas.{SameAt, held_after, steps_apart, is_some-item_of, length-items_of}
+use Rattle.st_arena.proofs.ChainLemmas.{get-items_of, key_after-first}
 use Rattle.st_arena.proofs.ArenaLemmas.{lists_with}
 use Rattle.st_arena.proofs.CallLemmas.{AllZip-from_places}
 
 -- ---- on one chain
 -- one item more is changed
-module _ {T : Type 0} (old now new : ℕ → Option (Node T)) (ends : Ends) (chained : IsChained old ends) (R : T → T → Type 0) (count : ℕ) (so_far : ChangesItems old now R ends.first count) (within : count < ends.len) (key : ℕ) (is_there : key ≡ key_after old ends.first count) where
+module _ {T : Type 0} (old now new : ℕ → Option (Node T)) (ends : Ends) (chained : IsChained old ends)
+    (R : T → T → Type 0) (count : ℕ) (so_far : ChangesItems old now R ends.first count) (within : count < ends.len)
+    (key : ℕ) (is_there : key ≡ key_after old ends.first count) where
   -- the next node to be changed is there
   pub change_there : IsSome (now key)
   change_there =
@@ -33,7 +38,8 @@ module _ {T : Type 0} (old now new : ℕ → Option (Node T)) (ends : Ends) (cha
     change_next = sym (ap next_key is_node) ∙ so_far.next_stay key ∙ ap (λ k. next_key (old k)) is_there
 
     -- with one more item changed, so many and one are
-    pub change_more : (value : T) → SetsItem now new key value → R node.value value → ChangesItems old new R ends.first (suc count)
+    pub change_more : (value : T) → SetsItem now new key value → R node.value value
+        → ChangesItems old new R ends.first (suc count)
     change_more value change related =
         record {
           next_stay = λ other. change.next_stay other ∙ so_far.next_stay other;
@@ -58,7 +64,10 @@ module _ {T : Type 0} (old now new : ℕ → Option (Node T)) (ends : Ends) (cha
                     record {
                       before = node.value;
                       after = value;
-                      was = sym (so_far.items_stay (key_after old ends.first place) (not_yet place here)) ∙ ap (λ k. item_of (now k)) (sym at_key) ∙ ap item_of is_node;
+                      was =
+                          sym (so_far.items_stay (key_after old ends.first place) (not_yet place here))
+                          ∙ ap (λ k. item_of (now k)) (sym at_key)
+                          ∙ ap item_of is_node;
                       is = ap (λ k. item_of (new k)) (sym at_key) ∙ change.changed;
                       related = related;
                     }
@@ -67,29 +76,39 @@ module _ {T : Type 0} (old now new : ℕ → Option (Node T)) (ends : Ends) (cha
       where
         not_key : (place : ℕ) → place < count → key_after old ends.first place ≢ key
         not_key place earlier same =
-            let both : place ≡ count = steps_apart old ends chained place count (omega arith) within (same ∙ is_there) in
+            let both : place ≡ count =
+            steps_apart old ends chained place count (omega arith) within (same ∙ is_there) in
             absurd (omega arith)
 
-        not_yet : (place : ℕ) → count ≡ place → (other : ℕ) → other < count → key_after old ends.first place ≢ key_after old ends.first other
+        not_yet : (place : ℕ) → count ≡ place → (other : ℕ) → other < count
+            → key_after old ends.first place ≢ key_after old ends.first other
         not_yet place here other before same =
             let both : place ≡ other = steps_apart old ends chained place other (omega arith) (omega arith) same in
             absurd (omega arith)
 
 -- ---- among all lists
-module _ {T : Type 0} (old new : ℕ → Option (Node T)) (ends : List Ends) (count capacity : ℕ) (sound : IsSound old ends count capacity) (list : ℕ) (in_range : list < length ends) (R : T → T → Type 0) (change : ChangesItems old new R (ends_at ends list).first (len_of (ends_at ends list))) where
+module _ {T : Type 0} (old new : ℕ → Option (Node T)) (ends : List Ends) (count capacity : ℕ)
+    (sound : AreChains old ends count capacity) (list : ℕ) (in_range : list < length ends) (R : T → T → Type 0)
+    (change : ChangesItems old new R (ends_at ends list).first (len_of (ends_at ends list))) where
   -- so many steps lead to the key of that place
-  change_steps : (place : ℕ) → place < len_of (ends_at ends list) → key_after old (ends_at ends list).first place ≡ sound.key list place
+  change_steps : (place : ℕ) → place < len_of (ends_at ends list)
+      → key_after old (ends_at ends list).first place ≡ sound.key list place
   change_steps place within = key_after-first old (ends_at ends list) (sound.key list) (sound.chain list) place within
 
   -- each item of the list became one that R relates to it
-  change_turns : (place : ℕ) → place < len_of (ends_at ends list) → Turns R (item_of (old (sound.key list place))) (item_of (new (sound.key list place)))
+  change_turns : (place : ℕ) → place < len_of (ends_at ends list)
+      → Turns R (item_of (old (sound.key list place))) (item_of (new (sound.key list place)))
   change_turns place within = rw (change_steps place within) at (change.changed place within)
 
   -- the nodes of all other lists stay as they were
-  change_others : (other place : ℕ) → other ≢ list → place < len_of (ends_at ends other) → SameAt old new (sound.key other place)
+  change_others : (other place : ℕ) → other ≢ list → place < len_of (ends_at ends other)
+      → SameAt old new (sound.key other place)
   change_others other place differs inside =
       record {
-        item = change.items_stay _ (λ there within same. sound.disjoint other list place there differs inside within (same ∙ change_steps there within));
+        item =
+            change.items_stay _
+            (λ there within same.
+            sound.disjoint other list place there differs inside within (same ∙ change_steps there within));
         next = change.next_stay _;
         previous = change.previous_stay _;
       }
@@ -103,7 +122,8 @@ module _ {T : Type 0} (old new : ℕ → Option (Node T)) (ends : List Ends) (co
               | inl is ↦
                   let within : place < len_of (ends_at ends list) = rw is at inside in
                   rw (is, (change_turns place within).is) refl
-              | inr differs ↦ rw ((change_others other place differs inside).item) ((sound.chain other).held place inside)
+              | inr differs ↦ rw ((change_others other place differs inside).item)
+                  ((sound.chain other).held place inside)
             ];
         apart = (sound.chain other).apart;
         first = (sound.chain other).first;
@@ -113,7 +133,8 @@ module _ {T : Type 0} (old new : ℕ → Option (Node T)) (ends : List Ends) (co
       }
 
   -- all is sound after the change
-  pub change_sound : (new_count new_capacity : ℕ) → new_count ≡ count → new_capacity ≡ capacity → IsSound new ends new_count new_capacity
+  pub change_sound : (new_count new_capacity : ℕ) → new_count ≡ count → new_capacity ≡ capacity
+      → AreChains new ends new_count new_capacity
   change_sound new_count new_capacity same_count same_capacity =
       record {
         key = sound.key;
@@ -127,15 +148,20 @@ module _ {T : Type 0} (old new : ℕ → Option (Node T)) (ends : List Ends) (co
   pub change_lists : map (items_of new) ends ≡ set (map (items_of old) ends) list (items_of new (ends_at ends list))
   change_lists =
       ap (map (items_of new)) (sym (set-get_or ends list no_ends))
-      ∙ lists_with old new ends count capacity sound list in_range (ends_at ends list) (items_of new (ends_at ends list)) change_others refl
+      ∙ lists_with old new ends count capacity sound list in_range (ends_at ends list)
+      (items_of new (ends_at ends list)) change_others refl
 
   -- and R relates its items, place by place
   pub change_each : AllZip R (items_of old (ends_at ends list)) (items_of new (ends_at ends list))
   change_each =
-      AllZip-from_places R (items_of old (ends_at ends list)) (items_of new (ends_at ends list)) (many_old ∙ sym many_new)
+      AllZip-from_places R (items_of old (ends_at ends list)) (items_of new (ends_at ends list))
+      (many_old ∙ sym many_new)
       (λ place here.
       let within : place < len_of (ends_at ends list) = omega (arith, many_old) in
-      rw (get-items_of old (ends_at ends list) (sound.key list) (sound.chain list) place within, get-items_of new (ends_at ends list) (sound.key list) (change_chain list) place within)
+      rw (
+        get-items_of old (ends_at ends list) (sound.key list) (sound.chain list) place within,
+        get-items_of new (ends_at ends list) (sound.key list) (change_chain list) place within,
+      )
       (change_turns place within))
     where
       many_old : length (items_of old (ends_at ends list)) ≡ len_of (ends_at ends list)

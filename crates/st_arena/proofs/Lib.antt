@@ -1,9 +1,10 @@
--- The lemmas of this crate, each file on those above it: what one chain and all lists hold, what closures made of a list,
--- what each kind of change leaves, and all that for the list that a call names. The folders prove the functions of src/.
-pub mod ChainLemmas
-pub mod ArenaLemmas
-pub mod CallLemmas
-pub mod AppendLemmas
-pub mod UnlinkLemmas
-pub mod ChangeLemmas
-pub mod ListLemmas
+-- The lemmas of this crate, each file on those above it: what one chain and all lists hold, what closures made of a
+-- list, what each kind of change leaves, and all that for the list that a call names. The folders prove the functions
+-- of src/.
+mod ChainLemmas
+mod ArenaLemmas
+mod CallLemmas
+mod AppendLemmas
+mod UnlinkLemmas
+mod ChangeLemmas
+mod ListLemmas

@@ -1,5 +1,7 @@
--- Lemmas for the calls on one list of an arena: `found` is what the code read as its ends.
-use Rattle.std.proofs.Common.{◌≡◌, ℕ, zero, suc, ◌+◌, ◌<◌, ◌≤◌, List, [], ◌∷◌, ◌++◌, length, get_or, map, set, Option, Some, None, IsSome, remove, slice_get, refl, sym, ap, ◌∙◌, arith}
+-- What the code read as the ends of a list (`found`) are its ends, so what holds of the chain of each list holds of
+-- the one that a call names.
+use Rattle.std.proofs.Common.{◌≡◌, ℕ, zero, suc, ◌+◌, ◌<◌, ◌≤◌, List, [], ◌∷◌, ◌++◌, length, get_or, map, set}
+use Rattle.std.proofs.Common.{Option, Some, None, IsSome, remove, slice_get, refl, sym, ap, ◌∙◌, arith}
 use Rattle.std.specs.List.{AllZip}
 use Rattle.std.proofs.lemmas.List.{length-map, get_or_read}
 use Rattle.std.proofs.lemmas.List.Sums.{sum_by-set}
@@ -7,7 +9,8 @@ use Rattle.std.proofs.lemmas.Option.{slice_get_past}
 use Rattle.st_arena.specs.declared.node.Node.{Node}
 use Rattle.st_arena.specs.declared.node.Ends.{Ends}
 use Rattle.st_arena.specs.Calls.{Computes}
-use Rattle.st_arena.specs.Chain.{len_of, no_ends, ends_at, item_of, items_of, key_after, IsChained, IsSound, Appends, Unlinks, ChangesItems}
+use Rattle.st_arena.specs.Chain.{len_of, no_ends, ends_at, item_of, items_of, key_after, IsChained, AreChains}
+use Rattle.st_arena.specs.Chain.{Appends, Unlinks, ChangesItems}
 use Rattle.st_arena.proofs.CallLemmas.{map-from_AllZip}
 use Rattle.st_arena.proofs.ChainLemmas.{length-items_of, held_after, last_after, item_after, key_after-first}
 use Rattle.st_arena.proofs.ArenaLemmas.{list_of_map}
@@ -15,7 +18,9 @@ use Rattle.st_arena.proofs.AppendLemmas.{append_sound, append_lists}
 use Rattle.st_arena.proofs.UnlinkLemmas.{unlink_sound, unlink_lists}
 use Rattle.st_arena.proofs.ChangeLemmas.{change_sound, change_lists, change_each}
 
-module _ {T : Type 0} (slots : ℕ → Option (Node T)) (ends : List Ends) (count capacity : ℕ) (sound : IsSound slots ends count capacity) (lists : List (List T)) (view : map (items_of slots) ends ≡ lists) (list : ℕ) (in_range : list < length lists) (found : Ends) (read : found ≡ get_or ends list found) where
+module _ {T : Type 0} (slots : ℕ → Option (Node T)) (ends : List Ends) (count capacity : ℕ)
+    (sound : AreChains slots ends count capacity) (lists : List (List T)) (view : map (items_of slots) ends ≡ lists)
+    (list : ℕ) (in_range : list < length lists) (found : Ends) (read : found ≡ get_or ends list found) where
   -- the list has ends
   in_ends : list < length ends
   in_ends = omega (arith, in_range, ap length view, length-map ends (items_of slots))
@@ -26,7 +31,10 @@ module _ {T : Type 0} (slots : ℕ → Option (Node T)) (ends : List Ends) (coun
 
   -- the list that a contract sees is the chain's items
   pub list_is : get_or lists list [] ≡ items_of slots found
-  list_is = ap (λ xs. get_or xs list []) (sym view) ∙ list_of_map slots slots ends count capacity sound list in_ends found ∙ ap (items_of slots) (sym found_is)
+  list_is =
+      ap (λ xs. get_or xs list []) (sym view)
+      ∙ list_of_map slots slots ends count capacity sound list in_ends found
+      ∙ ap (items_of slots) (sym found_is)
 
   -- its nodes are a chain
   pub chained : IsChained slots found
@@ -45,7 +53,8 @@ module _ {T : Type 0} (slots : ℕ → Option (Node T)) (ends : List Ends) (coun
   get_past place past = slice_get_past (get_or lists list []) place (omega (arith, len_is))
 
   -- below it there is what the node at the place holds
-  pub get_at : (place key : ℕ) (node : Node T) → place < found.len → key ≡ key_after slots found.first place → slots key ≡ Some node → slice_get (get_or lists list []) place ≡ Some node.value
+  pub get_at : (place key : ℕ) (node : Node T) → place < found.len → key ≡ key_after slots found.first place
+      → slots key ≡ Some node → slice_get (get_or lists list []) place ≡ Some node.value
   get_at place key node within is_there is_node =
       ap (λ xs. slice_get xs place) list_is
       ∙ item_after slots found chained place within
@@ -53,7 +62,8 @@ module _ {T : Type 0} (slots : ℕ → Option (Node T)) (ends : List Ends) (coun
       ∙ ap item_of is_node
 
   -- the same, of a slot that holds the value
-  pub get_held : (place key : ℕ) (value : T) → place < found.len → key ≡ key_after slots found.first place → item_of (slots key) ≡ Some value → slice_get (get_or lists list []) place ≡ Some value
+  pub get_held : (place key : ℕ) (value : T) → place < found.len → key ≡ key_after slots found.first place
+      → item_of (slots key) ≡ Some value → slice_get (get_or lists list []) place ≡ Some value
   get_held place key value within is_there held =
       ap (λ xs. slice_get xs place) list_is
       ∙ item_after slots found chained place within
@@ -70,7 +80,8 @@ module _ {T : Type 0} (slots : ℕ → Option (Node T)) (ends : List Ends) (coun
     where
       by_len : (len : ℕ) → len ≡ found.len → 0 < len → IsSome (slots found.last)
       by_len zero is positive = absurd (omega arith)
-      by_len (suc last) is positive = rw (last_after slots found chained last is) (held_after slots found chained last (omega arith))
+      by_len (suc last) is positive =
+          rw (last_after slots found chained last is) (held_after slots found chained last (omega arith))
 
   module _ (new : ℕ → Option (Node T)) (after : Ends) where
     module _ (value : T) (change : Appends slots new found after value) where
@@ -79,14 +90,16 @@ module _ {T : Type 0} (slots : ℕ → Option (Node T)) (ends : List Ends) (coun
       appends = rw found_is at change
 
       -- after it all is sound
-      pub push_sound : (new_count new_capacity : ℕ) → new_count ≡ count + 1 → new_count ≤ new_capacity → IsSound new (set ends list after) new_count new_capacity
+      pub push_sound : (new_count new_capacity : ℕ) → new_count ≡ count + 1 → new_count ≤ new_capacity
+          → AreChains new (set ends list after) new_count new_capacity
       push_sound = append_sound slots new ends count capacity sound list in_ends after value appends
 
       -- and the value stands at the end of that list alone
       pub push_lists : map (items_of new) (set ends list after) ≡ set lists list (get_or lists list [] ++ value ∷ [])
       push_lists = rw view at (append_lists slots new ends count capacity sound list in_ends after value appends)
 
-    module _ (place key : ℕ) (value : T) (change : Unlinks slots new found after place key value) (within : place < found.len) (is_there : key ≡ key_after slots found.first place) where
+    module _ (place key : ℕ) (value : T) (change : Unlinks slots new found after place key value)
+        (within : place < found.len) (is_there : key ≡ key_after slots found.first place) where
       -- a take from the ends that were read is one from the list's
       unlinks : Unlinks slots new (ends_at ends list) after place key value
       unlinks = rw found_is at change
@@ -97,23 +110,32 @@ module _ {T : Type 0} (slots : ℕ → Option (Node T)) (ends : List Ends) (coun
 
       -- the key is that of the place
       there : key ≡ sound.key list place
-      there = is_there ∙ ap (λ e. key_after slots e.first place) found_is ∙ key_after-first slots (ends_at ends list) (sound.key list) (sound.chain list) place inside
+      there =
+          is_there
+          ∙ ap (λ e. key_after slots e.first place) found_is
+          ∙ key_after-first slots (ends_at ends list) (sound.key list) (sound.chain list) place inside
 
       -- after it all is sound
-      pub take_sound : (new_count new_capacity : ℕ) → new_count + 1 ≡ count → new_count ≤ new_capacity → IsSound new (set ends list after) new_count new_capacity
-      take_sound = unlink_sound slots new ends count capacity sound list in_ends after place key value unlinks inside there
+      pub take_sound : (new_count new_capacity : ℕ) → new_count + 1 ≡ count → new_count ≤ new_capacity
+          → AreChains new (set ends list after) new_count new_capacity
+      take_sound =
+          unlink_sound slots new ends count capacity sound list in_ends after place key value unlinks inside there
 
       -- and that list alone lost the item at the place
       pub take_lists : map (items_of new) (set ends list after) ≡ set lists list (remove (get_or lists list []) place)
-      take_lists = rw view at (unlink_lists slots new ends count capacity sound list in_ends after place key value unlinks inside there)
+      take_lists =
+          rw view at
+          (unlink_lists slots new ends count capacity sound list in_ends after place key value unlinks inside there)
 
-  module _ (new : ℕ → Option (Node T)) (R : T → T → Type 0) (change : ChangesItems slots new R found.first found.len) where
+  module _ (new : ℕ → Option (Node T)) (R : T → T → Type 0)
+      (change : ChangesItems slots new R found.first found.len) where
     -- a change under the ends that were read is one of the list
     changes : ChangesItems slots new R (ends_at ends list).first (len_of (ends_at ends list))
     changes = rw found_is at change
 
     -- after it all is sound
-    pub changed_sound : (new_count new_capacity : ℕ) → new_count ≡ count → new_capacity ≡ capacity → IsSound new ends new_count new_capacity
+    pub changed_sound : (new_count new_capacity : ℕ) → new_count ≡ count → new_capacity ≡ capacity
+        → AreChains new ends new_count new_capacity
     changed_sound = change_sound slots new ends count capacity sound list in_ends R changes
 
     -- the changed list, among all lists
@@ -126,9 +148,14 @@ module _ {T : Type 0} (slots : ℕ → Option (Node T)) (ends : List Ends) (coun
 
     -- each of its items became one that R relates to it
     pub changed_each : AllZip R (get_or lists list []) (get_or (map (items_of new) ends) list [])
-    changed_each = rw (new_list, list_is, found_is) (change_each slots new ends count capacity sound list in_ends R changes)
+    changed_each =
+        rw (new_list, list_is, found_is) (change_each slots new ends count capacity sound list in_ends R changes)
 
     -- and where a function computes R, the list is mapped by it
-    pub changed_mapped : (f : T → T) → Computes R f (get_or lists list []) → map (items_of new) ends ≡ set lists list (map f (get_or lists list []))
+    pub changed_mapped : (f : T → T) → Computes R f (get_or lists list [])
+        → map (items_of new) ends ≡ set lists list (map f (get_or lists list []))
     changed_mapped f computes =
-        changed_lists ∙ ap (λ xs. set lists list xs) (map-from_AllZip R f (get_or lists list []) (get_or (map (items_of new) ends) list []) computes changed_each)
+        changed_lists
+        ∙ ap (λ xs. set lists list xs)
+        (map-from_AllZip R f (get_or lists list []) (get_or (map (items_of new) ends) list []) computes
+        changed_each)

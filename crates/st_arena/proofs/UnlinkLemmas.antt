@@ -1,16 +1,22 @@
 -- A take: the node leaves the chain of its list, which its neighbours close, and all other lists stay.
-use Rattle.std.proofs.Common.{◌≡◌, ◌≢◌, ℕ, zero, suc, ◌+◌, ◌<◌, ◌≤◌, cond, ltb, List, [], length, get_or, map, set, Option, remove, refl, sym, ap, ◌∙◌, inl, inr, arith, unwrap_or}
+use Rattle.std.proofs.Common.{◌≡◌, ◌≢◌, ℕ, zero, suc, ◌+◌, ◌<◌, ◌≤◌, cond, ltb, List, [], length, get_or, map}
+use Rattle.std.proofs.Common.{set, Option, remove, refl, sym, ap, ◌∙◌, inl, inr, arith, unwrap_or}
 use Rattle.std.proofs.lemmas.Bool.{cases_lt, lt-ltb, le-ltb, cond-true, cond-false, cases_order}
 use Rattle.std.proofs.lemmas.List.{same_lists}
 use Rattle.st_arena.specs.declared.node.Node.{Node}
 use Rattle.st_arena.specs.declared.node.Ends.{Ends}
-use Rattle.st_arena.specs.Chain.{len_of, ends_at, item_of, next_key, previous_key, items_of, IsChain, IsSound, Unlinks}
+use Rattle.st_arena.specs.Chain.{len_of, ends_at, item_of, next_key, previous_key, items_of, IsChain, AreChains}
+use Rattle.st_arena.specs.Chain.{Unlinks}
 use Rattle.std.proofs.lemmas.List.Edits.{length-remove, get_or-remove_below, get_or-remove_above}
 use Rattle.st_arena.proofs.ChainLemmas.{SameAt, length-items_of, get_or-items_of}
 use Rattle.st_arena.proofs.ArenaLemmas.{sound_with, lists_with, list_of_map}
 
 -- ---- on one chain
-module _ {T : Type 0} (old new : ℕ → Option (Node T)) (ends : Ends) (key : ℕ → ℕ) (chain : IsChain old ends key) (after : Ends) (place gone : ℕ) (value : T) (change : Unlinks old new ends after place gone value) (within : place < ends.len) (is_there : gone ≡ key place) (row : ℕ → ℕ) (below : (other : ℕ) → other < place → row other ≡ key other) (above : (other : ℕ) → place ≤ other → row other ≡ key (suc other)) where
+module _ {T : Type 0} (old new : ℕ → Option (Node T)) (ends : Ends) (key : ℕ → ℕ) (chain : IsChain old ends key)
+    (after : Ends) (place gone : ℕ) (value : T) (change : Unlinks old new ends after place gone value)
+    (within : place < ends.len) (is_there : gone ≡ key place) (row : ℕ → ℕ)
+    (below : (other : ℕ) → other < place → row other ≡ key other)
+    (above : (other : ℕ) → place ≤ other → row other ≡ key (suc other)) where
   -- only the node at the place stands under its key
   not_gone : (other : ℕ) → other < ends.len → other ≢ place → key other ≢ gone
   not_gone other inside differs same = differs (chain.apart other place inside within (same ∙ is_there))
@@ -24,7 +30,8 @@ module _ {T : Type 0} (old new : ℕ → Option (Node T)) (ends : Ends) (key : �
   front_key more = ap (λ k. next_key (old k)) is_there ∙ chain.next place more
 
   -- of the nodes that stay, only the one before the place has a new next, and only the one behind it a new previous
-  next_kept : (other : ℕ) → other < ends.len → other ≢ place → suc other ≢ place → next_key (new (key other)) ≡ next_key (old (key other))
+  next_kept : (other : ℕ) → other < ends.len → other ≢ place → suc other ≢ place
+      → next_key (new (key other)) ≡ next_key (old (key other))
   next_kept other inside differs not_before =
       change.next_stay (key other) (not_gone other inside differs) (λ some. not_back some)
     where
@@ -36,18 +43,22 @@ module _ {T : Type 0} (old new : ℕ → Option (Node T)) (ends : Ends) (key : �
             absurd (not_before (ap suc both ∙ is))
       ] refl
 
-  previous_kept : (other : ℕ) → other < ends.len → other ≢ place → other ≢ suc place → previous_key (new (key other)) ≡ previous_key (old (key other))
+  previous_kept : (other : ℕ) → other < ends.len → other ≢ place → other ≢ suc place
+      → previous_key (new (key other)) ≡ previous_key (old (key other))
   previous_kept other inside differs not_behind =
       change.previous_stay (key other) (not_gone other inside differs)
       (λ more same. absurd (not_behind (chain.apart other (suc place) inside more (same ∙ front_key more))))
 
   -- the nodes before the place hold what they held
   unlink_same_below : (other : ℕ) → other < place → item_of (new (row other)) ≡ item_of (old (key other))
-  unlink_same_below other before = rw (below other before) (change.items_stay (key other) (not_gone other (omega arith) (omega arith)))
+  unlink_same_below other before =
+      rw (below other before) (change.items_stay (key other) (not_gone other (omega arith) (omega arith)))
 
   -- and those behind it what the ones a place further held
-  unlink_same_above : (other : ℕ) → place ≤ other → suc other < ends.len → item_of (new (row other)) ≡ item_of (old (key (suc other)))
-  unlink_same_above other behind inside = rw (above other behind) (change.items_stay (key (suc other)) (not_gone (suc other) inside (omega arith)))
+  unlink_same_above : (other : ℕ) → place ≤ other → suc other < ends.len
+      → item_of (new (row other)) ≡ item_of (old (key (suc other)))
+  unlink_same_above other behind inside =
+      rw (above other behind) (change.items_stay (key (suc other)) (not_gone (suc other) inside (omega arith)))
 
   -- the node leaves the chain
   pub unlink_chain : IsChain new after row
@@ -56,24 +67,32 @@ module _ {T : Type 0} (old new : ℕ → Option (Node T)) (ends : Ends) (key : �
         held = λ other inside.
             elim (cases_lt other place) [
               | inl before ↦ rw (unlink_same_below other before) (chain.held other (omega arith))
-              | inr behind ↦ rw (unlink_same_above other behind (omega (arith, change.len))) (chain.held (suc other) (omega (arith, change.len)))
+              | inr behind ↦ rw (unlink_same_above other behind (omega (arith, change.len)))
+                  (chain.held (suc other) (omega (arith, change.len)))
             ];
         apart = λ one other one_inside other_inside same.
             elim (cases_lt one place) [
               | inl one_before ↦
                   elim (cases_lt other place) [
-                    | inl before ↦ chain.apart one other (omega arith) (omega arith) (sym (below one one_before) ∙ same ∙ below other before)
+                    | inl before ↦ chain.apart one other (omega arith) (omega arith)
+                        (sym (below one one_before) ∙ same ∙ below other before)
                     | inr behind ↦
-                        let both : one ≡ suc other = chain.apart one (suc other) (omega arith) (omega (arith, change.len)) (sym (below one one_before) ∙ same ∙ above other behind) in
+                        let both : one ≡ suc other =
+                        chain.apart one (suc other) (omega arith) (omega (arith, change.len))
+                        (sym (below one one_before) ∙ same ∙ above other behind) in
                         absurd (omega arith)
                   ]
               | inr one_behind ↦
                   elim (cases_lt other place) [
                     | inl before ↦
-                        let both : suc one ≡ other = chain.apart (suc one) other (omega (arith, change.len)) (omega arith) (sym (above one one_behind) ∙ same ∙ below other before) in
+                        let both : suc one ≡ other =
+                        chain.apart (suc one) other (omega (arith, change.len)) (omega arith)
+                        (sym (above one one_behind) ∙ same ∙ below other before) in
                         absurd (omega arith)
                     | inr behind ↦
-                        let both : suc one ≡ suc other = chain.apart (suc one) (suc other) (omega (arith, change.len)) (omega (arith, change.len)) (sym (above one one_behind) ∙ same ∙ above other behind) in
+                        let both : suc one ≡ suc other =
+                        chain.apart (suc one) (suc other) (omega (arith, change.len)) (omega (arith, change.len))
+                        (sym (above one one_behind) ∙ same ∙ above other behind) in
                         omega arith
                   ]
             ];
@@ -82,14 +101,19 @@ module _ {T : Type 0} (old new : ℕ → Option (Node T)) (ends : Ends) (key : �
               | inl inside ↦ change.first_stays inside ∙ chain.first (omega arith) ∙ sym (below 0 inside)
               | inr past ↦
                   let here : place ≡ 0 = omega arith in
-                  change.first_moves here ∙ front_key (omega (arith, change.len)) ∙ ap (λ p. key (suc p)) here ∙ sym (above 0 past)
+                  change.first_moves here
+                  ∙ front_key (omega (arith, change.len))
+                  ∙ ap (λ p. key (suc p)) here
+                  ∙ sym (above 0 past)
             ];
         last = λ other is.
             elim (cases_lt other place) [
               | inl before ↦
                   let here : suc other ≡ place = omega (arith, change.len) in
                   change.last_moves (omega (arith, change.len)) ∙ back_key other here ∙ sym (below other before)
-              | inr behind ↦ change.last_stays (omega (arith, change.len)) ∙ chain.last (suc other) (omega (arith, change.len)) ∙ sym (above other behind)
+              | inr behind ↦ change.last_stays (omega (arith, change.len))
+                  ∙ chain.last (suc other) (omega (arith, change.len))
+                  ∙ sym (above other behind)
             ];
         next = λ other inside.
             elim (cases_order (suc other) place) [
@@ -113,7 +137,10 @@ module _ {T : Type 0} (old new : ℕ → Option (Node T)) (ends : Ends) (key : �
         previous = λ other inside.
             elim (cases_order (suc other) place) [
               | inl here ↦
-                  ap (λ k. previous_key (new k)) (above (suc other) (omega arith) ∙ ap (λ p. key (suc p)) here ∙ sym (front_key (omega (arith, change.len))))
+                  ap (λ k. previous_key (new k))
+                  (above (suc other) (omega arith)
+                  ∙ ap (λ p. key (suc p)) here
+                  ∙ sym (front_key (omega (arith, change.len))))
                   ∙ change.previous (omega (arith, change.len))
                   ∙ back_key other here
                   ∙ sym (below other (omega arith))
@@ -134,7 +161,8 @@ module _ {T : Type 0} (old new : ℕ → Option (Node T)) (ends : Ends) (key : �
   pub unlink_items : items_of new after ≡ remove (items_of old ends) place
   unlink_items =
       let many : length (items_of old ends) ≡ ends.len = length-items_of old ends key chain in
-      let fewer : length (remove (items_of old ends) place) + 1 ≡ length (items_of old ends) = length-remove (items_of old ends) place (omega arith) in
+      let fewer : length (remove (items_of old ends) place) + 1 ≡ length (items_of old ends) =
+      length-remove (items_of old ends) place (omega arith) in
       same_lists (items_of new after) (remove (items_of old ends) place)
       (omega (arith, length-items_of new after row unlink_chain, change.len))
       (λ other default here.
@@ -154,7 +182,10 @@ module _ {T : Type 0} (old new : ℕ → Option (Node T)) (ends : Ends) (key : �
       ]))
 
 -- ---- among all lists: the node that goes and its neighbours are this list's
-module _ {T : Type 0} (old new : ℕ → Option (Node T)) (ends : List Ends) (count capacity : ℕ) (sound : IsSound old ends count capacity) (list : ℕ) (in_range : list < length ends) (after : Ends) (place gone : ℕ) (value : T) (change : Unlinks old new (ends_at ends list) after place gone value) (within : place < len_of (ends_at ends list)) (is_there : gone ≡ sound.key list place) where
+module _ {T : Type 0} (old new : ℕ → Option (Node T)) (ends : List Ends) (count capacity : ℕ)
+    (sound : AreChains old ends count capacity) (list : ℕ) (in_range : list < length ends) (after : Ends)
+    (place gone : ℕ) (value : T) (change : Unlinks old new (ends_at ends list) after place gone value)
+    (within : place < len_of (ends_at ends list)) (is_there : gone ≡ sound.key list place) where
   -- the keys of the list from then on: those that it had, without the one at the place
   unlink_row : ℕ → ℕ
   unlink_row other = cond (ltb other place) (sound.key list other) (sound.key list (suc other))
@@ -162,46 +193,59 @@ module _ {T : Type 0} (old new : ℕ → Option (Node T)) (ends : List Ends) (co
   -- before the place they are those that the list had
   unlink_row-below : (other : ℕ) → other < place → unlink_row other ≡ sound.key list other
   unfolding unlink_row
-  unlink_row-below other before = cond-true (ltb other place) (sound.key list other) (sound.key list (suc other)) (lt-ltb other place before)
+  unlink_row-below other before =
+      cond-true (ltb other place) (sound.key list other) (sound.key list (suc other)) (lt-ltb other place before)
 
   -- from there on those a place further
   unlink_row-above : (other : ℕ) → place ≤ other → unlink_row other ≡ sound.key list (suc other)
   unfolding unlink_row
-  unlink_row-above other behind = cond-false (ltb other place) (sound.key list other) (sound.key list (suc other)) (le-ltb other place behind)
+  unlink_row-above other behind =
+      cond-false (ltb other place) (sound.key list other) (sound.key list (suc other)) (le-ltb other place behind)
 
   -- no node of another list is a node of this one
-  not_here : (other there here : ℕ) → other ≢ list → there < len_of (ends_at ends other) → here < len_of (ends_at ends list) → (key : ℕ) → key ≡ sound.key list here → sound.key other there ≢ key
-  not_here other there here differs inside here_inside key is same = sound.disjoint other list there here differs inside here_inside (same ∙ is)
+  not_here : (other there here : ℕ) → other ≢ list → there < len_of (ends_at ends other)
+      → here < len_of (ends_at ends list) → (key : ℕ) → key ≡ sound.key list here → sound.key other there ≢ key
+  not_here other there here differs inside here_inside key is same =
+      sound.disjoint other list there here differs inside here_inside (same ∙ is)
 
   -- nor is it the one before the place
-  not_back : (other there : ℕ) → other ≢ list → there < len_of (ends_at ends other) → 0 < place → sound.key other there ≢ previous_key (old gone)
+  not_back : (other there : ℕ) → other ≢ list → there < len_of (ends_at ends other) → 0 < place
+      → sound.key other there ≢ previous_key (old gone)
   not_back other there differs inside some = by_place place refl some
     where
       by_place : (p : ℕ) → p ≡ place → 0 < p → sound.key other there ≢ previous_key (old gone)
       by_place zero is positive = absurd (omega arith)
       by_place (suc before) is positive =
           not_here other there before differs inside (omega arith) (previous_key (old gone))
-          (ap (λ k. previous_key (old k)) (is_there ∙ ap (sound.key list) (sym is)) ∙ (sound.chain list).previous before (omega arith))
+          (ap (λ k. previous_key (old k)) (is_there ∙ ap (sound.key list) (sym is))
+          ∙ (sound.chain list).previous before (omega arith))
 
   -- the nodes of all other lists stay as they were
-  unlink_others : (other there : ℕ) → other ≢ list → there < len_of (ends_at ends other) → SameAt old new (sound.key other there)
+  unlink_others : (other there : ℕ) → other ≢ list → there < len_of (ends_at ends other)
+      → SameAt old new (sound.key other there)
   unlink_others other there differs inside =
       let not_gone = not_here other there place differs inside within gone is_there in
       record {
         item = change.items_stay _ not_gone;
         next = change.next_stay _ not_gone (not_back other there differs inside);
         previous = change.previous_stay _ not_gone
-            (λ more. not_here other there (suc place) differs inside more (next_key (old gone)) (ap (λ k. next_key (old k)) is_there ∙ (sound.chain list).next place more));
+            (λ more.
+            not_here other there (suc place) differs inside more (next_key (old gone))
+            (ap (λ k. next_key (old k)) is_there ∙ (sound.chain list).next place more));
       }
 
   -- the list is a chain under its new keys
   unlink_here : IsChain new after unlink_row
-  unlink_here = unlink_chain old new (ends_at ends list) (sound.key list) (sound.chain list) after place gone value change within is_there unlink_row unlink_row-below unlink_row-above
+  unlink_here =
+      unlink_chain old new (ends_at ends list) (sound.key list) (sound.chain list) after place gone value change
+      within is_there unlink_row unlink_row-below unlink_row-above
 
   -- all is sound after a take, with one node fewer
-  pub unlink_sound : (new_count new_capacity : ℕ) → new_count + 1 ≡ count → new_count ≤ new_capacity → IsSound new (set ends list after) new_count new_capacity
+  pub unlink_sound : (new_count new_capacity : ℕ) → new_count + 1 ≡ count → new_count ≤ new_capacity
+      → AreChains new (set ends list after) new_count new_capacity
   unlink_sound new_count new_capacity fewer room =
-      sound_with old new ends count capacity sound list in_range after unlink_row new_count new_capacity unlink_here unlink_others
+      sound_with old new ends count capacity sound list in_range after unlink_row new_count new_capacity unlink_here
+      unlink_others
       (λ other here there differs inside other_inside same.
       elim (cases_lt here place) [
         | inl before ↦
@@ -215,8 +259,11 @@ module _ {T : Type 0} (old new : ℕ → Option (Node T)) (ends : List Ends) (co
       room
 
   -- and of all lists only that one changed: it lost the item at the place
-  pub unlink_lists : map (items_of new) (set ends list after) ≡ set (map (items_of old) ends) list (remove (get_or (map (items_of old) ends) list []) place)
+  pub unlink_lists : map (items_of new) (set ends list after)
+      ≡ set (map (items_of old) ends) list (remove (get_or (map (items_of old) ends) list []) place)
   unlink_lists =
-      lists_with old new ends count capacity sound list in_range after (remove (get_or (map (items_of old) ends) list []) place) unlink_others
-      (unlink_items old new (ends_at ends list) (sound.key list) (sound.chain list) after place gone value change within is_there unlink_row unlink_row-below unlink_row-above
+      lists_with old new ends count capacity sound list in_range after
+      (remove (get_or (map (items_of old) ends) list []) place) unlink_others
+      (unlink_items old new (ends_at ends list) (sound.key list) (sound.chain list) after place gone value change
+      within is_there unlink_row unlink_row-below unlink_row-above
       ∙ ap (λ xs. remove xs place) (sym (list_of_map old new ends count capacity sound list in_range after)))

@@ -5,7 +5,8 @@ use Rattle.std.specs.Prelude.{◌≡◌, ℕ, ◌<◌, Bool, true, false, List, 
 module _ {T A : Type 0} (answers : T → A → Type 0) where
   -- at each item of the list the call gives what the function f gives, and nothing else
   abbrev pub Computes : (T → A) → List T → Type 0
-  Computes f items = (place : ℕ) (item : T) (answer : A) → slice_get items place ≡ Some item → answers item answer → answer ≡ f item
+  Computes f items =
+      (place : ℕ) (item : T) (answer : A) → slice_get items place ≡ Some item → answers item answer → answer ≡ f item
 
 module _ {T : Type 0} (answers : T → Bool → Type 0) (items : List T) where
   -- the item at the place was answered so

@@ -1,6 +1,7 @@
 -- How a list lies in the arena: its nodes, linked by the keys under which the slab keeps them.
 -- No public clause cites this module.
-use Rattle.std.specs.Prelude.{◌≡◌, ◌≢◌, ℕ, zero, suc, ◌<◌, ◌≤◌, List, [], ◌∷◌, Option, Some, None, IsSome, sum_by, slice_index_or}
+use Rattle.std.specs.Prelude.{◌≡◌, ◌≢◌, ℕ, zero, suc, ◌<◌, ◌≤◌, List, [], ◌∷◌, Option, Some, None, IsSome}
+use Rattle.std.specs.Prelude.{sum_by, slice_index_or}
 use Rattle.std.specs.Option.{option_map, option_map_or}
 use Rattle.st_arena.specs.declared.node.Node.{Node}
 use Rattle.st_arena.specs.declared.node.Ends.{Ends}
@@ -68,10 +69,11 @@ module _ {T : Type 0} (slots : ℕ → Option (Node T)) where
     pub chain : IsChain ends key
 
   -- each list is a chain, no two share a node, and the chains have every node
-  pub record IsSound (ends : List Ends) (node_count capacity : ℕ) : Type 0 where
+  pub record AreChains (ends : List Ends) (node_count capacity : ℕ) : Type 0 where
     pub key : ℕ → ℕ → ℕ
     pub chain : (list : ℕ) → IsChain (ends_at ends list) (key list)
-    pub disjoint : (list other place other_place : ℕ) → list ≢ other → place < len_of (ends_at ends list) → other_place < len_of (ends_at ends other) → key list place ≢ key other other_place
+    pub disjoint : (list other place other_place : ℕ) → list ≢ other → place < len_of (ends_at ends list)
+        → other_place < len_of (ends_at ends other) → key list place ≢ key other other_place
     pub total : sum_by len_of ends ≡ node_count
     pub within : node_count ≤ capacity
 
@@ -104,7 +106,8 @@ module _ {T : Type 0} (old new : ℕ → Option (Node T)) where
     pub was_vacant : old key ≡ None
     pub holds : item_of (new key) ≡ Some item
     pub items_stay : (other : ℕ) → other ≢ key → item_of (new other) ≡ item_of (old other)
-    pub next_stay : (other : ℕ) → other ≢ key → (0 < ends.len → other ≢ ends.last) → next_key (new other) ≡ next_key (old other)
+    pub next_stay : (other : ℕ) → other ≢ key → (0 < ends.len → other ≢ ends.last)
+        → next_key (new other) ≡ next_key (old other)
     pub previous_stay : (other : ℕ) → other ≢ key → previous_key (new other) ≡ previous_key (old other)
     pub next : 0 < ends.len → next_key (new ends.last) ≡ key
     pub previous : previous_key (new key) ≡ ends.last
@@ -117,8 +120,10 @@ module _ {T : Type 0} (old new : ℕ → Option (Node T)) where
   pub record Unlinks (ends after : Ends) (place key : ℕ) (item : T) : Type 0 where
     pub held : item_of (old key) ≡ Some item
     pub items_stay : (other : ℕ) → other ≢ key → item_of (new other) ≡ item_of (old other)
-    pub next_stay : (other : ℕ) → other ≢ key → (0 < place → other ≢ previous_key (old key)) → next_key (new other) ≡ next_key (old other)
-    pub previous_stay : (other : ℕ) → other ≢ key → (suc place < ends.len → other ≢ next_key (old key)) → previous_key (new other) ≡ previous_key (old other)
+    pub next_stay : (other : ℕ) → other ≢ key → (0 < place → other ≢ previous_key (old key))
+        → next_key (new other) ≡ next_key (old other)
+    pub previous_stay : (other : ℕ) → other ≢ key → (suc place < ends.len → other ≢ next_key (old key))
+        → previous_key (new other) ≡ previous_key (old other)
     pub next : 0 < place → next_key (new (previous_key (old key))) ≡ next_key (old key)
     pub previous : suc place < ends.len → previous_key (new (next_key (old key))) ≡ previous_key (old key)
     pub first_moves : place ≡ 0 → after.first ≡ next_key (old key)
@@ -131,5 +136,7 @@ module _ {T : Type 0} (old new : ℕ → Option (Node T)) where
   pub record ChangesItems (R : T → T → Type 0) (first count : ℕ) : Type 0 where
     pub next_stay : (other : ℕ) → next_key (new other) ≡ next_key (old other)
     pub previous_stay : (other : ℕ) → previous_key (new other) ≡ previous_key (old other)
-    pub items_stay : (other : ℕ) → ((place : ℕ) → place < count → other ≢ key_after old first place) → item_of (new other) ≡ item_of (old other)
-    pub changed : (place : ℕ) → place < count → Turns R (item_of (old (key_after old first place))) (item_of (new (key_after old first place)))
+    pub items_stay : (other : ℕ) → ((place : ℕ) → place < count → other ≢ key_after old first place)
+        → item_of (new other) ≡ item_of (old other)
+    pub changed : (place : ℕ) → place < count
+        → Turns R (item_of (old (key_after old first place))) (item_of (new (key_after old first place)))

@@ -1,5 +1,5 @@
--- The definitions of this crate, in the order in which they build on each other.
--- `Arena` and `Calls` are what public contracts cite; `Chain` is the layout, and no public clause cites it.
+-- What public contracts cite: what is seen of the lists, and of the closures that are called at their items.
 pub mod Arena
 pub mod Calls
+-- What the parts need, in `chain.rt` above all: how a list lies in its nodes.
 pub mod Chain

@@ -6,7 +6,8 @@ ghost use Rattle.std.specs.Prelude.{◌≡◌, ◌+◌, ◌<◌, ◌≤◌, ℕ,
 ghost use Rattle.std.specs.Fn.{FnReturnsAt};
 ghost use Rattle.slab.specs.Slab.{get, ContainsKey, slab_len, HasRoomFor};
 ghost use Rattle.st_arena.specs.Calls.{IsAnswered, IsFirstAnswered};
-ghost use Rattle.st_arena.specs.Chain.{items_of, key_after, IsChained, SetsNext, SetsPrevious, Appends, Unlinks, ChangesItems};
+ghost use Rattle.st_arena.specs.Chain.{items_of, key_after, IsChained, SetsNext, SetsPrevious};
+ghost use Rattle.st_arena.specs.Chain.{Appends, Unlinks, ChangesItems};
 
 use crate::node::{Ends, NONE, Node, set_next, set_previous, set_value};
 use slab::Slab;
@@ -64,8 +65,9 @@ pub(crate) fn append<T>(nodes: &mut Slab<Node<T>>, ends: Ends, value: T) -> Ends
         next: NONE,
         previous: ends.last,
     });
-    // No list has more nodes than there are, which so bound the length that is counted up below.
-    let _ = nodes.len();
+    // No list has more nodes than there are. That their number is a `usize` is known where it is read,
+    // and so the length that is counted up below stays within its type.
+    let _node_count = nodes.len();
     if ends.len == 0 {
         return Ends {
             first: key,

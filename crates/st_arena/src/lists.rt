@@ -25,18 +25,20 @@ impl<T> Model for Lists<T> {
 
     ghost coded = { arena_code T.code };
 
-    ghost use Rattle.st_arena.specs.Chain.{items_of, IsSound};
+    ghost use Rattle.st_arena.specs.Chain.{items_of, AreChains};
 
     ghost view = { λ a. record {
       lists = map (items_of (get a.nodes)) a.ends.items;
       spare = a.nodes.capacity - slab_len a.nodes;
     } };
 
-    ghost invariant = { λ a. IsSound (get a.nodes) a.ends.items (slab_len a.nodes) a.nodes.capacity };
+    ghost invariant = { λ a. AreChains (get a.nodes) a.ends.items (slab_len a.nodes) a.nodes.capacity };
 }
 
 impl<T> Lists<T> {
-    ghost use Rattle.std.specs.Prelude.{◌≡◌, ◌+◌, ◌<◌, ◌≤◌, ℕ, Bool, [], ◌∷◌, ◌++◌, map, length, replicate, remove, position, slice_get, slice_set, Some, None, true, false, IsOk, IfOk, IfErr, OnOk, OnErr, OnSome, IfSome, IfNone, option_copied};
+    ghost use Rattle.std.specs.Prelude.{◌≡◌, ◌+◌, ◌<◌, ◌≤◌, ℕ, Bool, [], ◌∷◌, ◌++◌, map, length, replicate};
+    ghost use Rattle.std.specs.Prelude.{remove, position, slice_get, slice_set, Some, None, true, false};
+    ghost use Rattle.std.specs.Prelude.{IsOk, IfOk, IfErr, OnOk, OnErr, OnSome, IfSome, IfNone, option_copied};
     ghost use Rattle.std.specs.List.{AllZip};
     ghost use Rattle.std.specs.Fn.{FnReturnsAt};
     ghost use Rattle.st_arena.specs.Arena.{list_at};

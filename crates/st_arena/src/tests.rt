@@ -174,31 +174,52 @@ fn values_that_cannot_be_copied_change_where_they_are(rt: HostRuntime) -> Result
     Ok(())
 }
 
-// A room that no machine has is refused, and so is a growth for which no memory is left, which is seen
-// where this test runs with an allocation that fails (the third, or a later one). Either way no list
-// changes, the value comes back, and a later push succeeds.
-#[test]
-fn a_refused_growth_leaves_all_lists(rt: HostRuntime) -> Result<(), Fail> {
-    let mut lists = Lists::new(rt.alloc(), 2)?;
-    lists.reserve(1)?;
-    lists.push_reserved(0, 7);
-    assert!(rt; lists.reserve(usize::MAX).is_err());
-    for item in 0..100 {
-        if let Err(refused) = lists.push_back(1, item) {
-            assert_eq!(rt; refused.value, item);
-            assert_eq!(rt; lists.len(1), item);
-            assert_eq!(rt; lists.get(0, 0).copied(), Some(7));
-            assert!(rt; lists.push_back(1, refused.value).is_ok());
-        }
+// Two empty lists. Where memory is refused a second try has it.
+fn two_at_last(alloc: Global) -> Result<Lists<u64>, AllocError>
+    ensures { IfOk result (λ arena. length arena.lists ≡ 2) }
+{
+    match Lists::new(alloc, 2) {
+        Ok(lists) => Ok(lists),
+        Err(_) => Lists::new(alloc, 2),
     }
+}
+
+// Adds an item to list 1, which has so many. Where memory is refused the item comes back, nothing has
+// changed, and a second try has it.
+fn push_at_last<R: Abort>(rt: &R, lists: &mut Lists<u64>, item: u64)
+    requires { 1 < length lists.old.lists }
+    ensures { length lists.new.lists ≡ length lists.old.lists }
+{
+    if let Err(refused) = lists.push_back(1, item) {
+        assert_eq!(rt; refused.value, item);
+        assert_eq!(rt; (lists.len(0), lists.len(1)), (0, item));
+        assert!(rt; lists.push_back(1, refused.value).is_ok());
+    }
+}
+
+// The items of a list are 0, 1 and so on, so many of them.
+fn assert_counts_up<R: Abort>(rt: &R, lists: &Lists<u64>, list: usize, count: u64)
+    requires { list < length lists.now.lists }
+{
     let mut expected = 0u64;
-    for item in lists.walk(1) {
+    for item in lists.walk(list) {
         assert_eq!(rt; *item, expected);
         expected = expected.wrapping_add(1);
     }
-    assert_eq!(rt; expected, 100);
-    assert_eq!(rt; lists.len(0), 1);
-    assert_eq!(rt; lists.take_at(0, 0), Some(7));
+    assert_eq!(rt; expected, count);
+}
+
+// A room that no machine has is refused. What a refused push leaves is seen where this test runs with an
+// allocation that fails.
+#[test]
+fn a_refused_growth_leaves_all_lists(rt: HostRuntime) -> Result<(), Fail> {
+    let mut lists = two_at_last(rt.alloc())?;
+    assert!(rt; lists.reserve(usize::MAX).is_err());
+    for item in 0..100 {
+        push_at_last(&rt, &mut lists, item);
+    }
+    assert_counts_up(&rt, &lists, 0, 0);
+    assert_counts_up(&rt, &lists, 1, 100);
     Ok(())
 }
 

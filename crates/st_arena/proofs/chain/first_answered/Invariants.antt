@@ -10,4 +10,5 @@ use Rattle.st_arena.proofs.chain.first_answered.Given as goal
 abbrev pub invariant-loop-place : goal.invariant-loop-place
 invariant-loop-place g l =
     (items (get l.nodes) (l.fn.ends.len - l.place) l.key ≡ drop l.place (items_of (get l.nodes) l.fn.ends))
-    × ((place : ℕ) → place < l.place → IsAnswered (FnReturnsAt g.F.Fn l.pred) (items_of (get l.nodes) l.fn.ends) place false)
+    × ((place : ℕ) → place < l.place
+    → IsAnswered (FnReturnsAt g.F.Fn l.pred) (items_of (get l.nodes) l.fn.ends) place false)

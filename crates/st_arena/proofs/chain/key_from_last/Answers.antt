@@ -20,7 +20,8 @@ loop-at-preserved g c =
     let before = c.loop-at.at - 1 in
     let here : c.loop-at.at ≡ suc before = omega arith in (
       sym (ap previous_key c.index.ensures)
-          ∙ ap (λ k. previous_key (get c.args.nodes.now k)) (c.loop-at.invariant.0 ∙ ap (key_after (get c.args.nodes.now) c.args.ends.first) here)
+          ∙ ap (λ k. previous_key (get c.args.nodes.now k))
+          (c.loop-at.invariant.0 ∙ ap (key_after (get c.args.nodes.now) c.args.ends.first) here)
           ∙ previous_after _ _ c.requires.chained before (omega arith),
       omega arith,
       omega arith,

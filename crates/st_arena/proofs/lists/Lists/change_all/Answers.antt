@@ -5,15 +5,18 @@ use Rattle.st_arena.proofs.lists.Lists.change_all.Goals as goal
 
 pub returns-clause-others_stay : goal.returns-clause-others_stay
 returns-clause-others_stay g c =
-    changed_lists _ _ _ _ c.self.invariant _ (ap (λ a. a.lists) c.self.view_is) c.args.list c.requires.in_range _ c.index.ensures
+    changed_lists _ _ _ _ c.self.invariant _ (ap (λ a. a.lists) c.self.view_is) c.args.list c.requires.in_range _
+    c.index.ensures
     _ _ c.change_items.ensures.changed
 
 pub returns-clause-changed : goal.returns-clause-changed
 returns-clause-changed g c =
-    changed_each _ _ _ _ c.self.invariant _ (ap (λ a. a.lists) c.self.view_is) c.args.list c.requires.in_range _ c.index.ensures
+    changed_each _ _ _ _ c.self.invariant _ (ap (λ a. a.lists) c.self.view_is) c.args.list c.requires.in_range _
+    c.index.ensures
     _ _ c.change_items.ensures.changed
 
 pub returns-clause-mapped : goal.returns-clause-mapped
 returns-clause-mapped g c =
-    changed_mapped _ _ _ _ c.self.invariant _ (ap (λ a. a.lists) c.self.view_is) c.args.list c.requires.in_range _ c.index.ensures
+    changed_mapped _ _ _ _ c.self.invariant _ (ap (λ a. a.lists) c.self.view_is) c.args.list c.requires.in_range _
+    c.index.ensures
     _ _ c.change_items.ensures.changed

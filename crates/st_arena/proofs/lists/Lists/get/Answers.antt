@@ -6,7 +6,9 @@ use Rattle.st_arena.proofs.lists.Lists.get.Goals as goal
 
 pub returns-then-place-ends : goal.returns-then-place-ends
 returns-then-place-ends g c =
-    sym (get_past _ _ _ _ c.self.invariant _ (ap (λ a. a.lists) c.self.view_is) c.args.list c.requires _ c.index-ends.ensures c.args.place (omega arith))
+    sym
+    (get_past _ _ _ _ c.self.invariant _ (ap (λ a. a.lists) c.self.view_is) c.args.list c.requires _
+    c.index-ends.ensures c.args.place (omega arith))
 
 pub key_at-key-requires-clause-chained : goal.key_at-key-requires-clause-chained
 key_at-key-requires-clause-chained g c =
@@ -15,8 +17,13 @@ key_at-key-requires-clause-chained g c =
 pub index-requires : goal.index-requires
 index-requires g c =
     rw c.key_at-key.ensures
-    (held_after _ _ (chained _ _ _ _ c.self.invariant _ (ap (λ a. a.lists) c.self.view_is) c.args.list c.requires _ c.index-ends.ensures) c.args.place (omega arith))
+    (held_after _ _
+    (chained _ _ _ _ c.self.invariant _ (ap (λ a. a.lists) c.self.view_is) c.args.list c.requires _
+    c.index-ends.ensures)
+    c.args.place (omega arith))
 
 pub returns : goal.returns
 returns g c =
-    sym (get_at _ _ _ _ c.self.invariant _ (ap (λ a. a.lists) c.self.view_is) c.args.list c.requires _ c.index-ends.ensures c.args.place _ _ (omega arith) c.key_at-key.ensures c.index.ensures)
+    sym
+    (get_at _ _ _ _ c.self.invariant _ (ap (λ a. a.lists) c.self.view_is) c.args.list c.requires _
+    c.index-ends.ensures c.args.place _ _ (omega arith) c.key_at-key.ensures c.index.ensures)

@@ -5,15 +5,19 @@ use Rattle.st_arena.proofs.lists.Lists.push_reserved.Goals as goal
 
 pub append-ends-requires-clause-last : goal.append-ends-requires-clause-last
 append-ends-requires-clause-last g c =
-    last_there _ _ _ _ c.self.invariant _ (ap (λ a. a.lists) c.self.view_is) c.args.list c.requires.in_range _ c.index.ensures
+    last_there _ _ _ _ c.self.invariant _ (ap (λ a. a.lists) c.self.view_is) c.args.list c.requires.in_range _
+    c.index.ensures
 
 pub invariant_of-self : goal.invariant_of-self
 invariant_of-self g c =
     let spare = ap (λ a. a.spare) c.self.view_is in
-    push_sound _ _ _ _ c.self.invariant _ (ap (λ a. a.lists) c.self.view_is) c.args.list c.requires.in_range _ c.index.ensures
-    _ _ _ c.append-ends.ensures.appends _ _ c.append-ends.ensures.len (omega (arith, c.append-ends.ensures.len, c.append-ends.ensures.capacity, spare, c.requires.room))
+    push_sound _ _ _ _ c.self.invariant _ (ap (λ a. a.lists) c.self.view_is) c.args.list c.requires.in_range _
+    c.index.ensures
+    _ _ _ c.append-ends.ensures.appends _ _ c.append-ends.ensures.len
+    (omega (arith, c.append-ends.ensures.len, c.append-ends.ensures.capacity, spare, c.requires.room))
 
 pub returns-clause-pushed : goal.returns-clause-pushed
 returns-clause-pushed g c =
-    push_lists _ _ _ _ c.self.invariant _ (ap (λ a. a.lists) c.self.view_is) c.args.list c.requires.in_range _ c.index.ensures
+    push_lists _ _ _ _ c.self.invariant _ (ap (λ a. a.lists) c.self.view_is) c.args.list c.requires.in_range _
+    c.index.ensures
     _ _ _ c.append-ends.ensures.appends
