@@ -1,5 +1,8 @@
--- What pick gives, by places.
-use Rattle.std.proofs.Common.{IsSome, ◌≡◌, ℕ, ◌+◌, ◌<◌, ◌≤◌, zero, suc, ◌==◌, Bool, true, false, cond, nat_lt, List, [], ◌∷◌, length, Option, Some, None, option_map, position, slice_get, refl, sym, ◌∙◌, ap, arith}
+-- Where a pattern doesn't ask for a place, the message that pick gives stands at the first position that passes a
+-- test, and where it does, at that place: so a search by the test finds the place, and what stands there is what pick
+-- gives.
+use Rattle.std.proofs.Common.{◌≡◌, ℕ, ◌+◌, ◌<◌, ◌≤◌, suc, ◌==◌, Bool, true, false, cond, nat_lt, List, [], ◌∷◌}
+use Rattle.std.proofs.Common.{length, Option, Some, None, option_map, position, slice_get, refl, sym, ◌∙◌, ap, arith}
 use Rattle.std.specs.List.{position_from}
 use Rattle.std.proofs.lemmas.Bool.{eqb-true}
 use Rattle.std.proofs.lemmas.Bool.Decides.{nat_tests}
@@ -9,15 +12,42 @@ use Rattle.st_core.specs.declared.types.Message.{Message}
 use Rattle.st_core.specs.declared.types.Want.{Want}
 use Rattle.st_core.specs.declared.types.Want.TheVariants as want
 use Rattle.st_core.specs.Pick.{matches, pick_from, pick}
+use Rattle.st_core.proofs.ForCallers.{pick_found}
 
--- a pattern that doesn't ask for a place
-picked_from : (n : ℕ) (w : Want) (test : Message → Bool) (ms : List Message) → ((k : ℕ) (m : Message) → matches w k m ≡ test m) → option_map (λ f. f.0) (pick_from n w ms) ≡ position_from test n ms
+-- the place of what pick gives, in a queue whose first place is n
+abbrev place_from : ℕ → Want → List Message → Option ℕ
+place_from n w ms = option_map (λ f. f.0) (pick_from n w ms)
+
+-- the same in a whole queue
+abbrev pub place_picked : Want → List Message → Option ℕ
+place_picked w ms = option_map (λ f. f.0) (pick w ms)
+
+-- k, if it is below the length
+abbrev pub below : ℕ → ℕ → Option ℕ
+below k len = cond (nat_lt k len) (Some k) None
+
+-- A PATTERN THAT DOESN'T ASK FOR A PLACE
+
+-- the pattern is this test
+abbrev pub IsTest : Want → (Message → Bool) → Type 0
+IsTest w test = (k : ℕ) (m : Message) → matches w k m ≡ test m
+
+picked_from : (n : ℕ) (w : Want) (test : Message → Bool) (ms : List Message)
+    → IsTest w test → place_from n w ms ≡ position_from test n ms
 picked_from n w test [] same = refl
 picked_from n w test (m ∷ ms) same =
-    rw (same n m) (elim (test m) as (λ b. option_map (λ f. f.0) (cond b (Some (n, m)) (pick_from (n + 1) w ms)) ≡ cond b (Some n) (position_from test (n + 1) ms)) [ true ↦ refl | false ↦ picked_from (n + 1) w test ms same ])
+    let this = λ (b : Bool). option_map (λ f. f.0) (cond b (Some (n, m)) (pick_from (n + 1) w ms)) in
+    let that = λ (b : Bool). cond b (Some n) (position_from test (n + 1) ms) in
+    rw (same n m) (elim (test m) as (λ b. this b ≡ that b) [
+      | true ↦ refl
+      | false ↦ picked_from (n + 1) w test ms same
+    ])
 
-pub picked : (w : Want) (test : Message → Bool) (ms : List Message) → ((k : ℕ) (m : Message) → matches w k m ≡ test m) → position test ms ≡ option_map (λ f. f.0) (pick w ms)
+pub picked : (w : Want) (test : Message → Bool) (ms : List Message)
+    → IsTest w test → position test ms ≡ place_picked w ms
 picked w test ms same = position_from-zero test ms ∙ sym (picked_from 0 w test ms same)
+
+-- A PATTERN THAT DOES
 
 lt_true : (m n : ℕ) → m < n → nat_lt m n ≡ true
 lt_true m n h = grind (arith, nat_tests)
@@ -28,55 +58,47 @@ lt_false m n h = grind (arith, nat_tests)
 past : (m n : ℕ) → m ≤ n → (m == n) ≡ false → m + 1 ≤ n
 past m n h e = grind (arith, nat_tests)
 
-placed_from : (n k : ℕ) (ms : List Message) → n ≤ k → option_map (λ f. f.0) (pick_from n (want.Place k) ms) ≡ cond (nat_lt k (n + length ms)) (Some k) None
+placed_from : (n k : ℕ) (ms : List Message) → n ≤ k → place_from n (want.Place k) ms ≡ below k (n + length ms)
 placed_from n k [] h = rw (lt_false k (n + 0) (omega arith)) refl
 placed_from n k (m ∷ ms) h =
-    let rest : n + 1 ≤ k → option_map (λ f. f.0) (pick_from (n + 1) (want.Place k) ms) ≡ cond (nat_lt k (n + suc (length ms))) (Some k) None =
-    λ le. placed_from (n + 1) k ms le ∙ ap (λ (l : ℕ). cond (nat_lt k l) (Some k) None) (omega arith) in
+    let rest : n + 1 ≤ k → place_from (n + 1) (want.Place k) ms ≡ below k (n + suc (length ms)) =
+    λ le. placed_from (n + 1) k ms le ∙ ap (below k) (omega arith) in
     by (n == k) refl rest
   where
-    by : (b : Bool) → (n == k) ≡ b → (n + 1 ≤ k → option_map (λ f. f.0) (pick_from (n + 1) (want.Place k) ms) ≡ cond (nat_lt k (n + suc (length ms))) (Some k) None)
-        → option_map (λ f. f.0) (pick_from n (want.Place k) (m ∷ ms)) ≡ cond (nat_lt k (n + length (m ∷ ms))) (Some k) None
+    by : (b : Bool) → (n == k) ≡ b
+        → (n + 1 ≤ k → place_from (n + 1) (want.Place k) ms ≡ below k (n + suc (length ms)))
+        → place_from n (want.Place k) (m ∷ ms) ≡ below k (n + length (m ∷ ms))
     by true e rest =
         let same : n ≡ k = eqb-true n k e in
         rw (e, lt_true k (n + suc (length ms)) (omega arith)) (ap Some same)
     by false e rest = rw e (rest (past n k h e))
 
 -- the pattern of a place
-pub placed : (k : ℕ) (ms : List Message) → cond (nat_lt k (length ms)) (Some k) None ≡ option_map (λ f. f.0) (pick (want.Place k) ms)
-placed k ms = ap (λ (l : ℕ). cond (nat_lt k l) (Some k) None) (omega arith) ∙ sym (placed_from 0 k ms (omega arith))
+pub placed : (k : ℕ) (ms : List Message) → below k (length ms) ≡ place_picked (want.Place k) ms
+placed k ms = ap (below k) (omega arith) ∙ sym (placed_from 0 k ms (omega arith))
 
 -- the pattern of the first
-pub firsts : (ms : List Message) → cond (nat_lt 0 (length ms)) (Some 0) None ≡ option_map (λ f. f.0) (pick want.First ms)
+pub firsts : (ms : List Message) → below 0 (length ms) ≡ place_picked want.First ms
 firsts [] = refl
 firsts (m ∷ ms) = rw (lt_true 0 (suc (length ms)) (omega arith)) refl
 
--- o is the message at place k of a queue whose first place is n
-record StandsIn (n : ℕ) (ms : List Message) (k : ℕ) (o : Option (ℕ × Message)) : Type 0 where
-  at : ℕ
-  place : k ≡ n + at
-  within : at < length ms
-  is : (x : Message) → slice_get ms at ≡ Some x → o ≡ Some (k, x)
+-- WHAT STANDS THERE
 
-stands : (n : ℕ) (w : Want) (ms : List Message) (k : ℕ) → option_map (λ f. f.0) (pick_from n w ms) ≡ Some k → StandsIn n ms k (pick_from n w ms)
-stands n w [] k e = absurd (cc)
-stands n w (m ∷ ms) k e =
-    elim (matches w n m) as (λ b. option_map (λ f. f.0) (cond b (Some (n, m)) (pick_from (n + 1) w ms)) ≡ Some k → StandsIn n (m ∷ ms) k (cond b (Some (n, m)) (pick_from (n + 1) w ms))) [
-      | true ↦ λ e. let same : n ≡ k = same_Some n k e in record { at = 0; place = omega arith; within = omega arith; is = λ x h. cc }
-      | false ↦ λ e. let rest = stands (n + 1) w ms k e in record { at = suc rest.at; place = omega (arith, rest.place); within = omega (arith, rest.within); is = rest.is }
-    ] e
+-- what stands at the place that pick gives is the message that it gives
+pub record IsPicked (w : Want) (ms : List Message) (k : ℕ) : Type 0 where
+  pub message : Message
+  pub stands : slice_get ms k ≡ Some message
+  pub given : pick w ms ≡ Some (k, message)
 
--- what stands at the place that pick gives
-pick-within : (w : Want) (ms : List Message) (k : ℕ) → option_map (λ f. f.0) (pick w ms) ≡ Some k → k < length ms
-pick-within w ms k e = let found = stands 0 w ms k e in omega (arith, found.place, found.within)
-
-pub pick-at : (w : Want) (ms : List Message) (k : ℕ) (m : Message) → option_map (λ f. f.0) (pick w ms) ≡ Some k → slice_get ms k ≡ Some m → pick w ms ≡ Some (k, m)
-pick-at w ms k m e h = let found = stands 0 w ms k e in let same : k ≡ found.at = omega (arith, found.place) in found.is m (rw (← same) h)
-
-got : (ms : List Message) (k : ℕ) → k < length ms → IsSome (slice_get ms k)
-got [] k h = absurd (omega arith)
-got (m ∷ ms) zero h = refl
-got (m ∷ ms) (suc k) h = got ms k (omega arith)
-
-pub is_there : (w : Want) (ms : List Message) (k : ℕ) → option_map (λ f. f.0) (pick w ms) ≡ Some k → IsSome (slice_get ms k)
-is_there w ms k e = got ms k (pick-within w ms k e)
+pub picked_at : (w : Want) (ms : List Message) (k : ℕ) → place_picked w ms ≡ Some k → IsPicked w ms k
+picked_at w ms k e = by (pick w ms) refl e
+  where
+    by : (o : Option (ℕ × Message)) → pick w ms ≡ o → option_map (λ f. f.0) o ≡ Some k → IsPicked w ms k
+    by None is e = absurd (cc)
+    by (Some found) is e =
+        let at : found.0 ≡ k = same_Some found.0 k e in
+        record {
+          message = found.1;
+          stands = ap (slice_get ms) (sym at) ∙ pick_found w ms found is;
+          given = is ∙ ap (λ j. Some (j, found.1)) at;
+        }

@@ -1,4 +1,4 @@
--- Mailboxes as lists of messages: what the contracts of src/ say. Nothing here is code, and no definition follows a loop.
+-- Mailboxes as lists of messages: what the contracts of the mailboxes say.
 use Rattle.std.specs.Prelude.{ℕ, ◌==◌, ◌&&◌, Bool, false, List, [], Option, Some, None, remove, slice_index_or}
 use Rattle.st_core.specs.declared.types.Pid.{Pid}
 use Rattle.st_core.specs.declared.types.Message.{Message}

@@ -1,10 +1,12 @@
-//! Worked values: mails between processes 30 and 31 over two mailboxes.
+//! Worked values: mails between processes 30 and 31 over two mailboxes. Each look is a call of a small
+//! function, so that the tests themselves are short to prove.
 
-ghost use Rattle.std.specs.Prelude.{◌≡◌, ◌<◌, length, IfOk};
+ghost use Rattle.std.specs.Prelude.{◌≡◌, ◌<◌, ◌+◌, length, IfOk};
 
 use crate::Mailboxes;
 use st_core::{Message, Pid, Serial, Token, Want};
 use std::alloc::{AllocError, Global};
+use std::process::Abort;
 use std::test::Fail;
 
 fn p30() -> Pid {
@@ -35,70 +37,177 @@ fn stamped(value: u64, this: u64) -> Message {
     }
 }
 
+/// Puts messages into a mailbox.
+fn put_all(mail: &mut Mailboxes, mailbox: usize, messages: &[Message]) -> Result<(), AllocError>
+    requires { mailbox < length mail.old.boxes }
+    ensures { length mail.new.boxes ≡ length mail.old.boxes }
+{
+    for &message in messages {
+        mail.put(mailbox, message)?;
+    }
+    Ok(())
+}
+
 /// Mailbox 0 is empty, and in mailbox 1 lie 8 and 9 from 30 and 8 from 31.
-fn mail(alloc: Global) -> Result<Mailboxes, AllocError>
+fn three_messages(alloc: Global) -> Result<Mailboxes, AllocError>
     ensures { IfOk result (λ mail. length mail.boxes ≡ 2) }
 {
     let mut mail = Mailboxes::new(alloc, 2)?;
-    mail.put(1, plain(p30(), 8))?;
-    mail.put(1, plain(p30(), 9))?;
-    mail.put(1, plain(p31(), 8))?;
+    let messages = [plain(p30(), 8), plain(p30(), 9), plain(p31(), 8)];
+    put_all(&mut mail, 1, &messages)?;
     Ok(mail)
+}
+
+/// Asserts what lies in a mailbox, from the oldest message on.
+fn assert_mailbox(rt: &impl Abort, mail: &Mailboxes, mailbox: usize, expected: &[Message])
+    requires { mailbox < length mail.now.boxes }
+{
+    assert_eq!(rt; mail.len(mailbox), expected.len() as u64);
+    for (place, message) in expected.iter().enumerate() {
+        assert_eq!(rt;
+            mail.get(mailbox, place as u64),
+            Some(*message),
+            "at {place}"
+        );
+    }
+    assert_eq!(rt; mail.get(mailbox, mail.len(mailbox)), None);
 }
 
 #[test]
 fn finds_the_first_match_of_each_pattern(rt: HostRuntime) -> Result<(), Fail> {
-    let mail = mail(rt.alloc())?;
-    assert_eq!(rt; mail.find(1, &Want::First), Some(0));
-    assert_eq!(rt; mail.find(1, &Want::From(p31())), Some(2));
-    assert_eq!(rt; mail.find(1, &Want::Value(8)), Some(0));
-    assert_eq!(rt; mail.find(1, &Want::Both(p31(), 8)), Some(2));
-    assert_eq!(rt; mail.find(1, &Want::Both(p31(), 9)), None);
-    assert_eq!(rt; mail.find(1, &Want::Place(2)), Some(2));
-    assert_eq!(rt; mail.find(1, &Want::Place(3)), None);
-    assert_eq!(rt; mail.find(0, &Want::First), None);
+    let mail = three_messages(rt.alloc())?;
+    let found = [
+        (Want::First, Some(0)),
+        (Want::From(p31()), Some(2)),
+        (Want::Value(8), Some(0)),
+        (Want::Both(p31(), 8), Some(2)),
+        (Want::Both(p31(), 9), None),
+        (Want::Place(2), Some(2)),
+        (Want::Place(3), None),
+    ];
+    for (want, place) in found {
+        assert_eq!(rt; mail.find(1, &want), place, "{want:?}");
+        assert_eq!(rt; mail.find(0, &want), None);
+    }
     Ok(())
+}
+
+/// Takes a message of this value, and asserts from which place it came, if from any.
+fn take_value(rt: &impl Abort, mail: &mut Mailboxes, value: u64, place: Option<u64>)
+    requires { 1 < length mail.old.boxes }
+    ensures { length mail.new.boxes ≡ length mail.old.boxes }
+{
+    let taken = mail.take(1, &Want::Value(value));
+    assert_eq!(rt; taken, place.map(|place| (place, plain(p30(), value))));
 }
 
 #[test]
 fn takes_from_the_middle(rt: HostRuntime) -> Result<(), Fail> {
-    let mut mail = mail(rt.alloc())?;
-    assert_eq!(rt; mail.take(1, &Want::Value(9)), Some((1, plain(p30(), 9))));
-    assert_eq!(rt; mail.take(1, &Want::Value(9)), None);
-    assert_eq!(rt; mail.len(1), 2);
-    assert_eq!(rt; mail.get(1, 0), Some(plain(p30(), 8)));
-    assert_eq!(rt; mail.get(1, 1), Some(plain(p31(), 8)));
-    assert_eq!(rt; mail.get(1, 2), None);
-    assert_eq!(rt; mail.len(0), 0);
+    let mut mail = three_messages(rt.alloc())?;
+    take_value(&rt, &mut mail, 9, Some(1));
+    take_value(&rt, &mut mail, 9, None);
+    assert_mailbox(&rt, &mail, 1, &[plain(p30(), 8), plain(p31(), 8)]);
+    assert_mailbox(&rt, &mail, 0, &[]);
     Ok(())
+}
+
+/// Puts a message where there is room.
+fn put_reserved(mail: &mut Mailboxes, mailbox: usize, value: u64)
+    requires within { mailbox < length mail.old.boxes }
+    requires room { 0 < mail.old.spare }
+    ensures boxes { length mail.new.boxes ≡ length mail.old.boxes }
+    ensures room { mail.old.spare ≡ mail.new.spare + 1 }
+{
+    mail.put_reserved(mailbox, plain(p30(), value));
 }
 
 #[test]
 fn room_of_one_mailbox_serves_another(rt: HostRuntime) -> Result<(), Fail> {
     let mut mail = Mailboxes::new(rt.alloc(), 2)?;
     mail.reserve(2)?;
-    mail.put_reserved(0, plain(p30(), 4));
-    mail.put_reserved(1, plain(p30(), 5));
+    put_reserved(&mut mail, 0, 4);
+    put_reserved(&mut mail, 1, 5);
     let taken = mail.take(0, &Want::First);
-    assert_eq!(rt; taken, Some((0, plain(p30(), 4))));
+    assert_eq!(rt; taken.is_some(), true);
     if taken.is_some() {
-        mail.put_reserved(1, plain(p30(), 6));
+        put_reserved(&mut mail, 1, 6);
     }
-    assert_eq!(rt; mail.get(1, 1), Some(plain(p30(), 6)));
+    assert_mailbox(&rt, &mail, 1, &[plain(p30(), 5), plain(p30(), 6)]);
     Ok(())
+}
+
+/// Asserts where the first stamp of a process with this own count lies.
+fn assert_place(rt: &impl Abort, mail: &Mailboxes, from: Pid, this: u64, place: Option<u64>)
+    requires { 0 < length mail.now.boxes }
+{
+    assert_eq!(rt;
+        mail.place_of(0, from, this),
+        place,
+        "of {from:?} and {this}"
+    );
 }
 
 #[test]
 fn places_of_stamps_are_the_least_until_wiped(rt: HostRuntime) -> Result<(), Fail> {
     let mut mail = Mailboxes::new(rt.alloc(), 1)?;
-    mail.put(0, plain(p30(), 1))?;
-    mail.put(0, stamped(2, 7))?;
-    mail.put(0, stamped(3, 7))?;
-    assert_eq!(rt; mail.place_of(0, p30(), 7), Some(1));
-    assert_eq!(rt; mail.place_of(0, p30(), 8), None);
-    assert_eq!(rt; mail.place_of(0, p31(), 7), None);
+    let messages = [plain(p30(), 1), stamped(2, 7), stamped(3, 7)];
+    put_all(&mut mail, 0, &messages)?;
+    assert_place(&rt, &mail, p30(), 7, Some(1));
+    assert_place(&rt, &mail, p30(), 8, None);
+    assert_place(&rt, &mail, p31(), 7, None);
     mail.wipe_tokens(0);
-    assert_eq!(rt; mail.place_of(0, p30(), 7), None);
-    assert_eq!(rt; mail.get(0, 2), Some(plain(p30(), 3)));
+    assert_place(&rt, &mail, p30(), 7, None);
+    assert_mailbox(
+        &rt,
+        &mail,
+        0,
+        &[plain(p30(), 1), plain(p30(), 2), plain(p30(), 3)],
+    );
+    Ok(())
+}
+
+/// Two empty mailboxes. Where memory is refused a second try has it.
+fn two_at_last(alloc: Global) -> Result<Mailboxes, AllocError>
+    ensures { IfOk result (λ mail. length mail.boxes ≡ 2) }
+{
+    match Mailboxes::new(alloc, 2) {
+        Ok(mail) => Ok(mail),
+        Err(_) => Mailboxes::new(alloc, 2),
+    }
+}
+
+/// Puts a message into mailbox 1, which has so many. Where memory is refused nothing has changed, and
+/// a second try has it.
+fn put_at_last(rt: &impl Abort, mail: &mut Mailboxes, count: u64)
+    requires { 1 < length mail.old.boxes }
+    ensures { length mail.new.boxes ≡ length mail.old.boxes }
+{
+    if mail.put(1, plain(p30(), count)).is_err() {
+        assert_eq!(rt; mail.len(1), count);
+        assert!(rt; mail.put(1, plain(p30(), count)).is_ok());
+    }
+}
+
+/// Asserts that the values in mailbox 1 are 0, 1 and so on, so many of them.
+fn assert_values(rt: &impl Abort, mail: &Mailboxes, count: u64)
+    requires { 1 < length mail.now.boxes }
+{
+    for place in 0..count {
+        let message = mail.get(1, place);
+        assert_eq!(rt; message.map(|message| message.value), Some(place));
+    }
+    assert_eq!(rt; (mail.len(0), mail.len(1)), (0, count));
+}
+
+// A room that no machine has is refused, and what a refused put leaves is seen where this test runs
+// with an allocation that fails.
+#[test]
+fn a_refused_growth_leaves_all_mailboxes(rt: HostRuntime) -> Result<(), Fail> {
+    let mut mail = two_at_last(rt.alloc())?;
+    assert!(rt; mail.reserve(usize::MAX).is_err());
+    for count in 0..20 {
+        put_at_last(&rt, &mut mail, count);
+    }
+    assert_values(&rt, &mail, 20);
     Ok(())
 }
