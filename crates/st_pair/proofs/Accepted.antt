@@ -1,34 +1,7 @@
 -- What an accepting pairing says of each event: a rule that gives nothing first gives nothing anywhere.
-use Rattle.std.proofs.Common.{
-  ◌≡◌,
-  ℕ,
-  zero,
-  suc,
-  ◌+◌,
-  ◌<◌,
-  ◌==◌,
-  ◌&&◌,
-  ◌||◌,
-  nat_lt,
-  Bool,
-  true,
-  false,
-  cond,
-  List,
-  [],
-  ◌∷◌,
-  Option,
-  Some,
-  None,
-  slice_get,
-  option_and_then,
-  refl,
-  sym,
-  ◌∙◌,
-  ap,
-  arith,
-  if◌then◌else◌,
-}
+use Rattle.std.proofs.Common.{◌≡◌, ℕ, zero, suc, ◌+◌, ◌<◌, ◌==◌, ◌&&◌, ◌||◌, nat_lt, Bool, true, false, cond, List}
+use Rattle.std.proofs.Common.{[], ◌∷◌, Option, Some, None, slice_get, option_and_then, refl, sym, ◌∙◌, ap, arith}
+use Rattle.std.proofs.Common.{if◌then◌else◌}
 use Rattle.std.proofs.lemmas.Bool.{eqb-true, eq-eqb, ltb-true, and_parts, and_from}
 use Rattle.std.proofs.lemmas.Option.{same_Some, none-some}
 use Rattle.st_core.specs.declared.types.Pid.{Pid}
@@ -51,7 +24,7 @@ given_none : {X : Type 0} (given rest : Option X)
 given_none {X} None rest h = (refl, h)
 given_none {X} (Some y) rest h = absurd (none-some y (sym h))
 
-from_none : {X : Type 0} (rule : Rule X) (p : Pid) (k : ℕ) (es : List Event) → first_from rule p k es ≡ None
+pub from_none : {X : Type 0} (rule : Rule X) (p : Pid) (k : ℕ) (es : List Event) → first_from rule p k es ≡ None
     → (j : ℕ) (e : Event) → slice_get es j ≡ Some e → rule p (k + j) e ≡ None
 from_none {X} rule p k [] h j e at = absurd (none-some e at)
 from_none {X} rule p k (d ∷ es) h zero e at =
@@ -101,7 +74,7 @@ paired streams h =
     let four = rule_none streams (mismatch streams) [] three.1 in
     record { prev = one.0; rising = two.0; once = three.0; matched = four.0 }
 
-cond_none : {X : Type 0} (b : Bool) (x : X) → cond b None (Some x) ≡ None → b ≡ true
+pub cond_none : {X : Type 0} (b : Bool) (x : X) → cond b None (Some x) ≡ None → b ≡ true
 cond_none true x h = refl
 cond_none false x h = absurd (none-some x (sym h))
 
@@ -112,7 +85,7 @@ serial_rises streams ok p i e at = ltb-true e.serial.prev e.serial.this
     (cond_none (nat_lt e.serial.prev e.serial.this) (fault.PrevNotBefore p i)
     (event_none prev_not_before streams ok.prev p i e at))
 
-abbrev got_rule : Pid → ℕ → Rule (Pid × ℕ)
+abbrev pub got_rule : Pid → ℕ → Rule (Pid × ℕ)
 got_rule q this p i e = if is_stamp e then None else if pid_eq e.from q && e.serial.this == this then Some
     (p, i) else None
 

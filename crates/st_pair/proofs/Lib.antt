@@ -5,5 +5,6 @@ pub mod Owned
 pub mod Ruled
 pub mod Linkage
 pub mod Accepted
+pub mod Converse
 mod Cases
 pub mod ForCallers

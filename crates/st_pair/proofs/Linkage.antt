@@ -1,37 +1,7 @@
 -- What a pairing's links say of its streams.
-use Rattle.std.proofs.Common.{
-  ◌≡◌,
-  ℕ,
-  ◌+◌,
-  ◌<◌,
-  zero,
-  suc,
-  true,
-  false,
-  cond,
-  if◌then◌else◌,
-  List,
-  [],
-  ◌∷◌,
-  ◌++◌,
-  length,
-  map,
-  take,
-  find,
-  get_or,
-  Option,
-  None,
-  Some,
-  slice_get,
-  option_map,
-  option_and_then,
-  refl,
-  sym,
-  ◌∙◌,
-  ap,
-  subst,
-  arith,
-}
+use Rattle.std.proofs.Common.{◌≡◌, ℕ, ◌+◌, ◌<◌, zero, suc, true, false, cond, if◌then◌else◌, List, [], ◌∷◌, ◌++◌}
+use Rattle.std.proofs.Common.{length, map, take, find, get_or, Option, None, Some, slice_get, option_map}
+use Rattle.std.proofs.Common.{option_and_then, refl, sym, ◌∙◌, ap, subst, arith}
 use Rattle.std.specs.List.{AllByRecursion}
 use Rattle.std.proofs.lemmas.List.{get_or_default}
 use Rattle.std.proofs.lemmas.Option.{same_Some}
@@ -46,19 +16,8 @@ use Rattle.st_pair.specs.declared.answer.Source.{Source}
 use Rattle.st_pair.specs.declared.pairing.Link.{Link}
 use Rattle.st_pair.specs.Places.{event_at, is_stamp}
 use Rattle.st_pair.specs.Pairing.{receive_of, stamp_of, source_of, source_at, receiver_at, is_send}
-use Rattle.st_pair.specs.Links.{
-  Linked,
-  sent_link,
-  received_link,
-  link_of,
-  links_in,
-  linked,
-  IsPairing,
-  rows,
-  link_at,
-  source_in,
-  receiver_in,
-}
+use Rattle.st_pair.specs.Links.{Linked, sent_link, received_link, link_of, links_in, linked, IsPairing, rows, link_at}
+use Rattle.st_pair.specs.Links.{source_in, receiver_in}
 use Rattle.st_pair.proofs.Firsts.{is_at, at_get_or, events_in}
 
 -- ROWS

@@ -1,5 +1,6 @@
 -- A row at the end of a list is what the list gives for its key, unless an earlier row has that key.
-use Rattle.std.proofs.Common.{◌≡◌, ℕ, true, false, cond, List, [], ◌∷◌, ◌++◌, Option, None, Some, find, option_map, refl}
+use Rattle.std.proofs.Common.{◌≡◌, ℕ, true, false, cond, List, [], ◌∷◌, ◌++◌, Option, None, Some, find, option_map}
+use Rattle.std.proofs.Common.{refl}
 use Rattle.std.proofs.Common.{Result, Ok, Err, IfOk}
 use Rattle.st_core.specs.declared.types.Pid.{Pid}
 use Rattle.st_pair.specs.declared.tables.Key.{Key}

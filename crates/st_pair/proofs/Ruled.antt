@@ -1,41 +1,7 @@
 -- The rules at one event, from what the tables give.
-use Rattle.std.proofs.Common.{
-  ◌≡◌,
-  ℕ,
-  ◌+◌,
-  ◌<◌,
-  ◌==◌,
-  ◌&&◌,
-  ◌||◌,
-  not,
-  nat_lt,
-  suc,
-  Bool,
-  true,
-  false,
-  cond,
-  if◌then◌else◌,
-  List,
-  [],
-  ◌∷◌,
-  Option,
-  None,
-  Some,
-  slice_get,
-  drop,
-  option_map,
-  option_and_then,
-  refl,
-  sym,
-  ◌∙◌,
-  ap,
-  subst,
-  arith,
-  add-one,
-  ◌⊎◌,
-  inl,
-  inr,
-}
+use Rattle.std.proofs.Common.{◌≡◌, ℕ, ◌+◌, ◌<◌, ◌==◌, ◌&&◌, ◌||◌, not, nat_lt, suc, Bool, true, false, cond}
+use Rattle.std.proofs.Common.{if◌then◌else◌, List, [], ◌∷◌, Option, None, Some, slice_get, drop, option_map}
+use Rattle.std.proofs.Common.{option_and_then, refl, sym, ◌∙◌, ap, subst, arith, add-one, ◌⊎◌, inl, inr}
 use Rattle.std.proofs.lemmas.Bool.Decides.{nat_tests}
 use Rattle.std.proofs.lemmas.Option.{same_Some}
 use Rattle.st_core.specs.declared.types.Pid.{Pid}
@@ -184,7 +150,7 @@ abbrev pub counted : Option (ℕ × Event) → Option (ℕ × ℕ)
 counted o = option_map (λ f. (f.0, f.1.serial.this)) o
 
 module _ (es : List Event) (p : Pid) (i : ℕ) (e : Event) (at : slice_get es i ≡ Some e) where
-  before_more : (b : Bool) → is_stamp e ≡ b → stamp_before es (suc i) ≡ cond b (Some (i, e)) (stamp_before es i)
+  pub before_more : (b : Bool) → is_stamp e ≡ b → stamp_before es (suc i) ≡ cond b (Some (i, e)) (stamp_before es i)
   before_more b is = ap (λ (o : Option Event).
       elim o [ None ↦ stamp_before es i | Some f ↦ if is_stamp f then Some (i, f) else stamp_before es i ]) at
       ∙ ap (λ (c : Bool). cond c (Some (i, e)) (stamp_before es i)) is

@@ -56,15 +56,17 @@ first_of (x ∷ xs) = Some x
 find_filter : {A : Type 0} (p : A → Bool) (xs : List A) → find p xs ≡ first_of (filter p xs)
 unfolding first_of
 find_filter p [] = refl
-find_filter p (x ∷ xs) = elim (p x) as (λ b. cond b (Some x) (find p xs) ≡ first_of (cond b (x ∷ filter p xs) (filter p xs))) [
-  | true ↦ refl
-  | false ↦ find_filter p xs
-]
+find_filter p (x ∷ xs) = elim (p x)
+    as (λ b. cond b (Some x) (find p xs) ≡ first_of (cond b (x ∷ filter p xs) (filter p xs))) [
+      | true ↦ refl
+      | false ↦ find_filter p xs
+    ]
 
 find_same : {A : Type 0} (p q : A → Bool) → ((x : A) → p x ≡ q x) → (xs : List A) → find p xs ≡ find q xs
 find_same p q same [] = refl
 find_same p q same (x ∷ xs) =
-    ap (λ (b : Bool). cond b (Some x) (find p xs)) (same x) ∙ ap (λ (o : Option _). cond (q x) (Some x) o) (find_same p q same xs)
+    ap (λ (b : Bool). cond b (Some x) (find p xs)) (same x)
+    ∙ ap (λ (o : Option _). cond (q x) (Some x) o) (find_same p q same xs)
 
 equal_ties : (o : Ordering) → is_eq o ≡ (not (is_lt (ordering_reverse o)) && not (is_lt o))
 equal_ties Less = refl
@@ -82,9 +84,11 @@ key_ties : (k : Key) (r : Row) → key_eq (key_of r) k ≡ ties row_lt (probe k)
 unfolding probe
 key_ties k r =
     key_eq-cmp (key_of r) k ∙ equal_ties (key_cmp (key_of r) k)
-    ∙ ap (λ (o : Ordering). not (is_lt o) && not (is_lt (key_cmp (key_of r) k))) (sym (key_total.antisymm k (key_of r)))
+    ∙ ap (λ (o : Ordering). not (is_lt o) && not (is_lt (key_cmp (key_of r) k)))
+    (sym (key_total.antisymm k (key_of r)))
 
-pub place_in-sorted : (xs ys : List Row) → IsStableByKey key_of key_cmp xs ys → (k : Key) → place_in ys k ≡ place_in xs k
+pub place_in-sorted : (xs ys : List Row) → IsStableByKey key_of key_cmp xs ys → (k : Key)
+    → place_in ys k ≡ place_in xs k
 place_in-sorted xs ys stable k =
     let test : Row → Bool = λ r. key_eq (key_of r) k in
     let tie : Row → Bool = ties row_lt (probe k) in
@@ -101,7 +105,8 @@ less_apart Less h = refl
 less_apart Equal h = absurd (cc)
 less_apart Greater h = absurd (cc)
 
-above_apart : (o u : Ordering) → is_lt o ≡ false → is_eq o ≡ false → ordering_index o ≤ ordering_index u → is_eq u ≡ false
+above_apart : (o u : Ordering) → is_lt o ≡ false → is_eq o ≡ false → ordering_index o ≤ ordering_index u
+    → is_eq u ≡ false
 above_apart Less u h apart le = absurd (cc)
 above_apart Equal u h apart le = absurd (cc)
 above_apart Greater Less h apart le = refl
@@ -112,7 +117,8 @@ none_under : (k : Key) (rows : List Row)
     → ((j : ℕ) (d : Row) → j < length rows → key_eq (key_of (get_or rows j d)) k ≡ false) → place_in rows k ≡ None
 none_under k [] apart = refl
 none_under k (r ∷ rows) apart =
-    ap (λ (b : Bool). option_map row_place (cond b (Some r) (find (λ s. key_eq (key_of s) k) rows))) (apart 0 r (omega arith))
+    ap (λ (b : Bool). option_map row_place (cond b (Some r) (find (λ s. key_eq (key_of s) k) rows)))
+    (apart 0 r (omega arith))
     ∙ none_under k rows (λ j d within. apart (suc j) d (omega arith))
 
 module _ (k : Key) where
@@ -123,12 +129,14 @@ module _ (k : Key) where
   found_at [] i rising front back within = refl
   found_at (r ∷ rows) zero rising front back within =
       elim (key_eq (key_of r) k) as (λ b. key_eq (key_of r) k ≡ b
-      → option_map row_place (cond b (Some r) (find (λ s. key_eq (key_of s) k) rows)) ≡ cond b (Some (row_place r)) None) [
+      → option_map row_place (cond b (Some r) (find (λ s. key_eq (key_of s) k) rows))
+      ≡ cond b (Some (row_place r)) None) [
         | true ↦ λ e. refl
         | false ↦ λ e. none_under k rows (λ j d below.
             let next : suc j < length (r ∷ rows) = omega arith in
             key_eq-cmp (key_of (get_or rows j d)) k
-            ∙ above_apart (key_cmp (key_of r) k) (key_cmp (key_of (get_or rows j d)) k) (back 0 r (omega arith) (omega arith))
+            ∙ above_apart (key_cmp (key_of r) k) (key_cmp (key_of (get_or rows j d)) k)
+            (back 0 r (omega arith) (omega arith))
             (sym (key_eq-cmp (key_of r) k) ∙ e) (rising 0 (suc j) d (omega arith) next))
       ] refl
   found_at (r ∷ rows) (suc i) rising front back within =

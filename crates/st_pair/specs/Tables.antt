@@ -1,22 +1,6 @@
 -- Tables from a sender and a count to the first event that has them.
-use Rattle.std.specs.Prelude.{
-  ◌≡◌,
-  ℕ,
-  ◌==◌,
-  ◌&&◌,
-  ◌||◌,
-  not,
-  nat_lt,
-  Bool,
-  List,
-  Option,
-  Some,
-  None,
-  if◌then◌else◌,
-  option_map,
-  find,
-  option_and_then,
-}
+use Rattle.std.specs.Prelude.{◌≡◌, ℕ, ◌==◌, ◌&&◌, ◌||◌, not, nat_lt, Bool, List, Option, Some, None, if◌then◌else◌}
+use Rattle.std.specs.Prelude.{option_map, find, option_and_then}
 use Rattle.st_core.specs.declared.types.Pid.{Pid}
 use Rattle.st_core.specs.declared.types.Event.{Event}
 use Rattle.std.specs.declared.cmp.Ordering.{Ordering}

@@ -7,9 +7,13 @@
 #![tactic(auto)]
 
 mod answer;
+pub mod laws;
 mod pairing;
 mod rules;
 mod tables;
 
 pub use answer::{PairFault, Source};
 pub use pairing::{Pairing, pair};
+
+#[cfg(test)]
+mod tests;

@@ -145,7 +145,8 @@ pub fn receive_count(streams: &Streams) -> usize {
 /// Notes the receives of one process.
 fn note_receives(rows: &mut Vec<Row>, pid: Pid, events: &[Event]) -> Result<(), AllocError>
     ensures { OnOk result ((k : KeyValue) →
-        place_in rows.new.items k ≡ or_else (place_in rows.old.items k) (first_from (receive_rule k) pid 0 events.now)) }
+        place_in rows.new.items k
+        ≡ or_else (place_in rows.old.items k) (first_from (receive_rule k) pid 0 events.now)) }
 {
     for (i, event) in events.iter().enumerate() {
         match event.kind {
@@ -184,7 +185,8 @@ fn receive_rows(alloc: Global, streams: &Streams, count: usize) -> Result<Vec<Ro
 /// Notes the sends and prints of one process.
 fn note_stamps(rows: &mut Vec<Row>, pid: Pid, events: &[Event]) -> Result<(), AllocError>
     ensures { OnOk result ((k : KeyValue) →
-        place_in rows.new.items k ≡ or_else (place_in rows.old.items k) (first_from (stamp_rule k) pid 0 events.now)) }
+        place_in rows.new.items k
+        ≡ or_else (place_in rows.old.items k) (first_from (stamp_rule k) pid 0 events.now)) }
 {
     for (i, event) in events.iter().enumerate() {
         match event.kind {

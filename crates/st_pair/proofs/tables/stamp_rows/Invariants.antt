@@ -6,5 +6,6 @@ use Rattle.st_pair.proofs.tables.stamp_rows.Given as goal
 
 -- the table with what is left comes to all
 abbrev pub invariant-loop-pid : goal.invariant-loop-pid
-invariant-loop-pid l = (k : Key) → or_else (place_in l.rows.items k) (first (stamp_rule k) (drop l.pid-index l.streams))
+invariant-loop-pid l = (k : Key)
+    → or_else (place_in l.rows.items k) (first (stamp_rule k) (drop l.pid-index l.streams))
     ≡ first (stamp_rule k) l.streams

@@ -10,4 +10,5 @@ invariant_of-result c =
 
 pub returns : goal.returns
 returns c =
-    place_in-sorted _ _ (c.in_ok-sort_by_key.ensures.stable key_of (answers_always _ _ _ (λ f a r g called. search rules)))
+    place_in-sorted _ _ (c.in_ok-sort_by_key.ensures.stable key_of
+    (answers_always _ _ _ (λ f a r g called. search rules)))

@@ -1,0 +1,6 @@
+use Rattle.st_pair.proofs.Accepted.{paired}
+use Rattle.st_pair.proofs.Converse.{stamp_counts_rise}
+use Rattle.st_pair.proofs.laws.stamp_counts_rise.Goals as goal
+
+pub returns : goal.returns
+returns c = λ streams accepted. stamp_counts_rise streams (paired streams accepted)

@@ -1,0 +1,26 @@
+//! Laws of pairing, as contracts of functions that do nothing: each clause is a theorem over the
+//! definitions of `specs/`, and a proof that calls the function may use it.
+
+ghost use Rattle.std.specs.Prelude.{◌≡◌, ◌<◌, ◌↔◌, ℕ, true, List, None, Some};
+ghost use Rattle.st_core.specs.declared.types.Event.{Event};
+ghost use Rattle.st_core.specs.declared.types.Pid.{Pid};
+ghost use Rattle.st_core.specs.Run.{Stream};
+ghost use Rattle.st_core.specs.Streams.{IsStreams};
+ghost use Rattle.st_pair.specs.declared.answer.Source.{Source as SourceValue};
+ghost use Rattle.st_pair.specs.declared.answer.Source.TheVariants as source;
+ghost use Rattle.st_pair.specs.Pairing.{receiver_at, refusal, source_at};
+ghost use Rattle.st_pair.specs.Places.{event_at, is_stamp};
+
+/// Where pairing accepts, a receive is that of a send exactly where the send is that of the receive.
+pub fn sources_and_receivers_agree()
+    ensures { (streams : List Stream) → IsStreams streams → refusal streams ≡ None →
+        (p : Pid) (i : ℕ) (q : Pid) (j : ℕ) →
+        (receiver_at streams q j ≡ Some (p, i)) ↔ (source_at streams p i ≡ Some (source.Event q j)) }
+{}
+
+/// Where pairing accepts, the counts of a process's sends and prints rise, so that each has its own.
+pub fn stamp_counts_rise()
+    ensures { (streams : List Stream) → refusal streams ≡ None →
+        (p : Pid) (j i : ℕ) (d e : Event) → j < i → event_at streams p j ≡ Some d → event_at streams p i ≡ Some e →
+        is_stamp d ≡ true → is_stamp e ≡ true → d.serial.this < e.serial.this }
+{}
