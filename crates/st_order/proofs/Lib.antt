@@ -1,0 +1,15 @@
+pub mod Lists
+pub mod Found
+pub mod Once
+pub mod Keys
+pub mod Apart
+pub mod Rising
+pub mod One
+pub mod Insertion
+pub mod Merging
+pub mod RowKeys
+pub mod Rowed
+pub mod Cutting
+pub mod Grouping
+mod Cases
+pub mod ForCallers

@@ -1,0 +1,72 @@
+-- Where no receive repeats another, each receive is the first from its sender with its count: a first one that is
+-- another would be a repeat, and there is a first one, since the receive itself is there.
+use Rattle.std.proofs.Common.{
+  ◌≡◌,
+  ℕ,
+  ◌==◌,
+  ◌&&◌,
+  ◌||◌,
+  Bool,
+  true,
+  false,
+  cond,
+  List,
+  Option,
+  Some,
+  None,
+  option_and_then,
+  refl,
+  sym,
+  ◌∙◌,
+  ap,
+  if◌then◌else◌,
+}
+use Rattle.std.proofs.lemmas.Bool.{eqb-true, eq-eqb, and_parts, and_from}
+use Rattle.std.proofs.lemmas.Option.{none-some}
+use Rattle.st_core.specs.declared.types.Pid.{Pid}
+use Rattle.st_core.specs.declared.types.Event.{Event}
+use Rattle.st_core.specs.Pid.{pid_eq}
+use Rattle.st_core.specs.Run.{Stream}
+use Rattle.st_core.proofs.ForCallers.{pid_eq-true, pid_eq-same}
+use Rattle.st_pair.specs.declared.answer.PairFault.TheVariants as fault
+use Rattle.st_pair.specs.Places.{event_at, is_stamp, first}
+use Rattle.st_pair.specs.Pairing.{receive_of, repeated}
+use Rattle.st_pair.proofs.ForCallers.{event_none}
+
+cond_none : {X : Type 0} (b : Bool) (x : X) → cond b None (Some x) ≡ None → b ≡ true
+cond_none true x h = refl
+cond_none false x h = absurd (none-some x (sym h))
+
+abbrev sought : Pid → ℕ → Pid → ℕ → Event → Option (Pid × ℕ)
+sought q this p i e =
+    if is_stamp e then None else if pid_eq e.from q && e.serial.this == this then Some (p, i) else None
+
+module _ (streams : List Stream) (p : Pid) (i : ℕ) (e : Event) (at : event_at streams p i ≡ Some e)
+    (receive : is_stamp e ≡ false) where
+  there : receive_of streams e.from e.serial.this ≡ None → ⊥
+  there none =
+      let given = event_none (sought e.from e.serial.this) streams none p i e at in
+      let test : (pid_eq e.from e.from && e.serial.this == e.serial.this) ≡ true =
+      and_from (pid_eq e.from e.from) (e.serial.this == e.serial.this) (pid_eq-same e.from)
+      (eq-eqb e.serial.this e.serial.this refl) in
+      let place : Pid × ℕ = (p, i) in
+      none-some place (sym given
+      ∙ ap (λ b. cond b None (cond (pid_eq e.from e.from && e.serial.this == e.serial.this) (Some place) None)) receive
+      ∙ ap (λ b. cond b (Some place) None) test)
+
+  pub once_place : first (repeated streams) streams ≡ None → receive_of streams e.from e.serial.this ≡ Some (p, i)
+  once_place once =
+      let given = event_none (repeated streams) streams once p i e at in
+      let found = receive_of streams e.from e.serial.this in
+      elim found as (λ o. found ≡ o
+      → option_and_then (λ (x : Pid × ℕ). if is_stamp e || (pid_eq x.0 p && x.1 == i) then None else Some
+      (fault.Repeated p i x.0 x.1)) o ≡ None → o ≡ Some (p, i)) [
+        | None ↦ λ is h. absurd (there is)
+        | Some x ↦ λ is h.
+            let tests = cond_none (is_stamp e || (pid_eq x.0 p && x.1 == i)) (fault.Repeated p i x.0 x.1) h in
+            let parts = and_parts (pid_eq x.0 p) (x.1 == i)
+            (ap (λ b. b || (pid_eq x.0 p && x.1 == i)) (sym receive) ∙ tests) in
+            let who = pid_eq-true x.0 p parts.0 in
+            let index = eqb-true x.1 i parts.1 in
+            λ k. Some (who k, index k)
+      ] refl given

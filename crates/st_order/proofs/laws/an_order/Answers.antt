@@ -1,0 +1,6 @@
+-- The lemma says it.
+use Rattle.st_order.proofs.Insertion.{an_order}
+use Rattle.st_order.proofs.laws.an_order.Goals as goal
+
+pub returns : goal.returns
+returns c = an_order

@@ -1,0 +1,121 @@
+//! Items by label.
+
+ghost use Rattle.std.specs.Prelude.{◌≡◌, ◌≤◌, ◌<◌, length, map, IfOk};
+ghost use Rattle.std.specs.List.{filter_map};
+ghost use Rattle.st_order.specs.Labels.{IsByLabel, label_of};
+ghost use Rattle.st_order.specs.Runs.{with_label, leading_with, runs};
+
+use crate::item::Item;
+use rayon::prelude::*;
+use st_core::{Label, Sequence, Streams};
+use std::alloc::{AllocError, Global};
+use std::thread::Threads;
+
+/// An item with its label.
+#[derive(Clone, Copy, Debug, PartialEq, Eq)]
+pub struct Labelled {
+    /// The label of the event that the item is about.
+    pub label: Label,
+    /// The item.
+    pub item: Item,
+}
+
+/// The label of the event that an item is about; none where nothing stands at the item's place.
+fn label_of(streams: &Streams, item: Item) -> Option<Label>
+    ensures { result ≡ label_of streams.now item }
+{
+    let event = match item {
+        Item::Reported(pid, index) => streams.event(pid, index),
+        Item::Hidden(pid, index) => streams.event(pid, index),
+    };
+    match event {
+        None => None,
+        Some(event) => Some(event.label),
+    }
+}
+
+/// The items that are there, each with its label.
+fn with_labels(
+    alloc: Global,
+    streams: &Streams,
+    items: &[Item],
+) -> Result<Vec<Labelled>, AllocError>
+    ensures { IfOk result (λ made. made.items ≡ filter_map (with_label streams.now) items.now) }
+{
+    let mut labelled = Vec::with_capacity(alloc, items.len())?;
+    for &item in items {
+        if let Some(label) = label_of(streams, item) {
+            labelled.push(Labelled { label, item })?;
+        }
+    }
+    Ok(labelled)
+}
+
+/// How many at the front have this label.
+fn leading_with(labelled: &[Labelled], label: Label) -> usize
+    ensures count { result ≡ leading_with label labelled.now }
+    ensures within { result ≤ length labelled.now }
+{
+    for (i, one) in labelled.iter().enumerate() {
+        if one.label.0 != label.0 {
+            return i;
+        }
+    }
+    labelled.len()
+}
+
+/// The items alone.
+fn items_of(alloc: Global, labelled: &[Labelled]) -> Result<Sequence<Item>, AllocError>
+    ensures { IfOk result (λ items. items ≡ map (λ x. x.item) labelled.now) }
+{
+    let mut items = Vec::with_capacity(alloc, labelled.len())?;
+    for one in labelled {
+        items.push(one.item)?;
+    }
+    Ok(Sequence::from_vec(items))
+}
+
+/// The runs of neighbours with one label, each with its label.
+fn runs(
+    alloc: Global,
+    labelled: &[Labelled],
+) -> Result<Sequence<(Label, Sequence<Item>)>, AllocError>
+    ensures { IfOk result (λ groups. groups ≡ runs labelled.now) }
+{
+    let mut groups = Sequence::new(alloc);
+    let mut rest = labelled;
+    while let Some(first) = rest.first() {
+        let label = first.label;
+        let (run, others) = rest.split_at(leading_with(rest, label));
+        let items = items_of(alloc, run)?;
+        let Ok(()) = groups.push((label, items)) else {
+            return Err(AllocError);
+        };
+        rest = others;
+    }
+    Ok(groups)
+}
+
+/// For each label that an item has, by rising label, the items that have it, in their order; sorted
+/// on several threads, with one answer for every number of threads. An item at whose place nothing
+/// stands has no label and is left out: an item of these streams never is.
+pub fn by_label(
+    rt: &(impl Threads + Sync),
+    alloc: Global,
+    streams: &Streams,
+    items: &[Item],
+) -> Result<Sequence<(Label, Sequence<Item>)>, AllocError>
+    ensures { IfOk result (IsByLabel streams.now items.now) }
+{
+    let mut labelled = with_labels(alloc, streams, items)?;
+    let sorted = labelled.as_mut_slice();
+    par_sort_by_key(
+        rt,
+        alloc,
+        sorted,
+        |one: &Labelled| -> u32
+            ensures { result ≡ one.now.label.0 }
+        { one.label.0 },
+    )?;
+    runs(alloc, sorted)
+}

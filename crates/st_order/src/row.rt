@@ -1,0 +1,152 @@
+//! Rows: each item with its key, computed once.
+
+ghost use Rattle.std.specs.Prelude.{◌≡◌, ◌++◌, Some, slice_get, count_by, IfOk, OnOk};
+ghost use Rattle.st_core.specs.Streams.{events_of, IsStreams};
+ghost use Rattle.st_pair.specs.Links.{IsPairing};
+ghost use Rattle.st_order.specs.Items.{is_hidden};
+ghost use Rattle.st_order.specs.Row.{hidden_row, item_of, reported_row, rows, rows_from};
+
+use crate::item::Item;
+use st_core::{Event, Kind, Pid, Streams};
+use st_pair::{Pairing, Source};
+use std::alloc::{AllocError, Global};
+
+/// An item with its key. The key's fields come first, so the derived order is the key's; they stand
+/// so that a row takes 32 bytes.
+#[derive(Clone, Copy, Debug, PartialEq, Eq, PartialOrd, Ord)]
+pub struct Row {
+    /// The height of an event, or a hidden send's own count.
+    pub height: u64,
+    /// 1 for a receive, else 0.
+    pub rank: u8,
+    /// Who reported the event, or sent.
+    pub pid: Pid,
+    /// Whether the item is an event. A hidden send comes before its sender's events.
+    pub reported: bool,
+    /// In whose stream the event, or the hidden send's receive, stands.
+    pub reporter: Pid,
+    /// Its index there.
+    pub index: u64,
+}
+
+impl Row {
+    /// The item of the row.
+    pub fn item(&self) -> Item
+        ensures { result ≡ item_of self.now }
+    {
+        if self.reported {
+            Item::Reported(self.reporter, self.index)
+        } else {
+            Item::Hidden(self.reporter, self.index)
+        }
+    }
+}
+
+/// The row of an event whose greatest count so far is this.
+fn reported(pid: Pid, index: u64, height: u64, event: &Event) -> Row
+    ensures { result ≡ reported_row pid index height event.now }
+{
+    let rank = match event.kind {
+        Kind::Receive => 1,
+        Kind::Send | Kind::Print => 0,
+    };
+    Row {
+        height,
+        rank,
+        pid,
+        reported: true,
+        reporter: pid,
+        index,
+    }
+}
+
+/// The row of the hidden send of a receive.
+fn hidden(pid: Pid, index: u64, event: &Event) -> Row
+    ensures { result ≡ hidden_row pid index event.now }
+{
+    Row {
+        height: event.serial.this,
+        rank: 0,
+        pid: event.from,
+        reported: false,
+        reporter: pid,
+        index,
+    }
+}
+
+/// Whether the event at this place is a receive of a hidden send.
+fn is_hidden(streams: &Streams, pairing: &Pairing, pid: Pid, index: u64, event: &Event) -> bool
+    requires pairing { IsPairing streams.now pairing.now }
+    requires event { slice_get (events_of streams.now pid) index ≡ Some event.now }
+    ensures { result ≡ is_hidden streams.now event.now }
+{
+    match event.kind {
+        Kind::Send | Kind::Print => false,
+        Kind::Receive => match pairing.source(pid, index) {
+            Some(Source::Hidden) => true,
+            Some(Source::Event(..)) | None => false,
+        },
+    }
+}
+
+/// How many hidden sends the receives of one process have.
+fn hidden_count(streams: &Streams, pairing: &Pairing, pid: Pid, events: &[Event]) -> usize
+    requires pairing { IsPairing streams.now pairing.now }
+    requires events { events.now ≡ events_of streams.now pid }
+    ensures { result ≡ count_by (is_hidden streams.now) events.now }
+{
+    let mut count = 0;
+    for (i, event) in events.iter().enumerate() {
+        if is_hidden(streams, pairing, pid, i as u64, event) {
+            count += 1;
+        }
+    }
+    count
+}
+
+/// For how many rows there is to be room: for all of them. No contract speaks of room.
+fn room(streams: &Streams, pairing: &Pairing) -> usize
+    requires { IsPairing streams.now pairing.now }
+{
+    let mut room = streams.total() as usize;
+    for &pid in streams.pids() {
+        room = room.saturating_add(hidden_count(streams, pairing, pid, streams.events(pid)));
+    }
+    room
+}
+
+/// Puts the rows of one process at the end.
+fn put_rows(
+    rows: &mut Vec<Row>,
+    streams: &Streams,
+    pairing: &Pairing,
+    pid: Pid,
+    events: &[Event],
+) -> Result<(), AllocError>
+    requires pairing { IsPairing streams.now pairing.now }
+    requires events { events.now ≡ events_of streams.now pid }
+    ensures { OnOk result (rows.new.items ≡ rows.old.items ++ rows_from streams.now pid 0 0 events.now) }
+{
+    let mut height = 0;
+    for (i, event) in events.iter().enumerate() {
+        height = event.serial.this.max(height);
+        if is_hidden(streams, pairing, pid, i as u64, event) {
+            rows.push(hidden(pid, i as u64, event))?;
+        }
+        rows.push(reported(pid, i as u64, height, event))?;
+    }
+    Ok(())
+}
+
+/// The rows of all items, place by place.
+pub fn rows(alloc: Global, streams: &Streams, pairing: &Pairing) -> Result<Vec<Row>, AllocError>
+    requires { IsPairing streams.now pairing.now }
+    ensures rows { IfOk result (λ made. made.items ≡ rows streams.now streams.now) }
+    ensures streams { OnOk result (IsStreams streams.now) }
+{
+    let mut rows = Vec::with_capacity(alloc, room(streams, pairing))?;
+    for &pid in streams.pids() {
+        put_rows(&mut rows, streams, pairing, pid, streams.events(pid))?;
+    }
+    Ok(rows)
+}

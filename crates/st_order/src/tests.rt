@@ -1,0 +1,363 @@
+//! Worked orders, each with the answer that the rules give by hand, and a large one against a plain
+//! sort; that each call succeeds with ample memory, and what it answers where a growth was refused
+//! (`rt try --test --fail-alloc N` refuses the N-th).
+
+use crate::{Item, by_label, order};
+use st_core::{Draft, Event, Kind, Label, Pid, Sequence, Serial, Streams};
+use st_pair::pair;
+use std::alloc::{AllocError, Global};
+use std::process::Abort;
+use std::test::Fail;
+use std::thread::Threads;
+
+/// The processes 30 and 31 of node 0.
+fn p30() -> Pid {
+    Pid::new(30)
+}
+
+fn p31() -> Pid {
+    Pid::new(31)
+}
+
+/// A print's event.
+fn printed(label: u32, serial: (u64, u64), from: Pid) -> Event {
+    Event {
+        label: Label(label),
+        kind: Kind::Print,
+        serial: Serial {
+            prev: serial.0,
+            this: serial.1,
+        },
+        from,
+        to: None,
+        value: 0,
+    }
+}
+
+fn sent(label: u32, serial: (u64, u64), from: Pid, to: Pid) -> Event {
+    Event {
+        kind: Kind::Send,
+        to: Some(to),
+        ..printed(label, serial, from)
+    }
+}
+
+fn received(label: u32, serial: (u64, u64), from: Pid, to: Pid) -> Event {
+    Event {
+        kind: Kind::Receive,
+        ..sent(label, serial, from, to)
+    }
+}
+
+/// The streams of P30 and P31 with these events. Where they aren't made, whatever the cause, the
+/// error is one: a test that needs them fails.
+fn streams(alloc: Global, events: &[(Pid, Event)]) -> Result<Streams, AllocError> {
+    let mut draft = Draft::new(alloc);
+    draft.open(p30()).map_err(|_| AllocError)?;
+    draft.open(p31()).map_err(|_| AllocError)?;
+    for (pid, event) in events {
+        draft.add(*pid, *event).map_err(|_| AllocError)?;
+    }
+    closed(draft)
+}
+
+fn closed(draft: Draft) -> Result<Streams, AllocError> {
+    draft.close().map_err(|_| AllocError)
+}
+
+/// Two processes that received messages whose sends nobody reported.
+fn hidden_sends(alloc: Global) -> Result<Streams, AllocError> {
+    let events = [
+        (p30(), printed(17, (0, 1), p30())),
+        (p30(), received(17, (2, 4), p31(), p30())),
+        (p31(), received(17, (0, 2), p30(), p31())),
+        (p31(), printed(17, (2, 3), p31())),
+    ];
+    streams(alloc, events.as_slice())
+}
+
+/// Their order, by heights 1, 2, 2, 3, 4 and 4.
+fn hidden_sends_order() -> [Item; 6] {
+    [
+        Item::Reported(p30(), 0),
+        Item::Hidden(p31(), 0),
+        Item::Reported(p31(), 0),
+        Item::Reported(p31(), 1),
+        Item::Hidden(p30(), 1),
+        Item::Reported(p30(), 1),
+    ]
+}
+
+/// That the order of these streams, and their items by label, are the worked ones.
+fn assert_hidden_sends(
+    rt: &(impl Threads + Sync + Abort),
+    alloc: Global,
+) -> Result<(), AllocError> {
+    let streams = hidden_sends(alloc)?;
+    let pairing = pair(alloc, &streams).map_err(|_| AllocError)?;
+    let items = order(rt, alloc, &streams, &pairing)?;
+    let expected = hidden_sends_order();
+    assert_eq!(rt; items.as_slice(), expected.as_slice());
+    let groups = by_label(rt, alloc, &streams, items.as_slice())?;
+    assert_eq!(rt; groups.len(), 1);
+    assert_group(rt, groups.as_slice(), 0, 17, expected.as_slice());
+    Ok(())
+}
+
+#[test]
+fn hidden_sends_stand_before_their_receives(rt: HostRuntime) -> Result<(), Fail> {
+    assert_hidden_sends(&rt, rt.alloc())?;
+    Ok(())
+}
+
+#[test]
+fn a_refused_growth_is_memory_or_the_right_answer(rt: HostRuntime) {
+    let _right_or_memory = assert_hidden_sends(&rt, rt.alloc());
+}
+
+/// That the group at this place has this label and these items.
+fn assert_group(
+    rt: &impl Abort,
+    groups: &[(Label, Sequence<Item>)],
+    place: usize,
+    label: u32,
+    items: &[Item],
+) {
+    match groups.get(place) {
+        None => panic!(rt; "no such group"),
+        Some((found, found_items)) => {
+            assert_eq!(rt; found.0, label);
+            assert_eq!(rt; found_items.as_slice(), items);
+        }
+    }
+}
+
+#[test]
+fn a_send_stands_before_its_receive(rt: HostRuntime) -> Result<(), Fail> {
+    let events = [
+        (p30(), sent(17, (0, 1), p30(), p31())),
+        (p31(), received(17, (0, 1), p30(), p31())),
+    ];
+    let streams = streams(rt.alloc(), events.as_slice())?;
+    let pairing = pair(rt.alloc(), &streams)?;
+    let items = order(&rt, rt.alloc(), &streams, &pairing)?;
+    let expected = [Item::Reported(p30(), 0), Item::Reported(p31(), 0)];
+    assert_eq!(rt; items.as_slice(), expected.as_slice());
+    Ok(())
+}
+
+#[test]
+fn labels_rise(rt: HostRuntime) -> Result<(), Fail> {
+    let events = [
+        (p30(), printed(18, (0, 1), p30())),
+        (p30(), printed(17, (0, 2), p30())),
+    ];
+    let streams = streams(rt.alloc(), events.as_slice())?;
+    let items = [Item::Reported(p30(), 0), Item::Reported(p30(), 1)];
+    let groups = by_label(&rt, rt.alloc(), &streams, items.as_slice())?;
+    assert_eq!(rt; groups.len(), 2);
+    assert_group(
+        &rt,
+        groups.as_slice(),
+        0,
+        17,
+        [Item::Reported(p30(), 1)].as_slice(),
+    );
+    assert_group(
+        &rt,
+        groups.as_slice(),
+        1,
+        18,
+        [Item::Reported(p30(), 0)].as_slice(),
+    );
+    Ok(())
+}
+
+#[test]
+fn an_item_of_no_place_has_no_label(rt: HostRuntime) -> Result<(), Fail> {
+    let streams = hidden_sends(rt.alloc())?;
+    let items = [Item::Reported(p30(), 2), Item::Hidden(Pid::new(32), 0)];
+    assert!(rt; by_label(&rt, rt.alloc(), &streams, items.as_slice())?.is_empty());
+    Ok(())
+}
+
+// A large case: in each process every fourth event is a send to the next process, and what follows it a receive from
+// the process before; half of these sends aren't reported.
+const PROCESSES: u16 = 50;
+
+const EVENTS: u32 = 200;
+
+const LABELS: u32 = 20;
+
+/// The process whose sends this one receives.
+fn before(process: u16) -> u16 {
+    if process == 0 {
+        PROCESSES - 1
+    } else {
+        process - 1
+    }
+}
+
+fn after(process: u16) -> u16 {
+    if process == PROCESSES - 1 {
+        0
+    } else {
+        process.wrapping_add(1)
+    }
+}
+
+/// What a process counts at an index: more at each, at a pace of its own.
+fn count(process: u16, index: u32) -> u64 {
+    let pace = 8 + u64::from(process % 3);
+    let start = 1 + u64::from(process % 5);
+    pace.wrapping_mul(u64::from(index)).wrapping_add(start)
+}
+
+fn label(process: u16, index: u32) -> u32 {
+    u32::from(process).wrapping_mul(7).wrapping_add(index / 2) % LABELS
+}
+
+/// Whether the event at this index would be a send that nobody reports. A print stands there.
+fn is_silent(index: u32) -> bool {
+    index % 8 == 6
+}
+
+fn event_at(process: u16, index: u32) -> Event {
+    let pid = Pid::new(process);
+    let this = count(process, index);
+    let label_here = label(process, index);
+    if is_silent(index) {
+        return printed(label_here, (this, this.wrapping_add(1)), pid);
+    }
+    match index % 4 {
+        2 => sent(
+            label_here,
+            (this.wrapping_sub(1), this),
+            pid,
+            Pid::new(after(process)),
+        ),
+        3 => {
+            let sender = before(process);
+            let index = index.wrapping_sub(1);
+            let this = count(sender, index);
+            received(
+                label(sender, index),
+                (this.wrapping_sub(1), this),
+                Pid::new(sender),
+                pid,
+            )
+        }
+        _ => printed(label_here, (this.wrapping_sub(1), this), pid),
+    }
+}
+
+fn large(alloc: Global) -> Result<Streams, AllocError> {
+    let mut draft = Draft::new(alloc);
+    for process in 0..PROCESSES {
+        draft.open(Pid::new(process)).map_err(|_| AllocError)?;
+        for index in 0..EVENTS {
+            draft
+                .add(Pid::new(process), event_at(process, index))
+                .map_err(|_| AllocError)?;
+        }
+    }
+    closed(draft)
+}
+
+/// An item with its key, as the rules give them.
+#[derive(Clone, Copy, Debug, PartialEq, Eq, PartialOrd, Ord)]
+struct Plain {
+    height: u64,
+    rank: u8,
+    pid: Pid,
+    place: u64,
+    item: Item,
+}
+
+/// Puts the items of one process at the end.
+fn put_plain(plain: &mut Vec<Plain>, process: u16) -> Result<(), AllocError> {
+    let pid = Pid::new(process);
+    let mut height = 0;
+    for index in 0..EVENTS {
+        let event = event_at(process, index);
+        let place = u64::from(index);
+        height = event.serial.this.max(height);
+        if index % 8 == 7 {
+            plain.push(Plain {
+                height: event.serial.this,
+                rank: 0,
+                pid: event.from,
+                place: 0,
+                item: Item::Hidden(pid, place),
+            })?;
+        }
+        plain.push(Plain {
+            height,
+            rank: if index % 4 == 3 { 1 } else { 0 },
+            pid,
+            place: place.wrapping_add(1),
+            item: Item::Reported(pid, place),
+        })?;
+    }
+    Ok(())
+}
+
+/// All items in a plain sort by their keys.
+fn plain_order(alloc: Global) -> Result<Vec<Item>, AllocError> {
+    let mut plain = Vec::new(alloc);
+    for process in 0..PROCESSES {
+        put_plain(&mut plain, process)?;
+    }
+    plain.as_mut_slice().sort_unstable();
+    let mut items = Vec::new(alloc);
+    for one in &plain {
+        items.push(one.item)?;
+    }
+    Ok(items)
+}
+
+/// The plain filter by label.
+fn plain_filter(
+    alloc: Global,
+    streams: &Streams,
+    items: &[Item],
+    label: u32,
+) -> Result<Vec<Item>, AllocError> {
+    let mut found = Vec::new(alloc);
+    for &item in items {
+        let (Item::Reported(pid, index) | Item::Hidden(pid, index)) = item;
+        if streams
+            .event(pid, index)
+            .is_some_and(|event| event.label.0 == label)
+        {
+            found.push(item)?;
+        }
+    }
+    Ok(found)
+}
+
+#[test]
+fn a_large_order_is_a_plain_sort_and_its_labels_are_plain_filters(
+    rt: HostRuntime,
+) -> Result<(), Fail> {
+    let alloc = rt.alloc();
+    let streams = large(alloc)?;
+    let pairing = pair(alloc, &streams)?;
+    let items = order(&rt, alloc, &streams, &pairing)?;
+    let expected = plain_order(alloc)?;
+    assert_eq!(rt; items.len(), 11_250);
+    assert_eq!(rt; items.as_slice(), expected.as_slice());
+    let groups = by_label(&rt, alloc, &streams, items.as_slice())?;
+    assert_eq!(rt; groups.len(), 20);
+    for label in 0..LABELS {
+        let filtered = plain_filter(alloc, &streams, expected.as_slice(), label)?;
+        assert_group(
+            &rt,
+            groups.as_slice(),
+            label as usize,
+            label,
+            filtered.as_slice(),
+        );
+    }
+    Ok(())
+}
