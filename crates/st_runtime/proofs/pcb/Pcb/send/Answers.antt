@@ -1,0 +1,104 @@
+-- The sender's part answered what it stamped, and the message that the receiver got carries that token.
+use Rattle.std.proofs.Common.{◌≡◌, ◌≢◌, false, ap, sym, ◌∙◌, arith, ◌++◌, ◌∷◌, [], refl}
+use Rattle.st_core.specs.Pid.{pid_eq}
+use Rattle.st_mail.specs.Mail.{queue_in}
+use Rattle.st_runtime.specs.Pcb.{Control}
+use Rattle.st_runtime.proofs.LogLemmas.{IsNext}
+use Rattle.st_runtime.proofs.SendLemmas.{IsSent, IsPut, mail, sent_entry, sender_part, sender_inside}
+use Rattle.st_runtime.proofs.SendLemmas.{receiver_part, receiver_inside}
+use Rattle.st_runtime.proofs.StepLemmas.{apart_eq, AreLogged, stepped_between}
+use Rattle.st_runtime.proofs.pcb.Pcb.send.Goals as goal
+
+pub invariant_of-from-2 : goal.invariant_of-from-2
+invariant_of-from-2 g c =
+    let p = c.from.inside.pid in
+    let q = c.to.inside.pid in
+    let v = c.args.value in
+    let l = c.from.inside.local in
+    let m = c.send.new.local in
+    let told = c.in-Ok.told in
+    let t = c.token.result in
+    let log = c.from.inside.log.items in
+    let n = c.in_ok-rank.rank in
+    let pid : Control → _ = λ x. x.process.pid in
+    let apart : pid_eq p q ≡ false =
+    apart_eq p q (λ same. c.requires (sym (ap pid c.from.view_is) ∙ same ∙ ap pid c.to.view_is)) in
+    let sent : IsSent g.row.TOP p q v l m told t = record {
+      acts = c.in-Ok.ensures.acted;
+      token = c.token.ensures;
+      fit = c.in-Ok.ensures.fit;
+      stamped = c.in-Ok.ensures.stamped;
+    } in
+    let rank = c.in_ok-rank.ensures.rank in
+    let next : IsNext g.row.RANKS log n = record { above = omega (arith, rank.0); within = rank.1 } in
+    rw (c.push_reserved.ensures.items, c.in_ok-rank.ensures.a_items)
+    (sender_inside g.row.TOP g.row.RANKS p q v l m c.from.inside.queue.boxes log n told t c.from.invariant apart
+    sent next)
+
+pub invariant_of-to-2 : goal.invariant_of-to-2
+invariant_of-to-2 g c =
+    let p = c.from.inside.pid in
+    let q = c.to.inside.pid in
+    let v = c.args.value in
+    let l = c.from.inside.local in
+    let m = c.send.new.local in
+    let told = c.in-Ok.told in
+    let t = c.token.result in
+    let boxes = c.to.inside.queue.boxes in
+    let boxes' = c.put.new.self.boxes in
+    let log = c.to.inside.log.items in
+    let n = c.in_ok-rank.rank in
+    let pid : Control → _ = λ x. x.process.pid in
+    let apart : pid_eq p q ≡ false =
+    apart_eq p q (λ same. c.requires (sym (ap pid c.from.view_is) ∙ same ∙ ap pid c.to.view_is)) in
+    let sent : IsSent g.row.TOP p q v l m told t = record {
+      acts = c.in-Ok.ensures.acted;
+      token = c.token.ensures;
+      fit = c.in-Ok.ensures.fit;
+      stamped = c.in-Ok.ensures.stamped;
+    } in
+    let put : IsPut boxes boxes' (mail p v t) = record {
+      one_box = c.to.invariant.one_box;
+      put = c.in-Ok-put.ensures.ok;
+    } in
+    let rank = c.in_ok-rank.ensures.rank in
+    let next : IsNext g.row.RANKS log n = record { above = omega (arith, rank.0); within = rank.1 } in
+    rw (c.push_reserved-2.ensures.items, c.in_ok-rank.ensures.b_items)
+    (receiver_inside g.row.TOP g.row.RANKS p q v l m c.to.inside.local boxes boxes' log n told t c.to.invariant apart
+    sent put next)
+
+pub returns-clause-ok : goal.returns-clause-ok
+returns-clause-ok g c =
+    let p = c.from.inside.pid in
+    let q = c.to.inside.pid in
+    let v = c.args.value in
+    let l = c.from.inside.local in
+    let m = c.send.new.local in
+    let told = c.in-Ok.told in
+    let t = c.token.result in
+    let boxes = c.to.inside.queue.boxes in
+    let boxes' = c.put.new.self.boxes in
+    let n = c.in_ok-rank.rank in
+    let e = sent_entry n p q v told t in
+    let pid : Control → _ = λ x. x.process.pid in
+    let apart : pid_eq p q ≡ false =
+    apart_eq p q (λ same. c.requires (sym (ap pid c.from.view_is) ∙ same ∙ ap pid c.to.view_is)) in
+    let sent : IsSent g.row.TOP p q v l m told t = record {
+      acts = c.in-Ok.ensures.acted;
+      token = c.token.ensures;
+      fit = c.in-Ok.ensures.fit;
+      stamped = c.in-Ok.ensures.stamped;
+    } in
+    let put : IsPut boxes boxes' (mail p v t) = record {
+      one_box = c.to.invariant.one_box;
+      put = c.in-Ok-put.ensures.ok;
+    } in
+    rw (← c.from.view_is, ← c.to.view_is)
+    (stepped_between g.row.TOP v _ _ _ _ e apart refl
+    (sender_part g.row.TOP p q v l m (queue_in c.from.inside.queue.boxes 0) n told t apart sent)
+    (receiver_part g.row.TOP p q v l m c.to.inside.local boxes boxes' n told t sent put)
+    (record {
+      rank = c.in_ok-rank.ensures.rank.0;
+      from = c.push_reserved.ensures.items ∙ ap (λ xs. xs ++ e ∷ []) c.in_ok-rank.ensures.a_items;
+      to = c.push_reserved-2.ensures.items ∙ ap (λ xs. xs ++ e ∷ []) c.in_ok-rank.ensures.b_items;
+    }))

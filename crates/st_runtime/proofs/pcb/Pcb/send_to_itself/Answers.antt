@@ -1,0 +1,64 @@
+-- The sender's part answered what it stamped, and the message that was put carries that token.
+use Rattle.std.proofs.Common.{ap, ◌∙◌, arith, ◌++◌, ◌∷◌, [], refl}
+use Rattle.st_mail.specs.Actor.{process_of}
+use Rattle.st_runtime.proofs.LogLemmas.{IsNext}
+use Rattle.st_runtime.proofs.SendLemmas.{IsSent, IsPut, mail, sent_entry, itself_part, itself_inside}
+use Rattle.st_runtime.proofs.pcb.Pcb.send_to_itself.Goals as goal
+
+pub invariant_of-self-2 : goal.invariant_of-self-2
+invariant_of-self-2 g c =
+    let p = c.self.inside.pid in
+    let v = c.args.value in
+    let l = c.self.inside.local in
+    let m = c.send.new.local in
+    let told = c.in-Ok.told in
+    let t = c.token-token.result in
+    let boxes = c.self.inside.queue.boxes in
+    let boxes' = c.put.new.self.boxes in
+    let log = c.self.inside.log.items in
+    let n = c.in_ok-rank.rank in
+    let sent : IsSent g.row.TOP p p v l m told t = record {
+      acts = c.in-Ok.ensures.acted;
+      token = c.token-token.ensures;
+      fit = c.in-Ok.ensures.fit;
+      stamped = c.in-Ok.ensures.stamped;
+    } in
+    let put : IsPut boxes boxes' (mail p v t) = record {
+      one_box = c.self.invariant.one_box;
+      put = c.in-Ok-put.ensures.ok;
+    } in
+    let rank = c.in_ok-rank.ensures.rank in
+    let next : IsNext g.row.RANKS log n = record { above = omega (arith, rank.0); within = rank.1 } in
+    rw (c.push_reserved.ensures.items, c.in_ok-rank.ensures.items)
+    (itself_inside g.row.TOP g.row.RANKS p v l m boxes boxes' log n told t c.self.invariant sent put next)
+
+pub returns-clause-ok : goal.returns-clause-ok
+returns-clause-ok g c =
+    let p = c.self.inside.pid in
+    let v = c.args.value in
+    let l = c.self.inside.local in
+    let m = c.send.new.local in
+    let told = c.in-Ok.told in
+    let t = c.token-token.result in
+    let boxes = c.self.inside.queue.boxes in
+    let boxes' = c.put.new.self.boxes in
+    let n = c.in_ok-rank.rank in
+    let sent : IsSent g.row.TOP p p v l m told t = record {
+      acts = c.in-Ok.ensures.acted;
+      token = c.token-token.ensures;
+      fit = c.in-Ok.ensures.fit;
+      stamped = c.in-Ok.ensures.stamped;
+    } in
+    let put : IsPut boxes boxes' (mail p v t) = record {
+      one_box = c.self.invariant.one_box;
+      put = c.in-Ok-put.ensures.ok;
+    } in
+    let e = sent_entry n p p v told t in
+    rw (← c.self.view_is) (record {
+      entry = e;
+      part = itself_part g.row.TOP p v l m boxes boxes' n told t sent put;
+      act = refl;
+      reply = refl;
+      rank = c.in_ok-rank.ensures.rank.0;
+      log = c.push_reserved.ensures.items ∙ ap (λ xs. xs ++ e ∷ []) c.in_ok-rank.ensures.items;
+    })

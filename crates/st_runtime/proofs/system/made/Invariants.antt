@@ -1,0 +1,7 @@
+-- So far there are as many locks as pids, and a seat for each.
+use Rattle.std.proofs.Common.{◌≡◌, map, take, vec_len}
+use Rattle.st_runtime.specs.Seat.{no_calls}
+use Rattle.st_runtime.proofs.system.made.Given as goal
+
+abbrev pub invariant-loop-pid : goal.invariant-loop-pid
+invariant-loop-pid g l = (vec_len l.locks ≡ l.pid-index) × (l.seats.items ≡ map no_calls (take l.pid-index l.pids))

@@ -1,0 +1,28 @@
+-- What a Pcb keeps inside, and what each of its steps does to it.
+use Rattle.std.specs.Prelude.{◌≡◌, ℕ, ◌+◌, List, [], ◌∷◌, ◌++◌, length}
+use Rattle.st_core.specs.declared.types.Pid.{Pid}
+use Rattle.st_core.specs.declared.types.Message.{Message}
+use Rattle.st_core.specs.declared.types.Act.{Act}
+use Rattle.st_core.specs.declared.types.Reply.{Reply}
+use Rattle.st_core.specs.State.{LocalState}
+use Rattle.st_mail.specs.Mail.{queue_in}
+use Rattle.st_runtime.specs.declared.entry.Entry.{Entry}
+use Rattle.st_mail.specs.Actor.{process_of, QueueFits}
+use Rattle.st_runtime.specs.Logs.{IsOwnPart, last_rank}
+use Rattle.st_runtime.specs.Pcb.{Control, IsKept}
+
+-- the queue is the one box, each token in it can be met, and the process is what the log gives
+pub record IsInside (top ranks : ℕ) (p : Pid) (l : LocalState) (boxes : List (List Message)) (log : List Entry)
+    : Type 0 where
+  pub one_box : length boxes ≡ 1
+  pub fit : QueueFits top (queue_in boxes 0)
+  pub kept : IsKept top ranks (process_of p l (queue_in boxes 0)) log
+
+-- the actor's own part was made, and its entry was appended to its log
+pub record IsAppended (top : ℕ) (a : Act) (y : Reply) (x z : Control) : Type 0 where
+  pub entry : Entry
+  pub part : IsOwnPart top x.process entry z.process
+  pub act : entry.act ≡ a
+  pub reply : entry.reply ≡ y
+  pub rank : entry.rank ≡ last_rank 0 x.log + 1
+  pub log : z.log ≡ x.log ++ entry ∷ []

@@ -1,0 +1,23 @@
+-- What is told of an act under its locks, of which nothing is known but what their types keep.
+use Rattle.std.specs.Prelude.{Bool, Result, Ok, Err}
+use Rattle.st_core.specs.declared.types.Act.{Act}
+use Rattle.st_core.specs.declared.types.Act.TheVariants as act
+use Rattle.st_core.specs.declared.types.Reply.{Reply}
+use Rattle.st_core.specs.declared.types.Reply.TheVariants as reply
+use Rattle.st_runtime.specs.declared.fault.ActFault.{ActFault}
+use Rattle.st_runtime.specs.declared.fault.ActFault.TheVariants as fault
+
+-- not one of the refusals that come before a lock is taken
+abbrev pub IsLockFault : {T : Type 0} → Result T ActFault → Type 0
+IsLockFault (Ok x) = Unit {0}
+IsLockFault (Err fault.NotYours) = ⊥
+IsLockFault (Err fault.Unknown) = ⊥
+IsLockFault (Err fault.Stray) = Unit {0}
+IsLockFault (Err fault.ClockFull) = Unit {0}
+IsLockFault (Err fault.RankFull) = Unit {0}
+IsLockFault (Err fault.Memory) = Unit {0}
+
+-- what an act of a whole node answers an actor that was traced or not
+abbrev pub wide_reply : Act → Bool → Reply
+wide_reply (act.Tracer p b) was = reply.Was was
+wide_reply a was = reply.Done

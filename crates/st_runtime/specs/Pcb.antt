@@ -1,0 +1,74 @@
+-- What contracts see of a process under its lock, and what the calls on lent ones do.
+use Rattle.std.specs.Prelude.{◌≡◌, ◌≢◌, ℕ, ◌+◌, ◌≤◌, Bool, true, false, List, [], ◌∷◌, ◌++◌, map, max, Option}
+use Rattle.std.specs.Prelude.{Some}
+use Rattle.st_core.specs.declared.types.Pid.{Pid}
+use Rattle.st_core.specs.declared.types.Act.{Act}
+use Rattle.st_core.specs.declared.types.Act.TheVariants as act
+use Rattle.st_core.specs.declared.types.Reply.{Reply}
+use Rattle.st_core.specs.Pid.{pid_eq}
+use Rattle.st_core.specs.State.{Process, State}
+use Rattle.st_core.specs.Step.{Outcome, step}
+use Rattle.st_runtime.specs.declared.entry.Entry.{Entry}
+use Rattle.st_runtime.specs.Logs.{IsLocal, RanksRise, last_rank}
+
+-- a process, its log, and for how many more entries the log has room
+pub record Control : Type 0 where
+  pub process : Process
+  pub log : List Entry
+  pub spare : ℕ
+
+-- what the type keeps: ranks rise strictly from 1 to RANKS, and the process is what its log gives
+pub record IsKept (top ranks : ℕ) (r : Process) (log : List Entry) : Type 0 where
+  pub rises : RanksRise 0 log
+  pub within : last_rank 0 log ≤ ranks
+  pub local : IsLocal top r log
+
+-- all is the same but for room
+pub record IsSame (x y : Control) : Type 0 where
+  pub process : y.process ≡ x.process
+  pub log : y.log ≡ x.log
+
+-- the lent processes as a state of the machine
+abbrev pub state_of : List Control → State
+state_of xs = map (λ x. x.process) xs
+
+-- the greatest rank in their logs, 0 where these are empty
+abbrev pub greatest_rank : List Control → ℕ
+greatest_rank [] = 0
+greatest_rank (x ∷ xs) = max (last_rank 0 x.log) (greatest_rank xs)
+
+-- what comes of a step that leaves this entry and these processes
+abbrev pub outcome_to : Entry → Option ℕ → List Control → Outcome
+outcome_to e place after = record { reply = e.reply; report = e.report; place = place; after = state_of after }
+
+-- the machine's step on the lent processes alone, and the same entry at the end of each of their logs
+pub record IsStepped (top : ℕ) (a : Act) (y : Reply) (before after : List Control) : Type 0 where
+  pub entry : Entry
+  pub place : Option ℕ
+  pub step : step top (state_of before) a ≡ Some (outcome_to entry place after)
+  pub act : entry.act ≡ a
+  pub reply : entry.reply ≡ y
+  pub rank : entry.rank ≡ greatest_rank before + 1
+  pub logs : map (λ x. x.log) after ≡ map (λ x. x.log ++ entry ∷ []) before
+
+-- an act that touches its actor alone: neither of a whole node nor a send to another
+abbrev pub is_alone : Act → Bool
+is_alone (act.Send p q v) = pid_eq p q
+is_alone (act.Reset p) = false
+is_alone (act.Tracer p b) = false
+is_alone a = true
+
+-- a send takes memory for its message; no other act takes any but for its entry
+abbrev pub is_send : Act → Bool
+is_send (act.Send p q v) = true
+is_send a = false
+
+-- an act of a whole node
+abbrev pub is_wide : Act → Bool
+is_wide (act.Reset p) = true
+is_wide (act.Tracer p b) = true
+is_wide a = false
+
+-- a send from p to q, another process
+abbrev pub IsBetween : Act → Pid → Pid → Type 0
+IsBetween a p q = (p ≢ q) × (v : ℕ) × (a ≡ act.Send p q v)

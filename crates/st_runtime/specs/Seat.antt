@@ -1,0 +1,14 @@
+-- What contracts see of a seat.
+use Rattle.std.specs.Prelude.{List, []}
+use Rattle.st_core.specs.declared.types.Pid.{Pid}
+use Rattle.st_core.specs.declared.types.Act.{Act}
+use Rattle.st_core.specs.declared.types.Reply.{Reply}
+
+-- its process, and the acts that were accepted through it with what they answered, in order
+pub record Calls : Type 0 where
+  pub pid : Pid
+  pub mine : List (Act × Reply)
+
+-- a seat through which no act was made yet
+abbrev pub no_calls : Pid → Calls
+no_calls p = record { pid = p; mine = [] }

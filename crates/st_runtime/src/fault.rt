@@ -1,0 +1,38 @@
+//! Why a call was refused. After each refusal all is as it was, capacity aside.
+
+/// Why a step call on lent processes was refused.
+#[derive(Clone, Copy, Debug, PartialEq, Eq)]
+pub enum PcbFault {
+    /// Refusal 1: no memory for an entry or a message.
+    Memory,
+    /// Refusal 3: the actor's clock is at its greatest value, so its token can't be stamped.
+    ClockFull,
+    /// Refusal 4: the greatest rank stands in a log already.
+    RankFull,
+}
+
+/// Why an act in a system was refused.
+#[derive(Clone, Copy, Debug, PartialEq, Eq)]
+pub enum ActFault {
+    /// Refusal 1: no memory for an entry, a message or the seat's call.
+    Memory,
+    /// Refusal 2: the actor, or a send's receiver, is not in the system.
+    Unknown,
+    /// Refusal 3: the actor's clock is at its greatest value, so its token can't be stamped.
+    ClockFull,
+    /// Refusal 4: the greatest rank stands in a log already.
+    RankFull,
+    /// Refusal 5: the actor is not the seat's process.
+    NotYours,
+    /// Refusal 6: a lock that was taken holds another process than its own. No call leaves that.
+    Stray,
+}
+
+/// Why no system was opened.
+#[derive(Clone, Copy, Debug, PartialEq, Eq)]
+pub enum OpenFault {
+    /// Refusal 1: no memory.
+    Memory,
+    /// Refusal 2: the pids do not rise strictly.
+    NotRising,
+}

@@ -1,0 +1,304 @@
+//! One process under its lock: what it keeps for tracing, its queue, and the log of the acts that
+//! touched it. The step calls are on processes that are lent; no lock is taken here.
+
+ghost use Rattle.std.specs.Prelude.{◌≡◌, ◌≢◌, ◌+◌, ◌<◌, ◌≤◌, ◌↔◌, true, false, [], ◌∷◌, ◌++◌, option_map, Some};
+ghost use Rattle.std.specs.Prelude.{None, Err, IfOk, OnErr, OnOk, IsOk, IsSome};
+ghost use Rattle.st_core.specs.Pid.{node_eq};
+ghost use Rattle.st_core.specs.Step.{acted, actor, reached, step};
+ghost use Rattle.st_mail.specs.Actor.{is_inner};
+ghost use Rattle.st_runtime.specs.Inside.{IsAppended};
+ghost use Rattle.st_runtime.specs.Logs.{zero_process, last_rank};
+ghost use Rattle.st_runtime.specs.Pcb.{IsKept, IsSame, IsStepped, IsBetween, state_of, is_alone, is_send};
+ghost use Rattle.st_runtime.specs.Pcb.{is_wide, greatest_rank};
+
+use crate::entry::Entry;
+use crate::fault::PcbFault;
+use crate::log::{last_rank, room, room_in_both};
+use crate::parts::{reach, receive_one, send};
+use st_core::{Act, Local, Message, Pid, Reply, Want};
+use st_mail::Mailboxes;
+use st_mail::actor::inner;
+use std::alloc::{AllocError, Global};
+use std::marker::Model;
+
+/// A process control block: one process, with the log that gives its state. `TOP` is the greatest
+/// value of a clock, `RANKS` that of a rank.
+#[derive(Drop)]
+pub struct Pcb<const TOP: u64, const RANKS: u64> {
+    pid: Pid,
+    local: Local<TOP>,
+    queue: Mailboxes,
+    log: Vec<Entry>,
+}
+
+impl<const TOP: u64, const RANKS: u64> Model for Pcb<TOP, RANKS> {
+    ghost use Rattle.std.specs.Prelude.{◌-◌, vec_len};
+    ghost use Rattle.std.specs.Vec.{vec_capacity};
+    ghost use Rattle.st_mail.specs.Actor.{process_of};
+    ghost use Rattle.st_mail.specs.Mail.{queue_in};
+    ghost use Rattle.st_runtime.specs.Inside.{IsInside};
+    ghost use Rattle.st_runtime.specs.Pcb.{Control};
+
+    ghost Value = { Control };
+
+    ghost view = { λ a. record {
+      process = process_of a.pid a.local (queue_in a.queue.boxes 0);
+      log = a.log.items;
+      spare = vec_capacity a.log - vec_len a.log;
+    } };
+
+    ghost invariant = { λ a. IsInside TOP RANKS a.pid a.local a.queue.boxes a.log.items };
+}
+
+impl<const TOP: u64, const RANKS: u64> Pcb<TOP, RANKS> {
+    /// A process at the start, with an empty log. Refusal 1: no memory.
+    pub fn new(alloc: Global, pid: Pid) -> Result<Self, AllocError>
+        ensures process { IfOk result (λ x. x.process ≡ zero_process pid) }
+        ensures log { IfOk result (λ x. x.log ≡ []) }
+    {
+        let queue = Mailboxes::new(alloc, 1)?;
+        Ok(Pcb {
+            pid,
+            local: Local::new(),
+            queue,
+            log: Vec::new(alloc),
+        })
+    }
+
+    /// Whose it is.
+    pub fn pid(&self) -> Pid
+        ensures { result ≡ self.now.process.pid }
+    {
+        self.pid
+    }
+
+    /// The entries of the acts that touched it, in order. Their ranks rise, and they give its state.
+    pub fn log(&self) -> &[Entry]
+        ensures value { result.now ≡ self.now.log }
+        ensures kept { IsKept TOP RANKS self.now.process self.now.log }
+    {
+        self.log.as_slice()
+    }
+
+    /// What it keeps for tracing.
+    pub fn local(&self) -> &Local<TOP>
+        ensures { result.now ≡ self.now.process.local }
+    {
+        &self.local
+    }
+
+    /// The greatest rank in its log, 0 where that is empty.
+    pub(crate) fn last_rank(&self) -> u64
+        ensures { result ≡ last_rank 0 self.now.log }
+    {
+        last_rank(self.log.as_slice())
+    }
+
+    /// Makes room for one entry. Refusal 1: no memory.
+    pub fn prepare(&mut self) -> Result<(), AllocError>
+        ensures same { IsSame self.old self.new }
+        ensures room { OnOk result (0 < self.new.spare) }
+        ensures succeeds { 0 < self.old.spare → IsOk result }
+    {
+        self.log.reserve(1)
+    }
+
+    /// An act that touches this process alone, which is its actor. Refusals: 3 ClockFull,
+    /// 4 RankFull, 1 Memory, in this order.
+    pub fn alone(&mut self, act: &Act) -> Result<Reply, PcbFault>
+        requires alone { is_alone act.now ≡ true }
+        requires me { actor act.now ≡ self.old.process.pid }
+        ensures ok { IfOk result (λ y. IsStepped TOP act.now y (self.old ∷ []) (self.new ∷ [])) }
+        ensures pid { self.new.process.pid ≡ self.old.process.pid }
+        ensures clock { (result ≡ Err PcbFault.ClockFull) ↔ (step TOP (state_of (self.old ∷ [])) act.now ≡ None) }
+        ensures rank { (result ≡ Err PcbFault.RankFull)
+            ↔ (IsSome (step TOP (state_of (self.old ∷ [])) act.now) × (greatest_rank (self.old ∷ []) ≡ RANKS)) }
+        ensures memory { 0 < self.old.spare → is_send act.now ≡ false → result ≢ Err PcbFault.Memory }
+        ensures err { OnErr result (IsSame self.old self.new) }
+    {
+        match *act {
+            Act::Send(_, _, value) => self.send_to_itself(value),
+            Act::Receive(_, want) => self.receive(&want),
+            Act::Print(..)
+            | Act::PrintAt(..)
+            | Act::Set(..)
+            | Act::Clear(_)
+            | Act::Restore(..)
+            | Act::Look(_) => self.inner(act),
+            Act::Reset(_) | Act::Tracer(..) => unreachable!(),
+        }
+    }
+
+    /// A send between two processes, the sender first. Refusals: 3 ClockFull, 4 RankFull, 1 Memory,
+    /// in this order.
+    pub fn between(from: &mut Self, to: &mut Self, act: &Act) -> Result<Reply, PcbFault>
+        requires { IsBetween act.now from.old.process.pid to.old.process.pid }
+        ensures ok { IfOk result (λ y. IsStepped TOP act.now y (from.old ∷ to.old ∷ []) (from.new ∷ to.new ∷ [])) }
+        ensures from_pid { from.new.process.pid ≡ from.old.process.pid }
+        ensures to_pid { to.new.process.pid ≡ to.old.process.pid }
+        ensures clock { (result ≡ Err PcbFault.ClockFull)
+            ↔ (step TOP (state_of (from.old ∷ to.old ∷ [])) act.now ≡ None) }
+        ensures rank { (result ≡ Err PcbFault.RankFull)
+            ↔ (IsSome (step TOP (state_of (from.old ∷ to.old ∷ [])) act.now)
+            × (greatest_rank (from.old ∷ to.old ∷ []) ≡ RANKS)) }
+        ensures err { OnErr result (IsSame from.old from.new × IsSame to.old to.new) }
+    {
+        let Act::Send(_, _, value) = *act else {
+            unreachable!()
+        };
+        Pcb::send(from, to, value)
+    }
+
+    /// An act of the whole node, of which this is one process, where room was made. The entry was
+    /// made under the locks of all of them.
+    pub fn commit(&mut self, entry: &Entry)
+        requires room { 0 < self.old.spare }
+        requires wide { is_wide entry.now.act ≡ true }
+        requires node { node_eq self.old.process.pid (actor entry.now.act) ≡ true }
+        requires above { last_rank 0 self.old.log < entry.now.rank }
+        requires within { entry.now.rank ≤ RANKS }
+        requires reply { actor entry.now.act ≡ self.old.process.pid
+            → option_map (λ done. done.reply) (acted TOP self.old.process entry.now.act)
+            ≡ Some entry.now.reply }
+        requires report { entry.now.report ≡ None }
+        requires carried { entry.now.carried ≡ None }
+        ensures process { self.new.process ≡ reached entry.now.act None self.old.process }
+        ensures pid { self.new.process.pid ≡ self.old.process.pid }
+        ensures log { self.new.log ≡ self.old.log ++ entry.now ∷ [] }
+        ensures spare { self.old.spare ≡ self.new.spare + 1 }
+    {
+        reach(self.pid, &mut self.local, &mut self.queue, &entry.act);
+        self.log.push_reserved(*entry);
+    }
+
+    /// An act that leaves its queue.
+    fn inner(&mut self, act: &Act) -> Result<Reply, PcbFault>
+        requires inner { is_inner act.now ≡ true }
+        requires me { actor act.now ≡ self.old.process.pid }
+        ensures ok { IfOk result (λ y. IsAppended TOP act.now y self.old self.new) }
+        ensures pid { self.new.process.pid ≡ self.old.process.pid }
+        ensures clock { (result ≡ Err PcbFault.ClockFull) ↔ (acted TOP self.old.process act.now ≡ None) }
+        ensures rank { (result ≡ Err PcbFault.RankFull)
+            ↔ (IsSome (acted TOP self.old.process act.now) × (last_rank 0 self.old.log ≡ RANKS)) }
+        ensures memory { 0 < self.old.spare → result ≢ Err PcbFault.Memory }
+        ensures err { OnErr result (IsSame self.old self.new) }
+    {
+        let mut local = self.local;
+        let Ok(told) = inner(self.pid, &mut local, act) else {
+            return Err(PcbFault::ClockFull);
+        };
+        let rank = room(&mut self.log, RANKS)?;
+        self.local = local;
+        self.log.push_reserved(Entry {
+            rank,
+            act: *act,
+            reply: told.reply,
+            report: told.report,
+            carried: None,
+        });
+        Ok(told.reply)
+    }
+
+    /// A receive.
+    fn receive(&mut self, want: &Want) -> Result<Reply, PcbFault>
+        ensures ok { IfOk result (λ reply.
+            IsAppended TOP (Act.Receive self.old.process.pid want.now) reply self.old self.new) }
+        ensures pid { self.new.process.pid ≡ self.old.process.pid }
+        ensures clock { result ≢ Err PcbFault.ClockFull }
+        ensures rank { (result ≡ Err PcbFault.RankFull) ↔ (last_rank 0 self.old.log ≡ RANKS) }
+        ensures memory { 0 < self.old.spare → result ≢ Err PcbFault.Memory }
+        ensures err { OnErr result (IsSame self.old self.new) }
+    {
+        let rank = room(&mut self.log, RANKS)?;
+        let told = receive_one(self.pid, &mut self.local, &mut self.queue, want);
+        self.log.push_reserved(Entry {
+            rank,
+            act: Act::Receive(self.pid, *want),
+            reply: told.reply,
+            report: told.report,
+            carried: None,
+        });
+        Ok(told.reply)
+    }
+
+    /// A send to itself.
+    fn send_to_itself(&mut self, value: u64) -> Result<Reply, PcbFault>
+        ensures ok { IfOk result (λ y.
+            IsAppended TOP (Act.Send self.old.process.pid self.old.process.pid value) y self.old self.new) }
+        ensures pid { self.new.process.pid ≡ self.old.process.pid }
+        ensures clock { (result ≡ Err PcbFault.ClockFull)
+            ↔ (acted TOP self.old.process (Act.Send self.old.process.pid self.old.process.pid value) ≡ None) }
+        ensures rank { (result ≡ Err PcbFault.RankFull)
+            ↔ (IsSome (acted TOP self.old.process (Act.Send self.old.process.pid self.old.process.pid value))
+            × (last_rank 0 self.old.log ≡ RANKS)) }
+        ensures err { OnErr result (IsSame self.old self.new) }
+    {
+        let me = self.pid;
+        let mut local = self.local;
+        let Ok(told) = send(me, &mut local, me, value) else {
+            return Err(PcbFault::ClockFull);
+        };
+        let rank = room(&mut self.log, RANKS)?;
+        let token = local.token();
+        let message = Message {
+            from: me,
+            value,
+            token,
+        };
+        let Ok(()) = self.queue.put(0, message) else {
+            return Err(PcbFault::Memory);
+        };
+        self.local = local;
+        self.log.push_reserved(Entry {
+            rank,
+            act: Act::Send(me, me, value),
+            reply: told.reply,
+            report: told.report,
+            carried: token,
+        });
+        Ok(told.reply)
+    }
+
+    /// A send to another.
+    fn send(from: &mut Self, to: &mut Self, value: u64) -> Result<Reply, PcbFault>
+        requires { from.old.process.pid ≢ to.old.process.pid }
+        ensures ok { IfOk result (λ y. IsStepped TOP (Act.Send from.old.process.pid to.old.process.pid value) y
+            (from.old ∷ to.old ∷ []) (from.new ∷ to.new ∷ [])) }
+        ensures from_pid { from.new.process.pid ≡ from.old.process.pid }
+        ensures to_pid { to.new.process.pid ≡ to.old.process.pid }
+        ensures clock { (result ≡ Err PcbFault.ClockFull)
+            ↔ (acted TOP from.old.process (Act.Send from.old.process.pid to.old.process.pid value) ≡ None) }
+        ensures rank { (result ≡ Err PcbFault.RankFull)
+            ↔ (IsSome (acted TOP from.old.process (Act.Send from.old.process.pid to.old.process.pid value))
+            × (greatest_rank (from.old ∷ to.old ∷ []) ≡ RANKS)) }
+        ensures err { OnErr result (IsSame from.old from.new × IsSame to.old to.new) }
+    {
+        let mut local = from.local;
+        let Ok(told) = send(from.pid, &mut local, to.pid, value) else {
+            return Err(PcbFault::ClockFull);
+        };
+        let rank = room_in_both(&mut from.log, &mut to.log, RANKS)?;
+        let message = Message {
+            from: from.pid,
+            value,
+            token: local.token(),
+        };
+        let Ok(()) = to.queue.put(0, message) else {
+            return Err(PcbFault::Memory);
+        };
+        let entry = Entry {
+            rank,
+            act: Act::Send(from.pid, to.pid, value),
+            reply: told.reply,
+            report: told.report,
+            carried: message.token,
+        };
+        from.local = local;
+        from.log.push_reserved(entry);
+        to.log.push_reserved(entry);
+        Ok(told.reply)
+    }
+}
+
+#[cfg(test)]
+mod tests;

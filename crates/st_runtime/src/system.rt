@@ -1,0 +1,330 @@
+//! Processes under their locks, and the acts that threads make of them. Locks are taken in rising
+//! order of their pids, and nothing is known of what a lock holds but what its type keeps.
+
+ghost use Rattle.std.specs.Prelude.{◌≡◌, ◌≢◌, ◌<◌, ◌≤◌, ◌↔◌, false, true, [], ◌∷◌, ◌++◌, length, map, is_some};
+ghost use Rattle.std.specs.Prelude.{slice_get, Some, None, Err, IfOk, IfSome, OnOk, OnErr};
+ghost use Rattle.st_core.specs.Pid.{IsRising};
+ghost use Rattle.st_core.specs.Step.{actor, receiver};
+ghost use Rattle.st_runtime.specs.Locked.{wide_reply, IsLockFault};
+ghost use Rattle.st_runtime.specs.Pcb.{is_wide};
+ghost use Rattle.st_runtime.specs.Seat.{no_calls};
+ghost use Rattle.st_runtime.specs.System.{knows, is_stamping};
+
+use crate::acts::{is_wide, receiver_of};
+use crate::entry::Entry;
+use crate::fault::{ActFault, OpenFault, PcbFault};
+use crate::gate::Gate;
+use crate::node::Found;
+use crate::pcb::Pcb;
+use crate::pids::{first_on, is_rising, place_of};
+use crate::seat::Seat;
+use st_core::{Act, Pid, Reply};
+use std::alloc::{AllocError, Global};
+use std::marker::Model;
+use std::sync::{Mutex, Wait};
+
+/// One lock for each process. `TOP` is the greatest value of a clock, `RANKS` that of a rank.
+#[derive(Drop)]
+pub struct System<const TOP: u64, const RANKS: u64> {
+    pids: Vec<Pid>,
+    locks: Vec<Mutex<Pcb<TOP, RANKS>>>,
+}
+
+impl<const TOP: u64, const RANKS: u64> Model for System<TOP, RANKS> {
+    ghost use Rattle.std.specs.Prelude.{List, ◌≡◌, vec_len};
+    ghost use Rattle.st_core.specs.declared.types.Pid.{Pid};
+    ghost use Rattle.st_core.specs.Pid.{IsRising};
+
+    ghost Value = { List Pid };
+
+    ghost view = { λ s. s.pids.items };
+
+    ghost invariant = { λ s. (vec_len s.pids ≡ vec_len s.locks) × IsRising s.pids.items };
+}
+
+impl<const TOP: u64, const RANKS: u64> System<TOP, RANKS> {
+    /// A system of these processes, each at its start, and a seat for each, in order. Refusals:
+    /// 2 NotRising, before memory is asked for, then 1 Memory.
+    pub fn open(alloc: Global, pids: &[Pid]) -> Result<(System<TOP, RANKS>, Vec<Seat>), OpenFault>
+        ensures system { IfOk result (λ r. r.0 ≡ pids.now) }
+        ensures seats { IfOk result (λ r. r.1.items ≡ map no_calls pids.now) }
+        ensures rising { OnOk result (IsRising pids.now) }
+        ensures not_rising { (result ≡ Err OpenFault.NotRising) ↔ ¬ IsRising pids.now }
+    {
+        if !is_rising(pids) {
+            return Err(OpenFault::NotRising);
+        }
+        match made(alloc, pids) {
+            Ok(made) => Ok(made),
+            Err(_) => Err(OpenFault::Memory),
+        }
+    }
+
+    /// Makes the act under the locks of all processes that it touches, and keeps it in the seat with
+    /// its reply. It waits for the locks.
+    ///
+    /// Refusals: 5 NotYours, 2 Unknown, 6 Stray, 3 ClockFull, 4 RankFull, 1 Memory, in this order,
+    /// save that room in the seat, and in the logs for an act of a whole node, is made first: so
+    /// Memory can come in place of 6, 3 and 4. After a refusal no log has changed.
+    pub fn act<R: Wait, G: Gate>(
+        &self,
+        rt: &R,
+        gate: &G,
+        seat: &mut Seat,
+        act: &Act,
+    ) -> Result<Reply, ActFault>
+        ensures pid { seat.new.pid ≡ seat.old.pid }
+        ensures ok { IfOk result (λ y. seat.new.mine ≡ seat.old.mine ++ (act.now, y) ∷ []) }
+        ensures err { OnErr result (seat.new ≡ seat.old) }
+        ensures not_yours { (result ≡ Err ActFault.NotYours) ↔ (actor act.now ≢ seat.old.pid) }
+        ensures unknown { (result ≡ Err ActFault.Unknown)
+            ↔ ((actor act.now ≡ seat.old.pid) × (knows self.now act.now ≡ false)) }
+        ensures clock { result ≡ Err ActFault.ClockFull → is_stamping act.now ≡ true }
+    {
+        if act.actor() != seat.pid() {
+            return Err(ActFault::NotYours);
+        }
+        let Some((me, them)) = self.places(act) else {
+            return Err(ActFault::Unknown);
+        };
+        let Ok(()) = seat.mine.reserve(1) else {
+            return Err(ActFault::Memory);
+        };
+        let n = seat.mine.len() as u64;
+        let reply = self.locked(rt, gate, me, them, act, n)?;
+        seat.mine.push_reserved((*act, reply));
+        Ok(reply)
+    }
+
+    /// Where the actor stands, and where a send's receiver, which else is the actor.
+    fn places(&self, act: &Act) -> Option<(usize, usize)>
+        ensures variant { is_some result ≡ knows self.now act.now }
+        ensures me { IfSome result (λ r. slice_get self.now r.0 ≡ Some (actor act.now)) }
+        ensures them { IfSome result (λ r. slice_get self.now r.1 ≡ Some (receiver act.now)) }
+    {
+        let me = place_of(self.pids.as_slice(), act.actor())?;
+        let them = place_of(self.pids.as_slice(), receiver_of(act))?;
+        Some((me, them))
+    }
+
+    /// The act under its locks.
+    fn locked<R: Wait, G: Gate>(
+        &self,
+        rt: &R,
+        gate: &G,
+        me: usize,
+        them: usize,
+        act: &Act,
+        n: u64,
+    ) -> Result<Reply, ActFault>
+        requires me { slice_get self.now me ≡ Some (actor act.now) }
+        requires them { slice_get self.now them ≡ Some (receiver act.now) }
+        ensures known { IsLockFault result }
+        ensures clock { result ≡ Err ActFault.ClockFull → is_stamping act.now ≡ true }
+    {
+        if is_wide(act) {
+            self.whole_node(rt, gate, act, n)
+        } else if receiver_of(act) == act.actor() {
+            self.one(rt, gate, me, act, n)
+        } else {
+            self.two(rt, gate, me, them, act, n)
+        }
+    }
+
+    /// An act under one lock.
+    fn one<R: Wait, G: Gate>(
+        &self,
+        rt: &R,
+        gate: &G,
+        place: usize,
+        act: &Act,
+        n: u64,
+    ) -> Result<Reply, ActFault>
+        requires wide { is_wide act.now ≡ false }
+        requires alone { receiver act.now ≡ actor act.now }
+        requires place { slice_get self.now place ≡ Some (actor act.now) }
+        ensures known { IsLockFault result }
+        ensures clock { result ≡ Err ActFault.ClockFull → is_stamping act.now ≡ true }
+    {
+        let pid = act.actor();
+        let mut guard = self.locks[place].lock(rt);
+        gate.before(pid, n);
+        let result = acted(&mut guard, act);
+        drop(guard);
+        gate.after(pid, n);
+        result
+    }
+
+    /// A send under two locks.
+    fn two<R: Wait, G: Gate>(
+        &self,
+        rt: &R,
+        gate: &G,
+        me: usize,
+        them: usize,
+        act: &Act,
+        n: u64,
+    ) -> Result<Reply, ActFault>
+        requires wide { is_wide act.now ≡ false }
+        requires apart { receiver act.now ≢ actor act.now }
+        requires me { slice_get self.now me ≡ Some (actor act.now) }
+        requires them { slice_get self.now them ≡ Some (receiver act.now) }
+        ensures known { IsLockFault result }
+        ensures clock { result ≡ Err ActFault.ClockFull → is_stamping act.now ≡ true }
+    {
+        let pid = act.actor();
+        let mut low = self.locks[me.min(them)].lock(rt);
+        let mut high = self.locks[me.max(them)].lock(rt);
+        gate.before(pid, n);
+        let result = if me < them {
+            sent(&mut low, &mut high, act)
+        } else {
+            sent(&mut high, &mut low, act)
+        };
+        drop(high);
+        drop(low);
+        gate.after(pid, n);
+        result
+    }
+
+    /// An act under all locks of the actor's node. For want of room in a log not all locks come to be
+    /// held, and the gate isn't told.
+    fn whole_node<R: Wait, G: Gate>(
+        &self,
+        rt: &R,
+        gate: &G,
+        act: &Act,
+        n: u64,
+    ) -> Result<Reply, ActFault>
+        requires { is_wide act.now ≡ true }
+        ensures known { IsLockFault result }
+        ensures clock { result ≢ Err ActFault.ClockFull }
+    {
+        let pid = act.actor();
+        let nothing = Found {
+            actor: pid,
+            last: 0,
+            was: None,
+            stray: false,
+        };
+        let first = first_on(self.pids.as_slice(), pid.node());
+        let result = match self.from_place(rt, gate, first, nothing, act, n) {
+            Ok(entry) => Ok(entry.reply),
+            Err(ActFault::Memory) => return Err(ActFault::Memory),
+            Err(fault) => Err(fault),
+        };
+        gate.after(pid, n);
+        result
+    }
+
+    /// Takes the locks of the node from this place on, and writes the entry under each as it gives
+    /// them back. Each call holds one lock while the next ones are taken, so the locks of a node need
+    /// as many frames on the stack.
+    fn from_place<R: Wait, G: Gate>(
+        &self,
+        rt: &R,
+        gate: &G,
+        place: usize,
+        found: Found,
+        act: &Act,
+        n: u64,
+    ) -> Result<Entry, ActFault>
+        requires wide { is_wide act.now ≡ true }
+        requires actor { found.actor ≡ actor act.now }
+        requires place { place ≤ length self.now }
+        ensures act { IfOk result (λ e. e.act ≡ act.now) }
+        ensures bare { IfOk result (λ e. (e.report ≡ None) × (e.carried ≡ None)) }
+        ensures rank { IfOk result (λ e. (found.last < e.rank) × (e.rank ≤ RANKS)) }
+        ensures stray { OnOk result (found.stray ≡ false) }
+        ensures reply { IfOk result (λ e. IfSome found.was (λ was. e.reply ≡ wide_reply act.now was)) }
+        ensures known { IsLockFault result }
+        ensures clock { result ≢ Err ActFault.ClockFull }
+    {
+        if place == self.locks.len() || self.pids[place].node() != found.actor.node() {
+            gate.before(found.actor, n);
+            return found.entry(act, RANKS);
+        }
+        let mut guard = self.locks[place].lock(rt);
+        let Ok(()) = guard.prepare() else {
+            return Err(ActFault::Memory);
+        };
+        let next = found.with(&guard, self.pids[place]);
+        let entry = self.from_place(rt, gate, place + 1, next, act, n)?;
+        guard.commit(&entry);
+        Ok(entry)
+    }
+}
+
+/// A step's answer as an act's.
+fn told(step: Result<Reply, PcbFault>) -> Result<Reply, ActFault>
+    ensures known { IsLockFault result }
+    ensures clock { result ≡ Err ActFault.ClockFull → step ≡ Err PcbFault.ClockFull }
+{
+    match step {
+        Ok(reply) => Ok(reply),
+        Err(PcbFault::ClockFull) => Err(ActFault::ClockFull),
+        Err(PcbFault::RankFull) => Err(ActFault::RankFull),
+        Err(PcbFault::Memory) => Err(ActFault::Memory),
+    }
+}
+
+/// An act on the process that its lock held.
+fn acted<const TOP: u64, const RANKS: u64>(
+    pcb: &mut Pcb<TOP, RANKS>,
+    act: &Act,
+) -> Result<Reply, ActFault>
+    requires wide { is_wide act.now ≡ false }
+    requires alone { receiver act.now ≡ actor act.now }
+    ensures known { IsLockFault result }
+    ensures clock { result ≡ Err ActFault.ClockFull → is_stamping act.now ≡ true }
+{
+    if pcb.pid() != act.actor() {
+        return Err(ActFault::Stray);
+    }
+    told(pcb.alone(act))
+}
+
+/// A send between the processes that two locks held.
+fn sent<const TOP: u64, const RANKS: u64>(
+    from: &mut Pcb<TOP, RANKS>,
+    to: &mut Pcb<TOP, RANKS>,
+    act: &Act,
+) -> Result<Reply, ActFault>
+    requires wide { is_wide act.now ≡ false }
+    requires apart { receiver act.now ≢ actor act.now }
+    ensures known { IsLockFault result }
+{
+    if from.pid() != act.actor() {
+        return Err(ActFault::Stray);
+    }
+    if to.pid() != receiver_of(act) {
+        return Err(ActFault::Stray);
+    }
+    told(Pcb::between(from, to, act))
+}
+
+/// A system of pids that rise, and its seats.
+fn made<const TOP: u64, const RANKS: u64>(
+    alloc: Global,
+    pids: &[Pid],
+) -> Result<(System<TOP, RANKS>, Vec<Seat>), AllocError>
+    requires { IsRising pids.now }
+    ensures system { IfOk result (λ r. r.0 ≡ pids.now) }
+    ensures seats { IfOk result (λ r. r.1.items ≡ map no_calls pids.now) }
+{
+    let own = Vec::from_slice(alloc, pids)?;
+    let mut locks = Vec::with_capacity(alloc, pids.len())?;
+    let mut seats = Vec::with_capacity(alloc, pids.len())?;
+    for pid in pids {
+        let Ok(()) = locks.push(Mutex::new(Pcb::new(alloc, *pid)?)) else {
+            return Err(AllocError);
+        };
+        let Ok(()) = seats.push(Seat::new(alloc, *pid)) else {
+            return Err(AllocError);
+        };
+    }
+    Ok((System { pids: own, locks }, seats))
+}
+
+#[cfg(test)]
+mod tests;

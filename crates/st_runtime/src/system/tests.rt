@@ -1,0 +1,291 @@
+//! Worked acts in systems, on one thread and on two.
+
+use super::System;
+use crate::fault::{ActFault, OpenFault};
+use crate::gate::{Gate, OpenGate};
+use crate::seat::Seat;
+use st_core::{Act, Component, Label, Pid, Reply, Serial, Want};
+use std::process::Abort;
+use std::sync::Wait;
+use std::sync::atomic::{AtomicBool, AtomicU64, Ordering};
+use std::test::Fail;
+use std::thread;
+use std::time::{Clock, Duration};
+
+/// An act and what it answers.
+type Played = (Act, Result<Reply, ActFault>);
+
+/// Makes acts through a seat, and asserts what each answers.
+fn play<const TOP: u64, const RANKS: u64, R: Wait + Abort, G: Gate>(
+    rt: &R,
+    gate: &G,
+    system: &System<TOP, RANKS>,
+    seat: &mut Seat,
+    acts: &[Played],
+) {
+    for (act, expected) in acts {
+        assert_eq!(rt; system.act(rt, gate, seat, act), *expected, "at {act:?}");
+    }
+}
+
+#[test]
+fn falling_pids_are_refused(rt: HostRuntime) {
+    let opened = System::<9, 9>::open(rt.alloc(), &[Pid::new(31), Pid::new(30)]);
+    let Err(fault) = opened else {
+        panic!(rt; "opened");
+    };
+    assert_eq!(rt; fault, OpenFault::NotRising);
+}
+
+#[test]
+fn the_greatest_rank_is_the_last(rt: HostRuntime) -> Result<(), Fail> {
+    let me = Pid::new(30);
+    let (system, seats) = System::<9, 3>::open(rt.alloc(), &[me])?;
+    for mut seat in seats {
+        let looked = (Act::Look(me), Ok(Reply::Current(None)));
+        let refused = (Act::Look(me), Err(ActFault::RankFull));
+        play(
+            &rt,
+            &OpenGate,
+            &system,
+            &mut seat,
+            &[looked, looked, looked, refused],
+        );
+        assert_eq!(rt; seat.mine().len(), 3);
+    }
+    Ok(())
+}
+
+/// Counts how often it is told, and adds the numbers of acts that it is told of.
+#[derive(Drop)]
+struct Counting {
+    before: AtomicU64,
+    after: AtomicU64,
+    acts: AtomicU64,
+}
+
+impl Gate for Counting {
+    fn before(&self, _pid: Pid, n: u64) {
+        self.before.fetch_add(1, Ordering::SeqCst);
+        self.acts.fetch_add(n, Ordering::SeqCst);
+    }
+
+    fn after(&self, _pid: Pid, _n: u64) {
+        self.after.fetch_add(1, Ordering::SeqCst);
+    }
+}
+
+// Each refusal leaves the seat's acts and the process as they were, and the gate is told of those acts
+// that hold their lock.
+#[test]
+fn refused_acts_change_nothing(rt: HostRuntime) -> Result<(), Fail> {
+    let me = Pid::new(30);
+    let (system, seats) = System::<3, 9>::open(rt.alloc(), &[me])?;
+    for mut seat in seats {
+        let foreign = Act::Look(Pid::new(31));
+        let unknown = Act::Send(me, Pid::new(99), 1);
+        let print = Act::Print(me, 0);
+        let started = Act::Set(me, Component::Label(Label(1)));
+        let acts = [
+            (foreign, Err(ActFault::NotYours)),
+            (Act::Look(me), Ok(Reply::Current(None))),
+            (unknown, Err(ActFault::Unknown)),
+            (Act::Look(me), Ok(Reply::Current(None))),
+            (started, Ok(Reply::Old(None))),
+            (print, Ok(Reply::Done)),
+            (print, Ok(Reply::Done)),
+            (print, Ok(Reply::Done)),
+            (print, Err(ActFault::ClockFull)),
+        ];
+        let gate = Counting {
+            before: AtomicU64::new(0),
+            after: AtomicU64::new(0),
+            acts: AtomicU64::new(0),
+        };
+        play(&rt, &gate, &system, &mut seat, &acts);
+        assert_eq!(rt; seat.mine().len(), 6);
+        assert_eq!(rt; gate.before.load(Ordering::SeqCst), 7);
+        assert_eq!(rt; gate.after.load(Ordering::SeqCst), 7);
+        assert_eq!(rt; gate.acts.load(Ordering::SeqCst), 1 + 2 + 3 + 4 + 5 + 6);
+        let looked = system.act(&rt, &OpenGate, &mut seat, &Act::Look(me));
+        let Ok(Reply::Current(Some(token))) = looked else {
+            panic!(rt; "no token");
+        };
+        assert_eq!(rt; token.serial, Serial { prev: 0, this: 3 });
+    }
+    Ok(())
+}
+
+// The ranks in the log of the process at this place.
+fn assert_ranks<const TOP: u64, const RANKS: u64, R: Wait + Abort>(
+    rt: &R,
+    system: &System<TOP, RANKS>,
+    place: usize,
+    expected: &[u64],
+) {
+    let Some(lock) = system.locks.get(place) else {
+        panic!(rt; "no lock");
+    };
+    let guard = lock.lock(rt);
+    let log = guard.log();
+    assert_eq!(rt; log.len(), expected.len());
+    for (entry, rank) in log.iter().zip(expected) {
+        assert_eq!(rt; entry.rank, *rank);
+    }
+}
+
+// A reset and a tracer change reach the processes of the actor's node, and no other.
+#[test]
+fn acts_of_a_node_leave_other_nodes(rt: HostRuntime) -> Result<(), Fail> {
+    let here = Pid::on(1, 30);
+    let beside = Pid::on(1, 31);
+    let away = Pid::on(2, 31);
+    let (system, seats) = System::<9, 9>::open(rt.alloc(), &[here, beside, away])?;
+    for mut seat in seats {
+        if seat.pid() == here {
+            let acts = [
+                (Act::Set(here, Component::Print(true)), Ok(Reply::Old(None))),
+                (Act::Send(here, away, 5), Ok(Reply::Done)),
+                (Act::Tracer(here, true), Ok(Reply::Was(false))),
+                (Act::Reset(here), Ok(Reply::Done)),
+                (Act::Look(here), Ok(Reply::Current(None))),
+                (Act::Tracer(here, false), Ok(Reply::Was(true))),
+            ];
+            play(&rt, &OpenGate, &system, &mut seat, &acts);
+        }
+        if seat.pid() == beside {
+            let reset = (Act::Reset(beside), Ok(Reply::Done));
+            play(&rt, &OpenGate, &system, &mut seat, &[reset]);
+        }
+        if seat.pid() == away {
+            let traced = (Act::Tracer(away, true), Ok(Reply::Was(false)));
+            play(&rt, &OpenGate, &system, &mut seat, &[traced]);
+        }
+    }
+    assert_ranks(&rt, &system, 0, &[1, 2, 3, 4, 5, 6, 7]);
+    assert_ranks(&rt, &system, 1, &[3, 4, 6, 7]);
+    assert_ranks(&rt, &system, 2, &[2, 3]);
+    Ok(())
+}
+
+// With a growth of the reset refused, as where this test runs with an allocation that fails, the
+// reset is as if it was not asked for.
+#[test]
+fn a_refused_reset_changes_nothing(rt: HostRuntime) -> Result<(), Fail> {
+    let pids = [Pid::new(30), Pid::new(31), Pid::new(32), Pid::new(33)];
+    let (system, seats) = System::<9, 9>::open(rt.alloc(), &pids)?;
+    let mut kept = 0;
+    for mut seat in seats {
+        let me = seat.pid();
+        if me == Pid::new(30) {
+            match system.act(&rt, &OpenGate, &mut seat, &Act::Reset(me)) {
+                Ok(reply) => {
+                    assert_eq!(rt; reply, Reply::Done);
+                    kept = 1;
+                }
+                Err(fault) => assert_eq!(rt; fault, ActFault::Memory),
+            }
+            assert_eq!(rt; seat.mine().len(), kept);
+        }
+        play(
+            &rt,
+            &OpenGate,
+            &system,
+            &mut seat,
+            &[(Act::Look(me), Ok(Reply::Current(None)))],
+        );
+    }
+    Ok(())
+}
+
+/// Lets two acts wait until both hold their locks. `R` is a clock to pause by.
+#[derive(Drop)]
+struct Meeting<'a, R: Clock> {
+    clock: &'a R,
+    first: Pid,
+    first_holds: AtomicBool,
+    other_holds: AtomicBool,
+    met: AtomicU64,
+}
+
+/// How often a thread looks for the other, with a pause of a millisecond after each look.
+const TURNS: u64 = 5_000;
+
+impl<R: Clock> Gate for Meeting<'_, R> {
+    fn before(&self, pid: Pid, _n: u64) {
+        let (mine, theirs) = if pid == self.first {
+            (&self.first_holds, &self.other_holds)
+        } else {
+            (&self.other_holds, &self.first_holds)
+        };
+        mine.store(true, Ordering::SeqCst);
+        for _ in 0..TURNS {
+            if theirs.load(Ordering::SeqCst) {
+                self.met.fetch_add(1, Ordering::SeqCst);
+                return;
+            }
+            thread::sleep(self.clock, Duration::from_millis(1));
+        }
+    }
+
+    fn after(&self, _pid: Pid, _n: u64) {}
+}
+
+// One lock round all processes would keep the second act from its locks.
+#[test]
+fn acts_on_different_processes_run_at_the_same_time(rt: HostRuntime) -> Result<(), Fail> {
+    let pids = [Pid::new(30), Pid::new(31), Pid::new(32), Pid::new(33)];
+    let (system, seats) = System::<9, 9>::open(rt.alloc(), &pids)?;
+    let mut seats = seats.into_iter();
+    let (Some(mut one), Some(_), Some(mut other)) = (seats.next(), seats.next(), seats.next())
+    else {
+        panic!(rt; "no seats");
+    };
+    let gate = Meeting {
+        clock: &rt,
+        first: Pid::new(30),
+        first_holds: AtomicBool::new(false),
+        other_holds: AtomicBool::new(false),
+        met: AtomicU64::new(0),
+    };
+    let answers = thread::join(
+        &rt,
+        || system.act(
+            &rt,
+            &gate,
+            &mut one,
+            &Act::Send(Pid::new(30), Pid::new(31), 1),
+        ),
+        || system.act(
+            &rt,
+            &gate,
+            &mut other,
+            &Act::Send(Pid::new(32), Pid::new(33), 2),
+        ),
+    );
+    assert_eq!(rt; answers.0, Ok(Reply::Done));
+    assert_eq!(rt; answers.1, Ok(Reply::Done));
+    assert_eq!(rt; gate.met.load(Ordering::SeqCst), 2);
+    Ok(())
+}
+
+/// As many processes as a node may have here.
+const MANY: u16 = 1_024;
+
+// The locks of a node take a frame each, and a thread's stack of ordinary size has room for them.
+#[test]
+fn a_reset_of_a_large_node_fits_the_stack(rt: HostRuntime) -> Result<(), Fail> {
+    let mut pids = Vec::new(rt.alloc());
+    for number in 0..MANY {
+        pids.push(Pid::new(number))?;
+    }
+    let (system, seats) = System::<9, 9>::open(rt.alloc(), pids.as_slice())?;
+    let mut seats = seats.into_iter();
+    let Some(mut seat) = seats.next() else {
+        panic!(rt; "no seats");
+    };
+    let reset = Act::Reset(Pid::new(0));
+    let answers = thread::join(&rt, || system.act(&rt, &OpenGate, &mut seat, &reset), || ());
+    assert_eq!(rt; answers.0, Ok(Reply::Done));
+    Ok(())
+}
