@@ -27,13 +27,19 @@ count(Kind, Counts) ->
 -spec notes([seqaudit_events:collection()], #{atom() => non_neg_integer()}, listed(),
             [{non_neg_integer(), term()}], sizes()) -> [string()].
 notes(Collections, Counts, Listed, Labels, Sizes) ->
-    lists:append([lists:append([collected(Collection) || Collection <- Collections]),
+    lists:append([nothing(Sizes),
+                  lists:append([collected(Collection) || Collection <- Collections]),
                   converted(Counts),
                   limits(Sizes),
                   several("nodes are numbered by name: ", nodes_of(Listed)),
                   several("numbered, as they are no processes or their number was taken: ",
                           renumbered(Listed)),
                   several("labels that are no whole numbers in range: ", labels(Labels))]).
+
+nothing(#{events := 0}) ->
+    ["no events came; a token is to be set while the tracer is on, as seqaudit_trace:with_trace does"];
+nothing(_) ->
+    [].
 
 collected(#{node := Node, lost := Reason}) ->
     [text("~ts: its collector went down (~0tp), and all of its events are lost", [Node, Reason])];

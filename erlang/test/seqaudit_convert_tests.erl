@@ -95,7 +95,7 @@ limits_test() ->
     true = has(Note, "it has 1025 processes, and the reader takes 1024").
 
 lost_test() ->
-    #{events := 0, notes := [Note]} = seqaudit_convert:convert([#{node => 'a@h', lost => noconnection}]),
+    #{events := 0, notes := [_, Note]} = seqaudit_convert:convert([#{node => 'a@h', lost => noconnection}]),
     true = has(Note, "a@h: its collector went down (noconnection)").
 
 %% Large terms are cut in what is printed, and not in what is compared.

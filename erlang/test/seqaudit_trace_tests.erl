@@ -4,7 +4,8 @@
 -export([fitting_test_/0, term_labels_test/0, registered_names_test/0, timestamps_test/0,
          full_collector_test/0, former_tracer_is_put_back_test/0, second_tracer_stays_test/0,
          owner_ends_test/0, collector_stays_out_test/0, token_is_taken_off_test/0,
-         nothing_is_lost_test_/0, start_refuses_test/0, two_nodes_test_/0, unfit_is_unfit_test/0]).
+         nothing_is_lost_test_/0, start_refuses_test/0, two_nodes_test_/0, node_goes_down_test_/0,
+         unfit_is_unfit_test/0]).
 
 -define(FLAGS, [send, 'receive', print]).
 
@@ -128,7 +129,7 @@ second_tracer_stays_test() ->
     Second = spawn(fun() -> receive stop -> ok end end),
     ok = seqaudit_trace:start(#{name => seqaudit_audits:file("second")}),
     seq_trace:set_system_tracer(Second),
-    {ok, #{notes := [Note]}} = seqaudit_trace:stop(),
+    {ok, #{notes := [_, Note]}} = seqaudit_trace:stop(),
     {match, _} = re:run(Note, "another system tracer took the collector's place"),
     Second = seq_trace:set_system_tracer(false),
     exit(Second, kill),
@@ -214,6 +215,22 @@ two_nodes_test_() ->
         case seqaudit_test_nodes:start() of
             {ok, Stop, There} -> two_nodes(Stop, There);
             {error, Reason} -> io:format(user, "two nodes: skipped, ~0tp~n", [Reason])
+        end
+    end}.
+
+%% A node that goes down in the middle takes its events with it, and the notes say so.
+node_goes_down_test_() ->
+    {timeout, 60, fun() ->
+        case seqaudit_test_nodes:start() of
+            {ok, Stop, There} ->
+                ok = seqaudit_trace:start(#{name => seqaudit_audits:file("down"),
+                                            nodes => [node(), There]}),
+                seqaudit_trace:with_trace(1, fun() -> seq_trace:print(here) end),
+                Stop(),
+                {ok, #{events := 1, notes := Notes}} = seqaudit_trace:stop(),
+                [_] = [Note || Note <- Notes, string:find(Note, "its collector went down") =/= nomatch];
+            {error, Reason} ->
+                io:format(user, "a node that goes down: skipped, ~0tp~n", [Reason])
         end
     end}.
 
