@@ -1,5 +1,5 @@
 -- The definitions, computed on worked texts. Each line shows one rule.
-use Rattle.std.proofs.Common.{◌≡◌, [], ◌∷◌, Some, None, refl}
+use Rattle.std.proofs.Common.{◌≡◌, [], ◌∷◌, ◌++◌, Some, None, refl}
 use Rattle.std.specs.Prelude.{codes}
 use Rattle.std.specs.Fmt.{digits}
 use Rattle.st_core.specs.declared.types.Kind.TheVariants as kinds
@@ -10,139 +10,226 @@ use Rattle.st_text.specs.declared.fault.ReadFault.TheVariants as faults
 use Rattle.st_text.specs.declared.line.Line.TheVariants as lines
 use Rattle.st_text.specs.Spelling.{line}
 use Rattle.st_text.specs.Text.{spelling}
-use Rattle.st_text.specs.Reading.{line_of, rare_at, line_at, number, bool_at, pid_at, label_at, serial_at, kind_at, head_at, some_pid_at, place_at, ends_at, event_at, actor_at, component_at, both_at, want_at, flags_at, token_at, send_at, receive_at, print_at, printat_at, set_at, restore_at, tracer_at, alone_at, act_at}
+use Rattle.st_text.specs.Parsing.{line_of, rare_at, line_at, number, bool_at, pid_at, label_at, serial_at, kind_at}
+use Rattle.st_text.specs.Parsing.{head_at, some_pid_at, place_at, ends_at, event_at, actor_at, component_at, both_at}
+use Rattle.st_text.specs.Parsing.{want_at, flags_at, token_at, send_at, receive_at, print_at, printat_at, set_at}
+use Rattle.st_text.specs.Parsing.{restore_at, tracer_at, alone_at, act_at}
 use Rattle.st_text.specs.Fault.{fault, first_fault, line_fault, unknown_from}
 
 -- the stored run: one traced print
-print_one : fault (codes "seqtrace 1\nprocess <0.30.0>\n{seq_trace,17,{print,{0,1},<0.30.0>,[],7}}\nacts\ntracer <0.30.0> true\nset <0.30.0> label 17\nset <0.30.0> print true\nprint <0.30.0> 7\n") ≡ None
-unfolding fault first_fault line_fault unknown_from line_of line_at number bool_at pid_at label_at serial_at kind_at head_at some_pid_at place_at ends_at event_at actor_at component_at both_at want_at flags_at token_at send_at receive_at print_at printat_at set_at restore_at tracer_at alone_at act_at rare_at digits
+print_one : fault (codes "seqtrace 1\nprocess <0.30.0>\n{seq_trace,17,{print,{0,1},<0.30.0>,[],7}}\nacts\n"
+    ++ codes "tracer <0.30.0> true\nset <0.30.0> label 17\nset <0.30.0> print true\nprint <0.30.0> 7\n") ≡ None
+unfolding fault first_fault line_fault unknown_from line_of line_at number bool_at pid_at label_at serial_at kind_at
+    head_at some_pid_at place_at ends_at event_at actor_at component_at both_at want_at flags_at token_at send_at
+    receive_at print_at printat_at set_at restore_at tracer_at alone_at act_at rare_at digits
 print_one = refl
 
 -- no leading zeros
-label_leading_zero : fault (codes "seqtrace 1\nprocess <0.30.0>\n{seq_trace,017,{print,{0,1},<0.30.0>,[],7}}\nacts\ntracer <0.30.0> true\nset <0.30.0> label 17\nset <0.30.0> print true\nprint <0.30.0> 7\n") ≡ Some (faults.Line 3)
-unfolding fault first_fault line_fault unknown_from line_of line_at number bool_at pid_at label_at serial_at kind_at head_at some_pid_at place_at ends_at event_at actor_at component_at both_at want_at flags_at token_at send_at receive_at print_at printat_at set_at restore_at tracer_at alone_at act_at rare_at digits
+label_leading_zero : fault (codes "seqtrace 1\nprocess <0.30.0>\n{seq_trace,017,{print,{0,1},<0.30.0>,[],7}}\nacts\n"
+    ++ codes "tracer <0.30.0> true\nset <0.30.0> label 17\nset <0.30.0> print true\nprint <0.30.0> 7\n")
+    ≡ Some (faults.Line 3)
+unfolding fault first_fault line_fault unknown_from line_of line_at number bool_at pid_at label_at serial_at kind_at
+    head_at some_pid_at place_at ends_at event_at actor_at component_at both_at want_at flags_at token_at send_at
+    receive_at print_at printat_at set_at restore_at tracer_at alone_at act_at rare_at digits
 label_leading_zero = refl
 
 -- the last line is ended too
-last_newline_missing : fault (codes "seqtrace 1\nprocess <0.30.0>\n{seq_trace,17,{print,{0,1},<0.30.0>,[],7}}\nacts\ntracer <0.30.0> true\nset <0.30.0> label 17\nset <0.30.0> print true\nprint <0.30.0> 7") ≡ Some faults.Truncated
-unfolding fault first_fault line_fault unknown_from line_of line_at number bool_at pid_at label_at serial_at kind_at head_at some_pid_at place_at ends_at event_at actor_at component_at both_at want_at flags_at token_at send_at receive_at print_at printat_at set_at restore_at tracer_at alone_at act_at rare_at digits
+last_newline_missing : fault (codes "seqtrace 1\nprocess <0.30.0>\n{seq_trace,17,{print,{0,1},<0.30.0>,[],7}}\nacts\n"
+    ++ codes "tracer <0.30.0> true\nset <0.30.0> label 17\nset <0.30.0> print true\nprint <0.30.0> 7")
+    ≡ Some faults.Truncated
+unfolding fault first_fault line_fault unknown_from line_of line_at number bool_at pid_at label_at serial_at kind_at
+    head_at some_pid_at place_at ends_at event_at actor_at component_at both_at want_at flags_at token_at send_at
+    receive_at print_at printat_at set_at restore_at tracer_at alone_at act_at rare_at digits
 last_newline_missing = refl
 
 -- the first faulty line comes before the end
-line_before_truncated : fault (codes "seqtrace 1\nprocess <0.30.0>\n{seq_trace,017,{print,{0,1},<0.30.0>,[],7}}\nacts\ntracer <0.30.0> true\nset <0.30.0> label 17\nset <0.30.0> print true\nprint <0.30.0> 7") ≡ Some (faults.Line 3)
-unfolding fault first_fault line_fault unknown_from line_of line_at number bool_at pid_at label_at serial_at kind_at head_at some_pid_at place_at ends_at event_at actor_at component_at both_at want_at flags_at token_at send_at receive_at print_at printat_at set_at restore_at tracer_at alone_at act_at rare_at digits
+line_before_truncated : fault (codes "seqtrace 1\nprocess <0.30.0>\n{seq_trace,017,{print,{0,1},<0.30.0>,[],7}}\nacts\n"
+    ++ codes "tracer <0.30.0> true\nset <0.30.0> label 17\nset <0.30.0> print true\nprint <0.30.0> 7")
+    ≡ Some (faults.Line 3)
+unfolding fault first_fault line_fault unknown_from line_of line_at number bool_at pid_at label_at serial_at kind_at
+    head_at some_pid_at place_at ends_at event_at actor_at component_at both_at want_at flags_at token_at send_at
+    receive_at print_at printat_at set_at restore_at tracer_at alone_at act_at rare_at digits
 line_before_truncated = refl
 
 -- an event of another process than the last
-foreign_print : fault (codes "seqtrace 1\nprocess <0.30.0>\n{seq_trace,17,{print,{0,1},<0.31.0>,[],7}}\nacts\ntracer <0.30.0> true\nset <0.30.0> label 17\nset <0.30.0> print true\nprint <0.30.0> 7\n") ≡ Some (faults.Foreign 3)
-unfolding fault first_fault line_fault unknown_from line_of line_at number bool_at pid_at label_at serial_at kind_at head_at some_pid_at place_at ends_at event_at actor_at component_at both_at want_at flags_at token_at send_at receive_at print_at printat_at set_at restore_at tracer_at alone_at act_at rare_at digits
+foreign_print : fault (codes "seqtrace 1\nprocess <0.30.0>\n{seq_trace,17,{print,{0,1},<0.31.0>,[],7}}\nacts\n"
+    ++ codes "tracer <0.30.0> true\nset <0.30.0> label 17\nset <0.30.0> print true\nprint <0.30.0> 7\n")
+    ≡ Some (faults.Foreign 3)
+unfolding fault first_fault line_fault unknown_from line_of line_at number bool_at pid_at label_at serial_at kind_at
+    head_at some_pid_at place_at ends_at event_at actor_at component_at both_at want_at flags_at token_at send_at
+    receive_at print_at printat_at set_at restore_at tracer_at alone_at act_at rare_at digits
 foreign_print = refl
 
 -- processes rise
 processes_falling : fault (codes "seqtrace 1\nprocess <0.31.0>\nprocess <0.30.0>\nacts\n") ≡ Some (faults.Order 3)
-unfolding fault first_fault line_fault unknown_from line_of line_at number bool_at pid_at label_at serial_at kind_at head_at some_pid_at place_at ends_at event_at actor_at component_at both_at want_at flags_at token_at send_at receive_at print_at printat_at set_at restore_at tracer_at alone_at act_at rare_at digits
+unfolding fault first_fault line_fault unknown_from line_of line_at number bool_at pid_at label_at serial_at kind_at
+    head_at some_pid_at place_at ends_at event_at actor_at component_at both_at want_at flags_at token_at send_at
+    receive_at print_at printat_at set_at restore_at tracer_at alone_at act_at rare_at digits
 processes_falling = refl
 
 -- an event's receiver is listed
-send_event_to_unlisted : fault (codes "seqtrace 1\nprocess <0.30.0>\n{seq_trace,17,{send,{0,1},<0.30.0>,<0.31.0>,7}}\nacts\ntracer <0.30.0> true\nset <0.30.0> label 17\nset <0.30.0> print true\nprint <0.30.0> 7\n") ≡ Some (faults.Unknown 3)
-unfolding fault first_fault line_fault unknown_from line_of line_at number bool_at pid_at label_at serial_at kind_at head_at some_pid_at place_at ends_at event_at actor_at component_at both_at want_at flags_at token_at send_at receive_at print_at printat_at set_at restore_at tracer_at alone_at act_at rare_at digits
+send_event_to_unlisted : fault (codes "seqtrace 1\nprocess <0.30.0>\n"
+    ++ codes "{seq_trace,17,{send,{0,1},<0.30.0>,<0.31.0>,7}}\nacts\n"
+    ++ codes "tracer <0.30.0> true\nset <0.30.0> label 17\nset <0.30.0> print true\nprint <0.30.0> 7\n")
+    ≡ Some (faults.Unknown 3)
+unfolding fault first_fault line_fault unknown_from line_of line_at number bool_at pid_at label_at serial_at kind_at
+    head_at some_pid_at place_at ends_at event_at actor_at component_at both_at want_at flags_at token_at send_at
+    receive_at print_at printat_at set_at restore_at tracer_at alone_at act_at rare_at digits
 send_event_to_unlisted = refl
 
 -- an event's sender is listed
-prefix_unlisted : fault (codes "seqtrace 1\nprocess <0.30.0>\n{seq_trace,17,{print,{0,1},<0.30.0>,[],7}}\n{seq_trace,17,{'receive',{2,4},<0.31.0>,<0.30.0>,6}}\n") ≡ Some (faults.Unknown 4)
-unfolding fault first_fault line_fault unknown_from line_of line_at number bool_at pid_at label_at serial_at kind_at head_at some_pid_at place_at ends_at event_at actor_at component_at both_at want_at flags_at token_at send_at receive_at print_at printat_at set_at restore_at tracer_at alone_at act_at rare_at digits
+prefix_unlisted : fault (codes "seqtrace 1\nprocess <0.30.0>\n{seq_trace,17,{print,{0,1},<0.30.0>,[],7}}\n"
+    ++ codes "{seq_trace,17,{'receive',{2,4},<0.31.0>,<0.30.0>,6}}\n") ≡ Some (faults.Unknown 4)
+unfolding fault first_fault line_fault unknown_from line_of line_at number bool_at pid_at label_at serial_at kind_at
+    head_at some_pid_at place_at ends_at event_at actor_at component_at both_at want_at flags_at token_at send_at
+    receive_at print_at printat_at set_at restore_at tracer_at alone_at act_at rare_at digits
 prefix_unlisted = refl
 
 -- header 1 knows node 0 alone
 pid_other_node_header_1 : fault (codes "seqtrace 1\nprocess <1.30.0>\n") ≡ Some (faults.Line 2)
-unfolding fault first_fault line_fault unknown_from line_of line_at number bool_at pid_at label_at serial_at kind_at head_at some_pid_at place_at ends_at event_at actor_at component_at both_at want_at flags_at token_at send_at receive_at print_at printat_at set_at restore_at tracer_at alone_at act_at rare_at digits
+unfolding fault first_fault line_fault unknown_from line_of line_at number bool_at pid_at label_at serial_at kind_at
+    head_at some_pid_at place_at ends_at event_at actor_at component_at both_at want_at flags_at token_at send_at
+    receive_at print_at printat_at set_at restore_at tracer_at alone_at act_at rare_at digits
 pid_other_node_header_1 = refl
 
 -- header 2 is needless
 header_2_without_nodes : fault (codes "seqtrace 2\nprocess <0.30.0>\n") ≡ Some (faults.Line 1)
-unfolding fault first_fault line_fault unknown_from line_of line_at number bool_at pid_at label_at serial_at kind_at head_at some_pid_at place_at ends_at event_at actor_at component_at both_at want_at flags_at token_at send_at receive_at print_at printat_at set_at restore_at tracer_at alone_at act_at rare_at digits
+unfolding fault first_fault line_fault unknown_from line_of line_at number bool_at pid_at label_at serial_at kind_at
+    head_at some_pid_at place_at ends_at event_at actor_at component_at both_at want_at flags_at token_at send_at
+    receive_at print_at printat_at set_at restore_at tracer_at alone_at act_at rare_at digits
 header_2_without_nodes = refl
 
 -- but that comes after the end
 header_2_truncated : fault (codes "seqtrace 2\nprocess <0.30.0>") ≡ Some faults.Truncated
-unfolding fault first_fault line_fault unknown_from line_of line_at number bool_at pid_at label_at serial_at kind_at head_at some_pid_at place_at ends_at event_at actor_at component_at both_at want_at flags_at token_at send_at receive_at print_at printat_at set_at restore_at tracer_at alone_at act_at rare_at digits
+unfolding fault first_fault line_fault unknown_from line_of line_at number bool_at pid_at label_at serial_at kind_at
+    head_at some_pid_at place_at ends_at event_at actor_at component_at both_at want_at flags_at token_at send_at
+    receive_at print_at printat_at set_at restore_at tracer_at alone_at act_at rare_at digits
 header_2_truncated = refl
 
 -- and after each line
 header_2_order : fault (codes "seqtrace 2\nprocess <0.31.0>\nprocess <0.30.0>\n") ≡ Some (faults.Order 3)
-unfolding fault first_fault line_fault unknown_from line_of line_at number bool_at pid_at label_at serial_at kind_at head_at some_pid_at place_at ends_at event_at actor_at component_at both_at want_at flags_at token_at send_at receive_at print_at printat_at set_at restore_at tracer_at alone_at act_at rare_at digits
+unfolding fault first_fault line_fault unknown_from line_of line_at number bool_at pid_at label_at serial_at kind_at
+    head_at some_pid_at place_at ends_at event_at actor_at component_at both_at want_at flags_at token_at send_at
+    receive_at print_at printat_at set_at restore_at tracer_at alone_at act_at rare_at digits
 header_2_order = refl
 
 -- a want alone needs header 2
 header_2_by_want : fault (codes "seqtrace 2\nprocess <0.30.0>\nacts\nreceive <0.30.0> from <1.5.0>\n") ≡ None
-unfolding fault first_fault line_fault unknown_from line_of line_at number bool_at pid_at label_at serial_at kind_at head_at some_pid_at place_at ends_at event_at actor_at component_at both_at want_at flags_at token_at send_at receive_at print_at printat_at set_at restore_at tracer_at alone_at act_at rare_at digits
+unfolding fault first_fault line_fault unknown_from line_of line_at number bool_at pid_at label_at serial_at kind_at
+    head_at some_pid_at place_at ends_at event_at actor_at component_at both_at want_at flags_at token_at send_at
+    receive_at print_at printat_at set_at restore_at tracer_at alone_at act_at rare_at digits
 header_2_by_want = refl
 
 -- a pid that is named only by an unlisted actor counts as named
 unlisted_away : fault (codes "seqtrace 2\nprocess <0.30.0>\nacts\nclear <1.30.0>\n") ≡ Some (faults.Unknown 4)
-unfolding fault first_fault line_fault unknown_from line_of line_at number bool_at pid_at label_at serial_at kind_at head_at some_pid_at place_at ends_at event_at actor_at component_at both_at want_at flags_at token_at send_at receive_at print_at printat_at set_at restore_at tracer_at alone_at act_at rare_at digits
+unfolding fault first_fault line_fault unknown_from line_of line_at number bool_at pid_at label_at serial_at kind_at
+    head_at some_pid_at place_at ends_at event_at actor_at component_at both_at want_at flags_at token_at send_at
+    receive_at print_at printat_at set_at restore_at tracer_at alone_at act_at rare_at digits
 unlisted_away = refl
 
 unlisted_here : fault (codes "seqtrace 2\nprocess <0.30.0>\nacts\nclear <0.31.0>\n") ≡ Some (faults.Line 1)
-unfolding fault first_fault line_fault unknown_from line_of line_at number bool_at pid_at label_at serial_at kind_at head_at some_pid_at place_at ends_at event_at actor_at component_at both_at want_at flags_at token_at send_at receive_at print_at printat_at set_at restore_at tracer_at alone_at act_at rare_at digits
+unfolding fault first_fault line_fault unknown_from line_of line_at number bool_at pid_at label_at serial_at kind_at
+    head_at some_pid_at place_at ends_at event_at actor_at component_at both_at want_at flags_at token_at send_at
+    receive_at print_at printat_at set_at restore_at tracer_at alone_at act_at rare_at digits
 unlisted_here = refl
 
 -- no bytes
 no_bytes : fault (codes "") ≡ Some faults.Truncated
-unfolding fault first_fault line_fault unknown_from line_of line_at number bool_at pid_at label_at serial_at kind_at head_at some_pid_at place_at ends_at event_at actor_at component_at both_at want_at flags_at token_at send_at receive_at print_at printat_at set_at restore_at tracer_at alone_at act_at rare_at digits
+unfolding fault first_fault line_fault unknown_from line_of line_at number bool_at pid_at label_at serial_at kind_at
+    head_at some_pid_at place_at ends_at event_at actor_at component_at both_at want_at flags_at token_at send_at
+    receive_at print_at printat_at set_at restore_at tracer_at alone_at act_at rare_at digits
 no_bytes = refl
 
 -- no processes and no acts
 header_alone : fault (codes "seqtrace 1\n") ≡ None
-unfolding fault first_fault line_fault unknown_from line_of line_at number bool_at pid_at label_at serial_at kind_at head_at some_pid_at place_at ends_at event_at actor_at component_at both_at want_at flags_at token_at send_at receive_at print_at printat_at set_at restore_at tracer_at alone_at act_at rare_at digits
+unfolding fault first_fault line_fault unknown_from line_of line_at number bool_at pid_at label_at serial_at kind_at
+    head_at some_pid_at place_at ends_at event_at actor_at component_at both_at want_at flags_at token_at send_at
+    receive_at print_at printat_at set_at restore_at tracer_at alone_at act_at rare_at digits
 header_alone = refl
 
 -- a newline is byte 10 alone
 carriage : fault (codes "seqtrace 1\r\n") ≡ Some (faults.Line 1)
-unfolding fault first_fault line_fault unknown_from line_of line_at number bool_at pid_at label_at serial_at kind_at head_at some_pid_at place_at ends_at event_at actor_at component_at both_at want_at flags_at token_at send_at receive_at print_at printat_at set_at restore_at tracer_at alone_at act_at rare_at digits
+unfolding fault first_fault line_fault unknown_from line_of line_at number bool_at pid_at label_at serial_at kind_at
+    head_at some_pid_at place_at ends_at event_at actor_at component_at both_at want_at flags_at token_at send_at
+    receive_at print_at printat_at set_at restore_at tracer_at alone_at act_at rare_at digits
 carriage = refl
 
 -- one space between words
 second_space : fault (codes "seqtrace 1\nprocess  <0.30.0>\n") ≡ Some (faults.Line 2)
-unfolding fault first_fault line_fault unknown_from line_of line_at number bool_at pid_at label_at serial_at kind_at head_at some_pid_at place_at ends_at event_at actor_at component_at both_at want_at flags_at token_at send_at receive_at print_at printat_at set_at restore_at tracer_at alone_at act_at rare_at digits
+unfolding fault first_fault line_fault unknown_from line_of line_at number bool_at pid_at label_at serial_at kind_at
+    head_at some_pid_at place_at ends_at event_at actor_at component_at both_at want_at flags_at token_at send_at
+    receive_at print_at printat_at set_at restore_at tracer_at alone_at act_at rare_at digits
 second_space = refl
 
 -- one header
 second_header : fault (codes "seqtrace 1\nseqtrace 1\n") ≡ Some (faults.Line 2)
-unfolding fault first_fault line_fault unknown_from line_of line_at number bool_at pid_at label_at serial_at kind_at head_at some_pid_at place_at ends_at event_at actor_at component_at both_at want_at flags_at token_at send_at receive_at print_at printat_at set_at restore_at tracer_at alone_at act_at rare_at digits
+unfolding fault first_fault line_fault unknown_from line_of line_at number bool_at pid_at label_at serial_at kind_at
+    head_at some_pid_at place_at ends_at event_at actor_at component_at both_at want_at flags_at token_at send_at
+    receive_at print_at printat_at set_at restore_at tracer_at alone_at act_at rare_at digits
 second_header = refl
 
 -- one word before the acts
 second_acts : fault (codes "seqtrace 1\nacts\nacts\n") ≡ Some (faults.Line 3)
-unfolding fault first_fault line_fault unknown_from line_of line_at number bool_at pid_at label_at serial_at kind_at head_at some_pid_at place_at ends_at event_at actor_at component_at both_at want_at flags_at token_at send_at receive_at print_at printat_at set_at restore_at tracer_at alone_at act_at rare_at digits
+unfolding fault first_fault line_fault unknown_from line_of line_at number bool_at pid_at label_at serial_at kind_at
+    head_at some_pid_at place_at ends_at event_at actor_at component_at both_at want_at flags_at token_at send_at
+    receive_at print_at printat_at set_at restore_at tracer_at alone_at act_at rare_at digits
 second_acts = refl
 
 -- no process behind it
 process_behind_acts : fault (codes "seqtrace 1\nacts\nprocess <0.30.0>\n") ≡ Some (faults.Line 3)
-unfolding fault first_fault line_fault unknown_from line_of line_at number bool_at pid_at label_at serial_at kind_at head_at some_pid_at place_at ends_at event_at actor_at component_at both_at want_at flags_at token_at send_at receive_at print_at printat_at set_at restore_at tracer_at alone_at act_at rare_at digits
+unfolding fault first_fault line_fault unknown_from line_of line_at number bool_at pid_at label_at serial_at kind_at
+    head_at some_pid_at place_at ends_at event_at actor_at component_at both_at want_at flags_at token_at send_at
+    receive_at print_at printat_at set_at restore_at tracer_at alone_at act_at rare_at digits
 process_behind_acts = refl
 
 -- no event before any process
 event_alone : fault (codes "seqtrace 1\n{seq_trace,17,{print,{0,1},<0.30.0>,[],7}}\n") ≡ Some (faults.Line 2)
-unfolding fault first_fault line_fault unknown_from line_of line_at number bool_at pid_at label_at serial_at kind_at head_at some_pid_at place_at ends_at event_at actor_at component_at both_at want_at flags_at token_at send_at receive_at print_at printat_at set_at restore_at tracer_at alone_at act_at rare_at digits
+unfolding fault first_fault line_fault unknown_from line_of line_at number bool_at pid_at label_at serial_at kind_at
+    head_at some_pid_at place_at ends_at event_at actor_at component_at both_at want_at flags_at token_at send_at
+    receive_at print_at printat_at set_at restore_at tracer_at alone_at act_at rare_at digits
 event_alone = refl
 
 -- a label has 32 bits
-label_too_great : fault (codes "seqtrace 1\nprocess <0.30.0>\nacts\nset <0.30.0> label 4294967296\n") ≡ Some (faults.Line 4)
-unfolding fault first_fault line_fault unknown_from line_of line_at number bool_at pid_at label_at serial_at kind_at head_at some_pid_at place_at ends_at event_at actor_at component_at both_at want_at flags_at token_at send_at receive_at print_at printat_at set_at restore_at tracer_at alone_at act_at rare_at digits
+label_too_great : fault (codes "seqtrace 1\nprocess <0.30.0>\nacts\nset <0.30.0> label 4294967296\n")
+    ≡ Some (faults.Line 4)
+unfolding fault first_fault line_fault unknown_from line_of line_at number bool_at pid_at label_at serial_at kind_at
+    head_at some_pid_at place_at ends_at event_at actor_at component_at both_at want_at flags_at token_at send_at
+    receive_at print_at printat_at set_at restore_at tracer_at alone_at act_at rare_at digits
 label_too_great = refl
 
 -- each form of an act
-every_act : fault (codes "seqtrace 2\nprocess <0.30.0>\nprocess <0.31.0>\nacts\nsend <0.30.0> <0.31.0> 5\nreceive <0.31.0> first\nreceive <0.31.0> from <1.9.0>\nreceive <0.31.0> value 5\nreceive <0.31.0> both <0.30.0> 5\nreceive <0.31.0> place 0\nprint <0.30.0> 7\nprintat <0.30.0> 1 7\nset <0.30.0> label 1\nset <0.30.0> send true\nset <0.30.0> receive false\nset <0.30.0> print true\nclear <0.30.0>\nrestore <0.30.0> 17 true false true 0 18446744073709551615 <0.31.0>\nlook <0.30.0>\nreset <0.30.0>\ntracer <0.30.0> false\n") ≡ None
-unfolding fault first_fault line_fault unknown_from line_of line_at number bool_at pid_at label_at serial_at kind_at head_at some_pid_at place_at ends_at event_at actor_at component_at both_at want_at flags_at token_at send_at receive_at print_at printat_at set_at restore_at tracer_at alone_at act_at rare_at digits
+every_act : fault (codes "seqtrace 2\nprocess <0.30.0>\nprocess <0.31.0>\nacts\nsend <0.30.0> <0.31.0> 5\n"
+    ++ codes "receive <0.31.0> first\nreceive <0.31.0> from <1.9.0>\nreceive <0.31.0> value 5\n"
+    ++ codes "receive <0.31.0> both <0.30.0> 5\nreceive <0.31.0> place 0\nprint <0.30.0> 7\n"
+    ++ codes "printat <0.30.0> 1 7\nset <0.30.0> label 1\nset <0.30.0> send true\n"
+    ++ codes "set <0.30.0> receive false\nset <0.30.0> print true\nclear <0.30.0>\n"
+    ++ codes "restore <0.30.0> 17 true false true 0 18446744073709551615 <0.31.0>\nlook <0.30.0>\n"
+    ++ codes "reset <0.30.0>\ntracer <0.30.0> false\n") ≡ None
+unfolding fault first_fault line_fault unknown_from line_of line_at number bool_at pid_at label_at serial_at kind_at
+    head_at some_pid_at place_at ends_at event_at actor_at component_at both_at want_at flags_at token_at send_at
+    receive_at print_at printat_at set_at restore_at tracer_at alone_at act_at rare_at digits
 every_act = refl
 
 -- ---- spellings
 
-a_receive : line (lines.Event (record { label = record { 0 = 17 }; kind = kinds.Receive; serial = record { prev = 2; this = 4 }; from = pid_on 0 31; to = Some (pid_on 0 30); value = 6 })) ≡ codes "{seq_trace,17,{'receive',{2,4},<0.31.0>,<0.30.0>,6}}"
+a_receive : line (lines.Event (record {
+  label = record { 0 = 17 };
+  kind = kinds.Receive;
+  serial = record
+      { prev = 2; this = 4 };
+  from = pid_on 0 31;
+  to = Some (pid_on 0 30);
+  value = 6;
+}))
+    ≡ codes "{seq_trace,17,{'receive',{2,4},<0.31.0>,<0.30.0>,6}}"
 unfolding digits
 a_receive = refl
 
-a_bundle : spelling (record { streams = record { pid = pid_on 1 30; events = [] } ∷ []; acts = Some (acts.Receive (pid_on 1 30) wants.First ∷ []) }) ≡ codes "seqtrace 2\nprocess <1.30.0>\nacts\nreceive <1.30.0> first\n"
+a_bundle : spelling (record {
+  streams = record { pid = pid_on 1 30; events = [] }
+      ∷ [];
+  acts = Some (acts.Receive (pid_on 1 30) wants.First ∷ []);
+})
+    ≡ codes "seqtrace 2\nprocess <1.30.0>\nacts\nreceive <1.30.0> first\n"
 unfolding digits
 a_bundle = refl

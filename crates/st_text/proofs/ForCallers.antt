@@ -1,12 +1,11 @@
--- The lemmas that proofs of the crates above may cite: what a text and a fault exclude, and how writing goes on through a
--- buffer. Nothing here speaks of the reader's parts.
+-- The lemmas that proofs of the crates above may cite: what a text and a fault exclude, and how writing goes on through
+-- a buffer. Nothing here speaks of the reader's parts.
 
 -- ---- texts and faults
-pub use Rattle.st_text.proofs.One.{text_one}
-pub use Rattle.st_text.proofs.Whole.{text_sound}
-pub use Rattle.st_text.proofs.Readable.{readable}
-pub use Rattle.st_text.proofs.Cuts.{fault_too_large}
-
+pub use Rattle.st_text.proofs.OneBundle.{text_one}
+pub use Rattle.st_text.proofs.GoodText.{text_sound}
+pub use Rattle.st_text.proofs.FaultlessText.{readable}
+pub use Rattle.st_text.proofs.Newlines.{fault_too_large}
 -- ---- writing through a buffer
 pub use Rattle.st_text.proofs.Puts.{finishes, part_longer, goes_then, goes_buffer, goes_still, then_on, on_err}
 pub use Rattle.st_text.proofs.Puts.{one_more, one_failed, all_done}

@@ -1,15 +1,17 @@
 -- Where no line has a fault, the header is wide exactly where a pid of another node is named.
-use Rattle.std.proofs.Common.{◌≡◌, ℕ, ◌+◌, Bool, true, false, not, ◌&&◌, ◌||◌, cond, List, [], ◌∷◌, ◌++◌, length, map, Option, Some, None, refl, sym, ap, ◌∙◌}
+use Rattle.std.proofs.Common.{◌≡◌, ℕ, ◌+◌, Bool, true, false, not, ◌&&◌, ◌||◌, cond, List, [], ◌∷◌, ◌++◌, length, map}
+use Rattle.std.proofs.Common.{Option, Some, None, refl, sym, ap, ◌∙◌}
 use Rattle.std.specs.List.{list_any, flat_map, AllByRecursion}
 use Rattle.st_text.specs.declared.line.Line.{Line}
 use Rattle.st_text.specs.declared.line.Line.TheVariants as lines
 use Rattle.st_text.specs.declared.fault.ReadFault.{ReadFault}
 use Rattle.st_text.specs.declared.fault.ReadFault.TheVariants as faults
-use Rattle.st_text.specs.Reading.{line_of}
+use Rattle.st_text.specs.Parsing.{line_of}
 use Rattle.st_text.specs.Range.{Fits}
 use Rattle.st_text.specs.Text.{is_remote, Contents, body, ended, spelling}
-use Rattle.st_text.specs.Fault.{cut, sayings, first_fault, line_fault, first_of, may_stand, may_follow, has_acts, last, pids, is_wide, closing_fault, unknown_from}
-use Rattle.st_text.proofs.Cuts.{none_of}
+use Rattle.st_text.specs.Fault.{cut, sayings, first_fault, line_fault, first_of, may_stand, may_follow, has_acts, last}
+use Rattle.st_text.specs.Fault.{pids, is_wide, closing_fault, unknown_from}
+use Rattle.st_text.proofs.Newlines.{none_of}
 use Rattle.st_text.proofs.LineLemmas.{line_takes}
 
 right_of : (a b : Bool) → (a && b) ≡ true → b ≡ true
@@ -29,32 +31,46 @@ stands ls l e = by (may_stand ls l) _ e
     by false o e = absurd cc
 
 -- under header 1 no line names a pid of another node
-pub no_remote : (first : Line) (ls more : List Line) → is_wide first ≡ false → first_fault (first ∷ ls) (map Some more) ≡ None → list_any is_remote more ≡ false
+pub no_remote : (first : Line) (ls more : List Line) → is_wide first ≡ false
+    → first_fault (first ∷ ls) (map Some more) ≡ None → list_any is_remote more ≡ false
 unfolding first_fault
 no_remote first ls [] narrow good = refl
 no_remote first ls (l ∷ more) narrow good =
     let p = none_of (line_fault (first ∷ ls) (Some l)) (first_fault ((first ∷ ls) ++ l ∷ []) (map Some more)) good in
     let at : may_stand (first ∷ ls) l ≡ true = stands (first ∷ ls) l p.0 in
-    let allowed : (is_wide first || not (is_remote l)) ≡ true = right_of (may_follow (has_acts (first ∷ ls)) (last (pids (first ∷ ls))) l) (is_wide first || not (is_remote l)) at in
-    let here : is_remote l ≡ false = not_true (is_remote l) (sym (ap (λ (b : Bool). b || not (is_remote l)) narrow) ∙ allowed) in
+    let allowed : (is_wide first || not (is_remote l)) ≡ true =
+    right_of (may_follow (has_acts (first ∷ ls)) (last (pids (first ∷ ls))) l) (is_wide first || not (is_remote l))
+    at in
+    let here : is_remote l ≡ false =
+    not_true (is_remote l) (sym (ap (λ (b : Bool). b || not (is_remote l)) narrow) ∙ allowed) in
     rw here (no_remote first (ls ++ l ∷ []) more narrow p.1)
 
-needed : (wide remote : Bool) (o : Option ReadFault) → first_of (cond (wide && not remote) (Some (faults.Line 1)) None) o ≡ None → wide ≡ true → remote ≡ true
+needed : (wide remote : Bool) (o : Option ReadFault)
+    → first_of (cond (wide && not remote) (Some (faults.Line 1)) None) o ≡ None → wide ≡ true → remote ≡ true
 needed true true o e w = refl
 needed true false o e w = absurd cc
 needed false remote o e w = absurd cc
 
-pub wide_is : (wide : Bool) (ls : List Line) → first_fault [] (map Some (lines.Header wide ∷ ls)) ≡ None → closing_fault (lines.Header wide ∷ ls) ≡ None → wide ≡ list_any is_remote ls
+pub wide_is : (wide : Bool) (ls : List Line) → first_fault [] (map Some (lines.Header wide ∷ ls)) ≡ None
+    → closing_fault (lines.Header wide ∷ ls) ≡ None → wide ≡ list_any is_remote ls
 unfolding first_fault
 wide_is false ls good closed =
-    let p = none_of (line_fault [] (Some (lines.Header false))) (first_fault (lines.Header false ∷ []) (map Some ls)) good in
+    let p =
+    none_of (line_fault [] (Some (lines.Header false))) (first_fault (lines.Header false ∷ []) (map Some ls))
+    good in
     sym (no_remote (lines.Header false) [] ls refl p.1)
-wide_is true ls good closed = sym (needed true (list_any is_remote ls) (unknown_from (pids (lines.Header true ∷ ls)) 1 (lines.Header true ∷ ls)) closed refl)
+wide_is true ls good closed =
+    sym (needed true (list_any is_remote ls) (unknown_from (pids (lines.Header true ∷ ls)) 1 (lines.Header true ∷ ls))
+    closed refl)
 
-pub spelled_whole : (bytes : List ℕ) (wide : Bool) (c : Contents) → sayings bytes ≡ map Some (lines.Header wide ∷ body c) → first_fault [] (sayings bytes) ≡ None → closing_fault (lines.Header wide ∷ body c) ≡ None
+pub spelled_whole : (bytes : List ℕ) (wide : Bool) (c : Contents)
+    → sayings bytes ≡ map Some (lines.Header wide ∷ body c) → first_fault [] (sayings bytes) ≡ None
+    → closing_fault (lines.Header wide ∷ body c) ≡ None
     → bytes ≡ flat_map ended (lines.Header wide ∷ body c) → bytes ≡ spelling c
 spelled_whole bytes wide c says good closed whole =
-    whole ∙ ap (λ (w : Bool). flat_map ended (lines.Header w ∷ body c)) (wide_is wide (body c) (ap (first_fault []) (sym says) ∙ good) closed)
+    whole
+    ∙ ap (λ (w : Bool). flat_map ended (lines.Header w ∷ body c))
+    (wide_is wide (body c) (ap (first_fault []) (sym says) ∙ good) closed)
 
 -- what lines say fits
 lines_fit : (bs : List (List ℕ)) (ls : List Line) → map line_of bs ≡ map Some ls → AllByRecursion Fits ls
@@ -65,5 +81,6 @@ lines_fit (b ∷ bs) (l ∷ ls) e =
     let others : map line_of bs ≡ map Some ls = cc in
     ((line_takes b l first).1, lines_fit bs ls others)
 
-pub body_fits : (bytes : List ℕ) (wide : Bool) (c : Contents) → sayings bytes ≡ map Some (lines.Header wide ∷ body c) → AllByRecursion Fits (body c)
+pub body_fits : (bytes : List ℕ) (wide : Bool) (c : Contents) → sayings bytes ≡ map Some (lines.Header wide ∷ body c)
+    → AllByRecursion Fits (body c)
 body_fits bytes wide c says = (lines_fit (cut bytes).0 (lines.Header wide ∷ body c) says).1

@@ -1,5 +1,6 @@
 -- Lines: what is read is spelled so, and what is spelled so is read.
-use Rattle.std.proofs.Common.{◌≡◌, ℕ, true, false, eqb, List, [], ◌++◌, length, Option, Some, None, refl, sym, ap, subst, ◌∙◌, append_assoc}
+use Rattle.std.proofs.Common.{◌≡◌, ℕ, true, false, eqb, List, [], ◌++◌, length, Option, Some, None, refl, sym, ap}
+use Rattle.std.proofs.Common.{subst, ◌∙◌, append_assoc}
 use Rattle.std.specs.Prelude.{codes}
 use Rattle.std.proofs.lemmas.Bool.{eqb-true}
 use Rattle.std.proofs.lemmas.List.{append-nil, nil_from_length}
@@ -9,7 +10,7 @@ use Rattle.st_text.specs.declared.line.Line.{Line}
 use Rattle.st_text.specs.declared.line.Line.TheVariants as lines
 use Rattle.st_text.specs.Spelling.{event, act, line}
 use Rattle.st_text.specs.Range.{Fits}
-use Rattle.st_text.specs.Reading.{on_some, pid_at, event_at, alone_at, act_at, rare_at, line_at, line_of}
+use Rattle.st_text.specs.Parsing.{on_some, pid_at, event_at, alone_at, act_at, rare_at, line_at, line_of}
 use Rattle.st_text.proofs.Numbers.{Stops, chosen}
 use Rattle.st_text.proofs.Fields.{bind_some, some_is, begins_cases, Takes, pid_takes, pid_again}
 use Rattle.st_text.proofs.EventLemmas.{event_rest, event_is, event_takes, event_again}
@@ -29,13 +30,17 @@ rare_takes bytes x e =
     begins_cases (Takes line Fits bytes x) (codes "process ") bytes _ _ x e
     (λ rest parts e. bind_some (Takes line Fits bytes x) (pid_at rest) _ x e λ p ep e.
     let p1 = pid_takes rest p ep in
-    subst (λ (y : Line × List ℕ). Takes line Fits bytes y) (some_is (lines.Process p.0, p.1) x e) (record { parts = cc; fits = p1.fits }))
+    subst (λ (y : Line × List ℕ). Takes line Fits bytes y) (some_is (lines.Process p.0, p.1) x e)
+    (record { parts = cc; fits = p1.fits }))
     (λ e. begins_cases (Takes line Fits bytes x) (codes "acts") bytes _ _ x e
-    (λ rest parts e. subst (λ (y : Line × List ℕ). Takes line Fits bytes y) (some_is (lines.Acts, rest) x e) (record { parts = parts; fits = tt }))
+    (λ rest parts e. subst (λ (y : Line × List ℕ). Takes line Fits bytes y) (some_is (lines.Acts, rest) x e)
+    (record { parts = parts; fits = tt }))
     (λ e. begins_cases (Takes line Fits bytes x) (codes "seqtrace 1") bytes _ _ x e
-    (λ rest parts e. subst (λ (y : Line × List ℕ). Takes line Fits bytes y) (some_is (lines.Header false, rest) x e) (record { parts = parts; fits = tt }))
+    (λ rest parts e. subst (λ (y : Line × List ℕ). Takes line Fits bytes y) (some_is (lines.Header false, rest) x e)
+    (record { parts = parts; fits = tt }))
     (λ e. begins_cases (Takes line Fits bytes x) (codes "seqtrace 2") bytes _ _ x e
-    (λ rest parts e. subst (λ (y : Line × List ℕ). Takes line Fits bytes y) (some_is (lines.Header true, rest) x e) (record { parts = parts; fits = tt }))
+    (λ rest parts e. subst (λ (y : Line × List ℕ). Takes line Fits bytes y) (some_is (lines.Header true, rest) x e)
+    (record { parts = parts; fits = tt }))
     (λ e. absurd cc))))
 
 line_at_takes : (bytes : List ℕ) (x : Line × List ℕ) → line_at bytes ≡ Some x → Takes line Fits bytes x
@@ -44,14 +49,20 @@ line_at_takes bytes x e =
     begins_cases (Takes line Fits bytes x) (codes "{seq_trace,") bytes _ _ x e
     (λ rest parts e. bind_some (Takes line Fits bytes x) (event_at rest) _ x e λ v ev e.
     let p1 = event_takes rest v ev in
-    let whole : bytes ≡ event v.0 ++ v.1 = parts ∙ ap (λ (b : List ℕ). codes "{seq_trace," ++ b) p1.parts ∙ sym (append_assoc (codes "{seq_trace,") (event_rest v.0) v.1) ∙ ap (λ (b : List ℕ). b ++ v.1) (sym (event_is v.0)) in
-    subst (λ (y : Line × List ℕ). Takes line Fits bytes y) (some_is (lines.Event v.0, v.1) x e) (record { parts = whole; fits = p1.fits }))
+    let whole : bytes ≡ event v.0 ++ v.1 =
+    parts ∙ ap (λ (b : List ℕ). codes "{seq_trace," ++ b) p1.parts
+    ∙ sym (append_assoc (codes "{seq_trace,") (event_rest v.0) v.1)
+    ∙ ap (λ (b : List ℕ). b ++ v.1) (sym (event_is v.0)) in
+    subst (λ (y : Line × List ℕ). Takes line Fits bytes y) (some_is (lines.Event v.0, v.1) x e)
+    (record { parts = whole; fits = p1.fits }))
     (λ e. either (act_at bytes) refl e)
   where
-    either : (o : Option (Act × List ℕ)) → act_at bytes ≡ o → on_some o (λ a. Some (lines.Act a.0, a.1)) (rare_at bytes) ≡ Some x → Takes line Fits bytes x
+    either : (o : Option (Act × List ℕ)) → act_at bytes ≡ o
+        → on_some o (λ a. Some (lines.Act a.0, a.1)) (rare_at bytes) ≡ Some x → Takes line Fits bytes x
     either (Some a) ea e =
         let p1 = act_takes bytes a ea in
-        subst (λ (y : Line × List ℕ). Takes line Fits bytes y) (some_is (lines.Act a.0, a.1) x e) (record { parts = p1.parts; fits = p1.fits })
+        subst (λ (y : Line × List ℕ). Takes line Fits bytes y) (some_is (lines.Act a.0, a.1) x e)
+        (record { parts = p1.parts; fits = p1.fits })
     either None ea e = rare_takes bytes x e
 
 -- a rare line begins as no event and no act does
@@ -75,13 +86,18 @@ rare_again (lines.Act a) rest fits rare = absurd rare
 
 line_again : (l : Line) (rest : List ℕ) → Fits l → Stops rest → line_at (line l ++ rest) ≡ Some (l, rest)
 unfolding line_at
-line_again (lines.Header wide) rest fits stops = no_other (lines.Header wide) rest tt ∙ rare_again (lines.Header wide) rest fits tt
-line_again (lines.Process p) rest fits stops = no_other (lines.Process p) rest tt ∙ rare_again (lines.Process p) rest fits tt
-line_again (lines.Event v) rest fits stops = ap (λ (b : List ℕ). line_at (b ++ rest)) (event_is v) ∙ rw (event_again v rest fits) refl
+line_again (lines.Header wide) rest fits stops =
+    no_other (lines.Header wide) rest tt ∙ rare_again (lines.Header wide) rest fits tt
+line_again (lines.Process p) rest fits stops =
+    no_other (lines.Process p) rest tt ∙ rare_again (lines.Process p) rest fits tt
+line_again (lines.Event v) rest fits stops =
+    ap (λ (b : List ℕ). line_at (b ++ rest)) (event_is v) ∙ rw (event_again v rest fits) refl
 line_again lines.Acts rest fits stops = no_other lines.Acts rest tt ∙ rare_again lines.Acts rest fits tt
 line_again (lines.Act a) rest fits stops = rw (no_word a rest) (rw (act_again a rest fits stops) refl)
   where
-    no_word : (a : Act) (rest : List ℕ) → line_at (act a ++ rest) ≡ on_some (act_at (act a ++ rest)) (λ b. Some (lines.Act b.0, b.1)) (rare_at (act a ++ rest))
+    no_word : (a : Act) (rest : List ℕ)
+        → line_at (act a ++ rest) ≡ on_some (act_at (act a ++ rest)) (λ b. Some (lines.Act b.0, b.1))
+        (rare_at (act a ++ rest))
     no_word (acts.Send p q v) rest = refl
     no_word (acts.Receive p w) rest = refl
     no_word (acts.Print p v) rest = refl

@@ -1,5 +1,6 @@
--- No line is longer than the longest.
-use Rattle.std.proofs.Common.{◌≡◌, ℕ, ◌+◌, ◌<◌, ◌≤◌, Bool, true, false, List, ◌++◌, length, Option, Some, None, refl, ap, arith}
+-- No line is longer than the longest: an event with the greatest numbers is, and each other form is shorter.
+use Rattle.std.proofs.Common.{◌≡◌, ℕ, ◌+◌, ◌<◌, ◌≤◌, Bool, true, false, List, ◌++◌, length, Option, Some, None, refl}
+use Rattle.std.proofs.Common.{ap, arith}
 use Rattle.std.specs.Prelude.{codes, decimal}
 use Rattle.std.proofs.lemmas.List.{length-append}
 use Rattle.std.proofs.lemmas.Fmt.{length-decimal-le}
@@ -18,9 +19,11 @@ use Rattle.st_core.specs.declared.types.Act.{Act}
 use Rattle.st_core.specs.declared.types.Act.TheVariants as acts
 use Rattle.st_text.specs.declared.line.Line.{Line}
 use Rattle.st_text.specs.declared.line.Line.TheVariants as lines
-use Rattle.st_text.specs.Spelling.{bool, pid, label, serial, kind, place, head, ends, event, component, want, flags, token, act, line}
-use Rattle.st_text.specs.Range.{FitsPid, FitsSerial, FitsPlace, FitsEvent, FitsComponent, FitsWant, FitsToken, FitsAct, Fits, most_pid, most_label, most_number}
-use Rattle.st_text.specs.Reading.{line_of}
+use Rattle.st_text.specs.Spelling.{bool, pid, label, serial, kind, place, head, ends, event, component, want, flags}
+use Rattle.st_text.specs.Spelling.{token, act, line}
+use Rattle.st_text.specs.Range.{FitsPid, FitsSerial, FitsPlace, FitsEvent, FitsComponent, FitsWant, FitsToken, FitsAct}
+use Rattle.st_text.specs.Range.{Fits, most_pid, most_label, most_number}
+use Rattle.st_text.specs.Parsing.{line_of}
 use Rattle.st_text.proofs.LineLemmas.{line_takes}
 
 -- the lengths of parts that stand in a row
@@ -41,10 +44,34 @@ bool_len true = omega arith
 bool_len false = omega arith
 
 pid_len : (p : Pid) → FitsPid p → length (pid p) ≤ 15
-pid_len p f = omega (arith, small p.node f.node, small p.number f.number, length-append (codes "<" ++ decimal p.node ++ codes "." ++ decimal p.number) (codes ".0>"), length-append (codes "<" ++ decimal p.node ++ codes ".") (decimal p.number), length-append (codes "<" ++ decimal p.node) (codes "."), length-append (codes "<") (decimal p.node))
+pid_len p f =
+    omega (
+      arith,
+      small p.node f.node,
+      small p.number f.number,
+      length-append
+          (codes "<" ++ decimal p.node ++ codes "." ++ decimal p.number) (codes ".0>"),
+      length-append
+          (codes "<" ++ decimal p.node ++ codes ".") (decimal p.number),
+      length-append (codes "<" ++ decimal p.node)
+          (codes "."),
+      length-append (codes "<") (decimal p.node),
+    )
 
 serial_len : (s : Serial) → FitsSerial s → length (serial s) ≤ 43
-serial_len s f = omega (arith, large s.prev f.prev, large s.this f.this, length-append (codes "{" ++ decimal s.prev ++ codes "," ++ decimal s.this) (codes "}"), length-append (codes "{" ++ decimal s.prev ++ codes ",") (decimal s.this), length-append (codes "{" ++ decimal s.prev) (codes ","), length-append (codes "{") (decimal s.prev))
+serial_len s f =
+    omega (
+      arith,
+      large s.prev f.prev,
+      large s.this f.this,
+      length-append
+          (codes "{" ++ decimal s.prev ++ codes "," ++ decimal s.this) (codes "}"),
+      length-append
+          (codes "{" ++ decimal s.prev ++ codes ",") (decimal s.this),
+      length-append (codes "{" ++ decimal s.prev)
+          (codes ","),
+      length-append (codes "{") (decimal s.prev),
+    )
 
 kind_len : (k : Kind) → length (kind k) ≤ 9
 kind_len kinds.Send = omega arith
@@ -61,16 +88,23 @@ place_len kinds.Print None f = omega arith
 
 event_len : (e : Event) → FitsEvent e → length (event e) ≤ 131
 event_len e f =
-    two (codes "{seq_trace," ++ head e ++ serial e.serial ++ codes "," ++ ends e ++ codes "," ++ decimal e.value) (codes "}}") 129 2
-    (two (codes "{seq_trace," ++ head e ++ serial e.serial ++ codes "," ++ ends e ++ codes ",") (decimal e.value) 109 20
+    two (codes "{seq_trace," ++ head e ++ serial e.serial ++ codes "," ++ ends e ++ codes "," ++ decimal e.value)
+    (codes "}}") 129 2
+    (two (codes "{seq_trace," ++ head e ++ serial e.serial ++ codes "," ++ ends e ++ codes ",") (decimal e.value) 109
+    20
     (two (codes "{seq_trace," ++ head e ++ serial e.serial ++ codes "," ++ ends e) (codes ",") 108 1
     (two (codes "{seq_trace," ++ head e ++ serial e.serial ++ codes ",") (ends e) 77 31
     (two (codes "{seq_trace," ++ head e ++ serial e.serial) (codes ",") 76 1
     (two (codes "{seq_trace," ++ head e) (serial e.serial) 33 43
     (two (codes "{seq_trace,") (head e) 11 22 (omega arith)
-    (two (label e.label ++ codes ",{" ++ kind e.kind) (codes ",") 21 1 (two (label e.label ++ codes ",{") (kind e.kind) 12 9 (two (label e.label) (codes ",{") 10 2 (middle e.label.0 f.label) (omega arith)) (kind_len e.kind)) (omega arith)))
+    (two (label e.label ++ codes ",{" ++ kind e.kind) (codes ",") 21 1
+    (two (label e.label ++ codes ",{") (kind e.kind) 12 9
+    (two (label e.label) (codes ",{") 10 2 (middle e.label.0 f.label) (omega arith)) (kind_len e.kind))
+    (omega arith)))
     (serial_len e.serial f.serial)) (omega arith))
-    (two (pid e.from ++ codes ",") (place e.to) 16 15 (two (pid e.from) (codes ",") 15 1 (pid_len e.from f.from) (omega arith)) (place_len e.kind e.to f.to))) (omega arith))
+    (two (pid e.from ++ codes ",") (place e.to) 16 15
+    (two (pid e.from) (codes ",") 15 1 (pid_len e.from f.from) (omega arith)) (place_len e.kind e.to f.to)))
+    (omega arith))
     (large e.value f.value)) (omega arith)
 
 component_len : (c : Component) → FitsComponent c → length (component c) ≤ 26
@@ -83,23 +117,36 @@ want_len : (w : Want) → FitsWant w → length (want w) ≤ 41
 want_len wants.First f = omega arith
 want_len (wants.From p) f = omega (arith, two (codes "from ") (pid p) 5 15 (omega arith) (pid_len p f))
 want_len (wants.Value v) f = omega (arith, two (codes "value ") (decimal v) 6 20 (omega arith) (large v f))
-want_len (wants.Both p v) f = two (codes "both " ++ pid p ++ codes " ") (decimal v) 21 20 (two (codes "both " ++ pid p) (codes " ") 20 1 (two (codes "both ") (pid p) 5 15 (omega arith) (pid_len p f.0)) (omega arith)) (large v f.1)
+want_len (wants.Both p v) f =
+    two (codes "both " ++ pid p ++ codes " ") (decimal v) 21 20
+    (two (codes "both " ++ pid p) (codes " ") 20 1 (two (codes "both ") (pid p) 5 15 (omega arith) (pid_len p f.0))
+    (omega arith)) (large v f.1)
 want_len (wants.Place k) f = omega (arith, two (codes "place ") (decimal k) 6 20 (omega arith) (large k f))
 
 flags_len : (f : Flags) → length (flags f) ≤ 17
 flags_len f =
-    two (bool f.send ++ codes " " ++ bool f.receive ++ codes " ") (bool f.print) 12 5 (two (bool f.send ++ codes " " ++ bool f.receive) (codes " ") 11 1 (two (bool f.send ++ codes " ") (bool f.receive) 6 5 (two (bool f.send) (codes " ") 5 1 (bool_len f.send) (omega arith)) (bool_len f.receive)) (omega arith)) (bool_len f.print)
+    two (bool f.send ++ codes " " ++ bool f.receive ++ codes " ") (bool f.print) 12 5
+    (two (bool f.send ++ codes " " ++ bool f.receive) (codes " ") 11 1
+    (two (bool f.send ++ codes " ") (bool f.receive) 6 5
+    (two (bool f.send) (codes " ") 5 1 (bool_len f.send) (omega arith)) (bool_len f.receive)) (omega arith))
+    (bool_len f.print)
 
 token_len : (t : Token) → FitsToken t → length (token t) ≤ 86
 token_len t f =
-    two (label t.label ++ codes " " ++ flags t.flags ++ codes " " ++ decimal t.serial.prev ++ codes " " ++ decimal t.serial.this ++ codes " ") (pid t.from) 71 15
-    (two (label t.label ++ codes " " ++ flags t.flags ++ codes " " ++ decimal t.serial.prev ++ codes " " ++ decimal t.serial.this) (codes " ") 70 1
-    (two (label t.label ++ codes " " ++ flags t.flags ++ codes " " ++ decimal t.serial.prev ++ codes " ") (decimal t.serial.this) 50 20
+    two (label t.label ++ codes " " ++ flags t.flags ++ codes " " ++ decimal t.serial.prev ++ codes " "
+    ++ decimal t.serial.this ++ codes " ") (pid t.from) 71 15
+    (two (label t.label ++ codes " " ++ flags t.flags ++ codes " " ++ decimal t.serial.prev ++ codes " "
+    ++ decimal t.serial.this) (codes " ") 70 1
+    (two (label t.label ++ codes " " ++ flags t.flags ++ codes " " ++ decimal t.serial.prev ++ codes " ")
+    (decimal t.serial.this) 50 20
     (two (label t.label ++ codes " " ++ flags t.flags ++ codes " " ++ decimal t.serial.prev) (codes " ") 49 1
     (two (label t.label ++ codes " " ++ flags t.flags ++ codes " ") (decimal t.serial.prev) 29 20
     (two (label t.label ++ codes " " ++ flags t.flags) (codes " ") 28 1
-    (two (label t.label ++ codes " ") (flags t.flags) 11 17 (two (label t.label) (codes " ") 10 1 (middle t.label.0 f.label) (omega arith)) (flags_len t.flags)) (omega arith))
-    (large t.serial.prev f.serial.prev)) (omega arith)) (large t.serial.this f.serial.this)) (omega arith)) (pid_len t.from f.from)
+    (two (label t.label ++ codes " ") (flags t.flags) 11 17
+    (two (label t.label) (codes " ") 10 1 (middle t.label.0 f.label) (omega arith)) (flags_len t.flags))
+    (omega arith))
+    (large t.serial.prev f.serial.prev)) (omega arith)) (large t.serial.this f.serial.this)) (omega arith))
+    (pid_len t.from f.from)
 
 -- a word of at most eight bytes, a pid and a space
 actor_len : (word : List ℕ) (p : Pid) → length word ≤ 8 → FitsPid p → length (word ++ pid p ++ codes " ") ≤ 24
@@ -107,17 +154,54 @@ actor_len word p le f = two (word ++ pid p) (codes " ") 23 1 (two word (pid p) 8
 
 act_len : (a : Act) → FitsAct a → length (act a) ≤ 131
 act_len (acts.Send p q v) f =
-    omega (arith, two (codes "send " ++ pid p ++ codes " " ++ pid q ++ codes " ") (decimal v) 40 20 (two (codes "send " ++ pid p ++ codes " " ++ pid q) (codes " ") 39 1 (two (codes "send " ++ pid p ++ codes " ") (pid q) 24 15 (actor_len (codes "send ") p (omega arith) f.0) (pid_len q f.1)) (omega arith)) (large v f.2))
-act_len (acts.Receive p w) f = omega (arith, two (codes "receive " ++ pid p ++ codes " ") (want w) 24 41 (actor_len (codes "receive ") p (omega arith) f.0) (want_len w f.1))
-act_len (acts.Print p v) f = omega (arith, two (codes "print " ++ pid p ++ codes " ") (decimal v) 24 20 (actor_len (codes "print ") p (omega arith) f.0) (large v f.1))
+    omega (
+      arith,
+      two (codes "send " ++ pid p ++ codes " " ++ pid q ++ codes " ") (decimal v) 40 20
+          (two (codes "send " ++ pid p ++ codes " " ++ pid q) (codes " ") 39 1
+          (two (codes "send " ++ pid p ++ codes " ") (pid q) 24 15 (actor_len (codes "send ") p (omega arith) f.0)
+          (pid_len q f.1)) (omega arith)) (large v f.2),
+    )
+act_len (acts.Receive p w) f =
+    omega (
+      arith,
+      two (codes "receive " ++ pid p ++ codes " ") (want w) 24 41
+          (actor_len (codes "receive ") p (omega arith) f.0) (want_len w f.1),
+    )
+act_len (acts.Print p v) f =
+    omega (
+      arith,
+      two (codes "print " ++ pid p ++ codes " ") (decimal v) 24 20
+          (actor_len (codes "print ") p (omega arith) f.0) (large v f.1),
+    )
 act_len (acts.PrintAt p l v) f =
-    omega (arith, two (codes "printat " ++ pid p ++ codes " " ++ label l ++ codes " ") (decimal v) 35 20 (two (codes "printat " ++ pid p ++ codes " " ++ label l) (codes " ") 34 1 (two (codes "printat " ++ pid p ++ codes " ") (label l) 24 10 (actor_len (codes "printat ") p (omega arith) f.0) (middle l.0 f.1)) (omega arith)) (large v f.2))
-act_len (acts.Set p c) f = omega (arith, two (codes "set " ++ pid p ++ codes " ") (component c) 24 26 (actor_len (codes "set ") p (omega arith) f.0) (component_len c f.1))
+    omega (
+      arith,
+      two (codes "printat " ++ pid p ++ codes " " ++ label l ++ codes " ") (decimal v) 35 20
+          (two (codes "printat " ++ pid p ++ codes " " ++ label l) (codes " ") 34 1
+          (two (codes "printat " ++ pid p ++ codes " ") (label l) 24 10
+          (actor_len (codes "printat ") p (omega arith) f.0) (middle l.0 f.1)) (omega arith)) (large v f.2),
+    )
+act_len (acts.Set p c) f =
+    omega (
+      arith,
+      two (codes "set " ++ pid p ++ codes " ") (component c) 24 26
+          (actor_len (codes "set ") p (omega arith) f.0) (component_len c f.1),
+    )
 act_len (acts.Clear p) f = omega (arith, two (codes "clear ") (pid p) 6 15 (omega arith) (pid_len p f))
-act_len (acts.Restore p t) f = omega (arith, two (codes "restore " ++ pid p ++ codes " ") (token t) 24 86 (actor_len (codes "restore ") p (omega arith) f.0) (token_len t f.1))
+act_len (acts.Restore p t) f =
+    omega (
+      arith,
+      two (codes "restore " ++ pid p ++ codes " ") (token t) 24 86
+          (actor_len (codes "restore ") p (omega arith) f.0) (token_len t f.1),
+    )
 act_len (acts.Look p) f = omega (arith, two (codes "look ") (pid p) 5 15 (omega arith) (pid_len p f))
 act_len (acts.Reset p) f = omega (arith, two (codes "reset ") (pid p) 6 15 (omega arith) (pid_len p f))
-act_len (acts.Tracer p b) f = omega (arith, two (codes "tracer " ++ pid p ++ codes " ") (bool b) 24 5 (actor_len (codes "tracer ") p (omega arith) f) (bool_len b))
+act_len (acts.Tracer p b) f =
+    omega (
+      arith,
+      two (codes "tracer " ++ pid p ++ codes " ") (bool b) 24 5
+          (actor_len (codes "tracer ") p (omega arith) f) (bool_len b),
+    )
 
 line_len : (l : Line) → Fits l → length (line l) ≤ 131
 line_len (lines.Header false) f = omega arith

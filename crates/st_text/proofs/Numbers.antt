@@ -1,5 +1,7 @@
 -- Words and numbers at the front: what is read is spelled so, and what is spelled so is read.
-use Rattle.std.proofs.Common.{◌≡◌, ℕ, suc, ◌+◌, ◌-◌, ◌*◌, ◌^◌, ◌<◌, ◌≤◌, ◌⊎◌, Bool, true, false, ◌&&◌, cond, eqb, leb, List, [], ◌∷◌, ◌++◌, length, get_or, take, drop, Option, Some, None, refl, sym, ap, subst, ◌∙◌, arith, inl, inr}
+use Rattle.std.proofs.Common.{◌≡◌, ℕ, suc, ◌+◌, ◌-◌, ◌*◌, ◌^◌, ◌<◌, ◌≤◌, ◌⊎◌, Bool, true, false, ◌&&◌, cond, eqb, leb}
+use Rattle.std.proofs.Common.{List, [], ◌∷◌, ◌++◌, length, get_or, take, drop, Option, Some, None, refl, sym, ap}
+use Rattle.std.proofs.Common.{subst, ◌∙◌, arith, inl, inr}
 use Rattle.std.specs.Prelude.{decimal, MatchOption}
 use Rattle.std.specs.Borrow.{Bor}
 use Rattle.std.specs.Char.{is_ascii_digit, digit_value}
@@ -15,9 +17,11 @@ use Rattle.std.proofs.lemmas.List.Folds.{length-prefix_len}
 use Rattle.std.proofs.lemmas.List.Sums.{prefix_len-le-length, prefix_len_passes, prefix_len_stops}
 use Rattle.std.proofs.lemmas.Slice.Eq.{bytes_eq-Decides, strip_prefix_is}
 use Rattle.std.proofs.lemmas.Str.{digit_value_digit}
-use Rattle.std.proofs.lemmas.Str.Parse.{IsNumeralModel, numerals_by_value, tells_digits, digits_value-take-le, digit_at}
+use Rattle.std.proofs.lemmas.Str.Parse.{IsNumeralModel, numerals_by_value, tells_digits, digits_value-take-le}
+use Rattle.std.proofs.lemmas.Str.Parse.{digit_at}
 use Rattle.std.proofs.lemmas.Fmt.{decimal_is_IsNumeral, decimal_digit, first_decimal, decimal-digits_value}
-use Rattle.st_text.specs.Reading.{Gives, after, number_from, number}
+use Rattle.st_text.specs.Parts.Words.{Gives}
+use Rattle.st_text.specs.Parsing.{after, number_from, number}
 
 -- a test and a value
 pub chosen : {A : Type 0} (b : Bool) (o : Option A) (y : A) → cond b o None ≡ Some y → (b ≡ true) × (o ≡ Some y)
@@ -61,7 +65,11 @@ after_none word bytes not = by (after word bytes) refl
     by None e = refl
     by (Some rest) e = absurd (not rest (after_takes word bytes rest e))
 
-pub after_is : (word bytes : List ℕ) (r : Option (Bor (List ℕ))) → MatchOption r (pointwise eqb (take (length word) bytes) word ≡ false) (λ x. (pointwise eqb (take (length word) bytes) word ≡ true) × (x.now ≡ drop (length word) bytes) × (length x.now + length word ≡ length bytes)) → Gives (λ x. x.now) r (after word bytes)
+pub after_is : (word bytes : List ℕ) (r : Option (Bor (List ℕ)))
+    → MatchOption r (pointwise eqb (take (length word) bytes) word ≡ false)
+    (λ x. (pointwise eqb (take (length word) bytes) word ≡ true) × (x.now ≡ drop (length word) bytes)
+    × (length x.now + length word ≡ length bytes))
+    → Gives (λ x. x.now) r (after word bytes)
 after_is word bytes None m = after_none word bytes (λ rest e. strip_prefix_is Decides-eqb bytes word None m rest e)
 after_is word bytes (Some x) m =
     let e : bytes ≡ word ++ x.now = strip_prefix_is Decides-eqb bytes word (Some x) m in
@@ -79,7 +87,8 @@ pub digits_front : (bytes : List ℕ) → AllDigits 10 (take (prefix_len is_asci
 digits_front [] = tt
 digits_front (b ∷ bs) = by (is_ascii_digit b) refl (digits_front bs)
   where
-    by : (t : Bool) → is_ascii_digit b ≡ t → AllDigits 10 (take (prefix_len is_ascii_digit bs) bs) → AllDigits 10 (take (cond t (1 + prefix_len is_ascii_digit bs) 0) (b ∷ bs))
+    by : (t : Bool) → is_ascii_digit b ≡ t → AllDigits 10 (take (prefix_len is_ascii_digit bs) bs)
+        → AllDigits 10 (take (cond t (1 + prefix_len is_ascii_digit bs) 0) (b ∷ bs))
     by true e more =
         let one : 1 + prefix_len is_ascii_digit bs ≡ suc (prefix_len is_ascii_digit bs) = omega arith in
         rw one (digit_small b e, more)
@@ -96,13 +105,15 @@ front bytes = take (digits_len bytes) bytes
 abbrev pub worth : ℕ → List ℕ → ℕ
 worth i bytes = digits_value 10 (take i (front bytes))
 
-more_digits : (bytes : List ℕ) (i : ℕ) → i ≤ digits_len bytes → i < length bytes → is_ascii_digit (get_or bytes i 0) ≡ true → i < digits_len bytes
+more_digits : (bytes : List ℕ) (i : ℕ) → i ≤ digits_len bytes → i < length bytes
+    → is_ascii_digit (get_or bytes i 0) ≡ true → i < digits_len bytes
 more_digits bytes i le lt is =
     elim (cases_lt i (digits_len bytes)) [
       | inl below ↦ below
       | inr above ↦
           let same : digits_len bytes ≡ i = omega arith in
-          let stops : is_ascii_digit (get_or bytes (digits_len bytes) 0) ≡ false = prefix_len_stops is_ascii_digit bytes 0 (omega arith) in
+          let stops : is_ascii_digit (get_or bytes (digits_len bytes) 0) ≡ false =
+          prefix_len_stops is_ascii_digit bytes 0 (omega arith) in
           absurd (cc (ap (λ (k : ℕ). is_ascii_digit (get_or bytes k 0)) same))
     ]
 
@@ -114,7 +125,8 @@ pub record Further (bytes : List ℕ) (i b : ℕ) : Type 0 where
   pub value : worth (i + 1) bytes ≡ worth i bytes * 10 + (b - 48)
   pub grows : worth (i + 1) bytes ≤ digits_value 10 (front bytes)
 
-pub further : (bytes : List ℕ) (i : ℕ) → i ≤ digits_len bytes → i < length bytes → is_ascii_digit (get_or bytes i 0) ≡ true → Further bytes i (get_or bytes i 0)
+pub further : (bytes : List ℕ) (i : ℕ) → i ≤ digits_len bytes → i < length bytes
+    → is_ascii_digit (get_or bytes i 0) ≡ true → Further bytes i (get_or bytes i 0)
 further bytes i le lt is =
     let inside = more_digits bytes i le lt is in
     let count = length-prefix_len is_ascii_digit bytes in
@@ -130,8 +142,10 @@ further bytes i le lt is =
     }
 
 -- the first i digits are all of them
-pub all_digits : (bytes : List ℕ) (i n : ℕ) → i ≤ digits_len bytes → (i < length bytes → is_ascii_digit (get_or bytes i 0) ≡ false) → n < 2 ^ 64 → n ≡ worth i bytes
-    → (digits_value 10 (front bytes) < 2 ^ 64) × (◌≡◌ {A = ℕ × ℕ} (n, i) (digits_value 10 (front bytes), digits_len bytes))
+pub all_digits : (bytes : List ℕ) (i n : ℕ) → i ≤ digits_len bytes
+    → (i < length bytes → is_ascii_digit (get_or bytes i 0) ≡ false) → n < 2 ^ 64 → n ≡ worth i bytes
+    → (digits_value 10 (front bytes) < 2 ^ 64)
+    × (◌≡◌ {A = ℕ × ℕ} (n, i) (digits_value 10 (front bytes), digits_len bytes))
 all_digits bytes i n le stops small is =
     elim (cases_lt i (digits_len bytes)) [
       | inl below ↦
@@ -139,7 +153,8 @@ all_digits bytes i n le stops small is =
           let other = stops (omega (arith, prefix_len-le-length is_ascii_digit bytes)) in
           absurd cc
       | inr above ↦
-          let all : take i (front bytes) ≡ front bytes = take_all i (front bytes) (omega (arith, length-prefix_len is_ascii_digit bytes)) in
+          let all : take i (front bytes) ≡ front bytes =
+          take_all i (front bytes) (omega (arith, length-prefix_len is_ascii_digit bytes)) in
           let value : n ≡ digits_value 10 (front bytes) = is ∙ ap (digits_value 10) all in
           let count : i ≡ digits_len bytes = omega arith in
           (omega arith, cc)
@@ -162,28 +177,41 @@ own = numerals_by_value (AllDigits 10) tells_digits
 -- ---- numbers
 
 pub none_by_value : (most : ℕ) (ds rest : List ℕ) → most < digits_value 10 ds → number_from most ds rest ≡ None
-none_by_value most ds rest large = not_both (bytes_eq (decimal (digits_value 10 ds)) ds) (leb (digits_value 10 ds) most) (digits_value 10 ds, rest) (λ a b. omega (arith, le_from (digits_value 10 ds) most b))
+none_by_value most ds rest large =
+    not_both (bytes_eq (decimal (digits_value 10 ds)) ds) (leb (digits_value 10 ds) most) (digits_value 10 ds, rest)
+    (λ a b. omega (arith, le_from (digits_value 10 ds) most b))
 
-no_lead : (n : ℕ) (ds : List ℕ) → n < 2 ^ 64 → decimal n ≡ ds → (length ds ≡ 0) ⊎ ((get_or ds 0 0 ≡ 48) × (1 < length ds)) → ⊥
+no_lead : (n : ℕ) (ds : List ℕ) → n < 2 ^ 64 → decimal n ≡ ds
+    → (length ds ≡ 0) ⊎ ((get_or ds 0 0 ≡ 48) × (1 < length ds)) → ⊥
 no_lead n ds small e (inl none) = omega (arith, (decimal_is_IsNumeral n small).0.0, ap length e)
 no_lead n ds small e (inr zeros) =
     elim (cases_lt 0 n) [
       | inl some ↦ omega (arith, first_decimal n some small, ap (λ (x : List ℕ). get_or x 0 0) e, zeros.0)
-      | inr le ↦ let z : n ≡ 0 = omega arith in omega (arith, ap length (sym (decimal_digit 0 (omega arith)) ∙ ap decimal (sym z) ∙ e), zeros.1)
+      | inr le ↦ let z : n ≡ 0 = omega arith in omega
+          (arith, ap length (sym (decimal_digit 0 (omega arith)) ∙ ap decimal (sym z) ∙ e), zeros.1)
     ]
 
-pub none_by_lead : (most : ℕ) (ds rest : List ℕ) → most < 2 ^ 64 → (length ds ≡ 0) ⊎ ((get_or ds 0 0 ≡ 48) × (1 < length ds)) → number_from most ds rest ≡ None
-none_by_lead most ds rest small lead = not_both (bytes_eq (decimal (digits_value 10 ds)) ds) (leb (digits_value 10 ds) most) (digits_value 10 ds, rest) (λ a b. no_lead (digits_value 10 ds) ds (omega (arith, le_from (digits_value 10 ds) most b)) ((bytes_eq-Decides (decimal (digits_value 10 ds)) ds).0 a) lead)
+pub none_by_lead : (most : ℕ) (ds rest : List ℕ) → most < 2 ^ 64
+    → (length ds ≡ 0) ⊎ ((get_or ds 0 0 ≡ 48) × (1 < length ds)) → number_from most ds rest ≡ None
+none_by_lead most ds rest small lead =
+    not_both (bytes_eq (decimal (digits_value 10 ds)) ds) (leb (digits_value 10 ds) most) (digits_value 10 ds, rest)
+    (λ a b. no_lead (digits_value 10 ds) ds (omega (arith, le_from (digits_value 10 ds) most b))
+    ((bytes_eq-Decides (decimal (digits_value 10 ds)) ds).0 a) lead)
 
-pub some_by : (most : ℕ) (ds rest : List ℕ) → most < 2 ^ 64 → AllDigits 10 ds → 0 < length ds → (get_or ds 0 0 ≡ 48 → length ds ≡ 1) → digits_value 10 ds ≤ most → number_from most ds rest ≡ Some (digits_value 10 ds, rest)
+pub some_by : (most : ℕ) (ds rest : List ℕ) → most < 2 ^ 64 → AllDigits 10 ds → 0 < length ds
+    → (get_or ds 0 0 ≡ 48 → length ds ≡ 1) → digits_value 10 ds ≤ most
+    → number_from most ds rest ≡ Some (digits_value 10 ds, rest)
 some_by most ds rest small all some lead le =
     let spelled = decimal-digits_value own ds all some lead (omega arith) in
-    let same : bytes_eq (decimal (digits_value 10 ds)) ds ≡ true = (bytes_eq-Decides (decimal (digits_value 10 ds)) ds).1 spelled in
+    let same : bytes_eq (decimal (digits_value 10 ds)) ds ≡ true =
+    (bytes_eq-Decides (decimal (digits_value 10 ds)) ds).1 spelled in
     let fits : leb (digits_value 10 ds) most ≡ true = grind (arith, nat_tests) in
     rw (same, fits) refl
 
 -- the digits and the rest as the code has them
-pub number_is : (most : ℕ) (bytes : List ℕ) (n k : ℕ) (ds rest : List ℕ) → ◌≡◌ {A = ℕ × ℕ} (n, k) (digits_value 10 (front bytes), digits_len bytes) → ds ≡ take k bytes → rest ≡ drop k bytes
+pub number_is : (most : ℕ) (bytes : List ℕ) (n k : ℕ) (ds rest : List ℕ)
+    → ◌≡◌ {A = ℕ × ℕ} (n, k) (digits_value 10 (front bytes), digits_len bytes) → ds ≡ take k bytes
+    → rest ≡ drop k bytes
     → (number most bytes ≡ number_from most ds rest) × AllDigits 10 ds × (n ≡ digits_value 10 ds)
 unfolding number
 number_is most bytes n k ds rest both ahead behind =
@@ -191,7 +219,8 @@ number_is most bytes n k ds rest both ahead behind =
     let value : n ≡ digits_value 10 (front bytes) = ap (λ (x : ℕ × ℕ). x.0) both in
     rw (ahead, behind, len) (refl, digits_front bytes, value)
 
-pub number_takes : (most : ℕ) (bytes : List ℕ) (x : ℕ × List ℕ) → number most bytes ≡ Some x → (bytes ≡ decimal x.0 ++ x.1) × (x.0 ≤ most)
+pub number_takes : (most : ℕ) (bytes : List ℕ) (x : ℕ × List ℕ) → number most bytes ≡ Some x
+    → (bytes ≡ decimal x.0 ++ x.1) × (x.0 ≤ most)
 unfolding number
 number_takes most bytes x e =
     let k = prefix_len is_ascii_digit bytes in
@@ -204,13 +233,17 @@ number_takes most bytes x e =
     let made : ◌≡◌ {A = ℕ × List ℕ} (v, drop k bytes) x = cc in
     subst (λ (y : ℕ × List ℕ). (bytes ≡ decimal y.0 ++ y.1) × (y.0 ≤ most)) made (whole, le_from v most tests.1)
 
-pub number_again : (most n : ℕ) (rest : List ℕ) → n ≤ most → most < 2 ^ 64 → Stops rest → number most (decimal n ++ rest) ≡ Some (n, rest)
+pub number_again : (most n : ℕ) (rest : List ℕ) → n ≤ most → most < 2 ^ 64 → Stops rest
+    → number most (decimal n ++ rest) ≡ Some (n, rest)
 unfolding number
 number_again most n rest le small stops =
     let num = decimal_is_IsNumeral n (omega arith) in
-    let len : prefix_len is_ascii_digit (decimal n ++ rest) ≡ length (decimal n) = prefix_digits (decimal n) rest num.0.1 stops in
-    let front : take (length (decimal n)) (decimal n ++ rest) ≡ decimal n = take_at (decimal n) rest (length (decimal n)) refl in
-    let back : drop (length (decimal n)) (decimal n ++ rest) ≡ rest = drop_at (decimal n) rest (length (decimal n)) refl in
+    let len : prefix_len is_ascii_digit (decimal n ++ rest) ≡ length (decimal n) =
+    prefix_digits (decimal n) rest num.0.1 stops in
+    let front : take (length (decimal n)) (decimal n ++ rest) ≡ decimal n =
+    take_at (decimal n) rest (length (decimal n)) refl in
+    let back : drop (length (decimal n)) (decimal n ++ rest) ≡ rest =
+    drop_at (decimal n) rest (length (decimal n)) refl in
     let value : digits_value 10 (decimal n) ≡ n = num.1 in
     let same : bytes_eq (decimal n) (decimal n) ≡ true = (bytes_eq-Decides (decimal n) (decimal n)).1 refl in
     let fits : leb n most ≡ true = grind (arith, nat_tests) in

@@ -1,5 +1,6 @@
--- Bytes put in a row, and what waits in a buffer on the way.
-use Rattle.std.proofs.Common.{◌≡◌, ℕ, ◌+◌, ◌<◌, ◌≤◌, Bool, false, List, [], ◌∷◌, ◌++◌, length, map, take, drop, get_or, refl, sym, ap, subst, ◌∙◌, append_assoc, inl, inr, arith}
+-- What was written and what waits are what was to be written: so each part goes on where the one before stopped.
+use Rattle.std.proofs.Common.{◌≡◌, ℕ, ◌+◌, ◌<◌, ◌≤◌, Bool, false, List, [], ◌∷◌, ◌++◌, length, map, take, drop, get_or}
+use Rattle.std.proofs.Common.{refl, sym, ap, subst, ◌∙◌, append_assoc, inl, inr, arith}
 use Rattle.std.specs.List.{flat_map}
 use Rattle.std.specs.Prelude.{Result, Ok, Err, OnOk}
 use Rattle.std.proofs.lemmas.Bool.{cases_lt}
@@ -10,34 +11,51 @@ use Rattle.st_core.specs.Device.{InARow, NoCall, OneMore}
 use Rattle.st_text.specs.Writing.{WritesPart, WritesText, Goes, GoesOn}
 
 -- calls in a row, and then more
-pub in_a_row : {S : Type 0} (puts : S → List ℕ → S → Type 0) (a b c : S) (xs ys : List ℕ) → InARow puts b ys c → InARow puts a xs b → InARow puts a (xs ++ ys) c
+pub in_a_row : {S : Type 0} (puts : S → List ℕ → S → Type 0) (a b c : S) (xs ys : List ℕ) → InARow puts b ys c
+    → InARow puts a xs b → InARow puts a (xs ++ ys) c
 in_a_row puts a b c xs ys (NoCall s) first = subst (λ (x : List ℕ). InARow puts a x s) (sym (append-nil xs)) first
 in_a_row puts a b c xs ys (OneMore d e f more last row call) first =
-    subst (λ (x : List ℕ). InARow puts a x f) (append_assoc xs more last) (OneMore a e f (xs ++ more) last (in_a_row puts a d e xs more row first) call)
+    subst (λ (x : List ℕ). InARow puts a x f) (append_assoc xs more last)
+    (OneMore a e f (xs ++ more) last (in_a_row puts a d e xs more row first) call)
 
-pub put_more : {S : Type 0} (puts : S → List ℕ → S → Type 0) (a b c : S) (bytes done rest : List ℕ) (n : ℕ) → bytes ≡ done ++ rest → InARow puts a done b → puts b (take n rest) c
+pub put_more : {S : Type 0} (puts : S → List ℕ → S → Type 0) (a b c : S) (bytes done rest : List ℕ) (n : ℕ)
+    → bytes ≡ done ++ rest → InARow puts a done b → puts b (take n rest) c
     → (bytes ≡ (done ++ take n rest) ++ drop n rest) × InARow puts a (done ++ take n rest) c
-put_more puts a b c bytes done rest n e row call =
-    (e ∙ ap (λ (x : List ℕ). done ++ x) (sym (take-append-drop n rest)) ∙ sym (append_assoc done (take n rest) (drop n rest)), OneMore a b c done (take n rest) row call)
+put_more puts a b c bytes done rest n e row call = (
+  e ∙ ap (λ (x : List ℕ). done ++ x) (sym (take-append-drop n rest))
+      ∙ sym (append_assoc done (take n rest) (drop n rest)),
+  OneMore a b c done (take n rest) row call,
+)
 
-pub put_none : {S : Type 0} (puts : S → List ℕ → S → Type 0) (a b c : S) (done : List ℕ) → InARow puts a done b → puts b [] c → InARow puts a done c
-put_none puts a b c done row call = subst (λ (x : List ℕ). InARow puts a x c) (append-nil done) (OneMore a b c done [] row call)
+pub put_none : {S : Type 0} (puts : S → List ℕ → S → Type 0) (a b c : S) (done : List ℕ) → InARow puts a done b
+    → puts b [] c → InARow puts a done c
+put_none puts a b c done row call =
+    subst (λ (x : List ℕ). InARow puts a x c) (append-nil done) (OneMore a b c done [] row call)
 
 -- ---- texts one after the other
 
-pub goes_buffer : {S : Type 0} (puts : S → List ℕ → S → Type 0) (failed : S → Bool) (a : S) (waited waits text : List ℕ) → waits ≡ waited ++ text → Goes puts failed text a a waited waits
-goes_buffer puts failed a waited waits text e = record { written = []; put = NoCall a; whole = sym e; mark = refl; alive = λ h. absurd (omega arith) }
+pub goes_buffer : {S : Type 0} (puts : S → List ℕ → S → Type 0) (failed : S → Bool) (a : S)
+    (waited waits text : List ℕ)
+    → waits ≡ waited ++ text → Goes puts failed text a a waited waits
+goes_buffer puts failed a waited waits text e =
+    record { written = []; put = NoCall a; whole = sym e; mark = refl; alive = λ h. absurd (omega arith) }
 
 -- nothing yet
-pub goes_still : {S : Type 0} (puts : S → List ℕ → S → Type 0) (failed : S → Bool) (a : S) (waited : List ℕ) → Goes puts failed [] a a waited waited
-goes_still puts failed a waited = record { written = []; put = NoCall a; whole = append-nil waited; mark = refl; alive = λ h. absurd (omega arith) }
+pub goes_still : {S : Type 0} (puts : S → List ℕ → S → Type 0) (failed : S → Bool) (a : S) (waited : List ℕ)
+    → Goes puts failed [] a a waited waited
+goes_still puts failed a waited =
+    record { written = []; put = NoCall a; whole = append-nil waited; mark = refl; alive = λ h. absurd (omega arith) }
 
-pub goes_then : {S : Type 0} (puts : S → List ℕ → S → Type 0) (failed : S → Bool) (t u : List ℕ) (a b c : S) (x y z : List ℕ) → Goes puts failed t a b x y → Goes puts failed u b c y z → Goes puts failed (t ++ u) a c x z
+pub goes_then : {S : Type 0} (puts : S → List ℕ → S → Type 0) (failed : S → Bool) (t u : List ℕ) (a b c : S)
+    (x y z : List ℕ)
+    → Goes puts failed t a b x y → Goes puts failed u b c y z → Goes puts failed (t ++ u) a c x z
 goes_then puts failed t u a b c x y z g h =
     record {
       written = g.written ++ h.written;
       put = in_a_row puts a b c g.written h.written h.put g.put;
-      whole = sym (append_assoc x t u) ∙ ap (λ (w : List ℕ). w ++ u) g.whole ∙ append_assoc g.written y u ∙ ap (λ (w : List ℕ). g.written ++ w) h.whole ∙ sym (append_assoc g.written h.written z);
+      whole =
+          sym (append_assoc x t u) ∙ ap (λ (w : List ℕ). w ++ u) g.whole ∙ append_assoc g.written y u
+          ∙ ap (λ (w : List ℕ). g.written ++ w) h.whole ∙ sym (append_assoc g.written h.written z);
       mark = h.mark ∙ g.mark;
       alive = λ some. elim (cases_lt 0 (length g.written)) [
         | inl one ↦ g.alive one
@@ -46,18 +64,24 @@ goes_then puts failed t u a b c x y z g h =
     }
 
 -- the second text failed
-pub part_then : {S : Type 0} (puts : S → List ℕ → S → Type 0) (failed : S → Bool) (t u : List ℕ) (a b c : S) (x y : List ℕ) → Goes puts failed t a b x y → WritesPart puts failed (y ++ u) b c → WritesPart puts failed (x ++ (t ++ u)) a c
+pub part_then : {S : Type 0} (puts : S → List ℕ → S → Type 0) (failed : S → Bool) (t u : List ℕ) (a b c : S)
+    (x y : List ℕ)
+    → Goes puts failed t a b x y → WritesPart puts failed (y ++ u) b c → WritesPart puts failed (x ++ (t ++ u)) a c
 part_then puts failed t u a b c x y g h =
     record {
       written = g.written ++ h.written;
       rest = h.rest;
-      prefix = sym (append_assoc x t u) ∙ ap (λ (w : List ℕ). w ++ u) g.whole ∙ append_assoc g.written y u ∙ ap (λ (w : List ℕ). g.written ++ w) h.prefix ∙ sym (append_assoc g.written h.written h.rest);
+      prefix =
+          sym (append_assoc x t u) ∙ ap (λ (w : List ℕ). w ++ u) g.whole ∙ append_assoc g.written y u
+          ∙ ap (λ (w : List ℕ). g.written ++ w) h.prefix ∙ sym (append_assoc g.written h.written h.rest);
       put = in_a_row puts a b c g.written h.written h.put g.put;
       after = h.after;
     }
 
 -- the first text failed
-pub part_longer : {S : Type 0} (puts : S → List ℕ → S → Type 0) (failed : S → Bool) (t u : List ℕ) (a b : S) (x : List ℕ) → WritesPart puts failed (x ++ t) a b → WritesPart puts failed (x ++ (t ++ u)) a b
+pub part_longer : {S : Type 0} (puts : S → List ℕ → S → Type 0) (failed : S → Bool) (t u : List ℕ) (a b : S)
+    (x : List ℕ)
+    → WritesPart puts failed (x ++ t) a b → WritesPart puts failed (x ++ (t ++ u)) a b
 part_longer puts failed t u a b x h =
     record {
       written = h.written;
@@ -68,74 +92,115 @@ part_longer puts failed t u a b x h =
     }
 
 -- the same of what a call answered
-pub then_on : {S T E : Type 0} (puts : S → List ℕ → S → Type 0) (failed : S → Bool) (t u : List ℕ) (a b c : S) (x y z : List ℕ) (r : Result T E) → Goes puts failed t a b x y → GoesOn puts failed u b c y z r → GoesOn puts failed (t ++ u) a c x z r
+pub then_on : {S T E : Type 0} (puts : S → List ℕ → S → Type 0) (failed : S → Bool) (t u : List ℕ) (a b c : S)
+    (x y z : List ℕ) (r : Result T E)
+    → Goes puts failed t a b x y → GoesOn puts failed u b c y z r → GoesOn puts failed (t ++ u) a c x z r
 then_on puts failed t u a b c x y z (Ok v) g h = goes_then puts failed t u a b c x y z g h
 then_on puts failed t u a b c x y z (Err e) g h = part_then puts failed t u a b c x y g h
 
 -- a text behind nothing
-pub behind_none : {S : Type 0} (puts : S → List ℕ → S → Type 0) (failed : S → Bool) (t : List ℕ) (a b c : S) (x y z : List ℕ) → Goes puts failed [] a b x y → Goes puts failed t b c y z → Goes puts failed t a c x z
+pub behind_none : {S : Type 0} (puts : S → List ℕ → S → Type 0) (failed : S → Bool) (t : List ℕ) (a b c : S)
+    (x y z : List ℕ)
+    → Goes puts failed [] a b x y → Goes puts failed t b c y z → Goes puts failed t a c x z
 behind_none puts failed t a b c x y z g h = goes_then puts failed [] t a b c x y z g h
 
 -- ---- what calls answered
 
 -- a refusal, where a call failed
-pub on_err : {S T E : Type 0} (puts : S → List ℕ → S → Type 0) (failed : S → Bool) (t : List ℕ) (a b : S) (x y : List ℕ) (r : Result T E) → IsErr r → WritesPart puts failed (x ++ t) a b → GoesOn puts failed t a b x y r
+pub on_err : {S T E : Type 0} (puts : S → List ℕ → S → Type 0) (failed : S → Bool) (t : List ℕ) (a b : S)
+    (x y : List ℕ) (r : Result T E)
+    → IsErr r → WritesPart puts failed (x ++ t) a b → GoesOn puts failed t a b x y r
 on_err puts failed t a b x y (Ok v) is h = absurd cc
 on_err puts failed t a b x y (Err e) is h = h
 
 -- the text so far and one more failed, so all of it did
-pub failed_among : {S : Type 0} (puts : S → List ℕ → S → Type 0) (failed : S → Bool) (t u v whole : List ℕ) (a b c : S) (x y : List ℕ) → whole ≡ t ++ (u ++ v) → Goes puts failed t a b x y → WritesPart puts failed (y ++ u) b c → WritesPart puts failed (x ++ whole) a c
+pub failed_among : {S : Type 0} (puts : S → List ℕ → S → Type 0) (failed : S → Bool) (t u v whole : List ℕ) (a b c : S)
+    (x y : List ℕ)
+    → whole ≡ t ++ (u ++ v) → Goes puts failed t a b x y → WritesPart puts failed (y ++ u) b c
+    → WritesPart puts failed (x ++ whole) a c
 failed_among puts failed t u v whole a b c x y e g h =
-    subst (λ (w : List ℕ). WritesPart puts failed (x ++ w) a c) (sym e) (part_then puts failed t (u ++ v) a b c x y g (part_longer puts failed u v b c y h))
+    subst (λ (w : List ℕ). WritesPart puts failed (x ++ w) a c) (sym e)
+    (part_then puts failed t (u ++ v) a b c x y g (part_longer puts failed u v b c y h))
 
 -- ---- texts of lists
 
-pub flat_map-map : {X Y A : Type 0} (f : Y → List A) (g : X → Y) (xs : List X) → flat_map f (map g xs) ≡ flat_map (λ x. f (g x)) xs
+pub flat_map-map : {X Y A : Type 0} (f : Y → List A) (g : X → Y) (xs : List X)
+    → flat_map f (map g xs) ≡ flat_map (λ x. f (g x)) xs
 flat_map-map f g [] = refl
 flat_map-map f g (x ∷ xs) = ap (λ ys. f (g x) ++ ys) (flat_map-map f g xs)
 
-pub flat_map_take : {X A : Type 0} (f : X → List A) (xs : List X) (i : ℕ) (d : X) → i < length xs → flat_map f (take (i + 1) xs) ≡ flat_map f (take i xs) ++ f (get_or xs i d)
+pub flat_map_take : {X A : Type 0} (f : X → List A) (xs : List X) (i : ℕ) (d : X) → i < length xs
+    → flat_map f (take (i + 1) xs) ≡ flat_map f (take i xs) ++ f (get_or xs i d)
 flat_map_take f xs i d lt =
-    ap (flat_map f) (take_more xs i d lt) ∙ flat_map-append f (take i xs) (get_or xs i d ∷ []) ∙ ap (λ ys. flat_map f (take i xs) ++ ys) (append-nil (f (get_or xs i d)))
+    ap (flat_map f) (take_more xs i d lt) ∙ flat_map-append f (take i xs) (get_or xs i d ∷ [])
+    ∙ ap (λ ys. flat_map f (take i xs) ++ ys) (append-nil (f (get_or xs i d)))
 
-pub flat_map_split : {X A : Type 0} (f : X → List A) (xs : List X) (i : ℕ) (d : X) → i < length xs → flat_map f xs ≡ flat_map f (take i xs) ++ (f (get_or xs i d) ++ flat_map f (drop (i + 1) xs))
+pub flat_map_split : {X A : Type 0} (f : X → List A) (xs : List X) (i : ℕ) (d : X) → i < length xs
+    → flat_map f xs ≡ flat_map f (take i xs) ++ (f (get_or xs i d) ++ flat_map f (drop (i + 1) xs))
 flat_map_split f xs i d lt =
-    ap (flat_map f) (sym (take-append-drop (i + 1) xs)) ∙ flat_map-append f (take (i + 1) xs) (drop (i + 1) xs) ∙ ap (λ ys. ys ++ flat_map f (drop (i + 1) xs)) (flat_map_take f xs i d lt)
+    ap (flat_map f) (sym (take-append-drop (i + 1) xs)) ∙ flat_map-append f (take (i + 1) xs) (drop (i + 1) xs)
+    ∙ ap (λ ys. ys ++ flat_map f (drop (i + 1) xs)) (flat_map_take f xs i d lt)
     ∙ append_assoc (flat_map f (take i xs)) (f (get_or xs i d)) (flat_map f (drop (i + 1) xs))
 
-pub flat_map-flat_map : {X Y A : Type 0} (f : Y → List A) (g : X → List Y) (xs : List X) → flat_map f (flat_map g xs) ≡ flat_map (λ x. flat_map f (g x)) xs
+pub flat_map-flat_map : {X Y A : Type 0} (f : Y → List A) (g : X → List Y) (xs : List X)
+    → flat_map f (flat_map g xs) ≡ flat_map (λ x. flat_map f (g x)) xs
 flat_map-flat_map f g [] = refl
-flat_map-flat_map f g (x ∷ xs) = flat_map-append f (g x) (flat_map g xs) ∙ ap (λ ys. flat_map f (g x) ++ ys) (flat_map-flat_map f g xs)
+flat_map-flat_map f g (x ∷ xs) =
+    flat_map-append f (g x) (flat_map g xs) ∙ ap (λ ys. flat_map f (g x) ++ ys) (flat_map-flat_map f g xs)
 
 -- ---- a loop over items, each of which has a text
 
-pub one_more : {S X : Type 0} (puts : S → List ℕ → S → Type 0) (failed : S → Bool) (f : X → List ℕ) (xs : List X) (i : ℕ) (d : X) (a b c : S) (x y z : List ℕ) → i < length xs → Goes puts failed (flat_map f (take i xs)) a b x y → Goes puts failed (f (get_or xs i d)) b c y z → Goes puts failed (flat_map f (take (i + 1) xs)) a c x z
+pub one_more : {S X : Type 0} (puts : S → List ℕ → S → Type 0) (failed : S → Bool) (f : X → List ℕ) (xs : List X)
+    (i : ℕ) (d : X) (a b c : S) (x y z : List ℕ)
+    → i < length xs → Goes puts failed (flat_map f (take i xs)) a b x y → Goes puts failed (f (get_or xs i d)) b c y z
+    → Goes puts failed (flat_map f (take (i + 1) xs)) a c x z
 one_more puts failed f xs i d a b c x y z lt g h =
-    subst (λ (t : List ℕ). Goes puts failed t a c x z) (sym (flat_map_take f xs i d lt)) (goes_then puts failed (flat_map f (take i xs)) (f (get_or xs i d)) a b c x y z g h)
+    subst (λ (t : List ℕ). Goes puts failed t a c x z) (sym (flat_map_take f xs i d lt))
+    (goes_then puts failed (flat_map f (take i xs)) (f (get_or xs i d)) a b c x y z g h)
 
-pub one_failed : {S X : Type 0} (puts : S → List ℕ → S → Type 0) (failed : S → Bool) (f : X → List ℕ) (xs : List X) (i : ℕ) (d : X) (whole : List ℕ) (a b c : S) (x y : List ℕ) → whole ≡ flat_map f xs → i < length xs → Goes puts failed (flat_map f (take i xs)) a b x y → WritesPart puts failed (y ++ f (get_or xs i d)) b c → WritesPart puts failed (x ++ whole) a c
+pub one_failed : {S X : Type 0} (puts : S → List ℕ → S → Type 0) (failed : S → Bool) (f : X → List ℕ) (xs : List X)
+    (i : ℕ) (d : X) (whole : List ℕ) (a b c : S) (x y : List ℕ)
+    → whole ≡ flat_map f xs → i < length xs → Goes puts failed (flat_map f (take i xs)) a b x y
+    → WritesPart puts failed (y ++ f (get_or xs i d)) b c → WritesPart puts failed (x ++ whole) a c
 one_failed puts failed f xs i d whole a b c x y e lt g h =
-    failed_among puts failed (flat_map f (take i xs)) (f (get_or xs i d)) (flat_map f (drop (i + 1) xs)) whole a b c x y (e ∙ flat_map_split f xs i d lt) g h
+    failed_among puts failed (flat_map f (take i xs)) (f (get_or xs i d)) (flat_map f (drop (i + 1) xs)) whole a b c x
+    y (e ∙ flat_map_split f xs i d lt) g h
 
-pub all_done : {S X : Type 0} (puts : S → List ℕ → S → Type 0) (failed : S → Bool) (f : X → List ℕ) (xs : List X) (i : ℕ) (whole : List ℕ) (a b : S) (x y : List ℕ) → whole ≡ flat_map f xs → length xs ≤ i → Goes puts failed (flat_map f (take i xs)) a b x y → Goes puts failed whole a b x y
+pub all_done : {S X : Type 0} (puts : S → List ℕ → S → Type 0) (failed : S → Bool) (f : X → List ℕ) (xs : List X)
+    (i : ℕ) (whole : List ℕ) (a b : S) (x y : List ℕ)
+    → whole ≡ flat_map f xs → length xs ≤ i → Goes puts failed (flat_map f (take i xs)) a b x y
+    → Goes puts failed whole a b x y
 all_done puts failed f xs i whole a b x y e le g =
     subst (λ (t : List ℕ). Goes puts failed t a b x y) (ap (flat_map f) (take_all i xs le) ∙ sym e) g
 
 -- ---- the end of a text
 
 -- what waited last went too
-pub finishes : {S T E : Type 0} (puts : S → List ℕ → S → Type 0) (failed : S → Bool) (text : List ℕ) (a b c : S) (x y : List ℕ) (r : Result T E) → 0 < length text → Goes puts failed text a b [] x → GoesOn puts failed [] b c x y r → OnOk r (y ≡ []) → WritesText puts failed text a c r
+pub finishes : {S T E : Type 0} (puts : S → List ℕ → S → Type 0) (failed : S → Bool) (text : List ℕ) (a b c : S)
+    (x y : List ℕ) (r : Result T E)
+    → 0 < length text → Goes puts failed text a b [] x → GoesOn puts failed [] b c x y r → OnOk r (y ≡ [])
+    → WritesText puts failed text a c r
 finishes puts failed text a b c x y (Ok v) some g h over =
     let all = goes_then puts failed text [] a b c [] x y g h in
-    let is : text ≡ all.written = sym (append-nil text) ∙ all.whole ∙ ap (λ (w : List ℕ). all.written ++ w) over ∙ append-nil all.written in
+    let is : text ≡ all.written =
+    sym (append-nil text) ∙ all.whole ∙ ap (λ (w : List ℕ). all.written ++ w) over ∙ append-nil all.written in
     let before : failed a ≡ false = all.alive (omega (arith, some, ap length is)) in
-    record { put = subst (λ (w : List ℕ). InARow puts a w c) (sym is) all.put; before = before; after = all.mark ∙ before }
-finishes puts failed text a b c x y (Err e) some g h over = part_whole puts failed text a c (part_then puts failed text [] a b c [] x g h)
+    record {
+      put = subst (λ (w : List ℕ). InARow puts a w c) (sym is) all.put;
+      before = before;
+      after = all.mark
+          ∙ before;
+    }
+finishes puts failed text a b c x y (Err e) some g h over =
+    part_whole puts failed text a c (part_then puts failed text [] a b c [] x g h)
   where
-    part_whole : {S : Type 0} (puts : S → List ℕ → S → Type 0) (failed : S → Bool) (t : List ℕ) (a b : S) → WritesPart puts failed (t ++ []) a b → WritesPart puts failed t a b
+    part_whole : {S : Type 0} (puts : S → List ℕ → S → Type 0) (failed : S → Bool) (t : List ℕ) (a b : S)
+        → WritesPart puts failed (t ++ []) a b → WritesPart puts failed t a b
     part_whole puts failed t a b h = subst (λ (w : List ℕ). WritesPart puts failed w a b) (append-nil t) h
 
 -- a refusal on the way is one of the whole
-pub gives_up : {S T E : Type 0} (puts : S → List ℕ → S → Type 0) (failed : S → Bool) (text : List ℕ) (a b : S) (r : Result T E) → IsErr r → WritesPart puts failed text a b → WritesText puts failed text a b r
+pub gives_up : {S T E : Type 0} (puts : S → List ℕ → S → Type 0) (failed : S → Bool) (text : List ℕ) (a b : S)
+    (r : Result T E)
+    → IsErr r → WritesPart puts failed text a b → WritesText puts failed text a b r
 gives_up puts failed text a b (Ok v) is h = absurd cc
 gives_up puts failed text a b (Err e) is h = h

@@ -1,4 +1,4 @@
--- No spelling is empty.
+-- No spelling is empty, for each begins with a word, a digit or a bracket.
 use Rattle.std.proofs.Common.{ℕ, ◌<◌, Bool, true, false, List, ◌++◌, length, ap, lit<, arith}
 use Rattle.std.specs.Prelude.{codes}
 use Rattle.std.proofs.lemmas.List.{length-append}
@@ -17,9 +17,12 @@ header_some true = lit< tt
 header_some false = lit< tt
 
 pub text_some : (c : Contents) → 0 < length (spelling c)
-text_some c = front (ended (lines.Header (list_any is_remote (body c)))) (flat_map ended (body c)) (header_some (list_any is_remote (body c)))
+text_some c =
+    front (ended (lines.Header (list_any is_remote (body c)))) (flat_map ended (body c))
+    (header_some (list_any is_remote (body c)))
 
 pub event_some : (e : Event) → 0 < length (event e)
 event_some e =
-    let some : 0 < length (codes "{seq_trace," ++ event_rest e) = front (codes "{seq_trace,") (event_rest e) (lit< tt) in
+    let some : 0 < length (codes "{seq_trace," ++ event_rest e) =
+    front (codes "{seq_trace,") (event_rest e) (lit< tt) in
     omega (arith, ap length (event_is e))

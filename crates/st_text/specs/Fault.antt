@@ -1,7 +1,8 @@
 -- The refusal of bytes that are no text of a bundle, told from all the bytes and their lines.
 -- In order: too many bytes; the first faulty line; bytes behind the last newline, or none at all; a needless header 2;
 -- the first line that names an unlisted pid.
-use Rattle.std.specs.Prelude.{ℕ, ◌+◌, ◌-◌, Bool, true, false, not, ◌&&◌, ◌||◌, List, [], ◌∷◌, ◌++◌, length, map, Option, Some, None, nat_lt, nat_le, ◌==◌, if◌then◌else◌, option_to_list}
+use Rattle.std.specs.Prelude.{ℕ, ◌+◌, ◌-◌, Bool, true, false, not, ◌&&◌, ◌||◌, List, [], ◌∷◌, ◌++◌, length, map}
+use Rattle.std.specs.Prelude.{Option, Some, None, nat_lt, nat_le, ◌==◌, if◌then◌else◌, option_to_list}
 use Rattle.std.specs.List.{flat_map, count_by, list_any, list_all, slice_get}
 use Rattle.std.specs.Ordering.{is_lt}
 use Rattle.st_core.specs.declared.types.Pid.{Pid}
@@ -13,7 +14,7 @@ use Rattle.st_text.specs.declared.line.Line.TheVariants as lines
 use Rattle.st_text.specs.declared.fault.ReadFault.{ReadFault}
 use Rattle.st_text.specs.declared.fault.ReadFault.TheVariants as faults
 use Rattle.st_text.specs.Limits.{most_bytes, most_processes, most_events, most_acts}
-use Rattle.st_text.specs.Reading.{line_of}
+use Rattle.st_text.specs.Parsing.{line_of}
 use Rattle.st_text.specs.Text.{is_remote, is_among}
 
 -- ---- the lines of bytes
@@ -85,7 +86,8 @@ is_header l = false
 -- The header comes first, and only header 2 lets pids of other nodes in.
 abbrev pub may_stand : List Line → Line → Bool
 may_stand [] l = is_header l
-may_stand (first ∷ ls) l = may_follow (has_acts (first ∷ ls)) (last (pids (first ∷ ls))) l && (is_wide first || not (is_remote l))
+may_stand (first ∷ ls) l =
+    may_follow (has_acts (first ∷ ls)) (last (pids (first ∷ ls))) l && (is_wide first || not (is_remote l))
 
 -- a process whose pid isn't greater than the last one
 abbrev pub is_out_of_order : Option Pid → Line → Bool
@@ -110,7 +112,8 @@ fault_at n ls l =
     if not (may_stand ls l) then Some (faults.Line n)
     else (if is_out_of_order (last (pids ls)) l then Some (faults.Order n)
     else (if is_foreign (last (pids ls)) l then Some (faults.Foreign n)
-    else (if is_one_too_many (length (pids ls)) (count_by is_event ls) (count_by is_act ls) l then Some (faults.TooMany n) else None)))
+    else (if is_one_too_many (length (pids ls)) (count_by is_event ls) (count_by is_act ls) l
+    then Some (faults.TooMany n) else None)))
 
 -- the same of bytes that may say no line; lines count from 1
 unfoldable pub line_fault : List Line → Option Line → Option ReadFault

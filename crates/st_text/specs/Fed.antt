@@ -5,7 +5,7 @@ use Rattle.st_text.specs.declared.fault.ReadFault.TheVariants as faults
 use Rattle.st_text.specs.declared.cutter.Cutter.{Cutter}
 use Rattle.st_text.specs.declared.feed.Feed.{Feed}
 use Rattle.st_text.specs.Limits.{most_bytes}
-use Rattle.st_text.specs.Holds.{Holds}
+use Rattle.st_text.specs.Parts.CutterState.{HasTaken}
 
 -- by whether there were too many bytes, and whether memory ran out
 abbrev pub refusal_by : Bool → Bool → Option ReadFault
@@ -21,7 +21,7 @@ refusal f = refusal_by f.large f.cutter.out
 pub record IsCounted (bytes : List ℕ) (count : ℕ) (cutter : Cutter) : Type 0 where
   pub count_is : count ≡ length bytes
   pub small : length bytes ≤ most_bytes
-  pub holds : Holds bytes cutter
+  pub holds : HasTaken bytes cutter
 
 abbrev pub FedAs : Bool → Bool → List ℕ → ℕ → Cutter → Type 0
 FedAs true out bytes count cutter = most_bytes < length bytes

@@ -1,5 +1,6 @@
 -- Laws of the text form, each the contract of a function of `laws`.
-use Rattle.std.specs.Prelude.{◌≡◌, ℕ, ◌+◌, Bool, true, false, List, [], ◌∷◌, ◌++◌, length, map, Option, Some, None, Result, Ok, Err}
+use Rattle.std.specs.Prelude.{◌≡◌, ℕ, ◌+◌, true, false, List, [], ◌∷◌, ◌++◌, length, map, Option, Some, None}
+use Rattle.std.specs.Prelude.{Result, Ok, Err}
 use Rattle.std.specs.List.{list_any}
 use Rattle.st_core.specs.declared.types.Pid.{Pid}
 use Rattle.st_text.specs.declared.line.Line.{Line}
@@ -8,7 +9,7 @@ use Rattle.st_text.specs.declared.fault.ReadFault.{ReadFault}
 use Rattle.st_text.specs.declared.fault.ReadFault.TheVariants as faults
 use Rattle.st_text.specs.Spelling.{line}
 use Rattle.st_text.specs.Range.{Fits}
-use Rattle.st_text.specs.Reading.{line_of}
+use Rattle.st_text.specs.Parsing.{line_of}
 use Rattle.st_text.specs.Text.{Contents, spelling, IsBundle, IsText, IsWithin}
 use Rattle.st_text.specs.Contents.{contents}
 use Rattle.st_text.specs.Fault.{line_fault, first_fault, is_unknown, unknown_from, fault}
@@ -59,7 +60,8 @@ pub record IsFirstUnknown (ps : List Pid) (n : ℕ) (ls : List Line) (f : ReadFa
 
 -- an unlisted pid is told of the first line that names one
 abbrev pub UnknownIsFirst : Type 0
-UnknownIsFirst = (ps : List Pid) (ls : List Line) (f : ReadFault) → unknown_from ps 1 ls ≡ Some f → IsFirstUnknown ps 1 ls f
+UnknownIsFirst = (ps : List Pid) (ls : List Line) (f : ReadFault) → unknown_from ps 1 ls ≡ Some f
+    → IsFirstUnknown ps 1 ls f
 
 -- an answer is this bundle, or want of memory
 abbrev pub IsReadBack : Contents → Result Bundle ReadFault → Type 0
@@ -69,4 +71,5 @@ IsReadBack c (Err f) = ⊥
 
 -- of the text of a bundle within the limits that bundle is answered
 abbrev pub WrittenIsRead : Type 0
-WrittenIsRead = (c : Contents) (r : Result Bundle ReadFault) → IsBundle c → IsWithin c → Answers (spelling c) r → IsReadBack c r
+WrittenIsRead = (c : Contents) (r : Result Bundle ReadFault) → IsBundle c → IsWithin c → Answers (spelling c) r
+    → IsReadBack c r

@@ -13,6 +13,7 @@ use Rattle.st_core.specs.declared.types.Want.{Want}
 use Rattle.st_core.specs.declared.types.Want.TheVariants as wants
 use Rattle.st_core.specs.declared.types.Act.{Act}
 use Rattle.st_core.specs.declared.types.Act.TheVariants as acts
+use Rattle.st_core.specs.Pid.{node_of, number_of}
 use Rattle.st_text.specs.declared.line.Line.{Line}
 use Rattle.st_text.specs.declared.line.Line.TheVariants as lines
 
@@ -27,8 +28,8 @@ abbrev pub most_number : ℕ
 most_number = 18446744073709551615
 
 pub record FitsPid (p : Pid) : Type 0 where
-  pub node : p.node ≤ most_pid
-  pub number : p.number ≤ most_pid
+  pub node : node_of p ≤ most_pid
+  pub number : number_of p ≤ most_pid
 
 pub record FitsSerial (s : Serial) : Type 0 where
   pub prev : s.prev ≤ most_number

@@ -20,7 +20,8 @@ pub record Overflows {S : Type 0} (failed : S → Bool) (bytes : List ℕ) (old 
   pub after : failed new ≡ false
 
 -- the source ended, and the bytes have this answer
-pub record Ends {S : Type 0} (ended : S → Type 0) (failed : S → Bool) (bytes : List ℕ) (old new : S) (r : Result Bundle ReadFault) : Type 0 where
+pub record Ends {S : Type 0} (ended : S → Type 0) (failed : S → Bool) (bytes : List ℕ) (old new : S)
+    (r : Result Bundle ReadFault) : Type 0 where
   pub end : ended new
   pub small : length bytes ≤ most_bytes
   pub before : failed old ≡ false
@@ -45,7 +46,8 @@ pub record HadGrowth {S : Type 0} (gives : S → List ℕ → S → Type 0) (byt
   pub growth : Grows before piece
 
 -- The reader's calls gave some bytes in a row, and it answers of them; Memory only where a call gave bytes to keep.
-pub record ReadsSource {S : Type 0} (gives : S → List ℕ → S → Type 0) (ended : S → Type 0) (failed : S → Bool) (old new : S) (r : Result Bundle ReadFault) : Type 0 where
+pub record ReadsSource {S : Type 0} (gives : S → List ℕ → S → Type 0) (ended : S → Type 0) (failed : S → Bool)
+    (old new : S) (r : Result Bundle ReadFault) : Type 0 where
   pub bytes : List ℕ
   pub given : InARow gives old bytes new
   pub answer : ReadsAs ended failed bytes old new r

@@ -1,8 +1,8 @@
--- How much room a spelling takes in a buffer at most. Each number is given the room of the longest, labels and the parts of
--- pids too, since one function writes them all.
+-- How much room a spelling takes in a buffer at most. Each number is given the room of the longest, labels and the
+-- parts of pids too, since one function writes them all.
 use Rattle.std.specs.Prelude.{ℕ, ◌+◌}
 
--- a buffer: 32 lines of the greatest room, so that a sink is called once for some kilobytes, and the stack bears it
+-- a buffer: 32 lines of the greatest room, so that a sink is called once for some kilobytes
 abbrev pub buffer_room : ℕ
 buffer_room = 8192
 

@@ -14,6 +14,7 @@ use Rattle.st_core.specs.declared.types.Want.{Want}
 use Rattle.st_core.specs.declared.types.Want.TheVariants as wants
 use Rattle.st_core.specs.declared.types.Act.{Act}
 use Rattle.st_core.specs.declared.types.Act.TheVariants as acts
+use Rattle.st_core.specs.Pid.{node_of, number_of}
 use Rattle.st_text.specs.declared.line.Line.{Line}
 use Rattle.st_text.specs.declared.line.Line.TheVariants as lines
 
@@ -23,7 +24,7 @@ bool false = codes "false"
 
 -- a process: its node and its number
 abbrev pub pid : Pid → List ℕ
-pid p = codes "<" ++ decimal p.node ++ codes "." ++ decimal p.number ++ codes ".0>"
+pid p = codes "<" ++ decimal (node_of p) ++ codes "." ++ decimal (number_of p) ++ codes ".0>"
 
 abbrev pub label : Label → List ℕ
 label l = decimal l.0
@@ -51,7 +52,9 @@ abbrev pub ends : Event → List ℕ
 ends e = pid e.from ++ codes "," ++ place e.to
 
 abbrev pub event : Event → List ℕ
-event e = codes "{seq_trace," ++ head e ++ serial e.serial ++ codes "," ++ ends e ++ codes "," ++ decimal e.value ++ codes "}}"
+event e =
+    codes "{seq_trace," ++ head e ++ serial e.serial ++ codes "," ++ ends e ++ codes "," ++ decimal e.value
+    ++ codes "}}"
 
 -- ---- acts
 
@@ -72,7 +75,9 @@ abbrev pub flags : Flags → List ℕ
 flags f = bool f.send ++ codes " " ++ bool f.receive ++ codes " " ++ bool f.print
 
 abbrev pub token : Token → List ℕ
-token t = label t.label ++ codes " " ++ flags t.flags ++ codes " " ++ decimal t.serial.prev ++ codes " " ++ decimal t.serial.this ++ codes " " ++ pid t.from
+token t =
+    label t.label ++ codes " " ++ flags t.flags ++ codes " " ++ decimal t.serial.prev ++ codes " "
+    ++ decimal t.serial.this ++ codes " " ++ pid t.from
 
 abbrev pub act : Act → List ℕ
 act (acts.Send p q v) = codes "send " ++ pid p ++ codes " " ++ pid q ++ codes " " ++ decimal v

@@ -1,5 +1,7 @@
--- Which bytes are the text of which bundle: the bundle's lines in order, each in its one spelling and ended by a newline.
-use Rattle.std.specs.Prelude.{◌≡◌, ℕ, ◌≤◌, Bool, true, not, ◌&&◌, List, [], ◌∷◌, ◌++◌, length, map, Option, Some, None, ◌==◌, option_to_list, option_map, position}
+-- Which bytes are the text of which bundle: the bundle's lines in order, each in its one spelling and ended by a
+-- newline.
+use Rattle.std.specs.Prelude.{◌≡◌, ℕ, ◌≤◌, Bool, true, not, ◌&&◌, List, [], ◌∷◌, ◌++◌, length, map, Option, Some, None}
+use Rattle.std.specs.Prelude.{◌==◌, option_to_list, option_map, position}
 use Rattle.std.specs.List.{flat_map, list_any, list_all, AllByRecursion}
 use Rattle.std.specs.Borrow.{Bor}
 use Rattle.st_core.specs.declared.types.Pid.{Pid}
@@ -7,7 +9,7 @@ use Rattle.st_core.specs.declared.types.Want.{Want}
 use Rattle.st_core.specs.declared.types.Want.TheVariants as wants
 use Rattle.st_core.specs.declared.types.Act.{Act}
 use Rattle.st_core.specs.declared.types.Act.TheVariants as acts
-use Rattle.st_core.specs.Pid.{pid_eq}
+use Rattle.st_core.specs.Pid.{pid_eq, node_of}
 use Rattle.st_core.specs.Step.{actor, receiver}
 use Rattle.st_core.specs.Run.{Stream, pids_of}
 use Rattle.st_core.specs.Streams.{IsStreams}
@@ -51,7 +53,7 @@ names (lines.Act a) = named a
 
 -- a process of another node than 0
 abbrev pub is_away : Pid → Bool
-is_away p = not (p.node == 0)
+is_away p = not (node_of p == 0)
 
 -- a line names one
 abbrev pub is_remote : Line → Bool

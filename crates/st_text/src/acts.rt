@@ -1,12 +1,14 @@
 //! Acts, from the front of some bytes. Each act is a word and its fields, with one space between.
 
-ghost use Rattle.st_text.specs.Reading.{Gives, component_at, both_at, want_at, flags_at, token_at, send_at, receive_at, print_at, printat_at, set_at, restore_at, tracer_at, alone_at, act_at};
+ghost use Rattle.st_text.specs.Parts.Words.{Gives};
+ghost use Rattle.st_text.specs.Parsing.{component_at, both_at, want_at, flags_at, token_at, send_at, receive_at};
+ghost use Rattle.st_text.specs.Parsing.{print_at, printat_at, set_at, restore_at, tracer_at, alone_at, act_at};
 
 use crate::number::number;
 use crate::words::{actor_at, after, bool_at, label_at, pid_at};
 use st_core::{Act, Component, Flags, Serial, Token, Want};
 
-#[tactic(auto, unfolding(crate::specs::Reading::component_at))]
+#[tactic(auto, unfolding(crate::specs::Parsing::component_at))]
 fn component_at(bytes: &[u8]) -> Option<(Component, &[u8])>
     ensures { Gives (λ x. (x.0, x.1.now)) result (component_at bytes.now) }
 {
@@ -29,7 +31,7 @@ fn component_at(bytes: &[u8]) -> Option<(Component, &[u8])>
     None
 }
 
-#[tactic(auto, unfolding(crate::specs::Reading::both_at))]
+#[tactic(auto, unfolding(crate::specs::Parsing::both_at))]
 fn both_at(bytes: &[u8]) -> Option<(Want, &[u8])>
     ensures { Gives (λ x. (x.0, x.1.now)) result (both_at bytes.now) }
 {
@@ -38,7 +40,7 @@ fn both_at(bytes: &[u8]) -> Option<(Want, &[u8])>
     Some((Want::Both(pid, value), rest))
 }
 
-#[tactic(auto, unfolding(crate::specs::Reading::want_at))]
+#[tactic(auto, unfolding(crate::specs::Parsing::want_at))]
 fn want_at(bytes: &[u8]) -> Option<(Want, &[u8])>
     ensures { Gives (λ x. (x.0, x.1.now)) result (want_at bytes.now) }
 {
@@ -63,7 +65,7 @@ fn want_at(bytes: &[u8]) -> Option<(Want, &[u8])>
     None
 }
 
-#[tactic(auto, unfolding(crate::specs::Reading::flags_at))]
+#[tactic(auto, unfolding(crate::specs::Parsing::flags_at))]
 fn flags_at(bytes: &[u8]) -> Option<(Flags, &[u8])>
     ensures { Gives (λ x. (x.0, x.1.now)) result (flags_at bytes.now) }
 {
@@ -80,7 +82,7 @@ fn flags_at(bytes: &[u8]) -> Option<(Flags, &[u8])>
     Some((flags, rest))
 }
 
-#[tactic(auto, unfolding(crate::specs::Reading::token_at))]
+#[tactic(auto, unfolding(crate::specs::Parsing::token_at))]
 fn token_at(bytes: &[u8]) -> Option<(Token, &[u8])>
     ensures { Gives (λ x. (x.0, x.1.now)) result (token_at bytes.now) }
 {
@@ -102,7 +104,7 @@ fn token_at(bytes: &[u8]) -> Option<(Token, &[u8])>
     Some((token, rest))
 }
 
-#[tactic(auto, unfolding(crate::specs::Reading::send_at))]
+#[tactic(auto, unfolding(crate::specs::Parsing::send_at))]
 fn send_at(bytes: &[u8]) -> Option<(Act, &[u8])>
     ensures { Gives (λ x. (x.0, x.1.now)) result (send_at bytes.now) }
 {
@@ -112,7 +114,7 @@ fn send_at(bytes: &[u8]) -> Option<(Act, &[u8])>
     Some((Act::Send(pid, receiver, value), rest))
 }
 
-#[tactic(auto, unfolding(crate::specs::Reading::receive_at))]
+#[tactic(auto, unfolding(crate::specs::Parsing::receive_at))]
 fn receive_at(bytes: &[u8]) -> Option<(Act, &[u8])>
     ensures { Gives (λ x. (x.0, x.1.now)) result (receive_at bytes.now) }
 {
@@ -121,7 +123,7 @@ fn receive_at(bytes: &[u8]) -> Option<(Act, &[u8])>
     Some((Act::Receive(pid, want), rest))
 }
 
-#[tactic(auto, unfolding(crate::specs::Reading::print_at))]
+#[tactic(auto, unfolding(crate::specs::Parsing::print_at))]
 fn print_at(bytes: &[u8]) -> Option<(Act, &[u8])>
     ensures { Gives (λ x. (x.0, x.1.now)) result (print_at bytes.now) }
 {
@@ -130,7 +132,7 @@ fn print_at(bytes: &[u8]) -> Option<(Act, &[u8])>
     Some((Act::Print(pid, value), rest))
 }
 
-#[tactic(auto, unfolding(crate::specs::Reading::printat_at))]
+#[tactic(auto, unfolding(crate::specs::Parsing::printat_at))]
 fn printat_at(bytes: &[u8]) -> Option<(Act, &[u8])>
     ensures { Gives (λ x. (x.0, x.1.now)) result (printat_at bytes.now) }
 {
@@ -141,7 +143,7 @@ fn printat_at(bytes: &[u8]) -> Option<(Act, &[u8])>
     Some((Act::PrintAt(pid, label, value), rest))
 }
 
-#[tactic(auto, unfolding(crate::specs::Reading::set_at))]
+#[tactic(auto, unfolding(crate::specs::Parsing::set_at))]
 fn set_at(bytes: &[u8]) -> Option<(Act, &[u8])>
     ensures { Gives (λ x. (x.0, x.1.now)) result (set_at bytes.now) }
 {
@@ -150,7 +152,7 @@ fn set_at(bytes: &[u8]) -> Option<(Act, &[u8])>
     Some((Act::Set(pid, component), rest))
 }
 
-#[tactic(auto, unfolding(crate::specs::Reading::restore_at))]
+#[tactic(auto, unfolding(crate::specs::Parsing::restore_at))]
 fn restore_at(bytes: &[u8]) -> Option<(Act, &[u8])>
     ensures { Gives (λ x. (x.0, x.1.now)) result (restore_at bytes.now) }
 {
@@ -159,7 +161,7 @@ fn restore_at(bytes: &[u8]) -> Option<(Act, &[u8])>
     Some((Act::Restore(pid, token), rest))
 }
 
-#[tactic(auto, unfolding(crate::specs::Reading::tracer_at))]
+#[tactic(auto, unfolding(crate::specs::Parsing::tracer_at))]
 fn tracer_at(bytes: &[u8]) -> Option<(Act, &[u8])>
     ensures { Gives (λ x. (x.0, x.1.now)) result (tracer_at bytes.now) }
 {
@@ -169,7 +171,7 @@ fn tracer_at(bytes: &[u8]) -> Option<(Act, &[u8])>
 }
 
 /// An act that only names its actor.
-#[tactic(auto, unfolding(crate::specs::Reading::alone_at))]
+#[tactic(auto, unfolding(crate::specs::Parsing::alone_at))]
 fn alone_at(bytes: &[u8]) -> Option<(Act, &[u8])>
     ensures { Gives (λ x. (x.0, x.1.now)) result (alone_at bytes.now) }
 {
@@ -188,7 +190,7 @@ fn alone_at(bytes: &[u8]) -> Option<(Act, &[u8])>
     None
 }
 
-#[tactic(auto, unfolding(crate::specs::Reading::act_at))]
+#[tactic(auto, unfolding(crate::specs::Parsing::act_at))]
 pub(crate) fn act_at(bytes: &[u8]) -> Option<(Act, &[u8])>
     ensures { Gives (λ x. (x.0, x.1.now)) result (act_at bytes.now) }
 {

@@ -4,17 +4,18 @@
 ghost use Rattle.std.specs.Prelude.{◌≡◌, ◌<◌, ◌≤◌, ◌++◌, ◌∷◌, ◌||◌, [], List, ℕ, Bool, is_some, None, Some, false};
 ghost use Rattle.std.specs.Prelude.{IfOk, OnOk, OnErr, vec_len, length};
 ghost use Rattle.st_text.specs.declared.line.Line.{Line};
-ghost use Rattle.st_text.specs.Held.{IsHeld, TakesSaid, header_of};
+ghost use Rattle.st_text.specs.Parts.Cutter.{IsStateAfter, TakesSaid, header_of};
 ghost use Rattle.st_text.specs.Fault.{cut};
-ghost use Rattle.st_text.specs.Reading.{line_of};
-ghost use Rattle.st_text.specs.Tail.{IsTail, IsPlain};
+ghost use Rattle.st_text.specs.Parsing.{line_of};
+ghost use Rattle.st_text.specs.Parts.Cutter.{IsTail, IsPlain, longest};
+ghost use Rattle.st_text.specs.Limits.{most_bytes};
 ghost use Rattle.st_text.specs.Growth.{EndsKept, Grows};
 
+use crate::builder::BundleBuilder;
 use crate::bundle::Bundle;
 use crate::fault::ReadFault;
 use crate::finish::finish;
 use crate::line::{Line, read_line};
-use crate::progress::Progress;
 use crate::step::Step;
 use memchr::memchr;
 use std::alloc::{AllocError, Global};
@@ -31,12 +32,12 @@ pub(crate) struct Cutter {
     /// The unfinished line is longer than any line, and isn't kept.
     pub(crate) long: bool,
     /// What the lines came to; nothing before the header.
-    pub(crate) progress: Option<Progress>,
+    pub(crate) builder: Option<BundleBuilder>,
     /// The fault of the first faulty line. Later bytes aren't looked at.
     pub(crate) fault: Option<ReadFault>,
     /// A growth was refused.
     pub(crate) out: bool,
-    ghost short: { vec_len tail ≤ 131 },
+    ghost short: { vec_len tail ≤ longest },
 }
 
 /// The header that a line says, if it does.
@@ -51,14 +52,14 @@ fn header_of(said: &Option<Line>) -> Option<bool>
 
 /// Takes the next line, or bytes that say none. The first has to be a header.
 #[inline(always)]
-fn take_said(alloc: Global, progress: &mut Option<Progress>, said: &Option<Line>) -> Step
-    ensures { (ls : List Line) → IsHeld progress.old ls → TakesSaid ls said.now progress.new result }
+fn take_said(alloc: Global, builder: &mut Option<BundleBuilder>, said: &Option<Line>) -> Step
+    ensures { (ls : List Line) → IsStateAfter builder.old ls → TakesSaid ls said.now builder.new result }
 {
-    match progress {
-        Some(progress) => progress.take(said),
+    match builder {
+        Some(builder) => builder.take(said),
         None => match header_of(said) {
             Some(wide) => {
-                *progress = Some(Progress::new(alloc, wide));
+                *builder = Some(BundleBuilder::new(alloc, wide));
                 Step::Goes
             }
             None => Step::Stops(ReadFault::Line(1)),
@@ -66,12 +67,12 @@ fn take_said(alloc: Global, progress: &mut Option<Progress>, said: &Option<Line>
     }
 }
 
-/// What a line that began in an earlier piece says once the rest of it is there, and the place for the next one. No line
-/// is longer than the longest, so a longer one says nothing.
+/// What a line that began in an earlier piece says once the rest of it is there, and the place for the next one. No
+/// line is longer than the longest, so a longer one says nothing.
 fn whole_line(long: bool, tail: &mut Vec<u8>, rest: &[u8]) -> Result<Option<Line>, AllocError>
-    requires { vec_len tail.old ≤ 131 }
+    requires { vec_len tail.old ≤ longest }
     ensures said { (t : List ℕ) → IsTail long tail.old.items t → IfOk result (λ s. s ≡ line_of (t ++ rest.now)) }
-    ensures short { vec_len tail.new ≤ 131 }
+    ensures short { vec_len tail.new ≤ longest }
     ensures empty { OnOk result (tail.new.items ≡ []) }
     ensures err { OnErr result (long ≡ false) }
 {
@@ -90,19 +91,19 @@ fn whole_line(long: bool, tail: &mut Vec<u8>, rest: &[u8]) -> Result<Option<Line
 }
 
 impl Cutter {
-    ghost use Rattle.st_text.specs.Holds.{Holds, HoldsAs, Comes, AddsBytes, EndsOne};
+    ghost use Rattle.st_text.specs.Parts.CutterState.{HasTaken, HasTakenAs, Comes, AddsBytes, EndsOne};
     ghost use Rattle.st_text.specs.Answer.{IsAnswer};
 
     /// No bytes so far. Takes no memory.
     pub(crate) fn new(alloc: Global) -> Cutter
-        ensures holds { Holds [] result }
+        ensures holds { HasTaken [] result }
         ensures fresh { result.out ≡ false }
     {
         Cutter {
             alloc,
             tail: Vec::new(alloc),
             long: false,
-            progress: None,
+            builder: None,
             fault: None,
             out: false,
         }
@@ -113,7 +114,8 @@ impl Cutter {
         requires going { self.old.out ≡ false }
         requires good { self.old.fault ≡ None }
         ensures fault { self.new.fault ≡ None }
-        ensures holds { (bytes : List ℕ) → IsPlain rest.now → Holds bytes self.old → Comes (bytes ++ rest.now) self.new (AddsBytes bytes rest.now) }
+        ensures holds { (bytes : List ℕ) → IsPlain rest.now → HasTaken bytes self.old
+            → Comes (bytes ++ rest.now) self.new (AddsBytes bytes rest.now) }
     {
         if self.long {
             return;
@@ -135,9 +137,12 @@ impl Cutter {
         requires good { self.old.fault ≡ None }
         requires short { self.old.long ≡ false }
         requires empty { self.old.tail.items ≡ [] }
-        ensures { (bytes rest : List ℕ) (long : Bool) (kept : List ℕ) → IsPlain rest → (IsTail long kept (cut bytes).1 → said.now ≡ line_of ((cut bytes).1 ++ rest)) → HoldsAs self.old.out self.old.fault bytes long kept self.old.progress → Comes (bytes ++ (rest ++ 10 ∷ [])) self.new (EndsKept (bytes ++ (rest ++ 10 ∷ []))) }
+        ensures { (bytes rest : List ℕ) (long : Bool) (kept : List ℕ) → IsPlain rest
+            → (IsTail long kept (cut bytes).1 → said.now ≡ line_of ((cut bytes).1 ++ rest))
+            → HasTakenAs self.old.out self.old.fault bytes long kept self.old.builder
+            → Comes (bytes ++ (rest ++ 10 ∷ [])) self.new (EndsKept (bytes ++ (rest ++ 10 ∷ []))) }
     {
-        match take_said(self.alloc, &mut self.progress, said) {
+        match take_said(self.alloc, &mut self.builder, said) {
             Step::Goes => {}
             Step::Stops(fault) => self.fault = Some(fault),
             Step::Halts => self.out = true,
@@ -149,7 +154,8 @@ impl Cutter {
         requires going { self.old.out ≡ false }
         requires good { self.old.fault ≡ None }
         requires begun { self.old.long ≡ false → 0 < length self.old.tail.items }
-        ensures { (bytes : List ℕ) → IsPlain rest.now → Holds bytes self.old → Comes (bytes ++ (rest.now ++ 10 ∷ [])) self.new (EndsOne bytes rest.now) }
+        ensures { (bytes : List ℕ) → IsPlain rest.now → HasTaken bytes self.old
+            → Comes (bytes ++ (rest.now ++ 10 ∷ [])) self.new (EndsOne bytes rest.now) }
     {
         let Ok(said) = whole_line(self.long, &mut self.tail, rest) else {
             self.out = true;
@@ -165,7 +171,8 @@ impl Cutter {
     fn end_line(&mut self, rest: &[u8])
         requires going { self.old.out ≡ false }
         requires good { self.old.fault ≡ None }
-        ensures { (bytes : List ℕ) → IsPlain rest.now → Holds bytes self.old → Comes (bytes ++ (rest.now ++ 10 ∷ [])) self.new (EndsOne bytes rest.now) }
+        ensures { (bytes : List ℕ) → IsPlain rest.now → HasTaken bytes self.old
+            → Comes (bytes ++ (rest.now ++ 10 ∷ [])) self.new (EndsOne bytes rest.now) }
     {
         if self.long || !self.tail.is_empty() {
             self.end_begun_line(rest);
@@ -183,7 +190,8 @@ impl Cutter {
 
     /// Takes a piece.
     pub(crate) fn take(&mut self, piece: &[u8])
-        ensures { (bytes : List ℕ) → Holds bytes self.old → Comes (bytes ++ piece.now) self.new (self.old.out ≡ false → Grows bytes piece.now) }
+        ensures { (bytes : List ℕ) → HasTaken bytes self.old
+            → Comes (bytes ++ piece.now) self.new (self.old.out ≡ false → Grows bytes piece.now) }
     {
         let mut rest = piece;
         while !self.is_over() {
@@ -200,13 +208,13 @@ impl Cutter {
     /// The bundle whose text the pieces were, or their refusal.
     pub(crate) fn end(self) -> Result<Bundle, ReadFault>
         requires { self.out ≡ false }
-        ensures { (bytes : List ℕ) → length bytes ≤ 67108864 → Holds bytes self → IsAnswer bytes result }
+        ensures { (bytes : List ℕ) → length bytes ≤ most_bytes → HasTaken bytes self → IsAnswer bytes result }
     {
         let Cutter {
             alloc: _,
             tail,
             long,
-            progress,
+            builder,
             fault,
             out: _,
         } = self;
@@ -219,9 +227,9 @@ impl Cutter {
         if !tail.is_empty() {
             return Err(ReadFault::Truncated);
         }
-        match progress {
+        match builder {
             None => Err(ReadFault::Truncated),
-            Some(progress) => finish(progress),
+            Some(builder) => finish(builder),
         }
     }
 }

@@ -1,12 +1,13 @@
 //! The system tracer's tuples, from the front of some bytes.
 
-ghost use Rattle.st_text.specs.Reading.{Gives, kind_at, head_at, some_pid_at, place_at, ends_at, event_at};
+ghost use Rattle.st_text.specs.Parts.Words.{Gives};
+ghost use Rattle.st_text.specs.Parsing.{kind_at, head_at, some_pid_at, place_at, ends_at, event_at};
 
 use crate::number::number;
 use crate::words::{after, label_at, pid_at, serial_at};
 use st_core::{Event, Kind, Label, Pid};
 
-#[tactic(auto, unfolding(crate::specs::Reading::kind_at))]
+#[tactic(auto, unfolding(crate::specs::Parsing::kind_at))]
 fn kind_at(bytes: &[u8]) -> Option<(Kind, &[u8])>
     ensures { Gives (λ x. (x.0, x.1.now)) result (kind_at bytes.now) }
 {
@@ -22,7 +23,7 @@ fn kind_at(bytes: &[u8]) -> Option<(Kind, &[u8])>
     None
 }
 
-#[tactic(auto, unfolding(crate::specs::Reading::head_at))]
+#[tactic(auto, unfolding(crate::specs::Parsing::head_at))]
 fn head_at(bytes: &[u8]) -> Option<((Label, Kind), &[u8])>
     ensures { Gives (λ x. (x.0, x.1.now)) result (head_at bytes.now) }
 {
@@ -33,7 +34,7 @@ fn head_at(bytes: &[u8]) -> Option<((Label, Kind), &[u8])>
     Some(((label, kind), rest))
 }
 
-#[tactic(auto, unfolding(crate::specs::Reading::some_pid_at))]
+#[tactic(auto, unfolding(crate::specs::Parsing::some_pid_at))]
 fn some_pid_at(bytes: &[u8]) -> Option<(Option<Pid>, &[u8])>
     ensures { Gives (λ x. (x.0, x.1.now)) result (some_pid_at bytes.now) }
 {
@@ -42,7 +43,7 @@ fn some_pid_at(bytes: &[u8]) -> Option<(Option<Pid>, &[u8])>
 }
 
 /// The receiver, or the unused place of a print.
-#[tactic(auto, unfolding(crate::specs::Reading::place_at))]
+#[tactic(auto, unfolding(crate::specs::Parsing::place_at))]
 fn place_at(kind: Kind, bytes: &[u8]) -> Option<(Option<Pid>, &[u8])>
     ensures { Gives (λ x. (x.0, x.1.now)) result (place_at kind bytes.now) }
 {
@@ -58,7 +59,7 @@ fn place_at(kind: Kind, bytes: &[u8]) -> Option<(Option<Pid>, &[u8])>
     }
 }
 
-#[tactic(auto, unfolding(crate::specs::Reading::ends_at))]
+#[tactic(auto, unfolding(crate::specs::Parsing::ends_at))]
 fn ends_at(kind: Kind, bytes: &[u8]) -> Option<((Pid, Option<Pid>), &[u8])>
     ensures { Gives (λ x. (x.0, x.1.now)) result (ends_at kind bytes.now) }
 {
@@ -69,7 +70,7 @@ fn ends_at(kind: Kind, bytes: &[u8]) -> Option<((Pid, Option<Pid>), &[u8])>
 }
 
 /// An event behind its first word.
-#[tactic(auto, unfolding(crate::specs::Reading::event_at))]
+#[tactic(auto, unfolding(crate::specs::Parsing::event_at))]
 pub(crate) fn event_at(bytes: &[u8]) -> Option<(Event, &[u8])>
     ensures { Gives (λ x. (x.0, x.1.now)) result (event_at bytes.now) }
 {

@@ -2,11 +2,11 @@
 
 use thiserror::Error;
 
-/// Why bytes are no bundle's text within the limits, or couldn't be read. Lines count from 1. Of several refusals the one
-/// of the first line comes, and on one line that of the lowest number; the whole order stands at `read`.
+/// Why bytes are no bundle's text within the limits, or couldn't be read. Lines count from 1. Of several refusals the
+/// one of the first line comes, and on one line that of the lowest number; the whole order stands at `read`.
 #[derive(Clone, Copy, Debug, PartialEq, Eq, Error)]
 pub enum ReadFault {
-    /// Refusal 1, in place of any of 4 to 9: a growth was refused.
+    /// Refusal 1, in place of a bundle or any of 4 to 9: a growth was refused. Only the reading of lines grows.
     #[error("no memory")]
     Memory,
     /// Refusal 2: the source failed before its end and before a byte too many.
@@ -15,7 +15,8 @@ pub enum ReadFault {
     /// Refusal 3: more than 67,108,864 bytes.
     #[error("the text is too large")]
     TooLarge,
-    /// Refusal 4: the line is none of the grammar's that may stand there; at line 1 also, at last, a needless `seqtrace 2`.
+    /// Refusal 4: the line is none of the grammar's that may stand there; at line 1 also, at last, a needless
+    /// `seqtrace 2`.
     #[error("line {0} is no line of a bundle that may stand there")]
     Line(u64),
     /// Refusal 5: a process line whose pid isn't greater than the one before.

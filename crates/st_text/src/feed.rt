@@ -1,7 +1,9 @@
-//! A reader of a bundle's text that takes it in pieces, however it is cut. It counts the bytes; the lines are the cutter's.
+//! A reader of a bundle's text that takes it in pieces, however it is cut. It counts the bytes; the lines are the
+//! cutter's.
 
 ghost use Rattle.std.specs.Prelude.{◌≡◌, ◌≤◌, ◌++◌, [], List, ℕ, Some, None, Err};
 ghost use Rattle.st_text.specs.Growth.{Grows};
+ghost use Rattle.st_text.specs.Limits.{most_bytes};
 
 use crate::bundle::Bundle;
 use crate::cutter::Cutter;
@@ -11,15 +13,15 @@ use std::alloc::Global;
 /// The most bytes that a text may have.
 pub(crate) const LIMIT: u64 = 67_108_864;
 
-/// Takes a bundle's text in pieces. It keeps what the lines so far came to and the unfinished line, as far as a line can
-/// be long.
+/// Takes a bundle's text in pieces. It keeps what the lines so far came to and the unfinished line, as far as a line
+/// can be long.
 #[derive(Debug, Drop)]
 pub struct Feed {
     count: u64,
     /// There were more bytes than a text may have.
     large: bool,
     cutter: Cutter,
-    ghost small: { count ≤ 67108864 },
+    ghost small: { count ≤ most_bytes },
 }
 
 impl Feed {
@@ -47,7 +49,8 @@ impl Feed {
         ensures fed { (bytes : List ℕ) → IsFed bytes self.old → IsFed (bytes ++ piece.now) self.new }
         ensures answer { result ≡ answer_of (refusal self.new) }
         ensures again { (f : ReadFault) → refusal self.old ≡ Some f → refusal self.new ≡ Some f }
-        ensures memory { (bytes : List ℕ) → IsFed bytes self.old → refusal self.old ≡ None → refusal self.new ≡ Some faults.Memory → Grows bytes piece.now }
+        ensures memory { (bytes : List ℕ) → IsFed bytes self.old → refusal self.old ≡ None
+            → refusal self.new ≡ Some faults.Memory → Grows bytes piece.now }
     {
         if self.large {
             return Err(ReadFault::TooLarge);

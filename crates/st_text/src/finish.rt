@@ -2,12 +2,12 @@
 
 ghost use Rattle.std.specs.Prelude.{◌≡◌, ◌<◌, ◌^◌, ◌&&◌, not, List, length};
 ghost use Rattle.st_text.specs.declared.line.Line.{Line};
-ghost use Rattle.st_text.specs.Finish.{event_line, Finishes};
-ghost use Rattle.st_text.specs.Sofar.{IsSound};
+ghost use Rattle.st_text.specs.Parts.Finish.{event_line, Finishes};
+ghost use Rattle.st_text.specs.Parts.Builder.{IsBuilt};
 
+use crate::builder::BundleBuilder;
 use crate::bundle::Bundle;
 use crate::fault::ReadFault;
-use crate::progress::Progress;
 use st_core::{Draft, Pid};
 
 /// The line of an event, where it is one that a text can have.
@@ -26,7 +26,7 @@ fn event_line(draft: &Draft, pid: Pid, index: u64) -> u64
     n
 }
 
-/// Whether header 2 stands where no line names a pid of another node.
+/// Whether header 2 stands where no line names a pid of another node. A call of its own, for one path in the proof.
 fn is_needless(wide: bool, remote: bool) -> bool
     ensures { result ≡ (wide && not remote) }
 {
@@ -34,10 +34,10 @@ fn is_needless(wide: bool, remote: bool) -> bool
 }
 
 /// The bundle that the lines made.
-pub(crate) fn finish(progress: Progress) -> Result<Bundle, ReadFault>
-    ensures { (ls : List Line) → IsSound progress ls → length ls < 2 ^ 64 → Finishes ls progress result }
+pub(crate) fn finish(builder: BundleBuilder) -> Result<Bundle, ReadFault>
+    ensures { (ls : List Line) → IsBuilt builder ls → length ls < 2 ^ 64 → Finishes ls builder result }
 {
-    let Progress {
+    let BundleBuilder {
         alloc: _,
         wide,
         remote,
@@ -47,7 +47,7 @@ pub(crate) fn finish(progress: Progress) -> Result<Bundle, ReadFault>
         lines: _,
         processes,
         events,
-    } = progress;
+    } = builder;
     if is_needless(wide, remote) {
         return Err(ReadFault::Line(1));
     }

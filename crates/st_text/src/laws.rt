@@ -19,7 +19,8 @@ pub fn text_has_no_fault()
     ensures { TextHasNoFault }
 {}
 
-/// Bytes without a fault are the text of a bundle within the limits: each byte string is one or has a fault, and not both.
+/// Bytes without a fault are the text of a bundle within the limits: each byte string is one or has a fault, and with
+/// the law before not both.
 pub fn text_or_fault()
     ensures { NoFaultIsText }
 {}

@@ -3,6 +3,7 @@
 #![tactic(auto)]
 
 mod acts;
+mod builder;
 mod bundle;
 mod cutter;
 mod events;
@@ -12,7 +13,6 @@ mod finish;
 pub mod laws;
 mod line;
 mod number;
-mod progress;
 mod reader;
 mod remote;
 mod sink;

@@ -1,7 +1,8 @@
 //! One line of a text: what it may say, and the reader of a whole line. It knows nothing of the lines around it.
 
 ghost use Rattle.std.specs.Prelude.{◌≡◌};
-ghost use Rattle.st_text.specs.Reading.{Gives, rare_at, line_at, line_of};
+ghost use Rattle.st_text.specs.Parts.Words.{Gives};
+ghost use Rattle.st_text.specs.Parsing.{rare_at, line_at, line_of};
 
 use crate::acts::act_at;
 use crate::events::event_at;
@@ -21,7 +22,7 @@ pub enum Line {
 }
 
 /// A line that stands once in a text, or once for each process.
-#[tactic(auto, unfolding(crate::specs::Reading::rare_at))]
+#[tactic(auto, unfolding(crate::specs::Parsing::rare_at))]
 fn rare_at(bytes: &[u8]) -> Option<(Line, &[u8])>
     ensures { Gives (λ x. (x.0, x.1.now)) result (rare_at bytes.now) }
 {
@@ -42,7 +43,7 @@ fn rare_at(bytes: &[u8]) -> Option<(Line, &[u8])>
 }
 
 /// The commonest lines are tried first.
-#[tactic(auto, unfolding(crate::specs::Reading::line_at))]
+#[tactic(auto, unfolding(crate::specs::Parsing::line_at))]
 fn line_at(bytes: &[u8]) -> Option<(Line, &[u8])>
     ensures { Gives (λ x. (x.0, x.1.now)) result (line_at bytes.now) }
 {
@@ -57,7 +58,7 @@ fn line_at(bytes: &[u8]) -> Option<(Line, &[u8])>
 }
 
 /// What a line says, all of it, without its newline.
-#[tactic(auto, unfolding(crate::specs::Reading::line_of))]
+#[tactic(auto, unfolding(crate::specs::Parsing::line_of))]
 pub(crate) fn read_line(bytes: &[u8]) -> Option<Line>
     ensures { result ≡ line_of bytes.now }
 {

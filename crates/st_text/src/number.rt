@@ -5,7 +5,8 @@ ghost use Rattle.std.specs.Option.{SomeIff};
 ghost use Rattle.std.specs.Char.{is_ascii_digit};
 ghost use Rattle.std.specs.List.{prefix_len};
 ghost use Rattle.std.specs.Str.Parse.{digits_value};
-ghost use Rattle.st_text.specs.Reading.{Gives, number};
+ghost use Rattle.st_text.specs.Parts.Words.{Gives};
+ghost use Rattle.st_text.specs.Parsing.{number};
 
 /// Another digit fits behind any number below this one.
 const FITS_BELOW: u64 = u64::MAX / 10;
@@ -25,7 +26,9 @@ fn with_digit(n: u64, digit: u8) -> Option<u64>
 /// What the digits at the front of the bytes are worth, and how many they are, where their worth fits.
 #[inline(always)]
 fn digits_at(bytes: &[u8]) -> Option<(u64, usize)>
-    ensures { let count = prefix_len is_ascii_digit bytes.now in let digits = take count bytes.now in SomeIff result (digits_value 10 digits < 2 ^ 64) (digits_value 10 digits, count) }
+    ensures { let count = prefix_len is_ascii_digit bytes.now in
+        let digits = take count bytes.now in
+        SomeIff result (digits_value 10 digits < 2 ^ 64) (digits_value 10 digits, count) }
 {
     let mut n: u64 = 0;
     for (i, b) in bytes.iter().enumerate() {

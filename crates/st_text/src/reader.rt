@@ -15,12 +15,15 @@ const PIECE: u64 = 65_536;
 ///
 /// It reads on to the end of the source, a failure (`Device`) or byte 67,108,865 (`TooLarge`), and takes no byte after
 /// that one; so these two come first. Then comes the first faulty line; on one line the order is `Line`, `Order`,
-/// `Foreign`, `TooMany`. Then `Truncated`; then `Line(1)` for a header 2 that no line needs; then `Unknown` for the first
-/// line that names an unlisted pid. `Memory` can stand in place of any of these but the first two.
+/// `Foreign`, `TooMany`. Then `Truncated`; then `Line(1)` for a header 2 that no line needs; then `Unknown` for the
+/// first line that names an unlisted pid. `Memory` can stand in place of a bundle and of any of these but the first
+/// two, where the reading had something to keep.
 pub fn read<S: ByteSource>(alloc: Global, source: &mut S) -> Result<Bundle, ReadFault>
     ensures { ReadsSource S.gives S.ended S.failed source.old source.new result }
 {
     let mut feed = Feed::new(alloc);
+    // The feed counts too, but not past its own refusal: the source is still read to its end then, for `Device` and
+    // `TooLarge` come before `Memory`.
     let mut count: u64 = 0;
     let mut buffer = [0u8; 65_536];
     while count <= LIMIT {

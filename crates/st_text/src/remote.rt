@@ -3,7 +3,7 @@
 ghost use Rattle.std.specs.Prelude.{◌≡◌};
 ghost use Rattle.std.specs.List.{list_any, flat_map};
 ghost use Rattle.st_text.specs.Text.{wanted, is_away, is_remote, process_lines, body, parts};
-ghost use Rattle.st_text.specs.Remote.{is_event_remote, is_act_remote, is_process_remote};
+ghost use Rattle.st_text.specs.Parts.Remote.{is_event_remote, is_act_remote, is_process_remote};
 
 use st_core::{Act, Event, Pid, Streams, Want};
 

@@ -2,13 +2,12 @@
 
 ghost use Rattle.std.specs.Prelude.{◌<◌};
 
+mod devices;
 mod limits;
 mod texts;
 
 use crate::{Bundle, Feed, ReadFault, read, write, write_act, write_event, write_parts, write_pid};
-use st_core::{
-    Act, Draft, EndlessSource, Event, Kind, Label, MemorySink, MemorySource, Pid, Sequence, Serial,
-};
+use st_core::{Act, Draft, Event, Kind, Label, MemorySink, MemorySource, Pid, Sequence, Serial};
 use std::alloc::Global;
 use std::process::Abort;
 use std::test::Fail;
@@ -57,13 +56,6 @@ fn refused_texts(rt: HostRuntime) {
     for (text, fault) in REFUSED {
         let answer = read(alloc, &mut MemorySource::new(text.as_bytes(), None));
         assert_eq!(rt; refusal(&rt, answer), fault);
-    }
-}
-
-#[test]
-fn refused_texts_in_pieces(rt: HostRuntime) {
-    let alloc = rt.alloc();
-    for (text, fault) in REFUSED {
         for n in [1, 2, 3, 7] {
             if n > 0 {
                 assert_eq!(rt; refusal(&rt, in_pieces(alloc, text.as_bytes(), n)), fault);
@@ -78,19 +70,11 @@ fn read_texts_are_written_again(rt: HostRuntime) {
     for text in [PRINT_ONE, CERTIFICATE, WANT_AWAY] {
         let answer = read(alloc, &mut MemorySource::new(text.as_bytes(), None));
         assert_eq!(rt; text_of(&rt, alloc, answer).written(), text.as_bytes());
-    }
-}
-
-#[test]
-fn certificate_in_pieces(rt: HostRuntime) {
-    let alloc = rt.alloc();
-    for n in [1, 2, 3, 7] {
-        if n > 0 {
-            let answer = in_pieces(alloc, CERTIFICATE.as_bytes(), n);
-            assert_eq!(rt;
-                text_of(&rt, alloc, answer).written(),
-                CERTIFICATE.as_bytes()
-            );
+        for n in [1, 2, 3, 7] {
+            if n > 0 {
+                let answer = in_pieces(alloc, text.as_bytes(), n);
+                assert_eq!(rt; text_of(&rt, alloc, answer).written(), text.as_bytes());
+            }
         }
     }
 }
@@ -105,35 +89,6 @@ fn certificate_cut_once_at_each_byte(rt: HostRuntime) {
         assert_eq!(rt; feed.piece(front), Ok(()));
         assert_eq!(rt; feed.piece(back), Ok(()));
         assert_eq!(rt; text_of(&rt, alloc, feed.end()).written(), text);
-    }
-}
-
-#[test]
-fn endless_source_is_too_large(rt: HostRuntime) {
-    let answer = read(rt.alloc(), &mut EndlessSource::new());
-    assert_eq!(rt; refusal(&rt, answer), ReadFault::TooLarge);
-}
-
-#[test]
-fn failing_source_is_a_device_fault(rt: HostRuntime) {
-    let answer = read(
-        rt.alloc(),
-        &mut MemorySource::new(PRINT_ONE.as_bytes(), Some(20)),
-    );
-    assert_eq!(rt; refusal(&rt, answer), ReadFault::Device);
-}
-
-#[test]
-fn failing_sink_has_a_prefix(rt: HostRuntime) {
-    let alloc = rt.alloc();
-    let answer = read(alloc, &mut MemorySource::new(PRINT_ONE.as_bytes(), None));
-    match answer {
-        Err(fault) => panic!(rt; "{fault:?}"),
-        Ok(bundle) => {
-            let mut sink = sink(&rt, alloc, 9);
-            assert!(rt; write(&mut sink, &bundle).is_err());
-            assert_eq!(rt; sink.written(), b"seqtrace ".as_slice());
-        }
     }
 }
 

@@ -1,6 +1,7 @@
 //! The words and small values at the front of some bytes: each function answers the value and the bytes after it.
 
-ghost use Rattle.st_text.specs.Reading.{Gives, after, bool_at, pid_at, label_at, serial_at, actor_at};
+ghost use Rattle.st_text.specs.Parts.Words.{Gives};
+ghost use Rattle.st_text.specs.Parsing.{after, bool_at, pid_at, label_at, serial_at, actor_at};
 
 use crate::number::number;
 use st_core::{Label, Pid, Serial};
@@ -20,7 +21,7 @@ pub(crate) fn after<'a>(word: &[u8], bytes: &'a [u8]) -> Option<&'a [u8]>
 }
 
 #[inline]
-#[tactic(auto, unfolding(crate::specs::Reading::bool_at))]
+#[tactic(auto, unfolding(crate::specs::Parsing::bool_at))]
 pub(crate) fn bool_at(bytes: &[u8]) -> Option<(bool, &[u8])>
     ensures { Gives (λ x. (x.0, x.1.now)) result (bool_at bytes.now) }
 {
@@ -33,7 +34,7 @@ pub(crate) fn bool_at(bytes: &[u8]) -> Option<(bool, &[u8])>
     None
 }
 
-#[tactic(auto, unfolding(crate::specs::Reading::pid_at))]
+#[tactic(auto, unfolding(crate::specs::Parsing::pid_at))]
 pub(crate) fn pid_at(bytes: &[u8]) -> Option<(Pid, &[u8])>
     ensures { Gives (λ x. (x.0, x.1.now)) result (pid_at bytes.now) }
 {
@@ -46,7 +47,7 @@ pub(crate) fn pid_at(bytes: &[u8]) -> Option<(Pid, &[u8])>
 }
 
 #[inline]
-#[tactic(auto, unfolding(crate::specs::Reading::label_at))]
+#[tactic(auto, unfolding(crate::specs::Parsing::label_at))]
 pub(crate) fn label_at(bytes: &[u8]) -> Option<(Label, &[u8])>
     ensures { Gives (λ x. (x.0, x.1.now)) result (label_at bytes.now) }
 {
@@ -55,7 +56,7 @@ pub(crate) fn label_at(bytes: &[u8]) -> Option<(Label, &[u8])>
 }
 
 #[inline]
-#[tactic(auto, unfolding(crate::specs::Reading::serial_at))]
+#[tactic(auto, unfolding(crate::specs::Parsing::serial_at))]
 pub(crate) fn serial_at(bytes: &[u8]) -> Option<(Serial, &[u8])>
     ensures { Gives (λ x. (x.0, x.1.now)) result (serial_at bytes.now) }
 {
@@ -69,7 +70,7 @@ pub(crate) fn serial_at(bytes: &[u8]) -> Option<(Serial, &[u8])>
 
 /// A pid and the space behind it.
 #[inline]
-#[tactic(auto, unfolding(crate::specs::Reading::actor_at))]
+#[tactic(auto, unfolding(crate::specs::Parsing::actor_at))]
 pub(crate) fn actor_at(bytes: &[u8]) -> Option<(Pid, &[u8])>
     ensures { Gives (λ x. (x.0, x.1.now)) result (actor_at bytes.now) }
 {

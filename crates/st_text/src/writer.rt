@@ -30,7 +30,8 @@ fn write_events<S: ByteSink>(
     buffer: &mut Buffer,
     events: &[Event],
 ) -> Result<(), Device>
-    ensures { GoesOn S.puts S.failed (flat_map ended (map lines.Event events.now)) sink.old sink.new buffer.old.items buffer.new.items result }
+    ensures { GoesOn S.puts S.failed (flat_map ended (map lines.Event events.now))
+        sink.old sink.new buffer.old.items buffer.new.items result }
 {
     for event in events {
         write_line(sink, buffer, &Line::Event(*event))?;
@@ -45,7 +46,9 @@ fn write_process<S: ByteSink>(
     streams: &Streams,
     pid: Pid,
 ) -> Result<(), Device>
-    ensures { GoesOn S.puts S.failed (flat_map ended (process_lines (record { pid = pid; events = events_of streams.now pid }))) sink.old sink.new buffer.old.items buffer.new.items result }
+    ensures { GoesOn S.puts S.failed
+        (flat_map ended (process_lines (record { pid = pid; events = events_of streams.now pid })))
+        sink.old sink.new buffer.old.items buffer.new.items result }
 {
     write_line(sink, buffer, &Line::Process(pid))?;
     write_events(sink, buffer, streams.events(pid))
@@ -56,7 +59,8 @@ fn write_streams<S: ByteSink>(
     buffer: &mut Buffer,
     streams: &Streams,
 ) -> Result<(), Device>
-    ensures { GoesOn S.puts S.failed (flat_map ended (flat_map process_lines streams.now)) sink.old sink.new buffer.old.items buffer.new.items result }
+    ensures { GoesOn S.puts S.failed (flat_map ended (flat_map process_lines streams.now))
+        sink.old sink.new buffer.old.items buffer.new.items result }
 {
     for pid in streams.pids() {
         write_process(sink, buffer, streams, *pid)?;
@@ -69,7 +73,8 @@ fn write_act_list<S: ByteSink>(
     buffer: &mut Buffer,
     acts: &[Act],
 ) -> Result<(), Device>
-    ensures { GoesOn S.puts S.failed (flat_map ended (map lines.Act acts.now)) sink.old sink.new buffer.old.items buffer.new.items result }
+    ensures { GoesOn S.puts S.failed (flat_map ended (map lines.Act acts.now))
+        sink.old sink.new buffer.old.items buffer.new.items result }
 {
     for act in acts {
         write_line(sink, buffer, &Line::Act(*act))?;
@@ -79,7 +84,8 @@ fn write_act_list<S: ByteSink>(
 
 /// Writes the word and the acts.
 fn write_acts<S: ByteSink>(sink: &mut S, buffer: &mut Buffer, acts: &[Act]) -> Result<(), Device>
-    ensures { GoesOn S.puts S.failed (flat_map ended (lines.Acts ∷ map lines.Act acts.now)) sink.old sink.new buffer.old.items buffer.new.items result }
+    ensures { GoesOn S.puts S.failed (flat_map ended (lines.Acts ∷ map lines.Act acts.now))
+        sink.old sink.new buffer.old.items buffer.new.items result }
 {
     write_line(sink, buffer, &Line::Acts)?;
     write_act_list(sink, buffer, acts)
@@ -92,7 +98,8 @@ fn write_body<S: ByteSink>(
     streams: &Streams,
     acts: Option<&[Act]>,
 ) -> Result<(), Device>
-    ensures { GoesOn S.puts S.failed (flat_map ended (body (parts streams.now acts.entry))) sink.old sink.new buffer.old.items buffer.new.items result }
+    ensures { GoesOn S.puts S.failed (flat_map ended (body (parts streams.now acts.entry)))
+        sink.old sink.new buffer.old.items buffer.new.items result }
 {
     write_streams(sink, buffer, streams)?;
     match acts {
@@ -108,7 +115,8 @@ fn write_lines<S: ByteSink>(
     streams: &Streams,
     acts: Option<&[Act]>,
 ) -> Result<(), Device>
-    ensures { GoesOn S.puts S.failed (spelling (parts streams.now acts.entry)) sink.old sink.new buffer.old.items buffer.new.items result }
+    ensures { GoesOn S.puts S.failed (spelling (parts streams.now acts.entry))
+        sink.old sink.new buffer.old.items buffer.new.items result }
 {
     write_line(sink, buffer, &Line::Header(are_parts_remote(streams, acts)))?;
     write_body(sink, buffer, streams, acts)

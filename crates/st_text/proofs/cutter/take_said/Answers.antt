@@ -1,12 +1,19 @@
+-- Before the header only a header is good; behind it the builder judges.
 use Rattle.std.proofs.Common.{◌∙◌, sym}
-use Rattle.st_text.proofs.Cutting.{said_some, said_header, said_none}
+use Rattle.st_text.proofs.CutterSteps.{said_some, said_header, said_none}
 use Rattle.st_text.proofs.cutter.take_said.Goals as goal
 
 pub returns-in-Some : goal.returns-in-Some
-returns-in-Some c = λ ls h. said_some c.args.progress.now c.in-Some.progress _ ls c.args.said.now c.take.result c.in-Some.is c.take.ensures h
+returns-in-Some c =
+    λ ls h. said_some c.args.builder.now c.in-Some.builder _ ls c.args.said.now c.take.result c.in-Some.is
+    c.take.ensures h
 
 pub returns-in-Some-header_of : goal.returns-in-Some-header_of
-returns-in-Some-header_of c = λ ls h. said_header c.args.progress.now _ ls c.args.said.now c.in-Some-header_of.wide c.in-None.is (sym c.header_of.ensures ∙ c.in-Some-header_of.is) c.new.ensures h
+returns-in-Some-header_of c =
+    λ ls h. said_header c.args.builder.now _ ls c.args.said.now c.in-Some-header_of.wide c.in-None.is
+    (sym c.header_of.ensures ∙ c.in-Some-header_of.is) c.new.ensures h
 
 pub returns-in-None-header_of : goal.returns-in-None-header_of
-returns-in-None-header_of c = λ ls h. said_none c.args.progress.now ls c.args.said.now c.in-None.is (sym c.header_of.ensures ∙ c.in-None-header_of.is) h
+returns-in-None-header_of c =
+    λ ls h. said_none c.args.builder.now ls c.args.said.now c.in-None.is
+    (sym c.header_of.ensures ∙ c.in-None-header_of.is) h

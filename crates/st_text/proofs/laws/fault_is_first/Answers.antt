@@ -1,4 +1,5 @@
-use Rattle.st_text.proofs.First.{fails_first, first_unknown}
+-- Both definitions go through the lines from the front and stop at the first.
+use Rattle.st_text.proofs.FirstFault.{fails_first, first_unknown}
 use Rattle.st_text.proofs.laws.fault_is_first.Goals as goal
 
 pub returns-clause-line : goal.returns-clause-line

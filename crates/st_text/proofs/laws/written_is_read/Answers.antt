@@ -1,4 +1,5 @@
-use Rattle.st_text.proofs.One.{read_back}
+-- A text within the limits has no fault, and is the text of one bundle alone.
+use Rattle.st_text.proofs.OneBundle.{read_back}
 use Rattle.st_text.proofs.laws.written_is_read.Goals as goal
 
 pub returns : goal.returns

@@ -1,3 +1,4 @@
+-- The digits so far are worth n.
 use Rattle.std.proofs.Common.{◌≡◌, ◌<◌, ◌≤◌, ◌^◌}
 use Rattle.st_text.proofs.Numbers.{digits_len, worth}
 use Rattle.st_text.proofs.number.digits_at.Given as goal

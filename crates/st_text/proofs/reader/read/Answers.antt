@@ -1,15 +1,14 @@
 -- Each call's bytes are added to those before; at the source's end the feed's answer is that of them all.
-use Rattle.std.proofs.Common.{◌≡◌, ◌<◌, ◌≤◌, ◌+◌, ◌∙◌, [], ◌++◌, List, ℕ, Some, Err, take, drop, length, refl, sym, ap, subst, arith}
-use Rattle.std.specs.Prelude.{Result}
+use Rattle.std.proofs.Common.{◌≡◌, ◌<◌, ◌≤◌, ◌+◌, ◌∙◌, [], ◌++◌, List, ℕ, Some, take, drop, length, refl, sym}
+use Rattle.std.proofs.Common.{subst, arith}
 use Rattle.std.proofs.lemmas.List.{length-append, length-take, length-drop, take-append-le}
 use Rattle.st_core.specs.Device.{NoCall, OneMore}
-use Rattle.st_text.specs.declared.fault.ReadFault.{ReadFault}
 use Rattle.st_text.specs.declared.fault.ReadFault.TheVariants as faults
 use Rattle.st_text.specs.Growth.{Grows}
 use Rattle.st_text.specs.Fed.{IsFed, refusal}
 use Rattle.st_text.proofs.Puts.{put_none}
-use Rattle.st_text.proofs.OfText.{reads_end}
-use Rattle.st_text.proofs.Readers.{growth_after, growth_at_end, never_fresh}
+use Rattle.st_text.proofs.TextFaults.{reads_end}
+use Rattle.st_text.proofs.ReaderSteps.{growth_after, growth_at_end, never_fresh}
 use Rattle.st_text.proofs.reader.read.Goals as goal
 
 pub loop-count-init : goal.loop-count-init
@@ -51,7 +50,9 @@ loop-count-preserved g c =
       size = omega (arith, length-append piece back, left, c.take.auto.piece, asked, c.min-room.ensures, i.size);
       mark = c.in-Ok.ensures.mark.1 ∙ sym c.in-Ok.ensures.mark.0 ∙ i.mark;
       sound = λ _. sym i.mark ∙ c.in-Ok.ensures.mark.0;
-      memory = growth_after gives _ _ _ i.bytes given (refusal c.loop-count.feed) (refusal feed) i.given c.in-Ok.ensures.given i.memory
+      memory =
+          growth_after gives _ _ _ i.bytes given (refusal c.loop-count.feed) (refusal feed) i.given
+          c.in-Ok.ensures.given i.memory
           (λ fresh. memory (c.piece-answer.ensures.memory i.bytes i.fed fresh)) c.piece-answer.ensures.again;
     }
 
@@ -98,6 +99,7 @@ returns g c =
     record {
       bytes = i.bytes;
       given = i.given;
-      answer = record { count = omega (arith, i.counted, i.few); before = i.sound some; after = i.mark ∙ i.sound some };
+      answer =
+          record { count = omega (arith, i.counted, i.few); before = i.sound some; after = i.mark ∙ i.sound some };
       memory = λ e. absurd cc;
     }

@@ -1,3 +1,4 @@
+-- A prefix that is stripped stood at the front.
 use Rattle.st_text.proofs.Numbers.{after_is}
 use Rattle.st_text.proofs.words.after.Goals as goal
 

@@ -1,3 +1,4 @@
+-- The lines of the events go one after the other.
 use Rattle.std.proofs.Common.{List, ℕ}
 use Rattle.st_core.specs.declared.types.Event.{Event}
 use Rattle.st_text.specs.declared.line.Line.TheVariants as lines
@@ -12,11 +13,18 @@ pub loop-event-init : goal.loop-event-init
 loop-event-init g c = goes_still g.S.ByteSink.puts g.S.ByteSink.failed _ _
 
 pub loop-event-preserved : goal.loop-event-preserved
-loop-event-preserved g c = one_more g.S.ByteSink.puts g.S.ByteSink.failed text_of c.args.events.now c.loop-event.event-index _ _ _ _ _ _ _ c.loop-event-test.true c.loop-event.invariant c.in_ok-write_line.ensures
+loop-event-preserved g c =
+    one_more g.S.ByteSink.puts g.S.ByteSink.failed text_of c.args.events.now c.loop-event.event-index _ _ _ _ _ _ _
+    c.loop-event-test.true c.loop-event.invariant c.in_ok-write_line.ensures
 
 pub returns-in_err-write_line : goal.returns-in_err-write_line
 returns-in_err-write_line g c =
-    on_err _ _ _ _ _ _ _ _ c.from_residual.ensures.0 (one_failed g.S.ByteSink.puts g.S.ByteSink.failed text_of c.args.events.now c.loop-event.event-index _ _ _ _ _ _ _ (flat_map-map ended lines.Event c.args.events.now) c.loop-event-test.true c.loop-event.invariant c.in_err-write_line.ensures)
+    on_err _ _ _ _ _ _ _ _ c.from_residual.ensures.0
+    (one_failed g.S.ByteSink.puts g.S.ByteSink.failed text_of c.args.events.now c.loop-event.event-index _ _ _ _ _
+    _ _ (flat_map-map ended lines.Event c.args.events.now) c.loop-event-test.true c.loop-event.invariant
+    c.in_err-write_line.ensures)
 
 pub returns : goal.returns
-returns g c = all_done g.S.ByteSink.puts g.S.ByteSink.failed text_of c.args.events.now c.loop-event.event-index _ _ _ _ _ (flat_map-map ended lines.Event c.args.events.now) c.loop-event-test.false c.loop-event.invariant
+returns g c =
+    all_done g.S.ByteSink.puts g.S.ByteSink.failed text_of c.args.events.now c.loop-event.event-index _ _ _ _ _
+    (flat_map-map ended lines.Event c.args.events.now) c.loop-event-test.false c.loop-event.invariant

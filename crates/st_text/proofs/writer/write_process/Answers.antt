@@ -1,3 +1,4 @@
+-- The process goes first, then its events.
 use Rattle.std.proofs.Common.{map}
 use Rattle.std.specs.List.{flat_map}
 use Rattle.st_core.specs.Streams.{events_of}
@@ -8,9 +9,13 @@ use Rattle.st_text.proofs.writer.write_process.Goals as goal
 
 pub returns-in_err-write_line : goal.returns-in_err-write_line
 returns-in_err-write_line g c =
-    on_err _ _ _ _ _ _ _ _ c.from_residual.ensures.0 (part_longer g.S.ByteSink.puts g.S.ByteSink.failed (ended (lines.Process c.args.pid)) (flat_map ended (map lines.Event (events_of c.args.streams.now c.args.pid))) _ _ _ c.in_err-write_line.ensures)
+    on_err _ _ _ _ _ _ _ _ c.from_residual.ensures.0
+    (part_longer g.S.ByteSink.puts g.S.ByteSink.failed (ended (lines.Process c.args.pid))
+    (flat_map ended (map lines.Event (events_of c.args.streams.now c.args.pid))) _ _ _ c.in_err-write_line.ensures)
 
 pub returns : goal.returns
 returns g c =
-    then_on g.S.ByteSink.puts g.S.ByteSink.failed (ended (lines.Process c.args.pid)) (flat_map ended (map lines.Event (events_of c.args.streams.now c.args.pid))) _ _ _ _ _ _ c.write_events.result c.in_ok-write_line.ensures
+    then_on g.S.ByteSink.puts g.S.ByteSink.failed (ended (lines.Process c.args.pid))
+    (flat_map ended (map lines.Event (events_of c.args.streams.now c.args.pid))) _ _ _ _ _ _ c.write_events.result
+    c.in_ok-write_line.ensures
     (rw c.events.ensures.value at c.write_events.ensures)

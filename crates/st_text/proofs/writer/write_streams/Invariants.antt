@@ -1,3 +1,4 @@
+-- The processes so far went.
 use Rattle.std.proofs.Common.{take}
 use Rattle.std.specs.List.{flat_map}
 use Rattle.st_core.specs.Streams.{events_of}
@@ -6,4 +7,7 @@ use Rattle.st_text.specs.Writing.{Goes}
 use Rattle.st_text.proofs.writer.write_streams.Given as goal
 
 abbrev pub invariant-loop-pid : goal.invariant-loop-pid
-invariant-loop-pid g l = Goes g.S.ByteSink.puts g.S.ByteSink.failed (flat_map (λ p. flat_map ended (process_lines (record { pid = p; events = events_of l.streams p }))) (take l.pid-index l.pid-items)) l.initial.sink l.sink l.initial.buffer.items l.buffer.items
+invariant-loop-pid g l =
+    Goes g.S.ByteSink.puts g.S.ByteSink.failed
+    (flat_map (λ p. flat_map ended (process_lines (record { pid = p; events = events_of l.streams p })))
+    (take l.pid-index l.pid-items)) l.initial.sink l.sink l.initial.buffer.items l.buffer.items

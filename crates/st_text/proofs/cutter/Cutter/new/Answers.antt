@@ -1,4 +1,5 @@
-use Rattle.st_text.proofs.Cutting.{holds_nothing}
+-- Of no bytes there is no line and no unfinished one.
+use Rattle.st_text.proofs.CutterSteps.{holds_nothing}
 use Rattle.st_text.proofs.cutter.Cutter.new.Goals as goal
 
 pub returns-clause-holds : goal.returns-clause-holds

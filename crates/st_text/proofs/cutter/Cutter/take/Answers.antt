@@ -1,8 +1,10 @@
+-- Each newline ends one line, and what is behind the last joins the unfinished one.
 use Rattle.std.proofs.Common.{◌≡◌, ◌∙◌, ◌++◌, ◌∷◌, [], List, ℕ, refl, sym, ap, subst, append_assoc}
 use Rattle.std.proofs.lemmas.List.{append-nil}
-use Rattle.st_text.specs.Tail.{IsPlain}
-use Rattle.st_text.specs.Holds.{Holds}
-use Rattle.st_text.proofs.Cutting.{holds_over, not_out, plain_front, plain_all, at_newline, grows_by, grows_at_end, line_whole}
+use Rattle.st_text.specs.Parts.Cutter.{IsPlain}
+use Rattle.st_text.specs.Parts.CutterState.{HasTaken}
+use Rattle.st_text.proofs.CutterSteps.{holds_over, not_out, plain_front, plain_all, at_newline, grows_by, grows_at_end}
+use Rattle.st_text.proofs.CutterSteps.{line_whole}
 use Rattle.st_text.proofs.cutter.Cutter.take.Goals as goal
 
 -- done and the rest are the piece
@@ -17,7 +19,7 @@ loop-rest-init c =
       parts = refl;
       whole = λ bytes some. refl;
       comes = λ bytes h. record {
-        holds = subst (λ (t : List ℕ). Holds t s) (sym (append-nil bytes)) h;
+        holds = subst (λ (t : List ℕ). HasTaken t s) (sym (append-nil bytes)) h;
         growth = λ out going. not_out s.out going out;
       };
     }
@@ -28,7 +30,9 @@ returns-in_default c = λ bytes h.
     let rest = c.loop-rest.rest.now in
     let k = c.keep.ensures.holds (bytes ++ i.done) (plain_all rest c.in_default.ensures) (i.comes bytes h).holds in
     record {
-      holds = subst (λ (t : List ℕ). Holds t c.keep.new.self) (whole bytes i.done rest c.args.piece.now i.parts) k.holds;
+      holds =
+          subst (λ (t : List ℕ). HasTaken t c.keep.new.self) (whole bytes i.done rest c.args.piece.now i.parts)
+          k.holds;
       growth = λ out going. grows_at_end bytes c.args.piece.now i.done rest i.parts (k.growth out);
     }
 
@@ -41,7 +45,8 @@ loop-rest-preserved c =
     let more = c.split_at-in-loop-rest.result.1.now in
     let front = c.split_at.ensures.front in
     let at = at_newline rest c.in-Some.i c.in-Some.ensures.0.high c.in-Some.ensures.1 in
-    let parts : rest ≡ (line ++ 10 ∷ []) ++ more = rw (c.split_at-in-loop-rest.ensures.back, c.split_at.ensures.back, front) at in
+    let parts : rest ≡ (line ++ 10 ∷ []) ++ more =
+    rw (c.split_at-in-loop-rest.ensures.back, c.split_at.ensures.back, front) at in
     let plain : IsPlain line = subst IsPlain (sym front) (plain_front rest c.in-Some.i c.in-Some.ensures.0.before) in
     let all : piece ≡ i.done ++ ((line ++ 10 ∷ []) ++ more) = i.parts ∙ ap (λ (x : List ℕ). i.done ++ x) parts in
     record {
@@ -51,7 +56,9 @@ loop-rest-preserved c =
       comes = λ bytes h.
           let e = c.end_line.ensures (bytes ++ i.done) plain (i.comes bytes h).holds in
           record {
-            holds = subst (λ (t : List ℕ). Holds t c.end_line.new.self) (append_assoc bytes i.done (line ++ 10 ∷ [])) e.holds;
+            holds =
+                subst (λ (t : List ℕ). HasTaken t c.end_line.new.self) (append_assoc bytes i.done (line ++ 10 ∷ []))
+                e.holds;
             growth = λ out going. grows_by bytes piece i.done line more all (i.whole bytes) (e.growth out);
           };
     }
@@ -63,8 +70,8 @@ returns c = λ bytes h.
     let rest = c.loop-rest.rest.now in
     let over = sym c.is_over.ensures ∙ c.loop-rest-test.false in
     let t = i.comes bytes h in
-    let held = holds_over s.out s.fault (bytes ++ i.done) rest s.long s.tail.items s.progress over t.holds in
+    let held = holds_over s.out s.fault (bytes ++ i.done) rest s.long s.tail.items s.builder over t.holds in
     record {
-      holds = subst (λ (t : List ℕ). Holds t s) (whole bytes i.done rest c.args.piece.now i.parts) held;
+      holds = subst (λ (t : List ℕ). HasTaken t s) (whole bytes i.done rest c.args.piece.now i.parts) held;
       growth = t.growth;
     }

@@ -1,8 +1,8 @@
+-- The bytes before the rest were taken.
 use Rattle.std.proofs.Common.{length}
-use Rattle.st_text.proofs.Cutting.{IsUnderWay}
+use Rattle.st_text.proofs.CutterSteps.{IsUnderWay}
 use Rattle.st_text.proofs.cutter.Cutter.take.Given as goal
 
--- the bytes before the rest were taken
 abbrev pub invariant-loop-rest : goal.invariant-loop-rest
 invariant-loop-rest l = IsUnderWay l.piece l.rest l.initial.self l.self
 

@@ -1,6 +1,7 @@
+-- Too many bytes are too many for each text.
 use Rattle.std.proofs.Common.{Bool, subst}
 use Rattle.st_text.specs.Fed.{FedAs}
-use Rattle.st_text.proofs.Cuts.{fault_too_large}
+use Rattle.st_text.proofs.Newlines.{fault_too_large}
 use Rattle.st_text.proofs.feed.Feed.end.Goals as goal
 
 pub returns-then-large-clause-answers : goal.returns-then-large-clause-answers

@@ -1,5 +1,0 @@
-use Rattle.st_text.proofs.Faults.{unsaid_fault}
-use Rattle.st_text.proofs.progress.Progress.take.Goals as goal
-
-pub returns-in-None : goal.returns-in-None
-returns-in-None c = λ ls s. rw c.in-None.is (unsaid_fault c.args.self.now ls s)

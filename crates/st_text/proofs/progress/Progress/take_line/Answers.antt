@@ -1,5 +1,0 @@
-use Rattle.st_text.proofs.Faults.{header_fault}
-use Rattle.st_text.proofs.progress.Progress.take_line.Goals as goal
-
-pub returns-in-Header : goal.returns-in-Header
-returns-in-Header c = λ ls s. rw c.in-Header.is (header_fault c.args.self.now ls c.in-Header.field-0 s)

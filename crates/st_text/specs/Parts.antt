@@ -1,0 +1,9 @@
+-- What the parts of the reader keep and hand on. No promise of a public contract rests on it: `IsFed` alone names what
+-- a feed keeps, and who uses a feed needn't know what that is. A module for each file of the code that needs words.
+pub mod Words
+pub mod Remote
+pub mod Counts
+pub mod Builder
+pub mod Finish
+pub mod Cutter
+pub mod CutterState

@@ -1,0 +1,53 @@
+-- What a text under way has come to: the lines from the header on, all good, and what is kept of them.
+use Rattle.std.specs.Prelude.{◌≡◌, Bool, true, List, [], ◌∷◌, ◌++◌, length, Option, Some, None, is_some}
+use Rattle.std.specs.List.{count_by, list_any}
+use Rattle.st_core.specs.declared.types.Act.{Act}
+use Rattle.st_core.specs.Pid.{IsRising}
+use Rattle.st_core.specs.Run.{Stream, pids_of}
+use Rattle.st_text.specs.declared.line.Line.{Line}
+use Rattle.st_text.specs.declared.line.Line.TheVariants as lines
+use Rattle.st_text.specs.declared.builder.BundleBuilder.{BundleBuilder}
+use Rattle.st_text.specs.declared.step.Step.{Step}
+use Rattle.st_text.specs.declared.step.Step.TheVariants.{Goes, Stops, Halts}
+use Rattle.st_text.specs.Text.{body, is_remote}
+use Rattle.st_text.specs.Fault.{pids, last, has_acts, is_event, is_act, is_wide, line_fault}
+use Rattle.st_text.specs.Growth.{is_kept}
+use Rattle.st_text.specs.Parts.Counts.{acts_len}
+
+-- the lines of a header and what is behind it
+abbrev pub so_far : Bool → List Stream → Option (List Act) → List Line
+so_far wide streams acts = lines.Header wide ∷ body (record { streams = streams; acts = acts })
+
+-- what is kept is what these lines say
+pub record IsBuilt (p : BundleBuilder) (ls : List Line) : Type 0 where
+  pub lines : ls ≡ so_far p.wide p.draft p.acts
+  pub count : p.lines ≡ length ls
+  pub pids_are : pids ls ≡ pids_of p.draft
+  pub last_is : p.last ≡ last (pids ls)
+  pub processes_are : p.processes ≡ length (pids ls)
+  pub events_are : p.events ≡ count_by is_event ls
+  pub acts_are : acts_len p.acts ≡ count_by is_act ls
+  pub begun_is : is_some p.acts ≡ has_acts ls
+  pub remote_is : p.remote ≡ list_any is_remote ls
+  pub wide_is : p.wide ≡ list_any is_wide ls
+  pub rising : IsRising (pids_of p.draft)
+
+-- the line says l, which has no fault, and is one that has to be kept
+pub record NeedsRoom (ls : List Line) (said : Option Line) : Type 0 where
+  pub line : Line
+  pub said_is : said ≡ Some line
+  pub good : line_fault ls (Some line) ≡ None
+  pub kept : is_kept line ≡ true
+
+-- a next line goes on, or has a fault, or there was no room for it
+abbrev pub Takes : List Line → Line → BundleBuilder → Step → Type 0
+Takes ls l new Goes = (line_fault ls (Some l) ≡ None) × IsBuilt new (ls ++ l ∷ [])
+Takes ls l new (Stops f) = line_fault ls (Some l) ≡ Some f
+Takes ls l new Halts = NeedsRoom ls (Some l)
+
+-- the same of bytes that may say no line
+abbrev pub TakesLine : List Line → Option Line → BundleBuilder → Step → Type 0
+TakesLine ls (Some l) new step = Takes ls l new step
+TakesLine ls None new Goes = ⊥
+TakesLine ls None new (Stops f) = line_fault ls None ≡ Some f
+TakesLine ls None new Halts = ⊥

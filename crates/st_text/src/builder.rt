@@ -1,0 +1,218 @@
+//! A text under way: what its good lines came to, from the header on, and the fault of a next line. It knows lines, and
+//! nothing of bytes. Events go straight into the draft and acts into their list.
+
+ghost use Rattle.std.specs.Prelude.{◌≡◌, ◌≤◌, ◌+◌, ◌&&◌, ◌||◌, not, List, ◌∷◌, [], Some};
+ghost use Rattle.std.specs.Ordering.{is_lt};
+ghost use Rattle.st_core.specs.Pid.{pid_cmp};
+ghost use Rattle.st_text.specs.declared.line.Line.{Line};
+ghost use Rattle.st_text.specs.declared.line.Line.TheVariants as lines;
+ghost use Rattle.st_text.specs.Parts.Counts.{acts_len, acts_lines};
+ghost use Rattle.st_text.specs.Fault.{last_passes};
+ghost use Rattle.st_text.specs.Limits.{most_processes, most_events, most_acts};
+
+use crate::fault::ReadFault;
+use crate::line::Line;
+use crate::remote::{is_act_remote, is_away, is_event_remote};
+use crate::step::Step;
+use st_core::{Act, Draft, Event, Pid, Sequence};
+use std::alloc::Global;
+
+/// The most processes, events and acts that a text may have.
+const MOST_PROCESSES: u64 = 1_024;
+
+const MOST_EVENTS: u64 = 1_000_000;
+
+const MOST_ACTS: usize = 4_000_000;
+
+/// What the lines so far came to.
+#[derive(Debug, Drop)]
+pub(crate) struct BundleBuilder {
+    pub(crate) alloc: Global,
+    /// The header was `seqtrace 2`.
+    pub(crate) wide: bool,
+    /// A line named a pid of another node than 0.
+    pub(crate) remote: bool,
+    pub(crate) draft: Draft,
+    pub(crate) acts: Option<Sequence<Act>>,
+    /// The process of the last process line.
+    pub(crate) last: Option<Pid>,
+    pub(crate) lines: u64,
+    pub(crate) processes: u64,
+    pub(crate) events: u64,
+    ghost few_processes: { processes ≤ most_processes },
+    ghost few_events: { events ≤ most_events },
+    ghost few_acts: { acts_len acts ≤ most_acts },
+    ghost counted: { lines ≡ 1 + processes + events + acts_lines acts },
+}
+
+/// Whether a line that names a pid of another node may not stand: under header 1. A call of its own, as those of
+/// `is_either`, so that a line takes one path and not two through its function's proof.
+fn keeps_out(wide: bool, away: bool) -> bool
+    ensures { result ≡ (away && not wide) }
+{
+    away && !wide
+}
+
+/// Whether either holds.
+fn is_either(a: bool, b: bool) -> bool
+    ensures { result ≡ (a || b) }
+{
+    a || b
+}
+
+/// Whether the pid isn't above the last one, if there is one.
+fn is_out_of_order(last: Option<Pid>, pid: Pid) -> bool
+    ensures { result ≡ last_passes (λ q. not (is_lt (pid_cmp q pid))) last }
+{
+    match last {
+        None => false,
+        Some(last) => !last.cmp(&pid).is_lt(),
+    }
+}
+
+impl BundleBuilder {
+    ghost use Rattle.st_text.specs.Parts.Builder.{IsBuilt, Takes, TakesLine};
+
+    /// Behind the header. Takes no memory.
+    pub(crate) fn new(alloc: Global, wide: bool) -> BundleBuilder
+        ensures { IsBuilt result (lines.Header wide ∷ []) }
+    {
+        BundleBuilder {
+            alloc,
+            wide,
+            remote: false,
+            draft: Draft::new(alloc),
+            acts: None,
+            last: None,
+            lines: 1,
+            processes: 0,
+            events: 0,
+        }
+    }
+
+    /// Takes a process line.
+    fn open(&mut self, pid: Pid) -> Step
+        ensures { (ls : List Line) → IsBuilt self.old ls → Takes ls (lines.Process pid) self.new result }
+    {
+        let n = self.lines + 1;
+        let away = is_away(pid);
+        if self.acts.is_some() {
+            return Step::Stops(ReadFault::Line(n));
+        }
+        if keeps_out(self.wide, away) {
+            return Step::Stops(ReadFault::Line(n));
+        }
+        if is_out_of_order(self.last, pid) {
+            return Step::Stops(ReadFault::Order(n));
+        }
+        if self.processes >= MOST_PROCESSES {
+            return Step::Stops(ReadFault::TooMany(n));
+        }
+        // The draft tests the order again, as it does for each caller; the test above gives the fault its place before
+        // `TooMany`. So this is want of memory.
+        let Ok(()) = self.draft.open(pid) else {
+            return Step::Halts;
+        };
+        self.last = Some(pid);
+        self.processes += 1;
+        self.lines += 1;
+        self.remote = is_either(self.remote, away);
+        Step::Goes
+    }
+
+    /// Takes an event line.
+    #[inline(always)]
+    fn report(&mut self, event: &Event) -> Step
+        ensures { (ls : List Line) → IsBuilt self.old ls → Takes ls (lines.Event event.now) self.new result }
+    {
+        let n = self.lines + 1;
+        let away = is_event_remote(event);
+        if self.acts.is_some() {
+            return Step::Stops(ReadFault::Line(n));
+        }
+        if keeps_out(self.wide, away) {
+            return Step::Stops(ReadFault::Line(n));
+        }
+        let Some(last) = self.last else {
+            return Step::Stops(ReadFault::Line(n));
+        };
+        if !event.is_own(last) {
+            return Step::Stops(ReadFault::Foreign(n));
+        }
+        if self.events >= MOST_EVENTS {
+            return Step::Stops(ReadFault::TooMany(n));
+        }
+        // The draft tests this again, as it does for each caller; the test above gives the fault its place before
+        // `TooMany`. So this is want of memory.
+        let Ok(()) = self.draft.add(last, *event) else {
+            return Step::Halts;
+        };
+        self.events += 1;
+        self.lines += 1;
+        self.remote = is_either(self.remote, away);
+        Step::Goes
+    }
+
+    /// Takes the word before the acts.
+    fn begin(&mut self) -> Step
+        ensures { (ls : List Line) → IsBuilt self.old ls → Takes ls lines.Acts self.new result }
+    {
+        if self.acts.is_some() {
+            return Step::Stops(ReadFault::Line(self.lines + 1));
+        }
+        self.acts = Some(Sequence::new(self.alloc));
+        self.lines += 1;
+        Step::Goes
+    }
+
+    /// Takes an act line.
+    #[inline(always)]
+    fn act(&mut self, act: &Act) -> Step
+        ensures { (ls : List Line) → IsBuilt self.old ls → Takes ls (lines.Act act.now) self.new result }
+    {
+        let n = self.lines + 1;
+        let away = is_act_remote(act);
+        if keeps_out(self.wide, away) {
+            return Step::Stops(ReadFault::Line(n));
+        }
+        match &mut self.acts {
+            None => return Step::Stops(ReadFault::Line(n)),
+            Some(acts) => {
+                if acts.len() >= MOST_ACTS {
+                    return Step::Stops(ReadFault::TooMany(n));
+                }
+                let Ok(()) = acts.push(*act) else {
+                    return Step::Halts;
+                };
+            }
+        }
+        self.lines += 1;
+        self.remote = is_either(self.remote, away);
+        Step::Goes
+    }
+
+    /// Takes a line.
+    #[inline(always)]
+    fn take_line(&mut self, line: &Line) -> Step
+        ensures { (ls : List Line) → IsBuilt self.old ls → Takes ls line.now self.new result }
+    {
+        match line {
+            Line::Process(pid) => self.open(*pid),
+            Line::Event(event) => self.report(event),
+            Line::Acts => self.begin(),
+            Line::Act(act) => self.act(act),
+            Line::Header(_) => Step::Stops(ReadFault::Line(self.lines + 1)),
+        }
+    }
+
+    /// Takes the next line, or bytes that say none.
+    #[inline(always)]
+    pub(crate) fn take(&mut self, said: &Option<Line>) -> Step
+        ensures { (ls : List Line) → IsBuilt self.old ls → TakesLine ls said.now self.new result }
+    {
+        match said {
+            Some(line) => self.take_line(line),
+            None => Step::Stops(ReadFault::Line(self.lines + 1)),
+        }
+    }
+}
