@@ -1,5 +1,5 @@
--- What a part of `step` answers is a step by its definition: an outcome is the definition's and keeps each process sound,
--- and each refusal comes where the definition has no step, or none that memory was there for.
+-- What a part of `step` answers is a step by its definition: an outcome is the definition's and keeps each process
+-- sound, and each refusal comes where the definition has no step, or none that memory was there for.
 use Rattle.std.proofs.Common.{◌≡◌, ◌⊎◌, ℕ, true, List, length, Option, Some, None, Ok, Err, IsSome, All, IfSome}
 use Rattle.std.proofs.Common.{Result, IfOk, OnErr, position, get_or, set, refl, sym, ◌∙◌, ap, inl, inr}
 use Rattle.std.proofs.lemmas.List.{length-set, set-get_or}
@@ -17,7 +17,7 @@ use Rattle.st_mail.specs.Actor.{is_inner, ActsOutside}
 use Rattle.st_mail.specs.declared.outcome.Outcome.{Outcome as Told}
 use Rattle.st_world.specs.declared.outcome.StepFault.TheVariants as fault
 use Rattle.st_world.specs.Rows.{state_of, AreRows}
-use Rattle.st_world.specs.World.{outcome_to, is_send, AreOrdered, IsStep, Rises}
+use Rattle.st_world.specs.World.{outcome_to, is_send, AreOrdered, AreStamped, IsStep, Rises}
 use Rattle.st_world.proofs.States.{step_no_actor, step_no_receiver}
 use Rattle.st_world.proofs.Steps.{step_inner}
 
@@ -28,7 +28,18 @@ ordered top s p sound = by (process s p) refl
   where
     by : (o : Option Process) → process s p ≡ o → IfSome o (λ r. AreOrdered top r.local)
     by None e = tt
-    by (Some r) e = let one = process_holds (IsSound top) s p r e sound in record { last = one.ordered; clock = one.within }
+    by (Some r) e =
+        let one = process_holds (IsSound top) s p r e sound in
+        record { last = one.ordered; clock = one.within }
+
+-- the queue of a sound process
+pub stamped : (top : ℕ) (s : State) (p : Pid)
+    → All (IsSound top) s → IfSome (process s p) (λ r. AreStamped top r.queue)
+stamped top s p sound = by (process s p) refl
+  where
+    by : (o : Option Process) → process s p ≡ o → IfSome o (λ r. AreStamped top r.queue)
+    by None e = tt
+    by (Some r) e = (process_holds (IsSound top) s p r e sound).queued
 
 rising : (o : Option Event) → ForSome o Rises → IfSome o Rises
 rising None rises = tt
@@ -36,7 +47,8 @@ rising (Some e) rises = rises e refl
 
 module _ (top : ℕ) (s : State) (a : Act) where
   -- an act of which the actor or the receiver isn't there
-  pub refused_unknown : (process s (actor a) ≡ None) ⊎ (process s (receiver a) ≡ None) → IsStep top s a (Err fault.Unknown) s
+  pub refused_unknown : (process s (actor a) ≡ None) ⊎ (process s (receiver a) ≡ None)
+      → IsStep top s a (Err fault.Unknown) s
   refused_unknown gone = record {
     steps = tt;
     rises = tt;
@@ -84,7 +96,8 @@ module _ (top : ℕ) (s : State) (a : Act) where
   }
 
 -- the rows after a step
-pub rows_after : (top : ℕ) (ps : List Pid) (ls ls2 : List LocalState) (bs bs2 : List (List Message)) (a : Act) (told : Told)
+pub rows_after
+    : (top : ℕ) (ps : List Pid) (ls ls2 : List LocalState) (bs bs2 : List (List Message)) (a : Act) (told : Told)
     → AreRows top ps ls bs → length ls2 ≡ length ls → length bs2 ≡ length bs
     → step top (state_of ps ls bs) a ≡ Some (outcome_to told (state_of ps ls2 bs2)) → AreRows top ps ls2 bs2
 rows_after top ps ls ls2 bs bs2 a told rows locals queues steps = record {

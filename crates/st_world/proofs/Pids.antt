@@ -1,5 +1,5 @@
--- Pids that rise strictly stand once and by rising node, since the order goes by node first: so a search for where a test
--- on nodes changes its answer finds the processes of a node.
+-- Pids that rise strictly stand once and by rising node, since the order goes by node first: so a search for where a
+-- test on nodes changes its answer finds the processes of a node.
 use Rattle.std.proofs.Common.{◌≡◌, ℕ, ◌<◌, ◌≤◌, ◌+◌, zero, suc, Bool, true, false, List, [], ◌∷◌, length, get_or, take}
 use Rattle.std.proofs.Common.{IsTrue, ◌↔◌, ltb, leb, refl, sym, ◌∙◌, ap, arith, inl, inr, ◌⊎◌}
 use Rattle.indexmap.specs.IndexSet.{insert_key}

@@ -1,5 +1,5 @@
--- The number of a pid among the pids is the place of its process in the state, since the rows are of one length and pids
--- that rise stand once: so look-ups and writes at one number of the rows are those at one place of the state.
+-- The number of a pid among the pids is the place of its process in the state, since the rows are of one length and
+-- pids that rise stand once: so look-ups and writes at one number of the rows are those at one place of the state.
 use Rattle.std.proofs.Common.{◌≡◌, ℕ, ◌+◌, ◌<◌, ◌≤◌, nat_lt, zero, suc, Bool, true, false, cond, List, [], ◌∷◌, length}
 use Rattle.std.proofs.Common.{get_or, set, replicate, Some, None, position, slice_get, refl, sym, ◌∙◌, ap, arith}
 use Rattle.std.specs.List.{AllByRecursion, position_or_len}
@@ -105,7 +105,8 @@ cond_none false n h = refl
 pub number_within : (ps : List Pid) (q : Pid) (i : ℕ) → position (λ p. pid_eq p q) ps ≡ Some i → i < length ps
 number_within ps q i h = (position-Some (λ p. pid_eq p q) ps i q h).0
 
-module _ (ps : List Pid) (ls : List LocalState) (bs : List (List Message)) (aligned : AreAligned ps ls bs) (q : Pid) where
+module _ (ps : List Pid) (ls : List LocalState) (bs : List (List Message)) (aligned : AreAligned ps ls bs)
+    (q : Pid) where
   -- a pid that stands nowhere is unknown
   pub unknown : position (λ p. pid_eq p q) ps ≡ None → process (state_of ps ls bs) q ≡ None
   unknown h =
@@ -117,7 +118,8 @@ module _ (ps : List Pid) (ls : List LocalState) (bs : List (List Message)) (alig
 
   module _ (i : ℕ) (at : position (λ p. pid_eq p q) ps ≡ Some i) where
     -- its process stands there, where it keeps l
-    pub stands : (l : LocalState) → l ≡ get_or ls i l → StandsAt (state_of ps ls bs) q i (process_of q l (get_or bs i []))
+    pub stands : (l : LocalState) → l ≡ get_or ls i l
+        → StandsAt (state_of ps ls bs) q i (process_of q l (get_or bs i []))
     stands l el =
         let facts = position-Some (λ p. pid_eq p q) ps i q at in
         let place = (cond_some _ _ _ at).1 in

@@ -1,5 +1,5 @@
--- In a state in which no pid stands twice, the definition's step changes the actor's record alone, at its place, before the
--- act reaches others: a map that leaves all records but one is a write at that one's place.
+-- In a state in which no pid stands twice, the definition's step changes the actor's record alone, at its place,
+-- before the act reaches others: a map that leaves all records but one is a write at that one's place.
 use Rattle.std.proofs.Common.{◌≡◌, ℕ, zero, suc, false, if◌then◌else◌, List, [], ◌∷◌, map, set, Some, None, slice_get}
 use Rattle.std.proofs.Common.{option_map, option_and_then, refl, sym, ◌∙◌, ap, subst}
 use Rattle.std.specs.List.{AllByRecursion}
@@ -90,14 +90,17 @@ step_no_actor top s a gone = rw gone refl
 -- nor without a send's receiver
 pub step_no_receiver : (top : ℕ) (s : State) (a : Act) → process s (receiver a) ≡ None → step top s a ≡ None
 step_no_receiver top s a gone =
-    let rest = λ (r : Process). option_and_then (λ _. option_map (outcome_of s a) (acted top r a)) (process s (receiver a)) in
+    let rest =
+    λ (r : Process). option_and_then (λ _. option_map (outcome_of s a) (acted top r a)) (process s (receiver a)) in
     elim (process s (actor a)) as (λ o. option_and_then rest o ≡ None) [ None ↦ refl | Some r ↦ rw gone refl ]
 
 -- where the actor's part has no value, the act has no step
 pub step_full : (top : ℕ) (s : State) (a : Act) (r : Process)
     → process s (actor a) ≡ Some r → acted top r a ≡ None → step top s a ≡ None
 step_full top s a r found full =
-    rw found (elim (process s (receiver a)) as (λ o. option_and_then (λ _. option_map (outcome_of s a) (acted top r a)) o ≡ None) [
+    rw found
+    (elim (process s (receiver a)) as
+    (λ o. option_and_then (λ _. option_map (outcome_of s a) (acted top r a)) o ≡ None) [
       | None ↦ refl
       | Some q ↦ rw full refl
     ])

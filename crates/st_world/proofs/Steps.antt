@@ -1,5 +1,5 @@
--- For each kind of act the definition's step over the rows of a world is what the code writes at one or two numbers of them,
--- since an act of one process changes its record alone, and a send one queue beside it.
+-- For each kind of act the definition's step over the rows of a world is what the code writes at one or two numbers
+-- of them, since an act of one process changes its record alone, and a send one queue beside it.
 use Rattle.std.proofs.Common.{IsSome, ◌≡◌, ℕ, ◌<◌, true, false, List, [], ◌∷◌, ◌++◌, map, length, get_or, set, All}
 use Rattle.std.proofs.Common.{Option, Some, None, position, refl, sym, ◌∙◌, ap, arith}
 use Rattle.std.specs.Option.{ForSome}
@@ -74,7 +74,8 @@ stamped_fits : (top : ℕ) (p : Pid) (token : Option Token) → ForSome token (I
 stamped_fits top p None stamped = tt
 stamped_fits top p (Some t) stamped = (stamped t refl).within
 
-module _ (top : ℕ) (ps : List Pid) (ls : List LocalState) (bs : List (List Message)) (aligned : AreAligned ps ls bs) where
+module _ (top : ℕ) (ps : List Pid) (ls : List LocalState) (bs : List (List Message))
+    (aligned : AreAligned ps ls bs) where
   -- q stands at number i
   abbrev IsAt : Pid → ℕ → Type 0
   IsAt q i = position (λ p. pid_eq p q) ps ≡ Some i
@@ -176,7 +177,8 @@ told_of_send q v l l2 = record {
 }
 
 -- a send: the actor's part, and then its message at the end of the receiver's queue
-pub step_send : (top : ℕ) (ps : List Pid) (ls : List LocalState) (bs : List (List Message)) (aligned : AreAligned ps ls bs)
+pub step_send
+    : (top : ℕ) (ps : List Pid) (ls : List LocalState) (bs : List (List Message)) (aligned : AreAligned ps ls bs)
     → (p q : Pid) (v : ℕ) (i j : ℕ) (l l2 : LocalState)
     → position (λ x. pid_eq x p) ps ≡ Some i → position (λ x. pid_eq x q) ps ≡ Some j
     → l ≡ get_or ls i l → stamp_any top p l ≡ Some l2

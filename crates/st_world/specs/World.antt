@@ -1,11 +1,14 @@
 -- What the public calls of a world answer.
 use Rattle.std.specs.Prelude.{◌≡◌, ℕ, ◌<◌, ◌≤◌, Bool, true, false, ◌⊎◌, List, Option, Some, None, Result, Err}
-use Rattle.std.specs.Prelude.{IsSome, IfSome, IfOk, IfErr, OnErr, option_and_then, position}
+use Rattle.std.specs.Prelude.{IsSome, IfSome, IfOk, IfErr, OnErr, All, option_and_then, position}
+use Rattle.std.specs.Option.{ForSome}
 use Rattle.st_core.specs.declared.types.Pid.{Pid}
 use Rattle.st_core.specs.declared.types.Token.{Token}
+use Rattle.st_core.specs.declared.types.Message.{Message}
 use Rattle.st_core.specs.declared.types.Event.{Event}
 use Rattle.st_core.specs.declared.types.Act.{Act}
 use Rattle.st_core.specs.declared.types.Act.TheVariants as act
+use Rattle.st_core.specs.Laws.{IsStamped}
 use Rattle.st_core.specs.Pid.{IsRising}
 use Rattle.st_core.specs.State.{LocalState, State, process}
 use Rattle.st_core.specs.Step.{Outcome, actor, receiver, step}
@@ -51,6 +54,10 @@ place_in s p from this =
 pub record AreOrdered (top : ℕ) (l : LocalState) : Type 0 where
   pub last : l.last ≤ l.clock
   pub clock : l.clock ≤ top
+
+-- each token in the queue was stamped by the sender of its message
+abbrev pub AreStamped : ℕ → List Message → Type 0
+AreStamped top queue = All (λ m. ForSome m.token (IsStamped top m.from)) queue
 
 -- the serial of the event rises: what was known before is below its own count
 abbrev pub Rises : Event → Type 0

@@ -11,7 +11,7 @@ use st_core::{Act, Local, Pid};
 use st_mail::Mailboxes;
 
 /// Wipes each process of the node of `me`, and the tokens in its queue.
-pub fn reset<const TOP: u64>(
+pub(crate) fn reset<const TOP: u64>(
     me: Pid,
     pids: &[Pid],
     locals: &mut [Local<TOP>],
@@ -30,7 +30,7 @@ pub fn reset<const TOP: u64>(
 }
 
 /// Turns tracing on or off in each process of the node of `me`.
-pub fn trace<const TOP: u64>(me: Pid, on: bool, pids: &[Pid], locals: &mut [Local<TOP>])
+pub(crate) fn trace<const TOP: u64>(me: Pid, on: bool, pids: &[Pid], locals: &mut [Local<TOP>])
     requires rising { IsRising pids.now }
     requires len { length locals.old ≡ length pids.now }
     ensures { (queues : List (List Message)) → length queues ≡ length pids.now

@@ -12,7 +12,7 @@ use st_core::{Local, Pid};
 use std::alloc::{AllocError, Global};
 
 /// Whether the pids rise strictly.
-pub fn is_rising(pids: &[Pid]) -> bool
+pub(crate) fn is_rising(pids: &[Pid]) -> bool
     ensures { IsTrue result ↔ IsRising pids.now }
 {
     pids.is_sorted_by(
@@ -23,7 +23,7 @@ pub fn is_rising(pids: &[Pid]) -> bool
 }
 
 /// The pids, numbered in their order.
-pub fn numbered(alloc: Global, pids: &[Pid]) -> Result<IndexSet<Pid>, AllocError>
+pub(crate) fn numbered(alloc: Global, pids: &[Pid]) -> Result<IndexSet<Pid>, AllocError>
     requires { IsRising pids.now }
     ensures { IfOk result (λ set. set.keys ≡ pids.now) }
 {
@@ -37,7 +37,10 @@ pub fn numbered(alloc: Global, pids: &[Pid]) -> Result<IndexSet<Pid>, AllocError
 }
 
 /// What as many processes keep at the start.
-pub fn zeros<const TOP: u64>(alloc: Global, count: usize) -> Result<Vec<Local<TOP>>, AllocError>
+pub(crate) fn zeros<const TOP: u64>(
+    alloc: Global,
+    count: usize,
+) -> Result<Vec<Local<TOP>>, AllocError>
     ensures { IfOk result (λ locals. locals.items ≡ replicate count zero_local) }
 {
     let mut locals = Vec::new(alloc);
@@ -48,14 +51,14 @@ pub fn zeros<const TOP: u64>(alloc: Global, count: usize) -> Result<Vec<Local<TO
 }
 
 /// The number of the process.
-pub fn number_of(pids: &IndexSet<Pid>, pid: Pid) -> Option<usize>
+pub(crate) fn number_of(pids: &IndexSet<Pid>, pid: Pid) -> Option<usize>
     ensures { result ≡ position (λ p. pid_eq p pid) pids.now.keys }
 {
     pids.get_index_of(&pid)
 }
 
 /// From which number on and up to which the processes of the node stand.
-pub fn node_range(pids: &[Pid], node: u16) -> (usize, usize)
+pub(crate) fn node_range(pids: &[Pid], node: u16) -> (usize, usize)
     requires { IsRising pids.now }
     ensures { IsNodeRange node pids.now result.0 result.1 }
 {

@@ -56,11 +56,10 @@ fn play<const TOP: u64>(rt: &impl Abort, world: &mut World<TOP>, acts: &[Played]
 }
 
 /// Plays acts, each of which must have a step.
-fn run<const TOP: u64>(world: &mut World<TOP>, acts: &[Act]) -> Result<(), StepFault> {
+fn run<const TOP: u64>(rt: &impl Abort, world: &mut World<TOP>, acts: &[Act]) {
     for act in acts {
-        let _told = world.step(act)?;
+        assert!(rt; world.step(act).is_ok(), "{act:?}");
     }
-    Ok(())
 }
 
 /// Asserts the clock and the last count of a process.
@@ -122,7 +121,7 @@ fn assert_queued<const TOP: u64>(rt: &impl Abort, world: &World<TOP>, place: Opt
 #[test]
 fn reset_with_a_queued_message(rt: HostRuntime) -> Result<(), Fail> {
     let mut world = World::<9>::new(rt.alloc(), &[p30(), p31()])?;
-    run(&mut world, &traced_send(p30(), p31()))?;
+    run(&rt, &mut world, &traced_send(p30(), p31()));
     assert_counts(&rt, &world, p30(), 1, 0);
     assert_queued(&rt, &world, Some(0));
     let reset = [
@@ -140,12 +139,12 @@ fn reset_with_a_queued_message(rt: HostRuntime) -> Result<(), Fail> {
 fn reset_leaves_the_other_node(rt: HostRuntime) -> Result<(), Fail> {
     let (near, far) = (Pid::on(1, 30), Pid::on(2, 31));
     let mut world = World::<9>::new(rt.alloc(), &[near, far])?;
-    run(&mut world, &[Act::Tracer(far, true)])?;
-    run(&mut world, &traced_send(near, far))?;
+    run(&rt, &mut world, &[Act::Tracer(far, true)]);
+    run(&rt, &mut world, &traced_send(near, far));
     assert_counts(&rt, &world, near, 1, 0);
-    run(&mut world, &[Act::Reset(near)])?;
+    run(&rt, &mut world, &[Act::Reset(near)]);
     assert_counts(&rt, &world, near, 0, 0);
-    run(&mut world, &traced_send(near, far))?;
+    run(&rt, &mut world, &traced_send(near, far));
     let taken = (Act::Receive(far, Want::First), received(near, far));
     play(&rt, &mut world, &[taken, taken]);
     Ok(())
@@ -242,7 +241,7 @@ fn two_sends() -> [Act; 11] {
 #[test]
 fn low_serial_receive(rt: HostRuntime) -> Result<(), Fail> {
     let mut world = World::<9>::new(rt.alloc(), &[p30(), p31(), p32()])?;
-    run(&mut world, &two_sends())?;
+    run(&rt, &mut world, &two_sends());
     let first = Act::Receive(p31(), Want::First);
     play(&rt, &mut world, &[(first, mail(p30(), 5, 0))]);
     assert_counts(&rt, &world, p31(), 5, 5);
@@ -333,7 +332,11 @@ fn two_at_last(rt: &impl Abort, alloc: Global) -> Result<World<9>, Fail> {
             World::new(alloc, &pids)?
         }
     };
-    run(&mut world, &[Act::Set(p30(), Component::Label(Label(1)))])?;
+    run(
+        rt,
+        &mut world,
+        &[Act::Set(p30(), Component::Label(Label(1)))],
+    );
     Ok(world)
 }
 

@@ -6,7 +6,8 @@ ghost use Rattle.st_core.specs.Pid.{IsRising};
 ghost use Rattle.st_core.specs.State.{process, zero_state};
 ghost use Rattle.st_core.specs.Step.{actor, step};
 ghost use Rattle.st_mail.specs.Actor.{is_inner};
-ghost use Rattle.st_world.specs.World.{is_send, outcome_to, place_in, token_of, AreOrdered, IsFault, IsNewFault, IsStep, Rises};
+ghost use Rattle.st_world.specs.World.{is_send, outcome_to, place_in, token_of, AreOrdered, AreStamped};
+ghost use Rattle.st_world.specs.World.{IsFault, IsNewFault, IsStep, Rises};
 
 use crate::node::{reset, trace};
 use crate::outcome::{NewFault, StepFault};
@@ -104,9 +105,11 @@ impl<const TOP: u64> World<TOP> {
     }
 
     /// In the queue of the process the least place whose message has a token with this from and
-    /// this own count. None where there is no such message, and where the process is unknown.
+    /// this own count: that message is from the process that stamped the token. None where there is
+    /// no such message, and where the process is unknown.
     pub fn place_of(&self, pid: Pid, from: Pid, this: u64) -> Option<u64>
-        ensures { result ≡ place_in self.now pid from this }
+        ensures value { result ≡ place_in self.now pid from this }
+        ensures stamped { IfSome (process self.now pid) (λ r. AreStamped TOP r.queue) }
     {
         let Some(number) = number_of(&self.pids, pid) else {
             return None;
@@ -116,14 +119,16 @@ impl<const TOP: u64> World<TOP> {
 
     /// One act. An act has a step where its actor is there, with a send's receiver, and where its
     /// stamp, if it has one, has a value: refusals come in this order. After a refusal the world is
-    /// as before. No act but a send takes memory, so only a send can be refused for want of it.
+    /// as before. No act but a send takes memory, so only a send can be refused for want of it; what
+    /// room there is for messages is no part of the state that a contract sees.
     pub fn step(&mut self, act: &Act) -> Result<Outcome, StepFault>
         ensures step { IfOk result (λ told. step TOP self.old act.now ≡ Some (outcome_to told self.new)) }
         ensures rises { IfOk result (λ told. IfSome told.report Rises) }
 
         ensures err { OnErr result (self.new ≡ self.old) }
         ensures fault { IfErr result (IsFault TOP self.old act.now) }
-        ensures no_step { IfErr result (λ fault. (fault ≡ StepFault.Memory) ⊎ (step TOP self.old act.now ≡ None)) }
+        ensures no_step { IfErr result (λ fault.
+            (fault ≡ StepFault.Memory) ⊎ (step TOP self.old act.now ≡ None)) }
         ensures memory { result ≡ Err StepFault.Memory → is_send act.now ≡ true }
     {
         match *act {

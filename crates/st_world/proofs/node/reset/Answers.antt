@@ -1,5 +1,7 @@
--- One turn wipes the process of its number, and its queue, which is what a reset does to it; those of other nodes it leaves.
-use Rattle.std.proofs.Common.{ℕ, List, ◌≡◌, ◌<◌, [], None, length, map, get_or, set, take, drop, ◌++◌, sym, ◌∙◌, ap, arith}
+-- One turn wipes the process of its number, and its queue, which is what a reset does to it; those of other nodes it
+-- leaves.
+use Rattle.std.proofs.Common.{ℕ, List, ◌≡◌, ◌<◌, [], None, length, map, get_or, set, take, drop, ◌++◌, sym, ◌∙◌}
+use Rattle.std.proofs.Common.{ap, arith}
 use Rattle.std.proofs.lemmas.List.{get_or_default, length-set}
 use Rattle.st_core.specs.declared.types.Act.TheVariants as act
 use Rattle.st_core.specs.declared.types.Message.{Message}
@@ -69,4 +71,5 @@ returns-clause-state g c =
     let last : c.loop-number.number ≡ c.node_range-first.result.1 = omega arith in
     c.loop-number.invariant.so_far
     ∙ ap (λ n. map f (take n state) ++ drop n state) last
-    ∙ ends c.args.me.node c.args.pids.now start end range f (other_reset c.args.me) c.args.locals.now c.args.queues.now.boxes
+    ∙ ends c.args.me.node c.args.pids.now start end range f (other_reset c.args.me) c.args.locals.now
+    c.args.queues.now.boxes

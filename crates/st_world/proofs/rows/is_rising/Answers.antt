@@ -1,3 +1,4 @@
+-- What `is_sorted_by` answers is whether each pid is below the next, and so whether they rise.
 use Rattle.std.proofs.Common.{rules}
 use Rattle.std.specs.Ordering.{is_lt}
 use Rattle.std.proofs.lemmas.Fn.{always_returns_same}
@@ -6,4 +7,6 @@ use Rattle.st_world.proofs.Pids.{rising_from_answer}
 use Rattle.st_world.proofs.rows.is_rising.Goals as goal
 
 pub returns : goal.returns
-returns c = rising_from_answer c.args.pids.now c.is_sorted_by.result (c.is_sorted_by.ensures.cases (λ x y. is_lt (pid_cmp x y)) (always_returns_same _ _ _ (λ a r f k. search rules)))
+returns c =
+    rising_from_answer c.args.pids.now c.is_sorted_by.result
+    (c.is_sorted_by.ensures.cases (λ x y. is_lt (pid_cmp x y)) (always_returns_same _ _ _ (λ a r f k. search rules)))

@@ -1,3 +1,4 @@
+-- The set has the pids so far, in their order.
 use Rattle.std.proofs.Common.{◌≡◌, take}
 use Rattle.st_world.proofs.rows.numbered.Given as goal
 

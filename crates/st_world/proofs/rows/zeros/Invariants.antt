@@ -1,3 +1,4 @@
+-- So many processes have what each has at the start.
 use Rattle.std.proofs.Common.{◌≡◌, replicate}
 use Rattle.st_core.specs.State.{zero_local}
 use Rattle.st_world.proofs.rows.zeros.Given as goal

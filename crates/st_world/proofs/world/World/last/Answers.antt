@@ -13,9 +13,11 @@ returns-in_default-clause-value g c =
     let ps = c.self.inside.pids.keys in
     let ls = c.self.inside.locals.items in
     let bs = c.self.inside.queues.boxes in
-    let at : position (λ p. pid_eq p c.args.pid) c.self.inside.pids.keys ≡ None = sym c.number_of.ensures ∙ c.in_default.is in
+    let at : position (λ p. pid_eq p c.args.pid) c.self.inside.pids.keys ≡ None =
+    sym c.number_of.ensures ∙ c.in_default.is in
     let gone = unknown ps ls bs c.self.invariant.aligned c.args.pid at in
-    reads (λ (o : Option Process). option_map (λ r. r.local.last) o) (state_of ps ls bs) c.args.self.now c.args.pid None c.self.view_is gone
+    reads (λ (o : Option Process). option_map (λ r. r.local.last) o) (state_of ps ls bs) c.args.self.now c.args.pid
+    None c.self.view_is gone
 
 pub returns-clause-value : goal.returns-clause-value
 returns-clause-value g c =
@@ -26,9 +28,11 @@ returns-clause-value g c =
     let at : position (λ p. pid_eq p c.args.pid) c.self.inside.pids.keys ≡ Some c.in-Some.number =
     sym c.number_of.ensures ∙ c.in-Some.is in
     let here = stands ps ls bs c.self.invariant.aligned c.args.pid i at c.index.result.now c.index.ensures in
-    let own : Process = process_of c.args.pid c.index.result.now (get_or c.self.inside.queues.boxes c.in-Some.number []) in
+    let own : Process =
+    process_of c.args.pid c.index.result.now (get_or c.self.inside.queues.boxes c.in-Some.number []) in
     ap Some c.last.ensures.value
-    ∙ reads (λ (o : Option Process). option_map (λ r. r.local.last) o) (state_of ps ls bs) c.args.self.now c.args.pid (Some own) c.self.view_is here.found
+    ∙ reads (λ (o : Option Process). option_map (λ r. r.local.last) o) (state_of ps ls bs) c.args.self.now c.args.pid
+    (Some own) c.self.view_is here.found
 
 pub returns-in_default-clause-ordered : goal.returns-in_default-clause-ordered
 returns-in_default-clause-ordered g c =

@@ -17,16 +17,19 @@ returns-in_default g c =
     let ps = c.self.inside.pids.keys in
     let ls = c.self.inside.locals.items in
     let bs = c.self.inside.queues.boxes in
-    let at : position (λ p. pid_eq p c.args.me) c.self.inside.pids.keys ≡ None = sym c.number_of.ensures ∙ c.in_default.is in
+    let at : position (λ p. pid_eq p c.args.me) c.self.inside.pids.keys ≡ None =
+    sym c.number_of.ensures ∙ c.in_default.is in
     let gone = unknown ps ls bs c.self.invariant.aligned c.args.me at in
-    rw (← c.self.view_is) (refused_unknown g.row.TOP (state_of ps ls bs) (act.Receive c.args.me c.args.want.now) (inl gone))
+    rw (← c.self.view_is)
+    (refused_unknown g.row.TOP (state_of ps ls bs) (act.Receive c.args.me c.args.want.now) (inl gone))
 
 pub receive-requires : goal.receive-requires
 receive-requires g c =
     let ps = c.self.inside.pids.keys in
     let ls = c.self.inside.locals.items in
     let bs = c.self.inside.queues.boxes in
-    let at : position (λ p. pid_eq p c.args.me) c.self.inside.pids.keys ≡ Some c.in-Some.number = sym c.number_of.ensures ∙ c.in-Some.is in
+    let at : position (λ p. pid_eq p c.args.me) c.self.inside.pids.keys ≡ Some c.in-Some.number =
+    sym c.number_of.ensures ∙ c.in-Some.is in
     let i = c.in-Some.number in
     let aligned = c.self.invariant.aligned in
     let fit = queue_fits g.row.TOP ps ls bs aligned c.self.invariant.sound c.args.me i c.index_mut.result.now at
@@ -42,11 +45,13 @@ invariant_of-self g c =
     let l2 = c.receive.new.local in
     let bs2 = c.receive.new.queues.boxes in
     let told = c.receive.result in
-    let at : position (λ p. pid_eq p c.args.me) c.self.inside.pids.keys ≡ Some c.in-Some.number = sym c.number_of.ensures ∙ c.in-Some.is in
+    let at : position (λ p. pid_eq p c.args.me) c.self.inside.pids.keys ≡ Some c.in-Some.number =
+    sym c.number_of.ensures ∙ c.in-Some.is in
     let steps =
     step_receive g.row.TOP ps ls bs c.self.invariant.aligned c.args.me c.args.want.now i c.index_mut.result.now told l2
     (queue_in bs2 i) at c.index_mut.ensures.value c.receive.ensures.acted
-    ∙ ap (λ (x : List (List Message)). Some (outcome_to told (state_of ps (set ls i l2) x))) (sym c.receive.ensures.others) in
+    ∙ ap (λ (x : List (List Message)). Some (outcome_to told (state_of ps (set ls i l2) x)))
+    (sym c.receive.ensures.others) in
     let queues = ap length c.receive.ensures.others ∙ length-set bs i (queue_in bs2 i) in
     rows_after g.row.TOP ps ls (set ls i l2) bs bs2 (act.Receive c.args.me c.args.want.now) told c.self.invariant
     (length-set ls i l2) queues steps
@@ -60,11 +65,13 @@ returns g c =
     let l2 = c.receive.new.local in
     let bs2 = c.receive.new.queues.boxes in
     let told = c.receive.result in
-    let at : position (λ p. pid_eq p c.args.me) c.self.inside.pids.keys ≡ Some c.in-Some.number = sym c.number_of.ensures ∙ c.in-Some.is in
+    let at : position (λ p. pid_eq p c.args.me) c.self.inside.pids.keys ≡ Some c.in-Some.number =
+    sym c.number_of.ensures ∙ c.in-Some.is in
     let steps =
     step_receive g.row.TOP ps ls bs c.self.invariant.aligned c.args.me c.args.want.now i c.index_mut.result.now told l2
     (queue_in bs2 i) at c.index_mut.ensures.value c.receive.ensures.acted
-    ∙ ap (λ (x : List (List Message)). Some (outcome_to told (state_of ps (set ls i l2) x))) (sym c.receive.ensures.others) in
+    ∙ ap (λ (x : List (List Message)). Some (outcome_to told (state_of ps (set ls i l2) x)))
+    (sym c.receive.ensures.others) in
     rw (← c.self.view_is)
     (answered g.row.TOP (state_of ps ls bs) (act.Receive c.args.me c.args.want.now) told
     (state_of ps (set ls i l2) bs2) c.self.invariant.sound steps)

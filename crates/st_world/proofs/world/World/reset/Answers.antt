@@ -19,7 +19,8 @@ returns-in_default g c =
     let ps = c.self.inside.pids.keys in
     let ls = c.self.inside.locals.items in
     let bs = c.self.inside.queues.boxes in
-    let at : position (λ p. pid_eq p c.args.me) c.self.inside.pids.keys ≡ None = sym c.number_of.ensures ∙ c.in_default.is in
+    let at : position (λ p. pid_eq p c.args.me) c.self.inside.pids.keys ≡ None =
+    sym c.number_of.ensures ∙ c.in_default.is in
     let gone = unknown ps ls bs c.self.invariant.aligned c.args.me at in
     rw (← c.self.view_is) (refused_unknown g.row.TOP (state_of ps ls bs) (act.Reset c.args.me) (inl gone))
 
@@ -30,8 +31,13 @@ invariant_of-self g c =
     let bs = c.self.inside.queues.boxes in
     let i = c.in-Some.field-0 in
     let l : LocalState = get_or c.self.inside.locals.items c.in-Some.field-0 zero_local in
-    let at : position (λ p. pid_eq p c.args.me) c.self.inside.pids.keys ≡ Some c.in-Some.field-0 = sym c.number_of.ensures ∙ c.in-Some.is in
-    let node = step_node g.row.TOP ps ls bs c.self.invariant.aligned (act.Reset c.args.me) i l reply.Done refl (λ t x. refl) at (get_or_default ls i zero_local l (omega (arith, number_within ps c.args.me i at, c.self.invariant.aligned.locals_len))) refl in
+    let at : position (λ p. pid_eq p c.args.me) c.self.inside.pids.keys ≡ Some c.in-Some.field-0 =
+    sym c.number_of.ensures ∙ c.in-Some.is in
+    let node =
+    step_node g.row.TOP ps ls bs c.self.invariant.aligned (act.Reset c.args.me) i l reply.Done refl (λ t x. refl) at
+    (get_or_default ls i zero_local l
+    (omega (arith, number_within ps c.args.me i at, c.self.invariant.aligned.locals_len)))
+    refl in
     let told : Told = record { reply = reply.Done; report = None; place = None } in
     let after = rw (c.as_slice.ensures.keys, c.deref_mut.ensures.value) at c.reset.ensures.state in
     let aligned = c.reset.ensures.aligned in
@@ -39,8 +45,10 @@ invariant_of-self g c =
     with_items_is c.self.inside.locals c.reset.new.locals (c.reset.auto.locals ∙ c.deref_mut.ensures.len) in
     let written = ap (λ x. state_of ps x c.reset.new.queues.boxes) items in
     let steps = node ∙ ap (λ (x : State). Some (outcome_to told x)) (sym (written ∙ after)) in
-    rows_after g.row.TOP ps ls (with_items c.self.inside.locals c.reset.new.locals).items bs c.reset.new.queues.boxes (act.Reset c.args.me) told c.self.invariant
-    (ap length items ∙ c.reset.auto.locals ∙ ap length c.deref_mut.ensures.value) (aligned.queues_len ∙ ap length c.as_slice.ensures.keys ∙ sym c.self.invariant.aligned.queues_len) steps
+    rows_after g.row.TOP ps ls (with_items c.self.inside.locals c.reset.new.locals).items bs c.reset.new.queues.boxes
+    (act.Reset c.args.me) told c.self.invariant
+    (ap length items ∙ c.reset.auto.locals ∙ ap length c.deref_mut.ensures.value)
+    (aligned.queues_len ∙ ap length c.as_slice.ensures.keys ∙ sym c.self.invariant.aligned.queues_len) steps
 
 pub returns : goal.returns
 returns g c =
@@ -49,8 +57,13 @@ returns g c =
     let bs = c.self.inside.queues.boxes in
     let i = c.in-Some.field-0 in
     let l : LocalState = get_or c.self.inside.locals.items c.in-Some.field-0 zero_local in
-    let at : position (λ p. pid_eq p c.args.me) c.self.inside.pids.keys ≡ Some c.in-Some.field-0 = sym c.number_of.ensures ∙ c.in-Some.is in
-    let node = step_node g.row.TOP ps ls bs c.self.invariant.aligned (act.Reset c.args.me) i l reply.Done refl (λ t x. refl) at (get_or_default ls i zero_local l (omega (arith, number_within ps c.args.me i at, c.self.invariant.aligned.locals_len))) refl in
+    let at : position (λ p. pid_eq p c.args.me) c.self.inside.pids.keys ≡ Some c.in-Some.field-0 =
+    sym c.number_of.ensures ∙ c.in-Some.is in
+    let node =
+    step_node g.row.TOP ps ls bs c.self.invariant.aligned (act.Reset c.args.me) i l reply.Done refl (λ t x. refl) at
+    (get_or_default ls i zero_local l
+    (omega (arith, number_within ps c.args.me i at, c.self.invariant.aligned.locals_len)))
+    refl in
     let told : Told = record { reply = reply.Done; report = None; place = None } in
     let after = rw (c.as_slice.ensures.keys, c.deref_mut.ensures.value) at c.reset.ensures.state in
     let aligned = c.reset.ensures.aligned in
@@ -60,4 +73,5 @@ returns g c =
     let steps = node ∙ ap (λ (x : State). Some (outcome_to told x)) (sym (written ∙ after)) in
     rw (← c.self.view_is) (rw c.answer.ensures
     (answered g.row.TOP (state_of ps ls bs) (act.Reset c.args.me) told
-    (state_of ps (with_items c.self.inside.locals c.reset.new.locals).items c.reset.new.queues.boxes) c.self.invariant.sound steps))
+    (state_of ps (with_items c.self.inside.locals c.reset.new.locals).items c.reset.new.queues.boxes)
+    c.self.invariant.sound steps))

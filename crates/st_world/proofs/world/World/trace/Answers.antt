@@ -19,7 +19,8 @@ returns-in_default g c =
     let ps = c.self.inside.pids.keys in
     let ls = c.self.inside.locals.items in
     let bs = c.self.inside.queues.boxes in
-    let at : position (λ p. pid_eq p c.args.me) c.self.inside.pids.keys ≡ None = sym c.number_of.ensures ∙ c.in_default.is in
+    let at : position (λ p. pid_eq p c.args.me) c.self.inside.pids.keys ≡ None =
+    sym c.number_of.ensures ∙ c.in_default.is in
     let gone = unknown ps ls bs c.self.invariant.aligned c.args.me at in
     rw (← c.self.view_is) (refused_unknown g.row.TOP (state_of ps ls bs) (act.Tracer c.args.me c.args.on) (inl gone))
 
@@ -30,8 +31,11 @@ invariant_of-self g c =
     let bs = c.self.inside.queues.boxes in
     let i = c.in-Some.number in
     let l : LocalState = c.index.result.now in
-    let at : position (λ p. pid_eq p c.args.me) c.self.inside.pids.keys ≡ Some c.in-Some.number = sym c.number_of.ensures ∙ c.in-Some.is in
-    let node = step_node g.row.TOP ps ls bs c.self.invariant.aligned (act.Tracer c.args.me c.args.on) i l (reply.Was c.index.result.now.traced) refl (λ t x. refl) at c.index.ensures refl in
+    let at : position (λ p. pid_eq p c.args.me) c.self.inside.pids.keys ≡ Some c.in-Some.number =
+    sym c.number_of.ensures ∙ c.in-Some.is in
+    let node =
+    step_node g.row.TOP ps ls bs c.self.invariant.aligned (act.Tracer c.args.me c.args.on) i l
+    (reply.Was c.index.result.now.traced) refl (λ t x. refl) at c.index.ensures refl in
     let told : Told = record { reply = reply.Was c.index.result.now.traced; report = None; place = None } in
     let len : length c.self.inside.queues.boxes ≡ length c.as_slice.result.now =
     c.self.invariant.aligned.queues_len ∙ ap length (sym c.as_slice.ensures.keys) in
@@ -41,7 +45,8 @@ invariant_of-self g c =
     with_items_is c.self.inside.locals c.trace.new.locals (c.trace.auto.locals ∙ c.deref_mut.ensures.len) in
     let written = ap (λ x. state_of ps x bs) items in
     let steps = node ∙ ap (λ (x : State). Some (outcome_to told x)) (sym (written ∙ after)) in
-    rows_after g.row.TOP ps ls (with_items c.self.inside.locals c.trace.new.locals).items bs bs (act.Tracer c.args.me c.args.on) told c.self.invariant
+    rows_after g.row.TOP ps ls (with_items c.self.inside.locals c.trace.new.locals).items bs bs
+    (act.Tracer c.args.me c.args.on) told c.self.invariant
     (ap length items ∙ c.trace.auto.locals ∙ ap length c.deref_mut.ensures.value) refl steps
 
 pub returns : goal.returns
@@ -51,8 +56,11 @@ returns g c =
     let bs = c.self.inside.queues.boxes in
     let i = c.in-Some.number in
     let l : LocalState = c.index.result.now in
-    let at : position (λ p. pid_eq p c.args.me) c.self.inside.pids.keys ≡ Some c.in-Some.number = sym c.number_of.ensures ∙ c.in-Some.is in
-    let node = step_node g.row.TOP ps ls bs c.self.invariant.aligned (act.Tracer c.args.me c.args.on) i l (reply.Was c.index.result.now.traced) refl (λ t x. refl) at c.index.ensures refl in
+    let at : position (λ p. pid_eq p c.args.me) c.self.inside.pids.keys ≡ Some c.in-Some.number =
+    sym c.number_of.ensures ∙ c.in-Some.is in
+    let node =
+    step_node g.row.TOP ps ls bs c.self.invariant.aligned (act.Tracer c.args.me c.args.on) i l
+    (reply.Was c.index.result.now.traced) refl (λ t x. refl) at c.index.ensures refl in
     let told : Told = record { reply = reply.Was c.index.result.now.traced; report = None; place = None } in
     let len : length c.self.inside.queues.boxes ≡ length c.as_slice.result.now =
     c.self.invariant.aligned.queues_len ∙ ap length (sym c.as_slice.ensures.keys) in
