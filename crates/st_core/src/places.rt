@@ -10,8 +10,9 @@ ghost use Rattle.st_core.specs.Pid.{pid_eq, IsRising};
 
 use crate::types::Pid;
 
-/// How many guesses there are. As many pids whose numbers follow one another don't meet.
-const SLOTS: usize = 2_048;
+/// How many guesses there are. As many pids whose numbers follow one another don't meet; it is twice
+/// the most processes of a text.
+pub(crate) const SLOTS: usize = 2_048;
 
 /// For each slot, where the last pid of that slot stands.
 #[derive(Debug, Drop)]
@@ -19,12 +20,16 @@ pub(crate) struct Places {
     guesses: [u16; SLOTS],
 }
 
-/// The slot of a pid. Pids of equal numbers on nearby nodes don't meet.
+/// How far apart the slots of equal numbers on neighbouring nodes lie, so that these don't meet: a
+/// prime, which shares no factor with the slots.
+const NODE_STEP: usize = 67;
+
+/// The slot of a pid.
 #[inline]
 fn slot_of(pid: Pid) -> usize
-    ensures { result < 2048 }
+    ensures { result < SLOTS }
 {
-    (usize::from(pid.number()) + 67 * usize::from(pid.node())) % SLOTS
+    (usize::from(pid.number()) + NODE_STEP * usize::from(pid.node())) % SLOTS
 }
 
 impl Places {
@@ -35,9 +40,10 @@ impl Places {
         }
     }
 
-    /// Guesses from now on that the pid stands at this place.
+    /// Guesses from now on that the pid stands at this place. One past what a guess can hold is found
+    /// by the search.
     pub(crate) fn expect(&mut self, pid: Pid, place: usize) {
-        self.guesses[slot_of(pid)] = place.min(65_535) as u16;
+        self.guesses[slot_of(pid)] = place.min(usize::from(u16::MAX)) as u16;
     }
 
     /// Where the pid stands among pids that rise.

@@ -4,6 +4,7 @@
 mod devices;
 mod refused;
 
+use crate::places::SLOTS;
 use crate::{
     Act, AddFault, Component, Draft, Event, Flags, Kind, Label, Local, OpenFault, Pid, Sequence,
     Serial, Token,
@@ -145,7 +146,8 @@ fn streams_hold_many_processes_and_events(rt: HostRuntime) -> Result<(), Fail> {
     let streams = draft.close()?;
     assert!(rt; streams.pids().len() == 5_000 && streams.total() == MANY);
     assert!(rt; streams.events(p31()).len() as u64 == MANY);
-    for number in [30, 30 + 2_048, 30 + 2 * 2_048] {
+    let slots = SLOTS as u16;
+    for number in [30, 30 + slots, 30 + 2 * slots] {
         assert!(rt; streams.place_of(Pid::new(number)) == Some(usize::from(number)));
     }
     assert!(rt; streams.place_of(Pid::on(1, 30)).is_none());
