@@ -1,0 +1,69 @@
+-- What each event follows.
+use Rattle.std.specs.Prelude.{◌≡◌, ℕ, ◌+◌, ◌*◌, ◌==◌, ◌&&◌, zero, suc, Bool, true, false, not, List, [], ◌∷◌, Option}
+use Rattle.std.specs.Prelude.{Some, None, if◌then◌else◌, slice_get, option_map}
+use Rattle.st_core.specs.declared.types.Pid.{Pid}
+use Rattle.st_core.specs.declared.types.Event.{Event}
+use Rattle.st_core.specs.Run.{Stream}
+use Rattle.st_core.specs.Streams.{events_of}
+use Rattle.st_pair.specs.declared.answer.Source.{Source}
+use Rattle.st_pair.specs.declared.answer.Source.TheVariants as source
+use Rattle.st_pair.specs.Places.{event_at, is_stamp}
+use Rattle.st_pair.specs.Pairing.{source_of}
+use Rattle.st_chain.specs.declared.cause.Cause.{Cause}
+use Rattle.st_chain.specs.declared.cause.Cause.TheVariants as cause
+
+-- the last receive with this count before index i
+abbrev pub received_before : List Event → ℕ → ℕ → Option ℕ
+received_before es this zero = None
+received_before es this (suc i) = elim (slice_get es i) [
+  | None ↦ received_before es this i
+  | Some e ↦
+      if not (is_stamp e) && e.serial.this == this then Some i else received_before es this i
+]
+
+-- of a receive, its send
+abbrev pub of_source : Source → Cause
+of_source (source.Event q j) = cause.Event q j
+of_source source.Hidden = cause.Hidden
+
+-- of a send or print of p, the receive that its prev is of
+abbrev pub of_receive : Pid → Option ℕ → Cause
+of_receive p None = cause.Start
+of_receive p (Some j) = cause.Event p j
+
+abbrev pub cause_by : List Stream → Pid → ℕ → Event → Cause
+cause_by streams p i e = if is_stamp e then of_receive p
+    (received_before (events_of streams p) e.serial.prev i) else of_source (source_of streams e)
+
+-- what the event at (p, i) follows; none where there is no event
+abbrev pub cause_at : List Stream → Pid → ℕ → Option Cause
+cause_at streams p i = option_map (cause_by streams p i) (event_at streams p i)
+
+-- the event that a cause is, if it is one
+abbrev pub event_in : Option Cause → Option (Pid × ℕ)
+event_in None = None
+event_in (Some (cause.Event q j)) = Some (q, j)
+event_in (Some cause.Hidden) = None
+event_in (Some cause.Start) = None
+
+-- the list goes on from this place, each place the cause of the one before, until Hidden or Start
+abbrev pub IsBackFrom : List Stream → Option (Pid × ℕ) → List (Pid × ℕ) → Type 0
+IsBackFrom streams at [] = at ≡ None
+IsBackFrom streams at (x ∷ rest) = (at ≡ Some x) × IsBackFrom streams (event_in (cause_at streams x.0 x.1)) rest
+
+-- the place of the event at (p, i), if there is one
+abbrev pub place_at : List Stream → Pid → ℕ → Option (Pid × ℕ)
+place_at streams p i = option_map (λ e. (p, i)) (event_at streams p i)
+
+-- how far the way back from a place can be: a cause has a smaller count, or the same and is a send
+abbrev pub weight : Event → ℕ
+weight e = 2 * e.serial.this + (if is_stamp e then 1 else 2)
+
+abbrev pub far : List Stream → Option (Pid × ℕ) → ℕ
+far streams None = 0
+far streams (Some x) = 1 + (elim (event_at streams x.0 x.1) [ None ↦ 0 | Some e ↦ weight e ])
+
+-- of each event from index i on, the last receive before it that its prev is of
+abbrev pub backs_from : List Event → ℕ → List Event → List (Option ℕ)
+backs_from all i [] = []
+backs_from all i (e ∷ es) = received_before all e.serial.prev i ∷ backs_from all (i + 1) es

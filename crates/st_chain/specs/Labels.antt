@@ -1,0 +1,16 @@
+-- The chain of a process and a label: the events that the process reported under it.
+use Rattle.std.specs.Prelude.{ℕ, ◌+◌, ◌==◌, List, [], ◌∷◌, if◌then◌else◌}
+use Rattle.st_core.specs.declared.types.Pid.{Pid}
+use Rattle.st_core.specs.declared.types.Label.{Label}
+use Rattle.st_core.specs.declared.types.Event.{Event}
+use Rattle.st_core.specs.Run.{Stream}
+use Rattle.st_core.specs.Streams.{events_of}
+
+-- the indexes of those of these events that have the label, where the first of them stands at index i
+abbrev pub labelled : Label → ℕ → List Event → List ℕ
+labelled label i [] = []
+labelled label i (e ∷ es) = if e.label.0 == label.0 then i ∷ labelled label (i + 1) es else labelled label (i + 1) es
+
+-- the indexes of p's events with the label, rising
+abbrev pub chain : List Stream → Pid → Label → List ℕ
+chain streams p label = labelled label 0 (events_of streams p)
