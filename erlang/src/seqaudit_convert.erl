@@ -74,7 +74,7 @@ convert(Collections) ->
     Left = Counts#{nameless => length(Nameless)},
     #{seqtrace => Text,
       terms => seqaudit_legend:text(named(Listed, Collections), by_number(Labels),
-                                    by_number(Values)),
+                                    by_number(Values), Numbers),
       notes => seqaudit_notes:notes(Collections, Left, Listed, by_number(Labels), Sizes),
       events => length(Lines), processes => length(Listed),
       dropped => seqaudit_notes:dropped(Collections, Left)}.

@@ -5,7 +5,7 @@
 %% the text of a bundle and in what `seqaudit' answers.
 -module(seqaudit_legend).
 
--export([text/3, read/1, process/2, about/2, label/2, value/2, brief/2]).
+-export([text/4, read/1, process/2, about/2, label/2, value/2, brief/2]).
 -export([find_label/2, format_error/1]).
 -export_type([legend/0]).
 
@@ -20,17 +20,17 @@
 -opaque legend() :: #{{process | about | label | value, binary()} => binary()}.
 
 %% @doc The text of the file: the processes by pid, with a short name and all that is known of each,
-%% then the labels and the values by number.
+%% then the labels and the values by number, with the processes in them by their numbers.
 -spec text([{string(), string(), iodata()}], [{non_neg_integer(), term()}],
-           [{non_neg_integer(), term()}]) -> iolist().
-text(Processes, Labels, Values) ->
+           [{non_neg_integer(), term()}], seqaudit_processes:numbers()) -> iolist().
+text(Processes, Labels, Values, Numbers) ->
     [?HEADER, $\n,
      [utf8(["process\t", Pid, $\t, Name, $\t, What, $\n]) || {Pid, Name, What} <- Processes],
-     [entry("label", Entry) || Entry <- Labels],
-     [entry("value", Entry) || Entry <- Values]].
+     [entry("label", Entry, Numbers) || Entry <- Labels],
+     [entry("value", Entry, Numbers) || Entry <- Values]].
 
-entry(Kind, {Number, Term}) ->
-    utf8([Kind, $\t, integer_to_list(Number), $\t, seqaudit_terms:text(Term), $\n]).
+entry(Kind, {Number, Term}, Numbers) ->
+    utf8([Kind, $\t, integer_to_list(Number), $\t, seqaudit_terms:text(Term, Numbers), $\n]).
 
 utf8(Characters) ->
     unicode:characters_to_binary(Characters).

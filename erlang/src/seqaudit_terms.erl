@@ -4,7 +4,7 @@
 %% grows no faster than the term, and isn't longer than a person reads.
 -module(seqaudit_terms).
 
--export([label_numbers/1, text/1, short/2]).
+-export([label_numbers/1, text/1, text/2, short/2]).
 
 -define(GREATEST_LABEL, 4_294_967_295).
 %% Labels that are no whole numbers in range are numbered from here.
@@ -35,11 +35,19 @@ number_label(Label, {Numbers, Next}) when is_map_key(Next, Numbers) ->
     number_label(Label, {Numbers, Next + 1});
 number_label(Label, {Numbers, Next}) -> {Numbers#{Label => Next}, Next + 1}.
 
-%% @doc The term as Erlang prints it, on one line, cut where it is large.
+%% @equiv text(Term, #{})
 -spec text(term()) -> string().
 text(Term) ->
-    {Cut, _} = cut(Term, ?DEPTH, ?PARTS),
-    short(lists:flatten(io_lib:format("~0tp", [Cut])), ?CHARACTERS).
+    text(Term, #{}).
+
+%% @doc The term as Erlang prints it, on one line, cut where it is large. A process with a number in
+%% the bundle is spelled by it: how Erlang prints one of another node differs from node to node.
+-spec text(term(), seqaudit_processes:numbers()) -> string().
+text(Term, Numbers) ->
+    {Cut, _} = cut(Term, ?DEPTH, ?PARTS, Numbers),
+    Text = lists:flatten(io_lib:format("~0tp", [Cut])),
+    short(re:replace(Text, "'(<[0-9]+\\.[0-9]+\\.0>)'", "\\1",
+                     [global, unicode, {return, list}]), ?CHARACTERS).
 
 %% @doc The text, or its first characters and three dots.
 -spec short(string(), pos_integer()) -> string().
@@ -49,28 +57,30 @@ short(Text, Length) ->
         false -> lists:sublist(Text, Length - 3) ++ "..."
     end.
 
-%% The term with at most so many parts; '...' stands for what is left out. Answers how many parts
-%% are left for what follows.
-cut(_Term, _Depth, 0) -> {'...', 0};
-cut(_Term, 0, Parts) -> {'...', Parts};
-cut([_ | _] = List, Depth, Parts) ->
+%% The term with at most so many parts; '...' stands for what is left out, and an atom for a process.
+%% Answers how many parts are left for what follows.
+cut(_Term, _Depth, 0, _) -> {'...', 0};
+cut(_Term, 0, Parts, _) -> {'...', Parts};
+cut([_ | _] = List, Depth, Parts, Numbers) ->
     Begin = begin_of(List, ?BYTES),
     case io_lib:printable_unicode_list(Begin) of
         true when length(Begin) < ?BYTES -> {Begin, Parts - 1};
         true -> {Begin ++ "...", Parts - 1};
-        false -> cut_list(List, Depth - 1, Parts - 1, [])
+        false -> cut_list(List, Depth - 1, Parts - 1, Numbers, [])
     end;
-cut(Tuple, Depth, Parts) when is_tuple(Tuple) ->
-    {Cut, Left} = cut_tuple(Tuple, 1, Depth - 1, Parts - 1, []),
+cut(Tuple, Depth, Parts, Numbers) when is_tuple(Tuple) ->
+    {Cut, Left} = cut_tuple(Tuple, 1, Depth - 1, Parts - 1, Numbers, []),
     {list_to_tuple(Cut), Left};
-cut(Map, Depth, Parts) when is_map(Map) ->
-    cut_map(maps:next(maps:iterator(Map)), Depth - 1, Parts - 1, #{});
-cut(Bits, _Depth, Parts) when bit_size(Bits) > 8 * ?BYTES ->
+cut(Map, Depth, Parts, Numbers) when is_map(Map) ->
+    cut_map(maps:next(maps:iterator(Map)), Depth - 1, Parts - 1, Numbers, #{});
+cut(Bits, _Depth, Parts, _) when bit_size(Bits) > 8 * ?BYTES ->
     <<Begin:?BYTES/binary, _/bitstring>> = Bits,
     {{Begin, '...', {bytes, byte_size(Bits)}}, Parts - 1};
-cut(Number, _Depth, Parts) when is_integer(Number), abs(Number) >= 1 bsl (8 * ?BYTES) ->
+cut(Number, _Depth, Parts, _) when is_integer(Number), abs(Number) >= 1 bsl (8 * ?BYTES) ->
     {{'...', {number_of_bytes, byte_size(binary:encode_unsigned(abs(Number)))}}, Parts - 1};
-cut(Term, _Depth, Parts) ->
+cut(Pid, _Depth, Parts, Numbers) when is_map_key(Pid, Numbers), is_pid(Pid) ->
+    {list_to_atom(seqaudit_processes:spell(maps:get(Pid, Numbers))), Parts - 1};
+cut(Term, _Depth, Parts, _) ->
     {Term, Parts - 1}.
 
 %% The first elements of a list; of one that doesn't end in [] something that is no text.
@@ -78,25 +88,25 @@ begin_of([Head | Tail], Count) when Count > 0 -> [Head | begin_of(Tail, Count - 
 begin_of(Tail, Count) when Tail =:= []; Count =:= 0 -> [];
 begin_of(_, _) -> [improper].
 
-cut_list([_ | _], _Depth, 0, Done) -> {lists:reverse(Done, ['...']), 0};
-cut_list([Head | Tail], Depth, Parts, Done) ->
-    {Cut, Left} = cut(Head, Depth, Parts),
-    cut_list(Tail, Depth, Left, [Cut | Done]);
-cut_list([], _Depth, Parts, Done) -> {lists:reverse(Done), Parts};
-cut_list(Tail, Depth, Parts, Done) ->
-    {Cut, Left} = cut(Tail, Depth, Parts),
+cut_list([_ | _], _Depth, 0, _, Done) -> {lists:reverse(Done, ['...']), 0};
+cut_list([Head | Tail], Depth, Parts, Numbers, Done) ->
+    {Cut, Left} = cut(Head, Depth, Parts, Numbers),
+    cut_list(Tail, Depth, Left, Numbers, [Cut | Done]);
+cut_list([], _Depth, Parts, _, Done) -> {lists:reverse(Done), Parts};
+cut_list(Tail, Depth, Parts, Numbers, Done) ->
+    {Cut, Left} = cut(Tail, Depth, Parts, Numbers),
     {lists:reverse(Done, Cut), Left}.
 
-cut_tuple(Tuple, Place, _Depth, Parts, Done) when Place > tuple_size(Tuple) ->
+cut_tuple(Tuple, Place, _Depth, Parts, _, Done) when Place > tuple_size(Tuple) ->
     {lists:reverse(Done), Parts};
-cut_tuple(_Tuple, _Place, _Depth, 0, Done) -> {lists:reverse(Done, ['...']), 0};
-cut_tuple(Tuple, Place, Depth, Parts, Done) ->
-    {Cut, Left} = cut(element(Place, Tuple), Depth, Parts),
-    cut_tuple(Tuple, Place + 1, Depth, Left, [Cut | Done]).
+cut_tuple(_Tuple, _Place, _Depth, 0, _, Done) -> {lists:reverse(Done, ['...']), 0};
+cut_tuple(Tuple, Place, Depth, Parts, Numbers, Done) ->
+    {Cut, Left} = cut(element(Place, Tuple), Depth, Parts, Numbers),
+    cut_tuple(Tuple, Place + 1, Depth, Left, Numbers, [Cut | Done]).
 
-cut_map(none, _Depth, Parts, Done) -> {Done, Parts};
-cut_map(_, _Depth, 0, Done) -> {Done#{'...' => '...'}, 0};
-cut_map({Key, Value, Rest}, Depth, Parts, Done) ->
-    {CutKey, Left} = cut(Key, Depth, Parts),
-    {CutValue, Left1} = cut(Value, Depth, Left),
-    cut_map(maps:next(Rest), Depth, Left1, Done#{CutKey => CutValue}).
+cut_map(none, _Depth, Parts, _, Done) -> {Done, Parts};
+cut_map(_, _Depth, 0, _, Done) -> {Done#{'...' => '...'}, 0};
+cut_map({Key, Value, Rest}, Depth, Parts, Numbers, Done) ->
+    {CutKey, Left} = cut(Key, Depth, Parts, Numbers),
+    {CutValue, Left1} = cut(Value, Depth, Left, Numbers),
+    cut_map(maps:next(Rest), Depth, Left1, Numbers, Done#{CutKey => CutValue}).

@@ -10,7 +10,7 @@ legend() ->
         [{"<0.30.0>", "alice", "process <0.30.0> of node a@h, registered as alice"},
          {"<0.31.0>", "bob & <co>", "process <0.31.0> of node a@h"}],
         [{17, 17}, {1_000_000, {order, 7}}],
-        [{5, {'$gen_call', {x, [alias | make_ref()]}, {get, "5 < 6"}}}, {6, {ok, six}}, {7, start}])),
+        [{5, {'$gen_call', {x, [alias | make_ref()]}, {get, "5 < 6"}}}, {6, {ok, six}}, {7, start}], #{})),
     {ok, Legend} = seqaudit_legend:read(File),
     Legend.
 
@@ -85,7 +85,7 @@ drawing_test() ->
 drawing_is_safe_test() ->
     Name = "]]>\"'&<" ++ [1, 7, 16#FFFF],
     File = seqaudit_audits:file("safe.terms"),
-    ok = file:write_file(File, seqaudit_legend:text([{"<0.30.0>", Name, Name}], [], [{7, Name}])),
+    ok = file:write_file(File, seqaudit_legend:text([{"<0.30.0>", Name, Name}], [], [{7, Name}], #{})),
     {ok, Legend} = seqaudit_legend:read(File),
     {ok, Chart} = seqaudit_chart:read(<<"label 1\nlane 1 <0.30.0>\n   P  print    {0,1} 7 start\n">>),
     Drawing = unicode:characters_to_list(seqaudit_draw:svg(Chart, Legend)),
@@ -131,7 +131,7 @@ brief_test() ->
     Texts = [{'$gen_call', {self(), [alias | Ref]}, {get, 1}}, {'$gen_call', {self(), Ref}, {get, 1}},
              {'$gen_cast', {put, 1}}, {[alias | Ref], {ok, 1}}, {Ref, {ok, 1}}, {ok, Ref}],
     File = seqaudit_audits:file("brief.terms"),
-    ok = file:write_file(File, seqaudit_legend:text([], [], lists:enumerate(Texts))),
+    ok = file:write_file(File, seqaudit_legend:text([], [], lists:enumerate(Texts), #{})),
     {ok, Legend} = seqaudit_legend:read(File),
     [<<"call {get,1}">>, <<"call {get,1}">>, <<"cast {put,1}">>, <<"reply {ok,1}">>,
      <<"reply {ok,1}">>, <<"{ok,#Ref<", _/binary>>] =

@@ -1,11 +1,10 @@
-%% Programs that run on this node, and on two, are traced, converted and audited.
+%% Programs that run on this node are traced, converted and audited.
 -module(seqaudit_trace_tests).
 
 -export([fitting_test_/0, term_labels_test/0, registered_names_test/0, timestamps_test/0,
          full_collector_test/0, former_tracer_is_put_back_test/0, second_tracer_stays_test/0,
          owner_ends_test/0, collector_stays_out_test/0, token_is_taken_off_test/0,
-         nothing_is_lost_test_/0, start_refuses_test/0, two_nodes_test_/0, node_goes_down_test_/0,
-         unfit_is_unfit_test/0]).
+         nothing_is_lost_test_/0, start_refuses_test/0, unfit_is_unfit_test/0]).
 
 -define(FLAGS, [send, 'receive', print]).
 
@@ -207,55 +206,6 @@ unfit_is_unfit_test() ->
     case seqaudit_audits:audit(seqaudit_audits:file("put_back")) of
         {1, Answer} -> {match, _} = re:run(Answer, "^unfit <[0-9.]*> 1 uncaused\n");
         skipped -> skipped
-    end.
-
-%% A client here calls a server there by its process and by its name.
-two_nodes_test_() ->
-    {timeout, 60, fun() ->
-        case seqaudit_test_nodes:start() of
-            {ok, Stop, There} -> two_nodes(Stop, There);
-            {error, Reason} -> io:format(user, "two nodes: skipped, ~0tp~n", [Reason])
-        end
-    end}.
-
-%% A node that goes down in the middle takes its events with it, and the notes say so.
-node_goes_down_test_() ->
-    {timeout, 60, fun() ->
-        case seqaudit_test_nodes:start() of
-            {ok, Stop, There} ->
-                ok = seqaudit_trace:start(#{name => seqaudit_audits:file("down"),
-                                            nodes => [node(), There]}),
-                seqaudit_trace:with_trace(1, fun() -> seq_trace:print(here) end),
-                Stop(),
-                {ok, #{events := 1, notes := Notes}} = seqaudit_trace:stop(),
-                [_] = [Note || Note <- Notes, string:find(Note, "its collector went down") =/= nomatch];
-            {error, Reason} ->
-                io:format(user, "a node that goes down: skipped, ~0tp~n", [Reason])
-        end
-    end}.
-
-two_nodes(Stop, There) ->
-    Name = seqaudit_audits:file("two_nodes"),
-    try
-        Server = erpc:call(There, seqaudit_test_server, start, [remote, fun erlang:abs/1]),
-        ok = seqaudit_trace:start(#{name => Name, nodes => [node(), There]}),
-        false = erpc:call(There, seq_trace, get_system_tracer, []) =:= false,
-        seqaudit_trace:with_trace({to, There}, fun() ->
-            5 = gen_server:call(Server, -5),
-            6 = gen_server:call({remote, There}, -6),
-            seq_trace:print(asked)
-        end),
-        {ok, #{events := Events}} = seqaudit_trace:stop(),
-        false = erpc:call(There, seq_trace, get_system_tracer, []),
-        true = Events >= 9,
-        {ok, Legend} = seqaudit_legend:read(Name ++ ".terms"),
-        {ok, Text} = file:read_file(Name ++ ".seqtrace"),
-        {match, [Pid]} = re:run(Text, "<1\\.[0-9]+\\.0>", [{capture, first, binary}]),
-        Remote = list_to_binary("remote on " ++ atom_to_list(There)),
-        Remote = seqaudit_legend:process(Pid, Legend),
-        ok_or_skipped(seqaudit_audits:fits(Name))
-    after
-        Stop()
     end.
 
 %% Runs the function under a trace; how many events there are, and the legend.
