@@ -23,6 +23,18 @@ fn walked(alloc: Global, lists: &Lists<u64>, list: usize) -> Result<Vec<u64>, Al
     lists.walk(list).copied().collect(alloc)
 }
 
+// The list's length and the item at each place agree with the expected items.
+fn assert_places<R: Abort>(rt: &R, lists: &Lists<u64>, list: usize, expected: &[u64])
+    requires { list < length lists.now.lists }
+{
+    assert_eq!(rt; lists.len(list), expected.len() as u64);
+    for (place, item) in expected.iter().enumerate() {
+        let found = lists.get(list, place as u64).copied();
+        assert_eq!(rt; found, Some(*item), "at {place}");
+    }
+    assert!(rt; lists.get(list, lists.len(list)).is_none());
+}
+
 // Each reading of the list agrees with the expected items.
 fn assert_list<R: Abort>(
     rt: &R,
@@ -33,26 +45,18 @@ fn assert_list<R: Abort>(
 ) -> Result<(), Fail>
     requires { list < length lists.now.lists }
 {
+    assert_places(rt, lists, list, expected);
     assert_eq!(rt; walked(alloc, lists, list)?.as_slice(), expected);
-    assert_eq!(rt; lists.len(list), expected.len() as u64);
-    for (place, item) in expected.iter().enumerate() {
-        assert_eq!(rt;
-            lists.get(list, place as u64).copied(),
-            Some(*item),
-            "at {place}"
-        );
-    }
-    assert_eq!(rt; lists.get(list, lists.len(list)).copied(), None);
     Ok(())
 }
 
-// Adds an item, and says of the lists only that they are as many as before, so that a test's goals stay small.
-fn push(lists: &mut Lists<u64>, list: usize, item: u64) -> Result<(), Fail>
+// Adds an item, for which there must be memory, and says of the lists only that they are as many as
+// before, so that a test's goals stay small.
+fn push<R: Abort>(rt: &R, lists: &mut Lists<u64>, list: usize, item: u64)
     requires { list < length lists.old.lists }
     ensures { length lists.new.lists ≡ length lists.old.lists }
 {
-    lists.push_back(list, item)?;
-    Ok(())
+    assert!(rt; lists.push_back(list, item).is_ok());
 }
 
 // Takes an item, which must be the expected one.
@@ -67,14 +71,14 @@ fn take<R: Abort>(rt: &R, lists: &mut Lists<u64>, list: usize, place: u64, expec
 fn a_taken_node_serves_another_list(rt: HostRuntime) -> Result<(), Fail> {
     let mut lists = Lists::new(rt.alloc(), 2)?;
     lists.reserve(3)?;
-    push(&mut lists, 0, 8)?;
-    push(&mut lists, 0, 9)?;
-    push(&mut lists, 0, 8)?;
+    push(&rt, &mut lists, 0, 8);
+    push(&rt, &mut lists, 0, 9);
+    push(&rt, &mut lists, 0, 8);
     take(&rt, &mut lists, 0, 1, Some(9));
-    push(&mut lists, 1, 4)?;
+    push(&rt, &mut lists, 1, 4);
     take(&rt, &mut lists, 0, 1, Some(8));
-    push(&mut lists, 1, 5)?;
-    push(&mut lists, 0, 7)?;
+    push(&rt, &mut lists, 1, 5);
+    push(&rt, &mut lists, 0, 7);
     assert_list(&rt, rt.alloc(), &lists, 0, &[8, 7])?;
     assert_list(&rt, rt.alloc(), &lists, 1, &[4, 5])
 }
@@ -84,14 +88,14 @@ fn three_left<R: Abort>(rt: &R, alloc: Global) -> Result<Lists<u64>, Fail>
     ensures { IfOk result (λ arena. length arena.lists ≡ 2) }
 {
     let mut lists = Lists::new(alloc, 2)?;
-    push(&mut lists, 0, 1)?;
-    push(&mut lists, 0, 2)?;
-    push(&mut lists, 0, 3)?;
-    push(&mut lists, 0, 4)?;
+    push(rt, &mut lists, 0, 1);
+    push(rt, &mut lists, 0, 2);
+    push(rt, &mut lists, 0, 3);
+    push(rt, &mut lists, 0, 4);
     take(rt, &mut lists, 0, 0, Some(1));
     take(rt, &mut lists, 0, 2, Some(4));
     take(rt, &mut lists, 0, 5, None);
-    push(&mut lists, 0, 7)?;
+    push(rt, &mut lists, 0, 7);
     Ok(lists)
 }
 
@@ -126,7 +130,7 @@ fn an_emptied_list_takes_items_again(rt: HostRuntime) -> Result<(), Fail> {
     take(&rt, &mut lists, 0, 0, Some(6));
     take(&rt, &mut lists, 0, 0, Some(14));
     take(&rt, &mut lists, 0, 0, None);
-    push(&mut lists, 0, 9)?;
+    push(&rt, &mut lists, 0, 9);
     assert_list(&rt, rt.alloc(), &lists, 0, &[9])?;
     assert_list(&rt, rt.alloc(), &lists, 1, &[])
 }
