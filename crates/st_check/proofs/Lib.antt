@@ -7,3 +7,5 @@ pub mod TagLists
 pub mod Advancing
 pub mod Deciding
 pub mod Records
+pub mod FewActs
+pub mod ForCallers

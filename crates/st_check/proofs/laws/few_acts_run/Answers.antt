@@ -1,0 +1,5 @@
+use Rattle.st_check.proofs.FewActs as few
+use Rattle.st_check.proofs.laws.few_acts_run.Goals as goal
+
+pub returns : goal.returns
+returns c = few.few_acts_run
