@@ -4,3 +4,4 @@ pub mod Replays
 pub mod Refusals
 pub mod Examples
 pub mod Outputs
+pub mod Meanings

@@ -1,10 +1,11 @@
--- What `check` makes of bytes: the verdict of the bundle whose text they are, or their fault.
+-- What `check` makes of bytes: the verdict of the streams and acts that they spell, or why they spell none.
 use Rattle.std.specs.Prelude.{◌≡◌, ℕ, List, Option, Some, None}
 use Rattle.st_core.specs.declared.types.Act.{Act}
+use Rattle.st_core.specs.Run.{Stream}
 use Rattle.st_core.specs.Verdict.{Verdict, IsVerdict}
 use Rattle.st_check.specs.Answers.{FollowsAll}
 use Rattle.st_text.specs.declared.fault.ReadFault.{ReadFault}
-use Rattle.st_text.specs.Text.{Contents, IsText, IsWithin}
+use Rattle.st_text.specs.Text.{IsText, IsWithin}
 use Rattle.st_text.specs.Fault.{fault}
 use Rattle.seqaudit.specs.Output.{Output, judged, refused, no_acts}
 
@@ -12,23 +13,23 @@ use Rattle.seqaudit.specs.Output.{Output, judged, refused, no_acts}
 abbrev pub top : ℕ
 top = 18446744073709551615
 
--- the bytes are the text of a bundle with acts, within the reader's limits, and this is its verdict; on a yes each
--- reported receive follows its send
-pub record IsJudged (bytes : List ℕ) (v : Verdict) : Type 0 where
-  pub contents : Contents
-  pub acts : List Act
-  pub spelled : IsText bytes contents
-  pub within : IsWithin contents
-  pub given : contents.acts ≡ Some acts
-  pub verdict : IsVerdict top contents.streams acts v
-  pub follows : FollowsAll top contents.streams acts v
+-- the bytes are the text of these streams, and of acts where there are any, within the reader's limits
+pub record Spells (bytes : List ℕ) (streams : List Stream) (acts : Option (List Act)) : Type 0 where
+  pub text : IsText bytes (record { streams = streams; acts = acts })
+  pub within : IsWithin (record { streams = streams; acts = acts })
 
--- the bytes are the text of a bundle without acts, within the reader's limits
+-- the bytes spell streams and acts, of which this is the verdict; on a yes each reported receive follows its send
+pub record IsJudged (bytes : List ℕ) (v : Verdict) : Type 0 where
+  pub streams : List Stream
+  pub acts : List Act
+  pub spelled : Spells bytes streams (Some acts)
+  pub verdict : IsVerdict top streams acts v
+  pub follows : FollowsAll top streams acts v
+
+-- the bytes spell streams without acts
 pub record LacksActs (bytes : List ℕ) : Type 0 where
-  pub contents : Contents
-  pub spelled : IsText bytes contents
-  pub within : IsWithin contents
-  pub none : contents.acts ≡ None
+  pub streams : List Stream
+  pub spelled : Spells bytes streams None
 
 -- the output of the bytes
 pub data IsChecked : List ℕ → Output → Type 0 where

@@ -1,9 +1,11 @@
--- From the outputs to what each command owes: `Checked`, `Replayed` and `Command` are what `run_check`, `run_replay` and
--- `run` promise; `Lines` and `Parts` are for the functions that they are made of.
-pub mod Words
+-- What public contracts cite, from the outputs to what a yes and a no mean.
 pub mod Output
-pub mod Lines
 pub mod Checked
 pub mod Replayed
+pub mod Words
 pub mod Command
+pub mod Meaning
+pub mod Laws
+-- For the contracts of the functions that a command is made of.
+pub mod Lines
 pub mod Parts

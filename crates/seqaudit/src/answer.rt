@@ -51,7 +51,7 @@ fn fault_status(fault: ReadFault) -> u8
 
 /// Answers a line.
 pub(crate) fn tell_line<W: ByteSink>(writer: &mut W, line: Line, status: u8) -> u8
-    ensures { Delivers W.puts W.failed (record { text = text_of line; status = status }) writer.old writer.new result }
+    ensures { Delivers W.puts W.failed writer.old writer.new (record { text = text_of line; status = status }) result }
 {
     let sent = send_line(writer, line);
     status_of(sent, status)
@@ -59,7 +59,7 @@ pub(crate) fn tell_line<W: ByteSink>(writer: &mut W, line: Line, status: u8) -> 
 
 /// Answers a verdict.
 pub(crate) fn tell_verdict<W: ByteSink>(writer: &mut W, verdict: &Verdict) -> u8
-    ensures { Delivers W.puts W.failed (judged (verdict_of verdict.now)) writer.old writer.new result }
+    ensures { Delivers W.puts W.failed writer.old writer.new (judged (verdict_of verdict.now)) result }
 {
     let sent = send_verdict(writer, verdict);
     status_of(sent, verdict_status(verdict))
@@ -67,14 +67,14 @@ pub(crate) fn tell_verdict<W: ByteSink>(writer: &mut W, verdict: &Verdict) -> u8
 
 /// Answers a fault.
 pub(crate) fn tell_fault<W: ByteSink>(writer: &mut W, fault: ReadFault) -> u8
-    ensures { Delivers W.puts W.failed (refused fault) writer.old writer.new result }
+    ensures { Delivers W.puts W.failed writer.old writer.new (refused fault) result }
 {
     tell_line(writer, Line::Fault(fault), fault_status(fault))
 }
 
 /// Answers the text of streams and acts.
 pub(crate) fn tell_bundle<W: ByteSink>(writer: &mut W, streams: &Streams, acts: &[Act]) -> u8
-    ensures { Delivers W.puts W.failed (bundled streams.now acts.now) writer.old writer.new result }
+    ensures { Delivers W.puts W.failed writer.old writer.new (bundled streams.now acts.now) result }
 {
     let sent = write_parts(writer, streams, Some(acts));
     status_of(sent, 0)
@@ -82,7 +82,7 @@ pub(crate) fn tell_bundle<W: ByteSink>(writer: &mut W, streams: &Streams, acts: 
 
 /// Answers words that ask for no command.
 pub(crate) fn tell_refusal<W: ByteSink>(writer: &mut W, refusal: Refusal) -> u8
-    ensures { Delivers W.puts W.failed (refusal_output refusal) writer.old writer.new result }
+    ensures { Delivers W.puts W.failed writer.old writer.new (refusal_output refusal) result }
 {
     match refusal {
         Refusal::Memory => tell_fault(writer, ReadFault::Memory),

@@ -6,15 +6,16 @@
 
 mod answer;
 mod check;
+pub mod laws;
 mod lines;
 mod program;
 mod replay;
 mod words;
 
 use crate::answer::tell_fault;
-pub use check::{one_answer, run_check};
+pub use check::run_check;
 pub use program::run;
-pub use replay::{one_replay, run_replay};
+pub use replay::run_replay;
 use st_core::{ReadFrom, WriteTo};
 use st_text::ReadFault;
 use std::process::ExitCode;

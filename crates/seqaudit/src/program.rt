@@ -18,7 +18,8 @@ fn run_task<R: ByteSource, W: ByteSink>(
     reader: &mut R,
     writer: &mut W,
 ) -> u8
-    ensures { Tells (Owes (IsOutputOf task) R.gives R.ended R.failed reader.old reader.new) W.puts W.failed writer.old writer.new result }
+    ensures { Tells W.puts W.failed writer.old writer.new
+        (Owes R.gives R.ended R.failed reader.old reader.new (IsOutputOf task)) result }
 {
     match task {
         Task::Check => run_check(alloc, reader, writer),
@@ -35,7 +36,8 @@ pub fn run<H: AllocGlobal, S: AsStr, R: ByteSource, W: ByteSink>(
     reader: &mut R,
     writer: &mut W,
 ) -> u8
-    ensures { Tells (OwesFor (map S.text words.now) R.gives R.ended R.failed reader.old reader.new) W.puts W.failed writer.old writer.new result }
+    ensures { Tells W.puts W.failed writer.old writer.new
+        (OwesFor R.gives R.ended R.failed reader.old reader.new (map S.text words.now)) result }
 {
     match read_words(rt.alloc(), words) {
         Ok(task) => run_task(rt.alloc(), task, reader, writer),

@@ -1,10 +1,8 @@
 //! The command `replay`: what the acts of the input's bundle report. The events in the input are
 //! ignored.
 
-ghost use Rattle.std.specs.Prelude.{◌≡◌, ℕ, List};
 ghost use Rattle.st_text.specs.Contents.{contents};
 ghost use Rattle.seqaudit.specs.Command.{Delivers, Owes, Tells};
-ghost use Rattle.seqaudit.specs.Output.{Output};
 ghost use Rattle.seqaudit.specs.Parts.{OfBundle, ReplaysTo, replayed_output};
 ghost use Rattle.seqaudit.specs.Replayed.{IsReplayed};
 
@@ -18,7 +16,7 @@ use std::alloc::Global;
 
 /// Answers what acts that were replayed came to.
 fn tell_replayed<W: ByteSink>(writer: &mut W, replayed: &Replayed, acts: &[Act]) -> u8
-    ensures { Delivers W.puts W.failed (replayed_output replayed.now acts.now) writer.old writer.new result }
+    ensures { Delivers W.puts W.failed writer.old writer.new (replayed_output replayed.now acts.now) result }
 {
     match replayed {
         Replayed::Ran(streams, _) => tell_bundle(writer, streams, acts),
@@ -28,7 +26,7 @@ fn tell_replayed<W: ByteSink>(writer: &mut W, replayed: &Replayed, acts: &[Act])
 
 /// Answers what the acts report in a run over the streams' processes.
 fn replay_acts<W: ByteSink>(alloc: Global, streams: &Streams, acts: &[Act], writer: &mut W) -> u8
-    ensures { Tells (ReplaysTo streams.now acts.now) W.puts W.failed writer.old writer.new result }
+    ensures { Tells W.puts W.failed writer.old writer.new (ReplaysTo streams.now acts.now) result }
 {
     match replay::<TOP>(alloc, streams.pids(), acts) {
         Ok(replayed) => tell_replayed(writer, &replayed, acts),
@@ -39,7 +37,7 @@ fn replay_acts<W: ByteSink>(alloc: Global, streams: &Streams, acts: &[Act], writ
 
 /// Answers what a bundle's acts report.
 fn replay_bundle<W: ByteSink>(alloc: Global, bundle: &Bundle, writer: &mut W) -> u8
-    ensures { Tells (OfBundle ReplaysTo (contents bundle.now)) W.puts W.failed writer.old writer.new result }
+    ensures { Tells W.puts W.failed writer.old writer.new (OfBundle ReplaysTo (contents bundle.now)) result }
 {
     match &bundle.acts {
         Some(acts) => replay_acts(alloc, &bundle.streams, acts.as_slice(), writer),
@@ -51,15 +49,11 @@ fn replay_bundle<W: ByteSink>(alloc: Global, bundle: &Bundle, writer: &mut W) ->
 /// without a step, with status 1. Faulty input is 2; want of memory, and a reader or a writer that
 /// fails, are 4.
 pub fn run_replay<R: ByteSource, W: ByteSink>(alloc: Global, reader: &mut R, writer: &mut W) -> u8
-    ensures { Tells (Owes IsReplayed R.gives R.ended R.failed reader.old reader.new) W.puts W.failed writer.old writer.new result }
+    ensures { Tells W.puts W.failed writer.old writer.new
+        (Owes R.gives R.ended R.failed reader.old reader.new IsReplayed) result }
 {
     match read(alloc, reader) {
         Ok(bundle) => replay_bundle(alloc, &bundle, writer),
         Err(fault) => tell_fault(writer, fault),
     }
 }
-
-/// Law: bytes have one output of the replay at most.
-pub fn one_replay()
-    ensures { (bytes : List ℕ) (one other : Output) → IsReplayed bytes one → IsReplayed bytes other → one ≡ other }
-{}

@@ -11,8 +11,9 @@ returns-in-Ok g c =
 
 pub returns-in-Err : goal.returns-in-Err
 returns-in-Err g c =
+    let reader = g.R.ByteSource in
     record {
       output = refusal_output c.in-Err.refusal;
-      owed = owes_refusal (map g.S.AsStr.text c.args.words.now) g.R.ByteSource.gives g.R.ByteSource.ended g.R.ByteSource.failed c.args.reader.now c.in-Err.refusal c.in-Err.ensures.refusal;
+      owed = owes_refusal reader.gives reader.ended reader.failed c.args.reader.now (map g.S.AsStr.text c.args.words.now) c.in-Err.refusal c.in-Err.ensures.refusal;
       delivered = c.tell_refusal.ensures;
     }

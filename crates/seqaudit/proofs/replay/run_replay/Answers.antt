@@ -8,9 +8,10 @@ pub returns-in-Ok : goal.returns-in-Ok
 returns-in-Ok g c =
     let told = c.replay_bundle.ensures in
     let reader = g.R.ByteSource in
+    let read = was_read reader.gives reader.ended reader.failed _ _ c.in-Ok.bundle c.in-Ok.ensures in
     record {
       output = told.output;
-      owed = owes_replay reader.gives reader.ended reader.failed _ _ (contents c.in-Ok.bundle) (was_read reader.gives reader.ended reader.failed _ _ c.in-Ok.bundle c.in-Ok.ensures) told.output told.owed;
+      owed = owes_replay reader.gives reader.ended reader.failed _ _ (contents c.in-Ok.bundle) read told.output told.owed;
       delivered = told.delivered;
     }
 
@@ -19,6 +20,6 @@ returns-in-Err g c =
     let reader = g.R.ByteSource in
     record {
       output = refused c.in-Err.fault;
-      owed = owes_fault IsReplayed reader.gives reader.ended reader.failed _ _ Faulty c.in-Err.fault c.in-Err.ensures;
+      owed = owes_fault reader.gives reader.ended reader.failed _ _ IsReplayed Faulty c.in-Err.fault c.in-Err.ensures;
       delivered = c.tell_fault.ensures;
     }

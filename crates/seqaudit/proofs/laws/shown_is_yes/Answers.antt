@@ -1,0 +1,5 @@
+use Rattle.seqaudit.proofs.Meanings as meanings
+use Rattle.seqaudit.proofs.laws.shown_is_yes.Goals as goal
+
+pub returns : goal.returns
+returns c = meanings.shown_is_yes

@@ -1,0 +1,51 @@
+-- What a yes and a no of `check` mean, each as one record of plain facts, in the words of the machine.
+use Rattle.std.specs.Prelude.{◌≡◌, ℕ, Bool, List, ◌++◌, Some, All, codes}
+use Rattle.std.specs.List.{flat_map}
+use Rattle.st_core.specs.declared.types.Act.{Act}
+use Rattle.st_core.specs.Step.{Outcome}
+use Rattle.st_core.specs.Run.{Stream, Shows, pids_of, run, stream}
+use Rattle.st_core.specs.Pairs.{Follows, pairs}
+use Rattle.st_core.specs.Verdict.{Verdict, IsVerdict}
+use Rattle.st_text.specs.Writing.{Writes}
+use Rattle.seqaudit.specs.Output.{Output, line, pair_line, verdict_text}
+use Rattle.seqaudit.specs.Checked.{top, Spells}
+use Rattle.seqaudit.specs.Command.{ReadsAll}
+
+-- a yes: status 0
+pub record MeansYes (bytes : List ℕ) (out : Output) : Type 0 where
+  pub streams : List Stream
+  pub acts : List Act
+  pub outcomes : List Outcome
+  -- the bytes spell streams and acts, within the reader's limits
+  pub spelled : Spells bytes streams (Some acts)
+  -- the acts are a run of the machine from zero clocks over the streams' processes
+  pub runs : run top (pids_of streams) acts ≡ Some outcomes
+  -- in it each process reports exactly its stream; so the acts show the streams (`Shows`)
+  pub reports : All (λ x. stream acts outcomes x.pid ≡ x.events) streams
+  -- each pair's receive follows its send, with the same label and serial, and no send stands twice
+  pub follows : Follows acts outcomes (pairs acts outcomes)
+  -- the text is the line yes and a line for each of these pairs
+  pub text : out.text ≡ line (codes "yes") ++ flat_map pair_line (pairs acts outcomes)
+
+-- a no: status 1
+pub record MeansNo (bytes : List ℕ) (out : Output) : Type 0 where
+  pub streams : List Stream
+  pub acts : List Act
+  pub verdict : Verdict
+  -- the bytes spell streams and acts, within the reader's limits
+  pub spelled : Spells bytes streams (Some acts)
+  -- the acts don't show the streams: they have no run in which each process reports exactly its stream
+  pub refuted : ¬ Shows top streams acts
+  -- the text names a place
+  pub text : out.text ≡ verdict_text verdict
+  -- and the place shows it: up to there all passes, and act n has no step or reports another event, or p has events left
+  pub place : IsVerdict top streams acts verdict
+
+-- all bytes were read, and of them an output with this meaning was written whole
+pub record Says {R W : Type 0} (gives : R → List ℕ → R → Type 0) (ended : R → Type 0) (read_failed : R → Bool) (reader read : R)
+    (puts : W → List ℕ → W → Type 0) (write_failed : W → Bool) (writer written : W) (Means : List ℕ → Output → Type 0) : Type 0 where
+  pub bytes : List ℕ
+  pub output : Output
+  pub reads : ReadsAll gives ended read_failed reader read bytes
+  pub writes : Writes puts write_failed output.text writer written
+  pub means : Means bytes output

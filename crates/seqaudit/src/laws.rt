@@ -1,0 +1,37 @@
+//! What the answers of `check` and `replay` mean. The functions do nothing: their contracts are the
+//! laws.
+
+ghost use Rattle.seqaudit.specs.Checked.{IsChecked};
+ghost use Rattle.seqaudit.specs.Laws.{YesMeans, NoMeans, ShownIsYes, HasOneOutput, NeverStuck, NeverStuckInReplay};
+ghost use Rattle.seqaudit.specs.Replayed.{IsReplayed};
+
+/// An output of the check with status 0 means that the bytes spell streams and acts, that the acts
+/// are a run of the machine from zero clocks in which each process reports exactly its stream, and
+/// that each reported receive follows its paired send.
+pub fn yes_means()
+    ensures { YesMeans }
+{}
+
+/// An output of the check with status 1 means that the bytes spell streams and acts, that the acts
+/// are no such run, and that the named place shows it.
+pub fn no_means()
+    ensures { NoMeans }
+{}
+
+/// Where the bytes spell streams and acts that show them, the output of the check has status 0.
+pub fn shown_is_yes()
+    ensures { ShownIsYes }
+{}
+
+/// Bytes have one output of each command at most, so whoever knows the bytes that were read knows
+/// which output is owed.
+pub fn one_answer()
+    ensures check { HasOneOutput IsChecked }
+    ensures replay { HasOneOutput IsReplayed }
+{}
+
+/// No text within the reader's limits has an act without a step, so `no stuck` never comes.
+pub fn never_stuck()
+    ensures check { NeverStuck }
+    ensures replay { NeverStuckInReplay }
+{}
