@@ -1,5 +1,5 @@
 //! Tests of what no clause says: worked inputs and their outputs, byte for byte, that the program
-//! answers with ample memory, and devices that fail on the way.
+//! answers with ample memory, and devices that fail on the way. Where memory is refused they fail.
 
 mod certificates;
 mod devices;
@@ -13,7 +13,9 @@ mod usage;
 
 use crate::run;
 use st_core::{MemorySink, MemorySource};
+use std::alloc::AllocError;
 use std::process::Abort;
+use std::test::Fail;
 
 /// An input of a command, and what it writes and answers.
 struct Case {
@@ -31,16 +33,23 @@ fn expect<H: Abort + AllocGlobal>(
     input: &[u8],
     text: &[u8],
     status: u8,
-) {
+) -> Result<(), AllocError> {
     let mut reader = MemorySource::new(input, None);
-    let mut writer = MemorySink::new(rt.alloc(), 1_000_000, None).expect(rt, "room");
+    // A byte more than is wanted, so that a longer text would show.
+    let room = text.len().saturating_add(1);
+    let mut writer = MemorySink::new(rt.alloc(), room, None)?;
     let answer = run(rt, words, &mut reader, &mut writer);
     assert!(rt; writer.written() == text, "the text of {name}");
     assert_eq!(rt; answer, status, "the status of {name}");
+    Ok(())
 }
 
 /// The same for each case of a command.
-fn expect_cases<H: Abort + AllocGlobal>(rt: &H, command: &str, cases: &[Case]) {
+fn expect_cases<H: Abort + AllocGlobal>(
+    rt: &H,
+    command: &str,
+    cases: &[Case],
+) -> Result<(), AllocError> {
     for case in cases {
         expect(
             rt,
@@ -49,6 +58,17 @@ fn expect_cases<H: Abort + AllocGlobal>(rt: &H, command: &str, cases: &[Case]) {
             case.input.as_bytes(),
             case.text.as_bytes(),
             case.status,
-        );
+        )?;
     }
+    Ok(())
+}
+
+#[test]
+fn worked_inputs_are_answered(rt: HostRuntime) -> Result<(), Fail> {
+    expect_cases(&rt, "check", &certificates::CASES)?;
+    expect_cases(&rt, "check", &refused::CASES)?;
+    expect_cases(&rt, "check", &nodes::CASES)?;
+    expect_cases(&rt, "check", &faults::CASES)?;
+    expect_cases(&rt, "replay", &replays::CASES)?;
+    Ok(())
 }

@@ -1,12 +1,16 @@
 //! Worked certificates and replays, each with the answer that the rules of the machine give by hand.
+//! A call that refuses memory fails the test.
 
 use crate::{CheckFault, ReplayFault, Replayed, Verdict, check, replay};
-use st_core::{Act, Component, Draft, Event, Kind, Label, Pid, Reply, Serial, Streams, Want};
-use std::alloc::Global;
+use st_core::{
+    Act, Component, Draft, Event, Kind, Label, Pid, Reply, Sequence, Serial, Streams, Want,
+};
+use std::alloc::{AllocError, Global};
 use std::process::Abort;
 use std::test::Fail;
 
-const TOP: u64 = u64::MAX;
+/// The greatest clock of the program.
+const MOST: u64 = u64::MAX;
 
 /// The processes 30, 31 and 32 of node 0.
 fn p30() -> Pid {
@@ -65,32 +69,45 @@ fn streams(alloc: Global, pids: &[Pid], events: &[(Pid, Event)]) -> Result<Strea
     )
 }
 
-fn assert_yes(rt: &impl Abort, answer: Result<Verdict, CheckFault>, pairs: &[(u64, u64)]) {
-    match answer {
-        Ok(Verdict::Yes(found)) => assert_eq!(rt; found.as_slice(), pairs),
-        _ => panic!(rt; "no yes"),
+/// What `check` is to answer.
+#[derive(Clone, Copy)]
+enum Wanted<'a> {
+    Yes(&'a [(u64, u64)]),
+    Differs(u64),
+    Left(Pid),
+    Stuck(u64),
+}
+
+fn is_wanted(verdict: &Verdict, wanted: Wanted) -> bool {
+    match verdict {
+        Verdict::Yes(pairs) => matches!(wanted, Wanted::Yes(found) if pairs.as_slice() == found),
+        Verdict::Differs(n) => matches!(wanted, Wanted::Differs(found) if *n == found),
+        Verdict::Left(pid) => matches!(wanted, Wanted::Left(found) if *pid == found),
+        Verdict::Stuck(n) => matches!(wanted, Wanted::Stuck(found) if *n == found),
     }
 }
 
-fn assert_differs(rt: &impl Abort, answer: Result<Verdict, CheckFault>, number: u64) {
-    match answer {
-        Ok(Verdict::Differs(found)) => assert_eq!(rt; found, number),
-        _ => panic!(rt; "not differs"),
-    }
+/// Whether `check` answers what is wanted, of clocks up to TOP.
+fn answers<const TOP: u64>(
+    alloc: Global,
+    streams: &Streams,
+    acts: &[Act],
+    wanted: Wanted,
+) -> Result<bool, CheckFault> {
+    let verdict = check::<TOP>(alloc, streams, acts)?;
+    Ok(is_wanted(&verdict, wanted))
 }
 
-fn assert_left(rt: &impl Abort, answer: Result<Verdict, CheckFault>, pid: Pid) {
-    match answer {
-        Ok(Verdict::Left(found)) => assert_eq!(rt; found, pid),
-        _ => panic!(rt; "not left"),
-    }
-}
-
-fn assert_stuck(rt: &impl Abort, answer: Result<Verdict, CheckFault>, number: u64) {
-    match answer {
-        Ok(Verdict::Stuck(found)) => assert_eq!(rt; found, number),
-        _ => panic!(rt; "not stuck"),
-    }
+/// The same of streams that are made here, and of the program's clocks.
+fn judges(
+    alloc: Global,
+    pids: &[Pid],
+    events: &[(Pid, Event)],
+    acts: &[Act],
+    wanted: Wanted,
+) -> Result<bool, Fail> {
+    let streams = streams(alloc, pids, events)?;
+    Ok(answers::<MOST>(alloc, &streams, acts, wanted)?)
 }
 
 /// A traced print of one process.
@@ -105,24 +122,23 @@ fn print_one() -> [Act; 4] {
 
 #[test]
 fn one_print_is_compared_with_its_stream(rt: HostRuntime) -> Result<(), Fail> {
-    let alloc = rt.alloc();
-    let event = printed(17, (0, 1), p30(), 7);
-    let other = printed(17, (0, 2), p30(), 7);
-    let exact = streams(alloc, &[p30()], &[(p30(), event)])?;
-    let more = streams(alloc, &[p30()], &[(p30(), event), (p30(), event)])?;
-    let none = streams(alloc, &[p30()], &[])?;
-    let wrong = streams(alloc, &[p30()], &[(p30(), other)])?;
-    assert_yes(&rt, check::<TOP>(alloc, &exact, &print_one()), &[]);
-    assert_left(&rt, check::<TOP>(alloc, &more, &print_one()), p30());
-    assert_differs(&rt, check::<TOP>(alloc, &none, &print_one()), 3);
-    assert_differs(&rt, check::<TOP>(alloc, &wrong, &print_one()), 3);
-    assert_left(&rt, check::<TOP>(alloc, &exact, &[]), p30());
-    assert_stuck(&rt, check::<TOP>(alloc, &exact, &[Act::Look(p31())]), 0);
-    assert_stuck(
-        &rt,
-        check::<TOP>(alloc, &exact, &[Act::Send(p30(), p31(), 1)]),
-        0,
-    );
+    let event = (p30(), printed(17, (0, 1), p30(), 7));
+    let other = (p30(), printed(17, (0, 2), p30(), 7));
+    let look = [Act::Look(p31())];
+    let send = [Act::Send(p30(), p31(), 1)];
+    let print = print_one();
+    let cases: [(&[(Pid, Event)], &[Act], Wanted); 7] = [
+        (&[event], &print, Wanted::Yes(&[])),
+        (&[event, event], &print, Wanted::Left(p30())),
+        (&[], &print, Wanted::Differs(3)),
+        (&[other], &print, Wanted::Differs(3)),
+        (&[event], &[], Wanted::Left(p30())),
+        (&[event], &look, Wanted::Stuck(0)),
+        (&[event], &send, Wanted::Stuck(0)),
+    ];
+    for (events, acts, wanted) in cases {
+        assert!(rt; judges(rt.alloc(), &[p30()], events, acts, wanted)?);
+    }
     Ok(())
 }
 
@@ -145,18 +161,22 @@ fn three_sends() -> [Act; 9] {
 fn receives_are_paired_with_the_sends_whose_messages_they_took(
     rt: HostRuntime,
 ) -> Result<(), Fail> {
-    let alloc = rt.alloc();
+    let pids = [p30(), p31()];
     let nine = (p31(), received(1, (0, 2), p30(), p31(), 9));
     let first = (p31(), received(1, (0, 1), p30(), p31(), 8));
     let last = (p31(), received(1, (0, 3), p30(), p31(), 8));
-    let taken = streams(alloc, &[p30(), p31()], &[nine, first, last])?;
-    let swapped = streams(alloc, &[p30(), p31()], &[nine, last, first])?;
-    assert_yes(
-        &rt,
-        check::<TOP>(alloc, &taken, &three_sends()),
-        &[(6, 4), (7, 3), (8, 5)],
+    let acts = three_sends();
+    let pairs = Wanted::Yes(&[(6, 4), (7, 3), (8, 5)]);
+    assert!(rt; judges(rt.alloc(), &pids, &[nine, first, last], &acts, pairs)?);
+    assert!(rt;
+        judges(
+            rt.alloc(),
+            &pids,
+            &[nine, last, first],
+            &acts,
+            Wanted::Differs(7)
+        )?
     );
-    assert_differs(&rt, check::<TOP>(alloc, &swapped, &three_sends()), 7);
     Ok(())
 }
 
@@ -182,40 +202,35 @@ fn two_nodes(reset: Pid) -> [Act; 11] {
 
 #[test]
 fn a_reset_empties_the_tokens_queued_on_its_own_node_alone(rt: HostRuntime) -> Result<(), Fail> {
-    let alloc = rt.alloc();
     let near = Pid::on(1, 30);
     let far = Pid::on(2, 31);
+    let pids = [near, far];
     let event = (far, received(17, (0, 1), near, far, 5));
-    let twice = streams(alloc, &[near, far], &[event, event])?;
-    let once = streams(alloc, &[near, far], &[event])?;
-    assert_yes(
-        &rt,
-        check::<TOP>(alloc, &twice, &two_nodes(near)),
-        &[(9, 4), (10, 8)],
+    let later = (far, received(17, (0, 2), near, far, 5));
+    let near_reset = two_nodes(near);
+    let twice = Wanted::Yes(&[(9, 4), (10, 8)]);
+    assert!(rt; judges(rt.alloc(), &pids, &[event, event], &near_reset, twice)?);
+    assert!(rt;
+        judges(
+            rt.alloc(),
+            &pids,
+            &[event],
+            &near_reset,
+            Wanted::Differs(10)
+        )?
     );
     // The first message lost its token, so its receive isn't reported and has no pair.
-    let later = (far, received(17, (0, 2), near, far, 5));
-    let second = streams(alloc, &[near, far], &[later])?;
-    assert_yes(
-        &rt,
-        check::<TOP>(alloc, &second, &two_nodes(far)),
-        &[(10, 8)],
-    );
-    assert_differs(&rt, check::<TOP>(alloc, &once, &two_nodes(near)), 10);
+    let once = Wanted::Yes(&[(10, 8)]);
+    assert!(rt; judges(rt.alloc(), &pids, &[later], &two_nodes(far), once)?);
     Ok(())
 }
 
 #[test]
 fn a_send_to_oneself_is_paired(rt: HostRuntime) -> Result<(), Fail> {
-    let alloc = rt.alloc();
-    let own = streams(
-        alloc,
-        &[p30()],
-        &[
-            (p30(), received(17, (0, 1), p30(), p30(), 5)),
-            (p30(), passed(Kind::Send, 17, (1, 2), p30(), p30(), 6)),
-        ],
-    )?;
+    let events = [
+        (p30(), received(17, (0, 1), p30(), p30(), 5)),
+        (p30(), passed(Kind::Send, 17, (1, 2), p30(), p30(), 6)),
+    ];
     let acts = [
         Act::Tracer(p30(), true),
         Act::Set(p30(), Component::Label(Label(17))),
@@ -225,7 +240,7 @@ fn a_send_to_oneself_is_paired(rt: HostRuntime) -> Result<(), Fail> {
         Act::Set(p30(), Component::Send(true)),
         Act::Send(p30(), p30(), 6),
     ];
-    assert_yes(&rt, check::<TOP>(alloc, &own, &acts), &[(4, 3)]);
+    assert!(rt; judges(rt.alloc(), &[p30()], &events, &acts, Wanted::Yes(&[(4, 3)]))?);
     Ok(())
 }
 
@@ -242,21 +257,31 @@ fn four_prints() -> [Act; 5] {
 
 #[test]
 fn a_full_clock_is_stuck(rt: HostRuntime) -> Result<(), Fail> {
-    let alloc = rt.alloc();
-    let none = streams(alloc, &[p30()], &[])?;
-    assert_stuck(&rt, check::<3>(alloc, &none, &four_prints()), 4);
-    assert_yes(&rt, check::<4>(alloc, &none, &four_prints()), &[]);
-    match replay::<3>(alloc, &[p30()], &four_prints())? {
-        Replayed::Stuck(number) => assert_eq!(rt; number, 4),
-        Replayed::Ran(..) => panic!(rt; "it ran"),
-    }
+    let none = streams(rt.alloc(), &[p30()], &[])?;
+    let acts = four_prints();
+    assert!(rt; answers::<3>(rt.alloc(), &none, &acts, Wanted::Stuck(4))?);
+    assert!(rt; answers::<4>(rt.alloc(), &none, &acts, Wanted::Yes(&[]))?);
+    assert!(rt;
+        matches!(
+            replay::<3>(rt.alloc(), &[p30()], &acts)?,
+            Replayed::Stuck(4)
+        )
+    );
     Ok(())
 }
 
-#[test]
-fn a_replay_answers_what_each_act_reports_and_replies(rt: HostRuntime) -> Result<(), Fail> {
-    let alloc = rt.alloc();
-    let acts = [
+/// What acts that have a run report and reply.
+fn ran(alloc: Global, pids: &[Pid], acts: &[Act]) -> Result<(Streams, Sequence<Reply>), Fail> {
+    match replay::<MOST>(alloc, pids, acts)? {
+        Replayed::Ran(streams, replies) => Ok((streams, replies)),
+        Replayed::Stuck(_) => Err("it didn't run".into()),
+    }
+}
+
+/// Four prints, and a send of one process, then one of another with a lower serial; a third receives
+/// both and sends on.
+fn low_serial() -> [Act; 14] {
+    [
         Act::Tracer(p30(), true),
         Act::Set(p30(), Component::Label(Label(1))),
         Act::Print(p30(), 0),
@@ -271,30 +296,67 @@ fn a_replay_answers_what_each_act_reports_and_replies(rt: HostRuntime) -> Result
         Act::Receive(p31(), Want::First),
         Act::Receive(p31(), Want::First),
         Act::Send(p31(), p30(), 9),
-    ];
-    let Replayed::Ran(streams, replies) = replay::<TOP>(alloc, &[p30(), p31(), p32()], &acts)?
-    else {
-        panic!(rt; "it didn't run");
-    };
+    ]
+}
+
+#[test]
+fn a_replay_answers_what_each_act_reports_and_replies(rt: HostRuntime) -> Result<(), Fail> {
+    let acts = low_serial();
+    let (streams, replies) = ran(rt.alloc(), &[p30(), p31(), p32()], &acts)?;
     let last = passed(Kind::Send, 0, (3, 6), p31(), p30(), 9);
     let low = passed(Kind::Send, 0, (0, 3), p32(), p31(), 3);
     assert_eq!(rt; streams.total(), 2);
-    assert_eq!(rt; streams.event(p31(), 0), Some(last));
-    assert_eq!(rt; streams.event(p32(), 0), Some(low));
+    assert!(rt; streams.event(p31(), 0) == Some(last));
+    assert!(rt; streams.event(p32(), 0) == Some(low));
     assert_eq!(rt; replies.len(), 14);
     let replies = replies.as_slice();
-    assert_eq!(rt; replies.get(0).copied(), Some(Reply::Was(false)));
-    assert_eq!(rt; replies.get(1).copied(), Some(Reply::Old(None)));
-    assert_eq!(rt; replies.get(11).copied(), Some(Reply::Mail(p30(), 5)));
-    assert_eq!(rt; replies.get(12).copied(), Some(Reply::Mail(p32(), 3)));
-    assert_yes(&rt, check::<TOP>(alloc, &streams, &acts), &[]);
+    assert!(rt; replies.first().copied() == Some(Reply::Was(false)));
+    assert!(rt; replies.get(1).copied() == Some(Reply::Old(None)));
+    assert!(rt; replies.get(12).copied() == Some(Reply::Mail(p32(), 3)));
+    assert!(rt; answers::<MOST>(rt.alloc(), &streams, &acts, Wanted::Yes(&[]))?);
+    Ok(())
+}
+
+/// So many traced sends, each received at once.
+fn exchanges(alloc: Global, count: u64) -> Result<Vec<Act>, AllocError> {
+    let mut acts = Vec::new(alloc);
+    acts.push(Act::Tracer(p30(), true))?;
+    acts.push(Act::Set(p30(), Component::Receive(true)))?;
+    for value in 0..count {
+        acts.push(Act::Send(p30(), p31(), value))?;
+        acts.push(Act::Receive(p31(), Want::First))?;
+    }
+    Ok(acts)
+}
+
+/// How many pairs a yes has, and the last of them.
+fn last_pair(
+    alloc: Global,
+    streams: &Streams,
+    acts: &[Act],
+) -> Result<Option<(usize, (u64, u64))>, CheckFault> {
+    match check::<MOST>(alloc, streams, acts)? {
+        Verdict::Yes(pairs) => {
+            let pairs = pairs.as_slice();
+            Ok(pairs.last().map(|pair| (pairs.len(), *pair)))
+        }
+        _ => Ok(None),
+    }
+}
+
+#[test]
+fn a_hundred_thousand_acts_are_replayed_and_checked(rt: HostRuntime) -> Result<(), Fail> {
+    let acts = exchanges(rt.alloc(), 60_000)?;
+    let (streams, replies) = ran(rt.alloc(), &[p30(), p31()], acts.as_slice())?;
+    assert_eq!(rt; streams.len(p31()), 60_000);
+    assert_eq!(rt; replies.len(), 120_002);
+    let last = last_pair(rt.alloc(), &streams, acts.as_slice())?;
+    assert!(rt; last == Some((60_000, (120_001, 120_000))));
     Ok(())
 }
 
 #[test]
 fn pids_that_do_not_rise_are_refused(rt: HostRuntime) {
-    match replay::<TOP>(rt.alloc(), &[p31(), p30()], &[]) {
-        Err(fault) => assert_eq!(rt; fault, ReplayFault::NotRising),
-        Ok(_) => panic!(rt; "replayed"),
-    }
+    let refused = replay::<MOST>(rt.alloc(), &[p31(), p30()], &[]);
+    assert!(rt; matches!(refused, Err(ReplayFault::NotRising)));
 }

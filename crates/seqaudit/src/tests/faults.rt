@@ -1,8 +1,8 @@
 //! Inputs that are no text of a bundle: `check` answers the fault.
 
-use super::{Case, expect_cases};
+use super::Case;
 
-static CASES: [Case; 12] = [
+pub static CASES: [Case; 12] = [
     Case {
         name: "acts_missing",
         input: "seqtrace 1\n",
@@ -134,8 +134,3 @@ static CASES: [Case; 12] = [
         status: 2,
     },
 ];
-
-#[test]
-fn faulty_texts_are_named(rt: HostRuntime) {
-    expect_cases(&rt, "check", &CASES);
-}

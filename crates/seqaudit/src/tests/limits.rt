@@ -1,4 +1,4 @@
-//! Inputs at the limits, made by a loop.
+//! Inputs at the limits and long ones, made by a loop.
 
 use super::expect;
 use std::alloc::{AllocError, Global};
@@ -15,55 +15,80 @@ fn processes(alloc: Global, count: u64) -> Result<Vec<u8>, AllocError> {
     Ok(text)
 }
 
-/// The certificate of a print whose serial skips so many values: as many silent prints.
-fn skipping(alloc: Global, count: u64) -> Result<Vec<u8>, AllocError> {
-    let this = count.saturating_add(1);
-    let head = format!(in alloc;
-        "seqtrace 1\nprocess <0.30.0>\n{{seq_trace,17,{{print,{{0,{this}}},<0.30.0>,[],7}}}}\nacts\ntracer <0.30.0> true\nrestore <0.30.0> 17 false false false 0 0 <0.30.0>\n"
+#[test]
+fn one_process_too_many_is_a_fault(rt: HostRuntime) -> Result<(), Fail> {
+    let check = ["seqaudit", "check"];
+    let most = processes(rt.alloc(), 1024)?;
+    expect(&rt, "processes_1024", &check, most.as_slice(), b"yes\n", 0)?;
+    let more = processes(rt.alloc(), 1025)?;
+    let fault = b"fault too many 1026\n";
+    expect(&rt, "processes_1025", &check, more.as_slice(), fault, 2)?;
+    Ok(())
+}
+
+/// One process sends to another, which receives at once, so many times: the events that this
+/// reports, the acts, and the answer of `check`.
+fn exchanges(alloc: Global, count: u32) -> Result<(Vec<u8>, Vec<u8>, Vec<u8>), AllocError> {
+    let mut events = Vec::new(alloc);
+    let mut acts = Vec::from_slice(
+        alloc,
+        b"acts\ntracer <0.30.0> true\nset <0.30.0> receive true\n",
     )?;
-    let mut text = Vec::from_slice(alloc, head.as_bytes())?;
-    for _ in 0..count {
-        text.extend_from_slice(b"print <0.30.0> 0\n")?;
+    let mut answer = Vec::from_slice(alloc, b"yes\n")?;
+    for number in 0..count {
+        let this = u64::from(number) + 1;
+        let event = format!(in alloc;
+            "{{seq_trace,0,{{'receive',{{0,{this}}},<0.30.0>,<0.31.0>,5}}}}\n"
+        )?;
+        events.extend_from_slice(event.as_bytes())?;
+        acts.extend_from_slice(b"send <0.30.0> <0.31.0> 5\nreceive <0.31.0> first\n")?;
+        let send = u64::from(number) * 2 + 2;
+        let receive = send + 1;
+        let pair = format!(in alloc; "pair {receive} {send}\n")?;
+        answer.extend_from_slice(pair.as_bytes())?;
     }
-    text.extend_from_slice(
-        b"restore <0.30.0> 17 false false true 0 0 <0.30.0>\nprint <0.30.0> 7\n",
-    )?;
+    Ok((events, acts, answer))
+}
+
+/// The text of the two processes, these events of the second, and these acts.
+fn two_processes(alloc: Global, events: &[u8], acts: &[u8]) -> Result<Vec<u8>, AllocError> {
+    let mut text = Vec::from_slice(alloc, b"seqtrace 1\nprocess <0.30.0>\nprocess <0.31.0>\n")?;
+    text.extend_from_slice(events)?;
+    text.extend_from_slice(acts)?;
     Ok(text)
 }
 
 #[test]
-fn one_process_too_many_is_a_fault(rt: HostRuntime) -> Result<(), Fail> {
-    let most = processes(rt.alloc(), 1024)?;
+fn a_hundred_thousand_acts_are_replayed_and_checked(rt: HostRuntime) -> Result<(), Fail> {
+    let alloc = rt.alloc();
+    let (events, acts, answer) = exchanges(alloc, 60_000)?;
+    let bare = two_processes(alloc, &[], acts.as_slice())?;
+    let whole = two_processes(alloc, events.as_slice(), acts.as_slice())?;
+    let replay = ["seqaudit", "replay"];
+    let check = ["seqaudit", "check"];
     expect(
         &rt,
-        "processes_1024",
-        &["seqaudit", "check"],
-        most.as_slice(),
-        b"yes\n",
+        "replayed",
+        &replay,
+        bare.as_slice(),
+        whole.as_slice(),
         0,
-    );
-    let more = processes(rt.alloc(), 1025)?;
+    )?;
     expect(
         &rt,
-        "processes_1025",
-        &["seqaudit", "check"],
-        more.as_slice(),
-        b"fault too many 1026\n",
-        2,
-    );
-    Ok(())
-}
-
-#[test]
-fn a_thousand_silent_prints_are_checked(rt: HostRuntime) -> Result<(), Fail> {
-    let text = skipping(rt.alloc(), 1000)?;
-    expect(
-        &rt,
-        "widest_checked",
-        &["seqaudit", "check"],
-        text.as_slice(),
-        b"yes\n",
+        "checked",
+        &check,
+        whole.as_slice(),
+        answer.as_slice(),
         0,
-    );
+    )?;
+    expect(
+        &rt,
+        "no events",
+        &check,
+        bare.as_slice(),
+        b"no differs 3\n",
+        1,
+    )?;
     Ok(())
 }

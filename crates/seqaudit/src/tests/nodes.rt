@@ -1,8 +1,8 @@
 //! Processes of other nodes, and the header that lets them in.
 
-use super::{Case, expect_cases};
+use super::Case;
 
-static CASES: [Case; 7] = [
+pub static CASES: [Case; 7] = [
     Case {
         name: "pid_other_node_header_1",
         input: "seqtrace 1\n\
@@ -85,8 +85,3 @@ static CASES: [Case; 7] = [
         status: 0,
     },
 ];
-
-#[test]
-fn nodes_and_headers_are_told_apart(rt: HostRuntime) {
-    expect_cases(&rt, "check", &CASES);
-}

@@ -1,6 +1,7 @@
 //! A certificate with hidden sends, whole and cut short at every byte.
 
 use super::expect;
+use std::test::Fail;
 
 /// Two processes that report no send, and acts that explain their streams.
 static CERTIFICATE: &str = "seqtrace 1\n\
@@ -35,33 +36,21 @@ fn cut_short(head: &[u8]) -> (&'static str, u8) {
 }
 
 #[test]
-fn a_certificate_with_hidden_sends_is_accepted(rt: HostRuntime) {
-    let text = b"yes\n\
-        pair 5 4\n\
-        pair 10 9\n";
+fn no_part_of_a_certificate_is_accepted(rt: HostRuntime) -> Result<(), Fail> {
+    let check = ["seqaudit", "check"];
+    let whole = CERTIFICATE.as_bytes();
     expect(
         &rt,
-        "certificate_checked",
-        &["seqaudit", "check"],
-        CERTIFICATE.as_bytes(),
-        text,
+        "whole",
+        &check,
+        whole,
+        b"yes\npair 5 4\npair 10 9\n",
         0,
-    );
-}
-
-#[test]
-fn no_part_of_a_certificate_is_accepted(rt: HostRuntime) {
-    let whole = CERTIFICATE.as_bytes();
+    )?;
     for n in 0..whole.len() {
         let head = &whole[..n];
         let (text, status) = cut_short(head);
-        expect(
-            &rt,
-            "a prefix",
-            &["seqaudit", "check"],
-            head,
-            text.as_bytes(),
-            status,
-        );
+        expect(&rt, "a prefix", &check, head, text.as_bytes(), status)?;
     }
+    Ok(())
 }

@@ -1,8 +1,8 @@
 //! Certificates that are no runs: `check` answers no, and the place.
 
-use super::{Case, expect_cases};
+use super::Case;
 
-static CASES: [Case; 9] = [
+pub static CASES: [Case; 9] = [
     Case {
         name: "print_other_serial",
         input: "seqtrace 1\n\
@@ -188,8 +188,3 @@ static CASES: [Case; 9] = [
         status: 1,
     },
 ];
-
-#[test]
-fn false_certificates_are_refused(rt: HostRuntime) {
-    expect_cases(&rt, "check", &CASES);
-}

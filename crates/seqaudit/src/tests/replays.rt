@@ -1,8 +1,8 @@
 //! Acts that are replayed: `replay` answers the bundle of what they report.
 
-use super::{Case, expect_cases};
+use super::Case;
 
-static CASES: [Case; 7] = [
+pub static CASES: [Case; 7] = [
     Case {
         name: "new_trace_after_clear",
         input: "seqtrace 1\n\
@@ -177,8 +177,3 @@ static CASES: [Case; 7] = [
         status: 0,
     },
 ];
-
-#[test]
-fn acts_are_replayed(rt: HostRuntime) {
-    expect_cases(&rt, "replay", &CASES);
-}

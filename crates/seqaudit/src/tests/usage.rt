@@ -1,6 +1,7 @@
 //! Words that ask for no command: the usage line, and status 3. The input isn't read.
 
 use super::expect;
+use std::test::Fail;
 
 static USAGE: &[u8] = b"usage: seqaudit check|audit|replay|drive|chart --label N\n";
 
@@ -22,8 +23,9 @@ static WORDS: [&[&str]; 14] = [
 ];
 
 #[test]
-fn other_words_are_told_the_usage(rt: HostRuntime) {
+fn other_words_are_told_the_usage(rt: HostRuntime) -> Result<(), Fail> {
     for words in WORDS {
-        expect(&rt, "usage", words, b"seqtrace 1\nacts\n", USAGE, 3);
+        expect(&rt, "usage", words, b"seqtrace 1\nacts\n", USAGE, 3)?;
     }
+    Ok(())
 }
