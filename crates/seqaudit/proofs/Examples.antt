@@ -1,4 +1,4 @@
--- The definitions of the output, computed on worked values.
+-- The definitions of the output say what is meant: here they are computed on worked values.
 use Rattle.std.proofs.Common.{◌≡◌, ℕ, List, [], ◌∷◌, codes, refl}
 use Rattle.std.specs.Fmt.{digits}
 use Rattle.st_core.specs.Pid.{pid_on}
@@ -29,5 +29,6 @@ too_many : (refused (faults.TooMany 1026)).text ≡ codes "fault too many 1026\n
 unfolding digits
 too_many = refl
 
-statuses : (judged (Yes [])).status ∷ (judged (Stuck 0)).status ∷ no_acts.status ∷ (refused faults.Truncated).status ∷ usage.status ∷ (refused faults.Memory).status ∷ [] ≡ 0 ∷ 1 ∷ 2 ∷ 2 ∷ 3 ∷ 4 ∷ []
+statuses : (judged (Yes [])).status ∷ (judged (Stuck 0)).status ∷ no_acts.status ∷ (refused faults.Truncated).status
+    ∷ usage.status ∷ (refused faults.Memory).status ∷ [] ≡ 0 ∷ 1 ∷ 2 ∷ 2 ∷ 3 ∷ 4 ∷ []
 statuses = refl

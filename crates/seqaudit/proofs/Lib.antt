@@ -3,5 +3,7 @@ pub mod Telling
 pub mod Replays
 pub mod Refusals
 pub mod Examples
+pub mod Owed
 pub mod Outputs
 pub mod Meanings
+pub mod Stored

@@ -1,23 +1,23 @@
--- A status belongs to one kind of output: 0 to a yes, 1 to a no. So an output with it has that verdict, which says the rest.
+-- A status belongs to one kind of output: 0 to a yes, 1 to a no. So an output with it has that verdict, which says
+-- the rest.
 use Rattle.std.proofs.Common.{◌≡◌, ◌≢◌, ℕ, ◌+◌, ◌≤◌, Bool, List, length, take, refl, sym, ap, subst, ◌∙◌, arith}
 use Rattle.std.specs.Prelude.{Option, Some, None, IsSome}
 use Rattle.st_core.specs.declared.types.Act.{Act}
 use Rattle.st_core.specs.State.{zero_state}
 use Rattle.st_core.specs.Step.{Outcome}
 use Rattle.st_core.specs.Run.{Stream, Shows, pids_of, run}
-use Rattle.st_core.specs.Pairs.{Follows, pairs}
+use Rattle.st_core.specs.Pairs.{Follows, AllPaired, pairs}
 use Rattle.st_core.specs.Verdict.{Verdict, Stuck, Differs, Left, Yes, IsVerdict}
 use Rattle.st_core.proofs.ForCallers.{one_verdict, run_from-take}
-use Rattle.st_check.proofs.ForCallers.{few_acts_run, verdict_follows}
 use Rattle.st_text.specs.declared.fault.ReadFault.{ReadFault}
 use Rattle.st_text.specs.declared.fault.ReadFault.TheVariants as faults
 use Rattle.seqaudit.specs.Output.{Output, judged, no_acts, refused}
 use Rattle.seqaudit.specs.Checked.{top, Spells, IsJudged, IsChecked, Judged, Lacking, Faulty}
-use Rattle.seqaudit.specs.Replayed.{IsStuck}
 use Rattle.seqaudit.specs.Command.{Owes, Tells}
 use Rattle.seqaudit.specs.Meaning.{MeansYes, MeansNo, Says}
 use Rattle.seqaudit.specs.Laws.{YesMeans, NoMeans, ShownIsYes, NeverStuck, NeverStuckInReplay}
 use Rattle.seqaudit.proofs.Outputs.{one_check}
+use Rattle.seqaudit.proofs.Owed.{judgement, spelled_run}
 use Rattle.seqaudit.proofs.Telling.{says}
 
 -- ---- faults have neither status
@@ -50,7 +50,8 @@ yes_verdict bytes (Yes ps) j e =
       spelled = j.spelled;
       runs = v.1;
       reports = v.2;
-      follows = subst (λ x. Follows acts os x) v.3 (j.follows os v.1);
+      paired = subst (AllPaired os) v.3 (j.paired os v.1);
+      follows = subst (Follows acts os) v.3 (j.follows os v.1);
       text = ap (λ x. (judged (Yes x)).text) v.3;
     }
 
@@ -62,16 +63,19 @@ yes_means bytes out (Faulty b f is) e = let high = fault_status_high f in absurd
 -- ---- a no
 
 -- acts that show the streams have the verdict yes
-shown_yes : (streams : List Stream) (acts : List Act) (h : Shows top streams acts) → IsVerdict top streams acts (Yes (pairs acts h.0))
+shown_yes : (streams : List Stream) (acts : List Act) (h : Shows top streams acts)
+    → IsVerdict top streams acts (Yes (pairs acts h.0))
 shown_yes streams acts h = (h.0, h.1, h.2, refl)
 
-no_verdict : (bytes : List ℕ) (v : Verdict) → IsJudged bytes v → ((ps : List (ℕ × ℕ)) → v ≢ Yes ps) → MeansNo bytes (judged v)
+no_verdict : (bytes : List ℕ) (v : Verdict) → IsJudged bytes v → ((ps : List (ℕ × ℕ)) → v ≢ Yes ps)
+    → MeansNo bytes (judged v)
 no_verdict bytes v j never = record {
   streams = j.streams;
   acts = j.acts;
   verdict = v;
   spelled = j.spelled;
-  refuted = λ shown. never (pairs j.acts shown.0) (one_verdict top j.streams j.acts v (Yes (pairs j.acts shown.0)) j.verdict (shown_yes j.streams j.acts shown));
+  refuted = λ shown. never (pairs j.acts shown.0)
+      (one_verdict top j.streams j.acts v (Yes (pairs j.acts shown.0)) j.verdict (shown_yes j.streams j.acts shown));
   text = refl;
   place = j.verdict;
 }
@@ -93,16 +97,13 @@ pub shown_is_yes : ShownIsYes
 shown_is_yes bytes streams acts out spelled shown is =
     let v = shown_yes streams acts shown in
     let yes = Yes (pairs acts shown.0) in
-    let owed = Judged bytes yes (record { streams = streams; acts = acts; spelled = spelled; verdict = v; follows = verdict_follows top streams acts yes v }) in
-    ap (λ (o : Output). o.status) (one_check bytes out (judged yes) is owed)
+    ap (λ (o : Output). o.status) (one_check bytes out (judged yes) is
+    (Judged bytes yes (judgement bytes streams acts yes spelled v)))
 
 -- ---- no act is stuck
 
--- acts that a text spells have a run
-spelled_run : (bytes : List ℕ) (streams : List Stream) (acts : List Act) → Spells bytes streams (Some acts) → IsSome (run top (pids_of streams) acts)
-spelled_run bytes streams acts s = few_acts_run top (pids_of streams) acts (let few = s.within.acts in omega arith) s.text.bundle.listed
-
-has_step : (streams : List Stream) (acts : List Act) (n : ℕ) → IsSome (run top (pids_of streams) acts) → run top (pids_of streams) (take n acts) ≢ None
+has_step : (streams : List Stream) (acts : List Act) (n : ℕ) → IsSome (run top (pids_of streams) acts)
+    → run top (pids_of streams) (take n acts) ≢ None
 has_step streams acts n some none = by (run top (pids_of streams) acts) refl some
   where
     by : (o : Option (List Outcome)) → run top (pids_of streams) acts ≡ o → IsSome o → ⊥
@@ -113,15 +114,21 @@ pub never_stuck : NeverStuck
 never_stuck bytes n j = has_step j.streams j.acts (n + 1) (spelled_run bytes j.streams j.acts j.spelled) j.verdict.2
 
 pub never_stuck_in_replay : NeverStuckInReplay
-never_stuck_in_replay bytes n h = has_step h.streams h.acts (n + 1) (spelled_run bytes h.streams h.acts h.spelled) h.sticks.none
+never_stuck_in_replay bytes n h =
+    has_step h.streams h.acts (n + 1) (spelled_run bytes h.streams h.acts h.spelled) h.sticks.none
 
 -- ---- of a call
 
-module _ {R W : Type 0} (gives : R → List ℕ → R → Type 0) (ended : R → Type 0) (read_failed : R → Bool) (reader read : R)
+module _ {R W : Type 0} (gives : R → List ℕ → R → Type 0) (ended : R → Type 0) (read_failed : R → Bool)
+    (reader read : R)
     (puts : W → List ℕ → W → Type 0) (write_failed : W → Bool) (writer written : W) (status : ℕ)
     (told : Tells puts write_failed writer written (Owes gives ended read_failed reader read IsChecked) status) where
   pub says_yes : status ≡ 0 → Says gives ended read_failed reader read puts write_failed writer written MeansYes
-  says_yes e = says gives ended read_failed reader read puts write_failed writer written IsChecked MeansYes 0 (λ same. cc) yes_means status told e
+  says_yes e =
+      says gives ended read_failed reader read puts write_failed writer written IsChecked MeansYes 0 (λ same. cc)
+      yes_means status told e
 
   pub says_no : status ≡ 1 → Says gives ended read_failed reader read puts write_failed writer written MeansNo
-  says_no e = says gives ended read_failed reader read puts write_failed writer written IsChecked MeansNo 1 (λ same. cc) no_means status told e
+  says_no e =
+      says gives ended read_failed reader read puts write_failed writer written IsChecked MeansNo 1 (λ same. cc)
+      no_means status told e

@@ -7,7 +7,8 @@ use Rattle.seqaudit.specs.Words.{IsRefusal}
 use Rattle.seqaudit.specs.Command.{OwesFor, ForUsage, ForNoMemory}
 use Rattle.seqaudit.specs.Parts.{refusal_output}
 
-pub owes_refusal : {R : Type 0} (gives : R → List ℕ → R → Type 0) (ended : R → Type 0) (failed : R → Bool) (reader : R) (words : List Text) (r : Refusal)
+pub owes_refusal : {R : Type 0} (gives : R → List ℕ → R → Type 0) (ended : R → Type 0) (failed : R → Bool)
+    (reader : R) (words : List Text) (r : Refusal)
     → IsRefusal words r → OwesFor gives ended failed reader reader words (refusal_output r)
 owes_refusal gives ended failed reader words refusals.Memory h = ForNoMemory refl
 owes_refusal gives ended failed reader words refusals.Usage h = ForUsage h refl

@@ -1,4 +1,5 @@
--- From the answer of a replay to the output that it stands for.
+-- A replay's streams and acts are those of the output, and an act that it is stuck at has no step, so its answer is
+-- owed.
 use Rattle.std.proofs.Common.{◌≡◌, List, subst, sym, ap, ◌∙◌}
 use Rattle.st_core.specs.declared.types.Pid.{Pid}
 use Rattle.st_core.specs.declared.types.Act.{Act}
@@ -10,9 +11,13 @@ use Rattle.seqaudit.specs.Checked.{top}
 use Rattle.seqaudit.specs.Output.{Output}
 use Rattle.seqaudit.specs.Parts.{ReplaysTo, Runs, Sticks, bundled, replayed_output}
 
-replays_on : (streams : List Stream) (acts : List Act) (r : Replayed) → IsReplay top (pids_of streams) acts r → ReplaysTo streams acts (replayed_output r acts)
-replays_on streams acts (answers.Ran ran replies) h = subst (λ (o : Output). ReplaysTo streams acts o) (ap (λ (s : List Stream). bundled s acts) (sym h.2)) (Runs h.0 h.1)
-replays_on streams acts (answers.Stuck n) h = Sticks n (record { within = h.0; before = h.1; none = h.2 })
+replays_on : (streams : List Stream) (acts : List Act) (r : Replayed) → IsReplay top (pids_of streams) acts r
+    → ReplaysTo streams acts (replayed_output r acts)
+replays_on streams acts (answers.Ran ran replies) h =
+    subst (ReplaysTo streams acts) (ap (λ (s : List Stream). bundled s acts) (sym h.are_streams))
+    (Runs h.outcomes h.runs)
+replays_on streams acts (answers.Stuck n) h = Sticks n h
 
-pub replays_to : (streams : List Stream) (pids : List Pid) (acts : List Act) (r : Replayed) → pids ≡ pids_of streams → IsReplay top pids acts r → ReplaysTo streams acts (replayed_output r acts)
+pub replays_to : (streams : List Stream) (pids : List Pid) (acts : List Act) (r : Replayed) → pids ≡ pids_of streams
+    → IsReplay top pids acts r → ReplaysTo streams acts (replayed_output r acts)
 replays_to streams pids acts r e h = replays_on streams acts r (subst (λ (p : List Pid). IsReplay top p acts r) e h)

@@ -1,4 +1,4 @@
--- No text that the program writes is empty.
+-- Each text ends a line, so none is empty.
 use Rattle.std.proofs.Common.{◌≡◌, ℕ, ◌+◌, ◌<◌, List, [], ◌∷◌, ◌++◌, length, codes, decimal, arith}
 use Rattle.std.specs.List.{flat_map}
 use Rattle.std.proofs.lemmas.List.{length-append}
@@ -13,4 +13,5 @@ pub verdict_some : (v : Verdict) → 0 < length (verdict_text v)
 verdict_some (Stuck n) = line_some (codes "no stuck " ++ decimal n)
 verdict_some (Differs n) = line_some (codes "no differs " ++ decimal n)
 verdict_some (Left p) = line_some (codes "no left " ++ spelled.pid p)
-verdict_some (Yes ps) = omega (arith, line_some (codes "yes"), length-append (line (codes "yes")) (flat_map pair_line ps))
+verdict_some (Yes ps) =
+    omega (arith, line_some (codes "yes"), length-append (line (codes "yes")) (flat_map pair_line ps))

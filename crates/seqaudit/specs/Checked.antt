@@ -3,7 +3,7 @@ use Rattle.std.specs.Prelude.{◌≡◌, ℕ, List, Option, Some, None}
 use Rattle.st_core.specs.declared.types.Act.{Act}
 use Rattle.st_core.specs.Run.{Stream}
 use Rattle.st_core.specs.Verdict.{Verdict, IsVerdict}
-use Rattle.st_check.specs.Answers.{FollowsAll}
+use Rattle.st_check.specs.Answers.{FollowsAll, PairsAll}
 use Rattle.st_text.specs.declared.fault.ReadFault.{ReadFault}
 use Rattle.st_text.specs.Text.{IsText, IsWithin}
 use Rattle.st_text.specs.Fault.{fault}
@@ -18,13 +18,15 @@ pub record Spells (bytes : List ℕ) (streams : List Stream) (acts : Option (Lis
   pub text : IsText bytes (record { streams = streams; acts = acts })
   pub within : IsWithin (record { streams = streams; acts = acts })
 
--- the bytes spell streams and acts, of which this is the verdict; on a yes each reported receive follows its send
+-- the bytes spell streams and acts, of which this is the verdict; on a yes each reported receive has a pair and
+-- follows it
 pub record IsJudged (bytes : List ℕ) (v : Verdict) : Type 0 where
   pub streams : List Stream
   pub acts : List Act
   pub spelled : Spells bytes streams (Some acts)
   pub verdict : IsVerdict top streams acts v
   pub follows : FollowsAll top streams acts v
+  pub paired : PairsAll top streams acts v
 
 -- the bytes spell streams without acts
 pub record LacksActs (bytes : List ℕ) : Type 0 where

@@ -25,12 +25,14 @@ module _ {R : Type 0} (gives : R → List ℕ → R → Type 0) (ended : R → T
     pub whole : ended new ⊎ (length bytes ≡ most_bytes + 1)
     pub sound : failed new ≡ false
 
-  -- the output that a command owes, by what it makes of all the bytes; want of memory and a failed reader have their own,
+  -- the output that a command owes, by what it makes of all the bytes; want of memory and a failed reader have their
+  -- own,
   -- and neither stands in place of the fault of too many bytes
   pub data Owes (IsOutput : List ℕ → Output → Type 0) : Output → Type 0 where
     OfBytes : (bytes : List ℕ) (out : Output) → ReadsAll bytes → IsOutput bytes out → Owes IsOutput out
     ForMemory : (bytes : List ℕ) → ReadsAll bytes → length bytes ≤ most_bytes → Owes IsOutput no_memory
-    ForReader : (bytes : List ℕ) → InARow gives old bytes new → length bytes ≤ most_bytes → failed new ≡ true → Owes IsOutput no_device
+    ForReader : (bytes : List ℕ) → InARow gives old bytes new → length bytes ≤ most_bytes → failed new ≡ true
+        → Owes IsOutput no_device
 
   -- the output that the program owes, by its words: where they ask for no command, nothing is read
   pub data OwesFor (words : List Text) : Output → Type 0 where
@@ -40,7 +42,8 @@ module _ {R : Type 0} (gives : R → List ℕ → R → Type 0) (ended : R → T
 
 -- of a writer: what its calls put, whether it failed, and its states before and after
 module _ {W : Type 0} (puts : W → List ℕ → W → Type 0) (failed : W → Bool) (old new : W) where
-  -- the output was written whole and its status answered; or the writer failed after a prefix of the text, and the status
+  -- the output was written whole and its status answered; or the writer failed after a prefix of the text, and the
+  -- status
   -- is 4
   pub data Delivers (out : Output) : ℕ → Type 0 where
     Whole : Writes puts failed out.text old new → Delivers out out.status

@@ -17,7 +17,9 @@ NoMeans = (bytes : List ℕ) (out : Output) → IsChecked bytes out → out.stat
 
 -- where the bytes spell acts that show the streams, the answer is a yes
 abbrev pub ShownIsYes : Type 0
-ShownIsYes = (bytes : List ℕ) (streams : List Stream) (acts : List Act) (out : Output) → Spells bytes streams (Some acts) → Shows top streams acts → IsChecked bytes out → out.status ≡ 0
+ShownIsYes =
+    (bytes : List ℕ) (streams : List Stream) (acts : List Act) (out : Output) → Spells bytes streams (Some acts)
+    → Shows top streams acts → IsChecked bytes out → out.status ≡ 0
 
 -- bytes have an output of the command, and one at most
 abbrev pub HasOutput : (List ℕ → Output → Type 0) → Type 0

@@ -1,11 +1,11 @@
 -- The words of each line of the program's own, for the contracts of the functions that write them.
 use Rattle.std.specs.Prelude.{ℕ, List, ◌++◌, codes, decimal}
 use Rattle.st_text.specs.Spelling as spelled
-use Rattle.seqaudit.specs.declared.lines.Line.{Line}
-use Rattle.seqaudit.specs.declared.lines.Line.TheVariants as lines
+use Rattle.seqaudit.specs.declared.lines.OutputLine.{OutputLine}
+use Rattle.seqaudit.specs.declared.lines.OutputLine.TheVariants as lines
 use Rattle.seqaudit.specs.Output.{line, pair_words, fault_words, usage_words}
 
-abbrev pub words : Line → List ℕ
+abbrev pub words : OutputLine → List ℕ
 words lines.Yes = codes "yes"
 words (lines.Pair r s) = pair_words (r, s)
 words (lines.Stuck n) = codes "no stuck " ++ decimal n
@@ -15,5 +15,5 @@ words (lines.Fault f) = fault_words f
 words lines.NoActs = codes "fault no acts"
 words lines.Usage = usage_words
 
-abbrev pub text_of : Line → List ℕ
+abbrev pub text_of : OutputLine → List ℕ
 text_of l = line (words l)

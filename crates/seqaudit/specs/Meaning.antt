@@ -4,7 +4,7 @@ use Rattle.std.specs.List.{flat_map}
 use Rattle.st_core.specs.declared.types.Act.{Act}
 use Rattle.st_core.specs.Step.{Outcome}
 use Rattle.st_core.specs.Run.{Stream, Shows, pids_of, run, stream}
-use Rattle.st_core.specs.Pairs.{Follows, pairs}
+use Rattle.st_core.specs.Pairs.{Follows, AllPaired, pairs}
 use Rattle.st_core.specs.Verdict.{Verdict, IsVerdict}
 use Rattle.st_text.specs.Writing.{Writes}
 use Rattle.seqaudit.specs.Output.{Output, line, pair_line, verdict_text}
@@ -22,7 +22,9 @@ pub record MeansYes (bytes : List ℕ) (out : Output) : Type 0 where
   pub runs : run top (pids_of streams) acts ≡ Some outcomes
   -- in it each process reports exactly its stream; so the acts show the streams (`Shows`)
   pub reports : All (λ x. stream acts outcomes x.pid ≡ x.events) streams
-  -- each pair's receive follows its send, with the same label and serial, and no send stands twice
+  -- each receive that was reported stands in a pair
+  pub paired : AllPaired outcomes (pairs acts outcomes)
+  -- in each pair the receive follows its send, with the same label and serial, and no send stands twice
   pub follows : Follows acts outcomes (pairs acts outcomes)
   -- the text is the line yes and a line for each of these pairs
   pub text : out.text ≡ line (codes "yes") ++ flat_map pair_line (pairs acts outcomes)
@@ -38,12 +40,15 @@ pub record MeansNo (bytes : List ℕ) (out : Output) : Type 0 where
   pub refuted : ¬ Shows top streams acts
   -- the text names a place
   pub text : out.text ≡ verdict_text verdict
-  -- and the place shows it: up to there all passes, and act n has no step or reports another event, or p has events left
+  -- and the place shows it: up to there all passes, and act n has no step or reports another event, or p has events
+  -- left
   pub place : IsVerdict top streams acts verdict
 
 -- all bytes were read, and of them an output with this meaning was written whole
-pub record Says {R W : Type 0} (gives : R → List ℕ → R → Type 0) (ended : R → Type 0) (read_failed : R → Bool) (reader read : R)
-    (puts : W → List ℕ → W → Type 0) (write_failed : W → Bool) (writer written : W) (Means : List ℕ → Output → Type 0) : Type 0 where
+pub record Says {R W : Type 0} (gives : R → List ℕ → R → Type 0) (ended : R → Type 0) (read_failed : R → Bool)
+    (reader read : R)
+    (puts : W → List ℕ → W → Type 0) (write_failed : W → Bool) (writer written : W)
+    (Means : List ℕ → Output → Type 0) : Type 0 where
   pub bytes : List ℕ
   pub output : Output
   pub reads : ReadsAll gives ended read_failed reader read bytes

@@ -6,7 +6,7 @@ use Rattle.st_core.specs.declared.types.Act.{Act}
 use Rattle.st_core.specs.Step.{Outcome}
 use Rattle.st_core.specs.Run.{Stream, pids_of, run}
 use Rattle.st_core.specs.Verdict.{Verdict, IsVerdict}
-use Rattle.st_check.specs.Answers.{FollowsAll}
+use Rattle.st_check.specs.Answers.{FollowsAll, PairsAll, SticksAt}
 use Rattle.st_check.specs.declared.verdict.Replayed.{Replayed}
 use Rattle.st_check.specs.declared.verdict.Replayed.TheVariants as answers
 use Rattle.st_text.specs.Text.{Contents, spelling}
@@ -14,17 +14,19 @@ use Rattle.seqaudit.specs.declared.words.Refusal.{Refusal}
 use Rattle.seqaudit.specs.declared.words.Refusal.TheVariants as refusals
 use Rattle.seqaudit.specs.Output.{Output, judged, no_acts, no_memory, usage}
 use Rattle.seqaudit.specs.Checked.{top}
-use Rattle.seqaudit.specs.Replayed.{replayed, stuck, IsStuck}
+use Rattle.seqaudit.specs.Replayed.{replayed, stuck}
 
 -- the verdict of streams and acts
 pub data ChecksTo (streams : List Stream) (acts : List Act) : Output → Type 0 where
-  Judges : (v : Verdict) → IsVerdict top streams acts v → FollowsAll top streams acts v → ChecksTo streams acts (judged v)
+  Judges : (v : Verdict) → IsVerdict top streams acts v → FollowsAll top streams acts v → PairsAll top streams acts v
+      → ChecksTo streams acts (judged v)
   NoRoomToCheck : ChecksTo streams acts no_memory
 
 -- what the acts report
 pub data ReplaysTo (streams : List Stream) (acts : List Act) : Output → Type 0 where
-  Runs : (os : List Outcome) → run top (pids_of streams) acts ≡ Some os → ReplaysTo streams acts (replayed (pids_of streams) acts os)
-  Sticks : (n : ℕ) → IsStuck (pids_of streams) acts n → ReplaysTo streams acts (stuck n)
+  Runs : (os : List Outcome) → run top (pids_of streams) acts ≡ Some os
+      → ReplaysTo streams acts (replayed (pids_of streams) acts os)
+  Sticks : (n : ℕ) → SticksAt top (pids_of streams) acts n → ReplaysTo streams acts (stuck n)
   NoRoomToReplay : ReplaysTo streams acts no_memory
 
 -- the same of a bundle, which may have no acts

@@ -12,14 +12,21 @@ use Rattle.seqaudit.specs.declared.words.Refusal.TheVariants as refused
 
 -- the program and its commands, which take no words of their own
 abbrev pub command_line : App
-command_line = with_subcommand (with_subcommand (new_app (codes "seqaudit")) (new_app (codes "check")).top) (new_app (codes "replay")).top
+command_line =
+    with_subcommand (with_subcommand (new_app (codes "seqaudit")) (new_app (codes "check")).top)
+    (new_app (codes "replay")).top
 
 abbrev pub task_named : Text → Option Task
-task_named name = if bytes_eq name (codes "check") then Some task.Check else (if bytes_eq name (codes "replay") then Some task.Replay else None)
+task_named name =
+    if bytes_eq name (codes "check") then Some task.Check
+    else (if bytes_eq name (codes "replay") then Some task.Replay else None)
 
--- the command that the words ask for, by the subcommand that `clap` finds in them; none where it refuses them or finds none
+-- the command that the words ask for, by the subcommand that `clap` finds in them; none where it refuses them or
+-- finds none
 abbrev pub asked : List Text → Option Task
-asked words = if is_empty (fault_of command_line words) then option_and_then (λ p. task_named p.0) (subcommand_of command_line words) else None
+asked words =
+    if is_empty (fault_of command_line words) then option_and_then (λ p. task_named p.0)
+    (subcommand_of command_line words) else None
 
 -- `clap` refuses for want of memory, or for another cause
 abbrev pub IsRefusalOf : ErrorKind → Refusal → Type 0

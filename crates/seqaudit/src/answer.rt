@@ -7,7 +7,7 @@ ghost use Rattle.seqaudit.specs.Lines.{text_of};
 ghost use Rattle.seqaudit.specs.Output.{verdict_status, fault_status, judged, refused};
 ghost use Rattle.seqaudit.specs.Parts.{bundled, refusal_output};
 
-use crate::lines::{Line, send_line, send_verdict};
+use crate::lines::{OutputLine, send_line, send_verdict};
 use crate::words::Refusal;
 use st_check::Verdict;
 use st_core::{Act, ByteSink, Streams};
@@ -50,7 +50,7 @@ fn fault_status(fault: ReadFault) -> u8
 }
 
 /// Answers a line.
-pub(crate) fn tell_line<W: ByteSink>(writer: &mut W, line: Line, status: u8) -> u8
+pub(crate) fn tell_line<W: ByteSink>(writer: &mut W, line: OutputLine, status: u8) -> u8
     ensures { Delivers W.puts W.failed writer.old writer.new (record { text = text_of line; status = status }) result }
 {
     let sent = send_line(writer, line);
@@ -69,7 +69,7 @@ pub(crate) fn tell_verdict<W: ByteSink>(writer: &mut W, verdict: &Verdict) -> u8
 pub(crate) fn tell_fault<W: ByteSink>(writer: &mut W, fault: ReadFault) -> u8
     ensures { Delivers W.puts W.failed writer.old writer.new (refused fault) result }
 {
-    tell_line(writer, Line::Fault(fault), fault_status(fault))
+    tell_line(writer, OutputLine::Fault(fault), fault_status(fault))
 }
 
 /// Answers the text of streams and acts.
@@ -86,6 +86,6 @@ pub(crate) fn tell_refusal<W: ByteSink>(writer: &mut W, refusal: Refusal) -> u8
 {
     match refusal {
         Refusal::Memory => tell_fault(writer, ReadFault::Memory),
-        Refusal::Usage => tell_line(writer, Line::Usage, 3),
+        Refusal::Usage => tell_line(writer, OutputLine::Usage, 3),
     }
 }

@@ -8,7 +8,7 @@ ghost use Rattle.seqaudit.specs.Meaning.{Says, MeansYes, MeansNo};
 ghost use Rattle.seqaudit.specs.Parts.{ChecksTo, OfBundle};
 
 use crate::answer::{tell_fault, tell_line, tell_verdict};
-use crate::lines::Line;
+use crate::lines::OutputLine;
 use st_check::{CheckFault, check};
 use st_core::{Act, ByteSink, ByteSource, Streams};
 use st_text::{Bundle, ReadFault, read};
@@ -33,7 +33,7 @@ fn check_bundle<W: ByteSink>(alloc: Global, bundle: &Bundle, writer: &mut W) -> 
 {
     match &bundle.acts {
         Some(acts) => check_acts(alloc, &bundle.streams, acts.as_slice(), writer),
-        None => tell_line(writer, Line::NoActs, 2),
+        None => tell_line(writer, OutputLine::NoActs, 2),
     }
 }
 

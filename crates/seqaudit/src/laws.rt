@@ -2,8 +2,11 @@
 //! laws.
 
 ghost use Rattle.seqaudit.specs.Checked.{IsChecked};
-ghost use Rattle.seqaudit.specs.Laws.{YesMeans, NoMeans, ShownIsYes, HasOneOutput, NeverStuck, NeverStuckInReplay};
+ghost use Rattle.seqaudit.specs.Laws.{YesMeans, NoMeans, ShownIsYes, HasOutput, HasOneOutput};
+ghost use Rattle.seqaudit.specs.Laws.{NeverStuck, NeverStuckInReplay};
 ghost use Rattle.seqaudit.specs.Replayed.{IsReplayed};
+
+use st_core::laws::a_verdict;
 
 /// An output of the check with status 0 means that the bytes spell streams and acts, that the acts
 /// are a run of the machine from zero clocks in which each process reports exactly its stream, and
@@ -22,6 +25,14 @@ pub fn no_means()
 pub fn shown_is_yes()
     ensures { ShownIsYes }
 {}
+
+/// Bytes have an output of each command.
+pub fn an_answer()
+    ensures check { HasOutput IsChecked }
+    ensures replay { HasOutput IsReplayed }
+{
+    a_verdict();
+}
 
 /// Bytes have one output of each command at most, so whoever knows the bytes that were read knows
 /// which output is owed.

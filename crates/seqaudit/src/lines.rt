@@ -15,7 +15,7 @@ use st_text::{Buffer, Device, ReadFault, flush, make_room, put_bytes, put_number
 
 /// A line of the program's own.
 #[derive(Clone, Copy, Debug)]
-pub(crate) enum Line {
+pub(crate) enum OutputLine {
     /// The certificate is one.
     Yes,
     /// A reported receive and its send, by the numbers of their acts.
@@ -74,23 +74,23 @@ fn put_fault(buffer: &mut Buffer, fault: ReadFault)
 }
 
 /// Appends the words of a line.
-fn put_words(buffer: &mut Buffer, line: Line)
+fn put_words(buffer: &mut Buffer, line: OutputLine)
     requires { array_vec_len buffer.old + 80 ≤ 8192 }
     ensures items { buffer.new.items ≡ buffer.old.items ++ words line }
     ensures len { array_vec_len buffer.new ≤ array_vec_len buffer.old + 80 }
 {
     match line {
-        Line::Yes => put_bytes(buffer, b"yes"),
-        Line::Pair(receive, send) => put_pair(buffer, receive, send),
-        Line::Stuck(n) => put_numbered(buffer, b"no stuck ", n),
-        Line::Differs(n) => put_numbered(buffer, b"no differs ", n),
-        Line::Left(pid) => {
+        OutputLine::Yes => put_bytes(buffer, b"yes"),
+        OutputLine::Pair(receive, send) => put_pair(buffer, receive, send),
+        OutputLine::Stuck(n) => put_numbered(buffer, b"no stuck ", n),
+        OutputLine::Differs(n) => put_numbered(buffer, b"no differs ", n),
+        OutputLine::Left(pid) => {
             put_bytes(buffer, b"no left ");
             put_pid(buffer, pid);
         }
-        Line::Fault(fault) => put_fault(buffer, fault),
-        Line::NoActs => put_bytes(buffer, b"fault no acts"),
-        Line::Usage => put_bytes(
+        OutputLine::Fault(fault) => put_fault(buffer, fault),
+        OutputLine::NoActs => put_bytes(buffer, b"fault no acts"),
+        OutputLine::Usage => put_bytes(
             buffer,
             b"usage: seqaudit check|audit|replay|drive|chart --label N",
         ),
@@ -98,7 +98,7 @@ fn put_words(buffer: &mut Buffer, line: Line)
 }
 
 /// Appends a line and its newline.
-fn put_line(buffer: &mut Buffer, line: Line)
+fn put_line(buffer: &mut Buffer, line: OutputLine)
     requires { array_vec_len buffer.old + 256 ≤ 8192 }
     ensures { buffer.new.items ≡ buffer.old.items ++ text_of line }
 {
@@ -107,8 +107,13 @@ fn put_line(buffer: &mut Buffer, line: Line)
 }
 
 /// Writes a line into the buffer, and first what waits there where that is much.
-fn write_line<W: ByteSink>(writer: &mut W, buffer: &mut Buffer, line: Line) -> Result<(), Device>
-    ensures { GoesOn W.puts W.failed (text_of line) writer.old writer.new buffer.old.items buffer.new.items result }
+fn write_line<W: ByteSink>(
+    writer: &mut W,
+    buffer: &mut Buffer,
+    line: OutputLine,
+) -> Result<(), Device>
+    ensures { GoesOn W.puts W.failed (text_of line)
+        writer.old writer.new buffer.old.items buffer.new.items result }
 {
     make_room(writer, buffer)?;
     put_line(buffer, line);
@@ -121,10 +126,11 @@ fn write_pairs<W: ByteSink>(
     buffer: &mut Buffer,
     pairs: &[(u64, u64)],
 ) -> Result<(), Device>
-    ensures { GoesOn W.puts W.failed (flat_map pair_line pairs.now) writer.old writer.new buffer.old.items buffer.new.items result }
+    ensures { GoesOn W.puts W.failed (flat_map pair_line pairs.now)
+        writer.old writer.new buffer.old.items buffer.new.items result }
 {
     for pair in pairs {
-        write_line(writer, buffer, Line::Pair(pair.0, pair.1))?;
+        write_line(writer, buffer, OutputLine::Pair(pair.0, pair.1))?;
     }
     Ok(())
 }
@@ -135,9 +141,10 @@ fn write_yes<W: ByteSink>(
     buffer: &mut Buffer,
     pairs: &[(u64, u64)],
 ) -> Result<(), Device>
-    ensures { GoesOn W.puts W.failed (text_of Line.Yes ++ flat_map pair_line pairs.now) writer.old writer.new buffer.old.items buffer.new.items result }
+    ensures { GoesOn W.puts W.failed (text_of OutputLine.Yes ++ flat_map pair_line pairs.now)
+        writer.old writer.new buffer.old.items buffer.new.items result }
 {
-    write_line(writer, buffer, Line::Yes)?;
+    write_line(writer, buffer, OutputLine::Yes)?;
     write_pairs(writer, buffer, pairs)
 }
 
@@ -147,18 +154,19 @@ fn write_verdict<W: ByteSink>(
     buffer: &mut Buffer,
     verdict: &Verdict,
 ) -> Result<(), Device>
-    ensures { GoesOn W.puts W.failed (verdict_text (verdict_of verdict.now)) writer.old writer.new buffer.old.items buffer.new.items result }
+    ensures { GoesOn W.puts W.failed (verdict_text (verdict_of verdict.now))
+        writer.old writer.new buffer.old.items buffer.new.items result }
 {
     match verdict {
-        Verdict::Stuck(n) => write_line(writer, buffer, Line::Stuck(*n)),
-        Verdict::Differs(n) => write_line(writer, buffer, Line::Differs(*n)),
-        Verdict::Left(pid) => write_line(writer, buffer, Line::Left(*pid)),
+        Verdict::Stuck(n) => write_line(writer, buffer, OutputLine::Stuck(*n)),
+        Verdict::Differs(n) => write_line(writer, buffer, OutputLine::Differs(*n)),
+        Verdict::Left(pid) => write_line(writer, buffer, OutputLine::Left(*pid)),
         Verdict::Yes(pairs) => write_yes(writer, buffer, pairs.as_slice()),
     }
 }
 
 /// Writes one line to the writer.
-pub(crate) fn send_line<W: ByteSink>(writer: &mut W, line: Line) -> Result<(), Device>
+pub(crate) fn send_line<W: ByteSink>(writer: &mut W, line: OutputLine) -> Result<(), Device>
     ensures { WritesText W.puts W.failed (text_of line) writer.old writer.new result }
 {
     let mut buffer = Buffer::new();

@@ -12,15 +12,30 @@ mod program;
 mod replay;
 mod words;
 
-use crate::answer::tell_fault;
+ghost use Rattle.std.specs.IoError.{error_kind};
+ghost use Rattle.std.specs.Prelude.{◌≡◌, ◌≢◌};
+
+use crate::answer::tell_refusal;
 pub use check::run_check;
 pub use program::run;
 pub use replay::run_replay;
 use st_core::{ReadFrom, WriteTo};
-use st_text::ReadFault;
+use std::io::ErrorKind;
 use std::process::ExitCode;
 use std::{env, io};
 pub use words::{Refusal, Task, plain_words, read_words};
+
+/// Why the words of the command line can't be had: for want of memory, or where one isn't UTF-8, which
+/// is no word of a command.
+fn why_unread(error: &io::Error) -> Refusal
+    ensures memory { error_kind error.now ≡ ErrorKind.OutOfMemory → result ≡ Refusal.Memory }
+    ensures usage { error_kind error.now ≢ ErrorKind.OutOfMemory → result ≡ Refusal.Usage }
+{
+    match error.kind() {
+        ErrorKind::OutOfMemory => Refusal::Memory,
+        _ => Refusal::Usage,
+    }
+}
 
 /// The words of the command line.
 fn words_of(rt: &HostRuntime) -> io::Result<Vec<String>> {
@@ -33,7 +48,7 @@ fn main(rt: HostRuntime) -> ExitCode {
     let mut writer = WriteTo::new(rt.stdout());
     let status = match words_of(&rt) {
         Ok(words) => run(&rt, words.as_slice(), &mut reader, &mut writer),
-        Err(_) => tell_fault(&mut writer, ReadFault::Memory),
+        Err(error) => tell_refusal(&mut writer, why_unread(&error)),
     };
     ExitCode::from(status)
 }

@@ -8,7 +8,7 @@ ghost use Rattle.seqaudit.specs.Replayed.{IsReplayed};
 
 use crate::answer::{tell_bundle, tell_fault, tell_line};
 use crate::check::TOP;
-use crate::lines::Line;
+use crate::lines::OutputLine;
 use st_check::{ReplayFault, Replayed, replay};
 use st_core::{Act, ByteSink, ByteSource, Streams};
 use st_text::{Bundle, ReadFault, read};
@@ -20,7 +20,7 @@ fn tell_replayed<W: ByteSink>(writer: &mut W, replayed: &Replayed, acts: &[Act])
 {
     match replayed {
         Replayed::Ran(streams, _) => tell_bundle(writer, streams, acts),
-        Replayed::Stuck(n) => tell_line(writer, Line::Stuck(*n), 1),
+        Replayed::Stuck(n) => tell_line(writer, OutputLine::Stuck(*n), 1),
     }
 }
 
@@ -41,7 +41,7 @@ fn replay_bundle<W: ByteSink>(alloc: Global, bundle: &Bundle, writer: &mut W) ->
 {
     match &bundle.acts {
         Some(acts) => replay_acts(alloc, &bundle.streams, acts.as_slice(), writer),
-        None => tell_line(writer, Line::NoActs, 2),
+        None => tell_line(writer, OutputLine::NoActs, 2),
     }
 }
 

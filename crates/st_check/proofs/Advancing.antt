@@ -1,5 +1,7 @@
--- The act of one number after the acts before it.
-use Rattle.std.proofs.Common.{◌≡◌, ℕ, ◌+◌, ◌<◌, ◌⊎◌, false, List, [], ◌∷◌, ◌++◌, length, map, take, get_or, Option, Some, None, IsSome, is_some, option_map, option_and_then, refl, sym, ◌∙◌, ap, subst, arith, inl, inr, length-take-le, if◌then◌else◌}
+-- The act of a number comes right after the acts before it, so what one more act does is what this act does.
+use Rattle.std.proofs.Common.{◌≡◌, ℕ, ◌+◌, ◌<◌, ◌⊎◌, false, List, [], ◌∷◌, ◌++◌, length, map, take, get_or, Option}
+use Rattle.std.proofs.Common.{Some, None, IsSome, is_some, option_map, option_and_then, refl, sym, ◌∙◌, ap, subst}
+use Rattle.std.proofs.Common.{arith, inl, inr, length-take-le, if◌then◌else◌}
 use Rattle.std.specs.Option.{ForSome, option_and}
 use Rattle.std.specs.List.{AllByRecursion, slice_get}
 use Rattle.std.proofs.lemmas.List.{take_more, length-map}
@@ -23,14 +25,22 @@ use Rattle.st_check.proofs.Appended.{pair_of}
 use Rattle.st_check.proofs.Passing.{unlisted_stuck, stuck_more, passed_more, differs_more}
 
 -- as many counts as streams
-pub length-counts : (top : ℕ) (streams : List Stream) (acts : List Act) (s : State) (counts : List ℕ) (tags : List (List ℕ)) (ps : List (ℕ × ℕ)) → IsPassed top streams acts s counts tags ps → length counts ≡ length (pids_of streams)
-length-counts top streams acts s counts tags ps p = ap length p.are_counts ∙ length-map (pids_of streams) (count_of acts p.outcomes)
+pub length-counts : (top : ℕ) (streams : List Stream) (acts : List Act) (s : State) (counts : List ℕ)
+    (tags : List (List ℕ)) (ps : List (ℕ × ℕ)) → IsPassed top streams acts s counts tags ps
+    → length counts ≡ length (pids_of streams)
+length-counts top streams acts s counts tags ps p =
+    ap length p.are_counts ∙ length-map (pids_of streams) (count_of acts p.outcomes)
 
-pub length-tags : (top : ℕ) (streams : List Stream) (acts : List Act) (s : State) (counts : List ℕ) (tags : List (List ℕ)) (ps : List (ℕ × ℕ)) → IsPassed top streams acts s counts tags ps → length tags ≡ length (pids_of streams)
-length-tags top streams acts s counts tags ps p = ap length p.are_tags ∙ length-map (pids_of streams) (tags_of acts p.outcomes)
+pub length-tags : (top : ℕ) (streams : List Stream) (acts : List Act) (s : State) (counts : List ℕ)
+    (tags : List (List ℕ)) (ps : List (ℕ × ℕ)) → IsPassed top streams acts s counts tags ps
+    → length tags ≡ length (pids_of streams)
+length-tags top streams acts s counts tags ps p =
+    ap length p.are_tags ∙ length-map (pids_of streams) (tags_of acts p.outcomes)
 
 no_actor : (top : ℕ) (s : State) (a : Act) → process s (actor a) ≡ None → step top s a ≡ None
-no_actor top s a missing = ap (option_and_then (λ r. option_and_then (λ (_ : Process). option_map (outcome_of s a) (acted top r a)) (process s (receiver a)))) missing
+no_actor top s a missing =
+    ap (option_and_then (λ r. option_and_then (λ (_ : Process). option_map (outcome_of s a) (acted top r a))
+    (process s (receiver a)))) missing
 
 none_after : {A B : Type 0} (o : Option A) → (let none : Option B = None in option_and_then (λ (_ : A). none) o) ≡ None
 none_after None = refl
@@ -38,30 +48,40 @@ none_after (Some x) = refl
 
 no_receiver : (top : ℕ) (s : State) (a : Act) → process s (receiver a) ≡ None → step top s a ≡ None
 no_receiver top s a missing =
-    ap (λ (x : Option Process). option_and_then (λ r. option_and_then (λ (_ : Process). option_map (outcome_of s a) (acted top r a)) x) (process s (actor a))) missing
+    ap (λ (x : Option Process). option_and_then
+    (λ r. option_and_then (λ (_ : Process). option_map (outcome_of s a) (acted top r a)) x) (process s (actor a)))
+    missing
     ∙ none_after (process s (actor a))
 
 -- an act that isn't refused for want of memory has no step
-pub fault_stuck : (top : ℕ) (s : State) (a : Act) (f : StepFault) → IsFault top s a f → (f ≡ fault.Memory) ⊎ (step top s a ≡ None)
+pub fault_stuck : (top : ℕ) (s : State) (a : Act) (f : StepFault) → IsFault top s a f
+    → (f ≡ fault.Memory) ⊎ (step top s a ≡ None)
 fault_stuck top s a fault.Memory is = inl refl
 fault_stuck top s a fault.Unknown (inl missing) = inr (no_actor top s a missing)
 fault_stuck top s a fault.Unknown (inr missing) = inr (no_receiver top s a missing)
 fault_stuck top s a fault.ClockFull is = inr is.2
 
-module _ (top : ℕ) (streams : List Stream) (acts : List Act) (n : ℕ) (d : Act) (s : State) (counts : List ℕ) (tags : List (List ℕ)) (ps : List (ℕ × ℕ)) (within : n < length acts) (p : IsPassed top streams (take n acts) s counts tags ps) where
+module _ (top : ℕ) (streams : List Stream) (acts : List Act) (n : ℕ) (d : Act) (s : State) (counts : List ℕ)
+    (tags : List (List ℕ)) (ps : List (ℕ × ℕ)) (within : n < length acts)
+    (p : IsPassed top streams (take n acts) s counts tags ps) where
   more : take n acts ++ get_or acts n d ∷ [] ≡ take (n + 1) acts
   more = sym (take_more acts n d within)
 
   stuck_at : step top s (get_or acts n d) ≡ None → run top (pids_of streams) (take (n + 1) acts) ≡ None
-  stuck_at h = subst (λ xs. run top (pids_of streams) xs ≡ None) more (stuck_more top streams (take n acts) s counts tags ps (get_or acts n d) p h)
+  stuck_at h =
+      subst (λ xs. run top (pids_of streams) xs ≡ None) more
+      (stuck_more top streams (take n acts) s counts tags ps (get_or acts n d) p h)
 
   -- its process isn't listed
-  pub unlisted_at : (pids : List Pid) (me : Pid) → pids ≡ pids_of streams → me ≡ actor (get_or acts n d) → AllByRecursion (λ q. pid_eq q me ≡ false) pids → run top (pids_of streams) (take (n + 1) acts) ≡ None
+  pub unlisted_at : (pids : List Pid) (me : Pid) → pids ≡ pids_of streams → me ≡ actor (get_or acts n d)
+      → AllByRecursion (λ q. pid_eq q me ≡ false) pids → run top (pids_of streams) (take (n + 1) acts) ≡ None
   unlisted_at pids me are is apart =
       stuck_at (unlisted_stuck top streams (take n acts) s counts tags ps (get_or acts n d) p
-      (subst (λ who. AllByRecursion (λ q. pid_eq q who ≡ false) (pids_of streams)) is (subst (AllByRecursion (λ q. pid_eq q me ≡ false)) are apart)))
+      (subst (λ who. AllByRecursion (λ q. pid_eq q who ≡ false) (pids_of streams)) is
+      (subst (AllByRecursion (λ q. pid_eq q me ≡ false)) are apart)))
 
-  stop_at : (f : StepFault) → (f ≡ fault.Memory) ⊎ (step top s (get_or acts n d) ≡ None) → IsStop top streams (take (n + 1) acts) (stop_of f)
+  stop_at : (f : StepFault) → (f ≡ fault.Memory) ⊎ (step top s (get_or acts n d) ≡ None)
+      → IsStop top streams (take (n + 1) acts) (stop_of f)
   stop_at fault.Memory why = tt
   stop_at fault.Unknown (inl memory) = absurd (cc)
   stop_at fault.Unknown (inr none) = stuck_at none
@@ -69,17 +89,23 @@ module _ (top : ℕ) (streams : List Stream) (acts : List Act) (n : ℕ) (d : Ac
   stop_at fault.ClockFull (inr none) = stuck_at none
 
   -- the world refuses it
-  pub refused_at : (f : StepFault) → IsFault top s (get_or acts n d) f → IsStop top streams (take (n + 1) acts) (stop_of f)
+  pub refused_at : (f : StepFault) → IsFault top s (get_or acts n d) f
+      → IsStop top streams (take (n + 1) acts) (stop_of f)
   refused_at f is = stop_at f (fault_stuck top s (get_or acts n d) f is)
 
-  module _ (pids : List Pid) (me : Pid) (place : ℕ) (events : List Event) (o : Outcome) (rising : IsRising (pids_of streams)) (are : pids ≡ pids_of streams) (is : me ≡ actor (get_or acts n d)) (at : slice_get pids place ≡ Some me) (of : events ≡ events_of streams me) (h : step top s (get_or acts n d) ≡ Some o) where
+  module _ (pids : List Pid) (me : Pid) (place : ℕ) (events : List Event) (o : Outcome)
+      (rising : IsRising (pids_of streams)) (are : pids ≡ pids_of streams) (is : me ≡ actor (get_or acts n d))
+      (at : slice_get pids place ≡ Some me) (of : events ≡ events_of streams me)
+      (h : step top s (get_or acts n d) ≡ Some o) where
     here : slice_get (pids_of streams) place ≡ Some (actor (get_or acts n d))
     here = ap (λ xs. slice_get xs place) (sym are) ∙ at ∙ ap (λ (q : Pid). Some q) is
 
     theirs : events_of streams (actor (get_or acts n d)) ≡ events
     theirs = ap (events_of streams) (sym is) ∙ sym of
 
-    differs_by : (report : Option Event) → o.report ≡ report → (ForSome report (λ e. slice_get events (get_or counts place 0) ≡ Some e) → ⊥) → IsStop top streams (take (n + 1) acts) stop.Differs
+    differs_by : (report : Option Event) → o.report ≡ report
+        → (ForSome report (λ e. slice_get events (get_or counts place 0) ≡ Some e) → ⊥)
+        → IsStop top streams (take (n + 1) acts) stop.Differs
     differs_by None reports other = absurd (other (λ e none. absurd (none-some e none)))
     differs_by (Some e) reports other =
         subst (λ xs. IsSome (run top (pids_of streams) xs) × ¬ Passes top streams xs) more
@@ -87,15 +113,20 @@ module _ (top : ℕ) (streams : List Stream) (acts : List Act) (n : ℕ) (d : Ac
         (λ next. other (λ x some. ap (λ es. slice_get es (get_or counts place 0)) (sym theirs) ∙ next ∙ some)))
 
     -- it reports another event
-    pub differs_at : (ForSome o.report (λ e. slice_get events (get_or counts place 0) ≡ Some e) → ⊥) → IsStop top streams (take (n + 1) acts) stop.Differs
+    pub differs_at : (ForSome o.report (λ e. slice_get events (get_or counts place 0) ≡ Some e) → ⊥)
+        → IsStop top streams (take (n + 1) acts) stop.Differs
     differs_at other = differs_by o.report refl other
 
-    pair_same : (t : Tags) (sent : Option ℕ) (report : Option Event) → pair_at t n (get_or acts n d) o.place ≡ pair_to n sent → pair_to n (option_and report sent) ≡ (if is_some report then pair_at t n (get_or acts n d) o.place else [])
+    pair_same : (t : Tags) (sent : Option ℕ) (report : Option Event)
+        → pair_at t n (get_or acts n d) o.place ≡ pair_to n sent
+        → pair_to n (option_and report sent) ≡ (if is_some report then pair_at t n (get_or acts n d) o.place else [])
     pair_same t sent None same = refl
     pair_same t sent (Some e) same = sym same
 
     -- it passes
-    pub passed_at : (counts' : List ℕ) (tags' : List (List ℕ)) (ps' : List (ℕ × ℕ)) (sent : Option ℕ) → ForSome o.report (λ e. slice_get events (get_or counts place 0) ≡ Some e) → counts' ≡ counted counts place o.report
+    pub passed_at : (counts' : List ℕ) (tags' : List (List ℕ)) (ps' : List (ℕ × ℕ)) (sent : Option ℕ)
+        → ForSome o.report (λ e. slice_get events (get_or counts place 0) ≡ Some e)
+        → counts' ≡ counted counts place o.report
         → ((t : Tags) → tags ≡ map t pids → tags' ≡ map (tags_after t n (get_or acts n d) o.place) pids)
         → ((t : Tags) → tags ≡ map t pids → pair_at t n (get_or acts n d) o.place ≡ pair_to n sent)
         → ps' ≡ ps ++ pair_to n (option_and o.report sent)
@@ -108,7 +139,10 @@ module _ (top : ℕ) (streams : List Stream) (acts : List Act) (n : ℕ) (d : Ac
         let passed = passed_more top streams (take n acts) s counts tags ps a o place n tags' rising here number p h
         (λ e some. ap (λ es. slice_get es (get_or counts place 0)) theirs ∙ next e some)
         (tagging t had ∙ ap (map (tags_after t n a o.place)) are) in
-        let paired : ps ++ pair_of t n a o ≡ ps' = ap (λ xs. ps ++ xs) (sym (pair_same t sent o.report (pairing t had))) ∙ sym pairs in
+        let paired : ps ++ pair_of t n a o ≡ ps' =
+        ap (λ xs. ps ++ xs) (sym (pair_same t sent o.report (pairing t had)))
+        ∙ sym pairs in
         subst (λ xs. IsPassed top streams xs o.after counts' tags' ps') more
         (subst (λ xs. IsPassed top streams (take n acts ++ a ∷ []) o.after counts' tags' xs) paired
-        (subst (λ xs. IsPassed top streams (take n acts ++ a ∷ []) o.after xs tags' (ps ++ pair_of t n a o)) (sym counting) passed))
+        (subst (λ xs. IsPassed top streams (take n acts ++ a ∷ []) o.after xs tags' (ps ++ pair_of t n a o))
+        (sym counting) passed))

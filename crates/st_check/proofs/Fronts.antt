@@ -1,4 +1,4 @@
--- Fronts of streams, and one more event.
+-- What follows a front of a list stands at the length of the front.
 use Rattle.std.proofs.Common.{◌≡◌, List, [], ◌∷◌, ◌++◌, length, Some, refl, sym, ◌∙◌, ap, append_assoc}
 use mathlib.Core.List.{IsPrefix}
 use Rattle.std.specs.List.{slice_get}
@@ -14,7 +14,8 @@ first_is [] e h = absurd (none-some e h)
 first_is (z ∷ zs) e h = (zs, ap (λ x. x ∷ zs) (sym (same_Some z e h)))
 
 -- a front with the next element is a front
-pub front_more : {A : Type 0} (xs ys : List A) (e : A) → IsPrefix xs ys → slice_get ys (length xs) ≡ Some e → IsPrefix (xs ++ e ∷ []) ys
+pub front_more : {A : Type 0} (xs ys : List A) (e : A) → IsPrefix xs ys → slice_get ys (length xs) ≡ Some e
+    → IsPrefix (xs ++ e ∷ []) ys
 front_more xs ys e front next =
     let zs = front.0 in
     let found = first_is zs e (sym (slice_get_behind xs zs) ∙ ap (λ l. slice_get l (length xs)) front.1 ∙ next) in
@@ -22,4 +23,6 @@ front_more xs ys e front next =
 
 -- and where it is a front, that is the next element
 pub front_next : {A : Type 0} (xs ys : List A) (e : A) → IsPrefix (xs ++ e ∷ []) ys → slice_get ys (length xs) ≡ Some e
-front_next xs ys e front = ap (λ l. slice_get l (length xs)) (sym front.1 ∙ append_assoc xs (e ∷ []) front.0) ∙ slice_get_behind xs (e ∷ front.0)
+front_next xs ys e front =
+    ap (λ l. slice_get l (length xs)) (sym front.1 ∙ append_assoc xs (e ∷ []) front.0)
+    ∙ slice_get_behind xs (e ∷ front.0)

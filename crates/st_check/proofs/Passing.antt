@@ -1,5 +1,8 @@
--- One more act after acts that pass: it passes, has no step, or reports another event.
-use Rattle.std.proofs.Common.{◌≡◌, ℕ, ◌+◌, ◌<◌, Bool, true, false, cond, List, [], ◌∷◌, ◌++◌, length, map, get_or, set, replicate, Option, Some, None, IsSome, is_some, option_map, option_and_then, option_to_list, refl, sym, ◌∙◌, ap, subst, arith, append-nil, length-append, if◌then◌else◌}
+-- All that is kept is told by the run so far, and one more act changes it at its own process alone.
+use Rattle.std.proofs.Common.{◌≡◌, ℕ, ◌+◌, ◌<◌, Bool, true, false, cond, List, [], ◌∷◌, ◌++◌, length, map, get_or}
+use Rattle.std.proofs.Common.{set, replicate, Option, Some, None, IsSome, is_some, option_map, option_and_then}
+use Rattle.std.proofs.Common.{option_to_list, refl, sym, ◌∙◌, ap, subst, arith, append-nil, length-append}
+use Rattle.std.proofs.Common.{if◌then◌else◌}
 use mathlib.Core.List.{IsPrefix}
 use Rattle.std.specs.Option.{ForSome}
 use Rattle.std.specs.List.{AllByRecursion, slice_get}
@@ -18,7 +21,8 @@ use Rattle.st_core.specs.Verdict.{Passes}
 use Rattle.st_core.proofs.ForCallers.{pid_eq-true, pid_eq-same, pid_eq-swap}
 use Rattle.st_core.proofs.ForCallers.{run_parts, leaves_others}
 use Rattle.st_check.specs.Progress.{state_from, tags_of, count_of, counted, IsPassed}
-use Rattle.st_check.proofs.Appended.{length-run, run-append, state_from-append, stream-append, tags_from-append, pair_of, pairs_from-append}
+use Rattle.st_check.proofs.Appended.{length-run, run-append, state_from-append, stream-append, tags_from-append}
+use Rattle.st_check.proofs.Appended.{pair_of, pairs_from-append}
 use Rattle.st_check.proofs.Places.{map_at, entry_at, events_at}
 use Rattle.st_check.proofs.Fronts.{front_more, front_next}
 
@@ -29,7 +33,10 @@ map_constant c [] = refl
 map_constant c (x ∷ xs) = ap (λ ys. c ∷ ys) (map_constant c xs)
 
 -- no acts pass
-pub passed_start : (top : ℕ) (streams : List Stream) (pids : List Pid) (s : State) (counts : List ℕ) (tags : List (List ℕ)) (ps : List (ℕ × ℕ)) → pids ≡ pids_of streams → s ≡ zero_state pids → counts ≡ replicate (length pids) 0 → tags ≡ replicate (length pids) [] → ps ≡ [] → IsPassed top streams [] s counts tags ps
+pub passed_start : (top : ℕ) (streams : List Stream) (pids : List Pid) (s : State) (counts : List ℕ)
+    (tags : List (List ℕ)) (ps : List (ℕ × ℕ)) → pids ≡ pids_of streams → s ≡ zero_state pids
+    → counts ≡ replicate (length pids) 0 → tags ≡ replicate (length pids) [] → ps ≡ []
+    → IsPassed top streams [] s counts tags ps
 passed_start top streams pids s counts tags ps are at_zero no_counts no_tags no_pairs = record {
   outcomes = [];
   passing = record { runs = refl; fronts = λ k d within. ((get_or streams k d).events, refl) };
@@ -41,40 +48,57 @@ passed_start top streams pids s counts tags ps are at_zero no_counts no_tags no_
 
 -- A PROCESS THAT ISN'T THERE
 
-pub state_pids : (top : ℕ) (s : State) (acts : List Act) (os : List Outcome) → run_from top s acts ≡ Some os → map (λ (r : Process). r.pid) (state_from s os) ≡ map (λ (r : Process). r.pid) s
-state_pids top s [] os h = ap (λ (xs : List Outcome). map (λ (r : Process). r.pid) (state_from s xs)) (sym (same_Some [] os h))
+pub state_pids : (top : ℕ) (s : State) (acts : List Act) (os : List Outcome) → run_from top s acts ≡ Some os
+    → map (λ (r : Process). r.pid) (state_from s os) ≡ map (λ (r : Process). r.pid) s
+state_pids top s [] os h =
+    ap (λ (xs : List Outcome). map (λ (r : Process). r.pid) (state_from s xs)) (sym (same_Some [] os h))
 state_pids top s (a ∷ acts) os h =
     let t = run_parts top s a acts os h in
-    ap (λ (xs : List Outcome). map (λ (r : Process). r.pid) (state_from s xs)) t.is_whole ∙ state_pids top t.first.after acts t.others t.is_rest ∙ (leaves_others top s a t.first t.is_first).pids
+    ap (λ (xs : List Outcome). map (λ (r : Process). r.pid) (state_from s xs)) t.is_whole
+    ∙ state_pids top t.first.after acts t.others t.is_rest
+    ∙ (leaves_others top s a t.first t.is_first).pids
 
 pub zero_pids : (pids : List Pid) → map (λ (r : Process). r.pid) (zero_state pids) ≡ pids
 zero_pids [] = refl
 zero_pids (p ∷ pids) = ap (λ ps. p ∷ ps) (zero_pids pids)
 
-unlisted_process : (s : State) (p : Pid) → AllByRecursion (λ q. pid_eq q p ≡ false) (map (λ (r : Process). r.pid) s) → process s p ≡ None
+unlisted_process : (s : State) (p : Pid) → AllByRecursion (λ q. pid_eq q p ≡ false) (map (λ (r : Process). r.pid) s)
+    → process s p ≡ None
 unlisted_process [] p apart = refl
 unlisted_process (r ∷ s) p apart = ap (λ b. cond b (Some r) (process s p)) apart.0 ∙ unlisted_process s p apart.1
 
 -- an act of a process that isn't listed has no step
-pub unlisted_stuck : (top : ℕ) (streams : List Stream) (acts : List Act) (s : State) (counts : List ℕ) (tags : List (List ℕ)) (ps : List (ℕ × ℕ)) (a : Act) → IsPassed top streams acts s counts tags ps → AllByRecursion (λ q. pid_eq q (actor a) ≡ false) (pids_of streams) → step top s a ≡ None
+pub unlisted_stuck : (top : ℕ) (streams : List Stream) (acts : List Act) (s : State) (counts : List ℕ)
+    (tags : List (List ℕ)) (ps : List (ℕ × ℕ)) (a : Act) → IsPassed top streams acts s counts tags ps
+    → AllByRecursion (λ q. pid_eq q (actor a) ≡ false) (pids_of streams) → step top s a ≡ None
 unlisted_stuck top streams acts s counts tags ps a p apart =
     let pids : map (λ (r : Process). r.pid) s ≡ pids_of streams =
-    ap (map (λ (r : Process). r.pid)) p.is_state ∙ state_pids top (zero_state (pids_of streams)) acts p.outcomes p.passing.runs ∙ zero_pids (pids_of streams) in
-    let missing : process s (actor a) ≡ None = unlisted_process s (actor a) (subst (AllByRecursion (λ q. pid_eq q (actor a) ≡ false)) (sym pids) apart) in
-    ap (option_and_then (λ r. option_and_then (λ (_ : Process). option_map (outcome_of s a) (acted top r a)) (process s (receiver a)))) missing
+    ap (map (λ (r : Process). r.pid)) p.is_state
+    ∙ state_pids top (zero_state (pids_of streams)) acts p.outcomes p.passing.runs
+    ∙ zero_pids (pids_of streams) in
+    let missing : process s (actor a) ≡ None =
+    unlisted_process s (actor a) (subst (AllByRecursion (λ q. pid_eq q (actor a) ≡ false)) (sym pids) apart) in
+    ap (option_and_then (λ r. option_and_then (λ (_ : Process). option_map (outcome_of s a) (acted top r a))
+    (process s (receiver a)))) missing
 
 -- NO STEP
 
 -- where the act has no step, the acts with it have no run
-pub stuck_more : (top : ℕ) (streams : List Stream) (acts : List Act) (s : State) (counts : List ℕ) (tags : List (List ℕ)) (ps : List (ℕ × ℕ)) (a : Act) → IsPassed top streams acts s counts tags ps → step top s a ≡ None → run top (pids_of streams) (acts ++ a ∷ []) ≡ None
+pub stuck_more : (top : ℕ) (streams : List Stream) (acts : List Act) (s : State) (counts : List ℕ)
+    (tags : List (List ℕ)) (ps : List (ℕ × ℕ)) (a : Act) → IsPassed top streams acts s counts tags ps
+    → step top s a ≡ None → run top (pids_of streams) (acts ++ a ∷ []) ≡ None
 stuck_more top streams acts s counts tags ps a p h =
-    run-append top (zero_state (pids_of streams)) acts a p.outcomes p.passing.runs ∙ ap (option_map (λ o. p.outcomes ++ o ∷ [])) (ap (λ x. step top x a) (sym p.is_state) ∙ h)
+    run-append top (zero_state (pids_of streams)) acts a p.outcomes p.passing.runs
+    ∙ ap (option_map (λ o. p.outcomes ++ o ∷ [])) (ap (λ x. step top x a) (sym p.is_state) ∙ h)
 
 -- A STEP
 
-run_more : (top : ℕ) (streams : List Stream) (acts : List Act) (s : State) (counts : List ℕ) (tags : List (List ℕ)) (ps : List (ℕ × ℕ)) (a : Act) (o : Outcome) (p : IsPassed top streams acts s counts tags ps) → step top s a ≡ Some o → run top (pids_of streams) (acts ++ a ∷ []) ≡ Some (p.outcomes ++ o ∷ [])
+run_more : (top : ℕ) (streams : List Stream) (acts : List Act) (s : State) (counts : List ℕ) (tags : List (List ℕ))
+    (ps : List (ℕ × ℕ)) (a : Act) (o : Outcome) (p : IsPassed top streams acts s counts tags ps)
+    → step top s a ≡ Some o → run top (pids_of streams) (acts ++ a ∷ []) ≡ Some (p.outcomes ++ o ∷ [])
 run_more top streams acts s counts tags ps a o p h =
-    run-append top (zero_state (pids_of streams)) acts a p.outcomes p.passing.runs ∙ ap (option_map (λ x. p.outcomes ++ x ∷ [])) (ap (λ x. step top x a) (sym p.is_state) ∙ h)
+    run-append top (zero_state (pids_of streams)) acts a p.outcomes p.passing.runs
+    ∙ ap (option_map (λ x. p.outcomes ++ x ∷ [])) (ap (λ x. step top x a) (sym p.is_state) ∙ h)
 
 map_same : {A B : Type 0} {f g : A → B} (xs : List A) → ((x : A) → f x ≡ g x) → map f xs ≡ map g xs
 map_same [] same = refl
@@ -82,8 +106,12 @@ map_same {f = f} {g = g} (x ∷ xs) same = ap (λ y. y ∷ map f xs) (same x) �
 
 module _ (acts : List Act) (a : Act) (os : List Outcome) (o : Outcome) (even : length os ≡ length acts) where
   -- the streams of the others stay
-  pub stream_other : (q : Pid) → pid_eq (actor a) q ≡ false → stream (acts ++ a ∷ []) (os ++ o ∷ []) q ≡ stream acts os q
-  stream_other q apart = stream-append acts a os o q even ∙ ap (λ b. stream acts os q ++ (if b then option_to_list o.report else [])) apart ∙ append-nil (stream acts os q)
+  pub stream_other : (q : Pid) → pid_eq (actor a) q ≡ false
+      → stream (acts ++ a ∷ []) (os ++ o ∷ []) q ≡ stream acts os q
+  stream_other q apart =
+      stream-append acts a os o q even
+      ∙ ap (λ b. stream acts os q ++ (if b then option_to_list o.report else [])) apart
+      ∙ append-nil (stream acts os q)
 
   no_event : (b : Bool) → (if b then option_to_list {X = Event} None else []) ≡ []
   no_event true = refl
@@ -98,42 +126,57 @@ module _ (acts : List Act) (a : Act) (os : List Outcome) (o : Outcome) (even : l
       ∙ append-nil (stream acts os q)
 
   -- the actor's grows by what it reports
-  pub stream_own : (e : Event) → o.report ≡ Some e → stream (acts ++ a ∷ []) (os ++ o ∷ []) (actor a) ≡ stream acts os (actor a) ++ e ∷ []
+  pub stream_own : (e : Event) → o.report ≡ Some e
+      → stream (acts ++ a ∷ []) (os ++ o ∷ []) (actor a) ≡ stream acts os (actor a) ++ e ∷ []
   stream_own e is =
       stream-append acts a os o (actor a) even
       ∙ ap (λ b. stream acts os (actor a) ++ (if b then option_to_list o.report else [])) (pid_eq-same (actor a))
       ∙ ap (λ r. stream acts os (actor a) ++ option_to_list r) is
 
-  counts_more : (pids : List Pid) (i : ℕ) → IsRising pids → slice_get pids i ≡ Some (actor a) → (report : Option Event) → o.report ≡ report → counted (map (count_of acts os) pids) i report ≡ map (count_of (acts ++ a ∷ []) (os ++ o ∷ [])) pids
+  counts_more : (pids : List Pid) (i : ℕ) → IsRising pids → slice_get pids i ≡ Some (actor a)
+      → (report : Option Event) → o.report ≡ report
+      → counted (map (count_of acts os) pids) i report ≡ map (count_of (acts ++ a ∷ []) (os ++ o ∷ [])) pids
   counts_more pids i rising at None silent = map_same pids (λ q. ap length (sym (stream_silent q silent)))
   counts_more pids i rising at (Some e) is =
       let own : get_or (map (count_of acts os) pids) i 0 + 1 ≡ count_of (acts ++ a ∷ []) (os ++ o ∷ []) (actor a) =
-      ap (λ n. n + 1) (entry_at (count_of acts os) pids i (actor a) 0 at) ∙ sym (ap length (stream_own e is) ∙ length-append (stream acts os (actor a)) (e ∷ [])) in
+      ap (λ n. n + 1) (entry_at (count_of acts os) pids i (actor a) 0 at)
+      ∙ sym (ap length (stream_own e is) ∙ length-append (stream acts os (actor a)) (e ∷ [])) in
       ap (set (map (count_of acts os) pids) i) own
-      ∙ sym (map_at (count_of acts os) (count_of (acts ++ a ∷ []) (os ++ o ∷ [])) pids i (actor a) rising at (λ q apart. ap length (stream_other q (pid_eq-swap (actor a) q ∙ apart))))
+      ∙ sym (map_at (count_of acts os) (count_of (acts ++ a ∷ []) (os ++ o ∷ [])) pids i (actor a) rising at
+      (λ q apart. ap length (stream_other q (pid_eq-swap (actor a) q ∙ apart))))
 
   -- a front of a process's stream stays one
-  front_kept : (x : Stream) (report : Option Event) → o.report ≡ report → ForSome report (λ e. pid_eq (actor a) x.pid ≡ true → slice_get x.events (count_of acts os x.pid) ≡ Some e) → IsPrefix (stream acts os x.pid) x.events → IsPrefix (stream (acts ++ a ∷ []) (os ++ o ∷ []) x.pid) x.events
+  front_kept : (x : Stream) (report : Option Event) → o.report ≡ report
+      → ForSome report (λ e. pid_eq (actor a) x.pid ≡ true → slice_get x.events (count_of acts os x.pid) ≡ Some e)
+      → IsPrefix (stream acts os x.pid) x.events → IsPrefix (stream (acts ++ a ∷ []) (os ++ o ∷ []) x.pid) x.events
   front_kept x None silent next front = subst (λ es. IsPrefix es x.events) (sym (stream_silent x.pid silent)) front
   front_kept x (Some e) is next front =
-      elim (pid_eq (actor a) x.pid) as (λ b. pid_eq (actor a) x.pid ≡ b → IsPrefix (stream (acts ++ a ∷ []) (os ++ o ∷ []) x.pid) x.events) [
+      elim (pid_eq (actor a) x.pid) as (λ b. pid_eq (actor a) x.pid ≡ b
+      → IsPrefix (stream (acts ++ a ∷ []) (os ++ o ∷ []) x.pid) x.events) [
         | true ↦ λ same.
             let who : actor a ≡ x.pid = pid_eq-true (actor a) x.pid same in
-            let grows : stream (acts ++ a ∷ []) (os ++ o ∷ []) x.pid ≡ stream acts os x.pid ++ e ∷ [] = subst (λ q. stream (acts ++ a ∷ []) (os ++ o ∷ []) q ≡ stream acts os q ++ e ∷ []) who (stream_own e is) in
-            subst (λ es. IsPrefix es x.events) (sym grows) (front_more (stream acts os x.pid) x.events e front (next e refl same))
+            let grows : stream (acts ++ a ∷ []) (os ++ o ∷ []) x.pid ≡ stream acts os x.pid ++ e ∷ [] =
+            subst (λ q. stream (acts ++ a ∷ []) (os ++ o ∷ []) q ≡ stream acts os q ++ e ∷ []) who
+            (stream_own e is) in
+            subst (λ es. IsPrefix es x.events) (sym grows)
+            (front_more (stream acts os x.pid) x.events e front (next e refl same))
         | false ↦ λ apart. subst (λ es. IsPrefix es x.events) (sym (stream_other x.pid apart)) front
       ] refl
 
 -- the act passes where what it reports is the next event of its actor's stream
-pub passed_more : (top : ℕ) (streams : List Stream) (acts : List Act) (s : State) (counts : List ℕ) (tags : List (List ℕ)) (ps : List (ℕ × ℕ)) (a : Act) (o : Outcome) (i : ℕ) (n : ℕ) (later : List (List ℕ))
-    → IsRising (pids_of streams) → slice_get (pids_of streams) i ≡ Some (actor a) → n ≡ length acts → (p : IsPassed top streams acts s counts tags ps) → step top s a ≡ Some o
+pub passed_more : (top : ℕ) (streams : List Stream) (acts : List Act) (s : State) (counts : List ℕ)
+    (tags : List (List ℕ)) (ps : List (ℕ × ℕ)) (a : Act) (o : Outcome) (i : ℕ) (n : ℕ) (later : List (List ℕ))
+    → IsRising (pids_of streams) → slice_get (pids_of streams) i ≡ Some (actor a) → n ≡ length acts
+    → (p : IsPassed top streams acts s counts tags ps) → step top s a ≡ Some o
     → ForSome o.report (λ e. slice_get (events_of streams (actor a)) (get_or counts i 0) ≡ Some e)
     → later ≡ map (tags_after (tags_of acts p.outcomes) n a o.place) (pids_of streams)
-    → IsPassed top streams (acts ++ a ∷ []) o.after (counted counts i o.report) later (ps ++ pair_of (tags_of acts p.outcomes) n a o)
+    → IsPassed top streams (acts ++ a ∷ []) o.after (counted counts i o.report) later
+    (ps ++ pair_of (tags_of acts p.outcomes) n a o)
 passed_more top streams acts s counts tags ps a o i n later rising at number p h next are =
     let os = p.outcomes in
     let even = length-run top (zero_state (pids_of streams)) acts os p.passing.runs in
-    let count : get_or counts i 0 ≡ count_of acts os (actor a) = ap (λ xs. get_or xs i 0) p.are_counts ∙ entry_at (count_of acts os) (pids_of streams) i (actor a) 0 at in
+    let count : get_or counts i 0 ≡ count_of acts os (actor a) = ap (λ xs. get_or xs i 0) p.are_counts
+    ∙ entry_at (count_of acts os) (pids_of streams) i (actor a) 0 at in
     let nth : n ≡ 0 + length acts = number ∙ (omega arith) in
     record {
       outcomes = os ++ o ∷ [];
@@ -143,34 +186,52 @@ passed_more top streams acts s counts tags ps a o i n later rising at number p h
             let x = get_or streams k d in
             front_kept acts a os o even x o.report refl (λ e is same.
             let who = pid_eq-true (actor a) x.pid same in
-            ap (λ q. slice_get x.events (count_of acts os q)) (sym who) ∙ ap (λ es. slice_get es (count_of acts os (actor a))) (sym (events_at streams k d rising within))
-            ∙ ap (λ q. slice_get (events_of streams q) (count_of acts os (actor a))) (sym who) ∙ ap (slice_get (events_of streams (actor a))) (sym count) ∙ next e is) (p.passing.fronts k d within);
+            ap (λ q. slice_get x.events (count_of acts os q)) (sym who)
+            ∙ ap (λ es. slice_get es (count_of acts os (actor a))) (sym (events_at streams k d rising within))
+            ∙ ap (λ q. slice_get (events_of streams q) (count_of acts os (actor a))) (sym who)
+            ∙ ap (slice_get (events_of streams (actor a))) (sym count) ∙ next e is) (p.passing.fronts k d within);
       };
       is_state = state_from-append (zero_state (pids_of streams)) os o;
-      are_counts = ap (λ xs. counted xs i o.report) p.are_counts ∙ counts_more acts a os o even (pids_of streams) i rising at o.report refl;
-      are_tags = are ∙ ap (λ t. map t (pids_of streams)) (ap (λ k. tags_after (tags_of acts os) k a o.place) nth ∙ sym (tags_from-append (λ q. []) 0 acts a os o even));
-      are_pairs = ap (λ xs. xs ++ pair_of (tags_of acts os) n a o) p.are_pairs ∙ ap (λ k. pairs acts os ++ pair_of (tags_of acts os) k a o) nth ∙ sym (pairs_from-append (λ q. []) 0 acts a os o even);
+      are_counts = ap (λ xs. counted xs i o.report) p.are_counts
+          ∙ counts_more acts a os o even (pids_of streams) i rising at o.report refl;
+      are_tags = are
+          ∙ ap (λ t. map t (pids_of streams)) (ap (λ k. tags_after (tags_of acts os) k a o.place) nth
+          ∙ sym (tags_from-append (λ q. []) 0 acts a os o even));
+      are_pairs = ap (λ xs. xs ++ pair_of (tags_of acts os) n a o) p.are_pairs
+          ∙ ap (λ k. pairs acts os ++ pair_of (tags_of acts os) k a o) nth
+          ∙ sym (pairs_from-append (λ q. []) 0 acts a os o even);
     }
 
 -- and it differs where it reports another
-pub differs_more : (top : ℕ) (streams : List Stream) (acts : List Act) (s : State) (counts : List ℕ) (tags : List (List ℕ)) (ps : List (ℕ × ℕ)) (a : Act) (o : Outcome) (i : ℕ) (e : Event)
-    → IsRising (pids_of streams) → slice_get (pids_of streams) i ≡ Some (actor a) → (p : IsPassed top streams acts s counts tags ps) → step top s a ≡ Some o → o.report ≡ Some e
+pub differs_more : (top : ℕ) (streams : List Stream) (acts : List Act) (s : State) (counts : List ℕ)
+    (tags : List (List ℕ)) (ps : List (ℕ × ℕ)) (a : Act) (o : Outcome) (i : ℕ) (e : Event)
+    → IsRising (pids_of streams) → slice_get (pids_of streams) i ≡ Some (actor a)
+    → (p : IsPassed top streams acts s counts tags ps) → step top s a ≡ Some o → o.report ≡ Some e
     → ¬ (slice_get (events_of streams (actor a)) (get_or counts i 0) ≡ Some e)
     → IsSome (run top (pids_of streams) (acts ++ a ∷ [])) × ¬ Passes top streams (acts ++ a ∷ [])
 differs_more top streams acts s counts tags ps a o i e rising at p h is other =
     let os = p.outcomes in
     let even = length-run top (zero_state (pids_of streams)) acts os p.passing.runs in
     let whole = run_more top streams acts s counts tags ps a o p h in
-    let count : get_or counts i 0 ≡ count_of acts os (actor a) = ap (λ xs. get_or xs i 0) p.are_counts ∙ entry_at (count_of acts os) (pids_of streams) i (actor a) 0 at in
+    let count : get_or counts i 0 ≡ count_of acts os (actor a) = ap (λ xs. get_or xs i 0) p.are_counts
+    ∙ entry_at (count_of acts os) (pids_of streams) i (actor a) 0 at in
     let d : Stream = record { pid = actor a; events = [] } in
-    let within : i < length streams = let below = slice_get_within (pids_of streams) i (actor a) at in let size = length-map streams (λ (x : Stream). x.pid) in omega arith in
+    let within : i < length streams = let below = slice_get_within (pids_of streams) i (actor a) at in let size =
+    length-map streams (λ (x : Stream). x.pid) in omega arith in
     let x = get_or streams i d in
-    let who : x.pid ≡ actor a = sym (get_or-map (λ (y : Stream). y.pid) streams i d (actor a) within) ∙ get_or_from_slice_get (pids_of streams) i (actor a) (actor a) at in (
+    let who : x.pid ≡ actor a = sym (get_or-map (λ (y : Stream). y.pid) streams i d (actor a) within)
+    ∙ get_or_from_slice_get (pids_of streams) i (actor a) (actor a) at in (
       ap (λ (outs : Option (List Outcome)). is_some outs) whole,
       λ passes.
           let same : passes.0 ≡ os ++ o ∷ [] = same_Some _ _ (sym passes.1.runs ∙ whole) in
           let grows : stream (acts ++ a ∷ []) passes.0 x.pid ≡ stream acts os (actor a) ++ e ∷ [] =
-          ap (λ (xs : List Outcome). stream (acts ++ a ∷ []) xs x.pid) same ∙ ap (stream (acts ++ a ∷ []) (os ++ o ∷ [])) who ∙ stream_own acts a os o even e is in
-          let found : slice_get x.events (count_of acts os (actor a)) ≡ Some e = front_next (stream acts os (actor a)) x.events e (subst (λ es. IsPrefix es x.events) grows (passes.1.fronts i d within)) in
-          other (ap (slice_get (events_of streams (actor a))) count ∙ ap (λ q. slice_get (events_of streams q) (count_of acts os (actor a))) (sym who) ∙ ap (λ es. slice_get es (count_of acts os (actor a))) (events_at streams i d rising within) ∙ found),
+          ap (λ (xs : List Outcome). stream (acts ++ a ∷ []) xs x.pid) same
+          ∙ ap (stream (acts ++ a ∷ []) (os ++ o ∷ [])) who
+          ∙ stream_own acts a os o even e is in
+          let found : slice_get x.events (count_of acts os (actor a)) ≡ Some e =
+          front_next (stream acts os (actor a)) x.events e
+          (subst (λ es. IsPrefix es x.events) grows (passes.1.fronts i d within)) in
+          other (ap (slice_get (events_of streams (actor a))) count
+          ∙ ap (λ q. slice_get (events_of streams q) (count_of acts os (actor a))) (sym who)
+          ∙ ap (λ es. slice_get es (count_of acts os (actor a))) (events_at streams i d rising within) ∙ found),
     )

@@ -1,5 +1,7 @@
--- One more act after acts that have a run: the streams and the replies that are recorded.
-use Rattle.std.proofs.Common.{◌≡◌, ℕ, ◌+◌, ◌<◌, ◌⊎◌, inl, inr, zero, suc, Bool, true, false, cond, not, ◌&&◌, ◌||◌, List, [], ◌∷◌, ◌++◌, length, map, take, get_or, position, Option, Some, None, is_some, option_map, option_to_list, All, refl, sym, ◌∙◌, ap, subst, arith, if◌then◌else◌}
+-- An act's report is its actor's own event, so adding it to the actor's stream keeps the streams those of the run.
+use Rattle.std.proofs.Common.{◌≡◌, ℕ, ◌+◌, ◌<◌, ◌⊎◌, inl, inr, zero, suc, Bool, true, false, cond, not, ◌&&◌, ◌||◌}
+use Rattle.std.proofs.Common.{List, [], ◌∷◌, ◌++◌, length, map, take, get_or, position, Option, Some, None, is_some}
+use Rattle.std.proofs.Common.{option_map, option_to_list, All, refl, sym, ◌∙◌, ap, subst, arith, if◌then◌else◌}
 use Rattle.std.specs.Option.{ForSome, option_map_or}
 use Rattle.std.specs.List.{AllByRecursion, AllZip, slice_get, position_or_len}
 use Rattle.std.proofs.lemmas.Bool.{le-ltb}
@@ -13,7 +15,8 @@ use Rattle.st_core.specs.Pid.{pid_eq, IsBelow, IsRising}
 use Rattle.st_core.specs.State.{Process, State, process, zero_state}
 use Rattle.st_core.specs.Step.{Outcome, actor, step}
 use Rattle.st_core.specs.Run.{Stream, pids_of, run, stream}
-use Rattle.st_core.specs.Streams.{stream_of, lists, names_listed, unlisted_among, unlisted, with_event, added, is_own, ComesLast}
+use Rattle.st_core.specs.Streams.{stream_of, lists, names_listed, unlisted_among, unlisted, with_event, added, is_own}
+use Rattle.st_core.specs.Streams.{ComesLast}
 use Rattle.st_core.specs.Collected.{is_among, names_among}
 use Rattle.st_core.specs.Laws.{IsReportAmong, ReportsAmong}
 use Rattle.st_core.proofs.ForCallers.{pid_eq-true, pid_eq-swap, all_at}
@@ -30,24 +33,32 @@ use Rattle.st_check.proofs.Passing.{state_pids, zero_pids, stream_other, stream_
 -- THE PROCESSES OF RECORDED STREAMS
 
 -- who is listed is among the pids
-lists-reported : (pids : List Pid) (acts : List Act) (os : List Outcome) (p : Pid) → lists (reported pids acts os) p ≡ is_among pids p
+lists-reported : (pids : List Pid) (acts : List Act) (os : List Outcome) (p : Pid)
+    → lists (reported pids acts os) p ≡ is_among pids p
 lists-reported [] acts os p = refl
-lists-reported (q ∷ pids) acts os p = elim (pid_eq q p) as (λ b. is_some (cond b (Some (record { pid = q; events = stream acts os q })) (stream_of (reported pids acts os) p)) ≡ (b || is_among pids p)) [ true ↦ refl | false ↦ lists-reported pids acts os p ]
+lists-reported (q ∷ pids) acts os p =
+    elim (pid_eq q p) as (λ b. is_some (cond b (Some (record { pid = q; events = stream acts os q }))
+    (stream_of (reported pids acts os) p)) ≡ (b || is_among pids p))
+    [ true ↦ refl | false ↦ lists-reported pids acts os p ]
 
-names-reported : (pids : List Pid) (acts : List Act) (os : List Outcome) (e : Event) → names_listed (reported pids acts os) e ≡ names_among pids e
+names-reported : (pids : List Pid) (acts : List Act) (os : List Outcome) (e : Event)
+    → names_listed (reported pids acts os) e ≡ names_among pids e
 names-reported pids acts os e =
     ap (λ b. b && option_map_or (lists (reported pids acts os)) e.to true) (lists-reported pids acts os e.from)
     ∙ ap (λ b. is_among pids e.from && b) (to_same e.to)
   where
-    to_same : (to : Option Pid) → option_map_or (lists (reported pids acts os)) to true ≡ option_map_or (is_among pids) to true
+    to_same : (to : Option Pid) → option_map_or (lists (reported pids acts os)) to true
+        ≡ option_map_or (is_among pids) to true
     to_same None = refl
     to_same (Some q) = lists-reported pids acts os q
 
 -- a process that is there is among the pids
-process_among : (s : State) (p : Pid) (r : Process) → process s p ≡ Some r → is_among (map (λ (x : Process). x.pid) s) p ≡ true
+process_among : (s : State) (p : Pid) (r : Process) → process s p ≡ Some r
+    → is_among (map (λ (x : Process). x.pid) s) p ≡ true
 process_among [] p r is = absurd (none-some r is)
 process_among (x ∷ s) p r is =
-    elim (pid_eq x.pid p) as (λ b. cond b (Some x) (process s p) ≡ Some r → (b || is_among (map (λ (y : Process). y.pid) s) p) ≡ true) [
+    elim (pid_eq x.pid p) as (λ b. cond b (Some x) (process s p) ≡ Some r
+    → (b || is_among (map (λ (y : Process). y.pid) s) p) ≡ true) [
       | true ↦ λ is. refl
       | false ↦ λ is. process_among s p r is
     ] is
@@ -55,7 +66,8 @@ process_among (x ∷ s) p r is =
 -- RUNS OF ONE MORE ACT
 
 -- the report of the last act
-last_report : (pids : List Pid) (acts : List Act) (os : List Outcome) (a : Act) (o : Outcome) → length os ≡ length acts → AllZip (ReportsAmong pids) (acts ++ a ∷ []) (os ++ o ∷ []) → ReportsAmong pids a o
+last_report : (pids : List Pid) (acts : List Act) (os : List Outcome) (a : Act) (o : Outcome)
+    → length os ≡ length acts → AllZip (ReportsAmong pids) (acts ++ a ∷ []) (os ++ o ∷ []) → ReportsAmong pids a o
 last_report pids [] [] a o even all = all.0
 last_report pids [] (x ∷ os) a o even all = absurd (omega arith)
 last_report pids (b ∷ acts) [] a o even all = absurd (omega arith)
@@ -63,37 +75,51 @@ last_report pids (b ∷ acts) (x ∷ os) a o even all = last_report pids acts os
 
 -- what the act does to each recorded stream
 module _ (acts : List Act) (a : Act) (os : List Outcome) (o : Outcome) (even : length os ≡ length acts) where
-  record_one : (e : Event) → o.report ≡ Some e → (q : Pid) → with_event (actor a) e (record { pid = q; events = stream acts os q }) ≡ record { pid = q; events = stream (acts ++ a ∷ []) (os ++ o ∷ []) q }
+  record_one : (e : Event) → o.report ≡ Some e → (q : Pid)
+      → with_event (actor a) e (record { pid = q; events = stream acts os q })
+      ≡ record { pid = q; events = stream (acts ++ a ∷ []) (os ++ o ∷ []) q }
   record_one e is q =
       let x : Stream = record { pid = q; events = stream acts os q } in
       let y : Stream = record { pid = q; events = stream (acts ++ a ∷ []) (os ++ o ∷ []) q } in
-      elim (pid_eq q (actor a)) as (λ b. pid_eq q (actor a) ≡ b → cond b (record x { events = x.events ++ e ∷ [] }) x ≡ y) [
+      elim (pid_eq q (actor a)) as (λ b. pid_eq q (actor a) ≡ b
+      → cond b (record x { events = x.events ++ e ∷ [] }) x ≡ y) [
         | true ↦ λ same.
             let who : actor a ≡ q = sym (pid_eq-true q (actor a) same) in
-            let grows : stream acts os q ++ e ∷ [] ≡ stream (acts ++ a ∷ []) (os ++ o ∷ []) q = sym (subst (λ p. stream (acts ++ a ∷ []) (os ++ o ∷ []) p ≡ stream acts os p ++ e ∷ []) who (stream_own acts a os o even e is)) in
+            let grows : stream acts os q ++ e ∷ [] ≡ stream (acts ++ a ∷ []) (os ++ o ∷ []) q =
+            sym (subst (λ p. stream (acts ++ a ∷ []) (os ++ o ∷ []) p ≡ stream acts os p ++ e ∷ []) who
+            (stream_own acts a os o even e is)) in
             ap (λ es. let z : Stream = record { pid = q; events = es } in z) grows
-        | false ↦ λ apart. ap (λ es. let z : Stream = record { pid = q; events = es } in z) (sym (stream_other acts a os o even q (pid_eq-swap (actor a) q ∙ apart)))
+        | false ↦ λ apart. ap (λ es. let z : Stream = record { pid = q; events = es } in z)
+            (sym (stream_other acts a os o even q (pid_eq-swap (actor a) q ∙ apart)))
       ] refl
 
-  recorded_more : (pids : List Pid) (report : Option Event) → o.report ≡ report → recorded (reported pids acts os) (actor a) report ≡ reported pids (acts ++ a ∷ []) (os ++ o ∷ [])
+  recorded_more : (pids : List Pid) (report : Option Event) → o.report ≡ report
+      → recorded (reported pids acts os) (actor a) report ≡ reported pids (acts ++ a ∷ []) (os ++ o ∷ [])
   recorded_more [] None is = refl
   recorded_more [] (Some e) is = refl
   recorded_more (q ∷ pids) None is =
-      ap (λ es. let x : Stream = record { pid = q; events = es } in x ∷ reported pids acts os) (sym (stream_silent acts a os o even q is))
-      ∙ ap (λ xs. let x : Stream = record { pid = q; events = stream (acts ++ a ∷ []) (os ++ o ∷ []) q } in x ∷ xs) (recorded_more pids None is)
+      ap (λ es. let x : Stream = record { pid = q; events = es } in x ∷ reported pids acts os)
+      (sym (stream_silent acts a os o even q is))
+      ∙ ap (λ xs. let x : Stream = record { pid = q; events = stream (acts ++ a ∷ []) (os ++ o ∷ []) q } in x ∷ xs)
+      (recorded_more pids None is)
   recorded_more (q ∷ pids) (Some e) is =
       ap (λ x. x ∷ added (reported pids acts os) (actor a) e) (record_one e is q)
-      ∙ ap (λ xs. let x : Stream = record { pid = q; events = stream (acts ++ a ∷ []) (os ++ o ∷ []) q } in x ∷ xs) (recorded_more pids (Some e) is)
+      ∙ ap (λ xs. let x : Stream = record { pid = q; events = stream (acts ++ a ∷ []) (os ++ o ∷ []) q } in x ∷ xs)
+      (recorded_more pids (Some e) is)
 
-replies_more : (os : List Outcome) (o : Outcome) → map (λ (x : Outcome). x.reply) os ++ o.reply ∷ [] ≡ map (λ (x : Outcome). x.reply) (os ++ o ∷ [])
+replies_more : (os : List Outcome) (o : Outcome)
+    → map (λ (x : Outcome). x.reply) os ++ o.reply ∷ [] ≡ map (λ (x : Outcome). x.reply) (os ++ o ∷ [])
 replies_more [] o = refl
 replies_more (x ∷ os) o = ap (λ ys. x.reply ∷ ys) (replies_more os o)
 
 -- the start
-pub recorded_start : (top : ℕ) (pids : List Pid) (s : State) (streams : List Stream) (replies : List Reply) → s ≡ zero_state pids → streams ≡ reported pids [] [] → replies ≡ [] → IsRecorded top pids [] s streams replies
-recorded_start top pids s streams replies at_zero no_events no_replies = record { outcomes = []; runs = refl; is_state = at_zero; are_streams = no_events; are_replies = no_replies }
+pub recorded_start : (top : ℕ) (pids : List Pid) (s : State) (streams : List Stream) (replies : List Reply)
+    → s ≡ zero_state pids → streams ≡ reported pids [] [] → replies ≡ [] → IsRecorded top pids [] s streams replies
+recorded_start top pids s streams replies at_zero no_events no_replies =
+    record { outcomes = []; runs = refl; is_state = at_zero; are_streams = no_events; are_replies = no_replies }
 
-module _ (top : ℕ) (pids : List Pid) (acts : List Act) (n : ℕ) (d : Act) (s : State) (streams : List Stream) (replies : List Reply) (within : n < length acts) (p : IsRecorded top pids (take n acts) s streams replies) where
+module _ (top : ℕ) (pids : List Pid) (acts : List Act) (n : ℕ) (d : Act) (s : State) (streams : List Stream)
+    (replies : List Reply) (within : n < length acts) (p : IsRecorded top pids (take n acts) s streams replies) where
   more : take n acts ++ get_or acts n d ∷ [] ≡ take (n + 1) acts
   more = sym (take_more acts n d within)
 
@@ -104,88 +130,134 @@ module _ (top : ℕ) (pids : List Pid) (acts : List Act) (n : ℕ) (d : Act) (s 
   pub no_run_at : step top s (get_or acts n d) ≡ None → run top pids (take (n + 1) acts) ≡ None
   no_run_at h =
       subst (λ xs. run top pids xs ≡ None) more
-      (run-append top (zero_state pids) (take n acts) (get_or acts n d) p.outcomes p.runs ∙ ap (option_map (λ o. p.outcomes ++ o ∷ [])) (ap (λ x. step top x (get_or acts n d)) (sym p.is_state) ∙ h))
+      (run-append top (zero_state pids) (take n acts) (get_or acts n d) p.outcomes p.runs
+      ∙ ap (option_map (λ o. p.outcomes ++ o ∷ [])) (ap (λ x. step top x (get_or acts n d)) (sym p.is_state) ∙ h))
 
   module _ (o : Outcome) (h : step top s (get_or acts n d) ≡ Some o) where
     whole : run top pids (take n acts ++ get_or acts n d ∷ []) ≡ Some (p.outcomes ++ o ∷ [])
-    whole = run-append top (zero_state pids) (take n acts) (get_or acts n d) p.outcomes p.runs ∙ ap (option_map (λ x. p.outcomes ++ x ∷ [])) (ap (λ x. step top x (get_or acts n d)) (sym p.is_state) ∙ h)
+    whole =
+        run-append top (zero_state pids) (take n acts) (get_or acts n d) p.outcomes p.runs
+        ∙ ap (option_map (λ x. p.outcomes ++ x ∷ [])) (ap (λ x. step top x (get_or acts n d)) (sym p.is_state) ∙ h)
 
     -- its report is its actor's own
     pub own_at : (e : Event) → o.report ≡ Some e → is_own (actor (get_or acts n d)) e ≡ true
-    own_at e is = (last_report pids (take n acts) p.outcomes (get_or acts n d) o even (run_named top pids (take n acts ++ get_or acts n d ∷ []) (p.outcomes ++ o ∷ []) whole) e is).own
+    own_at e is =
+        (last_report pids (take n acts) p.outcomes (get_or acts n d) o even
+        (run_named top pids (take n acts ++ get_or acts n d ∷ []) (p.outcomes ++ o ∷ []) whole) e is).own
 
     -- its actor is listed
     pub listed_at : lists streams (actor (get_or acts n d)) ≡ true
     listed_at =
         let t = step_parts top s (get_or acts n d) o h in
-        let are : map (λ (r : Process). r.pid) s ≡ pids = ap (map (λ (r : Process). r.pid)) p.is_state ∙ state_pids top (zero_state pids) (take n acts) p.outcomes p.runs ∙ zero_pids pids in
-        ap (λ xs. lists xs (actor (get_or acts n d))) p.are_streams ∙ lists-reported pids (take n acts) p.outcomes (actor (get_or acts n d))
-        ∙ ap (λ ps. is_among ps (actor (get_or acts n d))) (sym are) ∙ process_among s (actor (get_or acts n d)) t.before t.is_before
+        let are : map (λ (r : Process). r.pid) s ≡ pids = ap (map (λ (r : Process). r.pid)) p.is_state
+        ∙ state_pids top (zero_state pids) (take n acts) p.outcomes p.runs
+        ∙ zero_pids pids in
+        ap (λ xs. lists xs (actor (get_or acts n d))) p.are_streams
+        ∙ lists-reported pids (take n acts) p.outcomes (actor (get_or acts n d))
+        ∙ ap (λ ps. is_among ps (actor (get_or acts n d))) (sym are)
+        ∙ process_among s (actor (get_or acts n d)) t.before t.is_before
 
     -- the record with it
-    pub recorded_at : (me : Pid) (streams' : List Stream) (replies' : List Reply) → me ≡ actor (get_or acts n d) → streams' ≡ recorded streams me o.report → replies' ≡ replies ++ o.reply ∷ [] → IsRecorded top pids (take (n + 1) acts) o.after streams' replies'
+    pub recorded_at : (me : Pid) (streams' : List Stream) (replies' : List Reply) → me ≡ actor (get_or acts n d)
+        → streams' ≡ recorded streams me o.report → replies' ≡ replies ++ o.reply ∷ []
+        → IsRecorded top pids (take (n + 1) acts) o.after streams' replies'
     recorded_at me streams' replies' who recording replying =
         let a = get_or acts n d in
         subst (λ xs. IsRecorded top pids xs o.after streams' replies') more (record {
           outcomes = p.outcomes ++ o ∷ [];
           runs = whole;
           is_state = state_from-append (zero_state pids) p.outcomes o;
-          are_streams = recording ∙ ap (λ q. recorded streams q o.report) who ∙ ap (λ xs. recorded xs (actor a) o.report) p.are_streams ∙ recorded_more (take n acts) a p.outcomes o even pids o.report refl;
+          are_streams = recording
+              ∙ ap (λ q. recorded streams q o.report) who
+              ∙ ap (λ xs. recorded xs (actor a) o.report) p.are_streams
+              ∙ recorded_more (take n acts) a p.outcomes o even pids o.report refl;
           are_replies = replying ∙ ap (λ rs. rs ++ o.reply ∷ []) p.are_replies ∙ replies_more p.outcomes o;
         })
 
 -- THE CLOSE
 
-stream_among : (pids : List Pid) (acts : List Act) (os : List Outcome) (p : Pid) → AllZip (ReportsAmong pids) acts os → AllByRecursion (λ e. names_among pids e ≡ true) (stream acts os p)
+stream_among : (pids : List Pid) (acts : List Act) (os : List Outcome) (p : Pid) → AllZip (ReportsAmong pids) acts os
+    → AllByRecursion (λ e. names_among pids e ≡ true) (stream acts os p)
 stream_among pids [] os p all = tt
 stream_among pids (a ∷ acts) [] p all = tt
 stream_among pids (a ∷ acts) (o ∷ os) p all =
-    elim o.report as (λ report. ForSome report (IsReportAmong pids (actor a)) → AllByRecursion (λ e. names_among pids e ≡ true) ((if pid_eq (actor a) p then option_to_list report else []) ++ stream acts os p)) [
-      | None ↦ λ one. elim (pid_eq (actor a) p) as (λ b. AllByRecursion (λ e. names_among pids e ≡ true) ((if b then [] else []) ++ stream acts os p)) [ true ↦ stream_among pids acts os p all.1 | false ↦ stream_among pids acts os p all.1 ]
-      | Some e ↦ λ one. elim (pid_eq (actor a) p) as (λ b. AllByRecursion (λ e. names_among pids e ≡ true) ((if b then e ∷ [] else []) ++ stream acts os p)) [ true ↦ ((one e refl).names, stream_among pids acts os p all.1) | false ↦ stream_among pids acts os p all.1 ]
+    elim o.report as (λ report. ForSome report (IsReportAmong pids (actor a))
+    → AllByRecursion (λ e. names_among pids e ≡ true)
+    ((if pid_eq (actor a) p then option_to_list report else []) ++ stream acts os p)) [
+      | None ↦ λ one. elim (pid_eq (actor a) p) as (λ b. AllByRecursion (λ e. names_among pids e ≡ true)
+          ((if b then [] else []) ++ stream acts os p))
+          [ true ↦ stream_among pids acts os p all.1 | false ↦ stream_among pids acts os p all.1 ]
+      | Some e ↦ λ one. elim (pid_eq (actor a) p) as (λ b. AllByRecursion (λ e. names_among pids e ≡ true)
+          ((if b then e ∷ [] else []) ++ stream acts os p)) [
+            | true ↦ ((one e refl).names, stream_among pids acts os p all.1)
+            | false ↦ stream_among pids acts os p all.1
+          ]
     ] all.0
 
-none_passes : {A : Type 0} (test : A → Bool) (xs : List A) → AllByRecursion (λ x. test x ≡ false) xs → position_or_len test xs ≡ length xs
+none_passes : {A : Type 0} (test : A → Bool) (xs : List A) → AllByRecursion (λ x. test x ≡ false) xs
+    → position_or_len test xs ≡ length xs
 none_passes test [] all = refl
-none_passes test (x ∷ xs) all = let rest = none_passes test xs all.1 in ap (λ b. cond (not b) (1 + position_or_len test xs) 0) all.0 ∙ (omega arith)
+none_passes test (x ∷ xs) all =
+    let rest = none_passes test xs all.1 in ap (λ b. cond (not b) (1 + position_or_len test xs) 0) all.0
+    ∙ (omega arith)
 
-no_position : {A : Type 0} (test : A → Bool) (xs : List A) → AllByRecursion (λ x. test x ≡ false) xs → position test xs ≡ None
-no_position test xs all = ap (λ b. cond b (Some (position_or_len test xs)) None) (le-ltb (position_or_len test xs) (length xs) (let e = none_passes test xs all in omega arith))
+no_position : {A : Type 0} (test : A → Bool) (xs : List A) → AllByRecursion (λ x. test x ≡ false) xs
+    → position test xs ≡ None
+no_position test xs all =
+    ap (λ b. cond b (Some (position_or_len test xs)) None)
+    (le-ltb (position_or_len test xs) (length xs) (let e = none_passes test xs all in omega arith))
 
-all_false : (pids : List Pid) (acts : List Act) (os : List Outcome) (es : List Event) → AllByRecursion (λ e. names_among pids e ≡ true) es → AllByRecursion (λ e. not (names_listed (reported pids acts os) e) ≡ false) es
+all_false : (pids : List Pid) (acts : List Act) (os : List Outcome) (es : List Event)
+    → AllByRecursion (λ e. names_among pids e ≡ true) es
+    → AllByRecursion (λ e. not (names_listed (reported pids acts os) e) ≡ false) es
 all_false pids acts os [] all = tt
 all_false pids acts os (e ∷ es) all = (ap not (names-reported pids acts os e ∙ all.0), all_false pids acts os es all.1)
 
-unlisted_rest : (pids : List Pid) (acts : List Act) (os : List Outcome) (rest : List Pid) → AllZip (ReportsAmong pids) acts os → unlisted_among (reported pids acts os) (reported rest acts os) ≡ None
+unlisted_rest : (pids : List Pid) (acts : List Act) (os : List Outcome) (rest : List Pid)
+    → AllZip (ReportsAmong pids) acts os → unlisted_among (reported pids acts os) (reported rest acts os) ≡ None
 unlisted_rest pids acts os [] all = refl
 unlisted_rest pids acts os (p ∷ rest) all =
     let test = λ (e : Event). not (names_listed (reported pids acts os) e) in
-    ap (λ (k : Option ℕ). let o : Option (Pid × ℕ) = elim k [ None ↦ unlisted_among (reported pids acts os) (reported rest acts os) | Some i ↦ Some (p, i) ] in o) (no_position test (stream acts os p) (all_false pids acts os (stream acts os p) (stream_among pids acts os p all)))
+    ap (λ (k : Option ℕ). let o : Option (Pid × ℕ) =
+    elim k [ None ↦ unlisted_among (reported pids acts os) (reported rest acts os) | Some i ↦ Some (p, i) ] in o)
+    (no_position test (stream acts os p)
+    (all_false pids acts os (stream acts os p) (stream_among pids acts os p all)))
     ∙ unlisted_rest pids acts os rest all
 
 -- the streams of a run name only its processes
-pub run_listed : (top : ℕ) (pids : List Pid) (acts : List Act) (os : List Outcome) → run top pids acts ≡ Some os → unlisted (reported pids acts os) ≡ None
+pub run_listed : (top : ℕ) (pids : List Pid) (acts : List Act) (os : List Outcome) → run top pids acts ≡ Some os
+    → unlisted (reported pids acts os) ≡ None
 run_listed top pids acts os h = unlisted_rest pids acts os pids (run_named top pids acts os h)
 
 -- THE OPENED PROCESSES
 
 -- pids that rise: each is above those before it
-pub rising_at : (pids : List Pid) (k : ℕ) (p : Pid) → IsRising pids → slice_get pids k ≡ Some p → AllByRecursion (λ q. IsBelow q p) (take k pids)
+pub rising_at : (pids : List Pid) (k : ℕ) (p : Pid) → IsRising pids → slice_get pids k ≡ Some p
+    → AllByRecursion (λ q. IsBelow q p) (take k pids)
 rising_at [] zero p rising at = tt
 rising_at [] (suc k) p rising at = tt
 rising_at (q ∷ pids) zero p rising at = tt
 rising_at (q ∷ pids) (suc k) p rising at = (all_at (IsBelow q) pids k p rising.0 at, rising_at pids k p rising.1 at)
 
-pub opened_last : (pids : List Pid) (p : Pid) → AllByRecursion (λ q. IsBelow q p) pids → ComesLast (reported pids [] []) p
+pub opened_last : (pids : List Pid) (p : Pid) → AllByRecursion (λ q. IsBelow q p) pids
+    → ComesLast (reported pids [] []) p
 opened_last [] p all = tt
 opened_last (q ∷ pids) p all = (all.0, opened_last pids p all.1)
 
-pub opened_more : (pids : List Pid) (k : ℕ) (d : Pid) → k < length pids → reported (take k pids) [] [] ++ record { pid = get_or pids k d; events = [] } ∷ [] ≡ reported (take (k + 1) pids) [] []
-opened_more pids k d within = sym (map_push (λ p. let x : Stream = record { pid = p; events = [] } in x) (take k pids) (get_or pids k d)) ∙ ap (λ ps. reported ps [] []) (sym (take_more pids k d within))
+pub opened_more : (pids : List Pid) (k : ℕ) (d : Pid) → k < length pids
+    → reported (take k pids) [] [] ++ record { pid = get_or pids k d; events = [] } ∷ []
+    ≡ reported (take (k + 1) pids) [] []
+opened_more pids k d within =
+    sym (map_push (λ p. let x : Stream = record { pid = p; events = [] } in x) (take k pids) (get_or pids k d))
+    ∙ ap (λ ps. reported ps [] []) (sym (take_more pids k d within))
 
 -- a pid of those that rise comes after those opened before it
-pub comes_last : (pids : List Pid) (k : ℕ) (d : Pid) (draft : List Stream) → IsRising pids → k < length pids → draft ≡ reported (take k pids) [] [] → ComesLast draft (get_or pids k d)
-comes_last pids k d draft rising within are = subst (λ xs. ComesLast xs (get_or pids k d)) (sym are) (opened_last (take k pids) (get_or pids k d) (rising_at pids k (get_or pids k d) rising (slice_get-get_or pids k d within)))
+pub comes_last : (pids : List Pid) (k : ℕ) (d : Pid) (draft : List Stream) → IsRising pids → k < length pids
+    → draft ≡ reported (take k pids) [] [] → ComesLast draft (get_or pids k d)
+comes_last pids k d draft rising within are =
+    subst (λ xs. ComesLast xs (get_or pids k d)) (sym are)
+    (opened_last (take k pids) (get_or pids k d)
+    (rising_at pids k (get_or pids k d) rising (slice_get-get_or pids k d within)))
 
 -- a step that is refused, and not for want of memory, isn't there
 pub no_step_but : {P Q : Type 0} → P ⊎ Q → (P → ⊥) → Q
@@ -193,13 +265,17 @@ no_step_but (inl p) other = absurd (other p)
 no_step_but (inr q) other = q
 
 -- the serials of recorded streams rise
-pub recorded_rises : (top : ℕ) (pids : List Pid) (acts : List Act) (s : State) (streams : List Stream) (replies : List Reply) → IsRecorded top pids acts s streams replies → (told : List Stream) → told ≡ streams → AllRise told
+pub recorded_rises : (top : ℕ) (pids : List Pid) (acts : List Act) (s : State) (streams : List Stream)
+    (replies : List Reply) → IsRecorded top pids acts s streams replies → (told : List Stream) → told ≡ streams
+    → AllRise told
 recorded_rises top pids acts s streams replies p told same =
     subst AllRise (sym (same ∙ p.are_streams))
-    (All-map (λ (x : Stream). All Rises x.events) (λ q. record { pid = q; events = stream acts p.outcomes q }) pids (λ k d within. stream_rises top acts p.outcomes _ (run_sound top pids acts p.outcomes p.runs)))
+    (All-map (λ (x : Stream). All Rises x.events) (λ q. record { pid = q; events = stream acts p.outcomes q }) pids
+    (λ k d within. stream_rises top acts p.outcomes _ (run_sound top pids acts p.outcomes p.runs)))
 
 -- recorded streams list the run's processes
-pub recorded_pids : (top : ℕ) (pids : List Pid) (acts : List Act) (s : State) (streams : List Stream) (replies : List Reply) → IsRecorded top pids acts s streams replies → pids ≡ pids_of streams
+pub recorded_pids : (top : ℕ) (pids : List Pid) (acts : List Act) (s : State) (streams : List Stream)
+    (replies : List Reply) → IsRecorded top pids acts s streams replies → pids ≡ pids_of streams
 recorded_pids top pids acts s streams replies p = reported_pids pids acts p.outcomes ∙ ap pids_of (sym p.are_streams)
   where
     reported_pids : (ps : List Pid) (acts : List Act) (os : List Outcome) → ps ≡ pids_of (reported ps acts os)

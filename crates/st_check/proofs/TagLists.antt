@@ -1,5 +1,7 @@
--- The lists of tags over one act.
-use Rattle.std.proofs.Common.{◌≡◌, ℕ, ◌≤◌, suc, false, cond, List, [], ◌∷◌, ◌++◌, length, map, take, get_or, set, Option, Some, None, option_and_then, refl, sym, ◌∙◌, ap, arith, append-nil, take_all, inl, inr, if◌then◌else◌}
+-- An act changes one list of tags at most: a send its receiver's, and a receive its own.
+use Rattle.std.proofs.Common.{◌≡◌, ℕ, ◌≤◌, suc, false, cond, List, [], ◌∷◌, ◌++◌, length, map, take, get_or, set}
+use Rattle.std.proofs.Common.{Option, Some, None, option_and_then, refl, sym, ◌∙◌, ap, arith, append-nil, take_all}
+use Rattle.std.proofs.Common.{inl, inr, if◌then◌else◌}
 use Rattle.std.specs.Option.{OnSome, IfNone}
 use Rattle.std.specs.List.{AllByRecursion, slice_get, remove}
 use Rattle.std.proofs.lemmas.Option.{none-some, slice_get-get_or}
@@ -24,11 +26,15 @@ pushed_other : (t : Tags) (to : Pid) (n : ℕ) (q : Pid) → pid_eq q to ≡ fal
 pushed_other t to n q apart = ap (λ b. cond b (t q ++ n ∷ []) (t q)) apart
 
 -- no list is the receiver's
-pub push_missing : (lists : List (List ℕ)) (pids : List Pid) (to : Pid) (n : ℕ) → AllByRecursion (λ p. pid_eq p to ≡ false) pids → (t : Tags) → lists ≡ map t pids → lists ≡ map (pushed t to n) pids
+pub push_missing : (lists : List (List ℕ)) (pids : List Pid) (to : Pid) (n : ℕ)
+    → AllByRecursion (λ p. pid_eq p to ≡ false) pids → (t : Tags) → lists ≡ map t pids
+    → lists ≡ map (pushed t to n) pids
 push_missing lists pids to n apart t are = are ∙ sym (map_apart t (pushed t to n) pids to apart (pushed_other t to n))
 
 -- the receiver's list gets the number
-pub push_found : (lists new : List (List ℕ)) (pids : List Pid) (list : ℕ) (to : Pid) (n : ℕ) → IsRising pids → slice_get pids list ≡ Some to → new ≡ set lists list (get_or lists list [] ++ n ∷ []) → (t : Tags) → lists ≡ map t pids → new ≡ map (pushed t to n) pids
+pub push_found : (lists new : List (List ℕ)) (pids : List Pid) (list : ℕ) (to : Pid) (n : ℕ) → IsRising pids
+    → slice_get pids list ≡ Some to → new ≡ set lists list (get_or lists list [] ++ n ∷ []) → (t : Tags)
+    → lists ≡ map t pids → new ≡ map (pushed t to n) pids
 push_found lists new pids list to n rising at is t are =
     let own : t to ++ n ∷ [] ≡ pushed t to n to = ap (λ b. cond b (t to ++ n ∷ []) (t to)) (sym (pid_eq-same to)) in
     is ∙ ap (λ xs. set xs list (get_or xs list [] ++ n ∷ [])) are
@@ -39,19 +45,34 @@ push_found lists new pids list to n rising at is t are =
 -- A RECEIVE
 
 remove_past : (xs : List ℕ) (k : ℕ) → length xs ≤ k → xs ≡ remove xs k
-remove_past xs k past = sym (append-nil xs) ∙ ap (λ ys. ys ++ []) (sym (take_all k xs past)) ∙ ap (λ ys. take k xs ++ ys) (sym (drop_all (suc k) xs (omega arith)))
+remove_past xs k past =
+    sym (append-nil xs)
+    ∙ ap (λ ys. ys ++ []) (sym (take_all k xs past))
+    ∙ ap (λ ys. take k xs ++ ys) (sym (drop_all (suc k) xs (omega arith)))
 
 past_end : (xs : List ℕ) (k : ℕ) → slice_get xs k ≡ None → length xs ≤ k
-past_end xs k none = elim (cases_lt k (length xs)) [ inl within ↦ absurd (none-some (get_or xs k 0) (sym none ∙ slice_get-get_or xs k 0 within)) | inr past ↦ past ]
+past_end xs k none =
+    elim (cases_lt k (length xs)) [
+      | inl within ↦ absurd
+          (none-some (get_or xs k 0) (sym none ∙ slice_get-get_or xs k 0 within))
+      | inr past ↦ past
+    ]
 
 -- what a take leaves, also where nothing lay at the place
-pub take_leaves : (old new : Arena ℕ) (list place : ℕ) (result : Option ℕ) → result ≡ slice_get (get_or old.lists list []) place → OnSome result (new.lists ≡ set old.lists list (remove (get_or old.lists list []) place)) → IfNone result (new ≡ old) → new.lists ≡ set old.lists list (remove (get_or old.lists list []) place)
+pub take_leaves : (old new : Arena ℕ) (list place : ℕ) (result : Option ℕ)
+    → result ≡ slice_get (get_or old.lists list []) place
+    → OnSome result (new.lists ≡ set old.lists list (remove (get_or old.lists list []) place))
+    → IfNone result (new ≡ old) → new.lists ≡ set old.lists list (remove (get_or old.lists list []) place)
 take_leaves old new list place (Some n) value taken none = taken
 take_leaves old new list place None value taken none =
     let xs = get_or old.lists list [] in
-    ap (λ (a : Arena ℕ). a.lists) none ∙ sym (set-get_or old.lists list []) ∙ ap (set old.lists list) (remove_past xs place (past_end xs place (sym value)))
+    ap (λ (a : Arena ℕ). a.lists) none
+    ∙ sym (set-get_or old.lists list [])
+    ∙ ap (set old.lists list) (remove_past xs place (past_end xs place (sym value)))
 
-pub without_is : (t : Tags) (lists new : List (List ℕ)) (pids : List Pid) (list : ℕ) (p : Pid) (w : Want) (n : ℕ) (place : Option ℕ) → IsRising pids → slice_get pids list ≡ Some p → new ≡ without_tag lists list place → lists ≡ map t pids → new ≡ map (tags_after t n (act.Receive p w) place) pids
+pub without_is : (t : Tags) (lists new : List (List ℕ)) (pids : List Pid) (list : ℕ) (p : Pid) (w : Want) (n : ℕ)
+    (place : Option ℕ) → IsRising pids → slice_get pids list ≡ Some p → new ≡ without_tag lists list place
+    → lists ≡ map t pids → new ≡ map (tags_after t n (act.Receive p w) place) pids
 without_is t lists new pids list p w n None rising at is are = is ∙ are
 without_is t lists new pids list p w n (Some k) rising at is are =
     let later = tags_after t n (act.Receive p w) (Some k) in
@@ -61,11 +82,15 @@ without_is t lists new pids list p w n (Some k) rising at is are =
     ∙ ap (set (map t pids) list) own
     ∙ sym (map_at t later pids list p rising at (λ q apart. ap (λ b. cond b (remove (t q) k) (t q)) apart))
 
-pair_of_taken : (n : ℕ) (sent : Option ℕ) → (let ps : List (ℕ × ℕ) = elim sent [ None ↦ [] | Some s ↦ (n, s) ∷ [] ] in ps) ≡ pair_to n sent
+pair_of_taken : (n : ℕ) (sent : Option ℕ) → (let ps : List (ℕ × ℕ) = elim sent [ None ↦ [] | Some s ↦ (n, s) ∷ [] ] in
+    ps) ≡ pair_to n sent
 pair_of_taken n None = refl
 pair_of_taken n (Some s) = refl
 
-pub pair_is : (t : Tags) (lists : List (List ℕ)) (pids : List Pid) (list : ℕ) (p : Pid) (w : Want) (n : ℕ) (place sent : Option ℕ) → slice_get pids list ≡ Some p → sent ≡ option_and_then (slice_get (get_or lists list [])) place → lists ≡ map t pids → pair_at t n (act.Receive p w) place ≡ pair_to n sent
+pub pair_is : (t : Tags) (lists : List (List ℕ)) (pids : List Pid) (list : ℕ) (p : Pid) (w : Want) (n : ℕ)
+    (place sent : Option ℕ) → slice_get pids list ≡ Some p
+    → sent ≡ option_and_then (slice_get (get_or lists list [])) place → lists ≡ map t pids
+    → pair_at t n (act.Receive p w) place ≡ pair_to n sent
 pair_is t lists pids list p w n None sent at is are = ap (pair_to n) (sym is)
 pair_is t lists pids list p w n (Some k) sent at is are =
     let entry : get_or lists list [] ≡ t p = ap (λ xs. get_or xs list []) are ∙ entry_at t pids list p [] at in

@@ -2,10 +2,11 @@
 use Rattle.std.specs.Prelude.{◌≡◌, ℕ, ◌+◌, ◌<◌, List, length, map, take, Some, None, IsSome, All}
 use Rattle.st_core.specs.declared.types.Pid.{Pid}
 use Rattle.st_core.specs.declared.types.Act.{Act}
+use Rattle.st_core.specs.declared.types.Reply.{Reply}
 use Rattle.st_core.specs.Pid.{IsRising}
 use Rattle.st_core.specs.Step.{Outcome}
 use Rattle.st_core.specs.Run.{Stream, pids_of, run, stream}
-use Rattle.st_core.specs.Pairs.{Follows}
+use Rattle.st_core.specs.Pairs.{Follows, AllPaired}
 use Rattle.st_core.specs.Verdict as verdicts
 use Rattle.st_check.specs.declared.verdict.Verdict.{Verdict}
 use Rattle.st_check.specs.declared.verdict.Verdict.TheVariants as told
@@ -23,8 +24,15 @@ verdict_of (told.Yes ps) = verdicts.Yes ps
 
 -- on a yes, in the run of the acts each pair's receive follows its send, and no send stands twice
 abbrev pub FollowsAll : ℕ → List Stream → List Act → verdicts.Verdict → Type 0
-FollowsAll top streams acts (verdicts.Yes ps) = (os : List Outcome) → run top (pids_of streams) acts ≡ Some os → Follows acts os ps
+FollowsAll top streams acts (verdicts.Yes ps) =
+    (os : List Outcome) → run top (pids_of streams) acts ≡ Some os → Follows acts os ps
 FollowsAll top streams acts v = Unit {0}
+
+-- on a yes, each reported receive of that run stands in a pair
+abbrev pub PairsAll : ℕ → List Stream → List Act → verdicts.Verdict → Type 0
+PairsAll top streams acts (verdicts.Yes ps) =
+    (os : List Outcome) → run top (pids_of streams) acts ≡ Some os → AllPaired os ps
+PairsAll top streams acts v = Unit {0}
 
 -- in each event of the streams the serial rises
 abbrev pub AllRise : List Stream → Type 0
@@ -39,10 +47,24 @@ RisesOnYes streams v = Unit {0}
 abbrev pub reported : List Pid → List Act → List Outcome → List Stream
 reported pids acts os = map (λ p. record { pid = p; events = stream acts os p }) pids
 
--- the acts have this run's streams and replies; or act n is the first that has no step
+-- the acts have a run over these pids, and these are its streams and its replies
+pub record RunsWith (top : ℕ) (pids : List Pid) (acts : List Act) (streams : List Stream)
+    (replies : List Reply) : Type 0 where
+  pub outcomes : List Outcome
+  pub runs : run top pids acts ≡ Some outcomes
+  pub are_streams : streams ≡ reported pids acts outcomes
+  pub are_replies : replies ≡ map (λ o. o.reply) outcomes
+
+-- act n is the first that has no step
+pub record SticksAt (top : ℕ) (pids : List Pid) (acts : List Act) (n : ℕ) : Type 0 where
+  pub within : n < length acts
+  pub before : IsSome (run top pids (take n acts))
+  pub none : run top pids (take (n + 1) acts) ≡ None
+
+-- what a replay answers
 abbrev pub IsReplay : ℕ → List Pid → List Act → Replayed → Type 0
-IsReplay top pids acts (replayed.Ran streams replies) = (os : List Outcome) × (run top pids acts ≡ Some os) × (streams ≡ reported pids acts os) × (replies ≡ map (λ o. o.reply) os)
-IsReplay top pids acts (replayed.Stuck n) = (n < length acts) × IsSome (run top pids (take n acts)) × (run top pids (take (n + 1) acts) ≡ None)
+IsReplay top pids acts (replayed.Ran streams replies) = RunsWith top pids acts streams replies
+IsReplay top pids acts (replayed.Stuck n) = SticksAt top pids acts n
 
 -- when there is no replay: for want of memory only where the pids rise
 abbrev pub IsReplayFault : List Pid → ReplayFault → Type 0

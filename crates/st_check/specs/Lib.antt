@@ -1,5 +1,6 @@
--- What the public contracts cite is `Answers`; the others are for the contracts of the checker's and the replay's parts.
-pub mod Progress
+-- What public contracts cite: the answers, and the laws.
 pub mod Answers
 pub mod Laws
+-- For the contracts of the parts of the checker and of the replay, what they keep on the way.
+pub mod Progress
 pub mod Recorded

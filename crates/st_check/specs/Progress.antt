@@ -1,5 +1,6 @@
 -- What the checker keeps while acts pass. For the contracts of its parts alone: what it answers is in `Answers`.
-use Rattle.std.specs.Prelude.{◌≡◌, ℕ, ◌+◌, ◌<◌, ◌≤◌, IsSome, slice_get, List, [], ◌∷◌, length, map, slice_set, slice_index, slice_index_or, remove, Option, Some, None}
+use Rattle.std.specs.Prelude.{◌≡◌, ℕ, ◌+◌, ◌<◌, ◌≤◌, IsSome, slice_get, List, [], ◌∷◌, length, map, slice_set}
+use Rattle.std.specs.Prelude.{slice_index, slice_index_or, remove, Option, Some, None}
 use Rattle.st_core.specs.declared.types.Pid.{Pid}
 use Rattle.st_core.specs.declared.types.Act.{Act}
 use Rattle.st_core.specs.declared.types.Event.{Event}
@@ -48,8 +49,10 @@ abbrev pub pair_to : ℕ → Option ℕ → List (ℕ × ℕ)
 pair_to n None = []
 pair_to n (Some s) = (n, s) ∷ []
 
--- acts that pass, the state that they lead to, how many events each process reported, the tags of each queue, and the pairs
-pub record IsPassed (top : ℕ) (streams : List Stream) (acts : List Act) (s : State) (counts : List ℕ) (tags : List (List ℕ)) (ps : List (ℕ × ℕ)) : Type 0 where
+-- acts that pass, the state that they lead to, how many events each process reported, the tags of each queue, and the
+-- pairs
+pub record IsPassed (top : ℕ) (streams : List Stream) (acts : List Act) (s : State) (counts : List ℕ)
+    (tags : List (List ℕ)) (ps : List (ℕ × ℕ)) : Type 0 where
   pub outcomes : List Outcome
   pub passing : IsPassing top streams acts outcomes
   pub is_state : s ≡ state_from (zero_state (pids_of streams)) outcomes
@@ -71,7 +74,9 @@ IsStop top streams acts stop.Differs = IsSome (run top (pids_of streams) acts) �
 
 -- each of the first n processes reported all its events
 abbrev pub NoneLeftBefore : List Stream → List ℕ → ℕ → Type 0
-NoneLeftBefore streams counts n = (k : ℕ) (p : Pid) → k < n → slice_get (pids_of streams) k ≡ Some p → length (events_of streams p) ≤ slice_index counts k
+NoneLeftBefore streams counts n =
+    (k : ℕ) (p : Pid) → k < n → slice_get (pids_of streams) k ≡ Some p
+    → length (events_of streams p) ≤ slice_index counts k
 
 -- p is the first process that has events left
 pub record IsLeft (streams : List Stream) (counts : List ℕ) (p : Pid) : Type 0 where

@@ -17,7 +17,8 @@ recorded streams p None = streams
 recorded streams p (Some e) = added streams p e
 
 -- acts that have a run, the state that it leads to, its streams and its replies
-pub record IsRecorded (top : ℕ) (pids : List Pid) (acts : List Act) (s : State) (streams : List Stream) (replies : List Reply) : Type 0 where
+pub record IsRecorded (top : ℕ) (pids : List Pid) (acts : List Act) (s : State) (streams : List Stream)
+    (replies : List Reply) : Type 0 where
   pub outcomes : List Outcome
   pub runs : run top pids acts ≡ Some outcomes
   pub is_state : s ≡ state_from (zero_state pids) outcomes

@@ -1,7 +1,7 @@
 //! The checker.
 
 ghost use Rattle.std.specs.Prelude.{IfOk};
-ghost use Rattle.st_check.specs.Answers.{verdict_of, FollowsAll, RisesOnYes};
+ghost use Rattle.st_check.specs.Answers.{verdict_of, FollowsAll, PairsAll, RisesOnYes};
 ghost use Rattle.st_core.specs.Verdict.{IsVerdict};
 
 use crate::progress::{Progress, Stop};
@@ -22,6 +22,7 @@ pub fn check<const TOP: u64>(
 
     // What every run keeps, of the run that a yes is about.
     ensures follows { IfOk result (λ v. FollowsAll TOP streams.now acts.now (verdict_of v)) }
+    ensures paired { IfOk result (λ v. PairsAll TOP streams.now acts.now (verdict_of v)) }
     ensures rises { IfOk result (λ v. RisesOnYes streams.now (verdict_of v)) }
 {
     let Ok(mut progress) = Progress::<TOP>::new(alloc, streams) else {

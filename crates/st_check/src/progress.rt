@@ -1,7 +1,8 @@
 //! Acts that pass one by one: the world, how far each stream was matched, the tags of each queue
 //! and the pairs.
 
-ghost use Rattle.std.specs.Prelude.{◌≡◌, ◌<◌, ◌+◌, ◌++◌, ◌↔◌, [], length, take, Some, IsTrue, IfOk, IfErr, IfSome, IfNone, OnOk, slice_get, slice_index};
+ghost use Rattle.std.specs.Prelude.{◌≡◌, ◌<◌, ◌+◌, ◌++◌, ◌↔◌, [], length, take, slice_get, slice_index};
+ghost use Rattle.std.specs.Prelude.{Some, IsTrue, IfOk, IfErr, IfSome, IfNone, OnOk};
 ghost use Rattle.std.specs.Option.{ForSome};
 ghost use Rattle.st_check.specs.Progress.{counted, pair_to, stop_of, IsPassed, IsStop, IsLeft, NoneLeftBefore};
 ghost use Rattle.st_core.specs.Run.{pids_of};
@@ -15,19 +16,19 @@ use std::alloc::{AllocError, Global};
 
 /// What is kept while acts pass.
 #[derive(Drop)]
-pub struct Progress<const TOP: u64> {
+pub(crate) struct Progress<const TOP: u64> {
     /// The state that the acts lead to.
-    pub world: World<TOP>,
+    world: World<TOP>,
     /// How many events each process reported, in the order of the streams.
-    pub counts: Vec<u64>,
+    counts: Vec<u64>,
     /// The numbers of the sends whose messages lie in each process's queue.
-    pub tags: Lists<u64>,
+    tags: Lists<u64>,
     /// Each reported receive and the send whose message it took.
-    pub pairs: Sequence<(u64, u64)>,
+    pairs: Sequence<(u64, u64)>,
 }
 
 /// Why the next act doesn't pass.
-pub enum Stop {
+pub(crate) enum Stop {
     /// A growth was refused.
     Memory,
     /// It has no step.
@@ -48,7 +49,7 @@ fn stop_of(fault: StepFault) -> Stop
 
 impl<const TOP: u64> Progress<TOP> {
     /// No acts yet.
-    pub fn new(alloc: Global, streams: &Streams) -> Result<Progress<TOP>, AllocError>
+    pub(crate) fn new(alloc: Global, streams: &Streams) -> Result<Progress<TOP>, AllocError>
         ensures { IfOk result (λ p. IsPassed TOP streams.now [] p.world p.counts.items p.tags.lists p.pairs) }
     {
         let pids = streams.pids();
@@ -66,10 +67,17 @@ impl<const TOP: u64> Progress<TOP> {
     }
 
     /// Takes the act of this number where it passes.
-    pub fn advance(&mut self, streams: &Streams, acts: &[Act], number: usize) -> Result<(), Stop>
+    pub(crate) fn advance(
+        &mut self,
+        streams: &Streams,
+        acts: &[Act],
+        number: usize,
+    ) -> Result<(), Stop>
         requires within { number < length acts.now }
-        requires passed { IsPassed TOP streams.now (take number acts.now) self.old.world self.old.counts.items self.old.tags.lists self.old.pairs }
-        ensures passed { OnOk result (IsPassed TOP streams.now (take (number + 1) acts.now) self.new.world self.new.counts.items self.new.tags.lists self.new.pairs) }
+        requires passed { IsPassed TOP streams.now (take number acts.now)
+            self.old.world self.old.counts.items self.old.tags.lists self.old.pairs }
+        ensures passed { OnOk result (IsPassed TOP streams.now (take (number + 1) acts.now)
+            self.new.world self.new.counts.items self.new.tags.lists self.new.pairs) }
         ensures stop { IfErr result (IsStop TOP streams.now (take (number + 1) acts.now)) }
     {
         let act = &acts[number];
@@ -104,7 +112,8 @@ impl<const TOP: u64> Progress<TOP> {
     /// the next of its events.
     fn count(&mut self, place: usize, events: &[Event], report: Option<Event>) -> bool
         requires { place < length self.old.counts.items }
-        ensures next { IsTrue result ↔ ForSome report (λ e. slice_get events.now (slice_index self.old.counts.items place) ≡ Some e) }
+        ensures next { IsTrue result ↔
+            ForSome report (λ e. slice_get events.now (slice_index self.old.counts.items place) ≡ Some e) }
         ensures counts { IsTrue result → self.new.counts.items ≡ counted self.old.counts.items place report }
         ensures world { self.new.world ≡ self.old.world }
         ensures tags { self.new.tags ≡ self.old.tags }
@@ -122,7 +131,7 @@ impl<const TOP: u64> Progress<TOP> {
     }
 
     /// The first process with events left.
-    pub fn left(&self, streams: &Streams) -> Option<Pid>
+    pub(crate) fn left(&self, streams: &Streams) -> Option<Pid>
         requires { length self.now.counts.items ≡ length (pids_of streams.now) }
         ensures found { IfSome result (IsLeft streams.now self.now.counts.items) }
         ensures none { IfNone result (NoneLeftBefore streams.now self.now.counts.items (length (pids_of streams.now))) }
@@ -139,7 +148,7 @@ impl<const TOP: u64> Progress<TOP> {
     }
 
     /// The pairs of the acts so far.
-    pub fn into_pairs(self) -> Sequence<(u64, u64)>
+    pub(crate) fn into_pairs(self) -> Sequence<(u64, u64)>
         ensures { result ≡ self.entry.pairs }
     {
         let Progress {

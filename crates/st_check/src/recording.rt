@@ -84,9 +84,11 @@ impl<const TOP: u64> Recording<TOP> {
     /// Takes the act of this number, and answers whether it has a step.
     fn advance(&mut self, acts: &[Act], number: usize) -> Result<bool, AllocError>
         requires within { number < length acts.now }
-        requires recorded { IsRecorded TOP (pids_of self.old.streams) (take number acts.now) self.old.world self.old.streams self.old.replies }
+        requires recorded { IsRecorded TOP (pids_of self.old.streams) (take number acts.now)
+            self.old.world self.old.streams self.old.replies }
         ensures { IfOk result (λ has_step. MatchBool has_step
-            (IsRecorded TOP (pids_of self.old.streams) (take (number + 1) acts.now) self.new.world self.new.streams self.new.replies)
+            (IsRecorded TOP (pids_of self.old.streams) (take (number + 1) acts.now)
+            self.new.world self.new.streams self.new.replies)
             (run TOP (pids_of self.old.streams) (take (number + 1) acts.now) ≡ None)) }
     {
         let act = &acts[number];

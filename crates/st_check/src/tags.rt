@@ -1,7 +1,8 @@
 //! The numbers of the sends whose messages lie in each queue: one list for each process, in step
 //! with its queue.
 
-ghost use Rattle.std.specs.Prelude.{◌≡◌, ◌<◌, ◌++◌, [], ◌∷◌, map, length, Some, IfOk, OnOk, slice_get, option_and_then, if◌then◌else◌};
+ghost use Rattle.std.specs.Prelude.{◌≡◌, ◌<◌, ◌++◌, [], ◌∷◌, map, length, slice_get, if◌then◌else◌};
+ghost use Rattle.std.specs.Prelude.{Some, IfOk, OnOk, option_and_then};
 ghost use Rattle.st_arena.specs.Arena.{list_at};
 ghost use Rattle.st_check.specs.Progress.{without_tag, pair_to};
 ghost use Rattle.st_core.specs.Pairs.{Tags, tags_after, pair_at};
@@ -22,7 +23,8 @@ fn push_tag(
 ) -> Result<(), AllocError>
     requires rising { IsRising (pids_of streams.now) }
     requires even { length tags.old.lists ≡ length (pids_of streams.now) }
-    ensures { OnOk result ((t : Tags) → tags.old.lists ≡ map t (pids_of streams.now) → tags.new.lists ≡ map (λ x. if pid_eq x to then t x ++ number ∷ [] else t x) (pids_of streams.now)) }
+    ensures { OnOk result ((t : Tags) → tags.old.lists ≡ map t (pids_of streams.now) →
+        tags.new.lists ≡ map (λ x. if pid_eq x to then t x ++ number ∷ [] else t x) (pids_of streams.now)) }
 {
     let Some(list) = streams.place_of(to) else {
         return Ok(());
@@ -44,7 +46,7 @@ fn take_tag(tags: &mut Lists<u64>, list: usize, place: Option<u64>) -> Option<u6
 /// Keeps the tags in step with the queues over an act whose step was taken, where `list` is the
 /// actor's and `place` that at which a receive took its message. Answers the number of the send
 /// whose message it took.
-pub fn retag(
+pub(crate) fn retag(
     tags: &mut Lists<u64>,
     streams: &Streams,
     list: usize,
@@ -55,8 +57,10 @@ pub fn retag(
     requires rising { IsRising (pids_of streams.now) }
     requires even { length tags.old.lists ≡ length (pids_of streams.now) }
     requires actor { slice_get (pids_of streams.now) list ≡ Some (actor act.now) }
-    ensures tags { OnOk result ((t : Tags) → tags.old.lists ≡ map t (pids_of streams.now) → tags.new.lists ≡ map (tags_after t number act.now place) (pids_of streams.now)) }
-    ensures pair { IfOk result (λ sent. (t : Tags) → tags.old.lists ≡ map t (pids_of streams.now) → pair_at t number act.now place ≡ pair_to number sent) }
+    ensures tags { OnOk result ((t : Tags) → tags.old.lists ≡ map t (pids_of streams.now) →
+        tags.new.lists ≡ map (tags_after t number act.now place) (pids_of streams.now)) }
+    ensures pair { IfOk result (λ sent. (t : Tags) → tags.old.lists ≡ map t (pids_of streams.now) →
+        pair_at t number act.now place ≡ pair_to number sent) }
 {
     match *act {
         Act::Send(_, to, _) => {

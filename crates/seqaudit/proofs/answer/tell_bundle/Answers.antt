@@ -1,3 +1,4 @@
+-- The text was written whole and the status is 0, or the writer failed and it is 4.
 use Rattle.seqaudit.specs.Parts.{bundled}
 use Rattle.seqaudit.proofs.Telling.{delivers}
 use Rattle.seqaudit.proofs.answer.tell_bundle.Goals as goal
@@ -5,4 +6,5 @@ use Rattle.seqaudit.proofs.answer.tell_bundle.Goals as goal
 pub returns : goal.returns
 returns g c =
     let writer = g.W.ByteSink in
-    delivers writer.puts writer.failed _ _ (bundled c.args.streams.now c.args.acts.now) c.write_parts-sent.result _ c.write_parts-sent.ensures c.status_of.ensures
+    delivers writer.puts writer.failed _ _ (bundled c.args.streams.now c.args.acts.now) c.write_parts-sent.result _
+    c.write_parts-sent.ensures c.status_of.ensures

@@ -1,10 +1,17 @@
+-- What `check` answers is the verdict, and want of memory is an answer of its own.
 use Rattle.st_check.specs.Answers.{verdict_of}
 use Rattle.seqaudit.specs.Output.{judged, no_memory}
 use Rattle.seqaudit.specs.Parts.{Judges, NoRoomToCheck}
 use Rattle.seqaudit.proofs.check.check_acts.Goals as goal
 
 pub returns-in-Ok : goal.returns-in-Ok
-returns-in-Ok g c = record { output = judged (verdict_of c.in-Ok.verdict); owed = Judges (verdict_of c.in-Ok.verdict) c.in-Ok.ensures.verdict c.in-Ok.ensures.follows; delivered = c.tell_verdict.ensures }
+returns-in-Ok g c =
+    let answer = c.in-Ok.ensures in
+    record {
+      output = judged (verdict_of c.in-Ok.verdict);
+      owed = Judges (verdict_of c.in-Ok.verdict) answer.verdict answer.follows answer.paired;
+      delivered = c.tell_verdict.ensures;
+    }
 
 pub returns-in-Err-Memory : goal.returns-in-Err-Memory
 returns-in-Err-Memory g c = record { output = no_memory; owed = NoRoomToCheck; delivered = c.tell_fault.ensures }

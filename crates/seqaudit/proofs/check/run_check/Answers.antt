@@ -1,3 +1,4 @@
+-- The reader tells which bytes it gave, what was delivered is what they owe, and its status says what it is.
 use Rattle.st_text.specs.Contents.{contents}
 use Rattle.seqaudit.specs.Output.{refused}
 use Rattle.seqaudit.specs.Checked.{IsChecked, Faulty}
@@ -12,7 +13,8 @@ returns-in-Ok-clause-told g c =
     let read = was_read reader.gives reader.ended reader.failed _ _ c.in-Ok.bundle c.in-Ok.ensures in
     record {
       output = told.output;
-      owed = owes_check reader.gives reader.ended reader.failed _ _ (contents c.in-Ok.bundle) read told.output told.owed;
+      owed = owes_check reader.gives reader.ended reader.failed _ _ (contents c.in-Ok.bundle) read told.output
+          told.owed;
       delivered = told.delivered;
     }
 

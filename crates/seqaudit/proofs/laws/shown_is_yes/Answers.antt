@@ -1,3 +1,4 @@
+-- Acts that show the streams have the verdict yes, and bytes have one output.
 use Rattle.seqaudit.proofs.Meanings as meanings
 use Rattle.seqaudit.proofs.laws.shown_is_yes.Goals as goal
 

@@ -1,3 +1,4 @@
+-- Status 0 belongs to a yes alone.
 use Rattle.seqaudit.proofs.Meanings as meanings
 use Rattle.seqaudit.proofs.laws.yes_means.Goals as goal
 

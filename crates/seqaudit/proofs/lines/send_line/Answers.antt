@@ -1,3 +1,4 @@
+-- All that waits in the buffer is flushed.
 use Rattle.seqaudit.specs.Lines.{text_of}
 use Rattle.st_text.proofs.ForCallers.{finishes}
 use Rattle.seqaudit.proofs.Texts.{line_some}
@@ -6,4 +7,6 @@ use Rattle.seqaudit.proofs.lines.send_line.Goals as goal
 
 pub returns : goal.returns
 returns g c =
-    finishes g.W.ByteSink.puts g.W.ByteSink.failed (text_of c.args.line) _ _ _ _ _ c.flush.result (line_some (words c.args.line)) (rw c.new-buffer.ensures at c.in_ok-write_line.ensures) c.flush.ensures.goes c.flush.ensures.empty
+    finishes g.W.ByteSink.puts g.W.ByteSink.failed (text_of c.args.line) _ _ _ _ _ c.flush.result
+    (line_some (words c.args.line)) (rw c.new-buffer.ensures at c.in_ok-write_line.ensures) c.flush.ensures.goes
+    c.flush.ensures.empty

@@ -1,3 +1,4 @@
+-- The lines of the pairs so far were written, or wait.
 use Rattle.std.proofs.Common.{take}
 use Rattle.std.specs.List.{flat_map}
 use Rattle.seqaudit.specs.Output.{pair_line}
@@ -5,4 +6,6 @@ use Rattle.st_text.specs.Writing.{Goes}
 use Rattle.seqaudit.proofs.lines.write_pairs.Given as goal
 
 abbrev pub invariant-loop-pair : goal.invariant-loop-pair
-invariant-loop-pair g l = Goes g.W.ByteSink.puts g.W.ByteSink.failed (flat_map pair_line (take l.pair-index l.pairs)) l.initial.writer l.writer l.initial.buffer.items l.buffer.items
+invariant-loop-pair g l =
+    Goes g.W.ByteSink.puts g.W.ByteSink.failed (flat_map pair_line (take l.pair-index l.pairs)) l.initial.writer
+    l.writer l.initial.buffer.items l.buffer.items

@@ -1,3 +1,4 @@
+-- Words ask for a command or for none, and then nothing is read.
 use Rattle.std.proofs.Common.{map}
 use Rattle.seqaudit.specs.Command.{ForCommand}
 use Rattle.seqaudit.specs.Parts.{refusal_output}
@@ -7,13 +8,18 @@ use Rattle.seqaudit.proofs.program.run.Goals as goal
 pub returns-in-Ok : goal.returns-in-Ok
 returns-in-Ok g c =
     let told = c.run_task.ensures in
-    record { output = told.output; owed = ForCommand c.in-Ok.task told.output c.in-Ok.ensures.task told.owed; delivered = told.delivered }
+    record {
+      output = told.output;
+      owed = ForCommand c.in-Ok.task told.output c.in-Ok.ensures.task told.owed;
+      delivered = told.delivered;
+    }
 
 pub returns-in-Err : goal.returns-in-Err
 returns-in-Err g c =
     let reader = g.R.ByteSource in
     record {
       output = refusal_output c.in-Err.refusal;
-      owed = owes_refusal reader.gives reader.ended reader.failed c.args.reader.now (map g.S.AsStr.text c.args.words.now) c.in-Err.refusal c.in-Err.ensures.refusal;
+      owed = owes_refusal reader.gives reader.ended reader.failed c.args.reader.now
+          (map g.S.AsStr.text c.args.words.now) c.in-Err.refusal c.in-Err.ensures.refusal;
       delivered = c.tell_refusal.ensures;
     }

@@ -1,3 +1,4 @@
+-- The streams' pids rise, so a replay is refused for want of memory alone.
 use Rattle.std.proofs.Common.{List, subst, sym}
 use Rattle.st_core.specs.declared.types.Pid.{Pid}
 use Rattle.st_core.specs.Pid.{IsRising}
@@ -13,7 +14,13 @@ unreachable-requires g c =
 
 pub returns-in-Ok : goal.returns-in-Ok
 returns-in-Ok g c =
-    record { output = replayed_output c.in-Ok.replayed c.args.acts.now; owed = replays_to c.args.streams.now c.pids.result.now c.args.acts.now c.in-Ok.replayed c.pids.ensures.value c.in-Ok.ensures.replay; delivered = c.tell_replayed.ensures }
+    record {
+      output = replayed_output c.in-Ok.replayed c.args.acts.now;
+      owed =
+          replays_to c.args.streams.now c.pids.result.now c.args.acts.now c.in-Ok.replayed c.pids.ensures.value
+          c.in-Ok.ensures.replay;
+      delivered = c.tell_replayed.ensures;
+    }
 
 pub returns-in-Err-Memory : goal.returns-in-Err-Memory
 returns-in-Err-Memory g c = record { output = no_memory; owed = NoRoomToReplay; delivered = c.tell_fault.ensures }

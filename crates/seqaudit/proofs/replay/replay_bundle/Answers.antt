@@ -1,3 +1,4 @@
+-- A bundle has acts or has none.
 use Rattle.std.proofs.Common.{sym, ap, ◌∙◌}
 use Rattle.std.specs.Prelude.{Some}
 use Rattle.seqaudit.specs.Output.{no_acts}
@@ -6,7 +7,13 @@ use Rattle.seqaudit.proofs.replay.replay_bundle.Goals as goal
 
 pub returns-in-Some : goal.returns-in-Some
 returns-in-Some g c =
-    record { output = c.replay_acts.ensures.output; owed = OfSome c.as_slice.result.now c.replay_acts.ensures.output (c.in-Some.is ∙ ap Some (sym c.as_slice.ensures)) c.replay_acts.ensures.owed; delivered = c.replay_acts.ensures.delivered }
+    record {
+      output = c.replay_acts.ensures.output;
+      owed =
+          OfSome c.as_slice.result.now c.replay_acts.ensures.output (c.in-Some.is ∙ ap Some (sym c.as_slice.ensures))
+          c.replay_acts.ensures.owed;
+      delivered = c.replay_acts.ensures.delivered;
+    }
 
 pub returns-in-None : goal.returns-in-None
 returns-in-None g c = record { output = no_acts; owed = OfNone c.in-None.is; delivered = c.tell_line.ensures }

@@ -1,3 +1,4 @@
+-- The reader tells which bytes it gave, and what was delivered is what these bytes owe.
 use Rattle.st_text.specs.Contents.{contents}
 use Rattle.seqaudit.specs.Output.{refused}
 use Rattle.seqaudit.specs.Replayed.{IsReplayed, Faulty}
@@ -11,7 +12,8 @@ returns-in-Ok g c =
     let read = was_read reader.gives reader.ended reader.failed _ _ c.in-Ok.bundle c.in-Ok.ensures in
     record {
       output = told.output;
-      owed = owes_replay reader.gives reader.ended reader.failed _ _ (contents c.in-Ok.bundle) read told.output told.owed;
+      owed = owes_replay reader.gives reader.ended reader.failed _ _ (contents c.in-Ok.bundle) read told.output
+          told.owed;
       delivered = told.delivered;
     }
 

@@ -1,3 +1,4 @@
+-- The definitions of `clap` are computed on the words, whatever the program's name.
 use Rattle.std.proofs.Common.{refl}
 use Rattle.clap.proofs.OnLiterals.{clap_on_literals}
 use Rattle.seqaudit.proofs.words.plain_words.Goals as goal

@@ -1,3 +1,4 @@
+-- The pids so far are listed, without events.
 use Rattle.std.proofs.Common.{◌≡◌, [], take}
 use Rattle.st_check.specs.Answers.{reported}
 use Rattle.st_check.proofs.recording.opened.Given as goal

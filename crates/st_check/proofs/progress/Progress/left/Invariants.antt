@@ -1,3 +1,4 @@
+-- No process so far has events left.
 use Rattle.st_check.specs.Progress.{NoneLeftBefore}
 use Rattle.st_check.proofs.progress.Progress.left.Given as goal
 
