@@ -1,9 +1,9 @@
 %% @doc Draws a chart as a sequence diagram in SVG.
 %%
 %% A lane for each process under its name, time downwards by the chart's rows. An arrow goes from
-%% each send to its receive; it is dashed where nobody reported the send, and ends in a bar where the
-%% chart has no receive. Prints are diamonds. What is shortened beside a mark is whole in its tooltip,
-%% with the serial and the cause.
+%% each send to its receive; it is dashed where nobody reported the send, and ends in a bar where
+%% the chart has no receive. Prints are diamonds. What is shortened beside a mark is whole in its
+%% tooltip, with the serial and the cause.
 -module(seqaudit_draw).
 
 -export([svg/2]).
@@ -124,8 +124,9 @@ sender(#{kind := <<"send">>} = Row) -> {lane($S, Row), "s"}.
 -spec path(place(), place()) -> iolist().
 path({Lane, Sent}, {Lane, Received}) ->
     Bottom = y(max(Received, Sent + 1)),
-    format("M~b ~bC~b ~b ~b ~b ~b ~b", [x(Lane), y(Sent), x(Lane) + 50, y(Sent), x(Lane) + 50, Bottom,
-                                        x(Lane) + 4, Bottom]);
+    Bow = x(Lane) + 50,
+    format("M~b ~bC~b ~b ~b ~b ~b ~b",
+           [x(Lane), y(Sent), Bow, y(Sent), Bow, Bottom, x(Lane) + 4, Bottom]);
 path(From, To) ->
     format("M~b ~bL~b ~b", [x(From), y(From), x(To), y(To)]).
 

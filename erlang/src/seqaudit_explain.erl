@@ -43,7 +43,8 @@ summary(<<"unfit ", _/binary>> = Answer, Legend) ->
 summary(Answer, _Legend) ->
     case lines(Answer) of
         [<<"fault ", _/binary>> = Fault | _] -> [Fault, ": ", fault(Fault), $\n];
-        [<<"usage:", _/binary>> | _] -> "this seqaudit doesn't know the command; build a later one\n";
+        [<<"usage:", _/binary>> | _] ->
+            "this seqaudit doesn't know the command; build a later one\n";
         _ -> ""
     end.
 
@@ -92,9 +93,12 @@ line(Line, {Number, Prints} = State, Legend) ->
         [<<"usage:">> | _] -> {"", State};
         [<<"process">>, Pid] -> {[process(Pid, Legend), ":\n"], State};
         [<<"acts">>] -> {"The acts of the run:\n", State};
-        [<<"yes">>] -> {"yes: the acts are a run, and each process reports exactly its events\n", State};
-        [<<"pair">>, R, S] -> {format("  act ~ts took the message that act ~ts sent~n", [R, S]), State};
-        [<<"no">>, <<"label">>, L] -> {format("no event has the label ~ts~n", [label(L, Legend)]), State};
+        [<<"yes">>] ->
+            {"yes: the acts are a run, and each process reports exactly its events\n", State};
+        [<<"pair">>, R, S] ->
+            {format("  act ~ts took the message that act ~ts sent~n", [R, S]), State};
+        [<<"no">>, <<"label">>, L] ->
+            {format("no event has the label ~ts~n", [label(L, Legend)]), State};
         [<<"no">> | Why] -> {no(Why, Legend), State};
         [<<"label">>, L] -> {format("label ~ts~n", [label(L, Legend)]), State};
         [<<"lane">>, K, Pid] -> {format("lane ~ts ~ts~n", [K, process(Pid, Legend)]), State};
@@ -160,7 +164,8 @@ reason(<<"prevnotbefore">>) ->
      "serial was set by hand.",
      "seq_trace:set_token/2 with serial, and tokens that set_token/1 puts back."};
 reason(<<"notrising">>) ->
-    {"the two events stamped by one process don't rise: its clock went back. Only a reset does that.",
+    {"the two events stamped by one process don't rise: its clock went back. Only a reset does "
+     "that.",
      "seq_trace:reset_trace/0 between the two; a token that set_token/1 puts back, which moves the "
      "clock of a standard node; files of two runs converted as one."};
 reason(<<"repeated">>) ->
@@ -180,15 +185,18 @@ reason(<<"uncaused">>) ->
 reason(<<"toowide">>) ->
     {"too many stamps are missing: more than 1,000 before this event, or 1,000,000 in all.",
      "a tracer that came on long after the token was set: begin with reset, or set the token after "
-     "the start; flags that were off for long."};
+     "the start; flags that were off for long; a process that spawned another inside the trace."};
 reason(<<"notreplayed">>) ->
     {"the acts that the auditor made don't show the trace. This need not be a fault: it tries one "
      "order, and no other.",
-     "messages with a lower serial that were received after ones with a higher; flags that were off."}.
+     "messages with a lower serial that were received after ones with a higher; flags that were "
+     "off."}.
 
-fault(<<"fault too large">>) -> "the bundle has more than 67,108,864 bytes; trace for a shorter time";
+fault(<<"fault too large">>) ->
+    "the bundle has more than 67,108,864 bytes; trace for a shorter time";
 fault(<<"fault too many ", _/binary>>) ->
-    "the bundle has more than 1,024 processes or 1,000,000 events; trace fewer, or for a shorter time";
+    "the bundle has more than 1,024 processes or 1,000,000 events; trace fewer, or for a shorter "
+    "time";
 fault(<<"fault memory">>) -> "there isn't memory enough; trace for a shorter time";
 fault(<<"fault device">>) -> "the bundle couldn't be read, or the answer not be written";
 fault(_) -> "this isn't a bundle as seqaudit-node convert writes it; convert the events anew".

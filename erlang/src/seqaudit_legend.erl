@@ -12,10 +12,10 @@
 -define(HEADER, <<"seqaudit terms 1">>).
 
 %% Messages of gen_server: a call, a cast, and the replies to an alias and to a reference.
--define(BRIEF, [{"^\\{'\\$gen_call',\\{[^,]*,(?:\\[alias\\|#Ref<[0-9.]*>\\]|#Ref<[0-9.]*>)\\},(.*)\\}$",
-                 <<"call ">>},
+-define(TAG, "(?:\\[alias\\|#Ref<[0-9.]*>\\]|#Ref<[0-9.]*>)").
+-define(BRIEF, [{"^\\{'\\$gen_call',\\{[^,]*," ?TAG "\\},(.*)\\}$", <<"call ">>},
                 {"^\\{'\\$gen_cast',(.*)\\}$", <<"cast ">>},
-                {"^\\{(?:\\[alias\\|#Ref<[0-9.]*>\\]|#Ref<[0-9.]*>),(.*)\\}$", <<"reply ">>}]).
+                {"^\\{" ?TAG ",(.*)\\}$", <<"reply ">>}]).
 
 -opaque legend() :: #{{process | about | label | value, binary()} => binary()}.
 

@@ -37,7 +37,8 @@ notes(Collections, Counts, Listed, Labels, Sizes) ->
                   several("labels that are no whole numbers in range: ", labels(Labels))]).
 
 nothing(#{events := 0}) ->
-    ["no events came; a token is to be set while the tracer is on, as seqaudit_trace:with_trace does"];
+    ["no events came; a token is to be set while the tracer is on, as seqaudit_trace:with_trace/2 "
+     "does"];
 nothing(_) ->
     [].
 
@@ -79,7 +80,7 @@ limits(Sizes) ->
         count(Kind, Sizes) > Most].
 
 nodes_of(Listed) ->
-    case lists:usort([{Number, seqaudit_processes:home(Party)} || {{Number, _}, Party} <- Listed]) of
+    case lists:usort([{Node, seqaudit_processes:home(Party)} || {{Node, _}, Party} <- Listed]) of
         [_, _ | _] = Nodes -> [text("~b is ~ts", [Number, Node]) || {Number, Node} <- Nodes];
         _ -> []
     end.

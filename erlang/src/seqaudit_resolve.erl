@@ -1,9 +1,9 @@
 %% @doc Makes plain events of collected ones, each with its sender and its true receiver.
 %%
 %% A node reports the `to' of a send as the program wrote it: a process, its alias (the replies of
-%% `gen_server' since OTP 24), a name on another node. Its receive names the process. So a send to an
-%% alias or a name is resolved by the receive with the same from and serial; else, for an alias, by
-%% the request that handed the alias out; else it stays a party of its own.
+%% `gen_server' since OTP 24), a name on another node. Its receive names the process. So a send to
+%% an alias or a name is resolved by the receive with the same from and serial; else, for an alias,
+%% by the request that handed the alias out; else it stays a party of its own.
 -module(seqaudit_resolve).
 
 -export([events/1]).

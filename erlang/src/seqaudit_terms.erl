@@ -57,15 +57,14 @@ short(Text, Length) ->
         false -> lists:sublist(Text, Length - 3) ++ "..."
     end.
 
-%% The term with at most so many parts; '...' stands for what is left out, and an atom for a process.
-%% Answers how many parts are left for what follows.
+%% The term with at most so many parts; '...' stands for what is left out, and an atom for a process
+%% with a number. Answers how many parts are left for what follows.
 cut(_Term, _Depth, 0, _) -> {'...', 0};
 cut(_Term, 0, Parts, _) -> {'...', Parts};
 cut([_ | _] = List, Depth, Parts, Numbers) ->
-    Begin = begin_of(List, ?BYTES),
+    Begin = begin_of(List, ?BYTES + 1),
     case io_lib:printable_unicode_list(Begin) of
-        true when length(Begin) < ?BYTES -> {Begin, Parts - 1};
-        true -> {Begin ++ "...", Parts - 1};
+        true -> {short(Begin, ?BYTES), Parts - 1};
         false -> cut_list(List, Depth - 1, Parts - 1, Numbers, [])
     end;
 cut(Tuple, Depth, Parts, Numbers) when is_tuple(Tuple) ->
