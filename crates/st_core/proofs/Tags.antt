@@ -204,7 +204,8 @@ taken_gone acts n tags p w k i known at =
                 (removed_once (tags p) k i (known.once p) at)
             | false ↦ λ e.
                 All-weaker (SendsTo acts x) (λ j. i ≢ j)
-                (λ j theirs same. other_pid x p e (sent_same acts x p i (subst (SendsTo acts x) (sym same) theirs) mine))
+                (λ j theirs same.
+                other_pid x p e (sent_same acts x p i (subst (SendsTo acts x) (sym same) theirs) mine))
                 (tags x) (known.to x)
           ] refl;
     }

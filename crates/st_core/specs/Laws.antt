@@ -48,8 +48,8 @@ abbrev pub AreAllListed : List Stream → Type 0
 AreAllListed streams = (p : Pid) (i : ℕ) (e : Event) → slice_get (events_of streams p) i ≡ Some e
     → names_listed streams e ≡ true
 
--- event i of p names a pid that isn't listed, and no event before it does: none of p's with a lower index, and none of a
--- process with a lower pid
+-- event i of p names a pid that isn't listed, and no event before it does: none of p's with a lower index, and none of
+-- a process with a lower pid
 pub record IsLeastUnlisted (streams : List Stream) (p : Pid) (i : ℕ) : Type 0 where
   pub event : Event
   pub at : slice_get (events_of streams p) i ≡ Some event
