@@ -17,3 +17,7 @@ words lines.Usage = usage_words
 
 abbrev pub text_of : OutputLine → List ℕ
 text_of l = line (words l)
+
+-- how many bytes the words of a line take at most: the usage line is the longest
+abbrev pub words_room : ℕ
+words_room = 56

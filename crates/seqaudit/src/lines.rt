@@ -5,8 +5,9 @@ ghost use Rattle.std.specs.Prelude.{◌≡◌, ◌≤◌, ◌+◌, ◌++◌, len
 ghost use Rattle.std.specs.List.{flat_map};
 ghost use Rattle.arrayvec.specs.ArrayVec.{array_vec_len};
 ghost use Rattle.st_check.specs.Answers.{verdict_of};
+ghost use Rattle.st_text.specs.Room.{buffer_room, line_room, number_room};
 ghost use Rattle.st_text.specs.Writing.{GoesOn, WritesText};
-ghost use Rattle.seqaudit.specs.Lines.{words, text_of};
+ghost use Rattle.seqaudit.specs.Lines.{words, text_of, words_room};
 ghost use Rattle.seqaudit.specs.Output.{fault_words, pair_words, pair_line, verdict_text};
 
 use st_check::Verdict;
@@ -36,9 +37,9 @@ pub(crate) enum OutputLine {
 
 /// Appends words and a number.
 fn put_numbered(buffer: &mut Buffer, words: &[u8], number: u64)
-    requires { array_vec_len buffer.old + length words.now + 20 ≤ 8192 }
+    requires { array_vec_len buffer.old + (length words.now + number_room) ≤ buffer_room }
     ensures items { buffer.new.items ≡ buffer.old.items ++ (words.now ++ decimal number) }
-    ensures len { array_vec_len buffer.new ≤ array_vec_len buffer.old + length words.now + 20 }
+    ensures len { array_vec_len buffer.new ≤ array_vec_len buffer.old + (length words.now + number_room) }
 {
     put_bytes(buffer, words);
     put_number(buffer, number);
@@ -46,9 +47,9 @@ fn put_numbered(buffer: &mut Buffer, words: &[u8], number: u64)
 
 /// Appends the numbers of a receive's act and of its send's.
 fn put_pair(buffer: &mut Buffer, receive: u64, send: u64)
-    requires { array_vec_len buffer.old + 80 ≤ 8192 }
+    requires { array_vec_len buffer.old + words_room ≤ buffer_room }
     ensures items { buffer.new.items ≡ buffer.old.items ++ pair_words (receive, send) }
-    ensures len { array_vec_len buffer.new ≤ array_vec_len buffer.old + 80 }
+    ensures len { array_vec_len buffer.new ≤ array_vec_len buffer.old + words_room }
 {
     put_numbered(buffer, b"pair ", receive);
     put_numbered(buffer, b" ", send);
@@ -56,9 +57,9 @@ fn put_pair(buffer: &mut Buffer, receive: u64, send: u64)
 
 /// Appends the words of a fault.
 fn put_fault(buffer: &mut Buffer, fault: ReadFault)
-    requires { array_vec_len buffer.old + 80 ≤ 8192 }
+    requires { array_vec_len buffer.old + words_room ≤ buffer_room }
     ensures items { buffer.new.items ≡ buffer.old.items ++ fault_words fault }
-    ensures len { array_vec_len buffer.new ≤ array_vec_len buffer.old + 80 }
+    ensures len { array_vec_len buffer.new ≤ array_vec_len buffer.old + words_room }
 {
     match fault {
         ReadFault::Memory => put_bytes(buffer, b"fault memory"),
@@ -75,9 +76,9 @@ fn put_fault(buffer: &mut Buffer, fault: ReadFault)
 
 /// Appends the words of a line.
 fn put_words(buffer: &mut Buffer, line: OutputLine)
-    requires { array_vec_len buffer.old + 80 ≤ 8192 }
+    requires { array_vec_len buffer.old + words_room ≤ buffer_room }
     ensures items { buffer.new.items ≡ buffer.old.items ++ words line }
-    ensures len { array_vec_len buffer.new ≤ array_vec_len buffer.old + 80 }
+    ensures len { array_vec_len buffer.new ≤ array_vec_len buffer.old + words_room }
 {
     match line {
         OutputLine::Yes => put_bytes(buffer, b"yes"),
@@ -99,7 +100,7 @@ fn put_words(buffer: &mut Buffer, line: OutputLine)
 
 /// Appends a line and its newline.
 fn put_line(buffer: &mut Buffer, line: OutputLine)
-    requires { array_vec_len buffer.old + 256 ≤ 8192 }
+    requires { array_vec_len buffer.old + line_room ≤ buffer_room }
     ensures { buffer.new.items ≡ buffer.old.items ++ text_of line }
 {
     put_words(buffer, line);
