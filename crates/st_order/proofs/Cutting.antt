@@ -1,4 +1,4 @@
--- The first run of a list ends before the first that has another label, by induction on what follows.
+-- The first group of a list ends before the first item that has another label, by induction on what follows.
 use Rattle.std.proofs.Common.{
   ◌≡◌,
   ℕ,
@@ -32,7 +32,7 @@ use Rattle.std.proofs.lemmas.Option.{same_Some}
 use Rattle.st_core.specs.declared.types.Label.{Label}
 use Rattle.st_order.specs.declared.item.Item.{Item}
 use Rattle.st_order.specs.declared.labels.Labelled.{Labelled}
-use Rattle.st_order.specs.Runs.{leading_with, put_before, runs}
+use Rattle.st_order.specs.Groups.{leading_with, put_before, grouped}
 
 abbrev items_in : List Labelled → List Item
 items_in = map (λ (x : Labelled). x.item)
@@ -43,61 +43,62 @@ Group = Label × List Item
 same_label : (k l : Label) → (k.0 == l.0) ≡ true → k ≡ l
 same_label k l h = let number = eqb-true k.0 l.0 h in λ i. record { 0 = number i }
 
--- the first run of a list that begins with x, and the runs of the rest
+-- the first group of a list that begins with x, and the groups of the rest
 abbrev cut_after : Labelled → ℕ → List Labelled → List Group
-cut_after x n xs = (x.label, x.item ∷ items_in (take n xs)) ∷ runs (drop n xs)
+cut_after x n xs = (x.label, x.item ∷ items_in (take n xs)) ∷ grouped (drop n xs)
 
-pub runs_after : (x : Labelled) (xs : List Labelled)
-    → runs (x ∷ xs) ≡ cut_after x (leading_with x.label xs) xs
-runs_after x [] = refl
-runs_after x (y ∷ ys) = elim (y.label.0 == x.label.0) as (λ b. (y.label.0 == x.label.0) ≡ b
-    → put_before x (runs (y ∷ ys)) ≡ cut_after x (cond b (leading_with x.label ys + 1) 0) (y ∷ ys)) [
+pub grouped_after : (x : Labelled) (xs : List Labelled)
+    → grouped (x ∷ xs) ≡ cut_after x (leading_with x.label xs) xs
+grouped_after x [] = refl
+grouped_after x (y ∷ ys) = elim (y.label.0 == x.label.0) as (λ b. (y.label.0 == x.label.0) ≡ b
+    → put_before x (grouped (y ∷ ys)) ≡ cut_after x (cond b (leading_with x.label ys + 1) 0) (y ∷ ys)) [
       | true ↦ λ is.
           let n = leading_with x.label ys in
           let same = same_label y.label x.label is in
           let next : suc n ≡ n + 1 = omega arith in
-          let rest : runs (y ∷ ys) ≡ cut_after y n ys =
-          runs_after y ys ∙ ap (λ (l : Label). cut_after y (leading_with l ys) ys) same in
+          let rest : grouped (y ∷ ys) ≡ cut_after y n ys =
+          grouped_after y ys ∙ ap (λ (l : Label). cut_after y (leading_with l ys) ys) same in
           ap (put_before x) rest
-          ∙ ap (λ (b : Bool). cond b ((y.label, x.item ∷ y.item ∷ items_in (take n ys)) ∷ runs (drop n ys))
+          ∙ ap (λ (b : Bool). cond b ((y.label, x.item ∷ y.item ∷ items_in (take n ys)) ∷ grouped (drop n ys))
           ((x.label, x.item ∷ []) ∷ cut_after y n ys)) is
-          ∙ ap (λ (l : Label). let g : Group = (l, x.item ∷ y.item ∷ items_in (take n ys)) in g ∷ runs (drop n ys))
+          ∙ ap (λ (l : Label). let g : Group = (l, x.item ∷ y.item ∷ items_in (take n ys)) in g ∷ grouped (drop n ys))
           same
           ∙ ap (λ (m : ℕ). cut_after x m (y ∷ ys)) next
       | false ↦ λ is.
           let n = leading_with y.label ys in
-          let rest = runs_after y ys in
+          let rest = grouped_after y ys in
           ap (put_before x) rest
-          ∙ ap (λ (b : Bool). cond b ((y.label, x.item ∷ y.item ∷ items_in (take n ys)) ∷ runs (drop n ys))
+          ∙ ap (λ (b : Bool). cond b ((y.label, x.item ∷ y.item ∷ items_in (take n ys)) ∷ grouped (drop n ys))
           ((x.label, x.item ∷ []) ∷ cut_after y n ys)) is
           ∙ ap (λ (gs : List Group). let g : Group = (x.label, x.item ∷ []) in g ∷ gs) (sym rest)
     ] refl
 
--- so the first run is what leads with the first label
-pub runs_cut : (x : Labelled) (rest : List Labelled) (n : ℕ) → n ≡ leading_with x.label (x ∷ rest)
-    → runs (x ∷ rest) ≡ (x.label, items_in (take n (x ∷ rest))) ∷ runs (drop n (x ∷ rest))
-runs_cut x rest n is =
+-- so the first group is what leads with the first label
+pub grouped_cut : (x : Labelled) (rest : List Labelled) (n : ℕ) → n ≡ leading_with x.label (x ∷ rest)
+    → grouped (x ∷ rest) ≡ (x.label, items_in (take n (x ∷ rest))) ∷ grouped (drop n (x ∷ rest))
+grouped_cut x rest n is =
     let leads : leading_with x.label (x ∷ rest) ≡ leading_with x.label rest + 1 =
     ap (λ (b : Bool). cond b (leading_with x.label rest + 1) 0) (eq-eqb x.label.0 x.label.0 refl) in
     let long : suc (leading_with x.label rest) ≡ n = omega (arith, is, leads) in
-    runs_after x rest
-    ∙ ap (λ (m : ℕ). (let g : Group = (x.label, items_in (take m (x ∷ rest))) in g) ∷ runs (drop m (x ∷ rest))) long
+    grouped_after x rest
+    ∙ ap (λ (m : ℕ). (let g : Group = (x.label, items_in (take m (x ∷ rest))) in g) ∷ grouped (drop m (x ∷ rest))) long
 
--- one run goes from the rest to the runs so far
-pub run_passed : (all rest : List Labelled) (x : Labelled) (n : ℕ) (before after : List Group) (its : List Item)
-    (run others : List Labelled) → Some x ≡ slice_get rest 0 → n ≡ leading_with x.label rest
-    → run ≡ take n rest → others ≡ drop n rest → its ≡ items_in run
-    → before ++ runs rest ≡ runs all → after ≡ before ++ (x.label, its) ∷ [] → after ++ runs others ≡ runs all
-run_passed all [] x n before after its run others first count front back are so given = absurd (cc)
-run_passed all (y ∷ rest) x n before after its run others first count front back are so given =
+-- one group goes from the rest to the groups so far
+pub group_passed : (all rest : List Labelled) (x : Labelled) (n : ℕ) (before after : List Group) (its : List Item)
+    (front others : List Labelled) → Some x ≡ slice_get rest 0 → n ≡ leading_with x.label rest
+    → front ≡ take n rest → others ≡ drop n rest → its ≡ items_in front
+    → before ++ grouped rest ≡ grouped all → after ≡ before ++ (x.label, its) ∷ []
+    → after ++ grouped others ≡ grouped all
+group_passed all [] x n before after its front others first count led back are so given = absurd (cc)
+group_passed all (y ∷ rest) x n before after its front others first count led back are so given =
     let same = same_Some x y first in
-    let cut = runs_cut y rest n (count ∙ ap (λ (z : Labelled). leading_with z.label (y ∷ rest)) same) in
+    let cut = grouped_cut y rest n (count ∙ ap (λ (z : Labelled). leading_with z.label (y ∷ rest)) same) in
     let g : Group = (x.label, its) in
     let h : Group = (y.label, items_in (take n (y ∷ rest))) in
-    let one : g ≡ h = λ i. ((same i).label, (are ∙ ap items_in front) i) in
-    ap (λ (gs : List Group). gs ++ runs others) given
-    ∙ append_assoc before (g ∷ []) (runs others)
-    ∙ ap (λ (k : Group). before ++ (k ∷ runs others)) one
-    ∙ ap (λ (l : List Labelled). before ++ (h ∷ runs l)) back
+    let one : g ≡ h = λ i. ((same i).label, (are ∙ ap items_in led) i) in
+    ap (λ (gs : List Group). gs ++ grouped others) given
+    ∙ append_assoc before (g ∷ []) (grouped others)
+    ∙ ap (λ (k : Group). before ++ (k ∷ grouped others)) one
+    ∙ ap (λ (l : List Labelled). before ++ (h ∷ grouped l)) back
     ∙ ap (λ (gs : List Group). before ++ gs) (sym cut)
     ∙ so

@@ -1,5 +1,5 @@
--- The lemmas that proofs of the crates above may cite: on keys and what comes before what, on the order as a list, and on
--- what items there are. They hold by the definitions alone; nothing here speaks of how the code does it.
+-- The lemmas that proofs of the crates above may cite: on keys and what comes before what, on the order as a list, and
+-- on what items there are. They hold by the definitions alone; nothing here speaks of how the code does it.
 
 -- ---- keys, and what comes before what
 pub use Rattle.st_order.proofs.Keys.{pid_total, key_total, IsKeyed, items_keyed, comes_before_is, one_way, chain}
@@ -10,4 +10,4 @@ pub use Rattle.st_order.proofs.Rising.{NotFalling, order_from}
 -- ---- the events of a listed process
 pub use Rattle.st_order.proofs.Found.{drop_front, AreFound, all_found}
 -- ---- a receive that no other repeats
-pub use Rattle.st_order.proofs.Once.{once_place}
+pub use Rattle.st_order.proofs.Once.{only_receive}

@@ -1,4 +1,4 @@
--- The runs of items that rise by label are the items by label: the items of one label are one run, and a stable sort
+-- The groups of items that rise by label are the items by label: those of one label are one group, and a stable sort
 -- leaves them in their order.
 use Rattle.std.proofs.Common.{
   ◌≡◌,
@@ -46,7 +46,7 @@ use Rattle.st_order.specs.declared.item.Item.{Item}
 use Rattle.st_order.specs.declared.item.Item.TheVariants as item
 use Rattle.st_order.specs.declared.labels.Labelled.{Labelled}
 use Rattle.st_order.specs.Labels.{label_of, has_label, LabelsRise, IsByLabel}
-use Rattle.st_order.specs.Runs.{with_label, put_before, runs}
+use Rattle.st_order.specs.Groups.{with_label, put_before, grouped}
 use Rattle.st_order.proofs.Lists.{all_mapped}
 
 abbrev Group : Type 0
@@ -94,9 +94,9 @@ module _ (P : Label → Type 0) where
         | false ↦ (one, all)
       ]
 
-  all_runs : (xs : List Labelled) → AllByRecursion (λ x. P x.label) xs → AllByRecursion (λ g. P g.0) (runs xs)
-  all_runs [] all = tt
-  all_runs (x ∷ xs) all = all_put x (runs xs) all.0 (all_runs xs all.1)
+  all_grouped : (xs : List Labelled) → AllByRecursion (λ x. P x.label) xs → AllByRecursion (λ g. P g.0) (grouped xs)
+  all_grouped [] all = tt
+  all_grouped (x ∷ xs) all = all_put x (grouped xs) all.0 (all_grouped xs all.1)
 
 apart_above : (m n : ℕ) → (n == m) ≡ false → m ≤ n → m < n
 apart_above m n apart low = grind (arith, nat_tests)
@@ -112,12 +112,12 @@ put_rises x (g ∷ gs) low up = elim (g.0.0 == x.label.0) as (λ b. (g.0.0 == x.
           ((above, all_mapped (λ h. g.0.0 < h.0.0) (λ h. number_of x < h.0.0) gs (λ h higher. omega arith) up.0), up)
     ] refl
 
-runs_rise : (xs : List Labelled) → Climbs xs → LabelsRise (runs xs)
-runs_rise [] up = tt
-runs_rise (x ∷ xs) up =
-    put_rises x (runs xs) (all_runs (λ l. number_of x ≤ l.0) xs up.0) (runs_rise xs up.1)
+grouped_rise : (xs : List Labelled) → Climbs xs → LabelsRise (grouped xs)
+grouped_rise [] up = tt
+grouped_rise (x ∷ xs) up =
+    put_rises x (grouped xs) (all_grouped (λ l. number_of x ≤ l.0) xs up.0) (grouped_rise xs up.1)
 
--- A LABEL HAS A RUN WHERE AN ITEM HAS IT
+-- A LABEL HAS A GROUP WHERE AN ITEM HAS IT
 
 twice : (a b : Bool) (c : Bool) → a ≡ b → (a || c) ≡ (b || (a || c))
 twice true true c h = refl
@@ -137,12 +137,12 @@ any_put label x (g ∷ gs) = elim (g.0.0 == x.label.0) as (λ b. (g.0.0 == x.lab
       | false ↦ λ is. refl
     ] refl
 
-any_runs : (label : Label) (xs : List Labelled) → list_any (is_of label) (runs xs) ≡ list_any (is_with label) xs
-any_runs label [] = refl
-any_runs label (x ∷ xs) =
-    any_put label x (runs xs) ∙ ap (λ (b : Bool). is_with label x || b) (any_runs label xs)
+any_grouped : (label : Label) (xs : List Labelled) → list_any (is_of label) (grouped xs) ≡ list_any (is_with label) xs
+any_grouped label [] = refl
+any_grouped label (x ∷ xs) =
+    any_put label x (grouped xs) ∙ ap (λ (b : Bool). is_with label x || b) (any_grouped label xs)
 
--- EACH RUN HAS ALL ITEMS OF ITS LABEL
+-- EACH GROUP HAS ALL ITEMS OF ITS LABEL
 
 none_passes : {A : Type 0} (p : A → Bool) (xs : List A) → list_any p xs ≡ false → filter p xs ≡ []
 none_passes p [] none = refl
@@ -168,7 +168,7 @@ above_all n (g ∷ gs) label same above =
     let head : is_of label g ≡ false = unlike g.0.0 label.0 (λ is. let low = above.0 in absurd (omega arith)) in
     ap (λ (b : Bool). b || list_any (is_of label) gs) head ∙ above_all n gs label same above.1
 
--- the run has exactly the items of its label
+-- the group has exactly the items of its label
 abbrev Holds : List Labelled → Group → Type 0
 Holds xs g = g.1 ≡ items_in (filter (is_with g.0) xs)
 
@@ -213,11 +213,11 @@ put_holds x xs (g ∷ gs) up low any all = elim (g.0.0 == x.label.0) as (λ b. (
           )
     ] refl
 
-runs_hold : (xs : List Labelled) → Climbs xs → AllByRecursion (Holds xs) (runs xs)
-runs_hold [] up = tt
-runs_hold (x ∷ xs) up =
-    put_holds x xs (runs xs) (runs_rise xs up.1) (all_runs (λ l. number_of x ≤ l.0) xs up.0)
-    (λ label. any_runs label xs) (runs_hold xs up.1)
+grouped_hold : (xs : List Labelled) → Climbs xs → AllByRecursion (Holds xs) (grouped xs)
+grouped_hold [] up = tt
+grouped_hold (x ∷ xs) up =
+    put_holds x xs (grouped xs) (grouped_rise xs up.1) (all_grouped (λ l. number_of x ≤ l.0) xs up.0)
+    (λ label. any_grouped label xs) (grouped_hold xs up.1)
 
 -- WHAT A STABLE SORT KEEPS
 
@@ -304,16 +304,16 @@ listed streams xs ys (g ∷ gs) stable all = (
   listed streams xs ys gs stable all.1,
 )
 
-pub runs_by_label : (streams : List Stream) (xs : List Item) (ys : List Labelled)
+pub grouped_by_label : (streams : List Stream) (xs : List Item) (ys : List Labelled)
     → IsSortedByKey number_of nat_cmp ys → IsStableByKey number_of nat_cmp (filter_map (with_label streams) xs) ys
-    → IsByLabel streams xs (runs ys)
-runs_by_label streams xs ys sorted stable =
+    → IsByLabel streams xs (grouped ys)
+grouped_by_label streams xs ys sorted stable =
     let climbs = climbs_from ys (IsNonDecreasingBy-from_sort number_of ys sorted) in
     record {
-      rises = runs_rise ys climbs;
+      rises = grouped_rise ys climbs;
       labels = λ label.
-          any_runs label ys ∙ any_filtered (is_with label) ys
+          any_grouped label ys ∙ any_filtered (is_with label) ys
           ∙ ap (list_any (λ x. true)) (kept_filter (filter_map (with_label streams) xs) ys label stable)
           ∙ sym (any_filtered (is_with label) (filter_map (with_label streams) xs)) ∙ labelled_any streams label xs;
-      lists = listed streams xs ys (runs ys) stable (runs_hold ys climbs);
+      lists = listed streams xs ys (grouped ys) stable (grouped_hold ys climbs);
     }

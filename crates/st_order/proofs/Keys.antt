@@ -51,7 +51,7 @@ use Rattle.st_order.specs.declared.item.Item.TheVariants as item
 use Rattle.st_order.specs.Items.{is_hidden, items_at, items_from, items_among, items, event_of}
 use Rattle.st_order.specs.Order.{Key, key_by, key, key_cmp, comes_before}
 use Rattle.st_order.proofs.Lists.{all_append}
-use Rattle.st_order.proofs.Once.{once_place}
+use Rattle.st_order.proofs.Once.{only_receive}
 use Rattle.st_order.proofs.Found.{drop_front, AreFound, all_found}
 
 -- ORDERS
@@ -167,7 +167,7 @@ module _ (streams : List Stream) (once : first (repeated streams) streams ≡ No
       its = key_by streams (item.Hidden p i) e;
       given = ap (λ (o : Option Event). option_map (key_by streams (item.Hidden p i)) o) at;
       found = ap (option_map (λ (at : Pid × ℕ). item.Hidden at.0 at.1))
-          (once_place streams p i e at (hidden_receives streams e h) once);
+          (only_receive streams p i e at (hidden_receives streams e h) once);
     }
 
     reported_keyed : IsKeyed streams (item.Reported p i)

@@ -31,21 +31,13 @@ use Rattle.st_core.proofs.ForCallers.{pid_eq-true, pid_eq-same}
 use Rattle.st_pair.specs.declared.answer.PairFault.TheVariants as fault
 use Rattle.st_pair.specs.Places.{event_at, is_stamp, first}
 use Rattle.st_pair.specs.Pairing.{receive_of, repeated}
-use Rattle.st_pair.proofs.ForCallers.{event_none}
-
-cond_none : {X : Type 0} (b : Bool) (x : X) → cond b None (Some x) ≡ None → b ≡ true
-cond_none true x h = refl
-cond_none false x h = absurd (none-some x (sym h))
-
-abbrev sought : Pid → ℕ → Pid → ℕ → Event → Option (Pid × ℕ)
-sought q this p i e =
-    if is_stamp e then None else if pid_eq e.from q && e.serial.this == this then Some (p, i) else None
+use Rattle.st_pair.proofs.ForCallers.{event_none, got_rule, cond_none}
 
 module _ (streams : List Stream) (p : Pid) (i : ℕ) (e : Event) (at : event_at streams p i ≡ Some e)
     (receive : is_stamp e ≡ false) where
   there : receive_of streams e.from e.serial.this ≡ None → ⊥
   there none =
-      let given = event_none (sought e.from e.serial.this) streams none p i e at in
+      let given = event_none (got_rule e.from e.serial.this) streams none p i e at in
       let test : (pid_eq e.from e.from && e.serial.this == e.serial.this) ≡ true =
       and_from (pid_eq e.from e.from) (e.serial.this == e.serial.this) (pid_eq-same e.from)
       (eq-eqb e.serial.this e.serial.this refl) in
@@ -54,8 +46,8 @@ module _ (streams : List Stream) (p : Pid) (i : ℕ) (e : Event) (at : event_at 
       ∙ ap (λ b. cond b None (cond (pid_eq e.from e.from && e.serial.this == e.serial.this) (Some place) None)) receive
       ∙ ap (λ b. cond b (Some place) None) test)
 
-  pub once_place : first (repeated streams) streams ≡ None → receive_of streams e.from e.serial.this ≡ Some (p, i)
-  once_place once =
+  pub only_receive : first (repeated streams) streams ≡ None → receive_of streams e.from e.serial.this ≡ Some (p, i)
+  only_receive once =
       let given = event_none (repeated streams) streams once p i e at in
       let found = receive_of streams e.from e.serial.this in
       elim found as (λ o. found ≡ o

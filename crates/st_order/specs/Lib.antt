@@ -5,4 +5,4 @@ pub mod Labels
 -- For the parts of one module each: `src/row.rt`, `src/sorting.rt` and `src/labels.rt`.
 pub mod Row
 pub mod Sorting
-pub mod Runs
+pub mod Groups

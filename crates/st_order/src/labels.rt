@@ -3,7 +3,7 @@
 ghost use Rattle.std.specs.Prelude.{◌≡◌, ◌≤◌, ◌<◌, length, map, IfOk};
 ghost use Rattle.std.specs.List.{filter_map};
 ghost use Rattle.st_order.specs.Labels.{IsByLabel, label_of};
-ghost use Rattle.st_order.specs.Runs.{with_label, leading_with, runs};
+ghost use Rattle.st_order.specs.Groups.{with_label, leading_with, grouped};
 
 use crate::item::Item;
 use rayon::prelude::*;
@@ -75,19 +75,19 @@ fn items_of(alloc: Global, labelled: &[Labelled]) -> Result<Sequence<Item>, Allo
     Ok(Sequence::from_vec(items))
 }
 
-/// The runs of neighbours with one label, each with its label.
-fn runs(
+/// The groups of neighbours with one label, each with its label.
+fn grouped(
     alloc: Global,
     labelled: &[Labelled],
 ) -> Result<Sequence<(Label, Sequence<Item>)>, AllocError>
-    ensures { IfOk result (λ groups. groups ≡ runs labelled.now) }
+    ensures { IfOk result (λ groups. groups ≡ grouped labelled.now) }
 {
     let mut groups = Sequence::new(alloc);
     let mut rest = labelled;
     while let Some(first) = rest.first() {
         let label = first.label;
-        let (run, others) = rest.split_at(leading_with(rest, label));
-        let items = items_of(alloc, run)?;
+        let (group, others) = rest.split_at(leading_with(rest, label));
+        let items = items_of(alloc, group)?;
         let Ok(()) = groups.push((label, items)) else {
             return Err(AllocError);
         };
@@ -117,5 +117,5 @@ pub fn by_label(
             ensures { result ≡ one.now.label.0 }
         { one.label.0 },
     )?;
-    runs(alloc, sorted)
+    grouped(alloc, sorted)
 }

@@ -1,4 +1,4 @@
--- The runs of the sorted list are the items by label.
+-- The groups of the sorted list are the items by label.
 use Rattle.std.proofs.Common.{◌≡◌, rules, sym, ◌∙◌, subst, List}
 use Rattle.std.specs.List.Sorted.{IsStableByKey}
 use Rattle.std.specs.Ordering.{nat_cmp}
@@ -6,7 +6,7 @@ use Rattle.std.proofs.lemmas.List.Sorted.{answers_always}
 use Rattle.rayon.proofs.ListFacts.{IfOk-then}
 use Rattle.st_order.specs.declared.labels.Labelled.{Labelled}
 use Rattle.st_order.specs.Labels.{IsByLabel}
-use Rattle.st_order.proofs.Grouping.{number_of, runs_by_label}
+use Rattle.st_order.proofs.Grouping.{number_of, grouped_by_label}
 use Rattle.st_order.proofs.labels.by_label.Goals as goal
 
 pub returns : goal.returns
@@ -18,5 +18,5 @@ returns g c =
     let start = c.as_mut_slice-sorted.ensures.value ∙ c.in_ok-labelled.ensures in
     let after = c.par_sort_by_key.new.s in
     let kept = subst (λ (xs : List Labelled). IsStableByKey number_of nat_cmp xs after) start stable in
-    IfOk-then c.runs.result _ _ c.runs.ensures (λ v h.
-    subst (IsByLabel streams items) (sym h) (runs_by_label streams items after sorted kept))
+    IfOk-then c.grouped.result _ _ c.grouped.ensures (λ v h.
+    subst (IsByLabel streams items) (sym h) (grouped_by_label streams items after sorted kept))

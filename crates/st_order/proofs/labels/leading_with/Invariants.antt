@@ -1,6 +1,6 @@
 -- All before the loop's index have the label, so what leads in the rest is counted from there.
 use Rattle.std.proofs.Common.{◌≡◌, ◌+◌, drop}
-use Rattle.st_order.specs.Runs.{leading_with}
+use Rattle.st_order.specs.Groups.{leading_with}
 use Rattle.st_order.proofs.labels.leading_with.Given as goal
 
 abbrev pub invariant-loop-i : goal.invariant-loop-i

@@ -1,7 +1,7 @@
 -- Those so far with those of the items that are left come to all.
 use Rattle.std.proofs.Common.{◌≡◌, ◌++◌, drop}
 use Rattle.std.specs.List.{filter_map}
-use Rattle.st_order.specs.Runs.{with_label}
+use Rattle.st_order.specs.Groups.{with_label}
 use Rattle.st_order.proofs.labels.with_labels.Given as goal
 
 abbrev pub invariant-loop-item : goal.invariant-loop-item

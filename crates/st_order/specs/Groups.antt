@@ -1,4 +1,4 @@
--- Items with their labels, cut into runs of one label.
+-- Items with their labels, cut into groups of one label.
 use Rattle.std.specs.Prelude.{ℕ, ◌+◌, ◌==◌, List, [], ◌∷◌, Option, option_map, if◌then◌else◌}
 use Rattle.st_core.specs.declared.types.Label.{Label}
 use Rattle.st_core.specs.Run.{Stream}
@@ -15,13 +15,13 @@ abbrev pub leading_with : Label → List Labelled → ℕ
 leading_with label [] = 0
 leading_with label (x ∷ xs) = if x.label.0 == label.0 then leading_with label xs + 1 else 0
 
--- an item before the runs: at the front of the first run, where that has its label, else a run of its own
+-- an item before the groups: at the front of the first, where that has its label, else a group of its own
 abbrev pub put_before : Labelled → List (Label × List Item) → List (Label × List Item)
 put_before x [] = (x.label, x.item ∷ []) ∷ []
 put_before x (g ∷ gs) =
     if g.0.0 == x.label.0 then (g.0, x.item ∷ g.1) ∷ gs else (x.label, x.item ∷ []) ∷ g ∷ gs
 
--- the runs of neighbours with one label, each with its label
-abbrev pub runs : List Labelled → List (Label × List Item)
-runs [] = []
-runs (x ∷ xs) = put_before x (runs xs)
+-- the groups of neighbours with one label, each with its label
+abbrev pub grouped : List Labelled → List (Label × List Item)
+grouped [] = []
+grouped (x ∷ xs) = put_before x (grouped xs)
