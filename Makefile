@@ -6,11 +6,18 @@
 PREFIX ?= /usr/local
 PROGRAM = bin/seqaudit
 
-.PHONY: test layers try demo install bench program clean
+.PHONY: test layers test-erlang try demo install bench program clean
 
-# Every proof from nothing, the wrong bodies, and the tests.
+# Every proof from nothing, the wrong bodies, and the tests; then what stands on the program.
 test: layers
 	rt ci
+	@$(MAKE) --no-print-directory test-erlang
+
+# Traces of a real Erlang node, where there is one, by the program that was built last.
+test-erlang: BUILT = $(firstword $(wildcard $(CURDIR)/crates/seqaudit/out/seqaudit $(CURDIR)/bin/seqaudit))
+test-erlang:
+	@if command -v erl >/dev/null; then SEQAUDIT=$(BUILT) $(MAKE) --no-print-directory -C erlang test; \
+	else echo "There is no erl here (Debian's erlang-base): the Erlang tests are skipped."; fi
 
 # What a crate's proofs cite of another crate's proofs is its module of lemmas for callers alone.
 layers:
@@ -43,4 +50,4 @@ bench: $(PROGRAM)
 	bench/run
 
 clean:
-	rm -rf bin crates/*/out
+	rm -rf bin crates/*/out erlang/ebin erlang/test/ebin erlang/test/out
