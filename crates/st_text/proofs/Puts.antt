@@ -32,6 +32,15 @@ pub put_none : {S : Type 0} (puts : S → List ℕ → S → Type 0) (a b c : S)
 put_none puts a b c done row call =
     subst (λ (x : List ℕ). InARow puts a x c) (append-nil done) (OneMore a b c done [] row call)
 
+-- what is done of the bytes was put in a row, and the rest is left
+pub record HasPut {S : Type 0} (puts : S → List ℕ → S → Type 0) (failed : S → Bool) (bytes rest : List ℕ)
+    (old now : S) : Type 0 where
+  pub done : List ℕ
+  pub parts : bytes ≡ done ++ rest
+  pub put : InARow puts old done now
+  pub mark : failed now ≡ failed old
+  pub alive : 0 < length done → failed old ≡ false
+
 -- ---- texts one after the other
 
 pub goes_buffer : {S : Type 0} (puts : S → List ℕ → S → Type 0) (failed : S → Bool) (a : S)

@@ -5,31 +5,29 @@ use Rattle.st_text.proofs.Puts.{put_more, put_none}
 use Rattle.st_text.proofs.sink.put_all.Goals as goal
 
 pub loop-rest-init : goal.loop-rest-init
-loop-rest-init g c = ([], refl, NoCall _, refl, λ some. absurd (omega arith))
+loop-rest-init g c =
+    record { done = []; parts = refl; put = NoCall _; mark = refl; alive = λ some. absurd (omega arith) }
 
 pub loop-rest-preserved : goal.loop-rest-preserved
 loop-rest-preserved g c =
     let i = c.loop-rest.invariant in
-    let m =
-    put_more g.S.ByteSink.puts _ _ _ c.args.bytes.now i.0 c.loop-rest.rest.now c.in-Ok.n i.1 i.2
-    c.in-Ok.ensures.wrote in
-    rw c.split_at.ensures.back (
-      _,
-      m.0,
-      m.1,
-      c.in-Ok.ensures.mark.1 ∙ sym c.in-Ok.ensures.mark.0 ∙ i.3,
-      λ _. sym i.3
-          ∙ c.in-Ok.ensures.mark.0,
-    )
+    let rest = c.loop-rest.rest.now in
+    let m = put_more g.S.ByteSink.puts _ _ _ c.args.bytes.now i.done rest c.in-Ok.n i.parts i.put c.in-Ok.ensures.wrote in
+    rw c.split_at.ensures.back (record {
+      done = _;
+      parts = m.0;
+      put = m.1;
+      mark = c.in-Ok.ensures.mark.1 ∙ sym c.in-Ok.ensures.mark.0 ∙ i.mark;
+      alive = λ _. sym i.mark ∙ c.in-Ok.ensures.mark.0;
+    })
 
 pub returns-in-Err : goal.returns-in-Err
 returns-in-Err g c =
     let i = c.loop-rest.invariant in
     record {
-      written = i.0;
+      written = i.done;
       rest = c.loop-rest.rest.now;
-      prefix = i.1;
-      put = put_none g.S.ByteSink.puts _ _ _ i.0 i.2
-          c.in-Err.ensures.wrote;
+      prefix = i.parts;
+      put = put_none g.S.ByteSink.puts _ _ _ i.done i.put c.in-Err.ensures.wrote;
       after = c.in-Err.ensures.mark;
     }
