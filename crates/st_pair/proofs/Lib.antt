@@ -6,5 +6,6 @@ pub mod Ruled
 pub mod Linkage
 pub mod Accepted
 pub mod Converse
+pub mod Leasts
 mod Cases
 pub mod ForCallers

@@ -25,7 +25,7 @@ pid_total : IsTotalOrder pid_cmp
 pid_total = then_total (on_total (λ (p : Pid). p.node) nat_cmp_total) (on_total (λ (p : Pid). p.number) nat_cmp_total)
 
 pub key_total : IsTotalOrder key_cmp
-key_total = then_total (on_total (λ (k : Key). k.from) pid_total) (on_total (λ (k : Key). k.this) nat_cmp_total)
+key_total = then_total (on_total (λ (k : Key). k.this) nat_cmp_total) (on_total (λ (k : Key). k.from) pid_total)
 
 nat_eq-cmp : (m n : ℕ) → (m == n) ≡ is_eq (nat_cmp m n)
 nat_eq-cmp m n = grind (arith, nat_tests)
@@ -41,11 +41,18 @@ pid_eq-cmp p q =
     ∙ ap (λ (b : Bool). is_eq (nat_cmp p.node q.node) && b) (nat_eq-cmp p.number q.number)
     ∙ then_eq (nat_cmp p.node q.node) (nat_cmp p.number q.number)
 
+and_swap : (a b : Bool) → (a && b) ≡ (b && a)
+and_swap true true = refl
+and_swap true false = refl
+and_swap false true = refl
+and_swap false false = refl
+
 key_eq-cmp : (k l : Key) → key_eq k l ≡ is_eq (key_cmp k l)
 key_eq-cmp k l =
-    ap (λ (b : Bool). b && k.this == l.this) (pid_eq-cmp k.from l.from)
-    ∙ ap (λ (b : Bool). is_eq (pid_cmp k.from l.from) && b) (nat_eq-cmp k.this l.this)
-    ∙ then_eq (pid_cmp k.from l.from) (nat_cmp k.this l.this)
+    and_swap (pid_eq k.from l.from) (k.this == l.this)
+    ∙ ap (λ (b : Bool). b && pid_eq k.from l.from) (nat_eq-cmp k.this l.this)
+    ∙ ap (λ (b : Bool). is_eq (nat_cmp k.this l.this) && b) (pid_eq-cmp k.from l.from)
+    ∙ then_eq (nat_cmp k.this l.this) (pid_cmp k.from l.from)
 
 -- THE SORT
 

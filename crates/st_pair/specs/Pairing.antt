@@ -18,20 +18,18 @@ abbrev pub stamp_before : List Event → ℕ → Option (ℕ × Event)
 stamp_before es zero = None
 stamp_before es (suc i) = elim (slice_get es i) [
   | None ↦ stamp_before es i
-  | Some e ↦
-      if is_stamp e then Some (i, e) else stamp_before es i
+  | Some e ↦ if is_stamp e then Some (i, e) else stamp_before es i
 ]
 
 -- the first send or print of q with this count, with its index
 abbrev pub stamp_of : List Stream → Pid → ℕ → Option (ℕ × Event)
-stamp_of streams q this = first_from (λ p j f. if is_stamp f && f.serial.this == this then Some (j, f) else None) q 0
-    (events_of streams q)
+stamp_of streams q this =
+    first_from (λ p j f. if is_stamp f && f.serial.this == this then Some (j, f) else None) q 0 (events_of streams q)
 
 -- the place of the first receive from q with this count
 abbrev pub receive_of : List Stream → Pid → ℕ → Option (Pid × ℕ)
-receive_of streams q this = first
-    (λ p i e. if is_stamp e then None else if pid_eq e.from q && e.serial.this == this then Some
-    (p, i) else None) streams
+receive_of streams q this = first (λ p i e.
+    if is_stamp e then None else if pid_eq e.from q && e.serial.this == this then Some (p, i) else None) streams
 
 -- p and q are one process, or neither is there
 abbrev pub to_eq : Option Pid → Option Pid → Bool
@@ -45,28 +43,34 @@ is_send e = elim e.kind [ kind.Send ↦ true | kind.Receive ↦ false | kind.Pri
 
 -- f is a send with the label, the prev, the receiver and the value of the receive e
 abbrev pub agrees : Event → Event → Bool
-agrees f e = is_send f && (f.label.0 == e.label.0 &&
-    (f.serial.prev == e.serial.prev && (to_eq f.to e.to && f.value == e.value)))
+agrees f e = is_send f &&
+    (f.label.0 == e.label.0 && (f.serial.prev == e.serial.prev && (to_eq f.to e.to && f.value == e.value)))
+
+-- A rule is a test on one event and its place, and gives the fault where it stands against the streams there. They
+-- are tried in the order of their numbers, each over all places.
 
 -- 2: prev isn't less than this
 abbrev pub prev_not_before : Pid → ℕ → Event → Option PairFault
 prev_not_before p i e = if nat_lt e.serial.prev e.serial.this then None else Some (fault.PrevNotBefore p i)
 
--- 3: a send or print, and the last one of its process before it has a count that isn't less
+-- 3: a send or print, and the last one of its process before it has a count that isn't less. At the least such place
+-- the counts before it rise, so that no earlier one is greater than that of the last
 abbrev pub not_rising : List Stream → Pid → ℕ → Event → Option PairFault
-not_rising streams p i e = option_and_then
-    (λ f. if not (is_stamp e) || nat_lt f.1.serial.this e.serial.this then None else Some (fault.NotRising p i f.0))
+not_rising streams p i e = option_and_then (λ f.
+    if not (is_stamp e) || nat_lt f.1.serial.this e.serial.this then None else Some (fault.NotRising p i f.0))
     (stamp_before (events_of streams p) i)
 
--- 4: a receive, and the first one with its from and this is another
+-- 4: a receive, and the first one with its from and this is another, which is then the earlier
 abbrev pub repeated : List Stream → Pid → ℕ → Event → Option PairFault
-repeated streams p i e = option_and_then (λ at. if is_stamp e || (pid_eq at.0 p && at.1 == i) then None else Some
-    (fault.Repeated p i at.0 at.1)) (receive_of streams e.from e.serial.this)
+repeated streams p i e = option_and_then (λ at.
+    if is_stamp e || (pid_eq at.0 p && at.1 == i) then None else Some (fault.Repeated p i at.0 at.1))
+    (receive_of streams e.from e.serial.this)
 
 -- 5: a receive whose sender has a send or print with its this that isn't its send
 abbrev pub mismatch : List Stream → Pid → ℕ → Event → Option PairFault
-mismatch streams p i e = option_and_then (λ f. if is_stamp e || agrees f.1 e then None else Some
-    (fault.Mismatch p i e.from f.0)) (stamp_of streams e.from e.serial.this)
+mismatch streams p i e = option_and_then (λ f.
+    if is_stamp e || agrees f.1 e then None else Some (fault.Mismatch p i e.from f.0))
+    (stamp_of streams e.from e.serial.this)
 
 -- the first rule that gives something somewhere decides, at its least place
 abbrev pub first_rule : List Stream → List (Pid → ℕ → Event → Option PairFault) → Option PairFault
@@ -81,19 +85,18 @@ refusal streams = first_rule streams (prev_not_before ∷ not_rising streams ∷
 abbrev pub source_of : List Stream → Event → Source
 source_of streams e = elim (stamp_of streams e.from e.serial.this) [
   | None ↦ source.Hidden
-  | Some f ↦
-      source.Event e.from f.0
+  | Some f ↦ source.Event e.from f.0
 ]
 
 -- the source of the receive at (p, i); none where there is no receive
 abbrev pub source_at : List Stream → Pid → ℕ → Option Source
-source_at streams p i = option_and_then (λ e. if is_stamp e then None else Some (source_of streams e))
-    (event_at streams p i)
+source_at streams p i =
+    option_and_then (λ e. if is_stamp e then None else Some (source_of streams e)) (event_at streams p i)
 
 -- the place of the receive that is paired with the send at (q, j); none where there is no send or none is paired
 abbrev pub receiver_at : List Stream → Pid → ℕ → Option (Pid × ℕ)
-receiver_at streams q j = option_and_then (λ f. if is_send f then receive_of streams q f.serial.this else None)
-    (event_at streams q j)
+receiver_at streams q j =
+    option_and_then (λ f. if is_send f then receive_of streams q f.serial.this else None) (event_at streams q j)
 
 -- when streams aren't paired: for want of memory, or for the reason
 abbrev pub IsPairFault : List Stream → PairFault → Type 0

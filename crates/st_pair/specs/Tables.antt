@@ -18,9 +18,9 @@ use Rattle.st_pair.specs.Pairing.{stamp_before, receive_of, stamp_of}
 abbrev pub key_eq : Key → Key → Bool
 key_eq k l = pid_eq k.from l.from && k.this == l.this
 
--- by sender, then count
+-- by count, then sender
 abbrev pub key_cmp : Key → Key → Ordering
-key_cmp k l = ordering_then (pid_cmp k.from l.from) (nat_cmp k.this l.this)
+key_cmp k l = ordering_then (nat_cmp k.this l.this) (pid_cmp k.from l.from)
 
 -- the sender and count of a row
 abbrev pub key_of : Row → Key

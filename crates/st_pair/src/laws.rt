@@ -1,15 +1,22 @@
 //! Laws of pairing, as contracts of functions that do nothing: each clause is a theorem over the
 //! definitions of `specs/`, and a proof that calls the function may use it.
 
-ghost use Rattle.std.specs.Prelude.{◌≡◌, ◌<◌, ◌↔◌, ℕ, true, List, None, Some};
+ghost use Rattle.std.specs.Prelude.{◌≡◌, ◌<◌, ◌↔◌, ℕ, true, List, Option, None, Some};
 ghost use Rattle.st_core.specs.declared.types.Event.{Event};
 ghost use Rattle.st_core.specs.declared.types.Pid.{Pid};
 ghost use Rattle.st_core.specs.Run.{Stream};
 ghost use Rattle.st_core.specs.Streams.{IsStreams};
-ghost use Rattle.st_pair.specs.declared.answer.Source.{Source as SourceValue};
+ghost use Rattle.st_pair.specs.declared.answer.PairFault.{PairFault};
 ghost use Rattle.st_pair.specs.declared.answer.Source.TheVariants as source;
+ghost use Rattle.st_pair.specs.Laws.{IsLeast};
 ghost use Rattle.st_pair.specs.Pairing.{receiver_at, refusal, source_at};
-ghost use Rattle.st_pair.specs.Places.{event_at, is_stamp};
+ghost use Rattle.st_pair.specs.Places.{event_at, first, is_stamp};
+
+/// What a rule gives first it gives at the least place, by pid and then index.
+pub fn first_is_least()
+    ensures { (rule : Pid → ℕ → Event → Option PairFault) (streams : List Stream) (fault : PairFault) →
+        IsStreams streams → first rule streams ≡ Some fault → IsLeast rule streams fault }
+{}
 
 /// Where pairing accepts, a receive is that of a send exactly where the send is that of the receive.
 pub fn sources_and_receivers_agree()

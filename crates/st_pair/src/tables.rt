@@ -1,8 +1,7 @@
 //! Tables from a sender and a count to the place of the first event that has them.
 //!
 //! A table is a list of rows that a stable sort put in order: 24 bytes a row and no gaps, where a
-//! hash table of the same keys takes twice as much. The rows of sends and prints stand in order
-//! before the sort, since processes rise and, where `pair` builds them, the counts of each do.
+//! hash table of the same keys takes twice as much.
 
 ghost use Rattle.std.specs.Prelude.{◌≡◌, IfOk, OnOk, option_and_then, slice_get};
 ghost use Rattle.std.specs.List.Sorted.{IsSortedByKey};
@@ -16,13 +15,14 @@ use st_core::{Event, Kind, Pid, Streams};
 use std::alloc::{AllocError, Global};
 use std::marker::Model;
 
-/// A sender and a count that it stamped, in this order.
+/// A count and the sender that stamped it. The count comes first in the order: events of one time
+/// have counts near each other, so that one search after another goes the same way.
 #[derive(Clone, Copy, Debug, PartialEq, Eq, PartialOrd, Ord)]
 pub struct Key {
+    /// The count.
+    pub this: u64,
     /// The sender.
     pub from: Pid,
-    /// Its count.
-    pub this: u64,
 }
 
 /// The place of an event, under its sender and count. The fields stand so that they leave no gaps.
