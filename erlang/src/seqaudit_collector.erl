@@ -22,7 +22,7 @@
 %% `reset': whether `seq_trace:reset_trace/0' is called first, so that all clocks begin at 0.
 
 -type about() :: #{name => atom(), call => mfa()}.
-%% What is known of a process: its registered name and its initial call.
+%% What is known of a process: its registered name, or else its initial call.
 
 -type summary() :: #{node := node(), events := non_neg_integer(), dropped := non_neg_integer(),
                      own := non_neg_integer(), strays := non_neg_integer(),
@@ -153,16 +153,21 @@ meet_process(_, Processes) ->
     Processes.
 
 about(Pid) ->
-    case process_info(Pid, [registered_name, initial_call, dictionary]) of
+    case process_info(Pid, [registered_name, initial_call]) of
+        [{registered_name, []}, {initial_call, {proc_lib, init_p, _}}] -> started(Pid);
+        [{registered_name, []}, {initial_call, Call}] -> #{call => Call};
+        [{registered_name, Name}, _] -> #{name => Name};
+        undefined -> #{}
+    end.
+
+%% A process made by proc_lib has in its dictionary what was really called. The dictionary may be
+%% large, so it isn't asked for where a name says enough.
+started(Pid) ->
+    case process_info(Pid, dictionary) of
+        {dictionary, Dictionary} ->
+            maps:from_list([{call, Call} || {'$initial_call', Call} <- Dictionary]);
         undefined ->
-            #{};
-        [{registered_name, Name}, {initial_call, Call}, {dictionary, Dictionary}] ->
-            %% A process made by proc_lib says in its dictionary what was really called.
-            Known = #{call => proplists:get_value('$initial_call', Dictionary, Call)},
-            case Name of
-                [] -> Known;
-                _ -> Known#{name => Name}
-            end
+            #{}
     end.
 
 %% Puts the former tracer back, unless somebody else's stands in the collector's place.

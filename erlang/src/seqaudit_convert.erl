@@ -128,15 +128,22 @@ bundle_text(Listed, Lines) ->
     [Header | [[<<"process ">>, seqaudit_processes:spell(Number), $\n,
                 maps:get(Number, Streams, [])] || Number <- Listed]].
 
-%% What the legend says of each process.
+%% What the legend says of each process. A name that several had, one after the other, is told apart
+%% by the number.
 named(Listed, Collections) ->
     About = lists:foldl(fun maps:merge/2, #{}, [Known || #{processes := Known} <- Collections]),
     Many = length(lists:usort([Node || {{Node, _}, _} <- Listed])) > 1,
-    [begin
-         Known = maps:get(Party, About, #{}),
-         {seqaudit_processes:spell(Number), seqaudit_processes:name({Party, Number}, Known, Many),
-          seqaudit_processes:what(Party, Known)}
-     end || {Number, Party} <- Listed].
+    Named = [begin
+                 Known = maps:get(Party, About, #{}),
+                 {seqaudit_processes:spell(Number),
+                  seqaudit_processes:name({Party, Number}, Known, Many),
+                  seqaudit_processes:what(Party, Known)}
+             end || {Number, Party} <- Listed],
+    Repeated = [Name || {_, Name, _} <- Named] -- lists:usort([Name || {_, Name, _} <- Named]),
+    [{Pid, case lists:member(Name, Repeated) of
+               true -> Name ++ " " ++ Pid;
+               false -> Name
+           end, What} || {Pid, Name, What} <- Named].
 
 by_number(Numbers) ->
     lists:sort([{Number, Term} || {Term, Number} <- maps:to_list(Numbers)]).

@@ -2,6 +2,7 @@
 -module(seqaudit_convert_tests).
 
 -export([captures_test_/0, equal_terms_test/0, numbers_test/0, parties_test/0, aliases_test/0,
+         repeated_names_test/0,
          counts_test/0, limits_test/0, lost_test/0, hostile_test_/0, hostile_trace_test_/0,
          text_test/0, text_faults_test/0, external_test/0, trace_file_test/0]).
 
@@ -75,6 +76,17 @@ aliases_test() ->
             {seq_trace, 0, {send, {1, 3}, B, R2, {R2, ok}}},
             {seq_trace, 0, {'receive', {1, 2}, B, C, {R1, ok}}}]}]),
     [B, B, C, A, C] = [element(5, Event) || Event <- Events].
+
+%% A name that two processes had is told apart.
+repeated_names_test() ->
+    Pids = [pid('a@h', 30, 0), pid('a@h', 31, 0), pid('a@h', 32, 0)],
+    Known = maps:from_list(lists:zip(Pids, [#{name => srv}, #{name => srv}, #{name => other}])),
+    #{terms := Terms} = seqaudit_convert:convert(
+        [#{node => 'a@h', processes => Known,
+           events => [{seq_trace, 1, {print, {0, 1}, Pid, [], x}} || Pid <- Pids]}]),
+    [{_, _}, {_, _}, {_, _}] =
+        [binary:match(iolist_to_binary(Terms), Name)
+         || Name <- [<<"\tsrv <0.30.0>\t">>, <<"\tsrv <0.31.0>\t">>, <<"\tother\t">>]].
 
 %% What is no event is counted.
 counts_test() ->

@@ -1,7 +1,8 @@
 %% Programs that run on this node are traced, converted and audited.
 -module(seqaudit_trace_tests).
 
--export([fitting_test_/0, term_labels_test/0, registered_names_test/0, timestamps_test/0,
+-export([fitting_test_/0, term_labels_test/0, registered_names_test/0,
+         initial_call_test/0, timestamps_test/0,
          full_collector_test/0, former_tracer_is_put_back_test/0, second_tracer_stays_test/0,
          owner_ends_test/0, collector_stays_out_test/0, token_is_taken_off_test/0,
          nothing_is_lost_test_/0, start_refuses_test/0, unfit_is_unfit_test/0]).
@@ -91,8 +92,19 @@ registered_names_test() ->
     Pid = list_to_binary(pid_to_list(Server)),
     <<"seqaudit_test_alice">> = seqaudit_legend:process(Pid, Legend),
     {_, _} = binary:match(seqaudit_legend:about(Pid, Legend),
-                          <<"registered as seqaudit_test_alice, started by seqaudit_test_server:init/1">>),
+                          <<"of node nonode@nohost, registered as seqaudit_test_alice">>),
     ok_or_skipped(seqaudit_audits:fits(seqaudit_audits:file("names"))).
+
+%% A process without a name is called by what it was started with, also after its end.
+initial_call_test() ->
+    Server = seqaudit_test_server:start(fun(X) -> X end),
+    {4, Legend} = traced("initial_call", #{}, fun() ->
+        seqaudit_trace:with_trace(1, fun() -> gen_server:call(Server, hello) end),
+        exit(Server, kill)
+    end),
+    Pid = pid_to_list(Server),
+    Name = list_to_binary("seqaudit_test_server:init/1 " ++ Pid),
+    Name = seqaudit_legend:process(list_to_binary(Pid), Legend).
 
 timestamps_test() ->
     Server = seqaudit_test_server:start(fun(X) -> X end),
