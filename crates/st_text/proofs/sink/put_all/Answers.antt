@@ -12,7 +12,8 @@ pub loop-rest-preserved : goal.loop-rest-preserved
 loop-rest-preserved g c =
     let i = c.loop-rest.invariant in
     let rest = c.loop-rest.rest.now in
-    let m = put_more g.S.ByteSink.puts _ _ _ c.args.bytes.now i.done rest c.in-Ok.n i.parts i.put c.in-Ok.ensures.wrote in
+    let wrote = c.in-Ok.ensures.wrote in
+    let m = put_more g.S.ByteSink.puts _ _ _ c.args.bytes.now i.done rest c.in-Ok.n i.parts i.put wrote in
     rw c.split_at.ensures.back (record {
       done = _;
       parts = m.0;
