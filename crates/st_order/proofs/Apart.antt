@@ -1,25 +1,6 @@
 -- No two items have one key: items at different places are different, and different items have different keys.
-use Rattle.std.proofs.Common.{
-  ◌≡◌,
-  ℕ,
-  ◌+◌,
-  ◌≤◌,
-  Bool,
-  true,
-  false,
-  cond,
-  List,
-  [],
-  ◌∷◌,
-  ◌++◌,
-  None,
-  refl,
-  sym,
-  ◌∙◌,
-  ap,
-  subst,
-  arith,
-}
+use Rattle.std.proofs.Common.{◌≡◌, ℕ, ◌+◌, ◌≤◌, Bool, true, false, cond, List, [], ◌∷◌, None, refl, sym, ◌∙◌, ap}
+use Rattle.std.proofs.Common.{subst, arith}
 use Rattle.std.specs.List.{AllByRecursion, IsDistinct}
 use Rattle.st_core.specs.declared.types.Pid.{Pid}
 use Rattle.st_core.specs.declared.types.Event.{Event}
@@ -32,7 +13,8 @@ use Rattle.st_order.specs.declared.item.Item.{Item}
 use Rattle.st_order.specs.declared.item.Item.TheVariants as item
 use Rattle.st_order.specs.Items.{is_hidden, items_at, items_from, items_among, items}
 use Rattle.st_order.proofs.Keys.{IsKeyed, same_key, one_item, items_keyed}
-use Rattle.st_order.proofs.Lists.{all_append, all_left, all_right, all_mapped, all_both, all_crossed, distinct_append}
+use Rattle.st_order.proofs.Lists.{all_append, all_left, all_right, all_mapped, all_both, all_crossed}
+use Rattle.st_order.proofs.Lists.{distinct_append}
 
 -- the place of an item
 abbrev reporter_of : Item → Pid

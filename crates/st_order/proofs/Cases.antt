@@ -1,5 +1,5 @@
 -- Worked cases: the definitions computed. Nothing cites this file; it shows that the definitions say what is meant.
-use Rattle.std.specs.Prelude.{◌≡◌, ℕ, ◌==◌, Bool, true, false, List, [], ◌∷◌, ◌||◌, map, Some, None, refl}
+use Rattle.std.specs.Prelude.{◌≡◌, ℕ, ◌==◌, Bool, true, false, List, [], ◌∷◌, ◌||◌, Some, None, refl}
 use Rattle.st_core.specs.declared.types.Pid.{Pid}
 use Rattle.st_core.specs.declared.types.Label.{Label}
 use Rattle.st_core.specs.declared.types.Event.{Event}
@@ -8,7 +8,7 @@ use Rattle.st_core.specs.Pid.{pid_on}
 use Rattle.st_core.specs.Run.{Stream}
 use Rattle.st_order.specs.declared.item.Item.{Item}
 use Rattle.st_order.specs.declared.item.Item.TheVariants as item
-use Rattle.st_order.specs.Items.{height, items}
+use Rattle.st_order.specs.Items.{height}
 use Rattle.st_order.specs.Order.{key, KeysRise, order}
 use Rattle.st_order.specs.Labels.{label_of, IsByLabel}
 

@@ -1,22 +1,5 @@
 -- In streams whose pids rise the events of a listed process are those of its stream, since no earlier one has its pid.
-use Rattle.std.proofs.Common.{
-  ◌≡◌,
-  ℕ,
-  zero,
-  suc,
-  Bool,
-  cond,
-  List,
-  [],
-  ◌∷◌,
-  drop,
-  slice_get,
-  Some,
-  None,
-  refl,
-  ◌∙◌,
-  ap,
-}
+use Rattle.std.proofs.Common.{◌≡◌, ℕ, zero, suc, Bool, cond, List, [], ◌∷◌, drop, slice_get, Some, None, ◌∙◌, ap}
 use Rattle.std.specs.List.{AllByRecursion}
 use Rattle.st_core.specs.Pid.{IsBelow, IsRising}
 use Rattle.st_core.specs.Run.{Stream, pids_of}

@@ -1,34 +1,7 @@
 -- A key says which item has it: a hidden send is found by its receive, which no other repeats, and an event by its
 -- place. So two items of one key are one.
-use Rattle.std.proofs.Common.{
-  ◌≡◌,
-  ℕ,
-  ◌+◌,
-  ◌-◌,
-  ◌==◌,
-  Bool,
-  true,
-  false,
-  cond,
-  if◌then◌else◌,
-  List,
-  [],
-  ◌∷◌,
-  ◌++◌,
-  drop,
-  slice_get,
-  Option,
-  Some,
-  None,
-  option_map,
-  zero,
-  suc,
-  refl,
-  sym,
-  ◌∙◌,
-  ap,
-  arith,
-}
+use Rattle.std.proofs.Common.{◌≡◌, ℕ, ◌+◌, ◌-◌, ◌==◌, Bool, true, false, cond, if◌then◌else◌, List, [], ◌∷◌, drop}
+use Rattle.std.proofs.Common.{Option, Some, None, option_map, suc, refl, sym, ◌∙◌, ap, arith}
 use Rattle.std.specs.List.{AllByRecursion}
 use Rattle.std.specs.Cmp.{IsTotalOrder}
 use Rattle.std.specs.declared.cmp.Ordering.{Ordering}
@@ -39,16 +12,15 @@ use Rattle.std.proofs.lemmas.Cmp.{nat_cmp_total, on_total, then_total}
 use Rattle.std.proofs.lemmas.Option.{same_Some}
 use Rattle.st_core.specs.declared.types.Pid.{Pid}
 use Rattle.st_core.specs.declared.types.Event.{Event}
-use Rattle.st_core.specs.Pid.{pid_cmp, pid_eq, IsBelow, IsRising}
+use Rattle.st_core.specs.Pid.{pid_cmp, IsRising}
 use Rattle.st_core.specs.Run.{Stream, pids_of}
-use Rattle.st_core.specs.Streams.{stream_of, events_of}
-use Rattle.st_core.proofs.ForCallers.{pid_eq-same, IsBelow-apart}
+use Rattle.st_core.specs.Streams.{events_of}
 use Rattle.st_pair.specs.declared.answer.Source.TheVariants as source
 use Rattle.st_pair.specs.Places.{event_at, is_stamp, first}
 use Rattle.st_pair.specs.Pairing.{receive_of, repeated, source_of}
 use Rattle.st_order.specs.declared.item.Item.{Item}
 use Rattle.st_order.specs.declared.item.Item.TheVariants as item
-use Rattle.st_order.specs.Items.{is_hidden, items_at, items_from, items_among, items, event_of}
+use Rattle.st_order.specs.Items.{is_hidden, items_at, items_from, items_among, items}
 use Rattle.st_order.specs.Order.{Key, key_by, key, key_cmp, comes_before}
 use Rattle.st_order.proofs.Lists.{all_append}
 use Rattle.st_order.proofs.Once.{only_receive}

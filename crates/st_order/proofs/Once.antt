@@ -1,26 +1,7 @@
 -- Where no receive repeats another, each receive is the first from its sender with its count: a first one that is
 -- another would be a repeat, and there is a first one, since the receive itself is there.
-use Rattle.std.proofs.Common.{
-  ◌≡◌,
-  ℕ,
-  ◌==◌,
-  ◌&&◌,
-  ◌||◌,
-  Bool,
-  true,
-  false,
-  cond,
-  List,
-  Option,
-  Some,
-  None,
-  option_and_then,
-  refl,
-  sym,
-  ◌∙◌,
-  ap,
-  if◌then◌else◌,
-}
+use Rattle.std.proofs.Common.{◌≡◌, ℕ, ◌==◌, ◌&&◌, ◌||◌, true, false, cond, List, Some, None, option_and_then, refl}
+use Rattle.std.proofs.Common.{sym, ◌∙◌, ap, if◌then◌else◌}
 use Rattle.std.proofs.lemmas.Bool.{eqb-true, eq-eqb, and_parts, and_from}
 use Rattle.std.proofs.lemmas.Option.{none-some}
 use Rattle.st_core.specs.declared.types.Pid.{Pid}

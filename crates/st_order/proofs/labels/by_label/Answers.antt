@@ -1,5 +1,5 @@
 -- The groups of the sorted list are the items by label.
-use Rattle.std.proofs.Common.{◌≡◌, rules, sym, ◌∙◌, subst, List}
+use Rattle.std.proofs.Common.{rules, sym, ◌∙◌, subst, List}
 use Rattle.std.specs.List.Sorted.{IsStableByKey}
 use Rattle.std.specs.Ordering.{nat_cmp}
 use Rattle.std.proofs.lemmas.List.Sorted.{answers_always}
