@@ -22,7 +22,7 @@
 %% `reset': whether `seq_trace:reset_trace/0' is called first, so that all clocks begin at 0.
 
 -type about() :: #{name => atom(), call => mfa()}.
-%% What is known of a process: its registered name, or else its initial call.
+%% What is known of a process: its registered name and its initial call.
 
 -type summary() :: #{node := node(), events := non_neg_integer(), dropped := non_neg_integer(),
                      own := non_neg_integer(), strays := non_neg_integer(),
@@ -156,12 +156,18 @@ about(Pid) ->
     case process_info(Pid, [registered_name, initial_call]) of
         [{registered_name, []}, {initial_call, {proc_lib, init_p, _}}] -> started(Pid);
         [{registered_name, []}, {initial_call, Call}] -> #{call => Call};
-        [{registered_name, Name}, _] -> #{name => Name};
+        [{registered_name, Name}, {initial_call, {proc_lib, init_p, _}}] -> #{name => Name};
+        [{registered_name, Name}, {initial_call, Call}] -> #{name => Name, call => Call};
         undefined -> #{}
     end.
 
 %% A process made by proc_lib has in its dictionary what was really called. The dictionary may be
-%% large, so it isn't asked for where a name says enough.
+%% large, so one with a name is asked for it only when nothing is traced any more.
+complete(Pid, #{name := _} = About) when not is_map_key(call, About) ->
+    maps:merge(started(Pid), About);
+complete(_Pid, About) ->
+    About.
+
 started(Pid) ->
     case process_info(Pid, dictionary) of
         {dictionary, Dictionary} ->
@@ -192,4 +198,4 @@ put_back(Former) ->
 summary(State) ->
     #{node => node(), events => State#state.kept, dropped => State#state.dropped,
       own => State#state.own, strays => State#state.strays,
-      processes => State#state.processes, tracer => State#state.tracer}.
+      processes => maps:map(fun complete/2, State#state.processes), tracer => State#state.tracer}.

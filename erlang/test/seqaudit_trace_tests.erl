@@ -3,7 +3,8 @@
 
 -export([fitting_test_/0, term_labels_test/0, registered_names_test/0,
          initial_call_test/0, timestamps_test/0,
-         full_collector_test/0, former_tracer_is_put_back_test/0, second_tracer_stays_test/0,
+         full_collector_test/0, former_tracer_is_put_back_test/0,
+         former_tracer_is_gone_test/0, second_tracer_stays_test/0,
          owner_ends_test/0, collector_stays_out_test/0, token_is_taken_off_test/0,
          nothing_is_lost_test_/0, start_refuses_test/0, unfit_is_unfit_test/0]).
 
@@ -88,11 +89,11 @@ registered_names_test() ->
         seqaudit_trace:with_trace(1, fun() -> gen_server:call(seqaudit_test_alice, hello) end)
     end),
     4 = Events,
-    ok = gen_server:stop(Server),
     Pid = list_to_binary(pid_to_list(Server)),
     <<"seqaudit_test_alice">> = seqaudit_legend:process(Pid, Legend),
     {_, _} = binary:match(seqaudit_legend:about(Pid, Legend),
-                          <<"of node nonode@nohost, registered as seqaudit_test_alice">>),
+                          <<", registered as seqaudit_test_alice, started by seqaudit_test_server:init/1">>),
+    ok = gen_server:stop(Server),
     ok_or_skipped(seqaudit_audits:fits(seqaudit_audits:file("names"))).
 
 %% A process without a name is called by what it was started with, also after its end.
@@ -132,6 +133,17 @@ former_tracer_is_put_back_test() ->
     Former = seq_trace:set_system_tracer(false),
     {messages, []} = process_info(Former, messages),
     exit(Former, kill),
+    false = seq_trace:get_system_tracer(),
+    ok.
+
+former_tracer_is_gone_test() ->
+    {Former, Monitor} = spawn_monitor(fun() -> receive stop -> ok end end),
+    false = seq_trace:set_system_tracer(Former),
+    ok = seqaudit_trace:start(#{name => seqaudit_audits:file("gone")}),
+    exit(Former, kill),
+    receive {'DOWN', Monitor, process, Former, killed} -> ok end,
+    {ok, #{notes := [_, Note]}} = seqaudit_trace:stop(),
+    {match, _} = re:run(Note, "the former system tracer is there no more"),
     false = seq_trace:get_system_tracer(),
     ok.
 
