@@ -1,7 +1,6 @@
 -- The lemmas that proofs of the crates above may cite: on pids and their order, on a step and a run in parts, and on
--- the
--- numbers of sends that lie in a queue. They hold by the definitions alone; nothing here speaks of how the code does
--- it.
+-- the numbers of sends that lie in a queue. They hold by the definitions alone; nothing here speaks of how the code
+-- does it.
 
 -- ---- pids
 pub use Rattle.st_core.proofs.Pids.{pid_eq-true, pid_eq-same, pid_eq-swap, pid_cmp-same, pid_cmp-Equal}

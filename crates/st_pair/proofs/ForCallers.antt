@@ -1,6 +1,5 @@
 -- The lemmas that proofs of the crates above may cite: what an accepting pairing says of each event, what a rule
--- gives
--- first, and where the stream of a process stands. They hold by the definitions alone.
+-- gives first, and where the stream of a process stands. They hold by the definitions alone.
 
 -- ---- what `refusal streams ≡ None` says of each event
 pub use Rattle.st_pair.proofs.Accepted.{Rule, IsPaired, paired, event_none, serial_rises, once_place}
