@@ -147,8 +147,8 @@ impl<const TOP: u64> Local<TOP> {
         }
     }
 
-    /// Puts this token, or none, in the token's place, and answers the one before (manual). Clock
-    /// and last stay (own profile).
+    /// Puts this token, or none, in the token's place, and answers the one before (manual of none,
+    /// own profile of a token). Clock and last stay (own profile).
     pub fn restore(&mut self, token: Option<Token>) -> Option<Token>
         ensures new { self.new ≡ record self.old { token = token } }
         ensures old { result ≡ self.old.token }
