@@ -1,4 +1,4 @@
--- A status belongs to one kind of output: 0 to a yes, 1 to a no. So an output with it has that verdict, which says
+-- A status belongs to one kind of output: 0 to a yes, 1 to a no. So an output with it has that verdict, which tells
 -- the rest.
 use Rattle.std.proofs.Common.{◌≡◌, ◌≢◌, ℕ, ◌+◌, ◌≤◌, Bool, List, length, take, refl, sym, ap, subst, ◌∙◌, arith}
 use Rattle.std.specs.Prelude.{Option, Some, None, IsSome}

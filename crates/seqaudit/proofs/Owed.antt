@@ -1,5 +1,4 @@
--- Bytes have an output of each command: they have a fault or are a text, and acts have a verdict, and have a run or
--- stick.
+-- Bytes have an output of each command: they have a fault or are a text, and acts have a verdict and a run.
 use Rattle.std.proofs.Common.{◌≡◌, ℕ, List, Option, Some, None, refl, arith}
 use Rattle.std.specs.Prelude.{IsSome}
 use Rattle.st_core.specs.declared.types.Act.{Act}

@@ -1,5 +1,4 @@
--- A replay's streams and acts are those of the output, and an act that it is stuck at has no step, so its answer is
--- owed.
+-- A replay's streams and acts are those of the output, and the act that it is stuck at has no step.
 use Rattle.std.proofs.Common.{◌≡◌, List, subst, sym, ap, ◌∙◌}
 use Rattle.st_core.specs.declared.types.Pid.{Pid}
 use Rattle.st_core.specs.declared.types.Act.{Act}

@@ -1,6 +1,5 @@
 -- Two stored runs are yeses by the definitions alone: each value that the definitions ask for is computed here.
--- Nothing cites
--- this file; it shows that what `check` is proved to owe of these bytes is what a reader expects.
+-- Nothing cites this file; it shows that what `check` is proved to owe of these bytes is what a reader expects.
 use Rattle.std.proofs.Common.{◌≡◌, ℕ, ◌≤◌, Bool, true, false, List, [], ◌∷◌, ◌++◌, length, Option, Some, None, All}
 use Rattle.std.proofs.Common.{refl, arith}
 use Rattle.std.specs.Prelude.{codes}

@@ -18,8 +18,8 @@ pub record Spells (bytes : List ℕ) (streams : List Stream) (acts : Option (Lis
   pub text : IsText bytes (record { streams = streams; acts = acts })
   pub within : IsWithin (record { streams = streams; acts = acts })
 
--- the bytes spell streams and acts, of which this is the verdict; on a yes each reported receive has a pair and
--- follows it
+-- the bytes spell streams and acts, of which this is the verdict; on a yes each reported receive has a pair in which
+-- it follows its send
 pub record IsJudged (bytes : List ℕ) (v : Verdict) : Type 0 where
   pub streams : List Stream
   pub acts : List Act

@@ -18,16 +18,15 @@ IsOutputOf task.Replay = IsReplayed
 
 -- of a reader: what its calls give, whether it is at its end, whether it failed, and its states before and after
 module _ {R : Type 0} (gives : R → List ℕ → R → Type 0) (ended : R → Type 0) (failed : R → Bool) (old new : R) where
-  -- the reader gave these bytes, one piece after the other, without a failure; and then it had no more, or they are one
-  -- more than may be read
+  -- The reader gave these bytes, one piece after the other, without a failure; and then it had no more, or they are
+  -- one more than may be read.
   pub record ReadsAll (bytes : List ℕ) : Type 0 where
     pub given : InARow gives old bytes new
     pub whole : ended new ⊎ (length bytes ≡ most_bytes + 1)
     pub sound : failed new ≡ false
 
-  -- the output that a command owes, by what it makes of all the bytes; want of memory and a failed reader have their
-  -- own,
-  -- and neither stands in place of the fault of too many bytes
+  -- The output that a command owes, by what it makes of all the bytes. Want of memory and a failed reader have outputs
+  -- of their own, and neither stands in place of the fault of too many bytes.
   pub data Owes (IsOutput : List ℕ → Output → Type 0) : Output → Type 0 where
     OfBytes : (bytes : List ℕ) (out : Output) → ReadsAll bytes → IsOutput bytes out → Owes IsOutput out
     ForMemory : (bytes : List ℕ) → ReadsAll bytes → length bytes ≤ most_bytes → Owes IsOutput no_memory
@@ -42,9 +41,8 @@ module _ {R : Type 0} (gives : R → List ℕ → R → Type 0) (ended : R → T
 
 -- of a writer: what its calls put, whether it failed, and its states before and after
 module _ {W : Type 0} (puts : W → List ℕ → W → Type 0) (failed : W → Bool) (old new : W) where
-  -- the output was written whole and its status answered; or the writer failed after a prefix of the text, and the
-  -- status
-  -- is 4
+  -- The output was written whole and its status answered; or the writer failed after a prefix of the text, and the
+  -- status is 4.
   pub data Delivers (out : Output) : ℕ → Type 0 where
     Whole : Writes puts failed out.text old new → Delivers out out.status
     Part : WritesPart puts failed out.text old new → Delivers out 4

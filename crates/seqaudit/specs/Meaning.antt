@@ -40,8 +40,7 @@ pub record MeansNo (bytes : List ℕ) (out : Output) : Type 0 where
   pub refuted : ¬ Shows top streams acts
   -- the text names a place
   pub text : out.text ≡ verdict_text verdict
-  -- and the place shows it: up to there all passes, and act n has no step or reports another event, or p has events
-  -- left
+  -- and the place shows it: all before it passes, and act n has no step or reports another event, or p has events left
   pub place : IsVerdict top streams acts verdict
 
 -- all bytes were read, and of them an output with this meaning was written whole

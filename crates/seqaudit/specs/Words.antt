@@ -21,8 +21,8 @@ task_named name =
     if bytes_eq name (codes "check") then Some task.Check
     else (if bytes_eq name (codes "replay") then Some task.Replay else None)
 
--- the command that the words ask for, by the subcommand that `clap` finds in them; none where it refuses them or
--- finds none
+-- the command that the words ask for, by the subcommand that `clap` finds in them; none where it refuses them, or
+-- where it finds no subcommand
 abbrev pub asked : List Text → Option Task
 asked words =
     if is_empty (fault_of command_line words) then option_and_then (λ p. task_named p.0)
