@@ -105,7 +105,8 @@ collect(_) ->
     usage("collect needs --node, --seconds and -o", []).
 
 collect({error, Reason}, _Start, _Seconds) ->
-    failed(?SYSTEM, io_lib:format("this Erlang can't take part in distribution: ~0tp", [Reason]));
+    failed(?SYSTEM, io_lib:format("this Erlang can't take part in distribution; it needs a home "
+                                  "folder for its cookie, and epmd: ~0tp", [Reason]));
 collect(ok, #{nodes := Nodes} = Start, Seconds) ->
     case seqaudit_trace:start(Start) of
         ok ->

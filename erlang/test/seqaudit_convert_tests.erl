@@ -3,7 +3,8 @@
 
 -export([captures_test_/0, equal_terms_test/0, numbers_test/0, parties_test/0, aliases_test/0,
          repeated_names_test/0,
-         counts_test/0, limits_test/0, lost_test/0, hostile_test_/0, hostile_trace_test_/0,
+         counts_test/0, limits_test/0, too_many_test_/0,
+         lost_test/0, hostile_test_/0, hostile_trace_test_/0,
          text_test/0, text_faults_test/0, external_test/0, trace_file_test/0]).
 
 %% What the auditor says of traces of real programs that were captured on a node.
@@ -105,6 +106,15 @@ limits_test() ->
     Events = [{seq_trace, 1, {print, {0, 1}, pid('a@h', N, 0), [], x}} || N <- lists:seq(1, 1025)],
     #{processes := 1025, notes := [Note]} = convert(Events),
     true = has(Note, "it has 1025 processes, and the reader takes 1024").
+
+%% A node has 65,536 numbers; events of processes beyond are left out and counted.
+too_many_test_() ->
+    {timeout, 60, fun() ->
+        Events = [{seq_trace, 1, {print, {0, 1}, pid('a@h', N, Serial), [], x}}
+                  || Serial <- [0, 1, 2], N <- lists:seq(0, 32_767)],
+        #{events := 65_536, processes := 65_536, dropped := 32_768, notes := Notes} = convert(Events),
+        true = lists:any(fun(Note) -> has(Note, "32768 events were left out: more than 65,536") end, Notes)
+    end}.
 
 lost_test() ->
     #{events := 0, notes := [_, Note]} = seqaudit_convert:convert([#{node => 'a@h', lost => noconnection}]),

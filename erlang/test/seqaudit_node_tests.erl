@@ -82,16 +82,18 @@ no_program_test_() ->
 %% The command traces another node, where nothing of it is installed.
 collect_test_() ->
     {timeout, 120, fun() ->
-        {4, Text} = command(["collect --node nobody@localhost --cookie c --seconds 1 -o ",
-                             seqaudit_audits:file("nobody")]),
-        {_, _} = binary:match(Text, <<"node nobody@localhost can't be reached">>),
         case seqaudit_test_nodes:start() of
             {ok, Stop, There} ->
-                try collect(There) after Stop() end;
+                try nobody(), collect(There) after Stop() end;
             {error, Reason} ->
                 io:format(user, "collect: skipped, ~0tp~n", [Reason])
         end
     end}.
+
+nobody() ->
+    {4, Text} = command(["collect --node nobody@localhost --cookie c --seconds 1 -o ",
+                         seqaudit_audits:file("nobody")]),
+    {_, _} = binary:match(Text, <<"node nobody@localhost can't be reached">>).
 
 collect(There) ->
     {_, Binary, File} = code:get_object_code(?MODULE),
