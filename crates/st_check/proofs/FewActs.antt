@@ -25,7 +25,7 @@ use Rattle.st_core.specs.Run.{run_from, run}
 use Rattle.st_core.specs.Laws.{IsStamped, IsSound}
 use Rattle.st_core.proofs.ForCallers.{step_sound, zero_sound, process_holds, leaves_others}
 use Rattle.st_check.specs.Laws.{acts_among, FewActsRun}
-use Rattle.st_check.proofs.Passing.{zero_pids}
+use Rattle.st_core.proofs.ForCallers.{zero_pids}
 
 -- WHO IS THERE
 

@@ -18,7 +18,7 @@ use Rattle.st_core.specs.Run.{Stream, pids_of, run, run_from, stream}
 use Rattle.st_core.specs.Streams.{events_of}
 use Rattle.st_core.specs.Pairs.{tags_after, pairs}
 use Rattle.st_core.specs.Verdict.{Passes}
-use Rattle.st_core.proofs.ForCallers.{pid_eq-true, pid_eq-same, pid_eq-swap}
+use Rattle.st_core.proofs.ForCallers.{zero_pids, pid_eq-true, pid_eq-same, pid_eq-swap}
 use Rattle.st_core.proofs.ForCallers.{run_parts, leaves_others}
 use Rattle.st_check.specs.Progress.{state_from, tags_of, count_of, counted, IsPassed}
 use Rattle.st_check.proofs.Appended.{length-run, run-append, state_from-append, stream-append, tags_from-append}
@@ -57,10 +57,6 @@ state_pids top s (a ∷ acts) os h =
     ap (λ (xs : List Outcome). map (λ (r : Process). r.pid) (state_from s xs)) t.is_whole
     ∙ state_pids top t.first.after acts t.others t.is_rest
     ∙ (leaves_others top s a t.first t.is_first).pids
-
-pub zero_pids : (pids : List Pid) → map (λ (r : Process). r.pid) (zero_state pids) ≡ pids
-zero_pids [] = refl
-zero_pids (p ∷ pids) = ap (λ ps. p ∷ ps) (zero_pids pids)
 
 unlisted_process : (s : State) (p : Pid) → AllByRecursion (λ q. pid_eq q p ≡ false) (map (λ (r : Process). r.pid) s)
     → process s p ≡ None

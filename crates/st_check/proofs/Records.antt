@@ -28,7 +28,8 @@ use Rattle.st_core.proofs.ForCallers.{run_sound}
 use Rattle.std.proofs.lemmas.List.Elements.{All-map}
 use Rattle.st_check.specs.Recorded.{IsRecorded, recorded}
 use Rattle.st_check.proofs.Appended.{length-run, run-append, state_from-append}
-use Rattle.st_check.proofs.Passing.{state_pids, zero_pids, stream_other, stream_silent, stream_own}
+use Rattle.st_check.proofs.Passing.{state_pids, stream_other, stream_silent, stream_own}
+use Rattle.st_core.proofs.ForCallers.{zero_pids}
 
 -- THE PROCESSES OF RECORDED STREAMS
 

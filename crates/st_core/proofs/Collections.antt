@@ -71,7 +71,7 @@ stream_of-missing [] es p all = refl
 stream_of-missing (q ∷ ps) [] p all = refl
 stream_of-missing (q ∷ ps) (e ∷ es) p all = rw all.0 (stream_of-missing ps es p all.1)
 
-above_apart : (ps : List Pid) (q p : Pid) (i : ℕ) → AllByRecursion (IsBelow q) ps → slice_get ps i ≡ Some p
+pub above_apart : (ps : List Pid) (q p : Pid) (i : ℕ) → AllByRecursion (IsBelow q) ps → slice_get ps i ≡ Some p
     → pid_eq q p ≡ false
 above_apart ps q p i all at = IsBelow-apart q p (all_at (IsBelow q) ps i p all at)
 

@@ -13,6 +13,7 @@ pub mod Exists
 pub mod Names
 mod Cases
 pub mod Pids
+pub mod RisingPids
 pub mod Collections
 pub mod Leastness
 pub mod ForCallers

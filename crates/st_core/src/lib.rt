@@ -5,6 +5,7 @@ mod device;
 pub mod laws;
 mod local;
 mod places;
+mod rising;
 mod sequence;
 mod streams;
 mod types;
@@ -14,6 +15,7 @@ pub use device::{
     WriteTo,
 };
 pub use local::{ClockFull, Local};
+pub use rising::is_rising;
 pub use sequence::Sequence;
 pub use streams::{AddFault, Draft, OpenFault, Streams, Unlisted};
 pub use types::{

@@ -7,7 +7,7 @@ mod refused;
 use crate::places::SLOTS;
 use crate::{
     Act, AddFault, Component, Draft, Event, Flags, Kind, Label, Local, OpenFault, Pid, Sequence,
-    Serial, Token,
+    Serial, Token, is_rising,
 };
 use std::test::Fail;
 
@@ -38,6 +38,8 @@ fn event(kind: Kind, from: Pid, to: Option<Pid>) -> Event {
 fn pids_are_ordered_by_node_first(rt: HostRuntime) {
     assert!(rt; Pid::on(1, 30) > p31());
     assert!(rt; Pid::on(1, 30) < Pid::on(1, 31));
+    assert!(rt; is_rising([p30(), Pid::on(1, 30)].as_slice()));
+    assert!(rt; !is_rising([p30(), p30()].as_slice()));
 }
 
 #[test]

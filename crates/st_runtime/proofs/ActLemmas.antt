@@ -1,18 +1,11 @@
 -- What an act asks of the processes that its locks held follows from its kind, case by case.
-use Rattle.std.proofs.Common.{◌≡◌, ◌≢◌, ℕ, true, false, Bool, [], ◌∷◌, Some, None, Option, option_map, refl}
-use Rattle.std.proofs.Common.{sym, ap, ◌∙◌, subst}
-use Rattle.std.specs.Prelude.{IfSome, ◌↔◌}
+use Rattle.std.proofs.Common.{◌≡◌, ◌≢◌, refl}
+use Rattle.std.proofs.Common.{sym, subst}
 use Rattle.st_core.specs.declared.types.Pid.{Pid}
 use Rattle.st_core.specs.declared.types.Act.{Act}
 use Rattle.st_core.specs.declared.types.Act.TheVariants as act
-use Rattle.st_core.specs.declared.types.Reply.{Reply}
-use Rattle.st_core.specs.Pid.{pid_eq}
-use Rattle.st_core.specs.State.{Process}
-use Rattle.st_core.specs.Step.{Acted, acted, actor, receiver, step}
-use Rattle.st_core.proofs.ForCallers.{pid_eq-same}
-use Rattle.st_runtime.specs.Locked.{wide_reply}
-use Rattle.st_runtime.specs.Pcb.{is_alone, is_wide, IsBetween}
-use Rattle.st_runtime.specs.System.{is_stamping}
+use Rattle.st_core.specs.Step.{actor, receiver}
+use Rattle.st_runtime.specs.Pcb.{IsBetween}
 
 between_from : (a : Act) → receiver a ≢ actor a → IsBetween a (actor a) (receiver a)
 between_from (act.Send p q v) apart = (λ same. apart (sym same), v, refl)

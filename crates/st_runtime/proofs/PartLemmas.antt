@@ -1,6 +1,6 @@
 -- An entry is legal for a process by the machine's own parts, which the calls on that process answered.
 use Rattle.std.proofs.Common.{◌≡◌, ℕ, Bool, true, false, cond, ◌&&◌, ◌==◌, ◌++◌, List, [], ◌∷◌, map, Option}
-use Rattle.std.proofs.Common.{Some, None, option_map, refl, sym, ◌∙◌, ap, subst}
+use Rattle.std.proofs.Common.{Some, None, option_map, refl, sym, ◌∙◌, ap}
 use Rattle.std.specs.Prelude.{MatchBool}
 use Rattle.std.proofs.lemmas.Option.{same_Some}
 use Rattle.st_core.specs.declared.types.Pid.{Pid}
@@ -13,7 +13,7 @@ use Rattle.st_core.specs.declared.types.Reply.{Reply}
 use Rattle.st_core.specs.Pid.{pid_eq, node_eq}
 use Rattle.st_core.specs.State.{LocalState, Process}
 use Rattle.st_core.specs.Local.{wiped}
-use Rattle.st_core.specs.Step.{untraced, Acted, acted, actor, touches, reached, changed}
+use Rattle.st_core.specs.Step.{untraced, Acted, acted, actor, touches, reached}
 use Rattle.st_core.proofs.ForCallers.{pid_eq-true, pid_eq-same, changed_pid}
 use Rattle.st_mail.specs.Actor.{process_of, part_of, is_inner}
 use Rattle.st_mail.specs.declared.outcome.Outcome.{Outcome as Told}

@@ -8,7 +8,7 @@ use Rattle.st_core.specs.declared.types.Token.{Token}
 use Rattle.st_core.specs.declared.types.Message.{Message}
 use Rattle.st_core.specs.declared.types.Act.TheVariants as act
 use Rattle.st_core.specs.Pid.{pid_eq}
-use Rattle.st_core.specs.State.{LocalState, Process}
+use Rattle.st_core.specs.State.{LocalState}
 use Rattle.st_core.specs.Local.{IsMeetable}
 use Rattle.st_core.specs.Laws.{IsStamped}
 use Rattle.st_core.specs.Step.{reached}

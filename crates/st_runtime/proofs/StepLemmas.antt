@@ -1,7 +1,7 @@
 -- The machine's step on the lent processes alone is their parts side by side, since the act's processes are all there.
-use Rattle.std.proofs.Common.{◌≡◌, ◌≢◌, ℕ, ◌+◌, true, false, cond, max, List, [], ◌∷◌, ◌++◌, map, Option, Some}
-use Rattle.std.proofs.Common.{None, option_map, refl, sym, ◌∙◌, ap, subst, arith}
-use Rattle.std.specs.Prelude.{◌↔◌, IsSome, IfOk, Result, Ok, Err}
+use Rattle.std.proofs.Common.{◌≡◌, ◌≢◌, ℕ, ◌+◌, true, false, cond, max, [], ◌∷◌, ◌++◌, Option, Some}
+use Rattle.std.proofs.Common.{option_map, refl, sym, ◌∙◌, ap, subst, arith}
+use Rattle.std.specs.Prelude.{IfOk, Result, Ok, Err}
 use Rattle.st_core.specs.declared.types.Pid.{Pid}
 use Rattle.st_core.specs.declared.types.Token.{Token}
 use Rattle.st_core.specs.declared.types.Act.{Act}
@@ -9,13 +9,13 @@ use Rattle.st_core.specs.declared.types.Act.TheVariants as act
 use Rattle.st_core.specs.declared.types.Reply.{Reply}
 use Rattle.st_core.specs.Pid.{pid_eq}
 use Rattle.st_core.specs.State.{Process, State, process}
-use Rattle.st_core.specs.Step.{Acted, Outcome, acted, actor, receiver, reached, changed, outcome_of, step}
+use Rattle.st_core.specs.Step.{acted, actor, receiver, reached, changed, outcome_of, step}
 use Rattle.st_core.proofs.ForCallers.{pid_eq-true, pid_eq-same, pid_eq-swap}
 use Rattle.st_runtime.specs.declared.entry.Entry.{Entry}
 use Rattle.st_runtime.specs.declared.fault.PcbFault.{PcbFault}
 use Rattle.st_runtime.specs.Inside.{IsAppended}
 use Rattle.st_runtime.specs.Logs.{carried_by, IsOwnPart, IsOtherPart, last_rank}
-use Rattle.st_runtime.specs.Pcb.{Control, IsStepped, is_alone, state_of, greatest_rank, outcome_to}
+use Rattle.st_runtime.specs.Pcb.{Control, IsStepped, is_alone, outcome_to}
 
 -- A STEP WHOSE PROCESSES ARE KNOWN
 

@@ -1,22 +1,10 @@
 //! Where pids stand in a list that rises.
 
-ghost use Rattle.std.specs.Prelude.{◌≡◌, ◌≤◌, ◌↔◌, length, is_some, nat_lt, slice_get, Some, IfSome, IsTrue};
-ghost use Rattle.std.specs.Ordering.{is_lt};
+ghost use Rattle.std.specs.Prelude.{◌≡◌, ◌≤◌, length, is_some, nat_lt, slice_get, Some, IfSome};
 ghost use Rattle.st_core.specs.Collected.{is_among};
-ghost use Rattle.st_core.specs.Pid.{pid_cmp, IsRising};
+ghost use Rattle.st_core.specs.Pid.{IsRising};
 
 use st_core::Pid;
-
-/// Whether the pids rise strictly.
-pub fn is_rising(pids: &[Pid]) -> bool
-    ensures { IsTrue result ↔ IsRising pids.now }
-{
-    pids.is_sorted_by(
-        |before: &Pid, after: &Pid| -> bool
-            ensures { result ≡ is_lt (pid_cmp before.now after.now) }
-        { before < after },
-    )
-}
 
 /// Where the pid stands.
 pub fn place_of(pids: &[Pid], pid: Pid) -> Option<usize>

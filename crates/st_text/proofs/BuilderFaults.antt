@@ -21,6 +21,7 @@ use Rattle.st_text.specs.Growth.{is_kept}
 use Rattle.st_text.specs.Parts.Builder.{IsBuilt, NeedsRoom}
 use Rattle.st_text.specs.Fault.{pids, last, last_passes, has_acts, may_follow, may_stand, is_out_of_order, is_foreign}
 use Rattle.st_text.specs.Fault.{is_one_too_many, line_fault}
+use Rattle.st_text.proofs.Bools.{or_false}
 
 -- the fault by the tests in their order
 pub fault_by : ℕ → Bool → Bool → Bool → Bool → Option ReadFault
@@ -43,10 +44,6 @@ unfolding line_fault fault_by
 fault_is p ls l s =
     let stands = stands_is ls _ p.wide (is_some p.acts) p.last l s.lines (sym s.begun_is) (sym s.last_is) in
     rw (stands, ← s.last_is, ← s.count, ← s.processes_are, ← s.events_are, ← s.acts_are) refl
-
-pub or_false : (b : Bool) → (b || false) ≡ b
-or_false true = refl
-or_false false = refl
 
 pub open_fault : (p : BundleBuilder) (ls : List Line) (q : Pid) → IsBuilt p ls
     → line_fault ls (Some (lines.Process q))

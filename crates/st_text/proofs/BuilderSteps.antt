@@ -22,7 +22,7 @@ use Rattle.st_text.specs.Parts.Remote.{is_event_remote, is_act_remote}
 use Rattle.st_text.specs.Text.{is_away, is_remote, process_lines}
 use Rattle.st_text.specs.Parts.Builder.{so_far, IsBuilt}
 use Rattle.st_text.specs.Fault.{pids, pid_of, last, has_acts, is_acts, is_event, is_act, is_wide}
-use Rattle.st_text.proofs.BuilderFaults.{or_false}
+use Rattle.st_text.proofs.Bools.{or_false}
 
 get_end : {A : Type 0} (xs : List A) (x : A) → slice_get (xs ++ x ∷ []) (length xs) ≡ Some x
 get_end [] x = refl

@@ -28,6 +28,7 @@ use Rattle.st_text.specs.Parts.Builder.{IsBuilt}
 use Rattle.st_text.specs.Parts.Finish.{line_at_place, event_line}
 use Rattle.st_text.specs.Fault.{is_unknown, unknown_from, closing_fault}
 use Rattle.st_text.proofs.Listed.{own_events}
+use Rattle.st_text.proofs.Bools.{or_true}
 
 and_true : (b : Bool) → (b && true) ≡ b
 and_true true = refl
@@ -136,10 +137,6 @@ apart x p (q ∷ ps) below e = by (pid_eq q p) refl e (apart x p ps below.1)
         → pid_eq x p ≡ false
     by true is e more = subst (λ (r : Pid). pid_eq x r ≡ false) (pid_eq-true q p is) (IsBelow-apart x q below.0)
     by false is e more = more e
-
-or_true : (b : Bool) → (b || true) ≡ true
-or_true true = refl
-or_true false = refl
 
 pub streams_place : (all ss : List Stream) (n : ℕ) (rest : List Line)
     → AllByRecursion (λ s. events_of all s.pid ≡ s.events) ss → IsRising (pids_of ss)

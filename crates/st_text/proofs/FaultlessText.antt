@@ -45,6 +45,7 @@ use Rattle.st_text.proofs.Listed.{own_events, none_unlisted}
 use Rattle.st_text.proofs.ClosingFaults.{place_of, place_or, streams_place, acts_place}
 use Rattle.st_text.proofs.CutterEnd.{all_of, all_events}
 use Rattle.st_text.proofs.GoodText.{process_pids, act_pids}
+use Rattle.st_text.proofs.Bools.{right_of}
 
 -- the lines are a header and what these streams and acts spell, within the limits on counts
 pub record Gathered (ls : List Line) : Type 0 where
@@ -117,10 +118,6 @@ begun_is ls g =
 left_of : (a b : Bool) → (a && b) ≡ true → a ≡ true
 left_of true b e = refl
 left_of false b e = absurd cc
-
-right_of : (a b : Bool) → (a && b) ≡ true → b ≡ true
-right_of true b e = e
-right_of false b e = absurd cc
 
 follows : (ls : List Line) (l : Line) (g : Gathered ls) → Passes ls l
     → may_follow (is_some g.acts) (last (pids_of g.streams)) l ≡ true

@@ -29,10 +29,6 @@ pub record Came (ls : List Line) (wide : Bool) (ps : List Pid) (events acts : �
   pub act_count : count_by is_act ls ≡ acts
   pub begun_is : has_acts ls ≡ begun
 
-pub or_false : (b : Bool) → (b || false) ≡ b
-or_false true = refl
-or_false false = refl
-
 pub count-append : (f : Line → Bool) (a b : List Line) → count_by f (a ++ b) ≡ count_by f a + count_by f b
 count-append f a b = sum_by-append (λ x. cond (f x) 1 0) a b
 

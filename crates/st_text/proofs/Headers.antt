@@ -13,14 +13,7 @@ use Rattle.st_text.specs.Fault.{cut, sayings, first_fault, line_fault, first_of,
 use Rattle.st_text.specs.Fault.{pids, is_wide, closing_fault, unknown_from}
 use Rattle.st_text.proofs.Newlines.{none_of}
 use Rattle.st_text.proofs.LineLemmas.{line_takes}
-
-right_of : (a b : Bool) → (a && b) ≡ true → b ≡ true
-right_of true b e = e
-right_of false b e = absurd cc
-
-not_true : (b : Bool) → not b ≡ true → b ≡ false
-not_true true e = absurd cc
-not_true false e = refl
+use Rattle.st_text.proofs.Bools.{not_true, right_of}
 
 stands : (ls : List Line) (l : Line) → line_fault ls (Some l) ≡ None → may_stand ls l ≡ true
 unfolding line_fault

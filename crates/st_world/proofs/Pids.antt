@@ -1,20 +1,20 @@
 -- Pids that rise strictly stand once and by rising node, since the order goes by node first: so a search for where a
 -- test on nodes changes its answer finds the processes of a node.
 use Rattle.std.proofs.Common.{◌≡◌, ℕ, ◌<◌, ◌≤◌, ◌+◌, zero, suc, Bool, true, false, List, [], ◌∷◌, length, get_or, take}
-use Rattle.std.proofs.Common.{IsTrue, ◌↔◌, ltb, leb, refl, sym, ◌∙◌, ap, arith, inl, inr, ◌⊎◌}
+use Rattle.std.proofs.Common.{ltb, leb, refl, sym, ◌∙◌, arith, inl, inr, ◌⊎◌}
 use Rattle.indexmap.specs.IndexSet.{insert_key}
-use Rattle.std.specs.List.{AllByRecursion, IsAllAdjacentAnswer, list_any}
+use Rattle.std.specs.List.{list_any}
 use Rattle.std.specs.declared.cmp.Ordering.{Ordering}
 use Rattle.std.specs.declared.cmp.Ordering.TheVariants.{Less, Equal, Greater}
-use Rattle.std.specs.Ordering.{is_lt, nat_cmp, ordering_then, MatchOrdering}
+use Rattle.std.specs.Ordering.{nat_cmp, ordering_then, MatchOrdering}
 use Rattle.std.specs.List.Sorted.{IsNonDecreasingBy, IsPartitionPoint}
 use Rattle.std.proofs.lemmas.Bool.{cases_eq, ltb-true, ltb-false, leb-true, leb-false}
 use Rattle.std.proofs.lemmas.List.{take_more}
 use Rattle.std.proofs.lemmas.List.Elements.{All-from_recursion}
 use Rattle.std.proofs.lemmas.Cmp.{ranked}
 use Rattle.st_core.specs.declared.types.Pid.{Pid}
-use Rattle.st_core.specs.Pid.{pid_cmp, pid_eq, IsBelow, IsRising}
-use Rattle.st_core.proofs.ForCallers.{pid_eq-swap, IsBelow-trans, IsBelow-apart}
+use Rattle.st_core.specs.Pid.{pid_eq, IsBelow, IsRising}
+use Rattle.st_core.proofs.ForCallers.{pid_eq-swap, IsBelow-apart, rising_at}
 use Rattle.st_world.specs.Rows.{IsNodeRange}
 
 -- what is below another is not the same
@@ -34,62 +34,12 @@ below_node p q below =
     let nodes = ranked p.node q.node (nat_cmp p.node q.node) refl in
     node_by (nat_cmp p.node q.node) (nat_cmp p.number q.number) p.node q.node nodes below
 
-rising_at : (ps : List Pid) (i j : ℕ) (d : Pid)
-    → IsRising ps → i < j → j < length ps → IsBelow (get_or ps i d) (get_or ps j d)
-rising_at [] i j d rising lt h = absurd (omega arith)
-rising_at (p ∷ ps) i zero d rising lt h = absurd (omega arith)
-rising_at (p ∷ ps) zero (suc j) d rising lt h = All-from_recursion (IsBelow p) ps rising.0 j d (omega arith)
-rising_at (p ∷ ps) (suc i) (suc j) d rising lt h = rising_at ps i j d rising.1 (omega arith) (omega arith)
-
 pub nodes_rise : (ps : List Pid) → IsRising ps → IsNonDecreasingBy (λ p. p.node) ps
 nodes_rise ps rising i j d le h =
     elim (cases_eq i j) [
       | inl e ↦ rw e (omega arith)
       | inr ne ↦ below_node (get_or ps i d) (get_or ps j d) (rising_at ps i j d rising (omega (arith, ne)) h)
     ]
-
--- THE TEST WHETHER PIDS RISE
-
-all_above : (p q : Pid) (ps : List Pid) → IsBelow p q → AllByRecursion (IsBelow q) ps → AllByRecursion (IsBelow p) ps
-all_above p q [] below all = tt
-all_above p q (x ∷ xs) below all = (IsBelow-trans p q x below all.0, all_above p q xs below all.1)
-
-next : (k : ℕ) → k + 1 ≡ suc k
-next k = omega arith
-
--- each pid is below its neighbour
-abbrev NeighboursRise : List Pid → Type 0
-NeighboursRise ps = (k : ℕ) (d : Pid) → suc k < length ps → IsBelow (get_or ps k d) (get_or ps (suc k) d)
-
--- so each is below all behind it
-rising_from_neighbours : (ps : List Pid) → NeighboursRise ps → IsRising ps
-rising_from_neighbours [] each = tt
-rising_from_neighbours (p ∷ []) each = (tt, tt)
-rising_from_neighbours (p ∷ q ∷ ps) each =
-    let below : IsBelow p q = each 0 p (omega arith) in
-    let rest : IsRising (q ∷ ps) = rising_from_neighbours (q ∷ ps) (λ k d h. each (suc k) d (omega arith)) in
-    ((below, all_above p q ps below rest.0), rest)
-
-is_lt-Less : (o : Ordering) → true ≡ is_lt o → o ≡ Less
-is_lt-Less Less h = refl
-is_lt-Less Equal h = absurd (cc)
-is_lt-Less Greater h = absurd (cc)
-
--- what `is_sorted_by` answers
-pub rising_from_answer : (ps : List Pid) (r : Bool)
-    → IsAllAdjacentAnswer (λ x y b. b ≡ is_lt (pid_cmp x y)) ps r → IsTrue r ↔ IsRising ps
-rising_from_answer ps true is =
-    let each : NeighboursRise ps =
-    λ k d h. is_lt-Less (pid_cmp (get_or ps k d) (get_or ps (suc k) d)) (rw (← next k) (is k d (omega arith))) in
-    (λ _. rising_from_neighbours ps each, λ _. refl)
-rising_from_answer ps false is = (
-  λ e. absurd (cc),
-  λ rising.
-      let d : Pid = record { node = 0; number = 0 } in
-      let below : pid_cmp (get_or ps is.0 d) (get_or ps (is.0 + 1) d) ≡ Less =
-      rising_at ps is.0 (is.0 + 1) d rising (omega arith) is.1 in
-      absurd (cc (is.2 d, ap is_lt below)),
-)
 
 -- THE NUMBERS OF PIDS
 

@@ -1,26 +1,14 @@
 //! The rows of a world: how they are made, where a pid stands in them, and where the processes of a
 //! node do. The same number stands for one process in each row.
 
-ghost use Rattle.std.specs.Prelude.{◌≡◌, ◌↔◌, nat_le, nat_lt, position, replicate, IfOk, IsTrue};
-ghost use Rattle.std.specs.Ordering.{is_lt};
-ghost use Rattle.st_core.specs.Pid.{pid_cmp, pid_eq, IsRising};
+ghost use Rattle.std.specs.Prelude.{◌≡◌, nat_le, nat_lt, position, replicate, IfOk};
+ghost use Rattle.st_core.specs.Pid.{pid_eq, IsRising};
 ghost use Rattle.st_core.specs.State.{zero_local};
 ghost use Rattle.st_world.specs.Rows.{IsNodeRange};
 
 use indexmap::IndexSet;
 use st_core::{Local, Pid};
 use std::alloc::{AllocError, Global};
-
-/// Whether the pids rise strictly.
-pub(crate) fn is_rising(pids: &[Pid]) -> bool
-    ensures { IsTrue result ↔ IsRising pids.now }
-{
-    pids.is_sorted_by(
-        |before: &Pid, after: &Pid| -> bool
-            ensures { result ≡ is_lt (pid_cmp before.now after.now) }
-        { before < after },
-    )
-}
 
 /// The pids, numbered in their order.
 pub(crate) fn numbered(alloc: Global, pids: &[Pid]) -> Result<IndexSet<Pid>, AllocError>

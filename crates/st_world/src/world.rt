@@ -11,9 +11,9 @@ ghost use Rattle.st_world.specs.World.{IsFault, IsNewFault, IsStep, Rises};
 
 use crate::node::{reset, trace};
 use crate::outcome::{NewFault, StepFault};
-use crate::rows::{is_rising, number_of, numbered, zeros};
+use crate::rows::{number_of, numbered, zeros};
 use indexmap::IndexSet;
-use st_core::{Act, Kind, Local, Message, Pid, Reply, Token, Want};
+use st_core::{Act, Kind, Local, Message, Pid, Reply, Token, Want, is_rising};
 use st_mail::actor::{answer, event, inner, receive, stamped};
 use st_mail::{Mailboxes, Outcome};
 use std::alloc::Global;

@@ -1,11 +1,10 @@
 -- The entry of a reset or a tracer change is legal for each process of the node by the machine's change of it.
-use Rattle.std.proofs.Common.{◌≡◌, sym, ap, ◌<◌, subst}
+use Rattle.std.proofs.Common.{◌≡◌, sym, ap, subst}
 use Rattle.st_core.specs.State.{Process}
 use Rattle.st_core.specs.Step.{reached}
 use Rattle.st_mail.specs.Actor.{process_of}
 use Rattle.st_mail.specs.Mail.{queue_in}
 use Rattle.std.specs.Prelude.{None}
-use Rattle.st_runtime.specs.declared.entry.Entry.{Entry}
 use Rattle.st_runtime.specs.Logs.{last_rank, IsPart}
 use Rattle.st_runtime.specs.Pcb.{Control}
 use Rattle.st_runtime.proofs.LogLemmas.{IsNext, inside_push}

@@ -1,12 +1,12 @@
 -- The sender's part answered what it stamped, and the message that the receiver got carries that token.
-use Rattle.std.proofs.Common.{◌≡◌, ◌≢◌, false, ap, sym, ◌∙◌, arith, ◌++◌, ◌∷◌, [], refl}
+use Rattle.std.proofs.Common.{◌≡◌, false, ap, sym, ◌∙◌, arith, ◌++◌, ◌∷◌, [], refl}
 use Rattle.st_core.specs.Pid.{pid_eq}
 use Rattle.st_mail.specs.Mail.{queue_in}
 use Rattle.st_runtime.specs.Pcb.{Control}
 use Rattle.st_runtime.proofs.LogLemmas.{IsNext}
 use Rattle.st_runtime.proofs.SendLemmas.{IsSent, IsPut, mail, sent_entry, sender_part, sender_inside}
 use Rattle.st_runtime.proofs.SendLemmas.{receiver_part, receiver_inside}
-use Rattle.st_runtime.proofs.StepLemmas.{apart_eq, AreLogged, stepped_between}
+use Rattle.st_runtime.proofs.StepLemmas.{apart_eq, stepped_between}
 use Rattle.st_runtime.proofs.pcb.Pcb.send.Goals as goal
 
 pub invariant_of-from-2 : goal.invariant_of-from-2

@@ -1,6 +1,5 @@
 -- The sender's part answered what it stamped, and the message that was put carries that token.
 use Rattle.std.proofs.Common.{ap, ◌∙◌, arith, ◌++◌, ◌∷◌, [], refl}
-use Rattle.st_mail.specs.Actor.{process_of}
 use Rattle.st_runtime.proofs.LogLemmas.{IsNext}
 use Rattle.st_runtime.proofs.SendLemmas.{IsSent, IsPut, mail, sent_entry, itself_part, itself_inside}
 use Rattle.st_runtime.proofs.pcb.Pcb.send_to_itself.Goals as goal
