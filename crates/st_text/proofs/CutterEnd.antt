@@ -28,6 +28,7 @@ use Rattle.st_text.proofs.Newlines.{spelled_by, no_lines, fault_of_line, fault_t
 use Rattle.st_text.proofs.Newlines.{truncated_nothing, truncated_none}
 use Rattle.st_text.proofs.GoodLines.{count-append, count-cons}
 use Rattle.st_text.proofs.Headers.{spelled_whole, body_fits}
+use Rattle.st_text.specs.Limits.{most_bytes}
 
 -- an answer without want of memory is one
 pub answers : (bytes : List ℕ) (r : Result Bundle ReadFault) → IsAnswer bytes r → Answers bytes r
@@ -45,7 +46,7 @@ answers bytes (Err faults.Truncated) h = h
 -- a fault was met
 pub end_fault : (bytes : List ℕ) (out : Bool) (o : Option ReadFault) (long : Bool) (kept : List ℕ)
     (p : Option BundleBuilder) (f : ReadFault)
-    → out ≡ false → o ≡ Some f → length bytes ≤ 67108864 → HasTakenAs out o bytes long kept p → fault bytes ≡ Some f
+    → out ≡ false → o ≡ Some f → length bytes ≤ most_bytes → HasTakenAs out o bytes long kept p → fault bytes ≡ Some f
 end_fault bytes true o long kept p f eo ef few h = absurd cc
 end_fault bytes false None long kept p f eo ef few h = absurd cc
 end_fault bytes false (Some g) long kept p f eo ef few h =
@@ -69,12 +70,12 @@ kept_some true kept t e h = absurd cc
 kept_some false kept t e h = h
 
 pub end_long : (bytes : List ℕ) (long : Bool) (kept : List ℕ) (p : Option BundleBuilder) → long ≡ true
-    → length bytes ≤ 67108864 → HasTakenAs false None bytes long kept p → fault bytes ≡ Some faults.Truncated
+    → length bytes ≤ most_bytes → HasTakenAs false None bytes long kept p → fault bytes ≡ Some faults.Truncated
 end_long bytes long kept p e few h =
     fault_truncated bytes few h.1.good (truncated_tail bytes (long_some long kept (cut bytes).1 e h.1.tail_is))
 
 pub end_tail : (bytes : List ℕ) (long : Bool) (kept : List ℕ) (p : Option BundleBuilder) → long ≡ false
-    → 0 < length kept → length bytes ≤ 67108864 → HasTakenAs false None bytes long kept p
+    → 0 < length kept → length bytes ≤ most_bytes → HasTakenAs false None bytes long kept p
     → fault bytes ≡ Some faults.Truncated
 end_tail bytes long kept p e some few h =
     fault_truncated bytes few h.1.good (truncated_tail bytes
@@ -85,7 +86,7 @@ none_held None ls e h = h
 none_held (Some p) ls e h = absurd cc
 
 pub end_nothing : (bytes : List ℕ) (long : Bool) (kept : List ℕ) (p : Option BundleBuilder) → p ≡ None
-    → length bytes ≤ 67108864 → HasTakenAs false None bytes long kept p → fault bytes ≡ Some faults.Truncated
+    → length bytes ≤ most_bytes → HasTakenAs false None bytes long kept p → fault bytes ≡ Some faults.Truncated
 end_nothing bytes long kept p e few h =
     fault_truncated bytes few h.1.good (truncated_nothing bytes
     (no_lines bytes (h.1.said ∙ ap (map Some) (none_held p h.0 e h.1.held))))
@@ -126,7 +127,7 @@ acts_are None = refl
 acts_are (Some list) = refl
 
 -- the finished lines are the text of a bundle within the limits
-reads : (bytes : List ℕ) (ls : List Line) (p : BundleBuilder) (b : Bundle) → length bytes ≤ 67108864
+reads : (bytes : List ℕ) (ls : List Line) (p : BundleBuilder) (b : Bundle) → length bytes ≤ most_bytes
     → (cut bytes).1 ≡ [] → sayings bytes ≡ map Some ls → first_fault [] (sayings bytes) ≡ None → IsBuilt p ls
     → IsFinished ls p b → Reads bytes (contents b)
 reads bytes ls p b few over said clean s fin =
@@ -182,7 +183,7 @@ some_held o p ls e h = subst (λ (x : Option BundleBuilder). IsStateAfter x ls) 
 
 pub end_finish : (bytes : List ℕ) (long : Bool) (kept : List ℕ) (o : Option BundleBuilder) (p : BundleBuilder)
     (r : Result Bundle ReadFault)
-    → long ≡ false → kept ≡ [] → o ≡ Some p → length bytes ≤ 67108864
+    → long ≡ false → kept ≡ [] → o ≡ Some p → length bytes ≤ most_bytes
     → ((ls : List Line) → IsBuilt p ls → length ls < 2 ^ 64 → Finishes ls p r)
     → HasTakenAs false None bytes long kept o → IsAnswer bytes r
 end_finish bytes long kept o p r el empty eo few fin h =

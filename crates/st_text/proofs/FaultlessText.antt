@@ -46,6 +46,7 @@ use Rattle.st_text.proofs.ClosingFaults.{place_of, place_or, streams_place, acts
 use Rattle.st_text.proofs.CutterEnd.{all_of, all_events}
 use Rattle.st_text.proofs.GoodText.{process_pids, act_pids}
 use Rattle.st_text.proofs.Bools.{right_of}
+use Rattle.st_text.specs.Limits.{most_bytes}
 
 -- the lines are a header and what these streams and acts spell, within the limits on counts
 pub record Gathered (ls : List Line) : Type 0 where
@@ -424,7 +425,7 @@ is_whole bytes e = by (eqb (length (cut bytes).1) 0) (eqb (length (cut bytes).0)
     by true true x y e = absurd cc
     by false b x y e = absurd cc
 
-bundle_of : (bytes : List ℕ) (ls : List Line) → length bytes ≤ 67108864 → IsWhole bytes → sayings bytes ≡ map Some ls
+bundle_of : (bytes : List ℕ) (ls : List Line) → length bytes ≤ most_bytes → IsWhole bytes → sayings bytes ≡ map Some ls
     → first_fault [] (sayings bytes) ≡ None → closing_fault ls ≡ None → Gathered ls → (c : Contents) × Reads bytes c
 bundle_of bytes ls small whole says clean closed g =
     let c : Contents = record { streams = g.streams; acts = g.acts } in
@@ -466,12 +467,12 @@ bundle_of bytes ls small whole says clean closed g =
 
 pub readable : (bytes : List ℕ) → fault bytes ≡ None → (c : Contents) × Reads bytes c
 unfolding fault
-readable bytes e = by (nat_lt 67108864 (length bytes)) refl e
+readable bytes e = by (nat_lt most_bytes (length bytes)) refl e
   where
     later : Option ReadFault
     later = first_of (truncated bytes) (closing_fault (said (sayings bytes)))
 
-    within : length bytes ≤ 67108864 → first_of (first_fault [] (sayings bytes)) later ≡ None
+    within : length bytes ≤ most_bytes → first_of (first_fault [] (sayings bytes)) later ≡ None
         → (c : Contents) × Reads bytes c
     within small e =
         let p = none_of (first_fault [] (sayings bytes)) later e in
@@ -483,7 +484,7 @@ readable bytes e = by (nat_lt 67108864 (length bytes)) refl e
         ∙ q.1 in
         bundle_of bytes h.more small whole h.says p.0 closed h.gathered
 
-    by : (t : Bool) → nat_lt 67108864 (length bytes) ≡ t
+    by : (t : Bool) → nat_lt most_bytes (length bytes) ≡ t
         → cond t (Some faults.TooLarge) (first_of (first_fault [] (sayings bytes)) later) ≡ None
         → (c : Contents) × Reads bytes c
     by true large e = absurd cc

@@ -47,6 +47,7 @@ use Rattle.st_core.specs.Run.{Stream, pids_of}
 use Rattle.st_text.specs.declared.fault.ReadFault.TheVariants as faults
 use Rattle.st_text.proofs.GoodLines.{Came, events_of, processes_pass, rising_after, next, under, came_acts, acts_pass}
 use Rattle.st_text.proofs.GoodLines.{line_passes}
+use Rattle.st_text.specs.Limits.{most_bytes}
 
 -- ---- no line has a newline in it
 
@@ -358,7 +359,7 @@ text_sound bytes c t =
     let fits : AllByRecursion Fits (lines_of c) = (tt, b.fits) in
     let says : sayings bytes ≡ map Some (lines_of c) = ap sayings t.text.spelled ∙ sayings_spelled (lines_of c) fits in
     let cuts : cut bytes ≡ (map line (lines_of c), []) = ap cut t.text.spelled ∙ cut_spelled (lines_of c) fits in
-    let small : length bytes ≤ 67108864 = omega (arith, ap length t.text.spelled, t.within.bytes) in
+    let small : length bytes ≤ most_bytes = omega (arith, ap length t.text.spelled, t.within.bytes) in
     fault_at_end bytes (lines_of c) small (ap (first_fault []) says ∙ lines_sound c b t.within)
     (truncated_none bytes (ap (λ (x : List (List ℕ) × List ℕ). x.1) cuts)
     (omega (arith, ap (λ (x : List (List ℕ) × List ℕ). length x.0) cuts))) says

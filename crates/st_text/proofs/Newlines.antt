@@ -15,6 +15,7 @@ use Rattle.st_text.specs.Text.{ended}
 use Rattle.st_text.proofs.LineLemmas.{line_takes}
 use Rattle.st_text.specs.Fault.{cut, onto_first, sayings, first_fault, line_fault, first_of, fault, truncated}
 use Rattle.st_text.specs.Fault.{closing_fault, said}
+use Rattle.st_text.specs.Limits.{most_bytes}
 
 abbrev Cut : Type 0
 Cut = List (List ℕ) × List ℕ
@@ -153,24 +154,24 @@ no_lines bytes e = sym (length-map (cut bytes).0 line_of) ∙ ap length e
 
 -- ---- what the whole of the bytes answers
 
-pub fault_too_large : (bytes : List ℕ) → 67108864 < length bytes → fault bytes ≡ Some faults.TooLarge
+pub fault_too_large : (bytes : List ℕ) → most_bytes < length bytes → fault bytes ≡ Some faults.TooLarge
 unfolding fault
-fault_too_large bytes large = let t : nat_lt 67108864 (length bytes) ≡ true = grind (arith, nat_tests) in rw t refl
+fault_too_large bytes large = let t : nat_lt most_bytes (length bytes) ≡ true = grind (arith, nat_tests) in rw t refl
 
-small_test : (bytes : List ℕ) → length bytes ≤ 67108864 → nat_lt 67108864 (length bytes) ≡ false
+small_test : (bytes : List ℕ) → length bytes ≤ most_bytes → nat_lt most_bytes (length bytes) ≡ false
 small_test bytes small = grind (arith, nat_tests)
 
-pub fault_of_line : (bytes : List ℕ) (f : ReadFault) → length bytes ≤ 67108864
+pub fault_of_line : (bytes : List ℕ) (f : ReadFault) → length bytes ≤ most_bytes
     → first_fault [] (sayings bytes) ≡ Some f → fault bytes ≡ Some f
 unfolding fault
 fault_of_line bytes f small e = rw (small_test bytes small, e) refl
 
-pub fault_truncated : (bytes : List ℕ) → length bytes ≤ 67108864 → first_fault [] (sayings bytes) ≡ None
+pub fault_truncated : (bytes : List ℕ) → length bytes ≤ most_bytes → first_fault [] (sayings bytes) ≡ None
     → truncated bytes ≡ Some faults.Truncated → fault bytes ≡ Some faults.Truncated
 unfolding fault
 fault_truncated bytes small e t = rw (small_test bytes small, e) (rw t refl)
 
-pub fault_at_end : (bytes : List ℕ) (ls : List Line) → length bytes ≤ 67108864 → first_fault [] (sayings bytes) ≡ None
+pub fault_at_end : (bytes : List ℕ) (ls : List Line) → length bytes ≤ most_bytes → first_fault [] (sayings bytes) ≡ None
     → truncated bytes ≡ None → sayings bytes ≡ map Some ls → fault bytes ≡ closing_fault ls
 unfolding fault
 fault_at_end bytes ls small e t says =

@@ -15,6 +15,7 @@ use Rattle.st_text.specs.Growth.{Grows}
 use Rattle.st_text.specs.Fed.{IsFed, refusal}
 use Rattle.st_text.specs.Reads.{HadGrowth}
 use Rattle.st_text.proofs.TextFaults.{no_memory}
+use Rattle.st_text.specs.Limits.{most_bytes}
 
 pub record IsReading {S : Type 0} (gives : S → List ℕ → S → Type 0) (failed : S → Bool) (old now : S) (feed : Feed)
     (count : ℕ) (buffer : List ℕ) : Type 0 where
@@ -73,7 +74,7 @@ growth_after gives old now next bytes piece (Some f) is row call before here aga
 -- an answer of Memory at the end is that of the feed
 pub growth_at_end : {S : Type 0} (gives : S → List ℕ → S → Type 0) (old : S) (bytes : List ℕ) (was : Option ReadFault)
     (r : Result Bundle ReadFault)
-    → length bytes ≤ 67108864 → (was ≡ Some faults.Memory → HadGrowth gives bytes old)
+    → length bytes ≤ most_bytes → (was ≡ Some faults.Memory → HadGrowth gives bytes old)
     → (was ≡ None → IsAnswer bytes r)
     → ((f : ReadFault) → was ≡ Some f → r ≡ Err f) → r ≡ Err faults.Memory → HadGrowth gives bytes old
 growth_at_end gives old bytes None r small before exact again e = absurd (no_memory bytes r small (exact refl) e)

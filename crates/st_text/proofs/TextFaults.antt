@@ -15,6 +15,7 @@ use Rattle.st_text.specs.Fault.{is_unknown, unknown_from, closing_fault, fault, 
 use Rattle.st_text.specs.Text.{is_remote}
 use Rattle.st_text.specs.Answer.{IsAnswer}
 use Rattle.st_text.specs.Reads.{Ends, ReadsAs}
+use Rattle.st_text.specs.Limits.{most_bytes}
 
 abbrev pub OfText : ReadFault → Type 0
 OfText faults.Memory = ⊥
@@ -61,10 +62,10 @@ unfolding unknown_from
 unknown_of_text ps n [] = tt
 unknown_of_text ps n (l ∷ ls) = test_of (is_unknown ps l) _ _ tt (unknown_of_text ps (n + 1) ls)
 
-whole_of_text : (bytes : List ℕ) → length bytes ≤ 67108864 → AllOfText (fault bytes)
+whole_of_text : (bytes : List ℕ) → length bytes ≤ most_bytes → AllOfText (fault bytes)
 unfolding fault
 whole_of_text bytes small =
-    let t : nat_lt 67108864 (length bytes) ≡ false = grind (arith, nat_tests) in
+    let t : nat_lt most_bytes (length bytes) ≡ false = grind (arith, nat_tests) in
     let ls = said (sayings bytes) in
     rw t (either_of (first_fault [] (sayings bytes)) _ (first_of_text [] (sayings bytes))
     (either_of (truncated bytes) (closing_fault (said (sayings bytes)))
@@ -73,13 +74,13 @@ whole_of_text bytes small =
     (test_of (list_any is_wide (said (sayings bytes)) && not (list_any is_remote (said (sayings bytes)))) _ _ tt
     tt) (unknown_of_text (pids (said (sayings bytes))) 1 (said (sayings bytes))))))
 
-of_text : (bytes : List ℕ) (f : ReadFault) → length bytes ≤ 67108864 → fault bytes ≡ Some f → OfText f
+of_text : (bytes : List ℕ) (f : ReadFault) → length bytes ≤ most_bytes → fault bytes ≡ Some f → OfText f
 of_text bytes f small e = let P : Option ReadFault → Type 0 = AllOfText in subst P e (whole_of_text bytes small)
 
 -- the answer at the source's end
 pub reads_end : {S : Type 0} (ended : S → Type 0) (failed : S → Bool) (bytes : List ℕ) (old new : S)
     (r : Result Bundle ReadFault)
-    → length bytes ≤ 67108864 → Ends ended failed bytes old new r → ReadsAs ended failed bytes old new r
+    → length bytes ≤ most_bytes → Ends ended failed bytes old new r → ReadsAs ended failed bytes old new r
 reads_end ended failed bytes old new (Ok b) small e = e
 reads_end ended failed bytes old new (Err faults.Memory) small e = e
 reads_end ended failed bytes old new (Err faults.Device) small e = absurd (of_text bytes faults.Device small e.answer)
@@ -93,7 +94,7 @@ reads_end ended failed bytes old new (Err (faults.TooMany n)) small e = e
 reads_end ended failed bytes old new (Err faults.Truncated) small e = e
 
 -- no text has Memory for its fault
-pub no_memory : (bytes : List ℕ) (r : Result Bundle ReadFault) → length bytes ≤ 67108864 → IsAnswer bytes r
+pub no_memory : (bytes : List ℕ) (r : Result Bundle ReadFault) → length bytes ≤ most_bytes → IsAnswer bytes r
     → r ≡ Err faults.Memory → ⊥
 no_memory bytes (Ok b) small h e = absurd cc
 no_memory bytes (Err f) small h e =

@@ -10,6 +10,7 @@ use Rattle.st_text.proofs.Puts.{put_none}
 use Rattle.st_text.proofs.TextFaults.{reads_end}
 use Rattle.st_text.proofs.ReaderSteps.{growth_after, growth_at_end, never_fresh}
 use Rattle.st_text.proofs.reader.read.Goals as goal
+use Rattle.st_text.specs.Limits.{most_bytes}
 
 pub loop-count-init : goal.loop-count-init
 loop-count-init g c =
@@ -77,7 +78,7 @@ returns-in-Ok-eq0 g c =
     let room : 0 < length piece = omega (arith, c.take.auto.piece, c.min-room.ensures, asked, i.size) in
     let zero = c.in-Ok-eq0.field-0-test in
     let none = subst (λ (k : ℕ). gives c.loop-count.source (take k piece) c.take.new.self) zero e.given in
-    let small : length i.bytes ≤ 67108864 = omega (arith, i.counted) in
+    let small : length i.bytes ≤ most_bytes = omega (arith, i.counted) in
     record {
       bytes = i.bytes;
       given = put_none gives _ _ _ i.bytes i.given none;
