@@ -2,7 +2,7 @@
 
 ghost use Rattle.std.specs.Prelude.{◌≡◌, ◌≤◌, length, is_some, nat_lt, slice_get, Some, IfSome};
 ghost use Rattle.st_core.specs.Collected.{is_among};
-ghost use Rattle.st_core.specs.Pid.{IsRising};
+ghost use Rattle.st_core.specs.Pid.{node_of, IsRising};
 
 use st_core::Pid;
 
@@ -21,7 +21,7 @@ pub fn first_on(pids: &[Pid], node: u16) -> usize
 {
     pids.partition_point(
         |pid: &Pid| -> bool
-            ensures { result ≡ nat_lt pid.now.node node }
+            ensures { result ≡ nat_lt (node_of pid.now) node }
         { pid.node() < node },
     )
 }

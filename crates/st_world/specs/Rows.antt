@@ -2,7 +2,7 @@
 use Rattle.std.specs.Prelude.{◌≡◌, ℕ, ◌<◌, ◌≤◌, List, [], ◌∷◌, length, slice_index_or, All}
 use Rattle.st_core.specs.declared.types.Pid.{Pid}
 use Rattle.st_core.specs.declared.types.Message.{Message}
-use Rattle.st_core.specs.Pid.{IsRising}
+use Rattle.st_core.specs.Pid.{node_of, IsRising}
 use Rattle.st_core.specs.State.{LocalState, State}
 use Rattle.st_core.specs.Laws.{IsSound}
 use Rattle.st_mail.specs.Actor.{process_of}
@@ -27,6 +27,6 @@ pub record AreRows (top : ℕ) (pids : List Pid) (locals : List LocalState) (que
 pub record IsNodeRange (node : ℕ) (pids : List Pid) (start end : ℕ) : Type 0 where
   pub ends : start ≤ end
   pub within : end ≤ length pids
-  pub before : (i : ℕ) (d : Pid) → i < start → (slice_index_or pids i d).node < node
-  pub on : (i : ℕ) (d : Pid) → start ≤ i → i < end → (slice_index_or pids i d).node ≡ node
-  pub after : (i : ℕ) (d : Pid) → end ≤ i → i < length pids → node < (slice_index_or pids i d).node
+  pub before : (i : ℕ) (d : Pid) → i < start → node_of (slice_index_or pids i d) < node
+  pub on : (i : ℕ) (d : Pid) → start ≤ i → i < end → node_of (slice_index_or pids i d) ≡ node
+  pub after : (i : ℕ) (d : Pid) → end ≤ i → i < length pids → node < node_of (slice_index_or pids i d)

@@ -2,7 +2,7 @@
 //! node do. The same number stands for one process in each row.
 
 ghost use Rattle.std.specs.Prelude.{◌≡◌, nat_le, nat_lt, position, replicate, IfOk};
-ghost use Rattle.st_core.specs.Pid.{pid_eq, IsRising};
+ghost use Rattle.st_core.specs.Pid.{node_of, pid_eq, IsRising};
 ghost use Rattle.st_core.specs.State.{zero_local};
 ghost use Rattle.st_world.specs.Rows.{IsNodeRange};
 
@@ -52,12 +52,12 @@ pub(crate) fn node_range(pids: &[Pid], node: u16) -> (usize, usize)
 {
     let start = pids.partition_point(
         |pid: &Pid| -> bool
-            ensures { result ≡ nat_lt pid.now.node node }
+            ensures { result ≡ nat_lt (node_of pid.now) node }
         { pid.node() < node },
     );
     let end = pids.partition_point(
         |pid: &Pid| -> bool
-            ensures { result ≡ nat_le pid.now.node node }
+            ensures { result ≡ nat_le (node_of pid.now) node }
         { pid.node() <= node },
     );
     (start, end)
