@@ -1,5 +1,5 @@
--- A stable sort keeps the first row of each key, and a search by halves in the sorted rows finds it.
-use Rattle.std.proofs.Common.{◌≡◌, ℕ, ◌<◌, ◌≤◌, ◌==◌, ◌&&◌, not, zero, suc, Bool, true, false, cond}
+-- A stable sort keeps the first row of each key, and it stands where the lesser keys of the sorted rows end.
+use Rattle.std.proofs.Common.{◌≡◌, ℕ, ◌<◌, ◌≤◌, ◌-◌, ◌==◌, ◌&&◌, not, zero, suc, Bool, true, false, cond}
 use Rattle.std.proofs.Common.{List, [], ◌∷◌, length, get_or, Option, None, Some, find, filter, option_map}
 use Rattle.std.proofs.Common.{option_and_then, slice_get, refl, sym, ◌∙◌, ap, arith}
 use Rattle.std.specs.List.{AllWithin}
@@ -12,11 +12,12 @@ use Rattle.std.specs.Ordering.{nat_cmp, ordering_then, ordering_reverse, orderin
 use Rattle.std.proofs.lemmas.Bool.Decides.{nat_tests}
 use Rattle.std.proofs.lemmas.Cmp.{nat_cmp_total, on_total, then_total}
 use Rattle.std.proofs.lemmas.List.Sorted.{searchable_from_sorted}
+use Rattle.std.proofs.lemmas.Option.{get_or_from_slice_get, slice_get_within}
 use Rattle.st_core.specs.declared.types.Pid.{Pid}
 use Rattle.st_core.specs.Pid.{pid_eq, pid_cmp}
 use Rattle.st_pair.specs.declared.tables.Key.{Key}
 use Rattle.st_pair.specs.declared.tables.Row.{Row}
-use Rattle.st_pair.specs.Tables.{key_eq, key_cmp, key_of, place_in, place_under}
+use Rattle.st_pair.specs.Tables.{AreBelow, AreNotBelow, is_below, key_eq, key_cmp, key_of, place_in, place_under}
 use Rattle.st_pair.proofs.Noted.{row_place}
 
 -- KEYS
@@ -178,3 +179,21 @@ module _ (k : Key) where
   lesser_first rows sorted i j d le within less =
       less_first (key_cmp (key_of (get_or rows i d)) k) (key_cmp (key_of (get_or rows j d)) k)
       (rank_rises rows sorted i j d le within) less
+
+  -- before a row with a lesser key stand only such
+  pub below : (rows : List Row) (i before : ℕ) (r : Row) → IsSortedByKey key_of key_cmp rows
+      → slice_get rows before ≡ Some r → before ≡ i - 1 → is_below k r ≡ true → AreBelow k rows i
+  below rows i before r sorted at last less j d low high =
+      lesser_first rows sorted j before d (omega arith) (slice_get_within rows before r at)
+      (ap (is_below k) (get_or_from_slice_get rows before r d at) ∙ less)
+
+  -- and after one without, none
+  pub not_below : (rows : List Row) (i : ℕ) (r : Row) → IsSortedByKey key_of key_cmp rows
+      → slice_get rows i ≡ Some r → not (is_below k r) ≡ true → AreNotBelow k rows i
+  not_below rows i r sorted at least j d low high =
+      elim (is_below k (get_or rows j d)) as (λ b. is_below k (get_or rows j d) ≡ b → b ≡ false) [
+        | true ↦ λ less.
+            let first = lesser_first rows sorted i j d low high less in
+            sym least ∙ ap not (sym (ap (is_below k) (get_or_from_slice_get rows i r d at)) ∙ first)
+        | false ↦ λ less. refl
+      ] refl

@@ -1,10 +1,11 @@
 -- Tables from a sender and a count to the first event that has them.
 use Rattle.std.specs.Prelude.{◌≡◌, ℕ, ◌==◌, ◌&&◌, ◌||◌, not, nat_lt, Bool, List, Option, Some, None, if◌then◌else◌}
-use Rattle.std.specs.Prelude.{option_map, find, option_and_then}
+use Rattle.std.specs.Prelude.{true, false, length, option_map, find, option_and_then}
+use Rattle.std.specs.List.{AllWithin}
 use Rattle.st_core.specs.declared.types.Pid.{Pid}
 use Rattle.st_core.specs.declared.types.Event.{Event}
 use Rattle.std.specs.declared.cmp.Ordering.{Ordering}
-use Rattle.std.specs.Ordering.{nat_cmp, ordering_then}
+use Rattle.std.specs.Ordering.{nat_cmp, ordering_then, is_lt}
 use Rattle.st_core.specs.Pid.{pid_eq, pid_cmp}
 use Rattle.st_pair.specs.declared.tables.Key.{Key}
 use Rattle.st_pair.specs.declared.tables.Row.{Row}
@@ -25,6 +26,18 @@ key_cmp k l = ordering_then (nat_cmp k.this l.this) (pid_cmp k.from l.from)
 -- the sender and count of a row
 abbrev pub key_of : Row → Key
 key_of r = record { from = r.from; this = r.this }
+
+-- the key of the row is less than k
+abbrev pub is_below : Key → Row → Bool
+is_below k r = is_lt (key_cmp (key_of r) k)
+
+-- the rows before index i have lesser keys than k
+abbrev pub AreBelow : Key → List Row → ℕ → Type 0
+AreBelow k rows i = AllWithin (λ r. is_below k r ≡ true) rows 0 i
+
+-- no row from index i on has a lesser key than k
+abbrev pub AreNotBelow : Key → List Row → ℕ → Type 0
+AreNotBelow k rows i = AllWithin (λ r. is_below k r ≡ false) rows i (length rows)
 
 -- the place in the first row with this key
 abbrev pub place_in : List Row → Key → Option (Pid × ℕ)

@@ -7,6 +7,7 @@
 #![tactic(auto)]
 
 mod answer;
+mod guesses;
 pub mod laws;
 mod pairing;
 mod rules;

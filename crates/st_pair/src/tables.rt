@@ -1,16 +1,17 @@
 //! Tables from a sender and a count to the place of the first event that has them.
 //!
-//! A table is a list of rows that a stable sort put in order: 24 bytes a row and no gaps, where a
-//! hash table of the same keys takes twice as much.
+//! A table is a list of rows that a stable sort put in order, 24 bytes a row and no gaps, and
+//! guesses where a key stands in it, at most 8 bytes a row. A hash table of the same keys takes more.
 
-ghost use Rattle.std.specs.Prelude.{◌≡◌, IfOk, OnOk, option_and_then, slice_get};
+ghost use Rattle.std.specs.Prelude.{◌≡◌, ◌≤◌, IfOk, IsTrue, OnOk, length, option_and_then, slice_get};
 ghost use Rattle.std.specs.List.Sorted.{IsSortedByKey};
 ghost use Rattle.st_core.specs.Run.{Stream};
 ghost use Rattle.st_pair.specs.declared.tables.Key.{Key as KeyValue};
 ghost use Rattle.st_pair.specs.Places.{first_from};
-ghost use Rattle.st_pair.specs.Tables.{HasReceives, HasStamps, here, key_cmp, key_of, or_else, place_in};
-ghost use Rattle.st_pair.specs.Tables.{place_under, receive_rule, stamp_rule};
+ghost use Rattle.st_pair.specs.Tables.{AreBelow, AreNotBelow, HasReceives, HasStamps, here, is_below, key_cmp, key_of};
+ghost use Rattle.st_pair.specs.Tables.{or_else, place_in, place_under, receive_rule, stamp_rule};
 
+use crate::guesses::Guesses;
 use st_core::{Event, Kind, Pid, Streams};
 use std::alloc::{AllocError, Global};
 use std::marker::Model;
@@ -40,13 +41,20 @@ pub struct Row {
 
 impl Row {
     /// Its sender and count.
-    fn key(&self) -> Key
+    pub fn key(&self) -> Key
         ensures { result ≡ key_of self.now }
     {
         Key {
             from: self.from,
             this: self.this,
         }
+    }
+
+    /// Whether its key is less than this one.
+    fn is_below(&self, key: Key) -> bool
+        ensures { result ≡ is_below key self.now }
+    {
+        self.key().cmp(&key).is_lt()
     }
 
     /// Its place, if this is its key.
@@ -65,6 +73,7 @@ impl Row {
 #[derive(Debug, Drop)]
 pub struct Table {
     rows: Vec<Row>,
+    guesses: Guesses,
 }
 
 impl Model for Table {
@@ -86,7 +95,8 @@ impl Table {
         ensures { IfOk result (λ table. (k : KeyValue) → place_in table k ≡ place_in rows.items k) }
     {
         rows.sort_by_key(|row| row.key())?;
-        Ok(Table { rows })
+        let guesses = Guesses::new(*rows.allocator(), &rows)?;
+        Ok(Table { rows, guesses })
     }
 
     /// The place of the first event with this sender and count, if there is one.
@@ -94,7 +104,7 @@ impl Table {
         ensures { result ≡ place_in self.now (record { from = from; this = this }) }
     {
         let key = Key { from, this };
-        let start = start_of(&self.rows, key);
+        let start = start_of(&self.rows, &self.guesses, key);
         match row_at(&self.rows, start) {
             None => None,
             Some(row) => row.place_under(key),
@@ -102,12 +112,47 @@ impl Table {
     }
 }
 
-/// Where the rows with this key begin, or would: a search by halves.
-fn start_of(rows: &[Row], key: Key) -> usize
+/// How many rows from a guess on are tried, since a few keys may share its slot.
+const TRIES: usize = 4;
+
+/// Where the rows with this key begin, or would: by a guess, else a search by halves.
+fn start_of(rows: &[Row], guesses: &Guesses, key: Key) -> usize
     requires { IsSortedByKey key_of key_cmp rows.now }
     ensures { place_in rows.now key ≡ option_and_then (place_under key) (slice_get rows.now result) }
 {
-    rows.partition_point(|row| row.key().cmp(&key).is_lt())
+    let guess = guesses.start_of(key).min(rows.len());
+    for start in guess..guess.saturating_add(TRIES) {
+        if ends_below(rows, key, start) && begins_above(rows, key, start) {
+            return start;
+        }
+    }
+    rows.partition_point(|row| row.is_below(key))
+}
+
+/// Whether the row before this index has a lesser key, if there is one.
+fn ends_below(rows: &[Row], key: Key, start: usize) -> bool
+    requires { IsSortedByKey key_of key_cmp rows.now }
+    ensures below { IsTrue result → AreBelow key rows.now start }
+    ensures within { IsTrue result → start ≤ length rows.now }
+{
+    match start.checked_sub(1) {
+        None => true,
+        Some(before) => match row_at(rows, before) {
+            None => false,
+            Some(row) => row.is_below(key),
+        },
+    }
+}
+
+/// Whether the row at this index has no lesser key, if there is one.
+fn begins_above(rows: &[Row], key: Key, start: usize) -> bool
+    requires { IsSortedByKey key_of key_cmp rows.now }
+    ensures { IsTrue result → AreNotBelow key rows.now start }
+{
+    match row_at(rows, start) {
+        None => true,
+        Some(row) => !row.is_below(key),
+    }
 }
 
 /// The row at an index, if there is one.
