@@ -1,6 +1,6 @@
 -- What is found for one event more, and one process more.
 use Rattle.std.proofs.Common.{◌≡◌, ℕ, ◌+◌, ◌<◌, zero, suc, List, [], ◌∷◌, ◌++◌, length, map, take, drop, get_or}
-use Rattle.std.proofs.Common.{Option, None, Some, slice_get, option_and_then, refl, sym, ◌∙◌, ap, subst, arith}
+use Rattle.std.proofs.Common.{Option, Some, slice_get, option_and_then, refl, sym, ◌∙◌, ap, subst, arith}
 use Rattle.std.proofs.Common.{append_assoc, Bool, false, cond}
 use Rattle.std.specs.List.{AllByRecursion}
 use Rattle.std.proofs.lemmas.Option.{same_Some}
@@ -9,7 +9,7 @@ use Rattle.st_core.specs.declared.types.Event.{Event}
 use Rattle.st_core.specs.Pid.{pid_eq, IsRising}
 use Rattle.st_core.specs.Run.{Stream, pids_of}
 use Rattle.st_core.specs.Streams.{events_of, stream_of}
-use Rattle.st_pair.proofs.ForCallers.{is_at, at_get_or, events_in}
+use Rattle.st_pair.proofs.ForCallers.{is_at, at_get_or, events_in, take_map}
 use Rattle.st_chain.specs.Causes.{received_before, backs_from}
 
 backs_at : (all : List Event) (i k : ℕ) (es : List Event) (e : Event) → slice_get es k ≡ Some e
@@ -29,12 +29,6 @@ backs_passed es i e before total x at is far =
     ∙ ap (λ (y : Option ℕ). before ++ y ∷ backs_from es (i + 1) (drop (i + 1) es)) is
     ∙ ap (λ (n : ℕ). before ++ received_before es e.serial.prev i ∷ backs_from es (i + 1) (drop n es)) next
     ∙ ap (λ (l : List (Option ℕ)). before ++ l) (sym (backs_at es i i es e at)) ∙ far
-
-take_map : {A B : Type 0} (f : A → B) (xs : List A) (k : ℕ) (x : A) → slice_get xs k ≡ Some x
-    → map f (take (suc k) xs) ≡ map f (take k xs) ++ f x ∷ []
-take_map f [] k x at = absurd (cc)
-take_map f (y ∷ xs) zero x at = ap (λ z. f z ∷ []) (same_Some y x at)
-take_map f (y ∷ xs) (suc k) x at = ap (λ zs. f y ∷ zs) (take_map f xs k x at)
 
 abbrev pub all_backs : List Stream → List (List (Option ℕ))
 all_backs streams = map (λ s. backs_from s.events 0 s.events) streams

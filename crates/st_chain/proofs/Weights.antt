@@ -1,9 +1,9 @@
 -- The way back ends: a cause has a smaller count, or the same and is a send.
 use Rattle.std.proofs.Common.{◌≡◌, ℕ, ◌+◌, ◌*◌, ◌<◌, ◌==◌, ◌&&◌, not, zero, suc, Bool, true, false, cond}
-use Rattle.std.proofs.Common.{if◌then◌else◌, List, [], ◌∷◌, ◌++◌, Option, None, Some, slice_get, option_map, refl}
-use Rattle.std.proofs.Common.{sym, ◌∙◌, ap, subst, arith, append_assoc}
+use Rattle.std.proofs.Common.{if◌then◌else◌, List, [], ◌∷◌, Option, None, Some, slice_get, option_map, refl}
+use Rattle.std.proofs.Common.{sym, ◌∙◌, ap, arith}
 use Rattle.std.proofs.lemmas.Bool.{eqb-true, and_parts}
-use Rattle.std.proofs.lemmas.Option.{same_Some, none-some}
+use Rattle.std.proofs.lemmas.Option.{same_Some}
 use Rattle.st_core.specs.declared.types.Pid.{Pid}
 use Rattle.st_core.specs.declared.types.Event.{Event}
 use Rattle.st_core.specs.Run.{Stream}
@@ -15,10 +15,8 @@ use Rattle.st_pair.specs.Tables.{or_else}
 use Rattle.st_pair.proofs.ForCallers.{own_rule}
 use Rattle.st_pair.proofs.ForCallers.{stamp_at}
 use Rattle.st_pair.proofs.ForCallers.{IsPaired, paired, serial_rises}
-use Rattle.st_chain.specs.declared.cause.Cause.{Cause}
-use Rattle.st_chain.specs.declared.cause.Cause.TheVariants as cause
-use Rattle.st_chain.specs.Causes.{received_before, of_source, of_receive, cause_by, cause_at, event_in, IsBackFrom}
-use Rattle.st_chain.specs.Causes.{place_at, weight, far}
+use Rattle.st_chain.specs.Causes.{received_before, of_source, of_receive, cause_by, cause_at, event_in}
+use Rattle.st_chain.specs.Causes.{weight, far}
 
 record IsReceive (es : List Event) (this j : ℕ) : Type 0 where
   event : Event

@@ -1,14 +1,13 @@
 -- What a rule gives first, at a loop's index and in what is left.
 use Rattle.std.proofs.Common.{◌≡◌, ℕ, ◌+◌, ◌<◌, zero, suc, List, [], ◌∷◌, length, get_or, drop, Option, None, Some}
-use Rattle.std.proofs.Common.{slice_get, refl, sym, ◌∙◌, ap, subst, arith, false, add-one}
-use Rattle.std.specs.List.{AllByRecursion}
+use Rattle.std.proofs.Common.{slice_get, refl, sym, ◌∙◌, ap, subst, arith, add-one}
 use Rattle.std.proofs.lemmas.Option.{same_Some}
 use Rattle.st_core.specs.declared.types.Pid.{Pid}
 use Rattle.st_core.specs.declared.types.Event.{Event}
-use Rattle.st_core.specs.Pid.{pid_eq, IsBelow, IsRising}
+use Rattle.st_core.specs.Pid.{IsRising}
 use Rattle.st_core.specs.Run.{Stream, pids_of}
 use Rattle.st_core.specs.Streams.{stream_of, events_of}
-use Rattle.st_core.proofs.ForCallers.{pid_eq-same, IsBelow-apart, all_at}
+use Rattle.st_core.proofs.ForCallers.{above_apart, pid_eq-same}
 use Rattle.st_pair.specs.Places.{first_from, first}
 use Rattle.st_pair.specs.Tables.{or_else}
 use Rattle.st_pair.proofs.Noted.{or_assoc}
@@ -47,10 +46,6 @@ pub record IsAt (streams : List Stream) (k : ℕ) (p : Pid) : Type 0 where
   pub at : slice_get streams k ≡ Some stream
   pub pid : stream.pid ≡ p
   pub found : stream_of streams p ≡ Some stream
-
-above_apart : (ps : List Pid) (q p : Pid) (i : ℕ) → AllByRecursion (IsBelow q) ps → slice_get ps i ≡ Some p
-    → pid_eq q p ≡ false
-above_apart ps q p i all at = IsBelow-apart q p (all_at (IsBelow q) ps i p all at)
 
 pub is_at : (streams : List Stream) (k : ℕ) (p : Pid) → IsRising (pids_of streams)
     → slice_get (pids_of streams) k ≡ Some p → IsAt streams k p

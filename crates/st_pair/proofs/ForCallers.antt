@@ -14,3 +14,4 @@ pub use Rattle.st_pair.proofs.Converse.{IsGiven, given_from, given_at}
 -- ---- streams and their pids
 pub use Rattle.st_pair.proofs.Firsts.{IsAt, is_at, at_get_or, events_in}
 pub use Rattle.st_pair.proofs.Ruled.{blank}
+pub use Rattle.st_pair.proofs.Linkage.{take_map}

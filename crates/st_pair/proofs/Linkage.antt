@@ -8,10 +8,10 @@ use Rattle.std.proofs.lemmas.Option.{same_Some}
 use Rattle.st_core.specs.declared.types.Pid.{Pid}
 use Rattle.st_core.specs.declared.types.Kind.TheVariants as kind
 use Rattle.st_core.specs.declared.types.Event.{Event}
-use Rattle.st_core.specs.Pid.{pid_eq, IsBelow, IsRising}
+use Rattle.st_core.specs.Pid.{pid_eq, IsRising}
 use Rattle.st_core.specs.Run.{Stream, pids_of}
 use Rattle.st_core.specs.Streams.{events_of, stream_of}
-use Rattle.st_core.proofs.ForCallers.{pid_eq-true, pid_eq-same, IsBelow-apart, all_at}
+use Rattle.st_core.proofs.ForCallers.{above_apart, pid_eq-true, pid_eq-same}
 use Rattle.st_pair.specs.declared.answer.Source.{Source}
 use Rattle.st_pair.specs.declared.pairing.Link.{Link}
 use Rattle.st_pair.specs.Places.{event_at, is_stamp}
@@ -27,10 +27,6 @@ pub row_missing : (ps : List Pid) (ls : List (List Link)) (p : Pid) → AllByRec
 row_missing [] ls p all = refl
 row_missing (q ∷ ps) [] p all = refl
 row_missing (q ∷ ps) (l ∷ ls) p all = rw all.0 (row_missing ps ls p all.1)
-
-above_apart : (ps : List Pid) (q p : Pid) (i : ℕ) → AllByRecursion (IsBelow q) ps → slice_get ps i ≡ Some p
-    → pid_eq q p ≡ false
-above_apart ps q p i all at = IsBelow-apart q p (all_at (IsBelow q) ps i p all at)
 
 pub row_found : (ps : List Pid) (ls : List (List Link)) (p : Pid) (i : ℕ) → length ls ≡ length ps → IsRising ps
     → slice_get ps i ≡ Some p → find (λ (x : Linked). pid_eq x.pid p) (rows ps ls)
@@ -73,7 +69,7 @@ links_even all (s ∷ streams) = let rest = links_even all streams in omega arit
 
 -- ONE PROCESS MORE
 
-take_map : {A B : Type 0} (f : A → B) (xs : List A) (k : ℕ) (x : A) → slice_get xs k ≡ Some x
+pub take_map : {A B : Type 0} (f : A → B) (xs : List A) (k : ℕ) (x : A) → slice_get xs k ≡ Some x
     → map f (take (suc k) xs) ≡ map f (take k xs) ++ f x ∷ []
 take_map f [] k x at = absurd (cc)
 take_map f (y ∷ xs) zero x at = ap (λ z. f z ∷ []) (same_Some y x at)
