@@ -191,9 +191,9 @@ impl BundleBuilder {
         Step::Goes
     }
 
-    /// Takes a line.
+    /// Accepts a line.
     #[inline(always)]
-    fn take_line(&mut self, line: &Line) -> Step
+    fn accept_line(&mut self, line: &Line) -> Step
         ensures { (ls : List Line) → IsBuilt self.old ls → Takes ls line.now self.new result }
     {
         match line {
@@ -205,13 +205,13 @@ impl BundleBuilder {
         }
     }
 
-    /// Takes the next line, or bytes that say none.
+    /// Accepts the next line, or bytes that say none.
     #[inline(always)]
-    pub(crate) fn take(&mut self, said: &Option<Line>) -> Step
+    pub(crate) fn accept(&mut self, said: &Option<Line>) -> Step
         ensures { (ls : List Line) → IsBuilt self.old ls → TakesLine ls said.now self.new result }
     {
         match said {
-            Some(line) => self.take_line(line),
+            Some(line) => self.accept_line(line),
             None => Step::Stops(ReadFault::Line(self.lines + 1)),
         }
     }

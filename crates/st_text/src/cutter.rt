@@ -50,13 +50,13 @@ fn header_of(said: &Option<Line>) -> Option<bool>
     }
 }
 
-/// Takes the next line, or bytes that say none. The first has to be a header.
+/// Passes the next line on to the builder, or bytes that say none. The first has to be a header.
 #[inline(always)]
-fn take_said(alloc: Global, builder: &mut Option<BundleBuilder>, said: &Option<Line>) -> Step
+fn pass_on(alloc: Global, builder: &mut Option<BundleBuilder>, said: &Option<Line>) -> Step
     ensures { (ls : List Line) → IsStateAfter builder.old ls → TakesSaid ls said.now builder.new result }
 {
     match builder {
-        Some(builder) => builder.take(said),
+        Some(builder) => builder.accept(said),
         None => match header_of(said) {
             Some(wide) => {
                 *builder = Some(BundleBuilder::new(alloc, wide));
@@ -130,9 +130,9 @@ impl Cutter {
         }
     }
 
-    /// Takes what the unfinished line, now ended, says. The place for the next one is empty.
+    /// Passes on what the unfinished line, now ended, says. The place for the next one is empty.
     #[inline(always)]
-    fn take_line(&mut self, said: &Option<Line>)
+    fn pass_line(&mut self, said: &Option<Line>)
         requires going { self.old.out ≡ false }
         requires good { self.old.fault ≡ None }
         requires short { self.old.long ≡ false }
@@ -142,7 +142,7 @@ impl Cutter {
             → HasTakenAs self.old.out self.old.fault bytes long kept self.old.builder
             → Comes (bytes ++ (rest ++ 10 ∷ [])) self.new (EndsKept (bytes ++ (rest ++ 10 ∷ []))) }
     {
-        match take_said(self.alloc, &mut self.builder, said) {
+        match pass_on(self.alloc, &mut self.builder, said) {
             Step::Goes => {}
             Step::Stops(fault) => self.fault = Some(fault),
             Step::Halts => self.out = true,
@@ -162,7 +162,7 @@ impl Cutter {
             return;
         };
         self.long = false;
-        self.take_line(&said);
+        self.pass_line(&said);
     }
 
     /// Takes the rest of the unfinished line, and its newline. Most lines lie whole in their piece, and are read where
@@ -178,7 +178,7 @@ impl Cutter {
             self.end_begun_line(rest);
             return;
         }
-        self.take_line(&read_line(rest));
+        self.pass_line(&read_line(rest));
     }
 
     /// Whether a line is faulty or a growth was refused, so that more bytes change nothing.
@@ -188,8 +188,8 @@ impl Cutter {
         self.out || self.fault.is_some()
     }
 
-    /// Takes a piece.
-    pub(crate) fn take(&mut self, piece: &[u8])
+    /// Passes on the lines that end in a piece, and keeps the rest.
+    pub(crate) fn pass_piece(&mut self, piece: &[u8])
         ensures { (bytes : List ℕ) → HasTaken bytes self.old
             → Comes (bytes ++ piece.now) self.new (self.old.out ≡ false → Grows bytes piece.now) }
     {

@@ -64,7 +64,7 @@ impl Feed {
             return Err(ReadFault::TooLarge);
         }
         self.count += len;
-        self.cutter.take(piece);
+        self.cutter.pass_piece(piece);
         if self.cutter.out {
             return Err(ReadFault::Memory);
         }

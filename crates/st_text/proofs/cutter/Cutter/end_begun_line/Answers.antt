@@ -19,5 +19,5 @@ pub returns : goal.returns
 returns c = λ bytes plain h.
     let s = c.args.self.now in
     let t =
-    c.take_line.ensures bytes c.args.rest.now s.long s.tail.items plain (c.in-Ok.ensures.said (cut bytes).1) h in
+    c.pass_line.ensures bytes c.args.rest.now s.long s.tail.items plain (c.in-Ok.ensures.said (cut bytes).1) h in
     record { holds = t.holds; growth = λ out. inr (t.growth out) }

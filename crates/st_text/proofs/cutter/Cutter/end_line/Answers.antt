@@ -6,8 +6,8 @@ use Rattle.st_text.specs.Fault.{cut}
 use Rattle.st_text.proofs.CutterSteps.{kept_says}
 use Rattle.st_text.proofs.cutter.Cutter.end_line.Goals as goal
 
-pub take_line-requires-clause-empty : goal.take_line-requires-clause-empty
-take_line-requires-clause-empty c =
+pub pass_line-requires-clause-empty : goal.pass_line-requires-clause-empty
+pass_line-requires-clause-empty c =
     let s = c.args.self.now in
     let none = eqb-true _ _ (sym c.is_empty.ensures ∙ c.if-not-is_empty.false) in
     nil_from_length s.tail.items (omega (arith, s.tail.ok.0, none))
@@ -23,5 +23,5 @@ returns c = λ bytes plain h.
     let says =
     kept_says s.long s.tail.items (cut bytes).1 rest rest c.read_line.result c.if-self.false whole
     c.read_line.ensures in
-    let t = c.take_line.ensures bytes rest s.long s.tail.items plain says h in
+    let t = c.pass_line.ensures bytes rest s.long s.tail.items plain says h in
     record { holds = t.holds; growth = λ out. inr (t.growth out) }

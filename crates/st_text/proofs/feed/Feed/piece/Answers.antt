@@ -14,4 +14,4 @@ pub returns-then-self-3-clause-memory : goal.returns-then-self-3-clause-memory
 returns-then-self-3-clause-memory c = λ bytes fed going ran.
     let s = c.args.self.now in
     let was = counted s.large s.cutter.out bytes s.count s.cutter c.if-self.false c.if-self-2.false fed in
-    (c.take.ensures bytes was.holds).growth c.if-self-3.true c.if-self-2.false
+    (c.pass_piece.ensures bytes was.holds).growth c.if-self-3.true c.if-self-2.false

@@ -5,7 +5,7 @@ use Rattle.st_text.specs.Parts.Cutter.{IsPlain}
 use Rattle.st_text.specs.Parts.CutterState.{HasTaken}
 use Rattle.st_text.proofs.CutterSteps.{holds_over, not_out, plain_front, plain_all, at_newline, grows_by, grows_at_end}
 use Rattle.st_text.proofs.CutterSteps.{line_whole}
-use Rattle.st_text.proofs.cutter.Cutter.take.Goals as goal
+use Rattle.st_text.proofs.cutter.Cutter.pass_piece.Goals as goal
 
 -- done and the rest are the piece
 whole : (bytes done rest piece : List ℕ) → piece ≡ done ++ rest → (bytes ++ done) ++ rest ≡ bytes ++ piece

@@ -1,12 +1,12 @@
 -- Before the header only a header is good; behind it the builder judges.
 use Rattle.std.proofs.Common.{◌∙◌, sym}
 use Rattle.st_text.proofs.CutterSteps.{said_some, said_header, said_none}
-use Rattle.st_text.proofs.cutter.take_said.Goals as goal
+use Rattle.st_text.proofs.cutter.pass_on.Goals as goal
 
 pub returns-in-Some : goal.returns-in-Some
 returns-in-Some c =
-    λ ls h. said_some c.args.builder.now c.in-Some.builder _ ls c.args.said.now c.take.result c.in-Some.is
-    c.take.ensures h
+    λ ls h. said_some c.args.builder.now c.in-Some.builder _ ls c.args.said.now c.accept.result c.in-Some.is
+    c.accept.ensures h
 
 pub returns-in-Some-header_of : goal.returns-in-Some-header_of
 returns-in-Some-header_of c =

@@ -1,6 +1,6 @@
 -- Bytes that say no line have the fault of their line.
 use Rattle.st_text.proofs.BuilderFaults.{unsaid_fault}
-use Rattle.st_text.proofs.builder.BundleBuilder.take.Goals as goal
+use Rattle.st_text.proofs.builder.BundleBuilder.accept.Goals as goal
 
 pub returns-in-None : goal.returns-in-None
 returns-in-None c = λ ls s. rw c.in-None.is (unsaid_fault c.args.self.now ls s)
