@@ -1,16 +1,14 @@
 -- No clock is above the number of acts so far, so a stamp has a value while there are at most TOP acts, and nobody is
 -- missing.
-use Rattle.std.proofs.Common.{◌≡◌, ℕ, ◌+◌, ◌<◌, ◌≤◌, ◌&&◌, suc, Bool, true, false, cond, nat_lt, List, [], ◌∷◌}
-use Rattle.std.proofs.Common.{length, map, get_or, find, Option, Some, None, is_some, option_map, option_and_then}
+use Rattle.std.proofs.Common.{◌≡◌, ℕ, ◌+◌, ◌<◌, ◌≤◌, true, false, cond, nat_lt, List, [], ◌∷◌}
+use Rattle.std.proofs.Common.{length, map, get_or, Option, Some, None, is_some, option_map, option_and_then}
 use Rattle.std.proofs.Common.{All, refl, sym, ◌∙◌, ap, subst, arith, if◌then◌else◌}
 use Rattle.std.specs.Prelude.{IsSome}
 use Rattle.std.specs.Option.{ForSome}
-use Rattle.std.specs.List.{list_any, list_all}
+use Rattle.std.specs.List.{list_all}
 use Rattle.std.proofs.lemmas.Bool.{lt-ltb}
-use Rattle.std.proofs.lemmas.Option.{none-some}
 use Rattle.st_core.specs.declared.types.Pid.{Pid}
 use Rattle.st_core.specs.declared.types.Token.{Token}
-use Rattle.st_core.specs.declared.types.Message.{Message}
 use Rattle.st_core.specs.declared.types.Label.{Label}
 use Rattle.st_core.specs.declared.types.Act.{Act}
 use Rattle.st_core.specs.declared.types.Act.TheVariants as act
@@ -21,11 +19,12 @@ use Rattle.st_core.specs.Stamp.{stamped_token, stamp, stamp_any}
 use Rattle.st_core.specs.Local.{has_label}
 use Rattle.st_core.specs.Collected.{is_among}
 use Rattle.st_core.specs.Step.{Acted, Outcome, actor, receiver, acted, answers, prints, sends, outcome_of, step}
-use Rattle.st_core.specs.Run.{run_from, run}
+use Rattle.st_core.specs.Run.{run_from}
 use Rattle.st_core.specs.Laws.{IsStamped, IsSound}
 use Rattle.st_core.proofs.ForCallers.{step_sound, zero_sound, process_holds, leaves_others}
 use Rattle.st_check.specs.Laws.{acts_among, FewActsRun}
 use Rattle.st_core.proofs.ForCallers.{zero_pids}
+use Rattle.st_core.proofs.ForCallers.{both_of}
 
 -- WHO IS THERE
 
@@ -175,16 +174,12 @@ is_step top s a r q done is_actor is_receiver is_done =
     ∙ ap (λ (o : Option Process). option_and_then (λ _. option_map (outcome_of s a) (acted top r a)) o) is_receiver
     ∙ ap (option_map (outcome_of s a)) is_done
 
-both_true : (x y : Bool) → (x && y) ≡ true → (x ≡ true) × (y ≡ true)
-both_true true y h = (refl, h)
-both_true false y h = absurd (cc)
-
 steps_alike : (high low : ℕ) (s : State) (a : Act) → All (λ r. r.local.clock < high) s
     → All (λ r. r.local.clock < low) s → acts_among (map (λ (r : Process). r.pid) s) a ≡ true
     → StepsAlike high low s a
 steps_alike high low s a below_high below_low among =
     let pids = map (λ (r : Process). r.pid) s in
-    let parts = both_true (is_among pids (actor a)) (is_among pids (receiver a)) among in
+    let parts = both_of (is_among pids (actor a)) (is_among pids (receiver a)) among in
     let actor_there = there s (actor a) parts.0 in
     let receiver_there = there s (receiver a) parts.1 in
     let r = actor_there.found in
@@ -207,7 +202,7 @@ runs_from : (top k : ℕ) (s : State) (acts : List Act) → All (IsSound k) s �
 runs_from top k s [] sound few among = refl
 runs_from top k s (a ∷ acts) sound few among =
     let pids = map (λ (r : Process). r.pid) s in
-    let parts = both_true (acts_among pids a) (list_all (acts_among pids) acts) among in
+    let parts = both_of (acts_among pids a) (list_all (acts_among pids) acts) among in
     let both = steps_alike top (k + 1) s a (λ i d inside. let r = sound i d inside in omega arith)
     (λ i d inside. let r = sound i d inside in omega arith) parts.0 in
     let o = both.outcome in

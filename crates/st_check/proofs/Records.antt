@@ -6,13 +6,13 @@ use Rattle.std.specs.Option.{ForSome, option_map_or}
 use Rattle.std.specs.List.{AllByRecursion, AllZip, slice_get, position_or_len}
 use Rattle.std.proofs.lemmas.Bool.{le-ltb}
 use Rattle.std.proofs.lemmas.List.{take_more, map_push}
-use Rattle.std.proofs.lemmas.Option.{none-some, slice_get-get_or}
+use Rattle.std.proofs.lemmas.Option.{slice_get-get_or}
 use Rattle.st_core.specs.declared.types.Pid.{Pid}
 use Rattle.st_core.specs.declared.types.Event.{Event}
 use Rattle.st_core.specs.declared.types.Reply.{Reply}
 use Rattle.st_core.specs.declared.types.Act.{Act}
 use Rattle.st_core.specs.Pid.{pid_eq, IsBelow, IsRising}
-use Rattle.st_core.specs.State.{Process, State, process, zero_state}
+use Rattle.st_core.specs.State.{Process, State, zero_state}
 use Rattle.st_core.specs.Step.{Outcome, actor, step}
 use Rattle.st_core.specs.Run.{Stream, pids_of, run, stream}
 use Rattle.st_core.specs.Streams.{stream_of, lists, names_listed, unlisted_among, unlisted, with_event, added, is_own}
@@ -30,6 +30,7 @@ use Rattle.st_check.specs.Recorded.{IsRecorded, recorded}
 use Rattle.st_check.proofs.Appended.{length-run, run-append, state_from-append}
 use Rattle.st_check.proofs.Passing.{state_pids, stream_other, stream_silent, stream_own}
 use Rattle.st_core.proofs.ForCallers.{zero_pids}
+use Rattle.st_core.proofs.ForCallers.{process_among}
 
 -- THE PROCESSES OF RECORDED STREAMS
 
@@ -52,17 +53,6 @@ names-reported pids acts os e =
         ≡ option_map_or (is_among pids) to true
     to_same None = refl
     to_same (Some q) = lists-reported pids acts os q
-
--- a process that is there is among the pids
-process_among : (s : State) (p : Pid) (r : Process) → process s p ≡ Some r
-    → is_among (map (λ (x : Process). x.pid) s) p ≡ true
-process_among [] p r is = absurd (none-some r is)
-process_among (x ∷ s) p r is =
-    elim (pid_eq x.pid p) as (λ b. cond b (Some x) (process s p) ≡ Some r
-    → (b || is_among (map (λ (y : Process). y.pid) s) p) ≡ true) [
-      | true ↦ λ is. refl
-      | false ↦ λ is. process_among s p r is
-    ] is
 
 -- RUNS OF ONE MORE ACT
 

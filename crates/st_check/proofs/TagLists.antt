@@ -1,12 +1,12 @@
 -- An act changes one list of tags at most: a send its receiver's, and a receive its own.
-use Rattle.std.proofs.Common.{◌≡◌, ℕ, ◌≤◌, suc, false, cond, List, [], ◌∷◌, ◌++◌, length, map, take, get_or, set}
-use Rattle.std.proofs.Common.{Option, Some, None, option_and_then, refl, sym, ◌∙◌, ap, arith, append-nil, take_all}
+use Rattle.std.proofs.Common.{◌≡◌, ℕ, ◌≤◌, false, cond, List, [], ◌∷◌, ◌++◌, length, map, get_or, set}
+use Rattle.std.proofs.Common.{Option, Some, None, option_and_then, refl, sym, ◌∙◌, ap}
 use Rattle.std.proofs.Common.{inl, inr, if◌then◌else◌}
 use Rattle.std.specs.Option.{OnSome, IfNone}
 use Rattle.std.specs.List.{AllByRecursion, slice_get, remove}
 use Rattle.std.proofs.lemmas.Option.{none-some, slice_get-get_or}
 use Rattle.std.proofs.lemmas.Bool.{cases_lt}
-use Rattle.std.proofs.lemmas.List.{drop_all, set-get_or}
+use Rattle.std.proofs.lemmas.List.{set-get_or}
 use Rattle.st_core.specs.declared.types.Pid.{Pid}
 use Rattle.st_core.specs.declared.types.Want.{Want}
 use Rattle.st_core.specs.declared.types.Act.TheVariants as act
@@ -16,6 +16,7 @@ use Rattle.st_core.proofs.ForCallers.{pid_eq-same}
 use Rattle.st_arena.specs.Arena.{Arena}
 use Rattle.st_check.specs.Progress.{without_tag, pair_to}
 use Rattle.st_check.proofs.Places.{map_apart, map_at, entry_at}
+use Rattle.st_core.proofs.ForCallers.{remove_past}
 
 -- A SEND
 
@@ -43,12 +44,6 @@ push_found lists new pids list to n rising at is t are =
     ∙ sym (map_at t (pushed t to n) pids list to rising at (pushed_other t to n))
 
 -- A RECEIVE
-
-remove_past : (xs : List ℕ) (k : ℕ) → length xs ≤ k → xs ≡ remove xs k
-remove_past xs k past =
-    sym (append-nil xs)
-    ∙ ap (λ ys. ys ++ []) (sym (take_all k xs past))
-    ∙ ap (λ ys. take k xs ++ ys) (sym (drop_all (suc k) xs (omega arith)))
 
 past_end : (xs : List ℕ) (k : ℕ) → slice_get xs k ≡ None → length xs ≤ k
 past_end xs k none =

@@ -17,6 +17,7 @@ use Rattle.st_core.specs.Streams.{stream_of, lists, events_of, total_of, is_own,
 use Rattle.st_core.specs.Streams.{added, names_listed, unlisted_among, unlisted}
 use Rattle.st_core.specs.Collected.{collected, IsCollected, is_among, names_among, first_failing}
 use Rattle.st_core.proofs.Pids.{pid_eq-true, pid_eq-same, pid_eq-swap, IsBelow-apart, all_at, all_push, IsRising-push}
+use Rattle.st_core.proofs.Bools.{or_true}
 
 pub pids_of-collected : (ps : List Pid) (es : List (List Event)) → length es ≡ length ps
     → pids_of (collected ps es) ≡ ps
@@ -46,7 +47,7 @@ collected-push (q ∷ ps) [] p e even = absurd (omega arith)
 collected-push (q ∷ ps) (f ∷ es) p e even =
     ap (λ (xs : List Stream). record { pid = q; events = f } ∷ xs) (collected-push ps es p e (omega arith))
 
-own_push : (xs : List Stream) (p : Pid) → AreOwn xs → AreOwn (xs ++ record { pid = p; events = [] } ∷ [])
+pub own_push : (xs : List Stream) (p : Pid) → AreOwn xs → AreOwn (xs ++ record { pid = p; events = [] } ∷ [])
 own_push xs p own =
     all_push (λ x. AllByRecursion (λ e. is_own x.pid e ≡ true) x.events) xs (record { pid = p; events = [] }) own tt
 
@@ -160,10 +161,6 @@ IsCollected-added ps es n p e i c at own =
     }
 
 -- NAMES THAT AREN'T LISTED
-
-or_true : (b : Bool) → (b || true) ≡ true
-or_true true = refl
-or_true false = refl
 
 pub is_among-found : (ps : List Pid) (p : Pid) (i : ℕ) → slice_get ps i ≡ Some p → is_among ps p ≡ true
 is_among-found [] p i at = absurd (cc)

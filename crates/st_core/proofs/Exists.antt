@@ -55,10 +55,10 @@ kind_decided kind.Receive kind.Print = inr (λ h. cc)
 kind_decided kind.Print kind.Send = inr (λ h. cc)
 kind_decided kind.Print kind.Receive = inr (λ h. cc)
 
-both : {P Q R : Type 0} → Decided P → Decided Q → (R → P) → (R → Q) → (P → Q → R) → Decided R
-both (inr no_p) q left right join = inr (λ r. no_p (left r))
-both (inl p) (inr no_q) left right join = inr (λ r. no_q (right r))
-both (inl p) (inl q) left right join = inl (join p q)
+both_decided : {P Q R : Type 0} → Decided P → Decided Q → (R → P) → (R → Q) → (P → Q → R) → Decided R
+both_decided (inr no_p) q left right join = inr (λ r. no_p (left r))
+both_decided (inl p) (inr no_q) left right join = inr (λ r. no_q (right r))
+both_decided (inl p) (inl q) left right join = inl (join p q)
 
 -- the numbers of two events are the same
 record SameNumbers (d e : Event) : Type 0 where
@@ -70,11 +70,11 @@ record SameNumbers (d e : Event) : Type 0 where
 numbers_decided : (d e : Event) → Decided (SameNumbers d e)
 numbers_decided d e =
     let counts : Decided ((d.serial.prev ≡ e.serial.prev) × (d.serial.this ≡ e.serial.this)) =
-    both (cases_eq d.serial.prev e.serial.prev) (cases_eq d.serial.this e.serial.this) (λ h. h.0) (λ h. h.1)
+    both_decided (cases_eq d.serial.prev e.serial.prev) (cases_eq d.serial.this e.serial.this) (λ h. h.0) (λ h. h.1)
     (λ p q. (p, q)) in
     let others : Decided ((d.label.0 ≡ e.label.0) × (d.value ≡ e.value)) =
-    both (cases_eq d.label.0 e.label.0) (cases_eq d.value e.value) (λ h. h.0) (λ h. h.1) (λ p q. (p, q)) in
-    both counts others (λ h. (h.prev, h.this)) (λ h. (h.label, h.value))
+    both_decided (cases_eq d.label.0 e.label.0) (cases_eq d.value e.value) (λ h. h.0) (λ h. h.1) (λ p q. (p, q)) in
+    both_decided counts others (λ h. (h.prev, h.this)) (λ h. (h.label, h.value))
     (λ p q. record { label = q.0; prev = p.0; this = p.1; value = q.1 })
 
 -- who and what two events are about is the same
@@ -86,8 +86,8 @@ record SameParties (d e : Event) : Type 0 where
 parties_decided : (d e : Event) → Decided (SameParties d e)
 parties_decided d e =
     let ends : Decided ((d.from ≡ e.from) × (d.to ≡ e.to)) =
-    both (pid_decided d.from e.from) (to_decided d.to e.to) (λ h. h.0) (λ h. h.1) (λ p q. (p, q)) in
-    both (kind_decided d.kind e.kind) ends (λ h. h.kind) (λ h. (h.from, h.to))
+    both_decided (pid_decided d.from e.from) (to_decided d.to e.to) (λ h. h.0) (λ h. h.1) (λ p q. (p, q)) in
+    both_decided (kind_decided d.kind e.kind) ends (λ h. h.kind) (λ h. (h.from, h.to))
     (λ p q. record { kind = p; from = q.0; to = q.1 })
 
 same_event : (d e : Event) → SameNumbers d e → SameParties d e → d ≡ e
@@ -104,7 +104,7 @@ same_event d e n p =
 
 pub event_decided : (d e : Event) → Decided (d ≡ e)
 event_decided d e =
-    both (numbers_decided d e) (parties_decided d e)
+    both_decided (numbers_decided d e) (parties_decided d e)
     (λ h.
     record {
       label = ap (λ (x : Event). x.label.0) h;
@@ -124,7 +124,7 @@ front_decided : (xs ys : List Event) → Decided (IsPrefix xs ys)
 front_decided [] ys = inl (ys, refl)
 front_decided (x ∷ xs) [] = inr (λ h. let e : x ∷ (xs ++ h.0) ≡ [] = h.1 in cc)
 front_decided (x ∷ xs) (y ∷ ys) =
-    both (event_decided x y) (front_decided xs ys)
+    both_decided (event_decided x y) (front_decided xs ys)
     (λ h. let e : x ∷ (xs ++ h.0) ≡ y ∷ ys = h.1 in cc)
     (λ h. let e : x ∷ (xs ++ h.0) ≡ y ∷ ys = h.1 in let rest : xs ++ h.0 ≡ ys = cc in (h.0, rest))
     (λ p q. (q.0, ap (λ z. z ∷ (xs ++ q.0)) p ∙ ap (λ zs. y ∷ zs) q.1))
@@ -132,7 +132,7 @@ front_decided (x ∷ xs) (y ∷ ys) =
 All_decided : {A : Type 0} (P : A → Type 0) → ((x : A) → Decided (P x)) → (xs : List A) → Decided (All P xs)
 All_decided P decided [] = inl (All-nil P)
 All_decided P decided (x ∷ xs) =
-    both (decided x) (All_decided P decided xs) (All-head P x xs) (All-tail P x xs) (All-cons P x xs)
+    both_decided (decided x) (All_decided P decided xs) (All-head P x xs) (All-tail P x xs) (All-cons P x xs)
 
 -- ACTS PASS OR NOT
 

@@ -1,24 +1,26 @@
--- The lemmas that proofs of the crates above may cite: on pids and their order, on a step and a run in parts, and on
+-- The lemmas that proofs of the crates above may cite: truth tables, on pids and their order, on a step and a run in parts, and on
 -- the numbers of sends that lie in a queue. They hold by the definitions alone; nothing here speaks of how the code
 -- does it.
 
+-- ---- truth tables
+pub use Rattle.st_core.proofs.Bools.{or_true, or_false, not_true, right_of, both_of, both_true}
 -- ---- pids
 pub use Rattle.st_core.proofs.Pids.{pid_eq-true, pid_eq-same, pid_eq-swap, pid_cmp-same, pid_cmp-Equal}
 pub use Rattle.st_core.proofs.Pids.{IsBelow-trans, IsBelow-apart, IsRising-push, missing_from_search, all_at}
 pub use Rattle.st_core.proofs.Pids.{pid_eq-true as pid_same, pid_eq-same as pid_eq-refl}
 pub use Rattle.st_core.proofs.RisingPids.{rising_at}
-pub use Rattle.st_core.proofs.Collections.{above_apart, is_among-found, is_among-missing}
+pub use Rattle.st_core.proofs.Collections.{above_apart, is_among-found, is_among-missing, place_within, own_push}
 pub use Rattle.st_core.proofs.Leastness.{unlisted_is_least}
 -- ---- a step and a run, in parts
 pub use Rattle.st_core.proofs.Others.{process_pid, process-map, mapped, Stepped, step_parts, run_parts, process_after}
 pub use Rattle.st_core.proofs.Others.{leaves_others}
-pub use Rattle.st_core.proofs.Steps.{changed_pid, changed_untouched}
+pub use Rattle.st_core.proofs.Steps.{reached_pid, changed_pid, changed_untouched}
 pub use Rattle.st_core.proofs.Runs.{one_verdict, run_from-take}
-pub use Rattle.st_core.proofs.Zips.{AllZip_length, drop_first, drop_rest}
+pub use Rattle.st_core.proofs.Zips.{AllZip_length, drop_first, drop_rest, remove_past}
 -- ---- what every run keeps
 pub use Rattle.st_core.proofs.Sound.{All_at, run_sound, stamp_any_sound, process_holds, pick_found, step_sound}
 pub use Rattle.st_core.proofs.Sound.{zero_sound}
-pub use Rattle.st_core.proofs.Names.{run_named, zero_pids}
+pub use Rattle.st_core.proofs.Names.{run_named, zero_pids, process_among}
 pub use Rattle.st_core.proofs.Following.{receives_follow}
 pub use Rattle.st_core.proofs.Paired.{receives_are_paired}
 -- ---- the numbers of the sends in the queues

@@ -1,3 +1,4 @@
+pub mod Bools
 pub mod Verdicts
 pub mod Runs
 pub mod Steps

@@ -35,7 +35,7 @@ use Rattle.st_core.proofs.Sound.{process_holds, step_sound, zero_sound}
 use Rattle.st_core.proofs.Queues.{queue_after, changed_queue, IsReceive, acted_queue, receive_none, receive_some}
 
 -- a process that is there is among the pids
-process_among : (s : State) (p : Pid) (r : Process) → process s p ≡ Some r → is_among
+pub process_among : (s : State) (p : Pid) (r : Process) → process s p ≡ Some r → is_among
     (map (λ (x : Process). x.pid) s) p ≡ true
 process_among [] p r is = absurd (none-some r is)
 process_among (x ∷ s) p r is =

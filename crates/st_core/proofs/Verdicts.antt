@@ -22,6 +22,7 @@ use Rattle.st_core.specs.Verdict.{Verdict, Stuck, Differs, Left, Yes, IsPassing,
 use Rattle.st_core.proofs.Pids.{pid_eq-true, pid_eq-same}
 use Rattle.st_core.proofs.Runs.{FailsAt}
 use Rattle.st_core.proofs.Exists.{none_passes, passed_yes}
+use Rattle.st_core.proofs.Bools.{both_of, not_true}
 
 -- THE COMPUTATION
 
@@ -90,10 +91,6 @@ verdict top streams acts = judged top streams acts (first_fault top streams acts
 
 -- EVENTS
 
-both : (x y : Bool) → (x && y) ≡ true → (x ≡ true) × (y ≡ true)
-both true y h = (refl, h)
-both false y h = absurd (cc)
-
 kind_eq-true : (k l : Kind) → kind_eq k l ≡ true → k ≡ l
 kind_eq-true kind.Send kind.Send h = refl
 kind_eq-true kind.Receive kind.Receive h = refl
@@ -122,12 +119,12 @@ to_eq-same (Some p) = pid_eq-same p
 
 event_eq-true : (d e : Event) → event_eq d e ≡ true → d ≡ e
 event_eq-true d e h =
-    let one = both _ _ h in
-    let two = both _ _ one.1 in
-    let three = both _ _ two.1 in
-    let four = both _ _ three.1 in
-    let five = both _ _ four.1 in
-    let six = both _ _ five.1 in
+    let one = both_of _ _ h in
+    let two = both_of _ _ one.1 in
+    let three = both_of _ _ two.1 in
+    let four = both_of _ _ three.1 in
+    let five = both_of _ _ four.1 in
+    let six = both_of _ _ five.1 in
     let label = eqb-true d.label.0 e.label.0 one.0 in
     let kind = kind_eq-true d.kind e.kind two.0 in
     let prev = eqb-true d.serial.prev e.serial.prev three.0 in
@@ -164,7 +161,7 @@ front_sound : (ds es : List Event) → is_front ds es ≡ true → IsPrefix ds e
 front_sound [] es h = (es, refl)
 front_sound (d ∷ ds) [] h = absurd (cc)
 front_sound (d ∷ ds) (e ∷ es) h =
-    let parts = both _ _ h in
+    let parts = both_of _ _ h in
     let rest = front_sound ds es parts.1 in
     (rest.0, ap (λ x. x ∷ (ds ++ rest.0)) (event_eq-true d e parts.0) ∙ ap (λ xs. e ∷ xs) rest.1)
 
@@ -181,7 +178,7 @@ all_sound : (acts : List Act) (os : List Outcome) (streams : List Stream)
     → AllByRecursion (λ x. IsPrefix (stream acts os x.pid) x.events) streams
 all_sound acts os [] h = tt
 all_sound acts os (x ∷ streams) h =
-    let parts = both _ _ h in
+    let parts = both_of _ _ h in
     (front_sound (stream acts os x.pid) x.events parts.0, all_sound acts os streams parts.1)
 
 all_complete : (acts : List Act) (os : List Outcome) (streams : List Stream)
@@ -219,10 +216,6 @@ passes_complete top streams acts h =
 not_false : (b : Bool) → not b ≡ false → b ≡ true
 not_false true h = refl
 not_false false h = absurd (cc)
-
-not_true : (b : Bool) → not b ≡ true → b ≡ false
-not_true true h = absurd (cc)
-not_true false h = refl
 
 -- NUMBERS OF ACTS
 

@@ -52,7 +52,7 @@ AllZip_length R (a ∷ xs) (b ∷ ys) all = ap suc (AllZip_length R xs ys all.1)
 
 -- ALL PAIRS OF ONE LIST
 
-remove_past : {A : Type 0} (xs : List A) (k : ℕ) → length xs ≤ k → xs ≡ remove xs k
+pub remove_past : {A : Type 0} (xs : List A) (k : ℕ) → length xs ≤ k → xs ≡ remove xs k
 remove_past xs k past =
     sym (append-nil xs)
     ∙ ap (λ ys. ys ++ []) (sym (take_all k xs past))

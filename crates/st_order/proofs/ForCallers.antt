@@ -2,7 +2,7 @@
 -- on what items there are. They hold by the definitions alone; nothing here speaks of how the code does it.
 
 -- ---- keys, and what comes before what
-pub use Rattle.st_order.proofs.Keys.{pid_total, key_total, IsKeyed, items_keyed, comes_before_is, one_way, chain}
+pub use Rattle.st_order.proofs.Keys.{key_total, IsKeyed, items_keyed, comes_before_is, one_way, chain}
 -- ---- the one order
 pub use Rattle.st_order.proofs.One.{one_order, Among, among_all, members}
 pub use Rattle.st_order.proofs.Insertion.{an_order}

@@ -22,14 +22,12 @@ use Rattle.st_order.specs.declared.item.Item.{Item}
 use Rattle.st_order.specs.declared.item.Item.TheVariants as item
 use Rattle.st_order.specs.Items.{is_hidden, items_at, items_from, items_among, items}
 use Rattle.st_order.specs.Order.{Key, key_by, key, key_cmp, comes_before}
+use Rattle.st_pair.proofs.ForCallers.{pid_total}
 use Rattle.st_order.proofs.Lists.{all_append}
 use Rattle.st_order.proofs.Once.{only_receive}
 use Rattle.st_order.proofs.Found.{drop_front, AreFound, all_found}
 
 -- ORDERS
-
-pub pid_total : IsTotalOrder pid_cmp
-pid_total = then_total (on_total (λ (p : Pid). p.node) nat_cmp_total) (on_total (λ (p : Pid). p.number) nat_cmp_total)
 
 pub key_total : IsTotalOrder key_cmp
 key_total = then_total (on_total (λ (k : Key). k.height) nat_cmp_total)

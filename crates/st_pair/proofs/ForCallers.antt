@@ -15,3 +15,5 @@ pub use Rattle.st_pair.proofs.Converse.{IsGiven, given_from, given_at}
 pub use Rattle.st_pair.proofs.Firsts.{IsAt, is_at, at_get_or, events_in}
 pub use Rattle.st_pair.proofs.Ruled.{blank}
 pub use Rattle.st_pair.proofs.Linkage.{take_map}
+-- ---- the order of pids
+pub use Rattle.st_pair.proofs.Tabled.{pid_total}

@@ -19,6 +19,7 @@ use Rattle.st_pair.specs.Pairing.{receive_of, stamp_of, source_of, source_at, re
 use Rattle.st_pair.specs.Links.{Linked, sent_link, received_link, link_of, links_in, linked, IsPairing, rows, link_at}
 use Rattle.st_pair.specs.Links.{source_in, receiver_in}
 use Rattle.st_pair.proofs.Firsts.{is_at, at_get_or, events_in}
+use Rattle.st_core.proofs.ForCallers.{place_within}
 
 -- ROWS
 
@@ -36,11 +37,6 @@ row_found (q ∷ ps) [] p i even rising at = absurd (omega arith)
 row_found (q ∷ ps) (l ∷ ls) p zero even rising at = let same = same_Some q p at in rw (same, pid_eq-same p) refl
 row_found (q ∷ ps) (l ∷ ls) p (suc i) even rising at =
     rw (above_apart ps q p i rising.0 at) (row_found ps ls p i (omega arith) rising.1 at)
-
-place_within : {A : Type 0} (xs : List A) (i : ℕ) (x : A) → slice_get xs i ≡ Some x → i < length xs
-place_within [] i x at = absurd (cc)
-place_within (y ∷ xs) zero x at = omega arith
-place_within (y ∷ xs) (suc i) x at = let rest = place_within xs i x at in omega arith
 
 abbrev row_links : Option Linked → List Link
 row_links o = elim o [ None ↦ [] | Some x ↦ x.links ]

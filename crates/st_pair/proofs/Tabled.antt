@@ -22,7 +22,7 @@ use Rattle.st_pair.proofs.Noted.{row_place}
 
 -- KEYS
 
-pid_total : IsTotalOrder pid_cmp
+pub pid_total : IsTotalOrder pid_cmp
 pid_total = then_total (on_total (λ (p : Pid). p.node) nat_cmp_total) (on_total (λ (p : Pid). p.number) nat_cmp_total)
 
 pub key_total : IsTotalOrder key_cmp

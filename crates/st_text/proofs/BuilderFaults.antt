@@ -21,7 +21,8 @@ use Rattle.st_text.specs.Growth.{is_kept}
 use Rattle.st_text.specs.Parts.Builder.{IsBuilt, NeedsRoom}
 use Rattle.st_text.specs.Fault.{pids, last, last_passes, has_acts, may_follow, may_stand, is_out_of_order, is_foreign}
 use Rattle.st_text.specs.Fault.{is_one_too_many, line_fault}
-use Rattle.st_text.proofs.Bools.{or_false}
+use Rattle.st_core.proofs.ForCallers.{or_false}
+use Rattle.st_core.proofs.ForCallers.{both_true}
 
 -- the fault by the tests in their order
 pub fault_by : ℕ → Bool → Bool → Bool → Bool → Option ReadFault
@@ -118,9 +119,6 @@ let_in f false false e h = rw e refl
 
 pub not_begun : (a : Bool) → a ≡ false → not a ≡ true
 not_begun a e = rw e refl
-
-pub both_true : (a b : Bool) → a ≡ true → b ≡ true → (a && b) ≡ true
-both_true a b e f = rw (e, f) refl
 
 pub none_of_acts : {A : Type 0} (o : Option A) → is_some o ≡ false → o ≡ None
 none_of_acts None e = refl

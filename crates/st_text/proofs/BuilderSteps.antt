@@ -22,7 +22,8 @@ use Rattle.st_text.specs.Parts.Remote.{is_event_remote, is_act_remote}
 use Rattle.st_text.specs.Text.{is_away, is_remote, process_lines}
 use Rattle.st_text.specs.Parts.Builder.{so_far, IsBuilt}
 use Rattle.st_text.specs.Fault.{pids, pid_of, last, has_acts, is_acts, is_event, is_act, is_wide}
-use Rattle.st_text.proofs.Bools.{or_false}
+use Rattle.st_core.proofs.ForCallers.{or_false}
+use Rattle.st_core.proofs.ForCallers.{or_true}
 
 get_end : {A : Type 0} (xs : List A) (x : A) → slice_get (xs ++ x ∷ []) (length xs) ≡ Some x
 get_end [] x = refl
@@ -213,10 +214,6 @@ sound_begin p n ls s none wide acts draft at count processes events remote =
       wide_is = wide ∙ s.wide_is ∙ sym (any_push is_wide ls lines.Acts ∙ or_false (list_any is_wide ls));
       rising = subst (λ (x : List Stream). IsRising (pids_of x)) (sym draft) s.rising;
     }
-  where
-    or_true : (b : Bool) → (b || true) ≡ true
-    or_true true = refl
-    or_true false = refl
 
 pub sound_act : (p n : BundleBuilder) (ls : List Line) (list : List Act) (a : Act) → IsBuilt p ls → p.acts ≡ Some list
     → n.wide ≡ p.wide → n.acts ≡ Some (list ++ a ∷ []) → n.draft ≡ p.draft → n.last ≡ p.last → n.lines ≡ p.lines + 1

@@ -28,7 +28,7 @@ use Rattle.st_text.specs.Parts.Builder.{IsBuilt}
 use Rattle.st_text.specs.Parts.Finish.{line_at_place, event_line}
 use Rattle.st_text.specs.Fault.{is_unknown, unknown_from, closing_fault}
 use Rattle.st_text.proofs.Listed.{own_events}
-use Rattle.st_text.proofs.Bools.{or_true}
+use Rattle.st_core.proofs.ForCallers.{or_true}
 
 and_true : (b : Bool) → (b && true) ≡ b
 and_true true = refl

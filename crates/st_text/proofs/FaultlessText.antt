@@ -45,8 +45,9 @@ use Rattle.st_text.proofs.Listed.{own_events, none_unlisted}
 use Rattle.st_text.proofs.ClosingFaults.{place_of, place_or, streams_place, acts_place}
 use Rattle.st_text.proofs.CutterEnd.{all_of, all_events}
 use Rattle.st_text.proofs.GoodText.{process_pids, act_pids}
-use Rattle.st_text.proofs.Bools.{right_of}
+use Rattle.st_core.proofs.ForCallers.{right_of}
 use Rattle.st_text.specs.Limits.{most_bytes}
+use Rattle.st_core.proofs.ForCallers.{own_push}
 
 -- the lines are a header and what these streams and acts spell, within the limits on counts
 pub record Gathered (ls : List Line) : Type 0 where
@@ -161,10 +162,6 @@ all_below (p ∷ r ∷ ps) q rising e =
     all_below (r ∷ ps) q rising.1 (ap (last_passes (λ x. not (is_lt (pid_cmp x q)))) (sym (last_cons p r ps))
     ∙ e) in
     (IsBelow-trans p r q rising.0.0 later.0, later)
-
-own_push : (ss : List Stream) (q : Pid) → AreOwn ss → AreOwn (ss ++ record { pid = q; events = [] } ∷ [])
-own_push [] q own = (tt, tt)
-own_push (s ∷ ss) q own = (own.0, own_push ss q own.1)
 
 add_process : (ls : List Line) (g : Gathered ls) (q : Pid) → Passes ls (lines.Process q)
     → Gathered (ls ++ lines.Process q ∷ [])

@@ -13,7 +13,7 @@ use Rattle.st_text.specs.Fault.{cut, sayings, first_fault, line_fault, first_of,
 use Rattle.st_text.specs.Fault.{pids, is_wide, closing_fault, unknown_from}
 use Rattle.st_text.proofs.Newlines.{none_of}
 use Rattle.st_text.proofs.LineLemmas.{line_takes}
-use Rattle.st_text.proofs.Bools.{not_true, right_of}
+use Rattle.st_core.proofs.ForCallers.{not_true, right_of}
 
 stands : (ls : List Line) (l : Line) → line_fault ls (Some l) ≡ None → may_stand ls l ≡ true
 unfolding line_fault

@@ -1,5 +1,4 @@
 -- The lemmas, in the order in which they build on each other; what upper crates may cite is in `ForCallers`.
-pub mod Bools
 pub mod Numbers
 pub mod Fields
 pub mod EventLemmas

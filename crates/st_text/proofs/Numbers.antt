@@ -22,16 +22,12 @@ use Rattle.std.proofs.lemmas.Str.Parse.{digit_at}
 use Rattle.std.proofs.lemmas.Fmt.{decimal_is_IsNumeral, decimal_digit, first_decimal, decimal-digits_value}
 use Rattle.st_text.specs.Parts.Words.{Gives}
 use Rattle.st_text.specs.Parsing.{after, number_from, number}
+use Rattle.st_core.proofs.ForCallers.{both_of}
 
 -- a test and a value
 pub chosen : {A : Type 0} (b : Bool) (o : Option A) (y : A) → cond b o None ≡ Some y → (b ≡ true) × (o ≡ Some y)
 chosen true o y e = (refl, e)
 chosen false o y e = absurd cc
-
-both : (a b : Bool) → (a && b) ≡ true → (a ≡ true) × (b ≡ true)
-both true true e = (refl, refl)
-both true false e = absurd cc
-both false b e = absurd cc
 
 not_both : {A : Type 0} (a b : Bool) (x : A) → (a ≡ true → b ≡ true → ⊥) → cond (a && b) (Some x) None ≡ None
 not_both true true x not = absurd (not refl refl)
@@ -227,7 +223,7 @@ number_takes most bytes x e =
     let ds : List ℕ = take k bytes in
     let v : ℕ = digits_value 10 ds in
     let g = chosen (bytes_eq (decimal v) ds && leb v most) (Some (v, drop k bytes)) x e in
-    let tests = both (bytes_eq (decimal v) ds) (leb v most) g.0 in
+    let tests = both_of (bytes_eq (decimal v) ds) (leb v most) g.0 in
     let spelled : decimal v ≡ ds = (bytes_eq-Decides (decimal v) ds).0 tests.0 in
     let whole : bytes ≡ decimal v ++ drop k bytes = rw spelled (sym (take-append-drop k bytes)) in
     let made : ◌≡◌ {A = ℕ × List ℕ} (v, drop k bytes) x = cc in

@@ -2,10 +2,11 @@
 use Rattle.std.proofs.Common.{◌≡◌, ◌+◌, ◌∙◌, ◌&&◌, ◌||◌, not, true, false, refl, sym, ap}
 use Rattle.std.specs.Prelude.{is_some}
 use Rattle.st_core.specs.Streams.{is_own}
+use Rattle.st_core.proofs.ForCallers.{both_true}
 use Rattle.st_text.specs.Parts.Remote.{is_event_remote}
 use Rattle.st_text.specs.Fault.{last_passes}
 use Rattle.st_text.proofs.BuilderFaults.{report_fault, report_good, needs_room, no_line, not_own, too_many, begun_out}
-use Rattle.st_text.proofs.BuilderFaults.{out_first, out_second, away_out, let_in, not_begun, both_true, none_of_acts}
+use Rattle.st_text.proofs.BuilderFaults.{out_first, out_second, away_out, let_in, not_begun, none_of_acts}
 use Rattle.st_text.proofs.BuilderFaults.{at_most, passes_at, passes_none}
 use Rattle.st_text.proofs.BuilderSteps.{sound_event}
 use Rattle.st_text.proofs.builder.BundleBuilder.report.Goals as goal
