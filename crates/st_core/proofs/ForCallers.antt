@@ -1,6 +1,6 @@
--- The lemmas that proofs of the crates above may cite: truth tables, on pids and their order, on a step and a run in parts, and on
--- the numbers of sends that lie in a queue. They hold by the definitions alone; nothing here speaks of how the code
--- does it.
+-- The lemmas that proofs of the crates above may cite: truth tables, and lemmas on pids and their order, on a step and
+-- a run in parts, and on the numbers of sends that lie in a queue. They hold by the definitions alone; nothing here
+-- speaks of how the code does it.
 
 -- ---- truth tables
 pub use Rattle.st_core.proofs.Bools.{or_true, or_false, not_true, right_of, both_of, both_true}
