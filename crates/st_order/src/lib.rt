@@ -1,8 +1,9 @@
 //! What happened by streams, in one order for all processes, and by label.
 //!
 //! Each event is an item, and so is the hidden send of each receive whose send nobody reported.
-//! `order` lists all items by rising key: nothing stands before its cause, and the list depends on
-//! the streams alone, however many threads sorted it. `by_label` splits a list of items by label.
+//! `order` lists all items by rising key: where a run without a reset has the streams, nothing
+//! stands before its cause, and the list depends on the streams alone, however many threads sorted
+//! it. `by_label` splits a list of items by label.
 //! This crate takes a pairing as `st_pair` made it, and knows no acts and no text.
 #![tactic(auto)]
 
