@@ -1,3 +1,5 @@
 mod Picks
 mod Fits
+mod Fronts
+mod Boxes
 pub mod ForCallers

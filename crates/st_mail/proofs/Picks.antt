@@ -102,3 +102,11 @@ picked_at w ms k e = by (pick w ms) refl e
           stands = ap (slice_get ms) (sym at) ∙ pick_found w ms found is;
           given = is ∙ ap (λ j. Some (j, found.1)) at;
         }
+
+-- so a message that stands at its place is the one that it gives
+pub given_at : (w : Want) (ms : List Message) (k : ℕ) (m : Message)
+    → place_picked w ms ≡ Some k → slice_get ms k ≡ Some m → Some (k, m) ≡ pick w ms
+given_at w ms k m e there =
+    let at = picked_at w ms k e in
+    let same : m ≡ at.message = same_Some m at.message (sym there ∙ at.stands) in
+    ap (λ n. Some (k, n)) same ∙ sym at.given

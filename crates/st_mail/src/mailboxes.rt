@@ -17,14 +17,31 @@ use std::marker::Model;
 #[derive(Drop)]
 pub struct Mailboxes {
     queues: Lists<Message>,
+
+    // How many messages at the front of each mailbox were wiped: what is stored of them may still have
+    // its token, which counts for nothing. A wipe is of all that lie there, so it leaves no gap.
+    wiped: Vec<u64>,
 }
 
 impl Model for Mailboxes {
     ghost use Rattle.st_mail.specs.Mail.{Mail};
+    ghost use Rattle.st_mail.specs.Wiped.{fronts_wiped, AreFronts};
 
     ghost Value = { Mail };
 
-    ghost view = { λ a. record { boxes = a.queues.lists; spare = a.queues.spare } };
+    ghost view = { λ a. record { boxes = fronts_wiped a.wiped.items a.queues.lists; spare = a.queues.spare } };
+
+    ghost invariant = { λ a. AreFronts a.wiped.items a.queues.lists };
+}
+
+/// The message without its token.
+fn untraced(message: Message) -> Message
+    ensures { result ≡ untraced message }
+{
+    Message {
+        token: None,
+        ..message
+    }
 }
 
 /// Whether the token has this from, and this as its own count.
@@ -44,7 +61,8 @@ impl Mailboxes {
         ensures spare { IfOk result (λ mail. mail.spare ≡ 0) }
     {
         let queues = Lists::new(alloc, count)?;
-        Ok(Mailboxes { queues })
+        let wiped = vec![in alloc; 0; count]?;
+        Ok(Mailboxes { queues, wiped })
     }
 
     /// Makes room for `count` more messages, in whichever mailboxes. Nothing changes where there is
@@ -72,7 +90,12 @@ impl Mailboxes {
         requires { mailbox < length self.now.boxes }
         ensures { result ≡ slice_get (queue_in self.now.boxes mailbox) place }
     {
-        self.queues.get(mailbox, place).copied()
+        let message = *self.queues.get(mailbox, place)?;
+        if place < self.wiped[mailbox] {
+            Some(untraced(message))
+        } else {
+            Some(message)
+        }
     }
 
     /// Puts a message at the end of the mailbox. Refusal 1: no memory, only where there is no room.
@@ -177,7 +200,12 @@ impl Mailboxes {
             return None;
         };
         let message = self.queues.take_at(mailbox, place).unwrap();
-        Some((place, message))
+        let wiped = self.wiped[mailbox];
+        if place >= wiped {
+            return Some((place, message));
+        }
+        self.wiped[mailbox] = wiped - 1;
+        Some((place, untraced(message)))
     }
 
     /// The least place of the mailbox whose message has a token with this from, and this as its own
@@ -186,10 +214,10 @@ impl Mailboxes {
         requires { mailbox < length self.now.boxes }
         ensures { result ≡ position (λ m. is_stamp from this m.token) (queue_in self.now.boxes mailbox) }
     {
-        let matches = |message: &Message| -> bool
-            ensures { result ≡ is_stamp from this message.now.token }
-        { is_stamp(from, this, &message.token) };
-        self.queues.find_first(mailbox, &matches)
+        let wiped = self.wiped[mailbox];
+        let mut kept = self.queues.walk(mailbox).skip(wiped as usize);
+        let place = kept.position(|message| is_stamp(from, this, &message.token))?;
+        Some(wiped + place as u64)
     }
 
     /// Takes the tokens of the messages in the mailbox away. The messages stay.
@@ -198,14 +226,6 @@ impl Mailboxes {
         ensures boxes { self.new.boxes ≡ set self.old.boxes mailbox (map untraced (queue_in self.old.boxes mailbox)) }
         ensures spare { self.new.spare ≡ self.old.spare }
     {
-        let wiped = |message: &Message| -> Message
-            ensures { result ≡ untraced message.now }
-        {
-            Message {
-                token: None,
-                ..*message
-            }
-        };
-        self.queues.change_all(mailbox, &wiped);
+        self.wiped[mailbox] = self.len(mailbox);
     }
 }

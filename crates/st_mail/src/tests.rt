@@ -166,6 +166,55 @@ fn places_of_stamps_are_the_least_until_wiped(rt: HostRuntime) -> Result<(), Fai
     Ok(())
 }
 
+/// Asserts the own count of the token of a message, if it has one.
+fn assert_this(rt: &impl Abort, message: Option<Message>, this: Option<u64>) {
+    let token = message.and_then(|message| message.token);
+    assert_eq!(rt; token.map(|token| token.serial.this), this);
+}
+
+#[test]
+fn a_wipe_is_of_what_lies_there_then(rt: HostRuntime) -> Result<(), Fail> {
+    let mut mail = Mailboxes::new(rt.alloc(), 2)?;
+    put_all(&mut mail, 0, &[stamped(1, 7), stamped(2, 8)])?;
+    put_all(&mut mail, 1, &[stamped(1, 7)])?;
+    mail.wipe_tokens(0);
+    put_all(&mut mail, 0, &[stamped(3, 7)])?;
+    assert_place(&rt, &mail, p30(), 7, Some(2));
+    assert_this(&rt, mail.get(0, 1), None);
+    assert_this(&rt, mail.get(0, 2), Some(7));
+    assert_this(&rt, mail.get(1, 0), Some(7));
+    mail.wipe_tokens(0);
+    assert_place(&rt, &mail, p30(), 7, None);
+    assert_this(&rt, mail.get(0, 2), None);
+    Ok(())
+}
+
+/// Takes a message of this value from mailbox 0, and asserts the own count of its token, if it has one.
+fn assert_taken(rt: &impl Abort, mail: &mut Mailboxes, value: u64, this: Option<u64>)
+    requires { 0 < length mail.old.boxes }
+    ensures { length mail.new.boxes ≡ length mail.old.boxes }
+{
+    let taken = mail.take(0, &Want::Value(value));
+    assert_eq!(rt; taken.map(|taken| taken.1.value), Some(value));
+    assert_this(rt, taken.map(|taken| taken.1), this);
+}
+
+#[test]
+fn takes_leave_what_else_was_wiped(rt: HostRuntime) -> Result<(), Fail> {
+    let mut mail = Mailboxes::new(rt.alloc(), 1)?;
+    put_all(&mut mail, 0, &[stamped(1, 6), stamped(2, 7)])?;
+    mail.wipe_tokens(0);
+    put_all(&mut mail, 0, &[stamped(3, 8), stamped(4, 9)])?;
+    assert_taken(&rt, &mut mail, 4, Some(9));
+    assert_taken(&rt, &mut mail, 1, None);
+    assert_this(&rt, mail.get(0, 0), None);
+    assert_this(&rt, mail.get(0, 1), Some(8));
+    assert_taken(&rt, &mut mail, 2, None);
+    assert_taken(&rt, &mut mail, 3, Some(8));
+    assert_eq!(rt; mail.len(0), 0);
+    Ok(())
+}
+
 /// Two empty mailboxes. Where memory is refused a second try has it.
 fn two_at_last(alloc: Global) -> Result<Mailboxes, AllocError>
     ensures { IfOk result (λ mail. length mail.boxes ≡ 2) }
