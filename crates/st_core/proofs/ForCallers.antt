@@ -1,6 +1,6 @@
 -- The lemmas that proofs of the crates above may cite: truth tables, and lemmas on pids and their order, on a step and
--- a run in parts, and on the numbers of sends that lie in a queue. They hold by the definitions alone; nothing here
--- speaks of how the code does it.
+-- a run in parts, on what every run keeps, and on the numbers of sends that lie in a queue. They hold by the
+-- definitions alone; nothing here speaks of how the code does it.
 
 -- ---- truth tables
 pub use Rattle.st_core.proofs.Bools.{or_true, or_false, not_true, right_of, both_of, both_true}
@@ -23,6 +23,10 @@ pub use Rattle.st_core.proofs.Sound.{zero_sound}
 pub use Rattle.st_core.proofs.Names.{run_named, zero_pids, process_among}
 pub use Rattle.st_core.proofs.Following.{receives_follow}
 pub use Rattle.st_core.proofs.Paired.{receives_are_paired}
+pub use Rattle.st_core.proofs.Reports.{event_reported, reported_in_order}
+pub use Rattle.st_core.proofs.Clocks.{reported_sends_agree}
+-- ---- what every run without a reset keeps
+pub use Rattle.st_core.proofs.Clocks.{reported_stamps_lift, followed_sends_lift, lifted_once, lifted_later}
 -- ---- the numbers of the sends in the queues
 pub use Rattle.st_core.proofs.Tags.{no_tags}
 pub use Rattle.st_core.proofs.Queues.{IsTag, AreTags, no_tags_are, receive_none, receive_some, tags_step}

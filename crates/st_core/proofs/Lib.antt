@@ -12,6 +12,8 @@ pub mod Following
 pub mod Paired
 pub mod Exists
 pub mod Names
+pub mod Reports
+pub mod Clocks
 mod Cases
 pub mod Pids
 pub mod RisingPids

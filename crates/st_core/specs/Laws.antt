@@ -1,14 +1,17 @@
--- Laws of the machine: what one act leaves alone, and what holds in every run.
-use Rattle.std.specs.Prelude.{◌≡◌, ℕ, ◌<◌, ◌≤◌, true, false, List, map, Some, slice_get, All}
+-- Laws of the machine: what one act leaves alone, what holds in every run, and what in every run without a reset.
+use Rattle.std.specs.Prelude.{◌≡◌, ℕ, ◌<◌, ◌≤◌, Bool, true, false, List, length, map, take, Some, None, slice_get}
+use Rattle.std.specs.Prelude.{All, AllPairs, option_and_then}
+use Rattle.std.specs.List.{AllByRecursion}
 use Rattle.std.specs.Option.{ForSome}
 use Rattle.st_core.specs.declared.types.Pid.{Pid}
 use Rattle.st_core.specs.declared.types.Token.{Token}
 use Rattle.st_core.specs.declared.types.Event.{Event}
 use Rattle.st_core.specs.declared.types.Act.{Act}
+use Rattle.st_core.specs.declared.types.Act.TheVariants as act
 use Rattle.st_core.specs.Pid.{IsBelow}
 use Rattle.st_core.specs.State.{Process, State, process}
 use Rattle.st_core.specs.Step.{Outcome, actor, touches}
-use Rattle.st_core.specs.Run.{Stream}
+use Rattle.st_core.specs.Run.{Stream, stream}
 use Rattle.st_core.specs.Streams.{is_own, names_among, events_of, names_listed}
 
 -- an act leaves each process that it doesn't touch as it was, and no process comes or goes
@@ -42,6 +45,43 @@ pub record IsReportAmong (pids : List Pid) (p : Pid) (e : Event) : Type 0 where
 -- the report of an act, if it has one, is such an event of its actor
 abbrev pub ReportsAmong : List Pid → Act → Outcome → Type 0
 ReportsAmong pids a o = ForSome o.report (IsReportAmong pids (actor a))
+
+-- act n is p's and reports e
+pub record Reports (acts : List Act) (os : List Outcome) (p : Pid) (n : ℕ) (e : Event) : Type 0 where
+  pub act : Act
+  pub at : slice_get acts n ≡ Some act
+  pub own : actor act ≡ p
+  pub report : option_and_then (λ o. o.report) (slice_get os n) ≡ Some e
+
+-- act n reports event i of p's stream: the acts before it report the i events before e
+pub record ReportsEvent (acts : List Act) (os : List Outcome) (p : Pid) (i : ℕ) (e : Event) (n : ℕ) : Type 0 where
+  pub reports : Reports acts os p n e
+  pub before : length (stream (take n acts) (take n os) p) ≡ i
+
+-- the act is a reset
+abbrev pub is_reset : Act → Bool
+is_reset (act.Reset p) = true
+is_reset a = false
+
+-- none of the acts is a reset
+abbrev pub NoReset : List Act → Type 0
+NoReset acts = AllByRecursion (λ a. is_reset a ≡ false) acts
+
+-- p's clock, 0 where p isn't there
+abbrev pub clock_in : State → Pid → ℕ
+clock_in s p = elim (process s p) [ None ↦ 0 | Some r ↦ r.local.clock ]
+
+-- no process's clock falls from one outcome to a later one
+abbrev pub ClocksNeverFall : List Outcome → Type 0
+ClocksNeverFall os = AllPairs (λ o later. (p : Pid) → clock_in o.after p ≤ clock_in later.after p) os
+
+-- act n lifts p's clock to this count: the clock stands at it after the act, and below it after each earlier one. So
+-- one act at most lifts a clock to a count, and to a greater count a later act
+pub record LiftsClock (os : List Outcome) (p : Pid) (this n : ℕ) : Type 0 where
+  pub outcome : Outcome
+  pub at : slice_get os n ≡ Some outcome
+  pub reaches : clock_in outcome.after p ≡ this
+  pub above : (m : ℕ) (o : Outcome) → m < n → slice_get os m ≡ Some o → clock_in o.after p < this
 
 -- each pid that an event names is listed
 abbrev pub AreAllListed : List Stream → Type 0

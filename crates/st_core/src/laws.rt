@@ -1,16 +1,19 @@
 //! Laws of the machine, as contracts of functions that do nothing: each clause is a theorem over the
 //! definitions of `specs/`, and a proof that calls the function may use it.
 
-ghost use Rattle.std.specs.Prelude.{◌≡◌, ◌≤◌, ◌↔◌, ℕ, List, MatchOption, Some, All};
+ghost use Rattle.std.specs.Prelude.{◌≡◌, ◌≢◌, ◌≤◌, ◌↔◌, ℕ, List, MatchOption, Some, All, option_and_then, slice_get};
 ghost use Rattle.std.specs.List.{AllZip};
 ghost use Rattle.st_core.specs.declared.types.Act.{Act};
+ghost use Rattle.st_core.specs.declared.types.Event.{Event};
+ghost use Rattle.st_core.specs.declared.types.Kind.TheVariants as kind;
 ghost use Rattle.st_core.specs.declared.types.Pid.{Pid};
 ghost use Rattle.st_core.specs.declared.types.Token.{Token};
 ghost use Rattle.st_core.specs.Laws.{AreAllListed, IsLeastUnlisted, LeavesOthers, IsStamped, KeepsSound, ReportsAmong};
+ghost use Rattle.st_core.specs.Laws.{ClocksNeverFall, LiftsClock, NoReset, Reports, ReportsEvent};
 ghost use Rattle.st_core.specs.Pid.{IsRising};
 ghost use Rattle.st_core.specs.Streams.{unlisted};
-ghost use Rattle.st_core.specs.Pairs.{AllPaired, Follows, pairs};
-ghost use Rattle.st_core.specs.Run.{Shows, Stream, pids_of, run};
+ghost use Rattle.st_core.specs.Pairs.{AllPaired, Follows, IsFollowing, pairs};
+ghost use Rattle.st_core.specs.Run.{Shows, Stream, pids_of, run, stream};
 ghost use Rattle.st_core.specs.State.{LocalState, State};
 ghost use Rattle.st_core.specs.Step.{Outcome, step};
 ghost use Rattle.st_core.specs.Stamp.{stamp};
@@ -50,6 +53,43 @@ pub fn receives_follow()
 pub fn receives_are_paired()
     ensures { (top : ℕ) (pids : List Pid) (acts : List Act) (os : List Outcome)
         → run top pids acts ≡ Some os → AllPaired os (pairs acts os) }
+{}
+
+/// Where the send that a reported receive follows is reported too, its event is the receive's but
+/// for the kind.
+pub fn reported_sends_agree()
+    ensures { (top : ℕ) (pids : List Pid) (acts : List Act) (os : List Outcome)
+        → run top pids acts ≡ Some os → (r s : ℕ) (follows : IsFollowing acts os r s) (e : Event)
+        → option_and_then (λ o. o.report) (slice_get os s) ≡ Some e
+        → e ≡ record follows.event { kind = kind.Send } }
+{}
+
+/// Each event of a process's stream is the report of one of its acts.
+pub fn events_are_reports()
+    ensures { (acts : List Act) (os : List Outcome) (p : Pid) (i : ℕ) (e : Event)
+        → slice_get (stream acts os p) i ≡ Some e → (n : ℕ) × ReportsEvent acts os p i e n }
+{}
+
+/// In a run without a reset no clock falls.
+pub fn clocks_never_fall()
+    ensures { (top : ℕ) (pids : List Pid) (acts : List Act) (os : List Outcome)
+        → run top pids acts ≡ Some os → NoReset acts → ClocksNeverFall os }
+{}
+
+/// In a run without a reset each reported send or print lifts its process's clock to its count: so
+/// these counts rise.
+pub fn reported_stamps_lift_clocks()
+    ensures { (top : ℕ) (pids : List Pid) (acts : List Act) (os : List Outcome)
+        → run top pids acts ≡ Some os → NoReset acts → (p : Pid) (n : ℕ) (e : Event)
+        → Reports acts os p n e → e.kind ≢ kind.Receive → LiftsClock os p e.serial.this n }
+{}
+
+/// In a run without a reset each send that a reported receive follows, itself reported or not, lifts
+/// its process's clock to the receive's count: so a process sends no two messages with one count.
+pub fn followed_sends_lift_clocks()
+    ensures { (top : ℕ) (pids : List Pid) (acts : List Act) (os : List Outcome)
+        → run top pids acts ≡ Some os → NoReset acts → (r s : ℕ) (follows : IsFollowing acts os r s)
+        → LiftsClock os follows.event.from follows.event.serial.this s }
 {}
 
 /// Streams and acts have a verdict.

@@ -1,0 +1,455 @@
+-- In a run without a reset a clock doesn't fall, since only a reset lowers one, and a stamp lifts its process's clock
+-- to the stamp's count: so the count is above all that the clock was before.
+use Rattle.std.proofs.Common.{◌≡◌, ℕ, ◌+◌, ◌<◌, ◌≤◌, ◌≢◌, ◌&&◌, zero, suc, Bool, true, false, cond, nat_lt, List, []}
+use Rattle.std.proofs.Common.{◌∷◌, ◌++◌, Option, Some, None, is_some, option_map, option_and_then, All, inl, inr}
+use Rattle.std.proofs.Common.{refl, sym, ◌∙◌, ap, subst, arith}
+use Rattle.std.specs.List.{slice_get}
+use Rattle.std.proofs.lemmas.Bool.{false≢true, cases_order}
+use Rattle.std.proofs.lemmas.List.Elements.{All-nil, All-cons, All-weaker}
+use Rattle.std.proofs.lemmas.Option.{same_Some, none-some, cond_some, option_and_then_some}
+use Rattle.st_core.specs.declared.types.Pid.{Pid}
+use Rattle.st_core.specs.declared.types.Token.{Token}
+use Rattle.st_core.specs.declared.types.Message.{Message}
+use Rattle.st_core.specs.declared.types.Kind.{Kind}
+use Rattle.st_core.specs.declared.types.Kind.TheVariants as kind
+use Rattle.st_core.specs.declared.types.Event.{Event}
+use Rattle.st_core.specs.declared.types.Act.{Act}
+use Rattle.st_core.specs.declared.types.Act.TheVariants as act
+use Rattle.st_core.specs.declared.types.Reply.{Reply}
+use Rattle.st_core.specs.declared.types.Reply.TheVariants as reply
+use Rattle.st_core.specs.Pid.{pid_eq, node_eq}
+use Rattle.st_core.specs.State.{LocalState, Process, State, process, zero_state}
+use Rattle.st_core.specs.Stamp.{stamp, stamp_any, stamped_token}
+use Rattle.st_core.specs.Local.{received, default_token, has_label}
+use Rattle.st_core.specs.Pick.{pick}
+use Rattle.st_core.specs.Report.{flag_of, report}
+use Rattle.st_core.specs.Step.{Acted, Outcome, acted, actor, answers, sends, prints, receives, reached, changed, step}
+use Rattle.st_core.specs.Run.{run, run_from}
+use Rattle.st_core.specs.Pairs.{IsFollowing}
+use Rattle.st_core.specs.Laws.{Reports, is_reset, NoReset, clock_in, ClocksNeverFall, LiftsClock}
+use Rattle.st_core.proofs.Pids.{pid_eq-true, pid_eq-same}
+use Rattle.st_core.proofs.Others.{process_pid, mapped, Stepped, step_parts, run_parts, process_after}
+use Rattle.st_core.proofs.Zips.{AllPairs_cons}
+
+-- THE STAMP
+
+-- p's stamp t, by which its clock rose from this count to t's
+record IsStampAbove (p : Pid) (count : ℕ) (l : LocalState) (t : Token) : Type 0 where
+  from : t.from ≡ p
+  above : count < t.serial.this
+  reaches : l.clock ≡ t.serial.this
+
+-- p's record m was l and was stamped, or has no token
+record IsGrown (p : Pid) (l m : LocalState) : Type 0 where
+  least : l.clock ≤ m.clock
+  token : (t : Token) → m.token ≡ Some t → IsStampAbove p l.clock m t
+
+stamp_grows : (top : ℕ) (p : Pid) (l m : LocalState) → stamp top p l ≡ Some m → IsGrown p l m
+stamp_grows top p l m h =
+    let made = λ (t : Token). record l { token = Some (stamped_token p l t); clock = l.clock + 1 } in
+    option_and_then_some (λ t. cond (nat_lt l.clock top) (Some (made t)) None) l.token m h (λ t0 _ at.
+    let parts = cond_some (nat_lt l.clock top) (made t0) m at in
+    let stamped : IsStampAbove p l.clock (made t0) (stamped_token p l t0) =
+    record { from = refl; above = omega arith; reaches = refl } in
+    subst (IsGrown p l) parts.1 (record {
+      least = omega arith;
+      token = λ t e. subst (IsStampAbove p l.clock (made t0)) (same_Some (stamped_token p l t0) t e) stamped;
+    }))
+
+any_at : (top : ℕ) (p : Pid) (l m : LocalState) (token : Option Token) → l.token ≡ token
+    → cond (is_some token) (stamp top p l) (Some l) ≡ Some m → IsGrown p l m
+any_at top p l m None e h =
+    subst (IsGrown p l) (same_Some l m h)
+    (record { least = omega arith; token = λ t is. absurd (none-some t (sym e ∙ is)) })
+any_at top p l m (Some t) e h = stamp_grows top p l m h
+
+any_grows : (top : ℕ) (p : Pid) (l m : LocalState) → stamp_any top p l ≡ Some m → IsGrown p l m
+any_grows top p l m h = any_at top p l m l.token refl h
+
+-- THE ACTOR'S PART
+
+-- an actor's part: its clock doesn't fall, and where it reports a send or a print it rises to the event's count
+record IsCounted (l : LocalState) (done : Acted) : Type 0 where
+  least : l.clock ≤ done.local.clock
+  stamp : (e : Event) → done.report ≡ Some e → e.kind ≢ kind.Receive
+      → (l.clock < e.serial.this) × (done.local.clock ≡ e.serial.this)
+
+-- the event of a token
+abbrev event_of : Kind → Token → Option Pid → ℕ → Event
+event_of k t to v = record { label = t.label; kind = k; serial = t.serial; from = t.from; to = to; value = v }
+
+report_counted : (p : Pid) (l m : LocalState) (traced : Bool) (k : Kind) (token : Option Token) (to : Option Pid)
+    (v : ℕ) (e : Event) → IsGrown p l m → m.token ≡ token → report traced k token to v ≡ Some e
+    → (l.clock < e.serial.this) × (m.clock ≡ e.serial.this)
+report_counted p l m traced k None to v e g is h = absurd (none-some e h)
+report_counted p l m traced k (Some t) to v e g is h =
+    let stamped = g.token t is in
+    subst (λ (x : Event). (l.clock < x.serial.this) × (m.clock ≡ x.serial.this))
+    (cond_some (traced && flag_of k t.flags) (event_of k t to v) e h).1 (stamped.above, stamped.reaches)
+
+printed_counted : (r : Process) (v : ℕ) (stamped : Option LocalState) (done : Acted)
+    → ((m : LocalState) → stamped ≡ Some m → IsGrown r.pid r.local m) → option_map (prints r v) stamped ≡ Some done
+    → IsCounted r.local done
+printed_counted r v stamped done grows h =
+    let parts = mapped (prints r v) stamped done h in
+    let m = parts.0 in
+    let g = grows m parts.1 in
+    subst (IsCounted r.local) parts.2 (record {
+      least = g.least;
+      stamp = λ e is _. report_counted r.pid r.local m r.local.traced kind.Print m.token None v e g refl is;
+    })
+
+silent : (r : Process) (l : LocalState) (y : Reply) (done : Acted) → Some (answers r l y) ≡ Some done
+    → r.local.clock ≤ l.clock → IsCounted r.local done
+silent r l y done h least =
+    subst (IsCounted r.local) (same_Some (answers r l y) done h)
+    (record { least = least; stamp = λ e is _. absurd (none-some e is) })
+
+received_least : (l : LocalState) (token : Option Token) → l.clock ≤ (received l token).clock
+received_least l None = omega arith
+received_least l (Some t) = omega arith
+
+receive_reported : (traced : Bool) (token : Option Token) (to : Option Pid) (v : ℕ) (e : Event)
+    → report traced kind.Receive token to v ≡ Some e → e.kind ≡ kind.Receive
+receive_reported traced None to v e h = absurd (none-some e h)
+receive_reported traced (Some t) to v e h =
+    ap (λ (x : Event). x.kind)
+    (sym (cond_some (traced && flag_of kind.Receive t.flags) (event_of kind.Receive t to v) e h).1)
+
+received_counted : (r : Process) (found : Option (ℕ × Message)) → IsCounted r.local (receives r found)
+received_counted r None = record { least = omega arith; stamp = λ e is _. absurd (none-some e is) }
+received_counted r (Some found) =
+    let m = found.1 in
+    record {
+      least = received_least r.local m.token;
+      stamp = λ e is other. absurd (other (receive_reported r.local.traced m.token (Some r.pid) m.value e is));
+    }
+
+set_least : (p : Pid) (l : LocalState) (token : Option Token)
+    → l.clock ≤ (let m : LocalState = elim token [
+      | None ↦ record l { token = Some (default_token p); last = l.clock }
+      | Some t ↦ l
+    ] in m.clock)
+set_least p l None = omega arith
+set_least p l (Some t) = omega arith
+
+acted_counted : (top : ℕ) (a : Act) (r : Process) (done : Acted) → acted top r a ≡ Some done → IsCounted r.local done
+acted_counted top (act.Send p q v) r done h =
+    let parts = mapped (sends r q v) (stamp_any top r.pid r.local) done h in
+    let m = parts.0 in
+    let g = any_grows top r.pid r.local m parts.1 in
+    subst (IsCounted r.local) parts.2 (record {
+      least = g.least;
+      stamp = λ e is _. report_counted r.pid r.local m r.local.traced kind.Send m.token (Some q) v e g refl is;
+    })
+acted_counted top (act.Receive p w) r done h =
+    subst (IsCounted r.local) (same_Some _ done h) (received_counted r (pick w r.queue))
+acted_counted top (act.Print p v) r done h =
+    printed_counted r v (stamp_any top r.pid r.local) done (any_grows top r.pid r.local) h
+acted_counted top (act.PrintAt p n v) r done h =
+    elim (has_label n r.local.token) as (λ b.
+    cond b (option_map (prints r v) (stamp top r.pid r.local)) (Some (answers r r.local reply.Done)) ≡ Some done
+    → IsCounted r.local done) [
+      | true ↦ printed_counted r v (stamp top r.pid r.local) done (stamp_grows top r.pid r.local)
+      | false ↦ λ h. silent r r.local reply.Done done h (omega arith)
+    ] h
+acted_counted top (act.Set p c) r done h = silent r _ _ done h (set_least r.pid r.local r.local.token)
+acted_counted top (act.Clear p) r done h = silent r _ _ done h (omega arith)
+acted_counted top (act.Restore p t) r done h = silent r _ _ done h (omega arith)
+acted_counted top (act.Look p) r done h = silent r _ _ done h (omega arith)
+acted_counted top (act.Reset p) r done h = silent r _ _ done h (omega arith)
+acted_counted top (act.Tracer p b) r done h = silent r _ _ done h (omega arith)
+
+-- EACH PROCESS
+
+reached_clock : (a : Act) (t : Option Token) (r : Process) → is_reset a ≡ false
+    → (reached a t r).local.clock ≡ r.local.clock
+reached_clock (act.Reset p) t r plain = absurd (false≢true (sym plain))
+reached_clock (act.Send p q v) t r plain =
+    let m : Message = record { from = p; value = v; token = t } in
+    elim (pid_eq r.pid q) as (λ b.
+    (cond b (record r { queue = r.queue ++ m ∷ [] }) r).local.clock ≡ r.local.clock) [ true ↦ refl | false ↦ refl ]
+reached_clock (act.Tracer p on) t r plain =
+    elim (node_eq r.pid p) as (λ b.
+    (cond b (record r { local = record r.local { traced = on } }) r).local.clock ≡ r.local.clock) [
+      | true ↦ refl
+      | false ↦ refl
+    ]
+reached_clock (act.Receive p w) t r plain = refl
+reached_clock (act.Print p v) t r plain = refl
+reached_clock (act.PrintAt p n v) t r plain = refl
+reached_clock (act.Set p c) t r plain = refl
+reached_clock (act.Clear p) t r plain = refl
+reached_clock (act.Restore p x) t r plain = refl
+reached_clock (act.Look p) t r plain = refl
+
+-- the actor by its part, each other as it was
+changed_clock : (a : Act) (done : Acted) (r : Process) → is_reset a ≡ false
+    → (changed a done r).local.clock ≡ cond (pid_eq r.pid (actor a)) done.local.clock r.local.clock
+changed_clock a done r plain =
+    let own : Process = record r { local = done.local; queue = done.queue } in
+    reached_clock a done.local.token (cond (pid_eq r.pid (actor a)) own r) plain
+    ∙ elim (pid_eq r.pid (actor a)) as (λ b.
+    (cond b own r).local.clock ≡ cond b done.local.clock r.local.clock) [ true ↦ refl | false ↦ refl ]
+
+abbrev clock_found : Option Process → ℕ
+clock_found o = elim o [ None ↦ 0 | Some r ↦ r.local.clock ]
+
+found_clock : (a : Act) (done : Acted) (before : Process) (found : Option Process) → is_reset a ≡ false
+    → before.local.clock ≤ done.local.clock
+    → ((r : Process) → found ≡ Some r → pid_eq r.pid (actor a) ≡ true → before ≡ r)
+    → clock_found found ≤ clock_found (option_map (changed a done) found)
+found_clock a done before None plain least same = omega arith
+found_clock a done before (Some r) plain least same =
+    elim (pid_eq r.pid (actor a)) as (λ b. pid_eq r.pid (actor a) ≡ b
+    → (changed a done r).local.clock ≡ cond b done.local.clock r.local.clock
+    → r.local.clock ≤ (changed a done r).local.clock) [
+      | true ↦ λ is e.
+          let who : before.local.clock ≡ r.local.clock = ap (λ (x : Process). x.local.clock) (same r refl is) in
+          omega arith
+      | false ↦ λ is e. omega arith
+    ] refl (changed_clock a done r plain)
+
+-- no step but a reset lowers a clock
+step_clock : (top : ℕ) (s : State) (a : Act) (o : Outcome) (p : Pid) → step top s a ≡ Some o → is_reset a ≡ false
+    → clock_in s p ≤ clock_in o.after p
+step_clock top s a o p h plain =
+    let t = step_parts top s a o h in
+    let same = λ (r : Process) (is_r : process s p ≡ Some r) (mine : pid_eq r.pid (actor a) ≡ true).
+    let who : actor a ≡ p = sym (pid_eq-true r.pid (actor a) mine) ∙ process_pid s p r is_r in
+    same_Some t.before r (sym t.is_before ∙ ap (process s) who ∙ is_r) in
+    subst (λ found. clock_in s p ≤ clock_found found) (sym (process_after top s a o t p))
+    (found_clock a t.done t.before (process s p) plain (acted_counted top a t.before t.done t.is_done).least same)
+
+-- A STEP THAT LIFTS A CLOCK
+
+record Lifts (s : State) (o : Outcome) (p : Pid) (this : ℕ) : Type 0 where
+  above : clock_in s p < this
+  reaches : clock_in o.after p ≡ this
+
+-- the actor's process before and after a step
+record ActorSteps (top : ℕ) (s : State) (a : Act) (o : Outcome) (t : Stepped top s a o) : Type 0 where
+  mine : pid_eq t.before.pid (actor a) ≡ true
+  before : clock_in s (actor a) ≡ t.before.local.clock
+  after : process o.after (actor a) ≡ Some (changed a t.done t.before)
+
+actor_steps : (top : ℕ) (s : State) (a : Act) (o : Outcome) (t : Stepped top s a o) → ActorSteps top s a o t
+actor_steps top s a o t = record {
+  mine = ap (λ p. pid_eq p (actor a)) (process_pid s (actor a) t.before t.is_before) ∙ pid_eq-same (actor a);
+  before = ap clock_found t.is_before;
+  after = process_after top s a o t (actor a) ∙ ap (option_map (changed a t.done)) t.is_before;
+}
+
+actor_clock : (top : ℕ) (s : State) (a : Act) (o : Outcome) (t : Stepped top s a o) → is_reset a ≡ false
+    → clock_in o.after (actor a) ≡ t.done.local.clock
+actor_clock top s a o t plain =
+    let both = actor_steps top s a o t in
+    ap clock_found both.after
+    ∙ changed_clock a t.done t.before plain
+    ∙ ap (λ b. cond b t.done.local.clock t.before.local.clock) both.mine
+
+-- a reported send or print
+report_lifts : (top : ℕ) (s : State) (a : Act) (o : Outcome) (e : Event) → step top s a ≡ Some o → is_reset a ≡ false
+    → o.report ≡ Some e → e.kind ≢ kind.Receive → Lifts s o (actor a) e.serial.this
+report_lifts top s a o e h plain is other =
+    let t = step_parts top s a o h in
+    let counted = acted_counted top a t.before t.done t.is_done in
+    let rise = counted.stamp e (ap (λ (x : Outcome). x.report) t.is_outcome ∙ is) other in
+    let above = rise.0 in
+    let before = (actor_steps top s a o t).before in
+    record { above = omega arith; reaches = actor_clock top s a o t plain ∙ rise.1 }
+
+-- A SEND AND ITS TOKEN
+
+-- a send's actor has its own part afterwards
+sent_local : (p q : Pid) (v : ℕ) (done : Acted) (r : Process) → pid_eq r.pid p ≡ true
+    → (changed (act.Send p q v) done r).local ≡ done.local
+sent_local p q v done r mine =
+    let own : Process = record r { local = done.local; queue = done.queue } in
+    let m : Message = record { from = p; value = v; token = done.local.token } in
+    ap (λ b. (reached (act.Send p q v) done.local.token (cond b own r)).local) mine
+    ∙ elim (pid_eq r.pid q) as (λ b. (cond b (record own { queue = own.queue ++ m ∷ [] }) own).local ≡ done.local) [
+      | true ↦ refl
+      | false ↦ refl
+    ]
+
+-- a send after which its actor has this token: the token is its stamp, which lifted its clock to the token's count, and
+-- its report, if it has one, is the token's
+record Sends (s : State) (p q : Pid) (v : ℕ) (o : Outcome) (token : Token) : Type 0 where
+  from : token.from ≡ p
+  lifts : Lifts s o p token.serial.this
+  report : (e : Event) → o.report ≡ Some e → e ≡ event_of kind.Send token (Some q) v
+
+sent : (top : ℕ) (s : State) (p q : Pid) (v : ℕ) (o : Outcome) (r : Process) (token : Token)
+    → step top s (act.Send p q v) ≡ Some o → process o.after p ≡ Some r → r.local.token ≡ Some token
+    → Sends s p q v o token
+sent top s p q v o r token h is has =
+    let a = act.Send p q v in
+    let t = step_parts top s a o h in
+    let x = t.before in
+    let both = actor_steps top s a o t in
+    let parts = mapped (sends x q v) (stamp_any top x.pid x.local) t.done t.is_done in
+    let m = parts.0 in
+    let part : t.done.local ≡ m = ap (λ (d : Acted). d.local) (sym parts.2) in
+    let own : r.local ≡ m =
+    ap (λ (y : Process). y.local) (same_Some r _ (sym is ∙ both.after)) ∙ sent_local p q v t.done x both.mine ∙ part in
+    let token_is : m.token ≡ Some token = ap (λ (l : LocalState). l.token) (sym own) ∙ has in
+    let stamped = (any_grows top x.pid x.local m parts.1).token token token_is in
+    let above = stamped.above in
+    let before = both.before in
+    record {
+      from = stamped.from ∙ process_pid s p x t.is_before;
+      lifts = record {
+        above = omega arith;
+        reaches = ap clock_found is ∙ ap (λ (l : LocalState). l.clock) own ∙ stamped.reaches;
+      };
+      report = λ e reported.
+          let told : report x.local.traced kind.Send m.token (Some q) v ≡ Some e =
+          ap (λ (d : Acted). d.report) parts.2 ∙ ap (λ (y : Outcome). y.report) t.is_outcome ∙ reported in
+          let event = event_of kind.Send token (Some q) v in
+          sym (cond_some (x.local.traced && token.flags.send) event e
+          (ap (λ k. report x.local.traced kind.Send k (Some q) v) (sym token_is) ∙ told)).1;
+    }
+
+-- RUNS
+
+-- an act of a run as a step
+step_in : (top : ℕ) (s : State) (acts : List Act) (os : List Outcome) (n : ℕ) (a : Act) (o : Outcome)
+    → run_from top s acts ≡ Some os → slice_get acts n ≡ Some a → slice_get os n ≡ Some o
+    → (before : State) × (step top before a ≡ Some o)
+step_in top s [] os n a o h at out = absurd (none-some a at)
+step_in top s (b ∷ acts) os zero a o h at out =
+    let t = run_parts top s b acts os h in
+    let same = same_Some t.first o (ap (λ xs. slice_get xs 0) (sym t.is_whole) ∙ out) in
+    (s, ap (step top s) (sym (same_Some b a at)) ∙ t.is_first ∙ ap (λ (x : Outcome). Some x) same)
+step_in top s (b ∷ acts) os (suc n) a o h at out =
+    let t = run_parts top s b acts os h in
+    step_in top t.first.after acts t.others n a o t.is_rest at (ap (λ xs. slice_get xs (suc n)) (sym t.is_whole) ∙ out)
+
+-- all later clocks are at least those of the state before
+clocks_above : (top : ℕ) (s : State) (acts : List Act) (os : List Outcome) → run_from top s acts ≡ Some os
+    → NoReset acts → All (λ o. (p : Pid) → clock_in s p ≤ clock_in o.after p) os
+clocks_above top s [] os h none =
+    subst (All (λ o. (p : Pid) → clock_in s p ≤ clock_in o.after p)) (same_Some [] os h) (All-nil _)
+clocks_above top s (a ∷ acts) os h none =
+    let t = run_parts top s a acts os h in
+    let above = λ (low : State) (o : Outcome). (p : Pid) → clock_in low p ≤ clock_in o.after p in
+    let first = λ (p : Pid). step_clock top s a t.first p t.is_first none.0 in
+    let rest = clocks_above top t.first.after acts t.others t.is_rest none.1 in
+    let later = λ (o : Outcome) (more : above t.first.after o) (p : Pid).
+    let low = first p in
+    let high = more p in
+    let both : clock_in s p ≤ clock_in o.after p = omega arith in
+    both in
+    subst (All (above s)) (sym t.is_whole)
+    (All-cons (above s) t.first t.others first (All-weaker (above t.first.after) (above s) later t.others rest))
+
+never_fall_from : (top : ℕ) (s : State) (acts : List Act) (os : List Outcome) → run_from top s acts ≡ Some os
+    → NoReset acts → ClocksNeverFall os
+never_fall_from top s [] os h none =
+    subst ClocksNeverFall (same_Some [] os h) (λ i j d below within. absurd (omega arith))
+never_fall_from top s (a ∷ acts) os h none =
+    let t = run_parts top s a acts os h in
+    subst ClocksNeverFall (sym t.is_whole)
+    (AllPairs_cons (λ (o later : Outcome). (p : Pid) → clock_in o.after p ≤ clock_in later.after p) t.first t.others
+    (clocks_above top t.first.after acts t.others t.is_rest none.1)
+    (never_fall_from top t.first.after acts t.others t.is_rest none.1))
+
+-- in every run
+pub clocks_never_fall : (top : ℕ) (pids : List Pid) (acts : List Act) (os : List Outcome) → run top pids acts ≡ Some os
+    → NoReset acts → ClocksNeverFall os
+clocks_never_fall top pids acts os = never_fall_from top (zero_state pids) acts os
+
+-- what lifts a clock in its step lifts it in the run
+record LiftsFrom (s : State) (os : List Outcome) (p : Pid) (this n : ℕ) : Type 0 where
+  above : clock_in s p < this
+  lifts : LiftsClock os p this n
+
+lifts_from : (top : ℕ) (s : State) (acts : List Act) (os : List Outcome) (p : Pid) (this n : ℕ) (a : Act) (o : Outcome)
+    → run_from top s acts ≡ Some os → NoReset acts → slice_get acts n ≡ Some a → slice_get os n ≡ Some o
+    → ((low : State) → step top low a ≡ Some o → is_reset a ≡ false → Lifts low o p this)
+    → LiftsFrom s os p this n
+lifts_from top s [] os p this n a o h none at out lifts = absurd (none-some a at)
+lifts_from top s (b ∷ acts) os p this zero a o h none at out lifts =
+    let t = run_parts top s b acts os h in
+    let same : b ≡ a = same_Some b a at in
+    let is : t.first ≡ o = same_Some t.first o (ap (λ xs. slice_get xs 0) (sym t.is_whole) ∙ out) in
+    let stepped = ap (step top s) (sym same) ∙ t.is_first ∙ ap (λ (x : Outcome). Some x) is in
+    let here = lifts s stepped (ap is_reset (sym same) ∙ none.0) in
+    record {
+      above = here.above;
+      lifts = record { outcome = o; at = out; reaches = here.reaches; above = λ m x less there. absurd (omega arith) };
+    }
+lifts_from top s (b ∷ acts) os p this (suc n) a o h none at out lifts =
+    let t = run_parts top s b acts os h in
+    let behind = ap (λ xs. slice_get xs (suc n)) (sym t.is_whole) ∙ out in
+    let rest = lifts_from top t.first.after acts t.others p this n a o t.is_rest none.1 at behind lifts in
+    let first = step_clock top s b t.first p t.is_first none.0 in
+    let high = rest.above in
+    subst (λ xs. LiftsFrom s xs p this (suc n)) (sym t.is_whole) (record {
+      above = omega arith;
+      lifts = record {
+        outcome = rest.lifts.outcome;
+        at = rest.lifts.at;
+        reaches = rest.lifts.reaches;
+        above = λ m x less there. elim m as (λ m. m < suc n → slice_get (t.first ∷ t.others) m ≡ Some x
+            → clock_in x.after p < this) [
+              | zero ↦ λ less there.
+                  subst (λ (y : Outcome). clock_in y.after p < this) (same_Some t.first x there) high
+              | suc k ↦ λ less there. rest.lifts.above k x (omega arith) there
+            ] less there;
+      };
+    })
+
+-- in every run
+pub reported_stamps_lift : (top : ℕ) (pids : List Pid) (acts : List Act) (os : List Outcome)
+    → run top pids acts ≡ Some os → NoReset acts → (p : Pid) (n : ℕ) (e : Event) → Reports acts os p n e
+    → e.kind ≢ kind.Receive → LiftsClock os p e.serial.this n
+reported_stamps_lift top pids acts os h none p n e r other =
+    option_and_then_some (λ (o : Outcome). o.report) (slice_get os n) e r.report (λ o out is.
+    let lifts = λ (s : State) (stepped : step top s r.act ≡ Some o) (plain : is_reset r.act ≡ false).
+    subst (λ q. Lifts s o q e.serial.this) r.own (report_lifts top s r.act o e stepped plain is other) in
+    (lifts_from top (zero_state pids) acts os p e.serial.this n r.act o h none r.at out lifts).lifts)
+
+module _ (top : ℕ) (pids : List Pid) (acts : List Act) (os : List Outcome) (h : run top pids acts ≡ Some os)
+    (r s : ℕ) (f : IsFollowing acts os r s) where
+  pub followed_sends_lift : NoReset acts → LiftsClock os f.event.from f.event.serial.this s
+  followed_sends_lift none =
+      let e = f.event in
+      option_and_then_some (λ (o : Outcome). process o.after e.from) (slice_get os s) f.sender f.is_sender (λ o out is.
+      let lifts = λ (x : State) (stepped : step top x (act.Send e.from f.to e.value) ≡ Some o) (_ : false ≡ false).
+      (sent top x e.from f.to e.value o f.sender f.token stepped is f.stamped).lifts in
+      subst (λ t. LiftsClock os e.from t s) (ap (λ x. x.this) f.serial)
+      (lifts_from top (zero_state pids) acts os e.from f.token.serial.this s (act.Send e.from f.to e.value) o h none
+      f.sends out lifts).lifts)
+
+  pub reported_sends_agree : (e : Event) → option_and_then (λ o. o.report) (slice_get os s) ≡ Some e
+      → e ≡ record f.event { kind = kind.Send }
+  reported_sends_agree e reported =
+      let x = f.event in
+      option_and_then_some (λ (o : Outcome). process o.after x.from) (slice_get os s) f.sender f.is_sender (λ o out is.
+      let told : o.report ≡ Some e = ap (option_and_then (λ (y : Outcome). y.report)) (sym out) ∙ reported in
+      let at = step_in top (zero_state pids) acts os s (act.Send x.from f.to x.value) o h f.sends out in
+      let sends = sent top at.0 x.from f.to x.value o f.sender f.token at.1 is f.stamped in
+      sends.report e told ∙ (λ k. record {
+        label = f.label k;
+        kind = kind.Send;
+        serial = f.serial k;
+        from = sends.from k;
+        to = sym f.is_to k;
+        value = x.value;
+      }))
+
+-- one act at most lifts a clock to a count
+pub lifted_once : (os : List Outcome) (p : Pid) (this m n : ℕ) → LiftsClock os p this m → LiftsClock os p this n
+    → m ≡ n
+lifted_once os p this m n a b = elim (cases_order m n) [
+  | inl same ↦ same
+  | inr (inl less) ↦ let low = b.above m a.outcome less a.at in let high = a.reaches in absurd (omega arith)
+  | inr (inr more) ↦ let low = a.above n b.outcome more b.at in let high = b.reaches in absurd (omega arith)
+]
+
+-- and a later one to a greater count
+pub lifted_later : (os : List Outcome) (p : Pid) (x y m n : ℕ) → LiftsClock os p x m → LiftsClock os p y n → m < n
+    → x < y
+lifted_later os p x y m n a b less = let low = b.above m a.outcome less a.at in let high = a.reaches in omega arith

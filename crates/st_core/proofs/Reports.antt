@@ -1,0 +1,84 @@
+-- An event of a process's stream is the report of one of its acts, since a stream is its acts' reports in their order:
+-- so of two events the earlier one is an earlier act's.
+use Rattle.std.proofs.Common.{◌≡◌, ℕ, ◌+◌, ◌<◌, ◌≤◌, ◌⊎◌, zero, suc, Bool, true, false, List, [], ◌∷◌, ◌++◌, length}
+use Rattle.std.proofs.Common.{take, drop, Option, Some, None, option_to_list, inl, inr, refl, sym, ◌∙◌, ap, arith}
+use Rattle.std.proofs.Common.{length-append, if◌then◌else◌}
+use Rattle.std.specs.List.{slice_get}
+use Rattle.std.proofs.lemmas.Bool.{cases_lt}
+use Rattle.std.proofs.lemmas.List.{take-take}
+use Rattle.std.proofs.lemmas.Option.{none-some}
+use Rattle.st_core.specs.declared.types.Pid.{Pid}
+use Rattle.st_core.specs.declared.types.Event.{Event}
+use Rattle.st_core.specs.declared.types.Act.{Act}
+use Rattle.st_core.specs.Pid.{pid_eq}
+use Rattle.st_core.specs.Step.{Outcome, actor}
+use Rattle.st_core.specs.Run.{stream}
+use Rattle.st_core.specs.Laws.{ReportsEvent}
+use Rattle.st_core.proofs.Pids.{pid_eq-true}
+use Rattle.st_core.proofs.Runs.{stream-take}
+
+-- what an act reports for p
+abbrev told : Pid → Act → Outcome → List Event
+told p a o = if pid_eq (actor a) p then option_to_list o.report else []
+
+-- the first event is this act's report, or event i stands behind what this act reports
+front : (mine : Bool) (report : Option Event) (rest : List Event) (i : ℕ) (e : Event)
+    → (let here : List Event = if mine then option_to_list report else [] in slice_get (here ++ rest) i ≡ Some e
+    → ((i ≡ 0) × (mine ≡ true) × (report ≡ Some e)) ⊎ ((j : ℕ) × (length here + j ≡ i) × (slice_get rest j ≡ Some e)))
+front false report rest i e h = inr (i, omega arith, h)
+front true None rest i e h = inr (i, omega arith, h)
+front true (Some x) rest zero e h = inl (refl, refl, h)
+front true (Some x) rest (suc i) e h = inr (i, omega arith, h)
+
+pub event_reported : (acts : List Act) (os : List Outcome) (p : Pid) (i : ℕ) (e : Event)
+    → slice_get (stream acts os p) i ≡ Some e → (n : ℕ) × ReportsEvent acts os p i e n
+event_reported [] os p i e h = absurd (none-some e h)
+event_reported (a ∷ acts) [] p i e h = absurd (none-some e h)
+event_reported (a ∷ acts) (o ∷ os) p i e h =
+    elim (front (pid_eq (actor a) p) o.report (stream acts os p) i e h) [
+      | inl now ↦ (
+        0,
+        record {
+          reports = record { act = a; at = refl; own = pid_eq-true (actor a) p now.1; report = now.2 };
+          before = sym now.0;
+        },
+      )
+      | inr rest ↦
+          let later = event_reported acts os p rest.0 e rest.2 in
+          let n = later.0 in
+          let r = later.1.reports in
+          let before = later.1.before in
+          let sum = rest.1 in
+          let both = length-append (told p a o) (stream (take n acts) (take n os) p) in (
+            suc n,
+            record {
+              reports = record { act = r.act; at = r.at; own = r.own; report = r.report };
+              before = omega arith;
+            },
+          )
+    ]
+
+-- the acts before a later act report no fewer events
+count_rises : (acts : List Act) (os : List Outcome) (p : Pid) (m n : ℕ) → m ≤ n
+    → length (stream (take m acts) (take m os) p) ≤ length (stream (take n acts) (take n os) p)
+count_rises acts os p m n le =
+    let front = stream (take m (take n acts)) (take m (take n os)) p in
+    let back = stream (drop m (take n acts)) (drop m (take n os)) p in
+    let whole = ap length (stream-take m (take n acts) (take n os) p) ∙ length-append front back in
+    let same : front ≡ stream (take m acts) (take m os) p =
+    ap (λ xs. stream xs (take m (take n os)) p) (take-take m n acts le) ∙ ap (λ ys. stream (take m acts) ys p)
+    (take-take m n os le) in
+    let even = ap length same in
+    omega arith
+
+-- an earlier event is an earlier act's
+pub reported_in_order : (acts : List Act) (os : List Outcome) (p : Pid) (i j m n : ℕ) (d e : Event)
+    → ReportsEvent acts os p i d m → ReportsEvent acts os p j e n → i < j → m < n
+reported_in_order acts os p i j m n d e first second less = elim (cases_lt m n) [
+  | inl before ↦ before
+  | inr after ↦
+      let rise = count_rises acts os p n m after in
+      let here = first.before in
+      let there = second.before in
+      absurd (omega arith)
+]
