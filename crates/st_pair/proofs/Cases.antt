@@ -1,13 +1,24 @@
 -- Worked cases: the definitions computed. Nothing cites this file; it shows that the definitions say what is meant.
-use Rattle.std.specs.Prelude.{◌≡◌, ℕ, List, [], ◌∷◌, Some, None, refl}
+use Rattle.std.specs.Prelude.{◌≡◌, ℕ, true, List, [], ◌∷◌, ◌++◌, Some, None, refl}
+use Rattle.std.specs.List.{AllByRecursion}
+use Rattle.std.proofs.lemmas.List.Elements.{All-from_recursion}
 use Rattle.st_core.specs.declared.types.Pid.{Pid}
 use Rattle.st_core.specs.declared.types.Event.{Event}
 use Rattle.st_core.specs.declared.types.Kind.TheVariants as kind
+use Rattle.st_core.specs.declared.types.Want.TheVariants as want
+use Rattle.st_core.specs.declared.types.Component.{Component}
+use Rattle.st_core.specs.declared.types.Component.TheVariants as component
+use Rattle.st_core.specs.declared.types.Act.{Act}
+use Rattle.st_core.specs.declared.types.Act.TheVariants as act
 use Rattle.st_core.specs.Pid.{pid_on}
-use Rattle.st_core.specs.Run.{Stream}
+use Rattle.st_core.specs.Step.{Outcome}
+use Rattle.st_core.specs.Run.{Stream, Shows, pids_of, run, stream}
+use Rattle.st_pair.specs.declared.answer.PairFault.{PairFault}
 use Rattle.st_pair.specs.declared.answer.PairFault.TheVariants as fault
 use Rattle.st_pair.specs.declared.answer.Source.TheVariants as source
 use Rattle.st_pair.specs.Pairing.{refusal, source_at, receiver_at}
+use Rattle.st_pair.specs.Final.{NeverShown}
+use Rattle.st_pair.proofs.Final.{prev_never_shown}
 
 abbrev pub sent : ℕ → ℕ → ℕ → Pid → Pid → ℕ → Event
 sent n prev this p q v = record {
@@ -157,3 +168,83 @@ low_receive = refl
 prev_before_rising : refusal (of a (printed 17 0 2 a 1 ∷ printed 17 0 1 a 1 ∷ printed 17 3 3 a 1 ∷ []) ∷ [])
     ≡ Some (fault.PrevNotBefore a 2)
 prev_before_rising = refl
+
+-- WHICH REFUSALS ARE FINAL
+
+-- no acts show a serial that doesn't rise
+abbrev pub level : List Stream
+level = of a (printed 17 1 1 a 7 ∷ []) ∷ []
+
+level_refused : refusal level ≡ Some (fault.PrevNotBefore a 0)
+level_refused = refl
+
+level_never : NeverShown level
+level_never = prev_never_shown level (fault.PrevNotBefore a 0) refl tt
+
+-- The other three are final for acts without a reset alone: these streams are refused, and these acts show them.
+abbrev top : ℕ
+top = 18446744073709551615
+
+abbrev outcomes : List Stream → List Act → List Outcome
+outcomes streams acts = elim (run top (pids_of streams) acts) [ None ↦ [] | Some os ↦ os ]
+
+shows : (streams : List Stream) (acts : List Act) → run top (pids_of streams) acts ≡ Some (outcomes streams acts)
+    → AllByRecursion (λ x. stream acts (outcomes streams acts) x.pid ≡ x.events) streams → Shows top streams acts
+shows streams acts runs shown = (outcomes streams acts, runs, All-from_recursion _ streams shown)
+
+-- a token of label 17 with one flag
+abbrev begun : Pid → Component → List Act
+begun p flag = act.Set p (component.Label (record { 0 = 17 })) ∷ act.Set p flag ∷ []
+
+-- a print on each side of a reset, both with the first count
+abbrev printed_twice : List Stream
+printed_twice = of a (printed 17 0 1 a 7 ∷ printed 17 0 1 a 7 ∷ []) ∷ []
+
+abbrev print_twice : List Act
+print_twice = (act.Tracer a true ∷ begun a (component.Print true)) ++ (act.Print a 7 ∷ act.Reset a ∷ [])
+    ++ begun a (component.Print true) ++ (act.Print a 7 ∷ [])
+
+printed_twice_refused : refusal printed_twice ≡ Some (fault.NotRising a 1 0)
+printed_twice_refused = refl
+
+printed_twice_shown : Shows top printed_twice print_twice
+printed_twice_shown = shows printed_twice print_twice refl (refl, tt)
+
+-- two messages with one count, the first queued on another node than the reset's
+abbrev d : Pid
+d = pid_on 1 30
+
+abbrev e : Pid
+e = pid_on 2 31
+
+abbrev received_twice : List Stream
+received_twice = of d [] ∷ of e (got 17 0 1 d e 5 ∷ got 17 0 1 d e 5 ∷ []) ∷ []
+
+abbrev send_twice : List Act
+send_twice = (act.Tracer d true ∷ act.Tracer e true ∷ begun d (component.Receive true))
+    ++ (act.Send d e 5 ∷ act.Reset d ∷ begun d (component.Receive true))
+    ++ (act.Send d e 5 ∷ act.Receive e want.First ∷ act.Receive e want.First ∷ [])
+
+received_twice_refused : refusal received_twice ≡ Some (fault.Repeated e 1 e 0)
+received_twice_refused = refl
+
+received_twice_shown : Shows top received_twice send_twice
+received_twice_shown = shows received_twice send_twice refl (refl, (refl, tt))
+
+-- a print before a reset, and a hidden send after it with the print's count
+abbrev print_not_send : List Stream
+print_not_send = of a (printed 17 0 1 a 7 ∷ []) ∷ of b (got 17 0 1 a b 5 ∷ []) ∷ []
+
+abbrev print_then_send : List Act
+print_then_send = (act.Tracer a true ∷ begun a (component.Print true)) ++ (act.Print a 7 ∷ act.Reset a ∷ [])
+    ++ begun a (component.Receive true) ++ (act.Send a b 5 ∷ act.Receive b want.First ∷ [])
+
+print_not_send_refused : refusal print_not_send ≡ Some (fault.Mismatch b 0 a 0)
+print_not_send_refused = refl
+
+print_not_send_shown : Shows top print_not_send print_then_send
+print_not_send_shown = shows print_not_send print_then_send refl (refl, (refl, tt))
+
+-- so the refusals without PrevNotBefore aren't final for all acts
+not_final : ¬ ((streams : List Stream) (f : PairFault) → refusal streams ≡ Some f → NeverShown streams)
+not_final final = final printed_twice (fault.NotRising a 1 0) refl top print_twice printed_twice_shown

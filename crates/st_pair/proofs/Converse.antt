@@ -56,7 +56,7 @@ numbered (x ∷ streams) zero s at = ap (λ (y : Stream). Some y.pid) (same_Some
 numbered (x ∷ streams) (suc k) s at = numbered streams k s at
 
 -- the stream in which a rule gave it first, by its number
-first_in : {X : Type 0} (rule : Rule X) (streams : List Stream) (x : X) → first rule streams ≡ Some x
+pub first_in : {X : Type 0} (rule : Rule X) (streams : List Stream) (x : X) → first rule streams ≡ Some x
     → (k : ℕ) × (s : Stream) × (slice_get streams k ≡ Some s) × (first_from rule s.pid 0 s.events ≡ Some x)
 first_in {X} rule [] x h = absurd (none-some x h)
 first_in {X} rule (s ∷ streams) x h = elim (first_from rule s.pid 0 s.events)
@@ -103,7 +103,7 @@ some_if : {X : Type 0} (b : Bool) (x y : X) → cond b (Some x) None ≡ Some y 
 some_if true x y h = (refl, same_Some x y h)
 some_if false x y h = absurd (none-some y h)
 
-some_unless : {X : Type 0} (b : Bool) (x y : X) → cond b None (Some x) ≡ Some y → (b ≡ false) × (x ≡ y)
+pub some_unless : {X : Type 0} (b : Bool) (x y : X) → cond b None (Some x) ≡ Some y → (b ≡ false) × (x ≡ y)
 some_unless true x y h = absurd (none-some y h)
 some_unless false x y h = (refl, same_Some x y h)
 
@@ -115,13 +115,13 @@ under_unless : {X : Type 0} (b : Bool) (o : Option X) (y : X) → cond b None o 
 under_unless true o y h = absurd (none-some y h)
 under_unless false o y h = (refl, h)
 
-record SaysStamp (this n : ℕ) (e : Event) (g : ℕ × Event) : Type 0 where
-  stamps : is_stamp e ≡ true
-  count : e.serial.this ≡ this
-  index : n ≡ g.0
-  event : e ≡ g.1
+pub record SaysStamp (this n : ℕ) (e : Event) (g : ℕ × Event) : Type 0 where
+  pub stamps : is_stamp e ≡ true
+  pub count : e.serial.this ≡ this
+  pub index : n ≡ g.0
+  pub event : e ≡ g.1
 
-own_says : (this : ℕ) (p : Pid) (n : ℕ) (e : Event) (g : ℕ × Event) → own_rule this p n e ≡ Some g
+pub own_says : (this : ℕ) (p : Pid) (n : ℕ) (e : Event) (g : ℕ × Event) → own_rule this p n e ≡ Some g
     → SaysStamp this n e g
 own_says this p n e g h =
     let parts = some_if (is_stamp e && e.serial.this == this) (n, e) g h in
@@ -133,14 +133,14 @@ own_says this p n e g h =
       event = ap (λ (x : ℕ × Event). x.1) parts.1;
     }
 
-record SaysReceive (q : Pid) (this : ℕ) (p : Pid) (i : ℕ) (e : Event) (x : Pid × ℕ) : Type 0 where
-  receives : is_stamp e ≡ false
-  from : e.from ≡ q
-  count : e.serial.this ≡ this
-  pid : p ≡ x.0
-  index : i ≡ x.1
+pub record SaysReceive (q : Pid) (this : ℕ) (p : Pid) (i : ℕ) (e : Event) (x : Pid × ℕ) : Type 0 where
+  pub receives : is_stamp e ≡ false
+  pub from : e.from ≡ q
+  pub count : e.serial.this ≡ this
+  pub pid : p ≡ x.0
+  pub index : i ≡ x.1
 
-got_says : (q : Pid) (this : ℕ) (p : Pid) (i : ℕ) (e : Event) (x : Pid × ℕ) → got_rule q this p i e ≡ Some x
+pub got_says : (q : Pid) (this : ℕ) (p : Pid) (i : ℕ) (e : Event) (x : Pid × ℕ) → got_rule q this p i e ≡ Some x
     → SaysReceive q this p i e x
 got_says q this p i e x h =
     let rest = under_unless (is_stamp e) (cond (pid_eq e.from q && e.serial.this == this) (Some (p, i)) None) x h in

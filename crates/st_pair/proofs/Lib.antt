@@ -7,5 +7,7 @@ pub mod Linkage
 pub mod Accepted
 pub mod Converse
 pub mod Leasts
+pub mod Reasons
+pub mod Final
 mod Cases
 pub mod ForCallers

@@ -1,6 +1,7 @@
--- Which send each reported receive took, and why streams cannot hang together. Public contracts cite these four.
+-- Which send each reported receive took, and why streams cannot hang together. Public contracts cite these five.
 pub mod Places
 pub mod Pairing
+pub mod Final
 pub mod Links
 pub mod Laws
 -- For the parts of one module alone: `src/tables.rt`.

@@ -6,6 +6,9 @@ use thiserror::Error;
 /// Why streams can't hang together. A place is a process and an index in its stream, counted from
 /// 0. Each reason is tried over all places before the next, and the least place is named, by pid
 /// and then index (own profile).
+///
+/// `PrevNotBefore` is final: no acts show such streams. The three reasons after it are final for
+/// acts without a reset, which sets the counts of a node's processes back to 0.
 #[derive(Clone, Copy, Debug, PartialEq, Eq, Error)]
 pub enum PairFault {
     /// Refusal 1: a growth was refused. It can come in place of any other answer.

@@ -7,7 +7,9 @@ ghost use Rattle.st_core.specs.declared.types.Pid.{Pid};
 ghost use Rattle.st_core.specs.Run.{Stream};
 ghost use Rattle.st_core.specs.Streams.{IsStreams};
 ghost use Rattle.st_pair.specs.declared.answer.PairFault.{PairFault};
+ghost use Rattle.st_pair.specs.declared.answer.PairFault.TheVariants as fault;
 ghost use Rattle.st_pair.specs.declared.answer.Source.TheVariants as source;
+ghost use Rattle.st_pair.specs.Final.{NeverShown, NeverShownInOneTrace};
 ghost use Rattle.st_pair.specs.Laws.{IsLeast};
 ghost use Rattle.st_pair.specs.Pairing.{receiver_at, refusal, source_at};
 ghost use Rattle.st_pair.specs.Places.{event_at, first, is_stamp};
@@ -30,4 +32,18 @@ pub fn stamp_counts_rise()
     ensures { (streams : List Stream) → refusal streams ≡ None →
         (p : Pid) (j i : ℕ) (d e : Event) → j < i → event_at streams p j ≡ Some d → event_at streams p i ≡ Some e →
         is_stamp d ≡ true → is_stamp e ≡ true → d.serial.this < e.serial.this }
+{}
+
+/// Where an event's prev isn't less than its this, no acts show the streams: the serial of every
+/// report rises.
+pub fn prev_not_before_is_final()
+    ensures { (streams : List Stream) (p : Pid) (i : ℕ) →
+        refusal streams ≡ Some (fault.PrevNotBefore p i) → NeverShown streams }
+{}
+
+/// Where any of the four reasons stands against streams, no acts without a reset show them: without
+/// one a process stamps no count twice, and ever greater ones.
+pub fn refusals_are_final_without_reset()
+    ensures { (streams : List Stream) (reason : PairFault) →
+        refusal streams ≡ Some reason → NeverShownInOneTrace streams }
 {}

@@ -1,11 +1,12 @@
 //! What each receive follows.
 
-ghost use Rattle.std.specs.Prelude.{◌≡◌, false, List, map, Some, IfOk, IfErr, IfSome, IfNone};
+ghost use Rattle.std.specs.Prelude.{◌≡◌, ◌≢◌, false, List, map, None, Some, IfOk, IfErr, IfSome, IfNone};
 ghost use Rattle.std.specs.Prelude.{slice_get};
 ghost use Rattle.std.specs.List.{AllByRecursion};
 ghost use Rattle.st_core.specs.Pid.{pid_eq, IsRising};
 ghost use Rattle.st_core.specs.Run.{Stream};
-ghost use Rattle.st_pair.specs.Pairing.{source_at, receiver_at, IsPairFault};
+ghost use Rattle.st_pair.specs.Pairing.{source_at, receiver_at, refusal, IsPairFault};
+ghost use Rattle.st_pair.specs.Final.{IsPrevNotBefore, NeverShown, NeverShownInOneTrace};
 ghost use Rattle.st_pair.specs.Links.{IsPairing, link_at, link_of, linked, links_in, receiver_in, source_in};
 ghost use Rattle.st_pair.specs.Tables.{place_in, HasReceives, HasStamps};
 
@@ -196,9 +197,20 @@ fn linked(
     Ok(Pairing { pids, links })
 }
 
-/// Pairs the receives of streams with their sends, or tells the first reason against them.
-pub fn pair(alloc: Global, streams: &Streams) -> Result<Pairing, PairFault>
-    ensures ok { IfOk result (IsPairing streams.now) }
+/// The tables of streams that no reason stands against.
+#[derive(Debug, Drop)]
+struct Tables {
+    /// The first receive from each sender with each count.
+    got: Table,
+    /// The first send or print of each process with each count.
+    sent: Table,
+}
+
+/// The tables of streams, or the first reason against them.
+fn tables_of(alloc: Global, streams: &Streams) -> Result<Tables, PairFault>
+    ensures accepted { IfOk result (λ tables. refusal streams.now ≡ None) }
+    ensures got { IfOk result (λ tables. HasReceives streams.now (place_in tables.got)) }
+    ensures sent { IfOk result (λ tables. HasStamps streams.now (place_in tables.sent)) }
     ensures err { IfErr result (IsPairFault streams.now) }
 {
     if let Some(fault) = prev_not_before(streams) {
@@ -221,7 +233,20 @@ pub fn pair(alloc: Global, streams: &Streams) -> Result<Pairing, PairFault>
     if let Some(fault) = mismatch(streams, &sent) {
         return Err(fault);
     }
-    match linked(alloc, streams, &got, &sent) {
+    Ok(Tables { got, sent })
+}
+
+/// Pairs the receives of streams with their sends, or tells the first reason against them.
+pub fn pair(alloc: Global, streams: &Streams) -> Result<Pairing, PairFault>
+    ensures ok { IfOk result (IsPairing streams.now) }
+    ensures err { IfErr result (IsPairFault streams.now) }
+
+    // Which reasons are final: no acts show streams with the first, and none without a reset streams with any.
+    ensures final_prev { IfErr result (λ fault. IsPrevNotBefore fault → NeverShown streams.now) }
+    ensures final_without_reset { IfErr result (λ fault. fault ≢ PairFault.Memory → NeverShownInOneTrace streams.now) }
+{
+    let tables = tables_of(alloc, streams)?;
+    match linked(alloc, streams, &tables.got, &tables.sent) {
         Err(_) => Err(PairFault::Memory),
         Ok(pairing) => Ok(pairing),
     }

@@ -1,0 +1,151 @@
+-- A refusal is what one of the four rules gives at some event, so its reason says of that event and of the one that it
+-- was compared with what the rule tests.
+use Rattle.std.proofs.Common.{◌≡◌, ℕ, ◌<◌, ◌≤◌, ◌==◌, ◌&&◌, ◌||◌, ◌⊎◌, zero, suc, nat_lt, Bool, true, false, not, cond}
+use Rattle.std.proofs.Common.{List, [], ◌∷◌, Some, None, inl, inr, refl, sym, subst, arith}
+use Rattle.std.proofs.Common.{if◌then◌else◌}
+use Rattle.std.specs.List.{slice_get}
+use Rattle.std.proofs.lemmas.Bool.{ltb-false, false≢true}
+use Rattle.std.proofs.lemmas.Option.{same_Some, none-some, option_and_then_some}
+use Rattle.st_core.specs.declared.types.Pid.{Pid}
+use Rattle.st_core.specs.declared.types.Event.{Event}
+use Rattle.st_core.specs.Pid.{pid_eq}
+use Rattle.st_core.specs.Run.{Stream}
+use Rattle.st_core.specs.Streams.{events_of}
+use Rattle.st_pair.specs.declared.answer.PairFault.{PairFault}
+use Rattle.st_pair.specs.declared.answer.PairFault.TheVariants as fault
+use Rattle.st_pair.specs.Places.{is_stamp, first}
+use Rattle.st_pair.specs.Pairing.{stamp_before, stamp_of, receive_of, agrees, prev_not_before, not_rising, repeated}
+use Rattle.st_pair.specs.Pairing.{mismatch, first_rule, refusal}
+use Rattle.st_pair.specs.Tables.{or_else}
+use Rattle.st_pair.proofs.Accepted.{Rule}
+use Rattle.st_pair.proofs.Converse.{some_unless}
+
+-- WHICH RULE DECIDED
+
+one_rule : (streams : List Stream) (rule : Rule PairFault) (rules : List (Rule PairFault)) (f : PairFault)
+    → first_rule streams (rule ∷ rules) ≡ Some f → (first rule streams ≡ Some f) ⊎ (first_rule streams rules ≡ Some f)
+one_rule streams rule rules f h = elim (first rule streams)
+    as (λ given. or_else given (first_rule streams rules) ≡ Some f
+    → (given ≡ Some f) ⊎ (first_rule streams rules ≡ Some f)) [ None ↦ λ h. inr h | Some g ↦ λ h. inl h ] h
+
+pub data IsReason (streams : List Stream) (f : PairFault) : Type 0 where
+  ByPrev : first prev_not_before streams ≡ Some f → IsReason streams f
+  ByRising : first (not_rising streams) streams ≡ Some f → IsReason streams f
+  ByRepeated : first (repeated streams) streams ≡ Some f → IsReason streams f
+  ByMismatch : first (mismatch streams) streams ≡ Some f → IsReason streams f
+
+pub reason_of : (streams : List Stream) (f : PairFault) → refusal streams ≡ Some f → IsReason streams f
+reason_of streams f h =
+    let fourth = mismatch streams ∷ [] in
+    let third = repeated streams ∷ fourth in
+    let second = not_rising streams ∷ third in
+    elim (one_rule streams prev_not_before second f h) [
+      | inl found ↦ ByPrev found
+      | inr h ↦ elim (one_rule streams (not_rising streams) third f h) [
+        | inl found ↦ ByRising found
+        | inr h ↦ elim (one_rule streams (repeated streams) fourth f h) [
+          | inl found ↦ ByRepeated found
+          | inr h ↦ elim (one_rule streams (mismatch streams) [] f h) [
+            | inl found ↦ ByMismatch found
+            | inr h ↦ absurd (none-some f h)
+          ]
+        ]
+      ]
+    ]
+
+-- WHAT EACH RULE SAYS OF ITS EVENT
+
+neither : (x y : Bool) → (x || y) ≡ false → (x ≡ false) × (y ≡ false)
+neither true y h = absurd (false≢true (sym h))
+neither false y h = (refl, h)
+
+not_false : (b : Bool) → not b ≡ false → b ≡ true
+not_false true h = refl
+not_false false h = absurd (false≢true (sym h))
+
+module _ (streams : List Stream) (p : Pid) (i : ℕ) (e : Event) (f : PairFault) where
+  pub record SaysPrev : Type 0 where
+    pub falls : e.serial.this ≤ e.serial.prev
+
+  pub prev_says : prev_not_before p i e ≡ Some f → SaysPrev
+  prev_says h =
+      let parts = some_unless (nat_lt e.serial.prev e.serial.this) (fault.PrevNotBefore p i) f h in
+      record { falls = ltb-false e.serial.prev e.serial.this parts.0 }
+
+  pub record SaysRising : Type 0 where
+    pub other : ℕ × Event
+    pub before : stamp_before (events_of streams p) i ≡ Some other
+    pub stamps : is_stamp e ≡ true
+    pub falls : e.serial.this ≤ other.1.serial.this
+    pub is : fault.NotRising p i other.0 ≡ f
+
+  pub rising_says : not_rising streams p i e ≡ Some f → SaysRising
+  rising_says h =
+      let test = λ (g : ℕ × Event). not (is_stamp e) || nat_lt g.1.serial.this e.serial.this in
+      option_and_then_some (λ (g : ℕ × Event). if test g then None else Some (fault.NotRising p i g.0))
+      (stamp_before (events_of streams p) i) f h (λ g is given.
+      let parts = some_unless (test g) (fault.NotRising p i g.0) f given in
+      let tests = neither (not (is_stamp e)) (nat_lt g.1.serial.this e.serial.this) parts.0 in
+      record {
+        other = g;
+        before = is;
+        stamps = not_false (is_stamp e) tests.0;
+        falls = ltb-false g.1.serial.this e.serial.this tests.1;
+        is = parts.1;
+      })
+
+  pub record SaysRepeated : Type 0 where
+    pub other : Pid × ℕ
+    pub earlier : receive_of streams e.from e.serial.this ≡ Some other
+    pub receives : is_stamp e ≡ false
+    pub apart : (pid_eq other.0 p && other.1 == i) ≡ false
+    pub is : fault.Repeated p i other.0 other.1 ≡ f
+
+  pub repeated_says : repeated streams p i e ≡ Some f → SaysRepeated
+  repeated_says h =
+      let here = λ (at : Pid × ℕ). pid_eq at.0 p && at.1 == i in
+      option_and_then_some (λ (at : Pid × ℕ). if is_stamp e || here at then None
+      else Some (fault.Repeated p i at.0 at.1)) (receive_of streams e.from e.serial.this) f h (λ at is given.
+      let parts = some_unless (is_stamp e || here at) (fault.Repeated p i at.0 at.1) f given in
+      let tests = neither (is_stamp e) (here at) parts.0 in
+      record { other = at; earlier = is; receives = tests.0; apart = tests.1; is = parts.1 })
+
+  pub record SaysMismatch : Type 0 where
+    pub other : ℕ × Event
+    pub sent : stamp_of streams e.from e.serial.this ≡ Some other
+    pub receives : is_stamp e ≡ false
+    pub differs : agrees other.1 e ≡ false
+    pub is : fault.Mismatch p i e.from other.0 ≡ f
+
+  pub mismatch_says : mismatch streams p i e ≡ Some f → SaysMismatch
+  mismatch_says h =
+      option_and_then_some (λ (g : ℕ × Event). if is_stamp e || agrees g.1 e then None
+      else Some (fault.Mismatch p i e.from g.0)) (stamp_of streams e.from e.serial.this) f h (λ g is given.
+      let parts = some_unless (is_stamp e || agrees g.1 e) (fault.Mismatch p i e.from g.0) f given in
+      let tests = neither (is_stamp e) (agrees g.1 e) parts.0 in
+      record { other = g; sent = is; receives = tests.0; differs = tests.1; is = parts.1 })
+
+-- the last send or print before index i is one, and stands before it
+pub record IsStampBefore (es : List Event) (i : ℕ) (g : ℕ × Event) : Type 0 where
+  pub below : g.0 < i
+  pub at : slice_get es g.0 ≡ Some g.1
+  pub stamps : is_stamp g.1 ≡ true
+
+later : (es : List Event) (i : ℕ) (g : ℕ × Event) → IsStampBefore es i g → IsStampBefore es (suc i) g
+later es i g b = let below = b.below in record { below = omega arith; at = b.at; stamps = b.stamps }
+
+pub stamp_before_at : (es : List Event) (i : ℕ) (g : ℕ × Event) → stamp_before es i ≡ Some g → IsStampBefore es i g
+stamp_before_at es zero g h = absurd (none-some g h)
+stamp_before_at es (suc i) g h =
+    let rest = stamp_before es i in
+    elim (slice_get es i) as (λ at. slice_get es i ≡ at
+    → (elim at [ None ↦ rest | Some e ↦ if is_stamp e then Some (i, e) else rest ]) ≡ Some g
+    → IsStampBefore es (suc i) g) [
+      | None ↦ λ at h. later es i g (stamp_before_at es i g h)
+      | Some e ↦ λ at h. elim (is_stamp e)
+          as (λ b. is_stamp e ≡ b → cond b (Some (i, e)) rest ≡ Some g → IsStampBefore es (suc i) g) [
+            | true ↦ λ is h. subst (IsStampBefore es (suc i)) (same_Some (i, e) g h)
+                (record { below = omega arith; at = at; stamps = is })
+            | false ↦ λ is h. later es i g (stamp_before_at es i g h)
+          ] refl h
+    ] refl h

@@ -1,0 +1,5 @@
+use Rattle.st_pair.proofs.Final.{refused_never_shown}
+use Rattle.st_pair.proofs.laws.refusals_are_final_without_reset.Goals as goal
+
+pub returns : goal.returns
+returns c = refused_never_shown

@@ -1,0 +1,20 @@
+-- What a refusal says of acts: that none show the streams.
+use Rattle.std.specs.Prelude.{ℕ, List}
+use Rattle.st_core.specs.declared.types.Act.{Act}
+use Rattle.st_core.specs.Run.{Stream, Shows}
+use Rattle.st_core.specs.Laws.{NoReset}
+use Rattle.st_pair.specs.declared.answer.PairFault.{PairFault}
+use Rattle.st_pair.specs.declared.answer.PairFault.TheVariants as fault
+
+-- no acts show the streams, whatever the greatest value of a clock
+abbrev pub NeverShown : List Stream → Type 0
+NeverShown streams = (top : ℕ) (acts : List Act) → ¬ Shows top streams acts
+
+-- no acts without a reset show them
+abbrev pub NeverShownInOneTrace : List Stream → Type 0
+NeverShownInOneTrace streams = (top : ℕ) (acts : List Act) → NoReset acts → ¬ Shows top streams acts
+
+-- the reason is a serial that doesn't rise
+abbrev pub IsPrevNotBefore : PairFault → Type 0
+IsPrevNotBefore (fault.PrevNotBefore p i) = Unit {0}
+IsPrevNotBefore f = ⊥
