@@ -27,8 +27,10 @@ use Rattle.st_core.specs.Step.{Acted, Outcome, acted, actor, answers, sends, pri
 use Rattle.st_core.specs.Run.{run, run_from}
 use Rattle.st_core.specs.Pairs.{IsFollowing}
 use Rattle.st_core.specs.Laws.{Reports, is_reset, NoReset, clock_in, ClocksNeverFall, LiftsClock}
-use Rattle.st_core.proofs.Pids.{pid_eq-true, pid_eq-same}
+use Rattle.st_core.proofs.Pids.{pid_eq-true}
 use Rattle.st_core.proofs.Others.{process_pid, mapped, Stepped, step_parts, run_parts, process_after}
+use Rattle.st_core.proofs.Others.{actor_mine, actor_after, sent_local}
+use Rattle.st_core.proofs.Paired.{report_kind}
 use Rattle.st_core.proofs.Zips.{AllPairs_cons}
 
 -- THE STAMP
@@ -109,20 +111,13 @@ received_least : (l : LocalState) (token : Option Token) → l.clock ≤ (receiv
 received_least l None = omega arith
 received_least l (Some t) = omega arith
 
-receive_reported : (traced : Bool) (token : Option Token) (to : Option Pid) (v : ℕ) (e : Event)
-    → report traced kind.Receive token to v ≡ Some e → e.kind ≡ kind.Receive
-receive_reported traced None to v e h = absurd (none-some e h)
-receive_reported traced (Some t) to v e h =
-    ap (λ (x : Event). x.kind)
-    (sym (cond_some (traced && flag_of kind.Receive t.flags) (event_of kind.Receive t to v) e h).1)
-
 received_counted : (r : Process) (found : Option (ℕ × Message)) → IsCounted r.local (receives r found)
 received_counted r None = record { least = omega arith; stamp = λ e is _. absurd (none-some e is) }
 received_counted r (Some found) =
     let m = found.1 in
     record {
       least = received_least r.local m.token;
-      stamp = λ e is other. absurd (other (receive_reported r.local.traced m.token (Some r.pid) m.value e is));
+      stamp = λ e is other. absurd (other (report_kind r.local.traced kind.Receive m.token (Some r.pid) m.value e is));
     }
 
 set_least : (p : Pid) (l : LocalState) (token : Option Token)
@@ -227,26 +222,12 @@ record Lifts (s : State) (o : Outcome) (p : Pid) (this : ℕ) : Type 0 where
   above : clock_in s p < this
   reaches : clock_in o.after p ≡ this
 
--- the actor's process before and after a step
-record ActorSteps (top : ℕ) (s : State) (a : Act) (o : Outcome) (t : Stepped top s a o) : Type 0 where
-  mine : pid_eq t.before.pid (actor a) ≡ true
-  before : clock_in s (actor a) ≡ t.before.local.clock
-  after : process o.after (actor a) ≡ Some (changed a t.done t.before)
-
-actor_steps : (top : ℕ) (s : State) (a : Act) (o : Outcome) (t : Stepped top s a o) → ActorSteps top s a o t
-actor_steps top s a o t = record {
-  mine = ap (λ p. pid_eq p (actor a)) (process_pid s (actor a) t.before t.is_before) ∙ pid_eq-same (actor a);
-  before = ap clock_found t.is_before;
-  after = process_after top s a o t (actor a) ∙ ap (option_map (changed a t.done)) t.is_before;
-}
-
 actor_clock : (top : ℕ) (s : State) (a : Act) (o : Outcome) (t : Stepped top s a o) → is_reset a ≡ false
     → clock_in o.after (actor a) ≡ t.done.local.clock
 actor_clock top s a o t plain =
-    let both = actor_steps top s a o t in
-    ap clock_found both.after
+    ap clock_found (actor_after top s a o t)
     ∙ changed_clock a t.done t.before plain
-    ∙ ap (λ b. cond b t.done.local.clock t.before.local.clock) both.mine
+    ∙ ap (λ b. cond b t.done.local.clock t.before.local.clock) (actor_mine top s a o t)
 
 -- a reported send or print
 report_lifts : (top : ℕ) (s : State) (a : Act) (o : Outcome) (e : Event) → step top s a ≡ Some o → is_reset a ≡ false
@@ -256,22 +237,10 @@ report_lifts top s a o e h plain is other =
     let counted = acted_counted top a t.before t.done t.is_done in
     let rise = counted.stamp e (ap (λ (x : Outcome). x.report) t.is_outcome ∙ is) other in
     let above = rise.0 in
-    let before = (actor_steps top s a o t).before in
+    let before : clock_in s (actor a) ≡ t.before.local.clock = ap clock_found t.is_before in
     record { above = omega arith; reaches = actor_clock top s a o t plain ∙ rise.1 }
 
 -- A SEND AND ITS TOKEN
-
--- a send's actor has its own part afterwards
-sent_local : (p q : Pid) (v : ℕ) (done : Acted) (r : Process) → pid_eq r.pid p ≡ true
-    → (changed (act.Send p q v) done r).local ≡ done.local
-sent_local p q v done r mine =
-    let own : Process = record r { local = done.local; queue = done.queue } in
-    let m : Message = record { from = p; value = v; token = done.local.token } in
-    ap (λ b. (reached (act.Send p q v) done.local.token (cond b own r)).local) mine
-    ∙ elim (pid_eq r.pid q) as (λ b. (cond b (record own { queue = own.queue ++ m ∷ [] }) own).local ≡ done.local) [
-      | true ↦ refl
-      | false ↦ refl
-    ]
 
 -- a send after which its actor has this token: the token is its stamp, which lifted its clock to the token's count, and
 -- its report, if it has one, is the token's
@@ -287,16 +256,17 @@ sent top s p q v o r token h is has =
     let a = act.Send p q v in
     let t = step_parts top s a o h in
     let x = t.before in
-    let both = actor_steps top s a o t in
     let parts = mapped (sends x q v) (stamp_any top x.pid x.local) t.done t.is_done in
     let m = parts.0 in
     let part : t.done.local ≡ m = ap (λ (d : Acted). d.local) (sym parts.2) in
     let own : r.local ≡ m =
-    ap (λ (y : Process). y.local) (same_Some r _ (sym is ∙ both.after)) ∙ sent_local p q v t.done x both.mine ∙ part in
+    ap (λ (y : Process). y.local) (same_Some r _ (sym is ∙ actor_after top s a o t))
+    ∙ sent_local p q v t.done x (actor_mine top s a o t)
+    ∙ part in
     let token_is : m.token ≡ Some token = ap (λ (l : LocalState). l.token) (sym own) ∙ has in
     let stamped = (any_grows top x.pid x.local m parts.1).token token token_is in
     let above = stamped.above in
-    let before = both.before in
+    let before : clock_in s p ≡ x.local.clock = ap clock_found t.is_before in
     record {
       from = stamped.from ∙ process_pid s p x t.is_before;
       lifts = record {

@@ -1,16 +1,18 @@
 -- A step is a map over the processes which keeps their pids, so the process of a pid after it is that pid's changed
 -- one.
-use Rattle.std.proofs.Common.{◌≡◌, ℕ, true, false, cond, List, [], ◌∷◌, map, Option, Some, None, option_map}
+use Rattle.std.proofs.Common.{◌≡◌, ℕ, true, false, cond, List, [], ◌∷◌, ◌++◌, map, Option, Some, None, option_map}
 use Rattle.std.proofs.Common.{option_and_then, refl, sym, ◌∙◌, ap}
 use Rattle.std.proofs.lemmas.Option.{same_Some, none-some, option_and_then_some}
 use Rattle.st_core.specs.declared.types.Pid.{Pid}
+use Rattle.st_core.specs.declared.types.Message.{Message}
 use Rattle.st_core.specs.declared.types.Act.{Act}
+use Rattle.st_core.specs.declared.types.Act.TheVariants as act
 use Rattle.st_core.specs.Pid.{pid_eq}
 use Rattle.st_core.specs.State.{Process, State, process}
-use Rattle.st_core.specs.Step.{Acted, Outcome, acted, actor, receiver, touches, changed, outcome_of, step}
+use Rattle.st_core.specs.Step.{Acted, Outcome, acted, actor, receiver, touches, reached, changed, outcome_of, step}
 use Rattle.st_core.specs.Run.{run_from}
 use Rattle.st_core.specs.Laws.{LeavesOthers}
-use Rattle.st_core.proofs.Pids.{pid_eq-true}
+use Rattle.st_core.proofs.Pids.{pid_eq-true, pid_eq-same}
 use Rattle.st_core.proofs.Steps.{changed_pid, changed_untouched}
 
 -- PROCESSES
@@ -99,6 +101,38 @@ pub process_after : (top : ℕ) (s : State) (a : Act) (o : Outcome) (t : Stepped
 process_after top s a o t p =
     ap (λ (x : Outcome). process x.after p) (sym t.is_outcome)
     ∙ process-map (changed a t.done) (changed_pid a t.done) s p
+
+-- THE ACTOR
+
+-- a process of the actor's pid is the actor's
+pub actor_is : (s : State) (q p : Pid) (before r : Process) → process s q ≡ Some before → process s p ≡ Some r
+    → pid_eq r.pid q ≡ true → before ≡ r
+actor_is s q p before r is_before is_r same =
+    let who : q ≡ p = sym (pid_eq-true r.pid q same) ∙ process_pid s p r is_r in
+    same_Some before r (sym is_before ∙ ap (process s) who ∙ is_r)
+
+pub actor_mine : (top : ℕ) (s : State) (a : Act) (o : Outcome) (t : Stepped top s a o)
+    → pid_eq t.before.pid (actor a) ≡ true
+actor_mine top s a o t =
+    ap (λ p. pid_eq p (actor a)) (process_pid s (actor a) t.before t.is_before) ∙ pid_eq-same (actor a)
+
+pub actor_after : (top : ℕ) (s : State) (a : Act) (o : Outcome) (t : Stepped top s a o)
+    → process o.after (actor a) ≡ Some (changed a t.done t.before)
+actor_after top s a o t = process_after top s a o t (actor a) ∙ ap (option_map (changed a t.done)) t.is_before
+
+-- a send's actor has its own part afterwards
+pub sent_local : (p q : Pid) (v : ℕ) (done : Acted) (r : Process) → pid_eq r.pid p ≡ true
+    → (changed (act.Send p q v) done r).local ≡ done.local
+sent_local p q v done r mine =
+    let own : Process = record r { local = done.local; queue = done.queue } in
+    let m : Message = record { from = p; value = v; token = done.local.token } in
+    ap (λ b. (reached (act.Send p q v) done.local.token (cond b own r)).local) mine
+    ∙ elim (pid_eq r.pid q) as (λ b. (cond b (record own { queue = own.queue ++ m ∷ [] }) own).local ≡ done.local) [
+      | true ↦ refl
+      | false ↦ refl
+    ]
+
+-- THE OTHERS
 
 unchanged : (a : Act) (done : Acted) (p : Pid) (found : Option Process) → ((r : Process) → found ≡ Some r → r.pid ≡ p)
     → touches a p ≡ false → option_map (changed a done) found ≡ found

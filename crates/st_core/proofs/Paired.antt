@@ -34,7 +34,7 @@ use Rattle.st_core.proofs.Underway.{Underway, starts, next}
 -- KINDS OF REPORTS
 
 -- a report is of its act's kind
-report_kind : (traced : Bool) (k : Kind) (token : Option Token) (to : Option Pid) (v : ℕ) (e : Event)
+pub report_kind : (traced : Bool) (k : Kind) (token : Option Token) (to : Option Pid) (v : ℕ) (e : Event)
     → report traced k token to v ≡ Some e → e.kind ≡ k
 report_kind traced k None to v e h = absurd (none-some e h)
 report_kind traced k (Some t) to v e h =

@@ -22,8 +22,9 @@ use Rattle.st_core.specs.Step.{Acted, Outcome, acted, actor, answers, sends, pri
 use Rattle.st_core.specs.Step.{changed, step}
 use Rattle.st_core.specs.Pairs.{Tags, tags_after}
 use Rattle.st_core.specs.Laws.{IsSound}
-use Rattle.st_core.proofs.Pids.{pid_eq-true, pid_eq-same}
-use Rattle.st_core.proofs.Others.{process_pid, mapped, Stepped, step_parts, process_after}
+use Rattle.st_core.proofs.Pids.{pid_eq-true}
+use Rattle.st_core.proofs.Others.{process_pid, mapped, Stepped, step_parts, process_after, actor_is, actor_mine}
+use Rattle.st_core.proofs.Others.{actor_after, sent_local}
 use Rattle.st_core.proofs.Sound.{acted_sound, process_holds}
 use Rattle.st_core.proofs.Tags.{no_tags}
 use Rattle.st_core.proofs.Zips.{AllZip_push, AllZip_remove, AllZip_map}
@@ -132,13 +133,6 @@ acted_queue top (act.Look p) r done other h = some_queue _ done h
 acted_queue top (act.Reset p) r done other h = some_queue _ done h
 acted_queue top (act.Tracer p b) r done other h = some_queue _ done h
 
--- the process that acts is the actor's
-actor_is : (s : State) (q p : Pid) (before r : Process) → process s q ≡ Some before → process s p ≡ Some r
-    → pid_eq r.pid q ≡ true → before ≡ r
-actor_is s q p before r is_before is_r same =
-    let who : q ≡ p = sym (pid_eq-true r.pid q same) ∙ process_pid s p r is_r in
-    same_Some before r (sym is_before ∙ ap (process s) who ∙ is_r)
-
 -- the queue of a process after its own part of an act that is no receive
 own_queue : (top : ℕ) (s : State) (a : Act) (o : Outcome) (t : Stepped top s a o) (p : Pid) (r : Process)
     → ¬ IsReceive a → process s p ≡ Some r → (if pid_eq r.pid (actor a) then t.done.queue else r.queue) ≡ r.queue
@@ -157,23 +151,10 @@ sender_token : (top : ℕ) (s : State) (p q : Pid) (v : ℕ) (o : Outcome) (t : 
     (os : List Outcome) (n : ℕ) → slice_get os n ≡ Some o → ForSome t.done.local.token (TokenAfter os n p)
 sender_token top s p q v o t os n at token is =
     let a = act.Send p q v in
-    let own : Process = record t.before { local = t.done.local; queue = t.done.queue } in
-    let m : Message = record { from = p; value = v; token = t.done.local.token } in
-    let mine : pid_eq t.before.pid p ≡ true =
-    ap (λ x. pid_eq x p) (process_pid s p t.before t.is_before) ∙ pid_eq-same p in
-    let local : (changed a t.done t.before).local ≡ t.done.local =
-    ap (λ b. (reached a t.done.local.token (cond b own t.before)).local) mine
-    ∙ elim (pid_eq t.before.pid q) as (λ b.
-    (cond b (record own { queue = own.queue ++ m ∷ [] }) own).local ≡ t.done.local) [
-      | true ↦ refl
-      | false ↦ refl
-    ] in
+    let local = sent_local p q v t.done t.before (actor_mine top s a o t) in
     record {
       sender = changed a t.done t.before;
-      is_sender =
-          ap (option_and_then (λ (x : Outcome). process x.after p)) at
-          ∙ process_after top s a o t p
-          ∙ ap (option_map (changed a t.done)) t.is_before;
+      is_sender = ap (option_and_then (λ (x : Outcome). process x.after p)) at ∙ actor_after top s a o t;
       stamped = ap (λ (l : LocalState). l.token) local ∙ is;
     }
 
