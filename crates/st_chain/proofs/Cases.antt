@@ -71,6 +71,11 @@ hidden_chain = refl
 hidden_other : chain hidden_sends a (record { 0 = 18 }) ≡ []
 hidden_other = refl
 
+-- two labels of one process in turn
+in_turn : chain (of a (printed 18 0 1 a 7 ∷ printed 17 0 2 a 7 ∷ printed 18 0 3 a 7 ∷ []) ∷ of b [] ∷ []) a
+    (record { 0 = 18 }) ≡ 0 ∷ 2 ∷ []
+in_turn = refl
+
 -- a send and its receive
 abbrev passed : List Stream
 passed = of a (sent 17 0 1 a b 5 ∷ []) ∷ of b (got 17 0 1 a b 5 ∷ []) ∷ []

@@ -1,4 +1,4 @@
-//! The causes of all events, and the way back over them.
+//! The chains and the causes of all events, and the way back over the causes.
 //!
 //! Of a send or print the last receive whose count is its prev is found once, for all events of a
 //! process in one pass; the rest is read from the streams and their pairing.
@@ -16,6 +16,7 @@ ghost use Rattle.st_chain.specs.Labels.{chain};
 
 use crate::cause::Cause;
 use crate::chain::Chain;
+use crate::label_table::{ChainKey, LabelTable};
 use indexmap::IndexMap;
 use st_core::{Event, Kind, Label, Pid, Sequence, Streams};
 use st_pair::{Pairing, Source};
@@ -90,24 +91,29 @@ fn earlier(streams: &Streams, backs: &[Sequence<Option<u64>>], pid: Pid, index: 
 }
 
 /// The chains of streams and the causes of their events. A contract sees it as the streams. It
-/// borrows them and their pairing, and keeps 16 bytes an event.
-#[derive(Debug, Drop)]
+/// borrows them and their pairing, and keeps 48 bytes an event, 16 of them for its cause, beside
+/// what it takes to find the list of a process and a label.
+#[derive(Drop)]
 pub struct Chains<'a> {
     streams: &'a Streams,
     pairing: &'a Pairing,
     backs: Vec<Sequence<Option<u64>>>,
+    table: LabelTable,
 }
 
 impl<'a> Model for Chains<'a> {
     ghost use Rattle.std.specs.Prelude.{List};
+    ghost use Rattle.std.specs.BTreeMap.{get};
     ghost use Rattle.st_core.specs.Run.{Stream};
     ghost use Rattle.st_chain.specs.Kept.{IsKept};
+    ghost use Rattle.st_chain.specs.Tabled.{chain_key_cmp};
 
     ghost Value = { List Stream };
 
     ghost view = { λ a. a.streams.now };
 
-    ghost invariant = { λ a. IsKept a.streams.now a.pairing.now a.backs.items };
+    ghost invariant = { λ a.
+        IsKept a.streams.now a.pairing.now a.backs.items (get chain_key_cmp a.table.numbers) a.table.lists };
 }
 
 impl<'a> Chains<'a> {
@@ -122,19 +128,22 @@ impl<'a> Chains<'a> {
         ensures { IfOk result (λ chains. chains ≡ streams.now) }
     {
         let backs = all_backs(alloc, streams)?;
+        let table = LabelTable::new(alloc, streams)?;
         Ok(Chains {
             streams,
             pairing,
             backs,
+            table,
         })
     }
 
     /// The indexes of a process's events with this label, rising; none where the process isn't
-    /// listed. Takes no memory.
-    pub fn of(&self, pid: Pid, label: Label) -> Chain<'a>
+    /// listed. Takes no memory; finding the first takes logarithmic time, and each next one constant
+    /// time.
+    pub fn of(&self, pid: Pid, label: Label) -> Chain<'_>
         ensures { result ≡ chain self.now pid label }
     {
-        Chain::new(self.streams.events(pid), label)
+        self.table.chain(ChainKey { pid, label })
     }
 
     /// What the event at this place follows; none where there is no event. Takes no memory.

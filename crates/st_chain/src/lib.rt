@@ -8,6 +8,7 @@
 mod cause;
 mod chain;
 mod chains;
+mod label_table;
 
 pub use cause::Cause;
 pub use chain::Chain;

@@ -105,6 +105,45 @@ fn chains_go_by_label(rt: HostRuntime) -> Result<(), Fail> {
     assert_chain(&rt, &chains, p30(), 17, &[1]);
     assert_chain(&rt, &chains, p30(), 18, &[0, 2]);
     assert_chain(&rt, &chains, p31(), 17, &[]);
+    assert_chain(&rt, &chains, Pid::new(32), 17, &[]);
+    Ok(())
+}
+
+/// Prints of both processes whose labels, 0 to 4, change without a pattern.
+fn mixed(alloc: Global) -> Option<Streams> {
+    let mut events = Vec::new(alloc);
+    let mut number = 1u64;
+    for count in 1..=600 {
+        number = number
+            .wrapping_mul(6364136223846793005)
+            .wrapping_add(1442695040888963407);
+        let from = if number >> 63 == 0 { p30() } else { p31() };
+        let label = (number >> 32) as u32 % 5;
+        events
+            .push(printed(label, (count - 1, count), from, 7))
+            .ok()?;
+    }
+    made(alloc, events.as_slice())
+}
+
+#[test]
+fn chains_are_the_plain_filters(rt: HostRuntime) -> Result<(), Fail> {
+    let alloc = rt.alloc();
+    let streams = mixed(alloc).ok_or("no streams")?;
+    let pairing = pair(alloc, &streams)?;
+    let chains = Chains::new(alloc, &streams, &pairing)?;
+    for &pid in streams.pids() {
+        for label in 0..6 {
+            let mut wanted = Vec::new(alloc);
+            for (i, event) in streams.events(pid).iter().enumerate() {
+                if event.label == Label(label) {
+                    wanted.push(i as u64)?;
+                }
+            }
+            assert_eq!(rt; wanted.is_empty(), label == 5);
+            assert_chain(&rt, &chains, pid, label, wanted.as_slice());
+        }
+    }
     Ok(())
 }
 
@@ -131,11 +170,12 @@ fn a_receive_is_caused_by_its_send(rt: HostRuntime) -> Result<(), Fail> {
     Ok(())
 }
 
-/// The way back from 31's first event, where no growth is refused.
-fn way_back(alloc: Global, streams: &Streams) -> Option<Vec<(Pid, u64)>> {
+/// The first of 31's chain of label 17 and the way back from it, where no growth is refused.
+fn way_back(alloc: Global, streams: &Streams) -> Option<(Option<u64>, Vec<(Pid, u64)>)> {
     let pairing = pair(alloc, streams).ok()?;
     let chains = Chains::new(alloc, streams, &pairing).ok()?;
-    chains.back(alloc, p31(), 0).ok()
+    let back = chains.back(alloc, p31(), 0).ok()?;
+    Some((chains.of(p31(), Label(17)).next(), back))
 }
 
 /// Where a growth is refused the answer is want of memory, and the same call answers right
@@ -146,9 +186,10 @@ fn a_refused_growth_is_answered(rt: HostRuntime) {
     let Some(streams) = made(alloc, &one_message()) else {
         return;
     };
-    let back = match way_back(alloc, &streams) {
-        Some(back) => back,
+    let (first, back) = match way_back(alloc, &streams) {
+        Some(answers) => answers,
         None => way_back(alloc, &streams).expect(&rt, "refused again"),
     };
+    assert_eq!(rt; first, Some(0));
     assert_eq!(rt; back.as_slice(), [(p31(), 0), (p30(), 0)].as_slice());
 }
