@@ -1,6 +1,14 @@
+-- What the step calls and the calls of a system need.
 pub mod LogLemmas
 pub mod PartLemmas
 pub mod SendLemmas
 pub mod StepLemmas
 pub mod ActLemmas
 pub mod PidLemmas
+-- That what the threads did is one run.
+pub mod Legal
+pub mod Members
+pub mod Runs
+pub mod Sorting
+pub mod Shown
+pub mod Collecting

@@ -46,7 +46,7 @@ node_same p = left (p.node == p.node) _ (pid_eq-same p)
     left false b both = both
 
 -- an act touches its actor
-touches_actor : (a : Act) → touches a (actor a) ≡ true
+pub touches_actor : (a : Act) → touches a (actor a) ≡ true
 touches_actor (act.Send p q v) = rw (pid_eq-same p) refl
 touches_actor (act.Reset p) = node_same p
 touches_actor (act.Tracer p b) = node_same p

@@ -74,7 +74,7 @@ apart_eq p q apart =
     ] refl
 
 -- what reaches a process is the same by the actor's token and by the carried one
-reached_carried : (a : Act) (t : Option Token) (r : Process) → reached a (carried_by a t) r ≡ reached a t r
+pub reached_carried : (a : Act) (t : Option Token) (r : Process) → reached a (carried_by a t) r ≡ reached a t r
 reached_carried (act.Send p q v) t r = refl
 reached_carried (act.Reset p) t r = refl
 reached_carried (act.Tracer p b) t r = refl

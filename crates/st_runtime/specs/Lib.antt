@@ -1,9 +1,13 @@
 -- What the public contracts cite: what an entry does to a process and what a log gives it; what contracts see of a
--- process under its lock and of a seat, and what the calls on them do; and what an act in a system asks for.
+-- process under its lock and of a seat, and what the calls on them do; what an act in a system asks for; and what comes
+-- of a system that ran: pieces that fit, the one run that they tell of, and scripts that are driven.
 pub mod Logs
 pub mod Pcb
 pub mod Seat
 pub mod System
+pub mod Pieces
+pub mod Joined
 -- For the contracts of the crate's parts alone.
 pub mod Inside
 pub mod Locked
+pub mod Joining

@@ -1,5 +1,7 @@
 //! Why a call was refused. After each refusal all is as it was, capacity aside.
 
+use st_core::Pid;
+
 /// Why a step call on lent processes was refused.
 #[derive(Clone, Copy, Debug, PartialEq, Eq)]
 pub enum PcbFault {
@@ -34,5 +36,34 @@ pub enum OpenFault {
     /// Refusal 1: no memory.
     Memory,
     /// Refusal 2: the pids do not rise strictly.
+    NotRising,
+}
+
+/// Why pieces are not joined.
+#[derive(Clone, Copy, Debug, PartialEq, Eq)]
+pub enum JoinFault {
+    /// Refusal 1: no memory.
+    Memory,
+    /// Refusal 2: the entry at this place of this process's log isn't in the log of each process that
+    /// its act touches. The least such place, by pid.
+    Missing(Pid, u64),
+    /// Refusal 3: the process has a seat and no log, not exactly one seat, or a seat that its log
+    /// doesn't tell of. The least such process.
+    SeatDiffers(Pid),
+}
+
+/// Why scripts that were driven left no record.
+#[derive(Clone, Copy, Debug, PartialEq, Eq)]
+pub enum DriveFault {
+    /// Refusal 1: no memory. Where an act was refused for it, too.
+    Memory,
+    /// Refusal 2: the process's act of this number, counted from 0, was refused. Its worker stopped
+    /// there. The least such process.
+    Act(Pid, u64, ActFault),
+    /// Refusal 3: what the workers left is not joined.
+    Join(JoinFault),
+    /// Refusal 4: a worker's thread could not be started. Those that were started ended first.
+    Thread,
+    /// Refusal 5: the pids do not rise strictly.
     NotRising,
 }

@@ -9,20 +9,27 @@
 #![tactic(auto)]
 
 mod acts;
+mod collect;
 mod entry;
 mod fault;
 mod gate;
+pub mod laws;
 mod log;
+mod merge;
 mod node;
 mod parts;
 mod pcb;
 mod pids;
+mod pieces;
+mod record;
 mod seat;
 mod system;
 
 pub use entry::Entry;
-pub use fault::{ActFault, OpenFault, PcbFault};
+pub use fault::{ActFault, DriveFault, JoinFault, OpenFault, PcbFault};
 pub use gate::{Gate, OpenGate};
 pub use pcb::Pcb;
+pub use pieces::Pieces;
+pub use record::Record;
 pub use seat::Seat;
 pub use system::System;

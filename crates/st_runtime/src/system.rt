@@ -2,11 +2,13 @@
 //! order of their pids, and nothing is known of what a lock holds but what its type keeps.
 
 ghost use Rattle.std.specs.Prelude.{◌≡◌, ◌≢◌, ◌<◌, ◌≤◌, ◌↔◌, false, true, [], ◌∷◌, ◌++◌, length, map, is_some};
-ghost use Rattle.std.specs.Prelude.{slice_get, Some, None, Err, IfOk, IfSome, OnOk, OnErr};
+ghost use Rattle.std.specs.Prelude.{slice_get, Some, None, Err, IfOk, IfErr, IfSome, OnOk};
+ghost use Rattle.std.specs.Prelude.{OnErr, vec_len};
 ghost use Rattle.st_core.specs.Pid.{IsRising};
 ghost use Rattle.st_core.specs.Step.{actor, receiver};
 ghost use Rattle.st_runtime.specs.Locked.{wide_reply, IsLockFault};
 ghost use Rattle.st_runtime.specs.Pcb.{is_wide};
+ghost use Rattle.st_runtime.specs.Pieces.{pids_in};
 ghost use Rattle.st_runtime.specs.Seat.{no_calls};
 ghost use Rattle.st_runtime.specs.System.{knows, is_stamping};
 
@@ -17,6 +19,7 @@ use crate::gate::Gate;
 use crate::node::Found;
 use crate::pcb::Pcb;
 use crate::pids::{first_on, place_of};
+use crate::pieces::Pieces;
 use crate::seat::Seat;
 use st_core::{Act, Pid, Reply, is_rising};
 use std::alloc::{AllocError, Global};
@@ -58,6 +61,25 @@ impl<const TOP: u64, const RANKS: u64> System<TOP, RANKS> {
             Ok(made) => Ok(made),
             Err(_) => Err(OpenFault::Memory),
         }
+    }
+
+    /// Takes the processes out of their locks. Refusal 1: no memory, and system and seats come back.
+    ///
+    /// A lock that holds another process than its own, which no call leaves, gives a fresh one.
+    pub fn gather(
+        self,
+        seats: Vec<Seat>,
+    ) -> Result<Pieces<TOP, RANKS>, (System<TOP, RANKS>, Vec<Seat>)>
+        ensures processes { IfOk result (λ p. pids_in p.processes ≡ self.entry) }
+        ensures seats { IfOk result (λ p. p.seats ≡ seats.items) }
+        ensures err { IfErr result (λ r. (r.0 ≡ self.entry) × (r.1.items ≡ seats.items)) }
+    {
+        let alloc = *self.pids.allocator();
+        let Ok(fresh) = fresh_processes(alloc, self.pids.as_slice()) else {
+            return Err((self, seats));
+        };
+        let System { pids: _, locks } = self;
+        Ok(Pieces::new(taken_out(fresh, locks), seats))
     }
 
     /// Makes the act under the locks of all processes that it touches, and keeps it in the seat with
@@ -324,6 +346,40 @@ fn made<const TOP: u64, const RANKS: u64>(
         };
     }
     Ok((System { pids: own, locks }, seats))
+}
+
+/// A process of each pid, at the start.
+fn fresh_processes<const TOP: u64, const RANKS: u64>(
+    alloc: Global,
+    pids: &[Pid],
+) -> Result<Vec<Pcb<TOP, RANKS>>, AllocError>
+    ensures { IfOk result (λ v. pids_in v.items ≡ pids.now) }
+{
+    let mut all = Vec::with_capacity(alloc, pids.len())?;
+    for pid in pids {
+        let fresh = Pcb::new(alloc, *pid)?;
+        let Ok(()) = all.push(fresh) else {
+            return Err(AllocError);
+        };
+    }
+    Ok(all)
+}
+
+/// Puts each process that is its lock's own in place of the fresh one.
+fn taken_out<const TOP: u64, const RANKS: u64>(
+    mut all: Vec<Pcb<TOP, RANKS>>,
+    locks: Vec<Mutex<Pcb<TOP, RANKS>>>,
+) -> Vec<Pcb<TOP, RANKS>>
+    requires { vec_len all ≡ vec_len locks }
+    ensures { pids_in result.items ≡ pids_in all.entry.items }
+{
+    for (i, lock) in locks.into_iter().enumerate() {
+        let process = lock.into_inner();
+        if i < all.len() && process.pid() == all[i].pid() {
+            all[i] = process;
+        }
+    }
+    all
 }
 
 #[cfg(test)]

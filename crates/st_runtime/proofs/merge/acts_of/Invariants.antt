@@ -1,0 +1,6 @@
+use Rattle.std.proofs.Common.{◌≡◌, map, take}
+use Rattle.st_runtime.specs.declared.entry.Entry.{Entry}
+use Rattle.st_runtime.proofs.merge.acts_of.Given as goal
+
+abbrev pub invariant-loop-entry : goal.invariant-loop-entry
+invariant-loop-entry l = l.all.items ≡ map (λ (e : Entry). e.act) (take l.entry-index l.entries)
