@@ -12,3 +12,7 @@ pub mod Runs
 pub mod Sorting
 pub mod Shown
 pub mod Collecting
+pub mod Searching
+pub mod Wholeness
+pub mod Seated
+pub mod JoinLemmas

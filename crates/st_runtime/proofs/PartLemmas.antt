@@ -32,7 +32,7 @@ match_false true P Q is q = cc
 match_false false P Q is q = q
 
 -- by cases on a test
-match_test : (b : Bool) (P Q : Type 0) → (b ≡ true → P) → (b ≡ false → Q) → MatchBool b P Q
+pub match_test : (b : Bool) (P Q : Type 0) → (b ≡ true → P) → (b ≡ false → Q) → MatchBool b P Q
 match_test true P Q p q = p refl
 match_test false P Q p q = q refl
 

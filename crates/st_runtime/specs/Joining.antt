@@ -1,14 +1,46 @@
--- The steps of joining: each process's own entries, and streams to which one report after the other is added.
-use Rattle.std.specs.Prelude.{List, filter, Option, Some, None, if◌then◌else◌}
+-- The steps of joining: where an entry stands, the least pid that isn't seated, each process's own entries, and streams
+-- to which one report after the other is added.
+use Rattle.std.specs.Prelude.{◌≡◌, ℕ, List, map, filter, Option, Some, None, if◌then◌else◌, All, Contains, IfSome}
+use Rattle.std.specs.Ordering.{is_lt}
 use Rattle.std.specs.List.{flat_map}
 use Rattle.st_core.specs.declared.types.Pid.{Pid}
 use Rattle.st_core.specs.declared.types.Event.{Event}
-use Rattle.st_core.specs.Pid.{pid_eq}
+use Rattle.st_core.specs.Pid.{pid_cmp, pid_eq, IsBelow}
 use Rattle.st_core.specs.Run.{Stream}
 use Rattle.st_core.specs.Step.{actor}
 use Rattle.st_core.specs.Streams.{added}
 use Rattle.st_runtime.specs.declared.entry.Entry.{Entry}
+use Rattle.st_runtime.specs.declared.record.Record.{Record}
+use Rattle.st_runtime.specs.Joined.{IsMerged, IsOneRun, streams_of}
 use Rattle.st_runtime.specs.Pcb.{Control}
+use Rattle.st_runtime.specs.Pieces.{Parts, IsSeated}
+
+-- the process of this pid is there and has the entry
+pub record HasAt (xs : List Control) (p : Pid) (e : Entry) : Type 0 where
+  pub control : Control
+  pub among : Contains xs control
+  pub pid : control.process.pid ≡ p
+  pub has : Contains control.log e
+
+-- the least, if there is one, isn't seated, and each of these pids that is below it is
+pub record IsLeastUnseated {X : Type 0} (pid_of : X → Pid) (pieces : Parts) (xs : List X) (least : Option Pid)
+    : Type 0 where
+  pub unseated : IfSome least (λ p. ¬ IsSeated pieces p)
+  pub before : All (λ x. IfSome least (IsBelow (pid_of x)) → IsSeated pieces (pid_of x)) xs
+
+-- the lesser of two pids, where there are two
+abbrev pub lesser : Option Pid → Pid → Option Pid
+lesser None p = Some p
+lesser (Some q) p = if is_lt (pid_cmp p q) then Some p else Some q
+
+-- the record is that of the logs' merged entries, which are one run
+pub record IsLogged (top : ℕ) (xs : List Control) (r : Record) : Type 0 where
+  pub entries : List Entry
+  pub merged : IsMerged xs entries
+  pub run : IsOneRun top xs entries
+  pub streams : r.streams ≡ streams_of xs
+  pub acts : r.acts ≡ map (λ e. e.act) entries
+  pub replies : r.replies ≡ map (λ e. e.reply) entries
 
 -- a process's own entries
 abbrev pub own_of : Pid → List Entry → List Entry

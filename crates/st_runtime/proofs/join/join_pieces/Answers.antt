@@ -1,0 +1,39 @@
+-- What was found of the slices holds of the pieces, whose processes and seats they are.
+use Rattle.std.proofs.Common.{◌≡◌, ◌∙◌, subst}
+use Rattle.st_core.specs.declared.types.Pid.{Pid}
+use Rattle.st_runtime.specs.Joined.{IsJoined}
+use Rattle.st_runtime.specs.Pieces.{Parts, AreWhole, IsSeated, IsFirstUnseated, IsFit}
+use Rattle.st_runtime.proofs.JoinLemmas.{joined}
+use Rattle.st_runtime.proofs.join.join_pieces.Goals as goal
+
+pub returns-in-Some-first_unseated-clause-err : goal.returns-in-Some-first_unseated-clause-err
+returns-in-Some-first_unseated-clause-err g c =
+    let found : Parts = record { processes = c.as_slice-processes.result.now; seats = c.as_slice.result.now } in
+    let is : found ≡ c.args.pieces.now = (λ i. record {
+      processes = c.as_slice-processes.ensures.value i;
+      seats = c.as_slice.ensures.value i;
+    }) ∙ c.pieces.view_is in
+    let Differs : Parts → Type 0 = λ v. AreWhole v.processes × IsFirstUnseated v c.in-Some-first_unseated.pid in
+    subst Differs is (c.in_default.ensures, c.in-Some-first_unseated.ensures)
+
+pub returns-in-Ok-clause-ok : goal.returns-in-Ok-clause-ok
+returns-in-Ok-clause-ok g c =
+    let top = g.row.TOP in
+    let r = c.in-Ok.record in
+    let found : Parts = record { processes = c.as_slice-processes.result.now; seats = c.as_slice.result.now } in
+    let is : found ≡ c.args.pieces.now = (λ i. record {
+      processes = c.as_slice-processes.ensures.value i;
+      seats = c.as_slice.ensures.value i;
+    }) ∙ c.pieces.view_is in
+    let Joins : Parts → Type 0 = λ v. IsJoined top v r in
+    subst Joins is (joined top found r c.in_default.ensures c.in_default-first_unseated.ensures c.in-Ok.ensures)
+
+pub returns-in-Err-clause-err : goal.returns-in-Err-clause-err
+returns-in-Err-clause-err g c =
+    let found : Parts = record { processes = c.as_slice-processes.result.now; seats = c.as_slice.result.now } in
+    let is : found ≡ c.args.pieces.now = (λ i. record {
+      processes = c.as_slice-processes.ensures.value i;
+      seats = c.as_slice.ensures.value i;
+    }) ∙ c.pieces.view_is in
+    let fit : IsFit found = record { whole = c.in_default.ensures; seated = c.in_default-first_unseated.ensures } in
+    subst IsFit is fit

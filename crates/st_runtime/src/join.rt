@@ -1,0 +1,63 @@
+//! The one run that pieces tell of.
+
+ghost use Rattle.std.specs.Prelude.{◌≡◌, All, IfOk, IfErr};
+ghost use Rattle.st_core.specs.Pid.{IsRising};
+ghost use Rattle.st_runtime.specs.Joined.{IsJoined};
+ghost use Rattle.st_runtime.specs.Joining.{IsLogged};
+ghost use Rattle.st_runtime.specs.Pieces.{pids_in, AreWhole, IsJoinFault};
+
+use crate::collect::streams_of;
+use crate::fault::JoinFault;
+use crate::merge::{acts_of, merged, replies_of};
+use crate::pcb::Pcb;
+use crate::pieces::Pieces;
+use crate::record::Record;
+use crate::seating::first_unseated;
+use crate::whole::first_missing;
+use st_core::Sequence;
+use std::alloc::{AllocError, Global};
+
+/// The record of what the threads did, exactly where the pieces fit: each entry stands in the log of
+/// each process that its act touches, and each seat's calls are those of its process's log. The acts
+/// are not replayed. That they are a run of the machine follows from what the locks kept.
+///
+/// Refusals: 2 Missing, 3 SeatDiffers, 1 Memory, in this order.
+pub fn join_pieces<const TOP: u64, const RANKS: u64>(
+    alloc: Global,
+    pieces: &Pieces<TOP, RANKS>,
+) -> Result<Record, JoinFault>
+    ensures ok { IfOk result (IsJoined TOP pieces.now) }
+    ensures err { IfErr result (IsJoinFault pieces.now) }
+{
+    let processes = pieces.processes.as_slice();
+    if let Some((pid, place)) = first_missing(processes) {
+        return Err(JoinFault::Missing(pid, place as u64));
+    }
+    if let Some(pid) = first_unseated(processes, pieces.seats.as_slice()) {
+        return Err(JoinFault::SeatDiffers(pid));
+    }
+    match run_of_logs(alloc, processes) {
+        Ok(record) => Ok(record),
+        Err(_) => Err(JoinFault::Memory),
+    }
+}
+
+/// The one run of whole logs.
+fn run_of_logs<const TOP: u64, const RANKS: u64>(
+    alloc: Global,
+    processes: &[Pcb<TOP, RANKS>],
+) -> Result<Record, AllocError>
+    requires rising { IsRising (pids_in processes.now) }
+    requires whole { AreWhole processes.now }
+    ensures { IfOk result (IsLogged TOP processes.now) }
+{
+    let entries = merged(alloc, processes)?;
+    let acts = acts_of(alloc, entries.as_slice())?;
+    let replies = replies_of(alloc, entries.as_slice())?;
+    let streams = streams_of(alloc, processes)?;
+    Ok(Record {
+        streams,
+        acts: Sequence::from_vec(acts),
+        replies: Sequence::from_vec(replies),
+    })
+}

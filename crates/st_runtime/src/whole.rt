@@ -1,0 +1,143 @@
+//! Which entries stand in the log of each process that their acts touch.
+
+ghost use Rattle.std.specs.Prelude.{◌≡◌, ◌<◌, length, take, true, All, Contains, slice_get, slice_index_or, is_some, Some};
+ghost use Rattle.std.specs.Prelude.{IfSome, MatchBool, MatchOption};
+ghost use Rattle.st_core.specs.Pid.{IsRising};
+ghost use Rattle.st_core.specs.Step.{touches};
+ghost use Rattle.st_core.specs.Streams.{is_among};
+ghost use Rattle.st_runtime.specs.declared.entry.Entry.{Entry};
+ghost use Rattle.st_runtime.specs.Joining.{HasAt};
+ghost use Rattle.st_runtime.specs.Logs.{RanksRise};
+ghost use Rattle.st_runtime.specs.Pcb.{is_wide};
+ghost use Rattle.st_runtime.specs.Pieces.{pids_in, AreWhole, HasIfTouched, IsWhole, IsFirstMissing};
+
+use crate::acts::{is_wide, receiver_of};
+use crate::entry::Entry;
+use crate::pcb::Pcb;
+use crate::same::is_same;
+use st_core::{Act, Pid};
+
+/// The least place of an entry that isn't whole.
+pub fn first_missing<const TOP: u64, const RANKS: u64>(
+    processes: &[Pcb<TOP, RANKS>],
+) -> Option<(Pid, usize)>
+    requires { IsRising (pids_in processes.now) }
+    ensures { MatchOption result (AreWhole processes.now) (λ r. IsFirstMissing processes.now r.0 r.1) }
+{
+    for (k, process) in processes.iter().enumerate() {
+        if let Some(i) = missing_in(processes, process.log()) {
+            return Some((process.pid(), i));
+        }
+    }
+    None
+}
+
+/// The least place in a log of an entry that isn't whole.
+fn missing_in<const TOP: u64, const RANKS: u64>(
+    processes: &[Pcb<TOP, RANKS>],
+    log: &[Entry],
+) -> Option<usize>
+    requires { IsRising (pids_in processes.now) }
+    ensures { MatchOption result (All (IsWhole processes.now) log.now) (λ i.
+        (i < length log.now) × All (IsWhole processes.now) (take i log.now)
+        × ((d : Entry) → ¬ IsWhole processes.now (slice_index_or log.now i d))) }
+{
+    for (i, entry) in log.iter().enumerate() {
+        if !is_whole(processes, entry) {
+            return Some(i);
+        }
+    }
+    None
+}
+
+/// Whether the actor and a send's receiver are there, and each process that the act touches has the
+/// entry. Where the act is none of a whole node, it touches these two alone.
+fn is_whole<const TOP: u64, const RANKS: u64>(processes: &[Pcb<TOP, RANKS>], entry: &Entry) -> bool
+    requires { IsRising (pids_in processes.now) }
+    ensures { MatchBool result (IsWhole processes.now entry.now) (¬ IsWhole processes.now entry.now) }
+{
+    if is_wide(&entry.act) {
+        has_process(processes, entry.act.actor()) && is_everywhere(processes, entry)
+    } else {
+        has_at(processes, entry.act.actor(), entry)
+            && has_at(processes, receiver_of(&entry.act), entry)
+    }
+}
+
+/// Whether the process is there.
+fn has_process<const TOP: u64, const RANKS: u64>(processes: &[Pcb<TOP, RANKS>], pid: Pid) -> bool
+    requires { IsRising (pids_in processes.now) }
+    ensures { result ≡ is_among (pids_in processes.now) pid }
+{
+    place_in(processes, pid).is_some()
+}
+
+/// Whether each process of the actor's node has the entry.
+fn is_everywhere<const TOP: u64, const RANKS: u64>(
+    processes: &[Pcb<TOP, RANKS>],
+    entry: &Entry,
+) -> bool
+    requires { is_wide entry.now.act ≡ true }
+    ensures { MatchBool result (All (HasIfTouched entry.now) processes.now)
+        (¬ All (HasIfTouched entry.now) processes.now) }
+{
+    for process in processes {
+        if is_of_node(&entry.act, process.pid()) && !has_entry(process.log(), entry) {
+            return false;
+        }
+    }
+    true
+}
+
+/// Whether an act of a whole node touches the process.
+fn is_of_node(act: &Act, pid: Pid) -> bool
+    requires { is_wide act.now ≡ true }
+    ensures { result ≡ touches act.now pid }
+{
+    pid.node() == act.actor().node()
+}
+
+/// Whether the process of this pid is there and has the entry.
+fn has_at<const TOP: u64, const RANKS: u64>(
+    processes: &[Pcb<TOP, RANKS>],
+    pid: Pid,
+    entry: &Entry,
+) -> bool
+    requires { IsRising (pids_in processes.now) }
+    ensures { MatchBool result (HasAt processes.now pid entry.now) (¬ HasAt processes.now pid entry.now) }
+{
+    match place_in(processes, pid) {
+        Some(place) => has_entry(processes[place].log(), entry),
+        None => false,
+    }
+}
+
+/// Where the process of this pid stands.
+pub fn place_in<const TOP: u64, const RANKS: u64>(
+    processes: &[Pcb<TOP, RANKS>],
+    pid: Pid,
+) -> Option<usize>
+    requires { IsRising (pids_in processes.now) }
+    ensures variant { is_some result ≡ is_among (pids_in processes.now) pid }
+    ensures some { IfSome result (λ i.
+        (i < length processes.now) × (slice_get (pids_in processes.now) i ≡ Some pid)) }
+{
+    let found = processes.binary_search_by_key(
+        &pid,
+        |process: &Pcb<TOP, RANKS>| -> Pid
+            ensures { result ≡ process.now.process.pid }
+        { process.pid() },
+    );
+    found.ok()
+}
+
+/// Whether the log has the entry. Its ranks rise, so that there is one place for it.
+fn has_entry(log: &[Entry], entry: &Entry) -> bool
+    requires { RanksRise 0 log.now }
+    ensures { MatchBool result (Contains log.now entry.now) (¬ Contains log.now entry.now) }
+{
+    match log.binary_search_by_key(&entry.rank, |kept| kept.rank) {
+        Ok(place) => is_same(&log[place], entry),
+        Err(_) => false,
+    }
+}
