@@ -1,12 +1,8 @@
-use Rattle.std.proofs.Common.{List, ℕ, ◌≡◌, ◌++◌, [], ◌∷◌, refl, ap, subst}
+use Rattle.std.proofs.Common.{List, ℕ, [], subst, append-nil}
 use Rattle.st_core.specs.declared.types.Pid.{Pid}
 use Rattle.st_chain.specs.Causes.{place_at, IsBackFrom}
 use Rattle.st_chain.proofs.Weights.{back_smaller}
 use Rattle.st_chain.proofs.chains.Chains.back.Goals as goal
-
-nil_right : {A : Type 0} (xs : List A) → xs ++ [] ≡ xs
-nil_right [] = refl
-nil_right (x ∷ xs) = ap (λ ys. x ∷ ys) (nil_right xs)
 
 pub loop-at-smaller : goal.loop-at-smaller
 loop-at-smaller c = rw (c.before-at.ensures.before, c.in-Some.is)
@@ -14,5 +10,5 @@ loop-at-smaller c = rw (c.before-at.ensures.before, c.in-Some.is)
 
 pub returns : goal.returns
 returns c = subst (λ (xs : List (Pid × ℕ)). IsBackFrom c.args.self.now
-    (place_at c.args.self.now c.args.pid c.args.index) xs) (nil_right c.loop-at.list.items)
+    (place_at c.args.self.now c.args.pid c.args.index) xs) (append-nil c.loop-at.list.items)
     (c.loop-at.invariant [] c.in_default.is)
