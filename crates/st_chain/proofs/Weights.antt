@@ -8,6 +8,7 @@ use Rattle.st_core.specs.declared.types.Pid.{Pid}
 use Rattle.st_core.specs.declared.types.Event.{Event}
 use Rattle.st_core.specs.Run.{Stream}
 use Rattle.st_core.specs.Streams.{events_of}
+use Rattle.st_core.proofs.ForCallers.{not_true}
 use Rattle.st_pair.specs.declared.answer.Source.TheVariants as source
 use Rattle.st_pair.specs.Places.{event_at, is_stamp, first_from}
 use Rattle.st_pair.specs.Pairing.{stamp_of, refusal}
@@ -23,10 +24,6 @@ record IsReceive (es : List Event) (this j : ℕ) : Type 0 where
   at : slice_get es j ≡ Some event
   count : event.serial.this ≡ this
   receive : is_stamp event ≡ false
-
-not_true : (b : Bool) → not b ≡ true → b ≡ false
-not_true true h = absurd (cc)
-not_true false h = refl
 
 before_found : (es : List Event) (this i j : ℕ) → received_before es this i ≡ Some j → IsReceive es this j
 before_found es this zero j h = absurd (cc)

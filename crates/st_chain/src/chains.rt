@@ -195,6 +195,7 @@ impl<'a> Chains<'a> {
         ensures before { result ≡ event_in (cause_at self.now pid index) }
         ensures accepted { refusal self.now ≡ None }
     {
+        // Reading a field shows what the type keeps: that pairing accepted the streams, so that the way back ends.
         let _ = &self.backs;
         match self.cause(pid, index) {
             Some(Cause::Event(from, place)) => Some((from, place)),
