@@ -1,0 +1,119 @@
+-- Worked cases: the definitions computed. Nothing cites this file; it shows that the definitions say what is meant.
+use Rattle.std.specs.Prelude.{◌≡◌, ℕ, Bool, true, false, List, [], ◌∷◌, ◌++◌, Option, Some, None, refl}
+use Rattle.st_core.specs.declared.types.Pid.{Pid}
+use Rattle.st_core.specs.declared.types.Event.{Event}
+use Rattle.st_core.specs.declared.types.Flags.{Flags}
+use Rattle.st_core.specs.declared.types.Kind.TheVariants as kind
+use Rattle.st_core.specs.declared.types.Act.{Act}
+use Rattle.st_core.specs.declared.types.Act.TheVariants as act
+use Rattle.st_core.specs.declared.types.Component.TheVariants as component
+use Rattle.st_core.specs.declared.types.Want.TheVariants as want
+use Rattle.st_core.specs.Pid.{pid_on}
+use Rattle.st_core.specs.Run.{Stream}
+use Rattle.st_order.specs.Order.{order}
+use Rattle.st_audit.specs.Moves.{clock, last, moves, skip, skips, Move}
+use Rattle.st_audit.specs.Reasons.{too_wide, uncaused}
+use Rattle.st_audit.specs.Build.{construction, unstamped}
+
+abbrev top : ℕ
+top = 18446744073709551615
+
+abbrev sent : ℕ → ℕ → ℕ → Pid → Pid → ℕ → Event
+sent n prev this p q v = record {
+  label = record { 0 = n };
+  kind = kind.Send;
+  serial = record { prev = prev; this = this };
+  from = p;
+  to = Some q;
+  value = v;
+}
+
+abbrev got : ℕ → ℕ → ℕ → Pid → Pid → ℕ → Event
+got n prev this p q v = record (sent n prev this p q v) { kind = kind.Receive }
+
+abbrev printed : ℕ → ℕ → ℕ → Pid → ℕ → Event
+printed n prev this p v = record (sent n prev this p p v) { kind = kind.Print; to = None }
+
+abbrev a : Pid
+a = pid_on 0 30
+
+abbrev b : Pid
+b = pid_on 0 31
+
+abbrev c : Pid
+c = pid_on 0 32
+
+abbrev of : Pid → List Event → Stream
+of p es = record { pid = p; events = es }
+
+abbrev restored : Pid → ℕ → Bool → Bool → Bool → Act
+restored p n s r q =
+    act.Restore p (unstamped p (record { 0 = n }) (record { send = s; receive = r; print = q }))
+
+-- what the function gives at each of these moves, after those before it
+abbrev along : {X : Type 0} → (List Move → Move → X) → List Move → List Move → List X
+along f earlier [] = []
+along f earlier (m ∷ ms) = f earlier m ∷ along f (m ∷ earlier) ms
+
+-- two processes that received messages whose sends nobody reported
+abbrev hidden_sends : List Stream
+hidden_sends = of a (printed 17 0 1 a 7 ∷ got 17 2 4 b a 6 ∷ []) ∷ of b
+    (got 17 0 2 a b 5 ∷ printed 17 2 3 b 8 ∷ []) ∷ []
+
+abbrev hidden : List Move
+hidden = moves hidden_sends (order hidden_sends)
+
+hidden_clocks : along (λ e m. clock m.who e) [] hidden ≡ 0 ∷ 1 ∷ 0 ∷ 2 ∷ 3 ∷ 2 ∷ []
+hidden_clocks = refl
+
+hidden_lasts : along (λ e m. last m.who e) [] hidden ≡ 0 ∷ 0 ∷ 0 ∷ 2 ∷ 2 ∷ 0 ∷ []
+hidden_lasts = refl
+
+hidden_uncaused : along uncaused [] hidden ≡ false ∷ false ∷ false ∷ false ∷ false ∷ false ∷ []
+hidden_uncaused = refl
+
+hidden_too_wide : along too_wide [] hidden ≡ false ∷ false ∷ false ∷ false ∷ false ∷ false ∷ []
+hidden_too_wide = refl
+
+-- their certificate
+hidden_acts : construction top hidden_sends hidden ≡ Some (
+    act.Tracer a true ∷ restored a 17 false false true ∷ act.Print a 7
+    ∷ restored a 17 false true false ∷ act.Send a b 5 ∷ act.Receive b (want.Place 0)
+    ∷ restored b 17 false false true ∷ act.Print b 8
+    ∷ restored b 17 false true false ∷ act.Send b a 6 ∷ act.Receive a (want.Place 0) ∷ [])
+hidden_acts = refl
+
+-- a hidden send from a process that took a message before it; it stands where its receive does
+abbrev crossing : List Stream
+crossing = of a (got 1 0 1 b a 4 ∷ []) ∷ of b (got 1 0 2 a b 5 ∷ []) ∷ []
+
+crossing_uncaused : along uncaused [] (moves crossing (order crossing)) ≡ false ∷ false ∷ true ∷ false ∷ []
+crossing_uncaused = refl
+
+-- a thousand counts may be missing before one item, and no more
+abbrev wide : ℕ → List Stream
+wide this = of a (printed 17 0 this a 7 ∷ []) ∷ []
+
+widest : along too_wide [] (moves (wide 1001) (order (wide 1001))) ≡ false ∷ []
+widest = refl
+
+too_wide_by_one : along too_wide [] (moves (wide 1002) (order (wide 1002))) ≡ true ∷ []
+too_wide_by_one = refl
+
+-- a prev above the clock begins a new trace there
+new_trace : construction top (of a (printed 17 2 3 a 5 ∷ []) ∷ []) (moves (of a (printed 17 2 3 a 5 ∷ []) ∷ [])
+    (order (of a (printed 17 2 3 a 5 ∷ []) ∷ [])))
+    ≡ Some (act.Tracer a true ∷ restored a 17 false false false ∷ act.Print a 0 ∷ act.Print a 0
+    ∷ act.Clear a ∷ act.Set a (component.Label (record { 0 = 17 }))
+    ∷ restored a 17 false false true ∷ act.Print a 5 ∷ [])
+new_trace = refl
+
+-- receives of one height: the order doesn't list their process's events by index, and an act for each is no way
+-- through them
+abbrev one_height : List Stream
+one_height = of a [] ∷ of b (got 1 0 2 a b 5 ∷ got 1 0 1 c b 4 ∷ printed 1 1 2 b 9 ∷ []) ∷ of c [] ∷ []
+
+one_height_free : along uncaused [] (moves one_height (order one_height))
+    ++ along too_wide [] (moves one_height (order one_height))
+    ≡ false ∷ false ∷ false ∷ false ∷ false ∷ false ∷ false ∷ false ∷ false ∷ false ∷ []
+one_height_free = refl

@@ -1,0 +1,14 @@
+mod Cases
+mod Silent
+mod Ready
+mod Lift
+mod Counts
+mod Widening
+mod Moved
+mod Along
+mod Next
+mod Opened
+mod Nothing
+mod Refused
+mod Ending
+mod Stamping

@@ -1,0 +1,78 @@
+-- A world begins with all counts at zero, and a tracer moves none.
+use Rattle.std.proofs.Common.{◌≡◌, ℕ, ◌+◌, Bool, true, false, cond, List, [], ◌∷◌, ◌++◌, map, take, Option, Some, None}
+use Rattle.std.proofs.Common.{append_assoc, option_map, option_and_then, refl, sym, ◌∙◌, ap, subst}
+use Rattle.std.proofs.lemmas.Option.{same_Some, none-some}
+use Rattle.st_core.specs.declared.types.Pid.{Pid}
+use Rattle.st_core.specs.declared.types.Act.{Act}
+use Rattle.st_core.specs.declared.types.Act.TheVariants as act
+use Rattle.st_core.specs.Pid.{pid_eq}
+use Rattle.st_core.specs.State.{LocalState, Process, State, process, zero_local, zero_state}
+use Rattle.st_core.specs.Step.{Acted, Outcome, step}
+use Rattle.st_core.specs.Run.{Stream, run_from}
+use Rattle.st_core.proofs.ForCallers.{pid_same}
+use Rattle.st_audit.specs.Build.{state_after}
+use Rattle.st_audit.specs.Progress.{AreCounted, IsCounted, IsSoFar, Ran}
+use Rattle.st_audit.proofs.Counts.{HaveSame, actor_same, others_same}
+use Rattle.st_audit.proofs.Lift.{run_append, state_append}
+
+zero_counted : (pids : List Pid) → AreCounted [] (zero_state pids)
+zero_counted [] x r h = absurd (none-some r h)
+zero_counted (p ∷ pids) x r h =
+    let made : Process = record { pid = p; local = zero_local; queue = [] } in
+    elim (pid_eq p x) as (λ b. cond b (Some made) (process (zero_state pids) x) ≡ Some r → IsCounted [] x r.local) [
+      | true ↦ λ h. subst (λ (y : Process). IsCounted [] x y.local) (same_Some made r h)
+          (record { clocked = refl; lasted = refl })
+      | false ↦ λ h. zero_counted pids x r h
+    ] h
+
+pub begins : (streams : List Stream) (pids : List Pid) (s : State) → s ≡ zero_state pids → IsSoFar streams [] s 0
+begins streams pids s is = record {
+  counted = subst (AreCounted []) (sym is) (zero_counted pids);
+  missed = refl;
+}
+
+counted_as : (l m : LocalState) (x : Pid) → HaveSame l m → IsCounted [] x m → IsCounted [] x l
+counted_as l m x same was = record {
+  clocked = same.clocked ∙ was.clocked;
+  lasted = same.lasted ∙ was.lasted;
+}
+
+pub traced : (top : ℕ) (s : State) (p : Pid) (b : Bool) (o : Outcome) → step top s (act.Tracer p b) ≡ Some o
+    → AreCounted [] s → AreCounted [] o.after
+traced top s p b o h counted x r is =
+    elim (pid_eq x p) as (λ c. pid_eq x p ≡ c → IsCounted [] x r.local) [
+      | true ↦ λ e.
+          let who = pid_same x p e in
+          let was = actor_same top s (act.Tracer p b) o h tt r (ap (process o.after) (sym who) ∙ is) in
+          let done : was.before.local ≡ was.done.local = ap (λ (d : Acted). d.local)
+          (same_Some _ was.done was.is_done) in
+          let so = counted p was.before was.is_before in
+          record {
+            clocked = was.same.clocked ∙ ap (λ (l : LocalState). l.clock) (sym done) ∙ so.clocked;
+            lasted = was.same.lasted ∙ ap (λ (l : LocalState). l.last) (sym done) ∙ so.lasted;
+          }
+      | false ↦ λ e.
+          let was = others_same top s (act.Tracer p b) o h tt x r e is in
+          counted_as r.local was.before.local x was.same (counted x was.before was.is_before)
+    ] refl
+
+one_run : (top : ℕ) (s : State) (a : Act) (o : Outcome) → step top s a ≡ Some o → run_from top s (a ∷ []) ≡ Some (o ∷ [])
+one_run top s a o h = rw h refl
+
+-- an act more ran
+pub ran_more : (top : ℕ) (old s : State) (acts : List Act) (a : Act) (o : Outcome) → Ran top old acts s
+    → step top s a ≡ Some o → Ran top old (acts ++ a ∷ []) o.after
+ran_more top old s acts a o ran h =
+    let here : step top (state_after old ran.outcomes) a ≡ Some o = ap (λ t. step top t a) (sym ran.after) ∙ h in
+    record {
+      outcomes = ran.outcomes ++ o ∷ [];
+      runs = run_append top old acts (a ∷ []) ran.outcomes (o ∷ []) ran.runs
+          (one_run top (state_after old ran.outcomes) a o here);
+      after = sym (state_append old ran.outcomes (o ∷ []));
+    }
+
+-- and stands at the end
+pub put_more : (old xs all now new : List Act) (a : Act) → now ≡ old ++ xs → all ≡ xs ++ a ∷ [] → new ≡ now ++ a ∷ []
+    → new ≡ old ++ all
+put_more old xs all now new a before more put =
+    put ∙ ap (λ acts. acts ++ a ∷ []) before ∙ append_assoc old xs (a ∷ []) ∙ ap (λ acts. old ++ acts) (sym more)

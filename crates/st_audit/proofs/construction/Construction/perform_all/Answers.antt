@@ -1,0 +1,23 @@
+-- The act at this index ran after those before it.
+use Rattle.std.proofs.Common.{List, take, sym, ◌∙◌, subst}
+use Rattle.std.proofs.lemmas.List.{take_more}
+use Rattle.st_core.specs.declared.types.Act.{Act}
+use Rattle.st_world.specs.World.{outcome_to}
+use Rattle.st_audit.specs.Progress.{Ran}
+use Rattle.st_audit.proofs.Opened.{put_more, ran_more}
+use Rattle.st_audit.proofs.construction.Construction.perform_all.Goals as goal
+
+pub loop-act-preserved : goal.loop-act-preserved
+loop-act-preserved g c =
+    let done = c.in_ok-perform.ensures in
+    let plan = c.args.plan.now in
+    let n = c.loop-act.act-index in
+    let old = c.args.self.now in
+    let more = take_more plan n _ c.loop-act-test.true in (
+      subst (λ (acts : List Act). Ran g.row.TOP old.world acts c.perform.new.self.world) (sym more)
+          (ran_more g.row.TOP old.world c.loop-act.self.world (take n plan) _
+          (outcome_to c.in_ok-perform.field-0 c.perform.new.self.world) c.loop-act.invariant.0 done.step),
+      put_more old.acts (take n plan) _ c.loop-act.self.acts _ _ c.loop-act.invariant.1 more done.acts,
+      done.skipped ∙ c.loop-act.invariant.2,
+      done.told ∙ c.loop-act.invariant.3,
+    )

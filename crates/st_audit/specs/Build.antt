@@ -1,0 +1,140 @@
+-- For the parts alone: the acts that are built for an item, from what the process whose it is has before.
+use Rattle.std.specs.Prelude.{◌≡◌, ℕ, ◌-◌, ◌==◌, ◌&&◌, zero, suc, max, nat_lt, Bool, true, false, not, List, []}
+use Rattle.std.specs.Prelude.{◌∷◌, ◌++◌, Option, Some, None, if◌then◌else◌, is_some, option_map, option_and_then}
+use Rattle.std.specs.Prelude.{position}
+use Rattle.std.specs.Option.{option_map_or}
+use Rattle.st_core.specs.declared.types.Pid.{Pid}
+use Rattle.st_core.specs.declared.types.Label.{Label}
+use Rattle.st_core.specs.declared.types.Flags.{Flags}
+use Rattle.st_core.specs.declared.types.Serial.{Serial}
+use Rattle.st_core.specs.declared.types.Token.{Token}
+use Rattle.st_core.specs.declared.types.Kind.TheVariants as kind
+use Rattle.st_core.specs.declared.types.Want.TheVariants as want
+use Rattle.st_core.specs.declared.types.Component.TheVariants as component
+use Rattle.st_core.specs.declared.types.Act.{Act}
+use Rattle.st_core.specs.declared.types.Act.TheVariants as act
+use Rattle.st_core.specs.State.{LocalState, Process, State, process, zero_state}
+use Rattle.st_core.specs.Step.{Outcome}
+use Rattle.st_core.specs.Run.{Stream, pids_of, run_from}
+use Rattle.st_mail.specs.Mail.{is_stamp}
+use Rattle.st_pair.specs.Pairing.{receiver_at}
+use Rattle.st_order.specs.declared.item.Item.TheVariants as item
+use Rattle.st_audit.specs.declared.plan.Start.{Start}
+use Rattle.st_audit.specs.Moves.{Move, is_taking}
+
+-- what of a process's state the acts are built from
+abbrev pub start_of : LocalState → Start
+start_of l = record { token = l.token; clock = l.clock; last = l.last }
+
+abbrev pub quiet : Flags
+quiet = record { send = false; receive = false; print = false }
+
+abbrev pub bool_eq : Bool → Bool → Bool
+bool_eq a b = if a then b else not b
+
+abbrev pub flags_eq : Flags → Flags → Bool
+flags_eq f g = bool_eq f.send g.send && (bool_eq f.receive g.receive && bool_eq f.print g.print)
+
+-- the token has this label and these flags
+abbrev pub is_dressed : Label → Flags → Option Token → Bool
+is_dressed n f None = false
+is_dressed n f (Some t) = t.label.0 == n.0 && flags_eq t.flags f
+
+-- a token of this label and these flags, as it is restored
+abbrev pub unstamped : Pid → Label → Flags → Token
+unstamped p n f = record { label = n; flags = f; serial = record { prev = 0; this = 0 }; from = p }
+
+-- gives p a token of this label and these flags, if it has none such
+abbrev pub dress : Pid → Option Token → Label → Flags → List Act
+dress p token n f = if is_dressed n f token then [] else act.Restore p (unstamped p n f) ∷ []
+
+-- so many prints of p that nobody sees
+abbrev pub silent : Pid → ℕ → List Act
+silent p zero = []
+silent p (suc n) = act.Print p 0 ∷ silent p n
+
+-- where the prev isn't the last count: the clock is brought up to it, and a new trace begun there
+abbrev pub renew : Pid → Start → Label → ℕ → List Act
+renew p x n prev =
+    (if nat_lt x.clock prev then dress p x.token n quiet ++ silent p (prev - x.clock) else [])
+    ++ act.Clear p ∷ act.Set p (component.Label n) ∷ []
+
+-- the clock is brought up to that count, then the flags are put on
+abbrev pub raise : Pid → Start → Label → ℕ → Flags → List Act
+raise p x n count f = if nat_lt x.clock count
+    then dress p x.token n quiet ++ (silent p (count - x.clock) ++ dress p (Some (unstamped p n quiet)) n f)
+    else dress p x.token n f
+
+-- what p has after a new trace began at prev
+abbrev pub renewed : Pid → Start → Label → ℕ → Start
+renewed p x n prev =
+    record { token = Some (unstamped p n quiet); clock = max x.clock prev; last = prev }
+
+-- the acts after which p stands ready to stamp this serial under this label and these flags
+abbrev pub ready : Pid → Start → Label → Serial → Flags → List Act
+ready p x n s f = if s.prev == x.last
+    then raise p x n (s.this - 1) f
+    else renew p x n s.prev ++ raise p (renewed p x n s.prev) n (s.this - 1) f
+
+-- the flags under which an item stamps: a reported send's message is received under a flag exactly where a receive is
+-- paired with it
+abbrev pub flags_of : List Stream → Move → Flags
+flags_of streams m = elim m.item [
+  | item.Hidden p i ↦ record { send = false; receive = true; print = false }
+  | item.Reported p i ↦
+      elim m.event.kind [
+        | kind.Send ↦ record { send = true; receive = is_some (receiver_at streams p i); print = false }
+        | kind.Receive ↦ quiet
+        | kind.Print ↦ record { send = false; receive = false; print = true }
+      ]
+]
+
+-- the act of an item; a receive's is from the place of the queue where the message lies
+abbrev pub act_of : Process → Move → Option Act
+act_of r m = elim m.item [
+  | item.Hidden p i ↦ option_map (λ to. act.Send m.who to m.event.value) m.event.to
+  | item.Reported p i ↦
+      elim m.event.kind [
+        | kind.Send ↦ option_map (λ to. act.Send m.who to m.event.value) m.event.to
+        | kind.Receive ↦ option_map (λ k. act.Receive m.who (want.Place k))
+            (position (λ x. is_stamp m.event.from m.event.serial.this x.token) r.queue)
+        | kind.Print ↦ Some (act.Print m.who m.event.value)
+      ]
+]
+
+-- the acts of an item, from the record of the process whose it is
+abbrev pub acts_of : List Stream → Process → Move → Option (List Act)
+acts_of streams r m = option_map (λ a. (if is_taking m then []
+    else ready m.who (start_of r.local) m.event.label m.event.serial (flags_of streams m)) ++ a ∷ []) (act_of r m)
+
+-- the state after these outcomes, which begin at s
+abbrev pub state_after : State → List Outcome → State
+state_after s [] = s
+state_after s (o ∷ os) = state_after o.after os
+
+-- all acts of these moves, each item's from the state that the acts before lead to
+abbrev pub build : ℕ → List Stream → State → List Move → Option (List Act)
+build top streams s [] = Some []
+build top streams s (m ∷ ms) =
+    option_and_then (λ r. option_and_then (λ acts. option_and_then (λ os.
+    option_map (λ rest. acts ++ rest) (build top streams (state_after s os) ms))
+    (run_from top s acts)) (acts_of streams r m)) (process s m.who)
+
+-- a tracer for each node but this one, by its least pid
+abbrev pub tracers_after : Option ℕ → List Pid → List Act
+tracers_after seen [] = []
+tracers_after seen (p ∷ ps) = if option_map_or (λ n. n == p.node) seen false then tracers_after seen ps
+    else act.Tracer p true ∷ tracers_after (Some p.node) ps
+
+-- the first acts: none where nothing happened
+abbrev pub opening : List Stream → List Move → List Act
+opening streams [] = []
+opening streams (m ∷ ms) = tracers_after None (pids_of streams)
+
+-- the acts of a construction that goes through
+abbrev pub construction : ℕ → List Stream → List Move → Option (List Act)
+construction top streams ms =
+    let first = opening streams ms in
+    let zero = zero_state (pids_of streams) in
+    option_and_then (λ os. option_map (λ rest. first ++ rest) (build top streams (state_after zero os) ms))
+    (run_from top zero first)

@@ -1,0 +1,48 @@
+-- What the auditor's findings mean.
+use Rattle.std.specs.Prelude.{◌≡◌, ℕ, List, Option, Some, None, IsSome}
+use Rattle.st_core.specs.declared.types.Pid.{Pid}
+use Rattle.st_core.specs.Run.{Stream}
+use Rattle.st_core.specs.Verdict as verdicts
+use Rattle.st_check.specs.Answers.{verdict_of}
+use Rattle.st_pair.specs.declared.answer.PairFault.{PairFault}
+use Rattle.st_pair.specs.declared.answer.PairFault.TheVariants as fault
+use Rattle.st_pair.specs.Places.{event_at}
+use Rattle.st_pair.specs.Pairing.{refusal}
+use Rattle.st_audit.specs.declared.finding.Reason.{Reason}
+use Rattle.st_audit.specs.declared.finding.Reason.TheVariants as reason
+use Rattle.st_audit.specs.declared.finding.Finding.{Finding}
+use Rattle.st_audit.specs.declared.finding.Finding.TheVariants as finding
+use Rattle.st_audit.specs.Reasons.{HoldsAt, uncaused, too_wide}
+
+-- the verdict is no yes
+abbrev pub IsNo : verdicts.Verdict → Type 0
+IsNo (verdicts.Yes ps) = ⊥
+IsNo v = Unit {0}
+
+-- the reason holds at (p, i): 2 to 5 are pairing's, and the others come only where pairing accepts
+abbrev pub IsReason : ℕ → List Stream → Pid → ℕ → Reason → Type 0
+IsReason top streams p i reason.PrevNotBefore = refusal streams ≡ Some (fault.PrevNotBefore p i)
+IsReason top streams p i (reason.NotRising j) = refusal streams ≡ Some (fault.NotRising p i j)
+IsReason top streams p i (reason.Repeated q j) = refusal streams ≡ Some (fault.Repeated p i q j)
+IsReason top streams p i (reason.Mismatch q j) = refusal streams ≡ Some (fault.Mismatch p i q j)
+IsReason top streams p i reason.Uncaused = (refusal streams ≡ None) × HoldsAt uncaused streams p i
+IsReason top streams p i reason.TooWide = (refusal streams ≡ None) × HoldsAt too_wide streams p i
+IsReason top streams p i (reason.NotReplayed acts v) =
+    (refusal streams ≡ None) × verdicts.IsVerdict top streams acts (verdict_of v) × IsNo (verdict_of v)
+
+-- a certificate that the checker accepts; or an event that is there, and a reason that holds there
+abbrev pub IsFinding : ℕ → List Stream → Finding → Type 0
+IsFinding top streams (finding.Fits acts pairs) = verdicts.IsVerdict top streams acts (verdicts.Yes pairs)
+IsFinding top streams (finding.Unfit p i r) = IsSome (event_at streams p i) × IsReason top streams p i r
+
+-- a reason of pairing as a finding
+abbrev pub unfit_by : PairFault → Option Finding
+unfit_by fault.Memory = None
+unfit_by (fault.PrevNotBefore p i) = Some (finding.Unfit p i reason.PrevNotBefore)
+unfit_by (fault.NotRising p i j) = Some (finding.Unfit p i (reason.NotRising j))
+unfit_by (fault.Repeated p i q j) = Some (finding.Unfit p i (reason.Repeated q j))
+unfit_by (fault.Mismatch p i q j) = Some (finding.Unfit p i (reason.Mismatch q j))
+
+-- where pairing refuses the streams, its reason is what is found
+abbrev pub HandsOn : List Stream → Finding → Type 0
+HandsOn streams found = (f : PairFault) → refusal streams ≡ Some f → unfit_by f ≡ Some found

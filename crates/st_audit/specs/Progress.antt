@@ -1,0 +1,152 @@
+-- For the parts alone: what the construction keeps along the items, and what it did for one of them.
+use Rattle.std.specs.Prelude.{◌≡◌, ℕ, ◌+◌, ◌-◌, ◌==◌, ◌&&◌, ◌||◌, nat_lt, Bool, true, false, not, List, reverse}
+use Rattle.std.specs.Prelude.{Option, Some, None, if◌then◌else◌}
+use Rattle.st_core.specs.declared.types.Pid.{Pid}
+use Rattle.st_core.specs.declared.types.Event.{Event}
+use Rattle.st_core.specs.declared.types.Flags.{Flags}
+use Rattle.st_core.specs.declared.types.Serial.{Serial}
+use Rattle.st_core.specs.declared.types.Want.TheVariants as want
+use Rattle.st_core.specs.declared.types.Act.{Act}
+use Rattle.st_core.specs.declared.types.Act.TheVariants as act
+use Rattle.st_core.specs.State.{LocalState, Process, State, process}
+use Rattle.st_core.specs.Step.{Outcome, step}
+use Rattle.st_core.specs.Run.{Stream, run_from}
+use Rattle.st_mail.specs.declared.outcome.Outcome.{Outcome as Told}
+use Rattle.st_world.specs.World.{outcome_to}
+use Rattle.st_pair.specs.Places.{event_at, is_stamp}
+use Rattle.st_order.specs.declared.item.Item.{Item}
+use Rattle.st_order.specs.declared.item.Item.TheVariants as item
+use Rattle.st_order.specs.Items.{event_of}
+use Rattle.st_audit.specs.declared.plan.Start.{Start}
+use Rattle.st_audit.specs.declared.construction.Halt.{Halt}
+use Rattle.st_audit.specs.declared.construction.Halt.TheVariants as halt
+use Rattle.st_audit.specs.Moves.{Move, move_by, moves, clock, last, skips}
+use Rattle.st_audit.specs.Reasons.{most_skipped, most_skipped_in_all, uncaused, too_wide}
+use Rattle.st_audit.specs.Build.{start_of, ready, state_after}
+
+-- the moves of these items, the nearest first
+abbrev pub earlier_of : List Stream → List Item → List Move
+earlier_of streams xs = reverse (moves streams xs)
+
+-- p's clock and last count are what the moves so far make of them
+pub record IsCounted (earlier : List Move) (p : Pid) (l : LocalState) : Type 0 where
+  pub clocked : l.clock ≡ clock p earlier
+  pub lasted : l.last ≡ last p earlier
+
+-- those of each process, in this state
+abbrev pub AreCounted : List Move → State → Type 0
+AreCounted earlier s = (p : Pid) (r : Process) → process s p ≡ Some r → IsCounted earlier p r.local
+
+-- the state and the number of skipped counts are what these items make of them
+pub record IsSoFar (streams : List Stream) (xs : List Item) (s : State) (skipped : ℕ) : Type 0 where
+  pub counted : AreCounted (earlier_of streams xs) s
+  pub missed : skipped ≡ skips (earlier_of streams xs)
+
+-- how many counts are missing before a serial
+abbrev pub missing : Start → Serial → ℕ
+missing x s = s.this - 1 - x.clock
+
+-- the serial's prev is below the clock, and isn't the last count
+abbrev pub is_uncaused : Start → Serial → Bool
+is_uncaused x s = not (s.prev == x.last) && nat_lt s.prev x.clock
+
+-- so many more, where so many were skipped before, are too many
+abbrev pub is_too_wide : ℕ → ℕ → Bool
+is_too_wide skipped more = nat_lt most_skipped more || nat_lt most_skipped_in_all (more + skipped)
+
+-- the act stamps for p
+abbrev pub IsStampOf : Pid → Act → Type 0
+IsStampOf p (act.Send q to v) = p ≡ q
+IsStampOf p (act.Print q v) = p ≡ q
+IsStampOf p a = ⊥
+
+-- the acts ran from this state to that one
+pub record Ran (top : ℕ) (old : State) (acts : List Act) (new : State) : Type 0 where
+  pub outcomes : List Outcome
+  pub runs : run_from top old acts ≡ Some outcomes
+  pub after : new ≡ state_after old outcomes
+
+-- p was brought to stand ready for the event's serial, and then stamped it
+pub record IsStamped (top : ℕ) (old : State) (skipped : ℕ) (p : Pid) (e : Event) (f : Flags) (told : Told)
+    (new : State) (skipped_now : ℕ) : Type 0 where
+  pub before : Process
+  pub is_before : process old p ≡ Some before
+  pub caused : is_uncaused (start_of before.local) e.serial ≡ false
+  pub between : State
+  pub ran : Ran top old (ready p (start_of before.local) e.label e.serial f) between
+  pub stamp : Act
+  pub stamps : IsStampOf p stamp
+  pub steps : step top between stamp ≡ Some (outcome_to told new)
+  pub missed : skipped_now ≡ missing (start_of before.local) e.serial + skipped
+
+-- p took a message from its queue
+pub record IsTaken (top : ℕ) (old : State) (p : Pid) (told : Told) (new : State) : Type 0 where
+  pub place : ℕ
+  pub steps : step top old (act.Receive p (want.Place place)) ≡ Some (outcome_to told new)
+
+-- the hidden send of the receive at (p, i) was stamped
+pub record IsHiddenDone (top : ℕ) (streams : List Stream) (old : State) (skipped : ℕ) (p : Pid) (i : ℕ) (new : State)
+    (skipped_now : ℕ) : Type 0 where
+  pub event : Event
+  pub at : event_at streams p i ≡ Some event
+  pub flags : Flags
+  pub told : Told
+  pub stamped : IsStamped top old skipped event.from event flags told new skipped_now
+
+-- an event's own act
+abbrev pub IsActed : Bool → ℕ → State → ℕ → Pid → Event → Told → State → ℕ → Type 0
+IsActed true top old skipped p e told new skipped_now =
+    (f : Flags) × IsStamped top old skipped p e f told new skipped_now
+IsActed false top old skipped p e told new skipped_now =
+    IsTaken top old p told new × (skipped_now ≡ skipped)
+
+-- the act of the event at (p, i) reported it
+pub record IsReportedDone (top : ℕ) (streams : List Stream) (old : State) (skipped : ℕ) (p : Pid) (i : ℕ) (new : State)
+    (skipped_now : ℕ) : Type 0 where
+  pub event : Event
+  pub at : event_at streams p i ≡ Some event
+  pub told : Told
+  pub report : told.report ≡ Some event
+  pub acted : IsActed (is_stamp event) top old skipped p event told new skipped_now
+
+-- the start of p, for whose event the construction halted
+pub record HaltsAt (old : State) (p : Pid) (test : Start → Bool) : Type 0 where
+  pub before : Process
+  pub is_before : process old p ≡ Some before
+  pub holds : test (start_of before.local) ≡ true
+
+-- why no stamp of the event's serial by p was tried, where it is for one of the auditor's reasons
+abbrev pub IsStampHalt : State → ℕ → Pid → Event → Halt → Type 0
+IsStampHalt old skipped p e halt.Uncaused = HaltsAt old p (λ x. is_uncaused x e.serial)
+IsStampHalt old skipped p e halt.TooWide = HaltsAt old p (λ x. is_too_wide skipped (missing x e.serial))
+IsStampHalt old skipped p e h = Unit {0}
+
+-- no reason of the auditor's own
+abbrev pub IsPlainHalt : Halt → Type 0
+IsPlainHalt halt.Uncaused = ⊥
+IsPlainHalt halt.TooWide = ⊥
+IsPlainHalt h = Unit {0}
+
+-- why an event's own act wasn't made
+abbrev pub IsActHalt : Bool → State → ℕ → Pid → Event → Halt → Type 0
+IsActHalt true old skipped p e h = IsStampHalt old skipped p e h
+IsActHalt false old skipped p e h = IsPlainHalt h
+
+-- why the construction halted at the event at (p, i), whose stamp is q's
+abbrev pub IsStampHaltAt : List Stream → Pid → ℕ → (Event → Pid) → (Event → Bool) → State → ℕ → Halt → Type 0
+IsStampHaltAt streams p i who stamps old skipped halt.Uncaused = (e : Event) × (event_at streams p i ≡ Some e)
+    × (stamps e ≡ true) × IsStampHalt old skipped (who e) e halt.Uncaused
+IsStampHaltAt streams p i who stamps old skipped halt.TooWide = (e : Event) × (event_at streams p i ≡ Some e)
+    × (stamps e ≡ true) × IsStampHalt old skipped (who e) e halt.TooWide
+IsStampHaltAt streams p i who stamps old skipped h = Unit {0}
+
+-- the test holds of the item's move, after those of the earlier items
+abbrev pub HoldsOf : (List Move → Move → Bool) → List Stream → List Item → Item → Type 0
+HoldsOf test streams xs x = (e : Event) × (event_of streams x ≡ Some e)
+    × (test (earlier_of streams xs) (move_by x e) ≡ true)
+
+-- why the construction halts at an item after these
+abbrev pub IsHalt : List Stream → List Item → Item → Halt → Type 0
+IsHalt streams xs x halt.Uncaused = HoldsOf uncaused streams xs x
+IsHalt streams xs x halt.TooWide = HoldsOf too_wide streams xs x
+IsHalt streams xs x h = Unit {0}

@@ -1,0 +1,152 @@
+//! The auditor.
+
+ghost use Rattle.std.specs.Prelude.{◌≡◌, IfErr, IfOk, IsSome, None, [], ◌∷◌, Some};
+ghost use Rattle.st_core.specs.Streams.{IsStreams};
+ghost use Rattle.st_order.specs.Order.{IsOrder};
+ghost use Rattle.st_pair.specs.Links.{IsPairing};
+ghost use Rattle.st_pair.specs.Pairing.{refusal, IsPairFault};
+ghost use Rattle.st_pair.specs.Places.{event_at};
+ghost use Rattle.st_audit.specs.Findings.{unfit_by, HandsOn, IsFinding};
+ghost use Rattle.st_audit.specs.Reasons.{item_place};
+
+use crate::construction::{Construction, Halt};
+use crate::finding::{AuditFault, Finding, Reason};
+use st_check::{Verdict, check};
+use st_core::{Act, Pid, Sequence, Streams};
+use st_order::{Item, order};
+use st_pair::{PairFault, Pairing, pair};
+use std::alloc::Global;
+use std::thread::Threads;
+
+/// A reason of pairing as a finding.
+fn unfit_by(fault: PairFault) -> Option<Finding>
+    ensures { result ≡ unfit_by fault }
+{
+    match fault {
+        PairFault::Memory => None,
+        PairFault::PrevNotBefore(pid, index) => {
+            Some(Finding::Unfit(pid, index, Reason::PrevNotBefore))
+        }
+        PairFault::NotRising(pid, index, other) => {
+            Some(Finding::Unfit(pid, index, Reason::NotRising(other)))
+        }
+        PairFault::Repeated(pid, index, first, place) => {
+            Some(Finding::Unfit(pid, index, Reason::Repeated(first, place)))
+        }
+        PairFault::Mismatch(pid, index, sender, place) => {
+            Some(Finding::Unfit(pid, index, Reason::Mismatch(sender, place)))
+        }
+    }
+}
+
+/// Where an item stands in the streams: a hidden send where its receive does.
+fn place_of(item: Item) -> (Pid, u64)
+    ensures { result ≡ item_place item }
+{
+    match item {
+        Item::Reported(pid, index) | Item::Hidden(pid, index) => (pid, index),
+    }
+}
+
+/// What the checker makes of the acts that were built up to the event at this place.
+fn judged<const TOP: u64>(
+    alloc: Global,
+    streams: &Streams,
+    acts: Sequence<Act>,
+    place: (Pid, u64),
+) -> Result<Finding, AuditFault>
+    requires there { IsSome (event_at streams.now place.0 place.1) }
+    requires accepted { refusal streams.now ≡ None }
+    ensures { IfOk result (IsFinding TOP streams.now) }
+{
+    match check::<TOP>(alloc, streams, acts.as_slice()) {
+        Err(_) => Err(AuditFault::Memory),
+        Ok(Verdict::Yes(pairs)) => Ok(Finding::Fits(acts, pairs)),
+        Ok(verdict) => Ok(Finding::Unfit(place.0, place.1, Reason::NotReplayed(acts, verdict))),
+    }
+}
+
+/// What is found of streams without events: the checker accepts no acts.
+fn found_of_nothing<const TOP: u64>(alloc: Global, streams: &Streams) -> Result<Finding, AuditFault>
+    requires { IsOrder streams.now [] }
+    ensures { IfOk result (IsFinding TOP streams.now) }
+{
+    let acts = Sequence::new(alloc);
+    match check::<TOP>(alloc, streams, acts.as_slice()) {
+        Err(_) => Err(AuditFault::Memory),
+        Ok(Verdict::Yes(pairs)) => Ok(Finding::Fits(acts, pairs)),
+        // No act stops, and no event is left.
+        Ok(Verdict::Stuck(_)) => unreachable!(),
+        Ok(Verdict::Differs(_)) => unreachable!(),
+        Ok(Verdict::Left(_)) => unreachable!(),
+    }
+}
+
+/// What is found of streams that pairing accepts, with the items in their order.
+fn found<const TOP: u64>(
+    alloc: Global,
+    streams: &Streams,
+    pids: &[Pid],
+    pairing: &Pairing,
+    items: &[Item],
+) -> Result<Finding, AuditFault>
+    requires streams { IsStreams streams.now }
+    requires accepted { refusal streams.now ≡ None }
+    requires order { IsOrder streams.now items.now }
+    ensures { IfOk result (IsFinding TOP streams.now) }
+{
+    if items.is_empty() {
+        return found_of_nothing::<TOP>(alloc, streams);
+    }
+    let end = items[items.len() - 1];
+    let Ok(mut construction) = Construction::<TOP>::new(alloc, streams) else {
+        return Err(AuditFault::Memory);
+    };
+    match construction.open(pids) {
+        Ok(()) => {}
+        Err(Halt::Memory) => return Err(AuditFault::Memory),
+        Err(_) => return judged::<TOP>(alloc, streams, construction.into_acts(), place_of(end)),
+    }
+    for number in 0..items.len() {
+        let (pid, index) = place_of(items[number]);
+        match construction.append(alloc, streams, pairing, items, number) {
+            Ok(()) => {}
+            Err(Halt::Memory) => return Err(AuditFault::Memory),
+            Err(Halt::Uncaused) => return Ok(Finding::Unfit(pid, index, Reason::Uncaused)),
+            Err(Halt::TooWide) => return Ok(Finding::Unfit(pid, index, Reason::TooWide)),
+            Err(Halt::Stopped) => {
+                return judged::<TOP>(alloc, streams, construction.into_acts(), (pid, index));
+            }
+        }
+    }
+    judged::<TOP>(alloc, streams, construction.into_acts(), place_of(end))
+}
+
+/// Finds a certificate for the streams, or an event and the reason why none was found. Its acts
+/// are built in the order of the items, stepped in a world from zero clocks, and judged by the
+/// checker: a certificate is one that the checker accepted.
+///
+/// It sorts on several threads, with one answer for every number of threads.
+pub fn audit<const TOP: u64>(
+    rt: &(impl Threads + Sync),
+    alloc: Global,
+    streams: &Streams,
+) -> Result<Finding, AuditFault>
+    ensures found { IfOk result (IsFinding TOP streams.now) }
+    ensures handed_on { IfOk result (HandsOn streams.now) }
+{
+    let pids = streams.pids();
+    let pairing = match pair(alloc, streams) {
+        Ok(pairing) => pairing,
+        Err(fault) => {
+            return match unfit_by(fault) {
+                None => Err(AuditFault::Memory),
+                Some(finding) => Ok(finding),
+            };
+        }
+    };
+    let Ok(items) = order(rt, alloc, streams, &pairing) else {
+        return Err(AuditFault::Memory);
+    };
+    found::<TOP>(alloc, streams, pids, &pairing, items.as_slice())
+}

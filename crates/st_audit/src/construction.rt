@@ -1,0 +1,382 @@
+//! The auditor's construction: the acts for one item after the other, each stepped in a world that
+//! begins at zero clocks.
+//!
+//! After each item the clock and the last count of each process are what the items so far make of
+//! them. It stops where a reason of the auditor's own holds against an item, and where the world
+//! doesn't go the way of the streams; what the acts are then worth is the checker's to say.
+
+ghost use Rattle.std.specs.Prelude.{◌≡◌, ◌+◌, ◌++◌, ◌<◌, ◌↔◌, [], ◌∷◌, length, option_map};
+ghost use Rattle.std.specs.Prelude.{IfErr, IfOk, IfSome, IsTrue, None, List, OnOk, Some, true, take, slice_get, if◌then◌else◌};
+ghost use Rattle.st_core.specs.Run.{Stream};
+ghost use Rattle.st_core.specs.State.{process};
+ghost use Rattle.st_core.specs.Step.{step};
+ghost use Rattle.st_core.specs.Streams.{IsStreams};
+ghost use Rattle.st_pair.specs.Links.{IsPairing};
+ghost use Rattle.st_pair.specs.Pairing.{refusal};
+ghost use Rattle.st_pair.specs.Places.{is_stamp};
+ghost use Rattle.st_order.specs.declared.item.Item.{Item as ItemValue};
+ghost use Rattle.st_order.specs.declared.item.Item.TheVariants as item;
+ghost use Rattle.st_order.specs.Order.{IsOrder};
+ghost use Rattle.st_world.specs.World.{outcome_to};
+ghost use Rattle.st_audit.specs.Build.{flags_of, start_of};
+ghost use Rattle.st_audit.specs.Moves.{move_by};
+ghost use Rattle.st_audit.specs.Progress.{is_too_wide, is_uncaused, missing, AreCounted, IsHalt};
+ghost use Rattle.st_audit.specs.Progress.{IsActed, IsActHalt, IsHiddenDone, IsPlainHalt, IsReportedDone, IsSoFar, IsStamped, IsStampHalt};
+ghost use Rattle.st_audit.specs.Progress.{IsStampHaltAt, IsStampOf, IsTaken, Ran};
+
+use crate::plan::{QUIET, Start, ready};
+use st_core::{Act, Event, Flags, Kind, Pid, Sequence, Serial, Streams, Want};
+use st_order::Item;
+use st_pair::Pairing;
+use st_world::{Outcome, StepFault, World};
+use std::alloc::{AllocError, Global};
+
+/// The most counts that may be missing before one item. Each is filled in by an act, so this bounds
+/// what one damaged event can cost.
+const MOST_SKIPPED: u64 = 1_000;
+
+/// The most that may be missing before all items, by the same reason.
+const MOST_SKIPPED_IN_ALL: u64 = 1_000_000;
+
+/// A hidden send isn't reported, but its receive is.
+const HIDDEN: Flags = Flags {
+    send: false,
+    receive: true,
+    print: false,
+};
+
+/// Why the construction goes no further.
+#[derive(Clone, Copy, Debug, PartialEq, Eq)]
+pub(crate) enum Halt {
+    /// A growth was refused.
+    Memory,
+    /// The item is uncaused.
+    Uncaused,
+    /// Too many counts are missing before the item.
+    TooWide,
+    /// The streams go on another way than the acts.
+    Stopped,
+}
+
+/// The acts so far, and the world that they lead to.
+#[derive(Drop)]
+pub(crate) struct Construction<const TOP: u64> {
+    world: World<TOP>,
+    acts: Sequence<Act>,
+    /// How many events of each process were reported, in the order of the streams.
+    told: Vec<u64>,
+    /// How many counts were missing in all.
+    skipped: u64,
+}
+
+/// Whether the serial's prev is below the clock, and isn't the last count.
+fn is_uncaused(start: &Start, serial: Serial) -> bool
+    ensures { result ≡ is_uncaused start.now serial }
+{
+    serial.prev != start.last && serial.prev < start.clock
+}
+
+/// How many counts are missing before the serial's own.
+fn missing(start: &Start, serial: Serial) -> u64
+    ensures { result ≡ missing start.now serial }
+{
+    serial.this.saturating_sub(1).saturating_sub(start.clock)
+}
+
+/// How many are missing in all with so many more; none where these are too many.
+fn with_skipped(skipped: u64, more: u64) -> Option<u64>
+    ensures { result ≡ (if is_too_wide skipped more then None else Some (more + skipped)) }
+{
+    if more > MOST_SKIPPED {
+        return None;
+    }
+    let total = more.saturating_add(skipped);
+    if total > MOST_SKIPPED_IN_ALL {
+        return None;
+    }
+    Some(total)
+}
+
+/// The flags under which an event's stamp reports it: a send's message is received under a flag
+/// exactly where a receive is paired with it.
+fn flags_of(pairing: &Pairing, pid: Pid, index: u64, event: &Event) -> Flags
+    ensures { (streams : List Stream) → IsPairing streams pairing.now →
+        result ≡ flags_of streams (move_by (item.Reported pid index) event.now) }
+{
+    match event.kind {
+        Kind::Send => Flags {
+            send: true,
+            receive: pairing.receiver(pid, index).is_some(),
+            print: false,
+        },
+        Kind::Receive => QUIET,
+        Kind::Print => Flags {
+            send: false,
+            receive: false,
+            print: true,
+        },
+    }
+}
+
+/// Whether the report is this event.
+fn is_report(report: Option<Event>, event: &Event) -> bool
+    ensures { IsTrue result ↔ (report ≡ Some event.now) }
+{
+    match report {
+        None => false,
+        Some(found) => found == *event,
+    }
+}
+
+impl<const TOP: u64> Construction<TOP> {
+    /// No items yet, and no acts.
+    pub(crate) fn new(alloc: Global, streams: &Streams) -> Result<Construction<TOP>, AllocError>
+        ensures so_far { IfOk result (λ c. IsSoFar streams.now [] c.world c.skipped) }
+        ensures told { IfOk result (λ c. length c.told.items ≡ length streams.now) }
+        ensures acts { IfOk result (λ c. c.acts ≡ []) }
+    {
+        let pids = streams.pids();
+        let Ok(world) = World::new(alloc, pids) else {
+            return Err(AllocError);
+        };
+        let told = vec![in alloc; 0u64; pids.len()]?;
+        Ok(Construction {
+            world,
+            acts: Sequence::new(alloc),
+            told,
+            skipped: 0,
+        })
+    }
+
+    /// The acts.
+    pub(crate) fn into_acts(self) -> Sequence<Act>
+        ensures { result ≡ self.entry.acts }
+    {
+        let Construction {
+            world: _,
+            acts,
+            told: _,
+            skipped: _,
+        } = self;
+        acts
+    }
+
+    /// Puts a tracer on each node, by its least pid.
+    pub(crate) fn open(&mut self, pids: &[Pid]) -> Result<(), Halt>
+        requires { AreCounted [] self.old.world }
+        ensures counted { OnOk result (AreCounted [] self.new.world) }
+        ensures skipped { self.new.skipped ≡ self.old.skipped }
+        ensures told { self.new.told ≡ self.old.told }
+        ensures halt { IfErr result IsPlainHalt }
+    {
+        let mut node: Option<u16> = None;
+        for &pid in pids {
+            if node != Some(pid.node()) {
+                self.perform(Act::Tracer(pid, true))?;
+                node = Some(pid.node());
+            }
+        }
+        Ok(())
+    }
+
+    /// Puts the act at the end, and steps it.
+    fn perform(&mut self, act: Act) -> Result<Outcome, Halt>
+        ensures step { IfOk result (λ told. step TOP self.old.world act ≡ Some (outcome_to told self.new.world)) }
+        ensures acts { OnOk result (self.new.acts ≡ self.old.acts ++ act ∷ []) }
+        ensures skipped { self.new.skipped ≡ self.old.skipped }
+        ensures told { self.new.told ≡ self.old.told }
+        ensures halt { IfErr result IsPlainHalt }
+    {
+        let Ok(()) = self.acts.push(act) else {
+            return Err(Halt::Memory);
+        };
+        match self.world.step(&act) {
+            Ok(outcome) => Ok(outcome),
+            Err(StepFault::Memory) => Err(Halt::Memory),
+            Err(StepFault::Unknown | StepFault::ClockFull) => Err(Halt::Stopped),
+        }
+    }
+
+    /// The same for acts in a row.
+    fn perform_all(&mut self, plan: &[Act]) -> Result<(), Halt>
+        ensures ran { OnOk result (Ran TOP self.old.world plan.now self.new.world) }
+        ensures acts { OnOk result (self.new.acts ≡ self.old.acts ++ plan.now) }
+        ensures skipped { self.new.skipped ≡ self.old.skipped }
+        ensures told { self.new.told ≡ self.old.told }
+        ensures halt { IfErr result IsPlainHalt }
+    {
+        for &act in plan {
+            self.perform(act)?;
+        }
+        Ok(())
+    }
+
+    /// What the process has now; none where it isn't there.
+    fn start(&self, pid: Pid) -> Option<Start>
+        ensures { result ≡ option_map (λ r. start_of r.local) (process self.now.world pid) }
+    {
+        let clock = self.world.clock(pid)?;
+        let last = self.world.last(pid)?;
+        Some(Start {
+            token: self.world.token(pid),
+            clock,
+            last,
+        })
+    }
+
+    /// Brings the process to stand ready for the event's serial, and stamps it by this act.
+    fn stamp(
+        &mut self,
+        alloc: Global,
+        pid: Pid,
+        event: &Event,
+        flags: Flags,
+        act: Act,
+    ) -> Result<Outcome, Halt>
+        requires { IsStampOf pid act }
+        ensures stamped { IfOk result (λ told. IsStamped TOP self.old.world self.old.skipped pid event.now flags told
+            self.new.world self.new.skipped) }
+        ensures told { self.new.told ≡ self.old.told }
+        ensures halt { IfErr result (IsStampHalt self.old.world self.old.skipped pid event.now) }
+    {
+        let Some(start) = self.start(pid) else {
+            return Err(Halt::Stopped);
+        };
+        if is_uncaused(&start, event.serial) {
+            return Err(Halt::Uncaused);
+        }
+        let Some(skipped) = with_skipped(self.skipped, missing(&start, event.serial)) else {
+            return Err(Halt::TooWide);
+        };
+        self.skipped = skipped;
+        let mut plan = Vec::new(alloc);
+        let Ok(()) = ready(&mut plan, pid, &start, event.label, event.serial, flags) else {
+            return Err(Halt::Memory);
+        };
+        self.perform_all(plan.as_slice())?;
+        self.perform(act)
+    }
+
+    /// Lets the process take the message whose token has the event's from and count.
+    fn receive(&mut self, pid: Pid, event: &Event) -> Result<Outcome, Halt>
+        ensures taken { IfOk result (λ told. IsTaken TOP self.old.world pid told self.new.world) }
+        ensures skipped { self.new.skipped ≡ self.old.skipped }
+        ensures told { self.new.told ≡ self.old.told }
+        ensures halt { IfErr result IsPlainHalt }
+    {
+        match self.world.place_of(pid, event.from, event.serial.this) {
+            None => Err(Halt::Stopped),
+            Some(place) => self.perform(Act::Receive(pid, Want::Place(place))),
+        }
+    }
+
+    /// The send of the receive at this place.
+    fn send_hidden(
+        &mut self,
+        alloc: Global,
+        streams: &Streams,
+        pid: Pid,
+        index: u64,
+    ) -> Result<(), Halt>
+        ensures done { OnOk result (IsHiddenDone TOP streams.now self.old.world self.old.skipped pid index
+            self.new.world self.new.skipped) }
+        ensures told { self.new.told ≡ self.old.told }
+        ensures halt { IfErr result (IsStampHaltAt streams.now pid index (λ e. e.from) (λ e. true)
+            self.old.world self.old.skipped) }
+    {
+        let Some(event) = streams.event(pid, index) else {
+            return Err(Halt::Stopped);
+        };
+        let Some(to) = event.to else {
+            return Err(Halt::Stopped);
+        };
+        let act = Act::Send(event.from, to, event.value);
+        self.stamp(alloc, event.from, &event, HIDDEN, act)?;
+        Ok(())
+    }
+
+    /// The act of this event.
+    fn act(
+        &mut self,
+        alloc: Global,
+        pairing: &Pairing,
+        pid: Pid,
+        index: u64,
+        event: &Event,
+    ) -> Result<Outcome, Halt>
+        ensures acted { IfOk result (λ told. IsActed (is_stamp event.now) TOP self.old.world self.old.skipped pid
+            event.now told self.new.world self.new.skipped) }
+        ensures told { self.new.told ≡ self.old.told }
+        ensures halt { IfErr result (IsActHalt (is_stamp event.now) self.old.world self.old.skipped pid event.now) }
+    {
+        let flags = flags_of(pairing, pid, index, event);
+        match event.kind {
+            Kind::Receive => self.receive(pid, event),
+            Kind::Print => self.stamp(alloc, pid, event, flags, Act::Print(pid, event.value)),
+            Kind::Send => match event.to {
+                None => Err(Halt::Stopped),
+                Some(to) => self.stamp(alloc, pid, event, flags, Act::Send(pid, to, event.value)),
+            },
+        }
+    }
+
+    /// The event at this place, where it is the next of its process, by an act that reports it.
+    fn report(
+        &mut self,
+        alloc: Global,
+        streams: &Streams,
+        pairing: &Pairing,
+        pid: Pid,
+        index: u64,
+    ) -> Result<(), Halt>
+        requires { length self.old.told.items ≡ length streams.now }
+        ensures done { OnOk result (IsReportedDone TOP streams.now self.old.world self.old.skipped pid index
+            self.new.world self.new.skipped) }
+        ensures told { length self.new.told.items ≡ length self.old.told.items }
+        ensures halt { IfErr result (IsStampHaltAt streams.now pid index (λ e. pid) is_stamp
+            self.old.world self.old.skipped) }
+    {
+        let Some(place) = streams.place_of(pid) else {
+            return Err(Halt::Stopped);
+        };
+        if self.told[place] != index {
+            return Err(Halt::Stopped);
+        }
+        let Some(event) = streams.event(pid, index) else {
+            return Err(Halt::Stopped);
+        };
+        let told = self.act(alloc, pairing, pid, index, &event)?;
+        if !is_report(told.report, &event) {
+            return Err(Halt::Stopped);
+        }
+        self.told[place] = index.saturating_add(1);
+        Ok(())
+    }
+
+    /// The acts of the item at this number.
+    pub(crate) fn append(
+        &mut self,
+        alloc: Global,
+        streams: &Streams,
+        pairing: &Pairing,
+        items: &[Item],
+        number: usize,
+    ) -> Result<(), Halt>
+        requires within { number < length items.now }
+        requires streams { IsStreams streams.now }
+        requires order { IsOrder streams.now items.now }
+        requires accepted { refusal streams.now ≡ None }
+        requires so_far { IsSoFar streams.now (take number items.now) self.old.world self.old.skipped }
+        requires told { length self.old.told.items ≡ length streams.now }
+        ensures so_far { OnOk result
+            (IsSoFar streams.now (take (number + 1) items.now) self.new.world self.new.skipped) }
+        ensures told { length self.new.told.items ≡ length streams.now }
+        ensures halt { (x : ItemValue) → slice_get items.now number ≡ Some x →
+            IfErr result (IsHalt streams.now (take number items.now) x) }
+    {
+        match items[number] {
+            Item::Reported(pid, index) => self.report(alloc, streams, pairing, pid, index),
+            Item::Hidden(pid, index) => self.send_hidden(alloc, streams, pid, index),
+        }
+    }
+}

@@ -1,0 +1,45 @@
+//! What the auditor answers.
+
+use st_check::Verdict;
+use st_core::{Act, Pid, Sequence};
+use thiserror::Error;
+
+/// Why no certificate was found, for the event at the place that a finding names. The first four are
+/// the reasons of pairing, and the numbers are those of their order (own profile).
+#[derive(Debug, Drop)]
+pub enum Reason {
+    /// 2: the serial of the event doesn't rise: its prev isn't less than its this.
+    PrevNotBefore,
+    /// 3: the send or print counts no higher than that of its process at this index.
+    NotRising(u64),
+    /// 4: the receive has the sender and the count of the receive at this earlier place.
+    Repeated(Pid, u64),
+    /// 5: the send or print at this place has the count of the receive, and isn't its send.
+    Mismatch(Pid, u64),
+    /// 6: the prev is below the clock of the process then, and isn't its last count: it names a
+    /// message that the process took before another one, or one that it never took.
+    Uncaused,
+    /// 7: more counts are missing before the event than the auditor fills in: 1,000 before one item,
+    /// or 1,000,000 in all.
+    TooWide,
+    /// 8: the acts that the auditor tried come to this verdict, which is no yes.
+    NotReplayed(Sequence<Act>, Verdict),
+}
+
+/// What the auditor found.
+#[derive(Debug, Drop)]
+pub enum Finding {
+    /// A certificate that the checker accepted: its acts, and for each reported receive the numbers
+    /// of its act and of its send's.
+    Fits(Sequence<Act>, Sequence<(u64, u64)>),
+    /// No certificate: the process and the index of the event where the search ended, and why.
+    Unfit(Pid, u64, Reason),
+}
+
+/// Why there is no finding.
+#[derive(Clone, Copy, Debug, PartialEq, Eq, Error)]
+pub enum AuditFault {
+    /// Refusal 1: a growth was refused.
+    #[error("no memory")]
+    Memory,
+}
