@@ -73,7 +73,8 @@ fn put_label(buffer: &mut Buffer, label: Label)
     put_number(buffer, u64::from(label.0));
 }
 
-fn put_serial(buffer: &mut Buffer, serial: Serial)
+/// Appends a serial, as `{0,1}`.
+pub fn put_serial(buffer: &mut Buffer, serial: Serial)
     requires { array_vec_len buffer.old + serial_room ≤ buffer_room }
     ensures items { buffer.new.items ≡ buffer.old.items ++ spelled.serial serial }
     ensures len { array_vec_len buffer.new ≤ array_vec_len buffer.old + serial_room }
@@ -129,7 +130,8 @@ fn put_ends(buffer: &mut Buffer, event: &Event)
     put_place(buffer, event.to);
 }
 
-pub(crate) fn put_event(buffer: &mut Buffer, event: &Event)
+/// Appends an event, without a newline.
+pub fn put_event(buffer: &mut Buffer, event: &Event)
     requires { array_vec_len buffer.old + event_room ≤ buffer_room }
     ensures items { buffer.new.items ≡ buffer.old.items ++ spelled.event event.now }
     ensures len { array_vec_len buffer.new ≤ array_vec_len buffer.old + event_room }
@@ -258,7 +260,8 @@ fn put_print_at(buffer: &mut Buffer, pid: Pid, label: Label, value: u64)
     put_number(buffer, value);
 }
 
-pub(crate) fn put_act(buffer: &mut Buffer, act: &Act)
+/// Appends an act, without a newline.
+pub fn put_act(buffer: &mut Buffer, act: &Act)
     requires { array_vec_len buffer.old + act_room ≤ buffer_room }
     ensures items { buffer.new.items ≡ buffer.old.items ++ spelled.act act.now }
     ensures len { array_vec_len buffer.new ≤ array_vec_len buffer.old + act_room }
