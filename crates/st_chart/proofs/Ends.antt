@@ -1,0 +1,55 @@
+-- A process is a lane exactly where it is an end of an item that has the label: it doesn't matter whether the items are
+-- gone through, or those that have the label.
+use Rattle.std.proofs.Common.{◌≡◌, ℕ, ◌+◌, ◌<◌, Bool, true, false, ◌||◌, List, [], ◌∷◌, length, take, get_or}
+use Rattle.std.proofs.Common.{refl, sym, ap, ◌∙◌, filter, cond, Option, Some, None}
+use Rattle.std.specs.List.{list_any, cons_option}
+use Rattle.std.proofs.lemmas.List.{take_more}
+use Rattle.std.proofs.lemmas.List.Folds.{list_any-append}
+use Rattle.st_core.specs.declared.types.Pid.{Pid}
+use Rattle.st_core.specs.declared.types.Label.{Label}
+use Rattle.st_core.specs.Run.{Stream, pids_of}
+use Rattle.st_order.specs.declared.item.Item.{Item}
+use Rattle.st_chart.specs.declared.charted.Charted.{Charted}
+use Rattle.st_chart.specs.Chart.{charted, all_charted, is_end, lanes}
+use Rattle.st_chart.specs.Parts.{is_end_in}
+
+pub or_false : (b : Bool) → b ≡ (b || false)
+or_false true = refl
+or_false false = refl
+
+-- one more item
+pub any_more : {A : Type 0} (f : A → Bool) (xs : List A) (i : ℕ) (d : A) → i < length xs
+    → list_any f (take (i + 1) xs) ≡ (list_any f (take i xs) || f (get_or xs i d))
+any_more f xs i d lt =
+    ap (list_any f) (take_more xs i d lt) ∙ list_any-append f (take i xs) (get_or xs i d ∷ [])
+    ∙ ap (λ (b : Bool). list_any f (take i xs) || b) (sym (or_false (f (get_or xs i d))))
+
+module _ (streams : List Stream) (label : Label) where
+  abbrev end_by : Pid → Option Charted → Bool
+  end_by p o = elim o [ None ↦ false | Some c ↦ is_end c.event p ]
+
+  one_charted : (p : Pid) (o : Option Charted) (rest : List Charted)
+      → list_any (λ x. is_end x.event p) (cons_option o rest) ≡ (end_by p o || list_any (λ x. is_end x.event p) rest)
+  one_charted p None rest = refl
+  one_charted p (Some c) rest = refl
+
+  any_charted : (p : Pid) (items : List Item)
+      → list_any (λ x. is_end x.event p) (all_charted streams items label) ≡ list_any (is_end_in streams label p) items
+  any_charted p [] = refl
+  any_charted p (x ∷ items) =
+      one_charted p (charted streams label x) (all_charted streams items label)
+      ∙ ap (λ (b : Bool). is_end_in streams label p x || b) (any_charted p items)
+
+  filter_same : (f g : Pid → Bool) → ((p : Pid) → f p ≡ g p) → (ps : List Pid) → filter f ps ≡ filter g ps
+  filter_same f g same [] = refl
+  filter_same f g same (p ∷ ps) =
+      ap (λ (b : Bool). cond b (p ∷ filter f ps) (filter f ps)) (same p)
+      ∙ ap (λ (qs : List Pid). cond (g p) (p ∷ qs) qs) (filter_same f g same ps)
+
+  -- the processes among these that are ends are the lanes
+  pub lanes_are : (items : List Item) (f : Pid → Bool)
+      → ((p : Pid) → f p ≡ list_any (is_end_in streams label p) items)
+      → filter f (pids_of streams) ≡ lanes streams (all_charted streams items label)
+  lanes_are items f same =
+      filter_same f (λ p. list_any (λ x. is_end x.event p) (all_charted streams items label))
+      (λ p. same p ∙ sym (any_charted p items)) (pids_of streams)

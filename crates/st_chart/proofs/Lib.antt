@@ -1,0 +1,4 @@
+pub mod Rooms
+pub mod Texts
+pub mod Ends
+pub mod Lines

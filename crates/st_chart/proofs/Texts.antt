@@ -1,0 +1,32 @@
+-- Each text has a line, so none is empty.
+use Rattle.std.proofs.Common.{ℕ, ◌<◌, List, [], ◌∷◌, ◌++◌, length, codes, arith}
+use Rattle.std.specs.List.{flat_map}
+use Rattle.std.proofs.lemmas.List.{length-append}
+use Rattle.st_core.specs.declared.types.Pid.{Pid}
+use Rattle.st_core.specs.declared.types.Label.{Label}
+use Rattle.st_core.specs.Run.{Stream}
+use Rattle.st_text.specs.Spelling as spelled
+use Rattle.st_audit.specs.declared.finding.Reason.{Reason}
+use Rattle.st_chart.specs.Words.{line, place_words}
+use Rattle.st_chart.specs.declared.charted.Charted.{Charted}
+use Rattle.st_chart.specs.Chart.{label_line, lane_lines, item_line, chart_lines}
+use Rattle.st_chart.specs.Report.{unfit_line, reason_words, event_line, evidence, unfit_text}
+
+pub line_some : (words : List ℕ) → 0 < length (line words)
+line_some words = omega (arith, length-append words (10 ∷ []))
+
+pub front_some : (xs ys : List ℕ) → 0 < length xs → 0 < length (xs ++ ys)
+front_some xs ys some = omega (arith, length-append xs ys)
+
+pub unfit_some : (streams : List Stream) (p : Pid) (i : ℕ) (r : Reason) → 0 < length (unfit_text streams p i r)
+unfit_some streams p i r =
+    let first = unfit_line p i r in
+    let event = event_line streams p i in
+    front_some (first ++ event) (evidence streams p r)
+    (front_some first event (line_some (codes "unfit " ++ place_words p i ++ codes " " ++ reason_words p r)))
+
+pub chart_some : (streams : List Stream) (label : Label) (ps : List Pid) (xs : List Charted)
+    → 0 < length (chart_lines streams label ps xs)
+chart_some streams label ps xs =
+    front_some (label_line label ++ lane_lines 1 ps) (flat_map (item_line streams ps) xs)
+    (front_some (label_line label) (lane_lines 1 ps) (line_some (codes "label " ++ spelled.label label)))

@@ -1,0 +1,69 @@
+-- The report of a finding, as bytes (own profile): the certificate, or the event and the reason.
+use Rattle.std.specs.Prelude.{ℕ, List, [], ◌++◌, codes, decimal, Option, Some, None}
+use Rattle.std.specs.List.{flat_map}
+use Rattle.st_core.specs.declared.types.Pid.{Pid}
+use Rattle.st_core.specs.declared.types.Event.{Event}
+use Rattle.st_core.specs.declared.types.Act.{Act}
+use Rattle.st_core.specs.Run.{Stream}
+use Rattle.st_text.specs.Spelling as spelled
+use Rattle.st_text.specs.Text.{spelling}
+use Rattle.st_pair.specs.Places.{event_at}
+use Rattle.st_check.specs.declared.verdict.Verdict.{Verdict}
+use Rattle.st_check.specs.declared.verdict.Verdict.TheVariants as verdict
+use Rattle.st_audit.specs.declared.finding.Reason.{Reason}
+use Rattle.st_audit.specs.declared.finding.Reason.TheVariants as reason
+use Rattle.st_audit.specs.declared.finding.Finding.{Finding}
+use Rattle.st_audit.specs.declared.finding.Finding.TheVariants as finding
+use Rattle.st_chart.specs.Words.{line, place_words}
+
+-- what the tried acts come to; a yes is spelled too, but is never a reason
+abbrev pub verdict_words : Verdict → List ℕ
+verdict_words (verdict.Stuck n) = codes "stuck " ++ decimal n
+verdict_words (verdict.Differs n) = codes "differs " ++ decimal n
+verdict_words (verdict.Left p) = codes "left " ++ spelled.pid p
+verdict_words (verdict.Yes pairs) = codes "yes"
+
+-- the reason against an event of p, with the other place that it names
+abbrev pub reason_words : Pid → Reason → List ℕ
+reason_words p reason.PrevNotBefore = codes "prevnotbefore"
+reason_words p (reason.NotRising j) = codes "notrising " ++ place_words p j
+reason_words p (reason.Repeated q j) = codes "repeated " ++ place_words q j
+reason_words p (reason.Mismatch q j) = codes "mismatch " ++ place_words q j
+reason_words p reason.Uncaused = codes "uncaused"
+reason_words p reason.TooWide = codes "toowide"
+reason_words p (reason.NotReplayed acts v) = codes "notreplayed " ++ verdict_words v
+
+abbrev pub unfit_line : Pid → ℕ → Reason → List ℕ
+unfit_line p i r = line (codes "unfit " ++ place_words p i ++ codes " " ++ reason_words p r)
+
+-- an event; nothing where there is none, and then no finding names the place
+abbrev pub event_words : Option Event → List ℕ
+event_words None = []
+event_words (Some e) = spelled.event e
+
+-- a place and the event there
+abbrev pub event_front : Pid → ℕ → List ℕ
+event_front p i = codes "event " ++ place_words p i ++ codes " "
+
+abbrev pub event_line : List Stream → Pid → ℕ → List ℕ
+event_line streams p i = event_front p i ++ line (event_words (event_at streams p i))
+
+abbrev pub act_line : Act → List ℕ
+act_line a = line (spelled.act a)
+
+-- what the reason rests on: the event at the other place, or the acts that were tried
+abbrev pub evidence : List Stream → Pid → Reason → List ℕ
+evidence streams p (reason.NotRising j) = event_line streams p j
+evidence streams p (reason.Repeated q j) = event_line streams q j
+evidence streams p (reason.Mismatch q j) = event_line streams q j
+evidence streams p (reason.NotReplayed acts v) = line (codes "acts") ++ flat_map act_line acts
+evidence streams p r = []
+
+-- place and reason, the event there, and what the reason rests on
+abbrev pub unfit_text : List Stream → Pid → ℕ → Reason → List ℕ
+unfit_text streams p i r = unfit_line p i r ++ event_line streams p i ++ evidence streams p r
+
+-- the bundle with its acts, or why there is none
+abbrev pub report_text : List Stream → Finding → List ℕ
+report_text streams (finding.Fits acts pairs) = spelling (record { streams = streams; acts = Some acts })
+report_text streams (finding.Unfit p i r) = unfit_text streams p i r

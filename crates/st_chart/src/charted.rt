@@ -1,0 +1,82 @@
+//! What a chart shows.
+
+ghost use Rattle.std.specs.Prelude.{◌≡◌, false};
+ghost use Rattle.std.specs.Option.{option_map_or};
+ghost use Rattle.st_core.specs.Pid.{pid_eq};
+ghost use Rattle.std.specs.List.{list_any};
+ghost use Rattle.st_order.specs.Labels.{has_label};
+ghost use Rattle.st_chart.specs.Chart.{charted, is_at, is_end};
+
+use st_core::{Event, Kind, Label, Pid, Streams};
+use st_order::Item;
+
+/// An item that a chart shows, with its event.
+#[derive(Clone, Copy, Debug)]
+pub(crate) struct Charted {
+    /// The item.
+    pub(crate) item: Item,
+    /// The event that it is about: of a hidden send its receive.
+    pub(crate) event: Event,
+}
+
+impl Charted {
+    /// The item with its event, if that has the label; none where nothing stands at its place.
+    pub(crate) fn of(streams: &Streams, label: Label, item: Item) -> Option<Charted>
+        ensures { result ≡ charted streams.now label item }
+    {
+        let event = match item {
+            Item::Reported(pid, index) => streams.event(pid, index),
+            Item::Hidden(pid, index) => streams.event(pid, index),
+        };
+        match event {
+            None => None,
+            Some(event) => {
+                if event.label.0 == label.0 {
+                    Some(Charted { item, event })
+                } else {
+                    None
+                }
+            }
+        }
+    }
+
+    /// Whether the process is where the item happened.
+    pub(crate) fn is_at(&self, pid: Pid) -> bool
+        ensures { result ≡ is_at self.now pid }
+    {
+        match self.item {
+            Item::Hidden(_, _) => self.event.from == pid,
+            Item::Reported(_, _) => match self.event.kind {
+                Kind::Send => self.event.from == pid,
+                Kind::Receive => is_receiver(&self.event, pid),
+                Kind::Print => self.event.from == pid,
+            },
+        }
+    }
+}
+
+/// Whether the process is the event's `to`.
+fn is_receiver(event: &Event, pid: Pid) -> bool
+    ensures { result ≡ option_map_or (λ q. pid_eq q pid) event.now.to false }
+{
+    match event.to {
+        None => false,
+        Some(to) => to == pid,
+    }
+}
+
+/// Whether the process is the event's `from` or `to`.
+pub(crate) fn is_end(event: &Event, pid: Pid) -> bool
+    ensures { result ≡ is_end event.now pid }
+{
+    event.from == pid || is_receiver(event, pid)
+}
+
+/// Whether an item has the label.
+pub(crate) fn is_any_charted(streams: &Streams, label: Label, items: &[Item]) -> bool
+    ensures { result ≡ list_any (has_label streams.now label) items.now }
+{
+    items
+        .iter()
+        .any(|item| Charted::of(streams, label, *item).is_some())
+}

@@ -1,0 +1,208 @@
+//! The chart of one label.
+
+ghost use Rattle.std.specs.Prelude.{◌≡◌, ◌↔◌, ◌≤◌, ◌+◌, ◌++◌, false, Err};
+ghost use Rattle.std.specs.List.{flat_map, list_any};
+ghost use Rattle.arrayvec.specs.ArrayVec.{array_vec_len};
+ghost use Rattle.st_text.specs.Room.{buffer_room, line_room};
+ghost use Rattle.st_text.specs.Writing.{GoesOn, WritesText};
+ghost use Rattle.st_order.specs.Labels.{has_label};
+ghost use Rattle.st_chart.specs.Answer.{WritesChart};
+ghost use Rattle.st_chart.specs.Chart.{all_charted, lane_line, lane_lines, mark, item_line, label_line};
+ghost use Rattle.st_chart.specs.Chart.{chart_lines, chart_text};
+ghost use Rattle.st_chart.specs.Parts.{line_in};
+
+use crate::charted::{Charted, is_any_charted};
+use crate::fault::ChartFault;
+use crate::lanes::lanes_of;
+use crate::marks::{put_item, put_mark};
+use st_chain::Chains;
+use st_core::{ByteSink, Label, Pid, Streams};
+use st_order::Item;
+use st_text::{Buffer, Device, flush, make_room, put_bytes, put_number, put_pid};
+use std::alloc::Global;
+
+/// Appends the line that names the label.
+fn put_label_line(buffer: &mut Buffer, label: Label)
+    requires { array_vec_len buffer.old + line_room ≤ buffer_room }
+    ensures { buffer.new.items ≡ buffer.old.items ++ label_line label }
+{
+    put_bytes(buffer, b"label ");
+    put_number(buffer, u64::from(label.0));
+    put_bytes(buffer, b"\n");
+}
+
+/// Appends the line of a lane.
+fn put_lane_line(buffer: &mut Buffer, number: u64, pid: Pid)
+    requires { array_vec_len buffer.old + line_room ≤ buffer_room }
+    ensures { buffer.new.items ≡ buffer.old.items ++ lane_line number pid }
+{
+    put_bytes(buffer, b"lane ");
+    put_number(buffer, number);
+    put_bytes(buffer, b" ");
+    put_pid(buffer, pid);
+    put_bytes(buffer, b"\n");
+}
+
+/// Writes the line that names the label.
+fn write_label<W: ByteSink>(writer: &mut W, buffer: &mut Buffer, label: Label) -> Result<(), Device>
+    ensures { GoesOn W.puts W.failed (label_line label)
+        writer.old writer.new buffer.old.items buffer.new.items result }
+{
+    make_room(writer, buffer)?;
+    put_label_line(buffer, label);
+    Ok(())
+}
+
+/// Writes a line for each lane.
+fn write_lanes<W: ByteSink>(
+    writer: &mut W,
+    buffer: &mut Buffer,
+    lanes: &[Pid],
+) -> Result<(), Device>
+    ensures { GoesOn W.puts W.failed (lane_lines 1 lanes.now)
+        writer.old writer.new buffer.old.items buffer.new.items result }
+{
+    for (i, pid) in lanes.iter().enumerate() {
+        make_room(writer, buffer)?;
+        put_lane_line(buffer, i as u64 + 1, *pid);
+    }
+    Ok(())
+}
+
+/// Writes an item's mark in each lane. A line may be longer than the buffer, so room is made for
+/// each mark.
+fn write_marks<W: ByteSink>(
+    writer: &mut W,
+    buffer: &mut Buffer,
+    lanes: &[Pid],
+    charted: &Charted,
+) -> Result<(), Device>
+    ensures { GoesOn W.puts W.failed (flat_map (mark charted.now) lanes.now)
+        writer.old writer.new buffer.old.items buffer.new.items result }
+{
+    for lane in lanes {
+        make_room(writer, buffer)?;
+        put_mark(buffer, charted, *lane);
+    }
+    Ok(())
+}
+
+/// Writes the line of an item.
+fn write_item<W: ByteSink>(
+    writer: &mut W,
+    buffer: &mut Buffer,
+    chains: &Chains,
+    lanes: &[Pid],
+    charted: &Charted,
+) -> Result<(), Device>
+    ensures { GoesOn W.puts W.failed (item_line chains.now lanes.now charted.now)
+        writer.old writer.new buffer.old.items buffer.new.items result }
+{
+    write_marks(writer, buffer, lanes, charted)?;
+    make_room(writer, buffer)?;
+    put_item(buffer, chains, charted);
+    Ok(())
+}
+
+/// Writes the line of an item, if it has the label.
+fn write_if_charted<W: ByteSink>(
+    writer: &mut W,
+    buffer: &mut Buffer,
+    streams: &Streams,
+    chains: &Chains,
+    lanes: &[Pid],
+    item: Item,
+    label: Label,
+) -> Result<(), Device>
+    ensures { GoesOn W.puts W.failed (line_in streams.now label chains.now lanes.now item)
+        writer.old writer.new buffer.old.items buffer.new.items result }
+{
+    match Charted::of(streams, label, item) {
+        None => Ok(()),
+        Some(charted) => write_item(writer, buffer, chains, lanes, &charted),
+    }
+}
+
+/// Writes the line of each item that has the label.
+fn write_items<W: ByteSink>(
+    writer: &mut W,
+    buffer: &mut Buffer,
+    streams: &Streams,
+    chains: &Chains,
+    lanes: &[Pid],
+    items: &[Item],
+    label: Label,
+) -> Result<(), Device>
+    ensures { GoesOn W.puts W.failed (flat_map (line_in streams.now label chains.now lanes.now) items.now)
+        writer.old writer.new buffer.old.items buffer.new.items result }
+{
+    for item in items {
+        write_if_charted(writer, buffer, streams, chains, lanes, *item, label)?;
+    }
+    Ok(())
+}
+
+/// Writes the label, the lanes and the items.
+fn write_chart<W: ByteSink>(
+    writer: &mut W,
+    buffer: &mut Buffer,
+    streams: &Streams,
+    chains: &Chains,
+    lanes: &[Pid],
+    items: &[Item],
+    label: Label,
+) -> Result<(), Device>
+    ensures { GoesOn W.puts W.failed
+        (chart_lines chains.now label lanes.now (all_charted streams.now items.now label))
+        writer.old writer.new buffer.old.items buffer.new.items result }
+{
+    write_label(writer, buffer, label)?;
+    write_lanes(writer, buffer, lanes)?;
+    write_items(writer, buffer, streams, chains, lanes, items, label)
+}
+
+/// Writes a chart with these lanes to the writer.
+fn send_chart<W: ByteSink>(
+    writer: &mut W,
+    streams: &Streams,
+    chains: &Chains,
+    lanes: &[Pid],
+    items: &[Item],
+    label: Label,
+) -> Result<(), Device>
+    ensures { WritesText W.puts W.failed
+        (chart_lines chains.now label lanes.now (all_charted streams.now items.now label))
+        writer.old writer.new result }
+{
+    let mut buffer = Buffer::new();
+    write_chart(writer, &mut buffer, streams, chains, lanes, items, label)?;
+    flush(writer, &mut buffer)
+}
+
+/// Writes the chart of the items that have this label, in their order: its lanes, and a line for
+/// each. An item at whose place nothing stands has no label and is left out: an item of these
+/// streams never is. The chains are those of these streams. It takes memory for its lanes alone.
+pub fn chart<W: ByteSink>(
+    alloc: Global,
+    writer: &mut W,
+    streams: &Streams,
+    chains: &Chains,
+    items: &[Item],
+    label: Label,
+) -> Result<(), ChartFault>
+    requires { chains.now ≡ streams.now }
+    ensures written { WritesChart W.puts W.failed (chart_text streams.now items.now label)
+        writer.old writer.new result }
+    ensures no_label { result ≡ Err ChartFault.NoLabel ↔ list_any (has_label streams.now label) items.now ≡ false }
+{
+    if !is_any_charted(streams, label, items) {
+        return Err(ChartFault::NoLabel);
+    }
+    let Ok(lanes) = lanes_of(alloc, streams, label, items) else {
+        return Err(ChartFault::Memory);
+    };
+    match send_chart(writer, streams, chains, &lanes, items, label) {
+        Ok(()) => Ok(()),
+        Err(Device) => Err(ChartFault::Device),
+    }
+}

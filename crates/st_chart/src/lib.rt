@@ -1,0 +1,18 @@
+//! What the program shows of collected streams: the report of what the auditor found, and the chart
+//! of one label, a picture in text of which message caused which.
+//!
+//! Both are defined byte for byte in `specs/`, and written through a buffer on the stack. Nothing
+//! here judges: the findings, the order and the causes come from the crates below.
+#![tactic(auto)]
+
+mod charted;
+mod charting;
+mod fault;
+mod lanes;
+mod marks;
+mod reporting;
+mod words;
+
+pub use charting::chart;
+pub use fault::ChartFault;
+pub use reporting::report;
