@@ -2,3 +2,4 @@ pub mod Rooms
 pub mod Texts
 pub mod Ends
 pub mod Lines
+pub mod Cases
