@@ -1,6 +1,8 @@
 pub mod Texts
 pub mod Telling
 pub mod Replays
+pub mod Labels
+pub mod Asked
 pub mod Refusals
 pub mod Examples
 pub mod Owed

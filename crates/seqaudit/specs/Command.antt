@@ -11,11 +11,6 @@ use Rattle.seqaudit.specs.Output.{Output, no_memory, no_device, usage}
 use Rattle.seqaudit.specs.Checked.{IsChecked}
 use Rattle.seqaudit.specs.Replayed.{IsReplayed}
 
--- what each command makes of bytes
-abbrev pub IsOutputOf : Task → List ℕ → Output → Type 0
-IsOutputOf task.Check = IsChecked
-IsOutputOf task.Replay = IsReplayed
-
 -- of a reader: what its calls give, whether it is at its end, whether it failed, and its states before and after
 module _ {R : Type 0} (gives : R → List ℕ → R → Type 0) (ended : R → Type 0) (failed : R → Bool) (old new : R) where
   -- The reader gave these bytes, one piece after the other, without a failure; and then it had no more, or they are
@@ -33,9 +28,17 @@ module _ {R : Type 0} (gives : R → List ℕ → R → Type 0) (ended : R → T
     ForReader : (bytes : List ℕ) → InARow gives old bytes new → length bytes ≤ most_bytes → failed new ≡ true
         → Owes IsOutput no_device
 
+  -- the output that each command owes; where one isn't there yet nothing is read
+  abbrev pub OwesBy : Task → Output → Type 0
+  OwesBy task.Check out = Owes IsChecked out
+  OwesBy task.Replay out = Owes IsReplayed out
+  OwesBy task.Audit out = (new ≡ old) × (out ≡ usage)
+  OwesBy task.Drive out = (new ≡ old) × (out ≡ usage)
+  OwesBy (task.Chart l) out = (new ≡ old) × (out ≡ usage)
+
   -- the output that the program owes, by its words: where they ask for no command, nothing is read
   pub data OwesFor (words : List Text) : Output → Type 0 where
-    ForCommand : (t : Task) (out : Output) → asked words ≡ Some t → Owes (IsOutputOf t) out → OwesFor words out
+    ForCommand : (t : Task) (out : Output) → asked words ≡ Some t → OwesBy t out → OwesFor words out
     ForUsage : asked words ≡ None → new ≡ old → OwesFor words usage
     ForNoMemory : new ≡ old → OwesFor words no_memory
 

@@ -1,12 +1,12 @@
 //! A run of the program: the command that its words ask for, on its reader and its writer.
 
 ghost use Rattle.std.specs.Prelude.{map};
-ghost use Rattle.seqaudit.specs.Command.{IsOutputOf, Owes, OwesFor, Tells};
+ghost use Rattle.seqaudit.specs.Command.{OwesBy, OwesFor, Tells};
 
 use crate::answer::tell_refusal;
 use crate::check::run_check;
 use crate::replay::run_replay;
-use crate::words::{Task, read_words};
+use crate::words::{Refusal, Task, read_words};
 use st_core::{ByteSink, ByteSource};
 use std::alloc::Global;
 use std::convert::AsStr;
@@ -19,11 +19,12 @@ fn run_task<R: ByteSource, W: ByteSink>(
     writer: &mut W,
 ) -> u8
     ensures { Tells W.puts W.failed writer.old writer.new
-        (Owes R.gives R.ended R.failed reader.old reader.new (IsOutputOf task)) result }
+        (OwesBy R.gives R.ended R.failed reader.old reader.new task) result }
 {
     match task {
         Task::Check => run_check(alloc, reader, writer),
         Task::Replay => run_replay(alloc, reader, writer),
+        Task::Audit | Task::Drive | Task::Chart(_) => tell_refusal(writer, Refusal::Usage),
     }
 }
 

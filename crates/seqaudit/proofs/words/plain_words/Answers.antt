@@ -7,9 +7,17 @@ pub returns-clause-check : goal.returns-clause-check
 unfolding clap_on_literals
 returns-clause-check c = λ name. refl
 
+pub returns-clause-audit : goal.returns-clause-audit
+unfolding clap_on_literals
+returns-clause-audit c = λ name. refl
+
 pub returns-clause-replay : goal.returns-clause-replay
 unfolding clap_on_literals
 returns-clause-replay c = λ name. refl
+
+pub returns-clause-drive : goal.returns-clause-drive
+unfolding clap_on_literals
+returns-clause-drive c = λ name. refl
 
 pub returns-clause-none : goal.returns-clause-none
 unfolding clap_on_literals
@@ -31,6 +39,6 @@ pub returns-clause-help : goal.returns-clause-help
 unfolding clap_on_literals
 returns-clause-help c = λ name. refl
 
-pub returns-clause-audit : goal.returns-clause-audit
+pub returns-clause-chart : goal.returns-clause-chart
 unfolding clap_on_literals
-returns-clause-audit c = λ name. refl
+returns-clause-chart c = λ name. refl
