@@ -8,4 +8,5 @@ pub mod Examples
 pub mod Owed
 pub mod Outputs
 pub mod Meanings
+pub mod Findings
 pub mod Stored

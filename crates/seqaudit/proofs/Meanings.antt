@@ -22,7 +22,7 @@ use Rattle.seqaudit.proofs.Telling.{says}
 
 -- ---- faults have neither status
 
-fault_status_high : (f : ReadFault) → 2 ≤ (refused f).status
+pub fault_status_high : (f : ReadFault) → 2 ≤ (refused f).status
 fault_status_high faults.Memory = omega arith
 fault_status_high faults.Device = omega arith
 fault_status_high faults.TooLarge = omega arith

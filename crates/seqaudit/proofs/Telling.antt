@@ -20,8 +20,10 @@ use Rattle.seqaudit.specs.Checked.{Spells, IsChecked, Judged}
 use Rattle.seqaudit.specs.Checked as checked
 use Rattle.seqaudit.specs.Replayed.{IsReplayed}
 use Rattle.seqaudit.specs.Replayed as replays
+use Rattle.seqaudit.specs.Audited.{IsAudited, reported}
+use Rattle.seqaudit.specs.Audited as audits
 use Rattle.seqaudit.specs.Command.{ReadsAll, Owes, OfBytes, ForMemory, ForReader, Delivers, Whole, Part, Tells}
-use Rattle.seqaudit.specs.Parts.{ChecksTo, ReplaysTo, OfBundle, OfSome, OfNone}
+use Rattle.seqaudit.specs.Parts.{ChecksTo, AuditsTo, ReplaysTo, OfBundle, OfSome, OfNone}
 use Rattle.seqaudit.specs.Parts as parts
 use Rattle.seqaudit.specs.Meaning.{Says}
 
@@ -123,6 +125,15 @@ module _ {R : Type 0} (gives : R → List ℕ → R → Type 0) (ended : R → T
     owes_check =
         owes_bundle IsChecked ChecksTo c h owes_judged
         (λ spelled. checked.Lacking h.bytes (record { streams = c.streams; spelled = spelled }))
+
+    -- ---- audit
+
+    pub owes_audit : (out : Output) → AuditsTo c.streams out → Owes gives ended failed old new IsAudited out
+    owes_audit out (parts.Finds found is on) =
+        OfBytes h.bytes (reported c.streams found) h.all
+        (audits.Found h.bytes c.streams found
+        (record { given = c.acts; spelled = h.spelled; finding = is; handed_on = on }))
+    owes_audit out parts.NoRoomToAudit = ForMemory h.bytes h.all h.small
 
     -- ---- replay
 

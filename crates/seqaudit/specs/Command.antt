@@ -9,6 +9,7 @@ use Rattle.seqaudit.specs.declared.words.Task.TheVariants as task
 use Rattle.seqaudit.specs.Words.{asked}
 use Rattle.seqaudit.specs.Output.{Output, no_memory, no_device, usage}
 use Rattle.seqaudit.specs.Checked.{IsChecked}
+use Rattle.seqaudit.specs.Audited.{IsAudited}
 use Rattle.seqaudit.specs.Replayed.{IsReplayed}
 
 -- of a reader: what its calls give, whether it is at its end, whether it failed, and its states before and after
@@ -31,8 +32,8 @@ module _ {R : Type 0} (gives : R → List ℕ → R → Type 0) (ended : R → T
   -- the output that each command owes; where one isn't there yet nothing is read
   abbrev pub OwesBy : Task → Output → Type 0
   OwesBy task.Check out = Owes IsChecked out
+  OwesBy task.Audit out = Owes IsAudited out
   OwesBy task.Replay out = Owes IsReplayed out
-  OwesBy task.Audit out = (new ≡ old) × (out ≡ usage)
   OwesBy task.Drive out = (new ≡ old) × (out ≡ usage)
   OwesBy (task.Chart l) out = (new ≡ old) × (out ≡ usage)
 

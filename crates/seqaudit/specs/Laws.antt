@@ -1,12 +1,14 @@
--- The laws of what `check` and `replay` answer, each the contract of a function of `laws`.
+-- The laws of what the commands answer, each the contract of a function of `laws`.
 use Rattle.std.specs.Prelude.{◌≡◌, ℕ, List, Some}
 use Rattle.st_core.specs.declared.types.Act.{Act}
 use Rattle.st_core.specs.Run.{Stream, Shows}
-use Rattle.st_core.specs.Verdict.{Stuck}
-use Rattle.seqaudit.specs.Output.{Output}
+use Rattle.st_core.specs.Verdict.{Stuck, Yes, IsVerdict}
+use Rattle.st_text.specs.Text.{spelling}
+use Rattle.seqaudit.specs.Output.{Output, judged}
 use Rattle.seqaudit.specs.Checked.{top, Spells, IsJudged, IsChecked}
 use Rattle.seqaudit.specs.Replayed.{HasStuck, IsReplayed}
-use Rattle.seqaudit.specs.Meaning.{MeansYes, MeansNo}
+use Rattle.seqaudit.specs.Audited.{IsAudited}
+use Rattle.seqaudit.specs.Meaning.{MeansYes, MeansNo, MeansFits, MeansUnfit}
 
 -- status 0 is a yes, and status 1 a no
 abbrev pub YesMeans : Type 0
@@ -20,6 +22,25 @@ abbrev pub ShownIsYes : Type 0
 ShownIsYes =
     (bytes : List ℕ) (streams : List Stream) (acts : List Act) (out : Output) → Spells bytes streams (Some acts)
     → Shows top streams acts → IsChecked bytes out → out.status ≡ 0
+
+-- status 0 of `audit` is a certificate, and status 1 an event and a reason
+abbrev pub FitsMeans : Type 0
+FitsMeans = (bytes : List ℕ) (out : Output) → IsAudited bytes out → out.status ≡ 0 → MeansFits bytes out
+
+abbrev pub UnfitMeans : Type 0
+UnfitMeans = (bytes : List ℕ) (out : Output) → IsAudited bytes out → out.status ≡ 1 → MeansUnfit bytes out
+
+-- the text of streams and acts
+abbrev pub certificate : List Stream → List Act → List ℕ
+certificate streams acts = spelling (record { streams = streams; acts = Some acts })
+
+-- where acts have the verdict yes, and their text is one within the reader's limits, `check` of it answers yes and the
+-- pairs, and nothing else
+abbrev pub CertificateIsYes : Type 0
+CertificateIsYes =
+    (streams : List Stream) (acts : List Act) (pairs : List (ℕ × ℕ)) → IsVerdict top streams acts (Yes pairs)
+    → Spells (certificate streams acts) streams (Some acts)
+    → (out : Output) → IsChecked (certificate streams acts) out → out ≡ judged (Yes pairs)
 
 -- bytes have an output of the command, and one at most
 abbrev pub HasOutput : (List ℕ → Output → Type 0) → Type 0

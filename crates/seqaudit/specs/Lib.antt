@@ -1,6 +1,7 @@
--- What public contracts cite, from the outputs to what a yes and a no mean.
+-- What public contracts cite, from the outputs to what the answers mean.
 pub mod Output
 pub mod Checked
+pub mod Audited
 pub mod Replayed
 pub mod Words
 pub mod Command

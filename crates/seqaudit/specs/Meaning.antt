@@ -1,11 +1,19 @@
--- What a yes and a no of `check` mean, each as one record of plain facts, in the words of the machine.
-use Rattle.std.specs.Prelude.{◌≡◌, ℕ, Bool, List, ◌++◌, Some, All, codes}
+-- What a yes and a no of `check` and the findings of `audit` mean, each as one record of plain facts, in the words of the
+-- machine.
+use Rattle.std.specs.Prelude.{◌≡◌, ℕ, Bool, List, ◌++◌, Option, Some, IsSome, All, codes}
 use Rattle.std.specs.List.{flat_map}
+use Rattle.st_core.specs.declared.types.Pid.{Pid}
 use Rattle.st_core.specs.declared.types.Act.{Act}
 use Rattle.st_core.specs.Step.{Outcome}
 use Rattle.st_core.specs.Run.{Stream, Shows, pids_of, run, stream}
 use Rattle.st_core.specs.Pairs.{Follows, AllPaired, pairs}
 use Rattle.st_core.specs.Verdict.{Verdict, IsVerdict}
+use Rattle.st_pair.specs.Places.{event_at}
+use Rattle.st_audit.specs.declared.finding.Reason.{Reason}
+use Rattle.st_audit.specs.declared.finding.Finding.TheVariants as finding
+use Rattle.st_audit.specs.Findings.{IsReason}
+use Rattle.st_chart.specs.Report.{report_text}
+use Rattle.st_text.specs.Text.{spelling}
 use Rattle.st_text.specs.Writing.{Writes}
 use Rattle.seqaudit.specs.Output.{Output, line, pair_line, verdict_text}
 use Rattle.seqaudit.specs.Checked.{top, Spells}
@@ -42,6 +50,37 @@ pub record MeansNo (bytes : List ℕ) (out : Output) : Type 0 where
   pub text : out.text ≡ verdict_text verdict
   -- and the place shows it: all before it passes, and act n has no step or reports another event, or p has events left
   pub place : IsVerdict top streams acts verdict
+
+-- a certificate: status 0 of `audit`
+pub record MeansFits (bytes : List ℕ) (out : Output) : Type 0 where
+  pub streams : List Stream
+  pub given : Option (List Act)
+  pub acts : List Act
+  pub outcomes : List Outcome
+  -- the bytes spell streams, and acts or none, within the reader's limits
+  pub spelled : Spells bytes streams given
+  -- other acts are a run of the machine from zero clocks over the streams' processes
+  pub runs : run top (pids_of streams) acts ≡ Some outcomes
+  -- in it each process reports exactly its stream; so the acts show the streams (`Shows`)
+  pub reports : All (λ x. stream acts outcomes x.pid ≡ x.events) streams
+  -- the text is that of the streams with these acts
+  pub text : out.text ≡ spelling (record { streams = streams; acts = Some acts })
+
+-- an event and a reason: status 1 of `audit`
+pub record MeansUnfit (bytes : List ℕ) (out : Output) : Type 0 where
+  pub streams : List Stream
+  pub given : Option (List Act)
+  pub pid : Pid
+  pub index : ℕ
+  pub reason : Reason
+  -- the bytes spell streams, and acts or none, within the reader's limits
+  pub spelled : Spells bytes streams given
+  -- the event is there
+  pub there : IsSome (event_at streams pid index)
+  -- and the reason holds at it
+  pub holds : IsReason top streams pid index reason
+  -- the text names the event and the reason, and what the reason rests on
+  pub text : out.text ≡ report_text streams (finding.Unfit pid index reason)
 
 -- all bytes were read, and of them an output with this meaning was written whole
 pub record Says {R W : Type 0} (gives : R → List ℕ → R → Type 0) (ended : R → Type 0) (read_failed : R → Bool)

@@ -9,18 +9,27 @@ use Rattle.st_core.specs.Verdict.{Verdict, IsVerdict}
 use Rattle.st_check.specs.Answers.{FollowsAll, PairsAll, SticksAt}
 use Rattle.st_check.specs.declared.verdict.Replayed.{Replayed}
 use Rattle.st_check.specs.declared.verdict.Replayed.TheVariants as answers
+use Rattle.st_audit.specs.declared.finding.Finding.{Finding}
+use Rattle.st_audit.specs.Findings.{IsFinding, HandsOn}
 use Rattle.st_text.specs.Text.{Contents, spelling}
 use Rattle.seqaudit.specs.declared.words.Refusal.{Refusal}
 use Rattle.seqaudit.specs.declared.words.Refusal.TheVariants as refusals
 use Rattle.seqaudit.specs.Output.{Output, judged, no_acts, no_memory, usage}
 use Rattle.seqaudit.specs.Checked.{top}
 use Rattle.seqaudit.specs.Replayed.{replayed, stuck}
+use Rattle.seqaudit.specs.Audited.{reported}
 
 -- the verdict of streams and acts
 pub data ChecksTo (streams : List Stream) (acts : List Act) : Output → Type 0 where
   Judges : (v : Verdict) → IsVerdict top streams acts v → FollowsAll top streams acts v → PairsAll top streams acts v
       → ChecksTo streams acts (judged v)
   NoRoomToCheck : ChecksTo streams acts no_memory
+
+-- what is found of streams
+pub data AuditsTo (streams : List Stream) : Output → Type 0 where
+  Finds : (found : Finding) → IsFinding top streams found → HandsOn streams found
+      → AuditsTo streams (reported streams found)
+  NoRoomToAudit : AuditsTo streams no_memory
 
 -- what the acts report
 pub data ReplaysTo (streams : List Stream) (acts : List Act) : Output → Type 0 where

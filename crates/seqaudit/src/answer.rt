@@ -2,6 +2,7 @@
 
 ghost use Rattle.std.specs.Prelude.{◌≡◌, MatchResult};
 ghost use Rattle.st_check.specs.Answers.{verdict_of};
+ghost use Rattle.seqaudit.specs.Audited.{finding_status, reported};
 ghost use Rattle.seqaudit.specs.Command.{Delivers};
 ghost use Rattle.seqaudit.specs.Lines.{text_of};
 ghost use Rattle.seqaudit.specs.Output.{verdict_status, fault_status, judged, refused};
@@ -9,6 +10,8 @@ ghost use Rattle.seqaudit.specs.Parts.{bundled, refusal_output};
 
 use crate::lines::{OutputLine, send_line, send_verdict};
 use crate::words::Refusal;
+use st_audit::Finding;
+use st_chart::report;
 use st_check::Verdict;
 use st_core::{Act, ByteSink, Streams};
 use st_text::{Device, ReadFault, write_parts};
@@ -30,6 +33,16 @@ fn verdict_status(verdict: &Verdict) -> u8
     match verdict {
         Verdict::Yes(_) => 0,
         Verdict::Stuck(_) | Verdict::Differs(_) | Verdict::Left(_) => 1,
+    }
+}
+
+/// The status of a finding.
+fn finding_status(finding: &Finding) -> u8
+    ensures { result ≡ finding_status finding.now }
+{
+    match finding {
+        Finding::Fits(_, _) => 0,
+        Finding::Unfit(_, _, _) => 1,
     }
 }
 
@@ -63,6 +76,14 @@ pub(crate) fn tell_verdict<W: ByteSink>(writer: &mut W, verdict: &Verdict) -> u8
 {
     let sent = send_verdict(writer, verdict);
     status_of(sent, verdict_status(verdict))
+}
+
+/// Answers the report of what was found of streams.
+pub(crate) fn tell_finding<W: ByteSink>(writer: &mut W, streams: &Streams, finding: &Finding) -> u8
+    ensures { Delivers W.puts W.failed writer.old writer.new (reported streams.now finding.now) result }
+{
+    let sent = report(writer, streams, finding);
+    status_of(sent, finding_status(finding))
 }
 
 /// Answers a fault.

@@ -1,8 +1,9 @@
-//! What the answers of `check` and `replay` mean. The functions do nothing: their contracts are the
+//! What the answers of the commands mean. The functions do nothing: their contracts are the
 //! laws.
 
 ghost use Rattle.seqaudit.specs.Checked.{IsChecked};
 ghost use Rattle.seqaudit.specs.Laws.{YesMeans, NoMeans, ShownIsYes, HasOutput, HasOneOutput};
+ghost use Rattle.seqaudit.specs.Laws.{FitsMeans, UnfitMeans, CertificateIsYes};
 ghost use Rattle.seqaudit.specs.Laws.{NeverStuck, NeverStuckInReplay};
 ghost use Rattle.seqaudit.specs.Replayed.{IsReplayed};
 
@@ -26,7 +27,25 @@ pub fn shown_is_yes()
     ensures { ShownIsYes }
 {}
 
-/// Bytes have an output of each command.
+/// An output of the audit with status 0 means that the bytes spell streams, and that what it writes
+/// is their text with acts that are a run of the machine from zero clocks in which each process
+/// reports exactly its stream.
+pub fn fits_means()
+    ensures { FitsMeans }
+{}
+
+/// An output of the audit with status 1 means that the bytes spell streams, and that the named event
+/// is there and the reason holds at it.
+pub fn unfit_means()
+    ensures { UnfitMeans }
+{}
+
+/// The check of a certificate that is a text within the reader's limits answers yes and the pairs.
+pub fn certificate_is_yes()
+    ensures { CertificateIsYes }
+{}
+
+/// Bytes have an output of the check and of the replay.
 pub fn an_answer()
     ensures check { HasOutput IsChecked }
     ensures replay { HasOutput IsReplayed }
@@ -34,7 +53,7 @@ pub fn an_answer()
     a_verdict();
 }
 
-/// Bytes have one output of each command at most, so whoever knows the bytes that were read knows
+/// Bytes have one output of the check and one of the replay at most, so whoever knows the bytes that were read knows
 /// which output is owed.
 pub fn one_answer()
     ensures check { HasOneOutput IsChecked }

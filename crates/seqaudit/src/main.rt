@@ -1,10 +1,11 @@
-//! The program `seqaudit`: checks and replays the texts of collected sequential traces.
+//! The program `seqaudit`: audits, checks and replays the texts of collected sequential traces.
 //!
 //! What it writes and answers is said by `run`, and for each command by a function of its own; the
 //! definitions stand in `specs/`. `main` only joins `run` to the outside.
 #![tactic(auto)]
 
 mod answer;
+mod audit;
 mod check;
 pub mod laws;
 mod lines;
@@ -16,6 +17,7 @@ ghost use Rattle.std.specs.IoError.{error_kind};
 ghost use Rattle.std.specs.Prelude.{◌≡◌, ◌≢◌};
 
 use crate::answer::tell_refusal;
+pub use audit::run_audit;
 pub use check::run_check;
 pub use program::run;
 pub use replay::run_replay;

@@ -4,16 +4,17 @@ ghost use Rattle.std.specs.Prelude.{map};
 ghost use Rattle.seqaudit.specs.Command.{OwesBy, OwesFor, Tells};
 
 use crate::answer::tell_refusal;
+use crate::audit::run_audit;
 use crate::check::run_check;
 use crate::replay::run_replay;
 use crate::words::{Refusal, Task, read_words};
 use st_core::{ByteSink, ByteSource};
-use std::alloc::Global;
 use std::convert::AsStr;
+use std::thread::Threads;
 
 /// Does what this command does.
-fn run_task<R: ByteSource, W: ByteSink>(
-    alloc: Global,
+fn run_task<H: AllocGlobal + Threads + Sync, R: ByteSource, W: ByteSink>(
+    rt: &H,
     task: Task,
     reader: &mut R,
     writer: &mut W,
@@ -22,16 +23,17 @@ fn run_task<R: ByteSource, W: ByteSink>(
         (OwesBy R.gives R.ended R.failed reader.old reader.new task) result }
 {
     match task {
-        Task::Check => run_check(alloc, reader, writer),
-        Task::Replay => run_replay(alloc, reader, writer),
-        Task::Audit | Task::Drive | Task::Chart(_) => tell_refusal(writer, Refusal::Usage),
+        Task::Check => run_check(rt.alloc(), reader, writer),
+        Task::Audit => run_audit(rt, rt.alloc(), reader, writer),
+        Task::Replay => run_replay(rt.alloc(), reader, writer),
+        Task::Drive | Task::Chart(_) => tell_refusal(writer, Refusal::Usage),
     }
 }
 
 /// Does what the words ask for, of which the first is the program's name, and gives the exit
 /// status. Words that ask for no command are told how to, with status 3. All texts go to the
 /// writer.
-pub fn run<H: AllocGlobal, S: AsStr, R: ByteSource, W: ByteSink>(
+pub fn run<H: AllocGlobal + Threads + Sync, S: AsStr, R: ByteSource, W: ByteSink>(
     rt: &H,
     words: &[S],
     reader: &mut R,
@@ -41,7 +43,7 @@ pub fn run<H: AllocGlobal, S: AsStr, R: ByteSource, W: ByteSink>(
         (OwesFor R.gives R.ended R.failed reader.old reader.new (map S.text words.now)) result }
 {
     match read_words(rt.alloc(), words) {
-        Ok(task) => run_task(rt.alloc(), task, reader, writer),
+        Ok(task) => run_task(rt, task, reader, writer),
         Err(refusal) => tell_refusal(writer, refusal),
     }
 }

@@ -16,6 +16,7 @@ use st_core::{MemorySink, MemorySource};
 use std::alloc::AllocError;
 use std::process::Abort;
 use std::test::Fail;
+use std::thread::Threads;
 
 /// An input of a command, and what it writes and answers.
 struct Case {
@@ -26,7 +27,7 @@ struct Case {
 }
 
 /// Runs the program on the input, and compares what it wrote and its status.
-fn expect<H: Abort + AllocGlobal>(
+fn expect<H: Abort + AllocGlobal + Threads + Sync>(
     rt: &H,
     name: &str,
     words: &[&str],
@@ -45,7 +46,7 @@ fn expect<H: Abort + AllocGlobal>(
 }
 
 /// The same for each case of a command.
-fn expect_cases<H: Abort + AllocGlobal>(
+fn expect_cases<H: Abort + AllocGlobal + Threads + Sync>(
     rt: &H,
     command: &str,
     cases: &[Case],
