@@ -1,5 +1,6 @@
 pub mod Texts
 pub mod Telling
+pub mod Charts
 pub mod Replays
 pub mod Labels
 pub mod Asked

@@ -3,6 +3,10 @@ use Rattle.std.proofs.Common.{◌≡◌, ◌≢◌, ℕ, ◌+◌, ◌<◌, ◌�
 use Rattle.std.proofs.Common.{inl, inr, arith}
 use Rattle.std.specs.Prelude.{Option, Some, None, Result, Ok, Err, MatchResult}
 use Rattle.st_core.specs.declared.types.Act.{Act}
+use Rattle.st_core.specs.declared.types.Label.{Label}
+use Rattle.st_pair.specs.Pairing.{refusal}
+use Rattle.st_order.specs.declared.item.Item.{Item}
+use Rattle.st_order.specs.Order.{IsOrder}
 use Rattle.st_core.specs.Run.{Stream, pids_of}
 use Rattle.st_core.specs.Device.{InARow}
 use Rattle.st_text.specs.declared.fault.ReadFault.{ReadFault}
@@ -22,8 +26,10 @@ use Rattle.seqaudit.specs.Replayed.{IsReplayed}
 use Rattle.seqaudit.specs.Replayed as replays
 use Rattle.seqaudit.specs.Audited.{IsAudited, reported}
 use Rattle.seqaudit.specs.Audited as audits
+use Rattle.seqaudit.specs.Charted.{IsCharted, drawn, no_label}
+use Rattle.seqaudit.specs.Charted as charts
 use Rattle.seqaudit.specs.Command.{ReadsAll, Owes, OfBytes, ForMemory, ForReader, Delivers, Whole, Part, Tells}
-use Rattle.seqaudit.specs.Parts.{ChecksTo, AuditsTo, ReplaysTo, OfBundle, OfSome, OfNone}
+use Rattle.seqaudit.specs.Parts.{ChecksTo, AuditsTo, DrawsTo, ChartsTo, ReplaysTo, OfBundle, OfSome, OfNone}
 use Rattle.seqaudit.specs.Parts as parts
 use Rattle.seqaudit.specs.Meaning.{Says}
 
@@ -134,6 +140,30 @@ module _ {R : Type 0} (gives : R → List ℕ → R → Type 0) (ended : R → T
         (audits.Found h.bytes c.streams found
         (record { given = c.acts; spelled = h.spelled; finding = is; handed_on = on }))
     owes_audit out parts.NoRoomToAudit = ForMemory h.bytes h.all h.small
+
+    -- ---- chart
+
+    owes_drawn : (label : Label) (items : List Item) (out : Output) → refusal c.streams ≡ None
+        → IsOrder c.streams items → DrawsTo c.streams label items out
+        → Owes gives ended failed old new (IsCharted label) out
+    owes_drawn label items out ok is (parts.Draws some) =
+        OfBytes h.bytes (drawn c.streams items label) h.all
+        (charts.Drawn h.bytes c.streams items
+        (record { given = c.acts; spelled = h.spelled; accepted = ok; order = is }) some)
+    owes_drawn label items out ok is (parts.LacksLabel none) =
+        OfBytes h.bytes (no_label label) h.all
+        (charts.Unlabelled h.bytes c.streams items
+        (record { given = c.acts; spelled = h.spelled; accepted = ok; order = is }) none)
+    owes_drawn label items out ok is parts.NoRoomToDraw = ForMemory h.bytes h.all h.small
+
+    pub owes_chart : (label : Label) (out : Output) → ChartsTo c.streams label out
+        → Owes gives ended failed old new (IsCharted label) out
+    owes_chart label out (parts.OfOrder items o ok is draws) = owes_drawn label items o ok is draws
+    owes_chart label out (parts.OfReason f found is by) =
+        OfBytes h.bytes (reported c.streams found) h.all
+        (charts.Unpaired h.bytes c.streams found
+        (record { given = c.acts; spelled = h.spelled; fault = f; refused = is; found_by = by }))
+    owes_chart label out parts.NoRoomToOrder = ForMemory h.bytes h.all h.small
 
     -- ---- replay
 

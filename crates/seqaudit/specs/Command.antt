@@ -11,6 +11,7 @@ use Rattle.seqaudit.specs.Output.{Output, no_memory, no_device, usage}
 use Rattle.seqaudit.specs.Checked.{IsChecked}
 use Rattle.seqaudit.specs.Audited.{IsAudited}
 use Rattle.seqaudit.specs.Replayed.{IsReplayed}
+use Rattle.seqaudit.specs.Charted.{IsCharted}
 
 -- of a reader: what its calls give, whether it is at its end, whether it failed, and its states before and after
 module _ {R : Type 0} (gives : R → List ℕ → R → Type 0) (ended : R → Type 0) (failed : R → Bool) (old new : R) where
@@ -35,7 +36,7 @@ module _ {R : Type 0} (gives : R → List ℕ → R → Type 0) (ended : R → T
   OwesBy task.Audit out = Owes IsAudited out
   OwesBy task.Replay out = Owes IsReplayed out
   OwesBy task.Drive out = (new ≡ old) × (out ≡ usage)
-  OwesBy (task.Chart l) out = (new ≡ old) × (out ≡ usage)
+  OwesBy (task.Chart label) out = Owes (IsCharted label) out
 
   -- the output that the program owes, by its words: where they ask for no command, nothing is read
   pub data OwesFor (words : List Text) : Output → Type 0 where

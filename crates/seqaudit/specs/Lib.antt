@@ -3,6 +3,7 @@ pub mod Output
 pub mod Checked
 pub mod Audited
 pub mod Replayed
+pub mod Charted
 pub mod Words
 pub mod Command
 pub mod Meaning

@@ -11,6 +11,7 @@ words (lines.Pair r s) = pair_words (r, s)
 words (lines.Stuck n) = codes "no stuck " ++ decimal n
 words (lines.Differs n) = codes "no differs " ++ decimal n
 words (lines.Left p) = codes "no left " ++ spelled.pid p
+words (lines.NoLabel l) = codes "no label " ++ spelled.label l
 words (lines.Fault f) = fault_words f
 words lines.NoActs = codes "fault no acts"
 words lines.Usage = usage_words

@@ -1,7 +1,9 @@
 -- The outputs of a bundle that was read, for the contracts of the functions that a command is made of. What a command
 -- does in all stands in `Command`.
-use Rattle.std.specs.Prelude.{◌≡◌, ℕ, List, Option, Some, None}
+use Rattle.std.specs.Prelude.{◌≡◌, ℕ, true, false, List, Option, Some, None}
+use Rattle.std.specs.List.{list_any}
 use Rattle.st_core.specs.declared.types.Pid.{Pid}
+use Rattle.st_core.specs.declared.types.Label.{Label}
 use Rattle.st_core.specs.declared.types.Act.{Act}
 use Rattle.st_core.specs.Step.{Outcome}
 use Rattle.st_core.specs.Run.{Stream, pids_of, run}
@@ -10,7 +12,12 @@ use Rattle.st_check.specs.Answers.{FollowsAll, PairsAll, SticksAt}
 use Rattle.st_check.specs.declared.verdict.Replayed.{Replayed}
 use Rattle.st_check.specs.declared.verdict.Replayed.TheVariants as answers
 use Rattle.st_audit.specs.declared.finding.Finding.{Finding}
-use Rattle.st_audit.specs.Findings.{IsFinding, HandsOn}
+use Rattle.st_audit.specs.Findings.{IsFinding, HandsOn, unfit_by}
+use Rattle.st_pair.specs.declared.answer.PairFault.{PairFault}
+use Rattle.st_pair.specs.Pairing.{refusal}
+use Rattle.st_order.specs.declared.item.Item.{Item}
+use Rattle.st_order.specs.Order.{IsOrder}
+use Rattle.st_order.specs.Labels.{has_label}
 use Rattle.st_text.specs.Text.{Contents, spelling}
 use Rattle.seqaudit.specs.declared.words.Refusal.{Refusal}
 use Rattle.seqaudit.specs.declared.words.Refusal.TheVariants as refusals
@@ -18,6 +25,7 @@ use Rattle.seqaudit.specs.Output.{Output, judged, no_acts, no_memory, usage}
 use Rattle.seqaudit.specs.Checked.{top}
 use Rattle.seqaudit.specs.Replayed.{replayed, stuck}
 use Rattle.seqaudit.specs.Audited.{reported}
+use Rattle.seqaudit.specs.Charted.{drawn, no_label}
 
 -- the verdict of streams and acts
 pub data ChecksTo (streams : List Stream) (acts : List Act) : Output → Type 0 where
@@ -30,6 +38,20 @@ pub data AuditsTo (streams : List Stream) : Output → Type 0 where
   Finds : (found : Finding) → IsFinding top streams found → HandsOn streams found
       → AuditsTo streams (reported streams found)
   NoRoomToAudit : AuditsTo streams no_memory
+
+-- the chart of an order's items
+pub data DrawsTo (streams : List Stream) (label : Label) (items : List Item) : Output → Type 0 where
+  Draws : list_any (has_label streams label) items ≡ true → DrawsTo streams label items (drawn streams items label)
+  LacksLabel : list_any (has_label streams label) items ≡ false → DrawsTo streams label items (no_label label)
+  NoRoomToDraw : DrawsTo streams label items no_memory
+
+-- the chart of streams
+pub data ChartsTo (streams : List Stream) (label : Label) : Output → Type 0 where
+  OfOrder : (items : List Item) (out : Output) → refusal streams ≡ None → IsOrder streams items
+      → DrawsTo streams label items out → ChartsTo streams label out
+  OfReason : (f : PairFault) (found : Finding) → refusal streams ≡ Some f → unfit_by f ≡ Some found
+      → ChartsTo streams label (reported streams found)
+  NoRoomToOrder : ChartsTo streams label no_memory
 
 -- what the acts report
 pub data ReplaysTo (streams : List Stream) (acts : List Act) : Output → Type 0 where

@@ -11,7 +11,7 @@ ghost use Rattle.seqaudit.specs.Lines.{words, text_of, words_room};
 ghost use Rattle.seqaudit.specs.Output.{fault_words, pair_words, pair_line, verdict_text};
 
 use st_check::Verdict;
-use st_core::{ByteSink, Pid};
+use st_core::{ByteSink, Label, Pid};
 use st_text::{Buffer, Device, ReadFault, flush, make_room, put_bytes, put_number, put_pid};
 
 /// A line of the program's own.
@@ -27,6 +27,8 @@ pub(crate) enum OutputLine {
     Differs(u64),
     /// The process with events left.
     Left(Pid),
+    /// No item has this label.
+    NoLabel(Label),
     /// Why the input is no text, or there is no answer.
     Fault(ReadFault),
     /// The input has no acts.
@@ -89,6 +91,7 @@ fn put_words(buffer: &mut Buffer, line: OutputLine)
             put_bytes(buffer, b"no left ");
             put_pid(buffer, pid);
         }
+        OutputLine::NoLabel(label) => put_numbered(buffer, b"no label ", u64::from(label.0)),
         OutputLine::Fault(fault) => put_fault(buffer, fault),
         OutputLine::NoActs => put_bytes(buffer, b"fault no acts"),
         OutputLine::Usage => put_bytes(

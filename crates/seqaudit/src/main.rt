@@ -1,4 +1,5 @@
-//! The program `seqaudit`: audits, checks and replays the texts of collected sequential traces.
+//! The program `seqaudit`: audits, checks, replays and charts the texts of collected sequential
+//! traces.
 //!
 //! What it writes and answers is said by `run`, and for each command by a function of its own; the
 //! definitions stand in `specs/`. `main` only joins `run` to the outside.
@@ -6,6 +7,7 @@
 
 mod answer;
 mod audit;
+mod chart;
 mod check;
 pub mod laws;
 mod lines;
@@ -18,6 +20,7 @@ ghost use Rattle.std.specs.Prelude.{◌≡◌, ◌≢◌};
 
 use crate::answer::tell_refusal;
 pub use audit::run_audit;
+pub use chart::run_chart;
 pub use check::run_check;
 pub use program::run;
 pub use replay::run_replay;

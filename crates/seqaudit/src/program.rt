@@ -5,6 +5,7 @@ ghost use Rattle.seqaudit.specs.Command.{OwesBy, OwesFor, Tells};
 
 use crate::answer::tell_refusal;
 use crate::audit::run_audit;
+use crate::chart::run_chart;
 use crate::check::run_check;
 use crate::replay::run_replay;
 use crate::words::{Refusal, Task, read_words};
@@ -26,7 +27,8 @@ fn run_task<H: AllocGlobal + Threads + Sync, R: ByteSource, W: ByteSink>(
         Task::Check => run_check(rt.alloc(), reader, writer),
         Task::Audit => run_audit(rt, rt.alloc(), reader, writer),
         Task::Replay => run_replay(rt.alloc(), reader, writer),
-        Task::Drive | Task::Chart(_) => tell_refusal(writer, Refusal::Usage),
+        Task::Chart(label) => run_chart(rt, rt.alloc(), reader, writer, label),
+        Task::Drive => tell_refusal(writer, Refusal::Usage),
     }
 }
 
