@@ -111,7 +111,8 @@ module _ (streams : List Stream) where
       (at_there p i e front.0)
       (from_there p (i + 1) es (ap (λ (n : ℕ). drop n (events_of streams p)) (sym next) ∙ front.1))
 
-  among_there : (some : List Stream) → AreFound streams some → AllByRecursion (IsThere streams) (items_among streams some)
+  among_there : (some : List Stream) → AreFound streams some
+      → AllByRecursion (IsThere streams) (items_among streams some)
   among_there [] found = tt
   among_there (s ∷ rest) found =
       all_append (IsThere streams) (items_from streams s.pid 0 s.events) (items_among streams rest)

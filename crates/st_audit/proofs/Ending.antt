@@ -1,5 +1,6 @@
 -- Where the construction halts at an item, its place has an event, and a reason that holds of its move holds there.
-use Rattle.std.proofs.Common.{◌≡◌, ℕ, zero, suc, ◌+◌, ◌-◌, ◌<◌, ◌==◌, Bool, true, false, List, [], ◌∷◌, ◌++◌, take, drop, reverse}
+use Rattle.std.proofs.Common.{◌≡◌, ℕ, zero, suc, ◌+◌, ◌-◌, ◌<◌, ◌==◌, Bool, true, false, List, [], ◌∷◌, ◌++◌, take}
+use Rattle.std.proofs.Common.{drop, reverse}
 use Rattle.std.proofs.Common.{Option, Some, None, IsSome, IfErr, IfOk, Result, Ok, Err, slice_get, length, get_or, refl}
 use Rattle.std.proofs.Common.{sym, ◌∙◌, ap, subst, arith}
 use Rattle.std.specs.List.{AllByRecursion}
@@ -41,7 +42,8 @@ pub place_there : (streams : List Stream) (xs : List Item) (n : ℕ) (d : Item) 
     → IsSome (event_at streams at.0 at.1)
 place_there streams xs n d at rising order within is =
     let x = get_or xs n d in
-    let there = all_at (IsThere streams) xs n x (order_there streams rising xs order) (slice_get-get_or xs n d within) in
+    let there = all_at (IsThere streams) xs n x (order_there streams rising xs order)
+    (slice_get-get_or xs n d within) in
     subst (λ (p : Pid × ℕ). IsSome (event_at streams p.0 p.1)) (sym is) (place_some streams x there.0 there.1)
 
 cut : {A : Type 0} (xs : List A) (n : ℕ) (x : A) → slice_get xs n ≡ Some x → xs ≡ take n xs ++ x ∷ drop (suc n) xs

@@ -28,7 +28,8 @@ use Rattle.st_mail.specs.declared.outcome.Outcome.{Outcome as Told}
 use Rattle.st_world.specs.World.{outcome_to}
 use Rattle.st_audit.specs.Build.{ready, start_of, state_after}
 use Rattle.st_audit.specs.Progress.{is_uncaused, IsStamped, IsStampOf, IsTaken}
-use Rattle.st_audit.proofs.Counts.{HasRisen, HaveSame, IsNoReset, IsTold, WasActor, WasSame, actor_same, all_risen, others_same}
+use Rattle.st_audit.proofs.Counts.{HasRisen, HaveSame, IsNoReset, IsTold, WasActor, WasSame, actor_same, all_risen}
+use Rattle.st_audit.proofs.Counts.{others_same}
 use Rattle.st_audit.proofs.Counts.{ready_alone, stamp_some, stamp_told, told_serial, was_same}
 use Rattle.st_audit.proofs.Lift.{lifted}
 use Rattle.st_audit.proofs.Ready.{is_ready}
@@ -167,7 +168,8 @@ hidden_moves top old skipped p e f told new now x rises below =
     let by = stamp_is p x.stamp x.stamps in
     let was : (r : Process) → process new p ≡ Some r → WasActor top x.between x.stamp (outcome_to told new) r.local =
     λ r h. actor_same top x.between x.stamp (outcome_to told new) x.steps by.1 r (ap (process new) by.0 ∙ h) in
-    let is_r1 : (r : Process) (h : process new p ≡ Some r) → r1 ≡ (was r h).before = λ r h. same_Some r1 (was r h).before
+    let is_r1 : (r : Process) (h : process new p ≡ Some r)
+    → r1 ≡ (was r h).before = λ r h. same_Some r1 (was r h).before
     (sym here ∙ ap (process x.between) (sym by.0) ∙ (was r h).is_before) in
     let stamped : (r : Process) (h : process new p ≡ Some r) → HasStamped at.end (was r h).done.local = λ r h.
     acted_some top p x.stamp r1 (was r h).done at.token x.stamps

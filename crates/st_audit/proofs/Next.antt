@@ -135,7 +135,8 @@ module _ (top : ℕ) (streams : List Stream) (xs : List Item) (n : ℕ) (old new
 
 -- WHERE IT HALTS
 
-module _ (streams : List Stream) (ys : List Item) (old : State) (skipped : ℕ) (so : IsSoFar streams ys old skipped) where
+module _ (streams : List Stream) (ys : List Item) (old : State) (skipped : ℕ)
+    (so : IsSoFar streams ys old skipped) where
   uncaused_by : (m : Move) → is_taking m ≡ false → HaltsAt old m.who (λ x. is_uncaused x m.event.serial)
       → uncaused (earlier_of streams ys) m ≡ true
   uncaused_by m stamps h =
@@ -152,7 +153,8 @@ module _ (streams : List Stream) (ys : List Item) (old : State) (skipped : ℕ) 
   too_wide_by m stamps h =
       let earlier = earlier_of streams ys in
       let was = so.counted m.who h.before h.is_before in
-      ap (λ b. not b && (nat_lt most_skipped (skip earlier m) || nat_lt most_skipped_in_all (skip earlier m + skips earlier)))
+      ap (λ b. not b && (nat_lt most_skipped (skip earlier m)
+      || nat_lt most_skipped_in_all (skip earlier m + skips earlier)))
       stamps
       ∙ ap (λ k. nat_lt most_skipped k || nat_lt most_skipped_in_all (k + skips earlier))
       (sym (start_skips earlier m h.before.local stamps was))

@@ -56,7 +56,8 @@ traced top s p b o h counted x r is =
           counted_as r.local was.before.local x was.same (counted x was.before was.is_before)
     ] refl
 
-one_run : (top : ℕ) (s : State) (a : Act) (o : Outcome) → step top s a ≡ Some o → run_from top s (a ∷ []) ≡ Some (o ∷ [])
+one_run : (top : ℕ) (s : State) (a : Act) (o : Outcome) → step top s a ≡ Some o
+    → run_from top s (a ∷ []) ≡ Some (o ∷ [])
 one_run top s a o h = rw h refl
 
 -- an act more ran

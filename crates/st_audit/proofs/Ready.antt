@@ -1,5 +1,8 @@
--- The acts before a stamp do what they are for: nothing of them is reported, and they leave the process ready to stamp the serial.
-use Rattle.std.proofs.Common.{◌≡◌, ℕ, ◌+◌, ◌-◌, ◌<◌, ◌≤◌, ◌==◌, ◌&&◌, ◌⊎◌, zero, suc, max, nat_lt, Bool, true, false, not, cond, List, [], ◌∷◌, ◌++◌, Option, Some, None, is_some, inl, inr, refl, sym, ◌∙◌, ap, subst, arith, if◌then◌else◌}
+-- The acts before a stamp do what they are for: nothing of them is reported, and they leave the process ready to stamp
+-- the serial.
+use Rattle.std.proofs.Common.{◌≡◌, ℕ, ◌+◌, ◌-◌, ◌<◌, ◌≤◌, ◌==◌, ◌&&◌, ◌⊎◌, zero, suc, max, nat_lt, Bool, true, false}
+use Rattle.std.proofs.Common.{not, cond, List, [], ◌∷◌, ◌++◌, Option, Some, None, is_some, inl, inr, refl, sym, ◌∙◌}
+use Rattle.std.proofs.Common.{ap, subst, arith, if◌then◌else◌}
 use Rattle.std.proofs.lemmas.Bool.{and_parts, eqb-true, eq-eqb, ltb-true, ltb-false, false≢true}
 use Rattle.std.proofs.lemmas.Bool.Decides.{nat_tests}
 use Rattle.st_core.specs.declared.types.Pid.{Pid}
@@ -18,7 +21,8 @@ use Rattle.st_core.specs.Stamp.{stamped_token}
 use Rattle.st_core.specs.Local.{default_token}
 use Rattle.st_core.specs.Step.{acted}
 use Rattle.st_audit.specs.declared.plan.Start.{Start}
-use Rattle.st_audit.specs.Build.{bool_eq, dress, flags_eq, is_dressed, quiet, raise, ready, renew, renewed, silent, start_of, unstamped}
+use Rattle.st_audit.specs.Build.{bool_eq, dress, flags_eq, is_dressed, quiet, raise, ready, renew, renewed, silent}
+use Rattle.st_audit.specs.Build.{start_of, unstamped}
 
 -- QUIET ACTS
 
@@ -34,19 +38,23 @@ is_alone p a = ⊥
 pub record IsQuiet (top : ℕ) (p : Pid) (l : LocalState) (a : Act) (m : LocalState) : Type 0 where
   pub reply : Reply
   pub alone : is_alone p a
-  pub acts : (queue : List Message) → acted top (record { pid = p; local = l; queue = queue }) a ≡ Some (record { local = m; queue = queue; reply = reply; report = None; place = None })
+  pub acts : (queue : List Message)
+      → acted top (record { pid = p; local = l; queue = queue }) a
+      ≡ Some (record { local = m; queue = queue; reply = reply; report = None; place = None })
 
 -- so do these acts, in a row
 abbrev pub QuietRun : ℕ → Pid → LocalState → List Act → LocalState → Type 0
 QuietRun top p l [] m = l ≡ m
 QuietRun top p l (a ∷ rest) m = (x : LocalState) × IsQuiet top p l a x × QuietRun top p x rest m
 
-pub quiet_append : (top : ℕ) (p : Pid) (xs ys : List Act) (l m n : LocalState) → QuietRun top p l xs m → QuietRun top p m ys n → QuietRun top p l (xs ++ ys) n
+pub quiet_append : (top : ℕ) (p : Pid) (xs ys : List Act) (l m n : LocalState) → QuietRun top p l xs m
+    → QuietRun top p m ys n → QuietRun top p l (xs ++ ys) n
 quiet_append top p [] ys l m n one two = subst (λ x. QuietRun top p x ys n) (sym one) two
 quiet_append top p (a ∷ xs) ys l m n one two = (one.0, one.1, quiet_append top p xs ys one.0 m n one.2 two)
 
 -- where the acts lead: clock and last, and a token of this label and these flags
-pub record Reaches (top : ℕ) (p : Pid) (l : LocalState) (acts : List Act) (clock last : ℕ) (n : Label) (f : Flags) : Type 0 where
+pub record Reaches (top : ℕ) (p : Pid) (l : LocalState) (acts : List Act) (clock last : ℕ) (n : Label) (f : Flags)
+    : Type 0 where
   pub end : LocalState
   pub token : Token
   pub runs : QuietRun top p l acts end
@@ -58,7 +66,9 @@ pub record Reaches (top : ℕ) (p : Pid) (l : LocalState) (acts : List Act) (clo
   pub traced : end.traced ≡ l.traced
 
 -- one part after another
-both_reach : (top : ℕ) (p : Pid) (l : LocalState) (xs ys : List Act) (c z : ℕ) (n : Label) (f : Flags) (d y : ℕ) (g : Flags) (one : Reaches top p l xs c z n f) → Reaches top p one.end ys d y n g → Reaches top p l (xs ++ ys) d y n g
+both_reach : (top : ℕ) (p : Pid) (l : LocalState) (xs ys : List Act) (c z : ℕ) (n : Label) (f : Flags)
+    (d y : ℕ) (g : Flags) (one : Reaches top p l xs c z n f)
+    → Reaches top p one.end ys d y n g → Reaches top p l (xs ++ ys) d y n g
 both_reach top p l xs ys c z n f d y g one two = record {
   end = two.end;
   token = two.token;
@@ -91,11 +101,16 @@ same_flags f g h =
 same_label : (n m : Label) → (n.0 == m.0) ≡ true → n ≡ m
 same_label n m h = let number = eqb-true n.0 m.0 h in λ i. record { 0 = number i }
 
-restored : (top : ℕ) (p : Pid) (l : LocalState) (n : Label) (f : Flags) → Reaches top p l (act.Restore p (unstamped p n f) ∷ []) l.clock l.last n f
+restored : (top : ℕ) (p : Pid) (l : LocalState) (n : Label) (f : Flags)
+    → Reaches top p l (act.Restore p (unstamped p n f) ∷ []) l.clock l.last n f
 restored top p l n f = record {
   end = record l { token = Some (unstamped p n f) };
   token = unstamped p n f;
-  runs = (record l { token = Some (unstamped p n f) }, record { reply = reply.Previous l.token; alone = refl; acts = λ queue. refl }, refl);
+  runs = (
+    record l { token = Some (unstamped p n f) },
+    record { reply = reply.Previous l.token; alone = refl; acts = λ queue. refl },
+    refl,
+  );
   is = refl;
   label = refl;
   flags = refl;
@@ -104,15 +119,28 @@ restored top p l n f = record {
   traced = refl;
 }
 
-stays : (top : ℕ) (p : Pid) (l : LocalState) (n : Label) (f : Flags) (token : Option Token) → l.token ≡ token → is_dressed n f token ≡ true → Reaches top p l [] l.clock l.last n f
+stays : (top : ℕ) (p : Pid) (l : LocalState) (n : Label) (f : Flags) (token : Option Token) → l.token ≡ token
+    → is_dressed n f token ≡ true → Reaches top p l [] l.clock l.last n f
 stays top p l n f None e h = absurd (false≢true h)
 stays top p l n f (Some t) e h =
     let parts = and_parts (t.label.0 == n.0) (flags_eq t.flags f) h in
-    record { end = l; token = t; runs = refl; is = e; label = same_label t.label n parts.0; flags = same_flags t.flags f parts.1; clocked = refl; lasted = refl; traced = refl }
+    record {
+      end = l;
+      token = t;
+      runs = refl;
+      is = e;
+      label = same_label t.label n parts.0;
+      flags = same_flags t.flags f parts.1;
+      clocked = refl;
+      lasted = refl;
+      traced = refl;
+    }
 
-dressed : (top : ℕ) (p : Pid) (l : LocalState) (token : Option Token) (n : Label) (f : Flags) → is_dressed n f token ≡ is_dressed n f l.token → Reaches top p l (dress p token n f) l.clock l.last n f
+dressed : (top : ℕ) (p : Pid) (l : LocalState) (token : Option Token) (n : Label) (f : Flags)
+    → is_dressed n f token ≡ is_dressed n f l.token → Reaches top p l (dress p token n f) l.clock l.last n f
 dressed top p l token n f same =
-    elim (is_dressed n f token) as (λ b. is_dressed n f token ≡ b → Reaches top p l (cond b [] (act.Restore p (unstamped p n f) ∷ [])) l.clock l.last n f) [
+    elim (is_dressed n f token) as (λ b. is_dressed n f token ≡ b
+    → Reaches top p l (cond b [] (act.Restore p (unstamped p n f) ∷ [])) l.clock l.last n f) [
       | true ↦ λ e. stays top p l n f l.token refl (sym same ∙ e)
       | false ↦ λ e. restored top p l n f
     ] refl
@@ -123,14 +151,26 @@ and_false : (b : Bool) → (b && false) ≡ false
 and_false true = refl
 and_false false = refl
 
-printed : (top : ℕ) (p : Pid) (l : LocalState) (t : Token) → l.token ≡ Some t → t.flags.print ≡ false → l.clock < top → IsQuiet top p l (act.Print p 0) (record l { token = Some (stamped_token p l t); clock = l.clock + 1 })
+printed : (top : ℕ) (p : Pid) (l : LocalState) (t : Token) → l.token ≡ Some t → t.flags.print ≡ false → l.clock < top
+    → IsQuiet top p l (act.Print p 0) (record l { token = Some (stamped_token p l t); clock = l.clock + 1 })
 printed top p l t is flag below =
     let now : nat_lt l.clock top ≡ true = grind (arith, nat_tests) in
     let unseen : (l.traced && t.flags.print) ≡ false = ap (λ b. l.traced && b) flag ∙ and_false l.traced in
     record { reply = reply.Done; alone = refl; acts = λ queue. rw (is, now, unseen) refl }
 
-silent_reaches : (top : ℕ) (p : Pid) (k : ℕ) (l : LocalState) (t : Token) (n : Label) → l.token ≡ Some t → t.label ≡ n → t.flags ≡ quiet → l.clock + k ≤ top → Reaches top p l (silent p k) (l.clock + k) l.last n quiet
-silent_reaches top p zero l t n is label flags within = record { end = l; token = t; runs = refl; is = is; label = label; flags = flags; clocked = omega arith; lasted = refl; traced = refl }
+silent_reaches : (top : ℕ) (p : Pid) (k : ℕ) (l : LocalState) (t : Token) (n : Label) → l.token ≡ Some t → t.label ≡ n
+    → t.flags ≡ quiet → l.clock + k ≤ top → Reaches top p l (silent p k) (l.clock + k) l.last n quiet
+silent_reaches top p zero l t n is label flags within = record {
+  end = l;
+  token = t;
+  runs = refl;
+  is = is;
+  label = label;
+  flags = flags;
+  clocked = omega arith;
+  lasted = refl;
+  traced = refl;
+}
 silent_reaches top p (suc k) l t n is label flags within =
     let m : LocalState = record l { token = Some (stamped_token p l t); clock = l.clock + 1 } in
     let rest = silent_reaches top p k m (stamped_token p l t) n refl label flags (omega arith) in
@@ -147,8 +187,10 @@ silent_reaches top p (suc k) l t n is label flags within =
     }
 
 -- a token stands for each other of its label and flags
-alike : (t : Token) (n : Label) (g : Flags) (p : Pid) (l : LocalState) → l.token ≡ Some t → t.label ≡ n → t.flags ≡ g → (m : Label) (f : Flags) → is_dressed m f (Some (unstamped p n g)) ≡ is_dressed m f l.token
-alike t n g p l is label flags m f = ap (λ (x : Label). x.0 == m.0 && flags_eq g f) (sym label) ∙ ap (λ (x : Flags). t.label.0 == m.0 && flags_eq x f) (sym flags) ∙ ap (is_dressed m f) (sym is)
+alike : (t : Token) (n : Label) (g : Flags) (p : Pid) (l : LocalState) → l.token ≡ Some t → t.label ≡ n → t.flags ≡ g
+    → (m : Label) (f : Flags) → is_dressed m f (Some (unstamped p n g)) ≡ is_dressed m f l.token
+alike t n g p l is label flags m f = ap (λ (x : Label). x.0 == m.0 && flags_eq g f) (sym label)
+    ∙ ap (λ (x : Flags). t.label.0 == m.0 && flags_eq x f) (sym flags) ∙ ap (is_dressed m f) (sym is)
 
 -- THE PARTS
 

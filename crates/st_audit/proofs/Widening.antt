@@ -26,7 +26,8 @@ module _ (top wide : ℕ) (wider : top ≤ wide) where
 
   stamp_wider : (p : Pid) (l m : LocalState) → stamp top p l ≡ Some m → stamp wide p l ≡ Some m
   stamp_wider p l m h =
-      let made = λ (t : Token). (let x : LocalState = record l { token = Some (stamped_token p l t); clock = l.clock + 1 } in x) in
+      let made = λ (t : Token). (let m : LocalState =
+      record l { token = Some (stamped_token p l t); clock = l.clock + 1 } in m) in
       elim l.token as (λ token. option_and_then (λ t. cond (nat_lt l.clock top) (Some (made t)) None) token ≡ Some m
       → option_and_then (λ t. cond (nat_lt l.clock wide) (Some (made t)) None) token ≡ Some m) [
         | None ↦ λ h. h

@@ -6,7 +6,8 @@
 //! doesn't go the way of the streams; what the acts are then worth is the checker's to say.
 
 ghost use Rattle.std.specs.Prelude.{◌≡◌, ◌+◌, ◌++◌, ◌<◌, ◌↔◌, [], ◌∷◌, length, option_map};
-ghost use Rattle.std.specs.Prelude.{IfErr, IfOk, IfSome, IsTrue, None, List, OnOk, Some, true, take, slice_get, if◌then◌else◌};
+ghost use Rattle.std.specs.Prelude.{IfErr, IfOk, IsTrue, None, List, OnOk, Some, true, take, slice_get};
+ghost use Rattle.std.specs.Prelude.{if◌then◌else◌};
 ghost use Rattle.st_core.specs.Run.{Stream};
 ghost use Rattle.st_core.specs.State.{process};
 ghost use Rattle.st_core.specs.Step.{step};
@@ -21,8 +22,8 @@ ghost use Rattle.st_world.specs.World.{outcome_to};
 ghost use Rattle.st_audit.specs.Build.{flags_of, start_of};
 ghost use Rattle.st_audit.specs.Moves.{move_by};
 ghost use Rattle.st_audit.specs.Progress.{is_too_wide, is_uncaused, missing, AreCounted, IsHalt};
-ghost use Rattle.st_audit.specs.Progress.{IsActed, IsActHalt, IsHiddenDone, IsPlainHalt, IsReportedDone, IsSoFar, IsStamped, IsStampHalt};
-ghost use Rattle.st_audit.specs.Progress.{IsStampHaltAt, IsStampOf, IsTaken, Ran};
+ghost use Rattle.st_audit.specs.Progress.{IsActed, IsActHalt, IsHiddenDone, IsPlainHalt, IsReportedDone, IsSoFar};
+ghost use Rattle.st_audit.specs.Progress.{IsStamped, IsStampHalt, IsStampHaltAt, IsStampOf, IsTaken, Ran};
 
 use crate::plan::{QUIET, Start, ready};
 use st_core::{Act, Event, Flags, Kind, Pid, Sequence, Serial, Streams, Want};
