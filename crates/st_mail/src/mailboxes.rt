@@ -220,7 +220,8 @@ impl Mailboxes {
         Some(wiped + place as u64)
     }
 
-    /// Takes the tokens of the messages in the mailbox away. The messages stay.
+    /// Takes the tokens of the messages in the mailbox away. The messages stay. It takes no longer for
+    /// many than for none.
     pub fn wipe_tokens(&mut self, mailbox: usize)
         requires { mailbox < length self.old.boxes }
         ensures boxes { self.new.boxes ≡ set self.old.boxes mailbox (map untraced (queue_in self.old.boxes mailbox)) }
