@@ -6,7 +6,7 @@
 PREFIX ?= /usr/local
 PROGRAM = bin/seqaudit
 
-.PHONY: test layers test-erlang try demo install bench program clean
+.PHONY: test layers test-erlang try demo install bench hostile program clean
 
 # Every proof from nothing, the wrong bodies, and the tests; then what stands on the program.
 test: layers
@@ -48,6 +48,10 @@ install: $(PROGRAM)
 # Times check and replay on a bundle of 1,000,000 acts, beside wc -l.
 bench: $(PROGRAM)
 	bench/run
+
+# Puts the program under faults, tampered text and inputs at the limits (docs/HOSTILE.md), and counts the checks.
+hostile: $(PROGRAM)
+	bench/hostile
 
 clean:
 	rm -rf bin crates/*/out erlang/ebin erlang/test/ebin erlang/test/out

@@ -1,0 +1,45 @@
+"""Refused growths: each request for memory, and for a thread, is refused in turn."""
+
+from . import model, shim
+from .inputs import INPUTS
+from .program import FAULT_MEMORY, Answer, Check
+
+FAULT_THREAD = Answer(4, b"fault thread\n")
+MOST_GROWTHS = 2_000
+
+
+def faults(words):
+    return [FAULT_MEMORY, FAULT_THREAD] if words[0] == "drive" else [FAULT_MEMORY]
+
+
+def each_refused(program, library, name, rest):
+    """The Nth growth is refused, or the Nth and all later ones, for N = 1, 2, .. until a run meets no refusal."""
+    words, given = INPUTS[name]
+    which = "and all later ones" if rest else "alone"
+    memory = right = 0
+    for n in range(1, MOST_GROWTHS):
+        got, came = shim.run(program, library, words, given, refuse_growth=n, refuse_rest=int(rest))
+        called = f"growths: {name}: growth {n} {which}"
+        is_right = model.is_right(words, given, got)
+        if not came:
+            yield Check(called, None if is_right else f"no growth was refused, and the answer is wrong\ngot {got}")
+            break
+        memory, right = memory + (got in faults(words)), right + is_right
+        yield Check(called, None if got in faults(words) or is_right else f"expected a fault or the answer\ngot {got}")
+    yield Check(f"growths: {name}: {which}: some growth was refused", None if memory else "no run answered a fault",
+                note=f"{memory} refused runs answered a fault, {right} the right answer")
+
+
+def address_space(program):
+    """A coarser check without a library: `check` of 100,000 acts within less and less address space."""
+    text = b"seqtrace 1\nprocess <0.0.0>\nacts\n" + b"send <0.0.0> <0.0.0> 1\n" * 100_000
+    right, faulted, answered = Answer(0, b"yes\n"), 0, 0
+    for megabytes in range(2, 65, 2):
+        got = program.run(("check",), text, before=("prlimit", f"--as={megabytes << 20}"))
+        if got.status == 127 and got.complaint:
+            continue  # The system couldn't even load the program.
+        faulted, answered = faulted + (got == FAULT_MEMORY), answered + (got == right)
+        yield Check(f"growths: check within {megabytes} MB of address space",
+                    None if got in (FAULT_MEMORY, right) else f"expected {FAULT_MEMORY} or {right}\ngot {got}")
+    yield Check("growths: some address space is too small and some is ample",
+                None if faulted and answered else f"{faulted} times fault memory, {answered} times yes")

@@ -1,0 +1,82 @@
+"""The built program, one run of it, and one check of what a run gave."""
+
+import os
+import subprocess
+import sys
+import tempfile
+from dataclasses import dataclass
+from pathlib import Path
+
+USAGE = b"usage: seqaudit check|audit|replay|drive|chart --label N\n"
+MEASURE = Path(__file__).with_name("measure.py")
+COMMANDS = (("check",), ("audit",), ("replay",), ("drive",), ("chart", "--label", "17"))
+
+
+@dataclass(frozen=True)
+class Check:
+    """A named check: `problem` is None where it passed. A note is printed with it. A skipped check is neither."""
+
+    name: str
+    problem: str | None = None
+    note: str | None = None
+    skipped: bool = False
+
+
+@dataclass(frozen=True)
+class Answer:
+    status: int
+    output: bytes
+    complaint: bytes = b""
+
+    def __str__(self):
+        said = f"status {self.status}, {cut(self.output)}"
+        return said + (f", standard error {cut(self.complaint)}" if self.complaint else "")
+
+
+FAULT_DEVICE = Answer(4, b"fault device\n")
+FAULT_MEMORY = Answer(4, b"fault memory\n")
+
+
+def cut(text):
+    """What a person has to see of a text: its length and its first and last bytes."""
+    text = bytes(text)
+    return repr(text) if len(text) <= 1_000 else f"{len(text):,} bytes {text[:160]!r} .. {text[-60:]!r}"
+
+
+def expect(name, wanted, got, given=b"", note=None):
+    """The check that the answer is the wanted one, or one of them; a complaint on standard error fails it too."""
+    wanted = wanted if isinstance(wanted, (list, tuple)) else [wanted]
+    if got in wanted:
+        return Check(name, note=note)
+    texts = " or ".join(map(str, wanted))
+    return Check(name, f"input    {cut(given)}\nexpected {texts}\ngot      {got}", note)
+
+
+@dataclass(frozen=True)
+class Program:
+    path: str
+
+    def run(self, words, given=b"", *, stdin=None, stdout=subprocess.PIPE, before=(), env=None, seconds=30):
+        """Runs it on the given bytes, or on the file `stdin`; `before` are the words of a command that executes it."""
+        how = {"stdin": stdin} if stdin is not None else {"input": given}
+        try:
+            ended = subprocess.run([*before, self.path, *words], stdout=stdout, stderr=subprocess.PIPE,
+                                   env=env or {}, timeout=seconds, **how)
+        except subprocess.TimeoutExpired:
+            return Answer(-9, b"", f"ended after {seconds} s without an answer".encode())
+        return Answer(ended.returncode, ended.stdout or b"", ended.stderr)
+
+    def knows(self, words):
+        return self.run(words) != Answer(3, USAGE)
+
+    def measure(self, words, pieces, seconds):
+        """Runs it on the bytes of these pieces, from disk to disk: the answer, the seconds, the peak in megabytes."""
+        with tempfile.TemporaryDirectory() as folder:
+            given, written = os.path.join(folder, "given"), os.path.join(folder, "written")
+            with open(given, "wb") as file:
+                file.writelines(pieces)
+            told = subprocess.run([sys.executable, "-B", MEASURE, str(seconds), given, written, self.path, *words],
+                                  stdout=subprocess.PIPE, check=True).stdout
+            status, taken, megabytes = told.split()
+            with open(written, "rb") as file:
+                return Answer(int(status), file.read()), float(taken), int(megabytes)
