@@ -35,9 +35,10 @@ def address_space(program):
     text = b"seqtrace 1\nprocess <0.0.0>\nacts\n" + b"send <0.0.0> <0.0.0> 1\n" * 100_000
     right, faulted, answered = Answer(0, b"yes\n"), 0, 0
     for megabytes in range(2, 65, 2):
-        got = program.run(("check",), text, before=("prlimit", f"--as={megabytes << 20}"))
-        if got.status == 127 and got.complaint:
-            continue  # The system couldn't even load the program.
+        before = ("prlimit", f"--as={megabytes << 20}")
+        if program.run(("check",), before=before) != Answer(2, b"fault truncated\n"):
+            continue  # There is no room to load the program.
+        got = program.run(("check",), text, before=before)
         faulted, answered = faulted + (got == FAULT_MEMORY), answered + (got == right)
         yield Check(f"growths: check within {megabytes} MB of address space",
                     None if got in (FAULT_MEMORY, right) else f"expected {FAULT_MEMORY} or {right}\ngot {got}")

@@ -10,7 +10,8 @@ from .program import Check, expect
 WORD = re.compile(r"<[^>]*>|'?[a-z_]+'?|[0-9]+")
 WORDS = ("send", "'receive'", "receive", "print", "printat", "set", "clear", "look", "reset", "restore", "tracer",
          "first", "from", "value", "both", "place", "label", "true", "false", "process", "acts", "seqtrace")
-PIDS = ("<0.30.0>", "<0.31.0>", "<0.32.0>", "<1.30.0>", "<0.030.0>", "<0.30.1>", "<0.65535.0>", "<0.65536.0>", "<0.30>")
+PIDS = ("<0.30.0>", "<0.31.0>", "<0.32.0>", "<1.30.0>", "<0.65535.0>", "<0.65536.0>", "<65536.0.0>", "<0.030.0>",
+        "<0.30.1>", "<0.30>")
 RANDOM_CHANGES = 300
 
 
