@@ -5,7 +5,7 @@ from .inputs import INPUTS
 from .program import FAULT_MEMORY, Answer, Check
 
 FAULT_THREAD = Answer(4, b"fault thread\n")
-MOST_GROWTHS = 2_000
+MOST_GROWTHS = 10_000  # Far more than the short inputs need: a program that never ends is noticed.
 
 
 def faults(words):
@@ -26,6 +26,8 @@ def each_refused(program, library, name, rest):
             break
         memory, right = memory + (got in faults(words)), right + is_right
         yield Check(called, None if got in faults(words) or is_right else f"expected a fault or the answer\ngot {got}")
+    else:
+        yield Check(f"growths: {name}: {which}: an end", f"growth {MOST_GROWTHS - 1} was refused too")
     yield Check(f"growths: {name}: {which}: some growth was refused", None if memory else "no run answered a fault",
                 note=f"{memory} refused runs answered a fault, {right} the right answer")
 
