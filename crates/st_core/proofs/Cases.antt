@@ -1,5 +1,6 @@
 -- Worked cases: the definitions computed. Nothing cites this file; it shows that the definitions say what is meant.
 use Rattle.std.specs.Prelude.{◌≡◌, ℕ, Bool, true, false, List, [], ◌∷◌, map, take, Option, Some, None, option_map, refl}
+use Rattle.std.proofs.Common.{inl, inr}
 use Rattle.st_core.specs.declared.types.Pid.{Pid}
 use Rattle.st_core.specs.declared.types.Label.{Label}
 use Rattle.st_core.specs.declared.types.Token.{Token}
@@ -14,10 +15,11 @@ use Rattle.st_core.specs.declared.types.Component.TheVariants as component
 use Rattle.st_core.specs.declared.types.Act.{Act}
 use Rattle.st_core.specs.declared.types.Act.TheVariants as act
 use Rattle.st_core.specs.Pid.{pid_on}
-use Rattle.st_core.specs.State.{process}
+use Rattle.st_core.specs.State.{process, zero_state}
 use Rattle.st_core.specs.Pick.{pick}
 use Rattle.st_core.specs.Step.{Outcome}
 use Rattle.st_core.specs.Run.{Stream, run, stream}
+use Rattle.st_core.specs.Laws.{clock_in, GoesOnFrom, ReportsEverything}
 use Rattle.st_core.specs.Verdict.{Stuck, Differs, Left, Yes, IsVerdict}
 use Rattle.st_core.proofs.Verdicts.{computed}
 
@@ -289,3 +291,32 @@ picks :
     (want.First ∷ want.From c ∷ want.Value 9 ∷ want.Both c 9 ∷ want.Place 2 ∷ want.Place 4 ∷ want.Both c 8 ∷ [])
     ≡ Some 0 ∷ Some 3 ∷ Some 1 ∷ Some 3 ∷ Some 2 ∷ None ∷ None ∷ []
 picks = refl
+
+-- a reset sets the clock back, and the next stamp lifts it to the first count again
+reset_lowers_clock :
+    option_map (map (λ (o : Outcome). clock_in o.after a)) (run top (a ∷ [])
+    (act.Set a (component.Print true) ∷ act.Print a 7 ∷ act.Reset a ∷ act.Set a (component.Print true) ∷ act.Print a 7
+    ∷ []))
+    ≡ Some (0 ∷ 1 ∷ 0 ∷ 0 ∷ 1 ∷ [])
+reset_lowers_clock = refl
+
+-- after a receive of a low serial a send goes on from the greatest count, with the low one as its prev
+low_goes_on : GoesOnFrom (got 0 0 5 a b 5 ∷ got 0 0 3 c b 3 ∷ []) (sent 0 3 6 b a 9)
+low_goes_on = record { count = refl; prev = inl refl }
+
+-- and after a new trace from the greatest count alone
+new_trace_goes_on : GoesOnFrom (printed 17 0 1 a 7 ∷ []) (printed 18 1 2 a 8)
+new_trace_goes_on = record { count = refl; prev = inr refl }
+
+-- a run that reports its send and its receive reports everything
+abbrev full_acts : List Act
+full_acts =
+    act.Tracer a true ∷ act.Set a (component.Send true) ∷ act.Set a (component.Receive true) ∷ act.Send a b 5
+    ∷ act.Receive b want.First ∷ []
+
+abbrev full_outcomes : List Outcome
+full_outcomes = elim (run top (a ∷ b ∷ []) full_acts) [ None ↦ [] | Some os ↦ os ]
+
+everything_reported : ReportsEverything (zero_state (a ∷ b ∷ [])) full_acts full_outcomes
+everything_reported =
+    (λ r is h. h, (λ r is h. h, (λ r is h. h, (λ r is h. refl, (λ r is h. refl, tt)))))

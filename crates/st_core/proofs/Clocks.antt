@@ -157,35 +157,48 @@ acted_counted top (act.Tracer p b) r done h = silent r _ _ done h (omega arith)
 
 -- EACH PROCESS
 
-reached_clock : (a : Act) (t : Option Token) (r : Process) → is_reset a ≡ false
-    → (reached a t r).local.clock ≡ r.local.clock
-reached_clock (act.Reset p) t r plain = absurd (false≢true (sym plain))
-reached_clock (act.Send p q v) t r plain =
-    let m : Message = record { from = p; value = v; token = t } in
-    elim (pid_eq r.pid q) as (λ b.
-    (cond b (record r { queue = r.queue ++ m ∷ [] }) r).local.clock ≡ r.local.clock) [ true ↦ refl | false ↦ refl ]
-reached_clock (act.Tracer p on) t r plain =
-    elim (node_eq r.pid p) as (λ b.
-    (cond b (record r { local = record r.local { traced = on } }) r).local.clock ≡ r.local.clock) [
-      | true ↦ refl
-      | false ↦ refl
-    ]
-reached_clock (act.Receive p w) t r plain = refl
-reached_clock (act.Print p v) t r plain = refl
-reached_clock (act.PrintAt p n v) t r plain = refl
-reached_clock (act.Set p c) t r plain = refl
-reached_clock (act.Clear p) t r plain = refl
-reached_clock (act.Restore p x) t r plain = refl
-reached_clock (act.Look p) t r plain = refl
+-- both counts of m are those of l
+pub record SameCounts (l m : LocalState) : Type 0 where
+  pub clock : m.clock ≡ l.clock
+  pub last : m.last ≡ l.last
 
--- the actor by its part, each other as it was
-changed_clock : (a : Act) (done : Acted) (r : Process) → is_reset a ≡ false
-    → (changed a done r).local.clock ≡ cond (pid_eq r.pid (actor a)) done.local.clock r.local.clock
-changed_clock a done r plain =
+same_counts : (l : LocalState) → SameCounts l l
+same_counts l = record { clock = refl; last = refl }
+
+reached_counts : (a : Act) (t : Option Token) (r : Process) → is_reset a ≡ false
+    → SameCounts r.local (reached a t r).local
+reached_counts (act.Reset p) t r plain = absurd (false≢true (sym plain))
+reached_counts (act.Send p q v) t r plain =
+    let m : Message = record { from = p; value = v; token = t } in
+    elim (pid_eq r.pid q) as (λ b. SameCounts r.local (cond b (record r { queue = r.queue ++ m ∷ [] }) r).local) [
+      | true ↦ same_counts r.local
+      | false ↦ same_counts r.local
+    ]
+reached_counts (act.Tracer p on) t r plain =
+    elim (node_eq r.pid p) as (λ b.
+    SameCounts r.local (cond b (record r { local = record r.local { traced = on } }) r).local) [
+      | true ↦ record { clock = refl; last = refl }
+      | false ↦ same_counts r.local
+    ]
+reached_counts (act.Receive p w) t r plain = same_counts r.local
+reached_counts (act.Print p v) t r plain = same_counts r.local
+reached_counts (act.PrintAt p n v) t r plain = same_counts r.local
+reached_counts (act.Set p c) t r plain = same_counts r.local
+reached_counts (act.Clear p) t r plain = same_counts r.local
+reached_counts (act.Restore p x) t r plain = same_counts r.local
+reached_counts (act.Look p) t r plain = same_counts r.local
+
+-- the actor's are those of its part, each other's as they were
+pub changed_counts : (a : Act) (done : Acted) (r : Process) (mine : Bool) → is_reset a ≡ false
+    → pid_eq r.pid (actor a) ≡ mine → SameCounts (cond mine done.local r.local) (changed a done r).local
+changed_counts a done r mine plain is =
     let own : Process = record r { local = done.local; queue = done.queue } in
-    reached_clock a done.local.token (cond (pid_eq r.pid (actor a)) own r) plain
-    ∙ elim (pid_eq r.pid (actor a)) as (λ b.
-    (cond b own r).local.clock ≡ cond b done.local.clock r.local.clock) [ true ↦ refl | false ↦ refl ]
+    let x = λ (b : Bool). cond b own r in
+    let reached = reached_counts a done.local.token (x (pid_eq r.pid (actor a))) plain in
+    let part : SameCounts (x mine).local (changed a done r).local =
+    subst (λ b. SameCounts (x b).local (changed a done r).local) is reached in
+    elim mine as (λ b. SameCounts (x b).local (changed a done r).local
+    → SameCounts (cond b done.local r.local) (changed a done r).local) [ true ↦ λ h. h | false ↦ λ h. h ] part
 
 abbrev clock_found : Option Process → ℕ
 clock_found o = elim o [ None ↦ 0 | Some r ↦ r.local.clock ]
@@ -197,13 +210,13 @@ found_clock : (a : Act) (done : Acted) (before : Process) (found : Option Proces
 found_clock a done before None plain least same = omega arith
 found_clock a done before (Some r) plain least same =
     elim (pid_eq r.pid (actor a)) as (λ b. pid_eq r.pid (actor a) ≡ b
-    → (changed a done r).local.clock ≡ cond b done.local.clock r.local.clock
     → r.local.clock ≤ (changed a done r).local.clock) [
-      | true ↦ λ is e.
+      | true ↦ λ is.
           let who : before.local.clock ≡ r.local.clock = ap (λ (x : Process). x.local.clock) (same r refl is) in
+          let now = (changed_counts a done r true plain is).clock in
           omega arith
-      | false ↦ λ is e. omega arith
-    ] refl (changed_clock a done r plain)
+      | false ↦ λ is. let now = (changed_counts a done r false plain is).clock in omega arith
+    ] refl
 
 -- no step but a reset lowers a clock
 step_clock : (top : ℕ) (s : State) (a : Act) (o : Outcome) (p : Pid) → step top s a ≡ Some o → is_reset a ≡ false
@@ -218,16 +231,15 @@ step_clock top s a o p h plain =
 
 -- A STEP THAT LIFTS A CLOCK
 
-record Lifts (s : State) (o : Outcome) (p : Pid) (this : ℕ) : Type 0 where
-  above : clock_in s p < this
-  reaches : clock_in o.after p ≡ this
+pub record Lifts (s : State) (o : Outcome) (p : Pid) (this : ℕ) : Type 0 where
+  pub above : clock_in s p < this
+  pub reaches : clock_in o.after p ≡ this
 
 actor_clock : (top : ℕ) (s : State) (a : Act) (o : Outcome) (t : Stepped top s a o) → is_reset a ≡ false
     → clock_in o.after (actor a) ≡ t.done.local.clock
 actor_clock top s a o t plain =
     ap clock_found (actor_after top s a o t)
-    ∙ changed_clock a t.done t.before plain
-    ∙ ap (λ b. cond b t.done.local.clock t.before.local.clock) (actor_mine top s a o t)
+    ∙ (changed_counts a t.done t.before true plain (actor_mine top s a o t)).clock
 
 -- a reported send or print
 report_lifts : (top : ℕ) (s : State) (a : Act) (o : Outcome) (e : Event) → step top s a ≡ Some o → is_reset a ≡ false
@@ -242,14 +254,21 @@ report_lifts top s a o e h plain is other =
 
 -- A SEND AND ITS TOKEN
 
--- a send after which its actor has this token: the token is its stamp, which lifted its clock to the token's count, and
--- its report, if it has one, is the token's
-record Sends (s : State) (p q : Pid) (v : ℕ) (o : Outcome) (token : Token) : Type 0 where
-  from : token.from ≡ p
-  lifts : Lifts s o p token.serial.this
-  report : (e : Event) → o.report ≡ Some e → e ≡ event_of kind.Send token (Some q) v
+-- a send after which its actor has this token: the actor had one before, the token is its stamp, which lifted its clock
+-- to the token's count, and the report, if there is one, is the token's
+pub record Sends (s : State) (p q : Pid) (v : ℕ) (o : Outcome) (token : Token) : Type 0 where
+  pub had : (r : Process) → process s p ≡ Some r → is_some r.local.token ≡ true
+  pub from : token.from ≡ p
+  pub lifts : Lifts s o p token.serial.this
+  pub report : (e : Event) → o.report ≡ Some e → e ≡ event_of kind.Send token (Some q) v
 
-sent : (top : ℕ) (s : State) (p q : Pid) (v : ℕ) (o : Outcome) (r : Process) (token : Token)
+had_token : (top : ℕ) (p : Pid) (l m : LocalState) (t : Token) (token : Option Token) → l.token ≡ token
+    → cond (is_some token) (stamp top p l) (Some l) ≡ Some m → m.token ≡ Some t → is_some token ≡ true
+had_token top p l m t None e h has =
+    absurd (none-some t (sym e ∙ ap (λ (x : LocalState). x.token) (same_Some l m h) ∙ has))
+had_token top p l m t (Some x) e h has = refl
+
+pub sent : (top : ℕ) (s : State) (p q : Pid) (v : ℕ) (o : Outcome) (r : Process) (token : Token)
     → step top s (act.Send p q v) ≡ Some o → process o.after p ≡ Some r → r.local.token ≡ Some token
     → Sends s p q v o token
 sent top s p q v o r token h is has =
@@ -267,7 +286,9 @@ sent top s p q v o r token h is has =
     let stamped = (any_grows top x.pid x.local m parts.1).token token token_is in
     let above = stamped.above in
     let before : clock_in s p ≡ x.local.clock = ap clock_found t.is_before in
+    let had = had_token top x.pid x.local m token x.local.token refl parts.1 token_is in
     record {
+      had = λ y there. ap (λ (z : Process). is_some z.local.token) (same_Some y x (sym there ∙ t.is_before)) ∙ had;
       from = stamped.from ∙ process_pid s p x t.is_before;
       lifts = record {
         above = omega arith;

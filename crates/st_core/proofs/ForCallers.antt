@@ -27,6 +27,8 @@ pub use Rattle.st_core.proofs.Reports.{event_reported, reported_in_order}
 pub use Rattle.st_core.proofs.Clocks.{reported_sends_agree}
 -- ---- what every run without a reset keeps
 pub use Rattle.st_core.proofs.Clocks.{reported_stamps_lift, followed_sends_lift, lifted_once, lifted_later}
+-- ---- what every run that reports all stamps and all receives of tokens keeps
+pub use Rattle.st_core.proofs.FullReports.{tell_counts, have_sends}
 -- ---- the numbers of the sends in the queues
 pub use Rattle.st_core.proofs.Tags.{no_tags}
 pub use Rattle.st_core.proofs.Queues.{IsTag, AreTags, no_tags_are, receive_none, receive_some, tags_step}

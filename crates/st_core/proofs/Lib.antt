@@ -14,6 +14,7 @@ pub mod Exists
 pub mod Names
 pub mod Reports
 pub mod Clocks
+pub mod FullReports
 mod Cases
 pub mod Pids
 pub mod RisingPids

@@ -18,11 +18,11 @@ use Rattle.st_core.proofs.Pids.{pid_eq-true}
 use Rattle.st_core.proofs.Runs.{stream-take}
 
 -- what an act reports for p
-abbrev told : Pid → Act → Outcome → List Event
+abbrev pub told : Pid → Act → Outcome → List Event
 told p a o = if pid_eq (actor a) p then option_to_list o.report else []
 
 -- the first event is this act's report, or event i stands behind what this act reports
-front : (mine : Bool) (report : Option Event) (rest : List Event) (i : ℕ) (e : Event)
+pub front : (mine : Bool) (report : Option Event) (rest : List Event) (i : ℕ) (e : Event)
     → (let here : List Event = if mine then option_to_list report else [] in slice_get (here ++ rest) i ≡ Some e
     → ((i ≡ 0) × (mine ≡ true) × (report ≡ Some e)) ⊎ ((j : ℕ) × (length here + j ≡ i) × (slice_get rest j ≡ Some e)))
 front false report rest i e h = inr (i, omega arith, h)

@@ -1,15 +1,18 @@
 -- Laws of the machine: what one act leaves alone, what holds in every run, and what in every run without a reset.
-use Rattle.std.specs.Prelude.{◌≡◌, ℕ, ◌<◌, ◌≤◌, Bool, true, false, List, length, map, take, Some, None, slice_get}
-use Rattle.std.specs.Prelude.{All, AllPairs, option_and_then}
+use Rattle.std.specs.Prelude.{◌≡◌, ℕ, ◌+◌, ◌<◌, ◌≤◌, ◌⊎◌, max, Bool, true, false, List, [], ◌∷◌, length, map, take}
+use Rattle.std.specs.Prelude.{Some, None, is_some, IsSome, slice_get, All, AllPairs, option_and_then}
 use Rattle.std.specs.List.{AllByRecursion}
-use Rattle.std.specs.Option.{ForSome}
+use Rattle.std.specs.Option.{ForSome, option_map_or}
 use Rattle.st_core.specs.declared.types.Pid.{Pid}
 use Rattle.st_core.specs.declared.types.Token.{Token}
 use Rattle.st_core.specs.declared.types.Event.{Event}
+use Rattle.st_core.specs.declared.types.Kind.TheVariants as kind
 use Rattle.st_core.specs.declared.types.Act.{Act}
 use Rattle.st_core.specs.declared.types.Act.TheVariants as act
 use Rattle.st_core.specs.Pid.{IsBelow}
 use Rattle.st_core.specs.State.{Process, State, process}
+use Rattle.st_core.specs.Local.{has_label}
+use Rattle.st_core.specs.Pick.{pick}
 use Rattle.st_core.specs.Step.{Outcome, actor, touches}
 use Rattle.st_core.specs.Run.{Stream, stream}
 use Rattle.st_core.specs.Streams.{is_own, names_among, events_of, names_listed}
@@ -82,6 +85,43 @@ pub record LiftsClock (os : List Outcome) (p : Pid) (this n : ℕ) : Type 0 wher
   pub at : slice_get os n ≡ Some outcome
   pub reaches : clock_in outcome.after p ≡ this
   pub above : (m : ℕ) (o : Outcome) → m < n → slice_get os m ≡ Some o → clock_in o.after p < this
+
+-- the act stamps a token, or takes a message that has one
+abbrev pub moves_token : Process → Act → Bool
+moves_token r (act.Send p q v) = is_some r.local.token
+moves_token r (act.Receive p w) = option_map_or (λ found. is_some found.1.token) (pick w r.queue) false
+moves_token r (act.Print p v) = is_some r.local.token
+moves_token r (act.PrintAt p n v) = has_label n r.local.token
+moves_token r a = false
+
+-- each such act of a run from s is reported
+abbrev pub ReportsEverything : State → List Act → List Outcome → Type 0
+ReportsEverything s [] os = Unit {0}
+ReportsEverything s (a ∷ rest) [] = Unit {0}
+ReportsEverything s (a ∷ rest) (o ∷ os) =
+    ((r : Process) → process s (actor a) ≡ Some r → moves_token r a ≡ true → IsSome o.report)
+    × ReportsEverything o.after rest os
+
+-- the greatest count among events, 0 of none
+abbrev pub greatest_count : List Event → ℕ
+greatest_count [] = 0
+greatest_count (e ∷ es) = max e.serial.this (greatest_count es)
+
+-- the prev that the last of these events leaves for the next: a receive its this, a send or a print its own; 0 of none
+abbrev pub prev_after : List Event → ℕ
+prev_after [] = 0
+prev_after (e ∷ []) = elim e.kind [
+  | kind.Send ↦ e.serial.prev
+  | kind.Receive ↦ e.serial.this
+  | kind.Print ↦ e.serial.prev
+]
+prev_after (e ∷ f ∷ es) = prev_after (f ∷ es)
+
+-- the send or print e goes on from these events of its process: it has the next count, and the prev that they leave, or
+-- in a new trace their greatest count
+pub record GoesOnFrom (es : List Event) (e : Event) : Type 0 where
+  pub count : e.serial.this ≡ greatest_count es + 1
+  pub prev : (e.serial.prev ≡ prev_after es) ⊎ (e.serial.prev ≡ greatest_count es)
 
 -- each pid that an event names is listed
 abbrev pub AreAllListed : List Stream → Type 0

@@ -1,7 +1,8 @@
 //! Laws of the machine, as contracts of functions that do nothing: each clause is a theorem over the
 //! definitions of `specs/`, and a proof that calls the function may use it.
 
-ghost use Rattle.std.specs.Prelude.{◌≡◌, ◌≢◌, ◌≤◌, ◌↔◌, ℕ, List, MatchOption, Some, All, option_and_then, slice_get};
+ghost use Rattle.std.specs.Prelude.{◌≡◌, ◌≢◌, ◌≤◌, ◌↔◌, ℕ, List, MatchOption, Some, All};
+ghost use Rattle.std.specs.Prelude.{IsSome, option_and_then, slice_get, take};
 ghost use Rattle.std.specs.List.{AllZip};
 ghost use Rattle.st_core.specs.declared.types.Act.{Act};
 ghost use Rattle.st_core.specs.declared.types.Event.{Event};
@@ -9,12 +10,13 @@ ghost use Rattle.st_core.specs.declared.types.Kind.TheVariants as kind;
 ghost use Rattle.st_core.specs.declared.types.Pid.{Pid};
 ghost use Rattle.st_core.specs.declared.types.Token.{Token};
 ghost use Rattle.st_core.specs.Laws.{AreAllListed, IsLeastUnlisted, LeavesOthers, IsStamped, KeepsSound, ReportsAmong};
-ghost use Rattle.st_core.specs.Laws.{ClocksNeverFall, LiftsClock, NoReset, Reports, ReportsEvent};
+ghost use Rattle.st_core.specs.Laws.{ClocksNeverFall, GoesOnFrom, LiftsClock, NoReset, Reports, ReportsEverything};
+ghost use Rattle.st_core.specs.Laws.{ReportsEvent};
 ghost use Rattle.st_core.specs.Pid.{IsRising};
 ghost use Rattle.st_core.specs.Streams.{unlisted};
 ghost use Rattle.st_core.specs.Pairs.{AllPaired, Follows, IsFollowing, pairs};
 ghost use Rattle.st_core.specs.Run.{Shows, Stream, pids_of, run, stream};
-ghost use Rattle.st_core.specs.State.{LocalState, State};
+ghost use Rattle.st_core.specs.State.{LocalState, State, zero_state};
 ghost use Rattle.st_core.specs.Step.{Outcome, step};
 ghost use Rattle.st_core.specs.Stamp.{stamp};
 ghost use Rattle.st_core.specs.Verdict.{Verdict, IsVerdict};
@@ -90,6 +92,22 @@ pub fn followed_sends_lift_clocks()
     ensures { (top : ℕ) (pids : List Pid) (acts : List Act) (os : List Outcome)
         → run top pids acts ≡ Some os → NoReset acts → (r s : ℕ) (follows : IsFollowing acts os r s)
         → LiftsClock os follows.event.from follows.event.serial.this s }
+{}
+
+/// In a run without a reset that reports every stamp and every receive of a token, a process's
+/// events tell its counts: each send or print goes on from those before it.
+pub fn full_reports_tell_counts()
+    ensures { (top : ℕ) (pids : List Pid) (acts : List Act) (os : List Outcome)
+        → run top pids acts ≡ Some os → NoReset acts → ReportsEverything (zero_state pids) acts os
+        → (p : Pid) (i : ℕ) (e : Event) → slice_get (stream acts os p) i ≡ Some e → e.kind ≢ kind.Receive
+        → GoesOnFrom (take i (stream acts os p)) e }
+{}
+
+/// In a run that reports them all, the send that a reported receive follows is reported too.
+pub fn full_reports_have_sends()
+    ensures { (top : ℕ) (pids : List Pid) (acts : List Act) (os : List Outcome)
+        → run top pids acts ≡ Some os → ReportsEverything (zero_state pids) acts os
+        → (r s : ℕ) → IsFollowing acts os r s → IsSome (option_and_then (λ o. o.report) (slice_get os s)) }
 {}
 
 /// Streams and acts have a verdict.
