@@ -16,14 +16,14 @@ pub use Rattle.st_core.proofs.Others.{process_pid, process-map, mapped, Stepped,
 pub use Rattle.st_core.proofs.Others.{leaves_others}
 pub use Rattle.st_core.proofs.Steps.{reached_pid, changed_pid, changed_untouched}
 pub use Rattle.st_core.proofs.Runs.{one_verdict, run_from-take}
-pub use Rattle.st_core.proofs.Zips.{AllZip_length, drop_first, drop_rest, remove_past}
+pub use Rattle.st_core.proofs.Zips.{AllZip_length, AllZip_at, drop_first, drop_rest, remove_past}
 -- ---- what every run keeps
 pub use Rattle.st_core.proofs.Sound.{All_at, run_sound, stamp_any_sound, process_holds, pick_found, step_sound}
 pub use Rattle.st_core.proofs.Sound.{zero_sound}
 pub use Rattle.st_core.proofs.Names.{run_named, zero_pids, process_among}
 pub use Rattle.st_core.proofs.Following.{receives_follow}
 pub use Rattle.st_core.proofs.Paired.{receives_are_paired}
-pub use Rattle.st_core.proofs.Reports.{event_reported, reported_in_order}
+pub use Rattle.st_core.proofs.Reports.{event_reported, reported_in_order, report_told}
 pub use Rattle.st_core.proofs.Clocks.{reported_sends_agree}
 -- ---- what every run without a reset keeps
 pub use Rattle.st_core.proofs.Clocks.{reported_stamps_lift, followed_sends_lift, lifted_once, lifted_later}

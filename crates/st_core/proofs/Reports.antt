@@ -1,20 +1,20 @@
--- An event of a process's stream is the report of one of its acts, since a stream is its acts' reports in their order:
--- so of two events the earlier one is an earlier act's.
+-- An event of a process's stream is the report of one of its acts, and each report an event, since a stream is its
+-- acts' reports in their order: so of two events the earlier one is an earlier act's.
 use Rattle.std.proofs.Common.{◌≡◌, ℕ, ◌+◌, ◌<◌, ◌≤◌, ◌⊎◌, zero, suc, Bool, true, false, List, [], ◌∷◌, ◌++◌, length}
 use Rattle.std.proofs.Common.{take, drop, Option, Some, None, option_to_list, inl, inr, refl, sym, ◌∙◌, ap, arith}
 use Rattle.std.proofs.Common.{length-append, if◌then◌else◌}
 use Rattle.std.specs.List.{slice_get}
 use Rattle.std.proofs.lemmas.Bool.{cases_lt}
 use Rattle.std.proofs.lemmas.List.{take-take}
-use Rattle.std.proofs.lemmas.Option.{none-some}
+use Rattle.std.proofs.lemmas.Option.{same_Some, none-some}
 use Rattle.st_core.specs.declared.types.Pid.{Pid}
 use Rattle.st_core.specs.declared.types.Event.{Event}
 use Rattle.st_core.specs.declared.types.Act.{Act}
 use Rattle.st_core.specs.Pid.{pid_eq}
 use Rattle.st_core.specs.Step.{Outcome, actor}
 use Rattle.st_core.specs.Run.{stream}
-use Rattle.st_core.specs.Laws.{ReportsEvent}
-use Rattle.st_core.proofs.Pids.{pid_eq-true}
+use Rattle.st_core.specs.Laws.{Reports, ReportsEvent}
+use Rattle.st_core.proofs.Pids.{pid_eq-true, pid_eq-same}
 use Rattle.st_core.proofs.Runs.{stream-take}
 
 -- what an act reports for p
@@ -82,3 +82,26 @@ reported_in_order acts os p i j m n d e first second less = elim (cases_lt m n) 
       let there = second.before in
       absurd (omega arith)
 ]
+
+-- behind what an earlier act reports
+behind : {A : Type 0} (xs ys : List A) (i j : ℕ) → length xs + j ≡ i → slice_get (xs ++ ys) i ≡ slice_get ys j
+behind [] ys i j e = let same : i ≡ j = omega arith in ap (slice_get ys) same
+behind (x ∷ xs) ys zero j e = absurd (omega arith)
+behind (x ∷ xs) ys (suc i) j e = behind xs ys i j (omega arith)
+
+-- each report stands in its process's stream, behind those of the acts before
+pub report_told : (acts : List Act) (os : List Outcome) (p : Pid) (n : ℕ) (e : Event) → Reports acts os p n e
+    → slice_get (stream acts os p) (length (stream (take n acts) (take n os) p)) ≡ Some e
+report_told [] os p n e r = absurd (none-some r.act r.at)
+report_told (a ∷ acts) [] p n e r = absurd (none-some e r.report)
+report_told (a ∷ acts) (o ∷ os) p zero e r =
+    let tail = stream acts os p in
+    let mine : pid_eq (actor a) p ≡ true =
+    ap (λ q. pid_eq q p) (ap actor (same_Some a r.act r.at) ∙ r.own) ∙ pid_eq-same p in
+    let here = λ (b : Bool) (x : Option Event). slice_get ((if b then option_to_list x else []) ++ tail) 0 in
+    ap (λ b. here b o.report) mine ∙ ap (here true) r.report
+report_told (a ∷ acts) (o ∷ os) p (suc n) e r =
+    let rest = stream (take n acts) (take n os) p in
+    let later = report_told acts os p n e (record { act = r.act; at = r.at; own = r.own; report = r.report }) in
+    behind (told p a o) (stream acts os p) (length (told p a o ++ rest)) (length rest)
+    (sym (length-append (told p a o) rest)) ∙ later

@@ -2,7 +2,7 @@
 //! definitions of `specs/`, and a proof that calls the function may use it.
 
 ghost use Rattle.std.specs.Prelude.{◌≡◌, ◌≢◌, ◌≤◌, ◌↔◌, ℕ, List, MatchOption, Some, All};
-ghost use Rattle.std.specs.Prelude.{IsSome, option_and_then, slice_get, take};
+ghost use Rattle.std.specs.Prelude.{IsSome, length, option_and_then, slice_get, take};
 ghost use Rattle.std.specs.List.{AllZip};
 ghost use Rattle.st_core.specs.declared.types.Act.{Act};
 ghost use Rattle.st_core.specs.declared.types.Event.{Event};
@@ -70,6 +70,12 @@ pub fn reported_sends_agree()
 pub fn events_are_reports()
     ensures { (acts : List Act) (os : List Outcome) (p : Pid) (i : ℕ) (e : Event)
         → slice_get (stream acts os p) i ≡ Some e → (n : ℕ) × ReportsEvent acts os p i e n }
+{}
+
+/// Each report of an act stands in its process's stream, behind those of the acts before.
+pub fn reports_are_events()
+    ensures { (acts : List Act) (os : List Outcome) (p : Pid) (n : ℕ) (e : Event) → Reports acts os p n e
+        → slice_get (stream acts os p) (length (stream (take n acts) (take n os) p)) ≡ Some e }
 {}
 
 /// In a run without a reset no clock falls.
