@@ -245,10 +245,10 @@ module _ (streams : List Stream) (ok : IsPaired streams) (p : Pid) where
 
 -- BOTH DIRECTIONS
 
-abbrev source_by : List Stream → Event → Option Source
+abbrev pub source_by : List Stream → Event → Option Source
 source_by streams e = if is_stamp e then None else Some (source_of streams e)
 
-abbrev source_from : Pid → Option (ℕ × Event) → Source
+abbrev pub source_from : Pid → Option (ℕ × Event) → Source
 source_from q o = elim o [ None ↦ source.Hidden | Some f ↦ source.Event q f.0 ]
 
 abbrev receiver_by : List Stream → Pid → Event → Option (Pid × ℕ)

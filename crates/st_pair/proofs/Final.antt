@@ -65,10 +65,10 @@ send_agrees e =
 
 -- EVENTS OF A RUN
 
-abbrev AreShown : List Stream → List Act → List Outcome → Type 0
+abbrev pub AreShown : List Stream → List Act → List Outcome → Type 0
 AreShown streams acts os = All (λ (x : Stream). stream acts os x.pid ≡ x.events) streams
 
-shown_at : (streams : List Stream) (acts : List Act) (os : List Outcome) (p : Pid) (i : ℕ) (e : Event)
+pub shown_at : (streams : List Stream) (acts : List Act) (os : List Outcome) (p : Pid) (i : ℕ) (e : Event)
     → AreShown streams acts os → event_at streams p i ≡ Some e → slice_get (stream acts os p) i ≡ Some e
 shown_at [] acts os p i e shown at = absurd (none-some e at)
 shown_at (x ∷ streams) acts os p i e shown at =
@@ -180,14 +180,14 @@ module _ (top : ℕ) (streams : List Stream) (acts : List Act) (os : List Outcom
     -- THE SEND OF A RECEIVE
 
     -- a receive's pair, whose send lifts its process's clock to the receive's count
-    record IsTaken (n : ℕ) (e : Event) : Type 0 where
-      send : ℕ
-      paired : Contains (pairs acts os) (n, send)
-      follows : IsFollowing acts os n send
-      event : follows.event ≡ e
-      lifts : LiftsClock os e.from e.serial.this send
+    pub record IsTaken (n : ℕ) (e : Event) : Type 0 where
+      pub send : ℕ
+      pub paired : Contains (pairs acts os) (n, send)
+      pub follows : IsFollowing acts os n send
+      pub event : follows.event ≡ e
+      pub lifts : LiftsClock os e.from e.serial.this send
 
-    taken : (p : Pid) (i : ℕ) (e : Event) (n : ℕ) → ReportsEvent acts os p i e n → is_stamp e ≡ false → IsTaken n e
+    pub taken : (p : Pid) (i : ℕ) (e : Event) (n : ℕ) → ReportsEvent acts os p i e n → is_stamp e ≡ false → IsTaken n e
     taken p i e n r receives =
         let pids = pids_of streams in
         let reported = r.reports.report in

@@ -1,6 +1,6 @@
--- The lemmas that proofs of the crates above may cite: what an accepting pairing says of each event, what a refusing one
--- says of all acts, what a rule gives first, and where the stream of a process stands. They hold by the definitions
--- alone.
+-- The lemmas that proofs of the crates above may cite: what an accepting pairing says of each event, what a refusing
+-- one says of all acts, what a rule gives first, and where the stream of a process stands. They hold by the
+-- definitions alone.
 
 -- ---- what `refusal streams ≡ None` says of each event
 pub use Rattle.st_pair.proofs.Accepted.{Rule, IsPaired, paired, event_none, serial_rises, once_place}
@@ -8,8 +8,9 @@ pub use Rattle.st_pair.proofs.Accepted.{from_none, got_rule, cond_none}
 pub use Rattle.st_pair.proofs.Converse.{stamp_counts_rise, stamp_once, source_from_receiver, receiver_from_source}
 pub use Rattle.st_pair.proofs.Ruled.{stamp_at}
 pub use Rattle.st_pair.proofs.Owned.{own_rule}
--- ---- what `refusal streams ≡ Some f` says of all acts
+-- ---- what `refusal streams ≡ Some f` says of all acts, and acts that show streams of pairing
 pub use Rattle.st_pair.proofs.Final.{prev_never_shown, refused_never_shown}
+pub use Rattle.st_pair.proofs.FullyShown.{shown_accepted, send_shown}
 -- ---- what a rule gives first, in one stream and in all
 pub use Rattle.st_pair.proofs.Noted.{or_none, or_assoc}
 pub use Rattle.st_pair.proofs.Firsts.{first_from-at, first_from-end, first-at, first-end, first-loop}

@@ -9,5 +9,6 @@ pub mod Converse
 pub mod Leasts
 pub mod Reasons
 pub mod Final
+pub mod FullyShown
 mod Cases
 pub mod ForCallers

@@ -1,10 +1,13 @@
 //! Laws of pairing, as contracts of functions that do nothing: each clause is a theorem over the
 //! definitions of `specs/`, and a proof that calls the function may use it.
 
-ghost use Rattle.std.specs.Prelude.{◌≡◌, ◌<◌, ◌↔◌, ℕ, true, List, Option, None, Some};
+ghost use Rattle.std.specs.Prelude.{◌≡◌, ◌<◌, ◌↔◌, ℕ, true, false, List, Option, None, Some};
+ghost use Rattle.st_core.specs.declared.types.Act.{Act};
 ghost use Rattle.st_core.specs.declared.types.Event.{Event};
 ghost use Rattle.st_core.specs.declared.types.Pid.{Pid};
-ghost use Rattle.st_core.specs.Run.{Stream};
+ghost use Rattle.st_core.specs.Laws.{NoReset, ReportsEverything};
+ghost use Rattle.st_core.specs.Run.{Shows, Stream, pids_of};
+ghost use Rattle.st_core.specs.State.{zero_state};
 ghost use Rattle.st_core.specs.Streams.{IsStreams};
 ghost use Rattle.st_pair.specs.declared.answer.PairFault.{PairFault};
 ghost use Rattle.st_pair.specs.declared.answer.PairFault.TheVariants as fault;
@@ -46,4 +49,13 @@ pub fn prev_not_before_is_final()
 pub fn refusals_are_final_without_reset()
     ensures { (streams : List Stream) (reason : PairFault) →
         refusal streams ≡ Some reason → NeverShownInOneTrace streams }
+{}
+
+/// Where acts without a reset show streams and report every stamp and every receive of a token, no
+/// send is hidden: the source of each receive is an event.
+pub fn fully_shown_sends_are_events()
+    ensures { (top : ℕ) (streams : List Stream) (acts : List Act) (shows : Shows top streams acts) →
+        NoReset acts → ReportsEverything (zero_state (pids_of streams)) acts shows.0 →
+        (p : Pid) (i : ℕ) (e : Event) → event_at streams p i ≡ Some e → is_stamp e ≡ false →
+        (j : ℕ) × (source_at streams p i ≡ Some (source.Event e.from j)) }
 {}
