@@ -10,5 +10,6 @@ mod Next
 mod Opened
 mod Nothing
 mod Refused
+mod Finality
 mod Ending
 mod Stamping

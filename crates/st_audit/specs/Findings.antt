@@ -46,3 +46,11 @@ unfit_by (fault.Mismatch p i q j) = Some (finding.Unfit p i (reason.Mismatch q j
 -- where pairing refuses the streams, its reason is what is found
 abbrev pub HandsOn : List Stream → Finding → Type 0
 HandsOn streams found = (f : PairFault) → refusal streams ≡ Some f → unfit_by f ≡ Some found
+
+-- the reason of pairing that is found, if it is one
+abbrev pub fault_of : Finding → Option PairFault
+fault_of (finding.Unfit p i reason.PrevNotBefore) = Some (fault.PrevNotBefore p i)
+fault_of (finding.Unfit p i (reason.NotRising j)) = Some (fault.NotRising p i j)
+fault_of (finding.Unfit p i (reason.Repeated q j)) = Some (fault.Repeated p i q j)
+fault_of (finding.Unfit p i (reason.Mismatch q j)) = Some (fault.Mismatch p i q j)
+fault_of found = None

@@ -2,11 +2,13 @@
 
 ghost use Rattle.std.specs.Prelude.{◌≡◌, IfErr, IfOk, IsSome, None, [], ◌∷◌, Some};
 ghost use Rattle.st_core.specs.Streams.{IsStreams};
+ghost use Rattle.std.specs.Option.{ForSome};
 ghost use Rattle.st_order.specs.Order.{IsOrder};
 ghost use Rattle.st_pair.specs.Links.{IsPairing};
 ghost use Rattle.st_pair.specs.Pairing.{refusal, IsPairFault};
 ghost use Rattle.st_pair.specs.Places.{event_at};
-ghost use Rattle.st_audit.specs.Findings.{unfit_by, HandsOn, IsFinding};
+ghost use Rattle.st_pair.specs.Final.{IsPrevNotBefore, NeverShown, NeverShownInOneTrace};
+ghost use Rattle.st_audit.specs.Findings.{fault_of, unfit_by, HandsOn, IsFinding};
 ghost use Rattle.st_audit.specs.Reasons.{item_place};
 
 use crate::construction::{Construction, Halt};
@@ -122,12 +124,8 @@ fn found<const TOP: u64>(
     judged::<TOP>(alloc, streams, construction.into_acts(), place_of(end))
 }
 
-/// Finds a certificate for the streams, or an event and the reason why none was found. Its acts
-/// are built in the order of the items, stepped in a world from zero clocks, and judged by the
-/// checker: a certificate is one that the checker accepted.
-///
-/// It sorts on several threads, with one answer for every number of threads.
-pub fn audit<const TOP: u64>(
+/// What is found of streams.
+fn audited<const TOP: u64>(
     rt: &(impl Threads + Sync),
     alloc: Global,
     streams: &Streams,
@@ -149,4 +147,25 @@ pub fn audit<const TOP: u64>(
         return Err(AuditFault::Memory);
     };
     found::<TOP>(alloc, streams, pids, &pairing, items.as_slice())
+}
+
+/// Finds a certificate for the streams, or an event and the reason why none was found. Its acts
+/// are built in the order of the items, stepped in a world from zero clocks, and judged by the
+/// checker: a certificate is one that the checker accepted.
+///
+/// It sorts on several threads, with one answer for every number of threads.
+pub fn audit<const TOP: u64>(
+    rt: &(impl Threads + Sync),
+    alloc: Global,
+    streams: &Streams,
+) -> Result<Finding, AuditFault>
+    ensures found { IfOk result (IsFinding TOP streams.now) }
+    ensures handed_on { IfOk result (HandsOn streams.now) }
+
+    // Which reasons are final: no acts show streams with the first, and none without a reset streams with one of pairing.
+    ensures final_prev { IfOk result (λ found.
+        ForSome (fault_of found) (λ fault. IsPrevNotBefore fault → NeverShown streams.now)) }
+    ensures final_without_reset { IfOk result (λ found. IsSome (fault_of found) → NeverShownInOneTrace streams.now) }
+{
+    audited::<TOP>(rt, alloc, streams)
 }

@@ -1,9 +1,10 @@
--- A reason of pairing holds of the streams, at a place that has an event.
-use Rattle.std.proofs.Common.{sym, ◌∙◌}
-use Rattle.st_audit.proofs.Refused.{handed}
+-- A reason of pairing that is found is why pairing refuses the streams.
+use Rattle.st_audit.proofs.Finality.{prev_is_final, pairing_is_final}
 use Rattle.st_audit.proofs.auditing.audit.Goals as goal
 
-pub returns-in-Some-clause-found : goal.returns-in-Some-clause-found
-returns-in-Some-clause-found g c =
-    handed c.args.streams.now c.pids-pids.ensures.streams.draft.rising g.row.TOP c.in-Err.fault c.in-Some.finding
-    c.in-Err.ensures.err (sym c.unfit_by.ensures ∙ c.in-Some.is)
+pub returns-clause-final_prev : goal.returns-clause-final_prev
+returns-clause-final_prev g c = prev_is_final g.row.TOP c.args.streams.now _ c.audited.ensures.found
+
+pub returns-clause-final_without_reset : goal.returns-clause-final_without_reset
+returns-clause-final_without_reset g c =
+    pairing_is_final g.row.TOP c.args.streams.now _ c.audited.ensures.found

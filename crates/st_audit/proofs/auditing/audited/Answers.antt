@@ -1,0 +1,9 @@
+-- A reason of pairing holds of the streams, at a place that has an event.
+use Rattle.std.proofs.Common.{sym, ◌∙◌}
+use Rattle.st_audit.proofs.Refused.{handed}
+use Rattle.st_audit.proofs.auditing.audited.Goals as goal
+
+pub returns-in-Some-clause-found : goal.returns-in-Some-clause-found
+returns-in-Some-clause-found g c =
+    handed c.args.streams.now c.pids-pids.ensures.streams.draft.rising g.row.TOP c.in-Err.fault c.in-Some.finding
+    c.in-Err.ensures.err (sym c.unfit_by.ensures ∙ c.in-Some.is)
