@@ -1,6 +1,7 @@
 //! Tests of what no clause says: worked inputs and their outputs, byte for byte, that the program
 //! answers with ample memory, and devices that fail on the way. Where memory is refused they fail.
 
+mod audits;
 mod certificates;
 mod devices;
 mod faults;
@@ -71,5 +72,6 @@ fn worked_inputs_are_answered(rt: HostRuntime) -> Result<(), Fail> {
     expect_cases(&rt, "check", &nodes::CASES)?;
     expect_cases(&rt, "check", &faults::CASES)?;
     expect_cases(&rt, "replay", &replays::CASES)?;
+    expect_cases(&rt, "audit", &audits::CASES)?;
     Ok(())
 }

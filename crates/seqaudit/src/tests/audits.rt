@@ -1,0 +1,292 @@
+//! Streams that are audited: `audit` answers a certificate, or an event and a reason.
+
+use super::Case;
+
+pub static CASES: [Case; 17] = [
+    Case {
+        name: "audit_hidden_sends",
+        input: "seqtrace 1\n\
+            process <0.30.0>\n\
+            {seq_trace,17,{print,{0,1},<0.30.0>,[],7}}\n\
+            {seq_trace,17,{'receive',{2,4},<0.31.0>,<0.30.0>,6}}\n\
+            process <0.31.0>\n\
+            {seq_trace,17,{'receive',{0,2},<0.30.0>,<0.31.0>,5}}\n\
+            {seq_trace,17,{print,{2,3},<0.31.0>,[],8}}\n",
+        text: "seqtrace 1\n\
+            process <0.30.0>\n\
+            {seq_trace,17,{print,{0,1},<0.30.0>,[],7}}\n\
+            {seq_trace,17,{'receive',{2,4},<0.31.0>,<0.30.0>,6}}\n\
+            process <0.31.0>\n\
+            {seq_trace,17,{'receive',{0,2},<0.30.0>,<0.31.0>,5}}\n\
+            {seq_trace,17,{print,{2,3},<0.31.0>,[],8}}\n\
+            acts\n\
+            tracer <0.30.0> true\n\
+            restore <0.30.0> 17 false false true 0 0 <0.30.0>\n\
+            print <0.30.0> 7\n\
+            restore <0.30.0> 17 false true false 0 0 <0.30.0>\n\
+            send <0.30.0> <0.31.0> 5\n\
+            receive <0.31.0> place 0\n\
+            restore <0.31.0> 17 false false true 0 0 <0.31.0>\n\
+            print <0.31.0> 8\n\
+            restore <0.31.0> 17 false true false 0 0 <0.31.0>\n\
+            send <0.31.0> <0.30.0> 6\n\
+            receive <0.30.0> place 0\n",
+        status: 0,
+    },
+    Case {
+        name: "audit_mismatch",
+        input: "seqtrace 1\n\
+            process <0.30.0>\n\
+            {seq_trace,17,{print,{0,2},<0.30.0>,[],7}}\n\
+            process <0.31.0>\n\
+            {seq_trace,17,{'receive',{0,2},<0.30.0>,<0.31.0>,5}}\n",
+        text: "unfit <0.31.0> 0 mismatch <0.30.0> 0\n\
+            event <0.31.0> 0 {seq_trace,17,{'receive',{0,2},<0.30.0>,<0.31.0>,5}}\n\
+            event <0.30.0> 0 {seq_trace,17,{print,{0,2},<0.30.0>,[],7}}\n",
+        status: 1,
+    },
+    Case {
+        name: "audit_not_replayed",
+        input: "seqtrace 1\n\
+            process <0.30.0>\n\
+            process <0.31.0>\n\
+            {seq_trace,1,{'receive',{0,2},<0.30.0>,<0.31.0>,5}}\n\
+            {seq_trace,1,{'receive',{0,1},<0.32.0>,<0.31.0>,4}}\n\
+            {seq_trace,1,{print,{1,2},<0.31.0>,[],9}}\n\
+            process <0.32.0>\n",
+        text: "unfit <0.31.0> 2 notreplayed left <0.31.0>\n\
+            event <0.31.0> 2 {seq_trace,1,{print,{1,2},<0.31.0>,[],9}}\n\
+            acts\n\
+            tracer <0.30.0> true\n\
+            restore <0.32.0> 1 false true false 0 0 <0.32.0>\n\
+            send <0.32.0> <0.31.0> 4\n\
+            restore <0.30.0> 1 false false false 0 0 <0.30.0>\n\
+            print <0.30.0> 0\n\
+            restore <0.30.0> 1 false true false 0 0 <0.30.0>\n\
+            send <0.30.0> <0.31.0> 5\n",
+        status: 1,
+    },
+    Case {
+        name: "audit_not_rising",
+        input: "seqtrace 1\n\
+            process <0.30.0>\n\
+            {seq_trace,17,{print,{0,1},<0.30.0>,[],7}}\n\
+            {seq_trace,17,{print,{0,1},<0.30.0>,[],7}}\n\
+            acts\n\
+            tracer <0.30.0> true\n\
+            set <0.30.0> label 17\n\
+            set <0.30.0> print true\n\
+            print <0.30.0> 7\n\
+            reset <0.30.0>\n\
+            set <0.30.0> label 17\n\
+            set <0.30.0> print true\n\
+            print <0.30.0> 7\n",
+        text: "unfit <0.30.0> 1 notrising <0.30.0> 0\n\
+            event <0.30.0> 1 {seq_trace,17,{print,{0,1},<0.30.0>,[],7}}\n\
+            event <0.30.0> 0 {seq_trace,17,{print,{0,1},<0.30.0>,[],7}}\n",
+        status: 1,
+    },
+    Case {
+        name: "audit_nothing",
+        input: "seqtrace 1\n",
+        text: "seqtrace 1\n\
+            acts\n",
+        status: 0,
+    },
+    Case {
+        name: "audit_prev_before_not_rising",
+        input: "seqtrace 1\n\
+            process <0.30.0>\n\
+            {seq_trace,17,{print,{0,2},<0.30.0>,[],7}}\n\
+            {seq_trace,17,{print,{0,1},<0.30.0>,[],7}}\n\
+            {seq_trace,17,{print,{3,3},<0.30.0>,[],7}}\n",
+        text: "unfit <0.30.0> 2 prevnotbefore\n\
+            event <0.30.0> 2 {seq_trace,17,{print,{3,3},<0.30.0>,[],7}}\n",
+        status: 1,
+    },
+    Case {
+        name: "audit_prev_not_before",
+        input: "seqtrace 1\n\
+            process <0.30.0>\n\
+            {seq_trace,17,{print,{1,1},<0.30.0>,[],7}}\n",
+        text: "unfit <0.30.0> 0 prevnotbefore\n\
+            event <0.30.0> 0 {seq_trace,17,{print,{1,1},<0.30.0>,[],7}}\n",
+        status: 1,
+    },
+    Case {
+        name: "audit_repeated",
+        input: "seqtrace 1\n\
+            process <0.30.0>\n\
+            process <0.31.0>\n\
+            {seq_trace,17,{'receive',{0,2},<0.30.0>,<0.31.0>,5}}\n\
+            process <0.32.0>\n\
+            {seq_trace,17,{'receive',{0,2},<0.30.0>,<0.32.0>,5}}\n",
+        text: "unfit <0.32.0> 0 repeated <0.31.0> 0\n\
+            event <0.32.0> 0 {seq_trace,17,{'receive',{0,2},<0.30.0>,<0.32.0>,5}}\n\
+            event <0.31.0> 0 {seq_trace,17,{'receive',{0,2},<0.30.0>,<0.31.0>,5}}\n",
+        status: 1,
+    },
+    Case {
+        name: "audit_reported_send",
+        input: "seqtrace 1\n\
+            process <0.30.0>\n\
+            {seq_trace,17,{send,{0,1},<0.30.0>,<0.31.0>,5}}\n\
+            process <0.31.0>\n\
+            {seq_trace,17,{'receive',{0,1},<0.30.0>,<0.31.0>,5}}\n",
+        text: "seqtrace 1\n\
+            process <0.30.0>\n\
+            {seq_trace,17,{send,{0,1},<0.30.0>,<0.31.0>,5}}\n\
+            process <0.31.0>\n\
+            {seq_trace,17,{'receive',{0,1},<0.30.0>,<0.31.0>,5}}\n\
+            acts\n\
+            tracer <0.30.0> true\n\
+            restore <0.30.0> 17 true true false 0 0 <0.30.0>\n\
+            send <0.30.0> <0.31.0> 5\n\
+            receive <0.31.0> place 0\n",
+        status: 0,
+    },
+    Case {
+        name: "audit_self_sends_of_two",
+        input: "seqtrace 1\n\
+            process <0.31.0>\n\
+            {seq_trace,1,{'receive',{0,1},<0.31.0>,<0.31.0>,5}}\n\
+            process <0.32.0>\n\
+            {seq_trace,1,{'receive',{0,1},<0.32.0>,<0.32.0>,5}}\n",
+        text: "seqtrace 1\n\
+            process <0.31.0>\n\
+            {seq_trace,1,{'receive',{0,1},<0.31.0>,<0.31.0>,5}}\n\
+            process <0.32.0>\n\
+            {seq_trace,1,{'receive',{0,1},<0.32.0>,<0.32.0>,5}}\n\
+            acts\n\
+            tracer <0.31.0> true\n\
+            restore <0.31.0> 1 false true false 0 0 <0.31.0>\n\
+            send <0.31.0> <0.31.0> 5\n\
+            restore <0.32.0> 1 false true false 0 0 <0.32.0>\n\
+            send <0.32.0> <0.32.0> 5\n\
+            receive <0.31.0> place 0\n\
+            receive <0.32.0> place 0\n",
+        status: 0,
+    },
+    Case {
+        name: "audit_too_wide",
+        input: "seqtrace 1\n\
+            process <0.30.0>\n\
+            {seq_trace,17,{print,{0,1002},<0.30.0>,[],7}}\n",
+        text: "unfit <0.30.0> 0 toowide\n\
+            event <0.30.0> 0 {seq_trace,17,{print,{0,1002},<0.30.0>,[],7}}\n",
+        status: 1,
+    },
+    Case {
+        name: "audit_truncated",
+        input: "seqtrace 1\n\
+            process <0.30.0>\n\
+            {seq_trace,17,{print,{0,1},<0.30.0>,[],7}}\n\
+            {seq_trace,17,{'receive',{2,4},<0.31.0>,<0.30.0>,6}}\n\
+            process <0.31.0>\n\
+            {seq_trace,17,{'receive',{0,2},<0.30.0>,<0.31.0>,5}}\n\
+            {seq_trace,17,{print,{2,3},<0.31.0>,[],8}}",
+        text: "fault truncated\n",
+        status: 2,
+    },
+    Case {
+        name: "audit_two_uncaused",
+        input: "seqtrace 1\n\
+            process <0.30.0>\n\
+            {seq_trace,1,{'receive',{0,1},<0.31.0>,<0.30.0>,4}}\n\
+            process <0.31.0>\n\
+            {seq_trace,1,{'receive',{0,2},<0.30.0>,<0.31.0>,5}}\n",
+        text: "unfit <0.31.0> 0 uncaused\n\
+            event <0.31.0> 0 {seq_trace,1,{'receive',{0,2},<0.30.0>,<0.31.0>,5}}\n",
+        status: 1,
+    },
+    Case {
+        name: "audit_uncaused",
+        input: "seqtrace 1\n\
+            process <0.30.0>\n\
+            process <0.31.0>\n\
+            {seq_trace,1,{'receive',{0,5},<0.30.0>,<0.31.0>,4}}\n\
+            {seq_trace,1,{print,{2,6},<0.31.0>,[],9}}\n",
+        text: "unfit <0.31.0> 1 uncaused\n\
+            event <0.31.0> 1 {seq_trace,1,{print,{2,6},<0.31.0>,[],9}}\n",
+        status: 1,
+    },
+    Case {
+        name: "node_audit",
+        input: "seqtrace 2\n\
+            process <1.30.0>\n\
+            {seq_trace,17,{print,{0,1},<1.30.0>,[],7}}\n\
+            process <2.31.0>\n\
+            {seq_trace,17,{'receive',{0,2},<1.30.0>,<2.31.0>,5}}\n",
+        text: "seqtrace 2\n\
+            process <1.30.0>\n\
+            {seq_trace,17,{print,{0,1},<1.30.0>,[],7}}\n\
+            process <2.31.0>\n\
+            {seq_trace,17,{'receive',{0,2},<1.30.0>,<2.31.0>,5}}\n\
+            acts\n\
+            tracer <1.30.0> true\n\
+            tracer <2.31.0> true\n\
+            restore <1.30.0> 17 false false true 0 0 <1.30.0>\n\
+            print <1.30.0> 7\n\
+            restore <1.30.0> 17 false true false 0 0 <1.30.0>\n\
+            send <1.30.0> <2.31.0> 5\n\
+            receive <2.31.0> place 0\n",
+        status: 0,
+    },
+    Case {
+        name: "node_reset_audited",
+        input: "seqtrace 2\n\
+            process <1.30.0>\n\
+            process <2.31.0>\n\
+            {seq_trace,17,{'receive',{0,1},<1.30.0>,<2.31.0>,5}}\n\
+            {seq_trace,17,{'receive',{0,1},<1.30.0>,<2.31.0>,5}}\n\
+            acts\n\
+            tracer <1.30.0> true\n\
+            tracer <2.31.0> true\n\
+            set <1.30.0> label 17\n\
+            set <1.30.0> receive true\n\
+            send <1.30.0> <2.31.0> 5\n\
+            reset <1.30.0>\n\
+            set <1.30.0> label 17\n\
+            set <1.30.0> receive true\n\
+            send <1.30.0> <2.31.0> 5\n\
+            receive <2.31.0> first\n\
+            receive <2.31.0> first\n",
+        text: "unfit <2.31.0> 1 repeated <2.31.0> 0\n\
+            event <2.31.0> 1 {seq_trace,17,{'receive',{0,1},<1.30.0>,<2.31.0>,5}}\n\
+            event <2.31.0> 0 {seq_trace,17,{'receive',{0,1},<1.30.0>,<2.31.0>,5}}\n",
+        status: 1,
+    },
+    Case {
+        name: "tampered_serial_audited",
+        input: "seqtrace 1\n\
+            process <0.30.0>\n\
+            {seq_trace,17,{print,{0,1},<0.30.0>,[],7}}\n\
+            {seq_trace,17,{'receive',{2,4},<0.31.0>,<0.30.0>,6}}\n\
+            process <0.31.0>\n\
+            {seq_trace,17,{'receive',{0,3},<0.30.0>,<0.31.0>,5}}\n\
+            {seq_trace,17,{print,{2,3},<0.31.0>,[],8}}\n\
+            acts\n\
+            tracer <0.30.0> true\n\
+            restore <0.30.0> 17 false false true 0 0 <0.30.0>\n\
+            print <0.30.0> 7\n\
+            restore <0.30.0> 17 false true false 0 0 <0.30.0>\n\
+            send <0.30.0> <0.31.0> 5\n\
+            receive <0.31.0> place 0\n\
+            restore <0.31.0> 17 false false true 0 0 <0.31.0>\n\
+            print <0.31.0> 8\n\
+            restore <0.31.0> 17 false true false 0 0 <0.31.0>\n\
+            send <0.31.0> <0.30.0> 6\n\
+            receive <0.30.0> place 0\n",
+        text: "unfit <0.31.0> 1 notreplayed left <0.30.0>\n\
+            event <0.31.0> 1 {seq_trace,17,{print,{2,3},<0.31.0>,[],8}}\n\
+            acts\n\
+            tracer <0.30.0> true\n\
+            restore <0.30.0> 17 false false true 0 0 <0.30.0>\n\
+            print <0.30.0> 7\n\
+            restore <0.30.0> 17 false false false 0 0 <0.30.0>\n\
+            print <0.30.0> 0\n\
+            restore <0.30.0> 17 false true false 0 0 <0.30.0>\n\
+            send <0.30.0> <0.31.0> 5\n",
+        status: 1,
+    },
+];
