@@ -3,6 +3,7 @@
 
 mod audits;
 mod certificates;
+mod charts;
 mod devices;
 mod faults;
 mod limits;
@@ -46,17 +47,17 @@ fn expect<H: Abort + AllocGlobal + Threads + Sync>(
     Ok(())
 }
 
-/// The same for each case of a command.
+/// The same for each case of a command's words.
 fn expect_cases<H: Abort + AllocGlobal + Threads + Sync>(
     rt: &H,
-    command: &str,
+    words: &[&str],
     cases: &[Case],
 ) -> Result<(), AllocError> {
     for case in cases {
         expect(
             rt,
             case.name,
-            &["seqaudit", command],
+            words,
             case.input.as_bytes(),
             case.text.as_bytes(),
             case.status,
@@ -67,11 +68,27 @@ fn expect_cases<H: Abort + AllocGlobal + Threads + Sync>(
 
 #[test]
 fn worked_inputs_are_answered(rt: HostRuntime) -> Result<(), Fail> {
-    expect_cases(&rt, "check", &certificates::CASES)?;
-    expect_cases(&rt, "check", &refused::CASES)?;
-    expect_cases(&rt, "check", &nodes::CASES)?;
-    expect_cases(&rt, "check", &faults::CASES)?;
-    expect_cases(&rt, "replay", &replays::CASES)?;
-    expect_cases(&rt, "audit", &audits::CASES)?;
+    expect_cases(&rt, &["seqaudit", "check"], &certificates::CASES)?;
+    expect_cases(&rt, &["seqaudit", "check"], &refused::CASES)?;
+    expect_cases(&rt, &["seqaudit", "check"], &nodes::CASES)?;
+    expect_cases(&rt, &["seqaudit", "check"], &faults::CASES)?;
+    expect_cases(&rt, &["seqaudit", "replay"], &replays::CASES)?;
+    expect_cases(&rt, &["seqaudit", "audit"], &audits::CASES)?;
+    expect_cases(&rt, &["seqaudit", "chart", "--label", "17"], &charts::CASES)?;
+    Ok(())
+}
+
+#[test]
+fn a_label_that_no_item_has_is_told(rt: HostRuntime) -> Result<(), Fail> {
+    let words = ["seqaudit", "chart", "--label", "+018"];
+    let input = charts::CASES[0].input.as_bytes();
+    expect(
+        &rt,
+        "chart_label_missing",
+        &words,
+        input,
+        b"no label 18\n",
+        1,
+    )?;
     Ok(())
 }
