@@ -20,8 +20,8 @@ finding_status (finding.Unfit p i r) = 1
 abbrev pub reported : List Stream → Finding → Output
 reported streams found = record { text = report_text streams found; status = finding_status found }
 
--- The bytes spell streams, of which this is found: acts that the checker accepts, or an event that is there and a reason
--- that holds there. Where pairing refuses the streams, its reason is what is found.
+-- The bytes spell streams, of which this is found: acts that the checker accepts, or an event that is there and a
+-- reason that holds there. Where pairing refuses the streams, its reason is what is found.
 pub record HasFinding (bytes : List ℕ) (streams : List Stream) (found : Finding) : Type 0 where
   pub given : Option (List Act)
   pub spelled : Spells bytes streams given

@@ -162,7 +162,7 @@ pub fn audit<const TOP: u64>(
     ensures found { IfOk result (IsFinding TOP streams.now) }
     ensures handed_on { IfOk result (HandsOn streams.now) }
 
-    // Which reasons are final: no acts show streams with the first, and none without a reset streams with one of pairing.
+    // Which reasons are final: of the first no acts show the streams, of all four of pairing none without a reset.
     ensures final_prev { IfOk result (λ found.
         ForSome (fault_of found) (λ fault. IsPrevNotBefore fault → NeverShown streams.now)) }
     ensures final_without_reset { IfOk result (λ found. IsSome (fault_of found) → NeverShownInOneTrace streams.now) }
