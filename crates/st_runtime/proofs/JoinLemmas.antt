@@ -1,7 +1,7 @@
 -- Pieces whose entries are whole and whose pids are seated fit, and their logs' run is theirs: each seat is one that a
 -- log tells of, so that its calls are that process's in the run.
-use Rattle.std.proofs.Common.{◌≡◌, ℕ, List, [], ◌∷◌, map, Option, refl, sym, ◌∙◌, ap, subst, inl, inr, ⊎_elim}
-use Rattle.std.specs.Prelude.{filter, All}
+use Rattle.std.proofs.Common.{◌≡◌, ℕ, List, [], ◌∷◌, map, refl, sym, ◌∙◌, ap, subst, inl, inr, ⊎_elim}
+use Rattle.std.specs.Prelude.{filter}
 use Rattle.st_core.specs.declared.types.Pid.{Pid}
 use Rattle.st_core.specs.Pid.{pid_eq}
 use Rattle.st_core.proofs.ForCallers.{pid_eq-same}
@@ -10,7 +10,7 @@ use Rattle.st_runtime.specs.declared.record.Record.{Record}
 use Rattle.st_runtime.specs.Joined.{IsOneRun, IsJoined}
 use Rattle.st_runtime.specs.Joining.{IsLogged}
 use Rattle.st_runtime.specs.Pcb.{Control}
-use Rattle.st_runtime.specs.Pieces.{Parts, pids_in, AreWhole, calls_of, seat_of, seats_at, seats_told, IsSeated, IsFit}
+use Rattle.st_runtime.specs.Pieces.{Parts, AreWhole, calls_of, seat_of, seats_told, IsSeated}
 use Rattle.st_runtime.specs.Seat.{Calls}
 use Rattle.st_runtime.proofs.Members.{In, All-In, In-All, In-filter, In-to_filter}
 

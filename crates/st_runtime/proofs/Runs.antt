@@ -7,14 +7,14 @@ use Rattle.st_core.specs.declared.types.Pid.{Pid}
 use Rattle.st_core.specs.declared.types.Act.{Act}
 use Rattle.st_core.specs.Pid.{pid_eq}
 use Rattle.st_core.specs.State.{Process, State, process, zero_state}
-use Rattle.st_core.specs.Step.{Acted, Outcome, acted, actor, receiver, touches, changed, outcome_of, step}
+use Rattle.st_core.specs.Step.{Acted, Outcome, actor, receiver, touches, changed, outcome_of, step}
 use Rattle.st_core.specs.Run.{Stream, run, run_from, stream, pids_of}
 use Rattle.st_core.specs.Collected.{is_among}
 use Rattle.st_core.proofs.ForCallers.{pid_eq-true}
 use Rattle.st_core.proofs.ForCallers.{changed_pid, changed_untouched}
 use Rattle.st_core.proofs.ForCallers.{process_pid, process-map, mapped}
 use Rattle.st_runtime.specs.declared.entry.Entry.{Entry}
-use Rattle.st_runtime.specs.Logs.{carried_by, IsPart, LeadTo, zero_process}
+use Rattle.st_runtime.specs.Logs.{IsPart, LeadTo, zero_process}
 use Rattle.st_runtime.specs.Pcb.{Control, IsKept}
 use Rattle.st_runtime.specs.Pieces.{pids_in, HasIfTouched, IsWhole, AreWhole, calls_of}
 use Rattle.st_runtime.specs.Joined.{reports_of, streams_of, IsMerged, IsOneRun}

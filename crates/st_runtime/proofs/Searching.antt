@@ -1,7 +1,7 @@
 -- A binary search by a key ends where a search of the keys would, and keys that rise stand at one place each.
-use Rattle.std.proofs.Common.{◌≡◌, ℕ, zero, suc, ◌<◌, ◌≤◌, List, [], ◌∷◌, length, map, get_or, Option, Some, refl}
-use Rattle.std.proofs.Common.{sym, ◌∙◌, ap, subst, arith, Result, Ok, Err, inl, inr, ⊎_elim}
-use Rattle.std.specs.Prelude.{Contains, MatchResult, slice_get}
+use Rattle.std.proofs.Common.{◌≡◌, ℕ, zero, suc, ◌<◌, ◌≤◌, List, [], ◌∷◌, length, map, get_or, Some}
+use Rattle.std.proofs.Common.{◌∙◌, ap, subst, arith, Result, Ok, Err, ⊎_elim}
+use Rattle.std.specs.Prelude.{Contains, slice_get}
 use Rattle.std.specs.Ordering.{nat_cmp, ordering_index}
 use Rattle.std.specs.List.Sorted.{IsBinarySearchResult, IsSearchInRange}
 use Rattle.std.specs.declared.cmp.Ordering.{Ordering}

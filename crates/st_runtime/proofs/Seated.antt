@@ -3,7 +3,7 @@
 use Rattle.std.proofs.Common.{◌≡◌, ◌||◌, ℕ, ◌+◌, ◌-◌, ◌≤◌, nat_eq, ◌<◌, Bool, true, false, cond, List, [], ◌∷◌, ◌++◌}
 use Rattle.std.proofs.Common.{length, map, take, drop, get_or}
 use Rattle.std.proofs.Common.{Option, Some, None, IsTrue, ◌↔◌, refl, sym, ◌∙◌, ap, subst, arith, inl, inr, ⊎_elim, ◌⊎◌}
-use Rattle.std.specs.Prelude.{filter, All, IfSome, MatchOption}
+use Rattle.std.specs.Prelude.{filter, IfSome, MatchOption}
 use Rattle.std.specs.declared.cmp.Ordering.{Ordering}
 use Rattle.std.specs.declared.cmp.Ordering.TheVariants.{Less, Equal, Greater}
 use Rattle.std.specs.Ordering.{is_lt}
@@ -16,7 +16,7 @@ use Rattle.st_core.specs.declared.types.Reply.{Reply}
 use Rattle.st_core.specs.Pid.{pid_cmp, pid_eq, IsBelow, IsRising}
 use Rattle.st_core.specs.Step.{actor}
 use Rattle.st_core.specs.Streams.{is_among}
-use Rattle.st_core.proofs.ForCallers.{pid_eq-true, pid_eq-same, IsBelow-apart, IsBelow-trans, pid_cmp-Equal}
+use Rattle.st_core.proofs.ForCallers.{pid_eq-true, pid_eq-same, IsBelow-apart, IsBelow-trans}
 use Rattle.st_runtime.specs.declared.entry.Entry.{Entry}
 use Rattle.st_runtime.specs.Joining.{IsLeastUnseated, lesser}
 use Rattle.st_runtime.specs.Pcb.{Control}

@@ -1,13 +1,13 @@
 -- An act that isn't one of a whole node touches its actor and a send's receiver alone; and pids that rise tell
 -- processes apart.
-use Rattle.std.proofs.Common.{◌≡◌, ◌≢◌, cond, ℕ, zero, suc, ◌<◌, Bool, true, false, ◌||◌, List, [], ◌∷◌, length, map}
+use Rattle.std.proofs.Common.{◌≡◌, cond, ℕ, ◌<◌, Bool, true, false, ◌||◌, List, [], ◌∷◌, length}
 use Rattle.std.proofs.Common.{get_or}
-use Rattle.std.proofs.Common.{Some, refl, sym, ◌∙◌, ap, subst, arith, inl, inr, ⊎_elim, ◌⊎◌}
+use Rattle.std.proofs.Common.{Some, refl, sym, ◌∙◌, ap, subst, inl, inr, ⊎_elim, ◌⊎◌}
 use Rattle.std.specs.Prelude.{All, Contains, slice_get}
 use Rattle.st_core.specs.declared.types.Pid.{Pid}
 use Rattle.st_core.specs.declared.types.Act.{Act}
 use Rattle.st_core.specs.declared.types.Act.TheVariants as act
-use Rattle.st_core.specs.Pid.{pid_eq, node_eq, IsBelow, IsRising}
+use Rattle.st_core.specs.Pid.{pid_eq, IsBelow, IsRising}
 use Rattle.st_core.specs.Step.{actor, receiver, touches}
 use Rattle.st_core.specs.Streams.{is_among}
 use Rattle.st_core.proofs.ForCallers.{pid_eq-true, pid_eq-same, IsBelow-apart}
@@ -103,10 +103,6 @@ touches_receiver (act.Reset p) = touches_actor (act.Reset p)
 touches_receiver (act.Tracer p b) = touches_actor (act.Tracer p b)
 touches_receiver a = touches_actor a
 
-wide_receiver : (a : Act) → is_wide a ≡ true → receiver a ≡ actor a
-wide_receiver (act.Send p q v) wide = absurd (cc)
-wide_receiver a wide = refl
-
 -- an entry that the actor and a send's receiver have is whole
 pub whole_of_two : (xs : List Control) (e : Entry) → IsRising (pids_in xs) → is_wide e.act ≡ false
     → HasAt xs (actor e.act) e → HasAt xs (receiver e.act) e → IsWhole xs e
@@ -117,15 +113,6 @@ whole_of_two xs e rising narrow from to = record {
       (λ mine. has_at_one xs x (actor e.act) e rising (In-Contains x xs i) mine from)
       (λ theirs. has_at_one xs x (receiver e.act) e rising (In-Contains x xs i) theirs to)
       (touches_two e.act x.process.pid narrow touched));
-}
-
--- an entry of a whole node, which each of its processes has, is whole
-pub whole_of_node : (xs : List Control) (e : Entry) → is_wide e.act ≡ true
-    → is_among (pids_in xs) (actor e.act) ≡ true → All (HasIfTouched e) xs → IsWhole xs e
-whole_of_node xs e wide actor_in everywhere = record {
-  actor = actor_in;
-  receiver = ap (is_among (pids_in xs)) (wide_receiver e.act wide) ∙ actor_in;
-  everywhere = everywhere;
 }
 
 has_at_of : (xs : List Control) (e : Entry) (p : Pid) → touches e.act p ≡ true → is_among (pids_in xs) p ≡ true

@@ -51,19 +51,3 @@ pub enum JoinFault {
     /// doesn't tell of. The least such process.
     SeatDiffers(Pid),
 }
-
-/// Why scripts that were driven left no record.
-#[derive(Clone, Copy, Debug, PartialEq, Eq)]
-pub enum DriveFault {
-    /// Refusal 1: no memory. Where an act was refused for it, too.
-    Memory,
-    /// Refusal 2: the process's act of this number, counted from 0, was refused. Its worker stopped
-    /// there. The least such process.
-    Act(Pid, u64, ActFault),
-    /// Refusal 3: what the workers left is not joined.
-    Join(JoinFault),
-    /// Refusal 4: a worker's thread could not be started. Those that were started ended first.
-    Thread,
-    /// Refusal 5: the pids do not rise strictly.
-    NotRising,
-}

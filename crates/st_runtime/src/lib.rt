@@ -30,7 +30,7 @@ mod system;
 mod whole;
 
 pub use entry::Entry;
-pub use fault::{ActFault, DriveFault, JoinFault, OpenFault, PcbFault};
+pub use fault::{ActFault, JoinFault, OpenFault, PcbFault};
 pub use gate::{Gate, OpenGate};
 pub use join::join_pieces;
 pub use pcb::Pcb;

@@ -1,7 +1,7 @@
 //! Which entries stand in the log of each process that their acts touch.
 
-ghost use Rattle.std.specs.Prelude.{◌≡◌, ◌<◌, length, take, true, All, Contains, slice_get, slice_index_or, is_some};
-ghost use Rattle.std.specs.Prelude.{Some, IfSome, MatchBool, MatchOption};
+ghost use Rattle.std.specs.Prelude.{◌≡◌, ◌<◌, length, take, true, All, Contains, slice_get, slice_index_or};
+ghost use Rattle.std.specs.Prelude.{is_some, Some, IfSome, MatchBool, MatchOption};
 ghost use Rattle.st_core.specs.Pid.{IsRising};
 ghost use Rattle.st_core.specs.Step.{touches};
 ghost use Rattle.st_core.specs.Streams.{is_among};

@@ -1,8 +1,7 @@
 -- What was found of the slices holds of the pieces, whose processes and seats they are.
 use Rattle.std.proofs.Common.{◌≡◌, ◌∙◌, subst}
-use Rattle.st_core.specs.declared.types.Pid.{Pid}
 use Rattle.st_runtime.specs.Joined.{IsJoined}
-use Rattle.st_runtime.specs.Pieces.{Parts, AreWhole, IsSeated, IsFirstUnseated, IsFit}
+use Rattle.st_runtime.specs.Pieces.{Parts, AreWhole, IsFirstUnseated, IsFit}
 use Rattle.st_runtime.proofs.JoinLemmas.{joined}
 use Rattle.st_runtime.proofs.join.join_pieces.Goals as goal
 

@@ -1,4 +1,4 @@
-use Rattle.std.proofs.Common.{◌≡◌, arith}
+use Rattle.std.proofs.Common.{arith}
 use Rattle.st_runtime.proofs.Seated.{calls_end}
 use Rattle.st_runtime.proofs.seating.holds_calls.Goals as goal
 

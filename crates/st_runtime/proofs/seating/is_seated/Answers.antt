@@ -1,7 +1,6 @@
 -- The logs tell of one seat where there is a log, and of none where there is not.
-use Rattle.std.proofs.Common.{◌≡◌, List, [], ◌∷◌, false, sym, ◌∙◌, ap}
-use Rattle.st_runtime.specs.Pieces.{calls_of, seats_at}
-use Rattle.st_runtime.specs.Seat.{Calls}
+use Rattle.std.proofs.Common.{[], ◌∷◌, sym, ◌∙◌, ap}
+use Rattle.st_runtime.specs.Pieces.{calls_of}
 use Rattle.st_runtime.proofs.Members.{Contains-In}
 use Rattle.st_runtime.proofs.Seated.{none_told, one_told}
 use Rattle.st_runtime.proofs.Wholeness.{control_at}

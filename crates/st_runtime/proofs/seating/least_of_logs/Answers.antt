@@ -1,4 +1,4 @@
-use Rattle.std.proofs.Common.{◌≡◌, Option, sym, ◌∙◌, ap, subst, take, ◌+◌}
+use Rattle.std.proofs.Common.{Option, sym, ◌∙◌, ap, subst, take, ◌+◌}
 use Rattle.st_core.specs.declared.types.Pid.{Pid}
 use Rattle.st_runtime.specs.Joining.{IsLeastUnseated, lesser}
 use Rattle.st_runtime.specs.Pcb.{Control}

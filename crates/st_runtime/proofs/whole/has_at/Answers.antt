@@ -1,9 +1,6 @@
 -- Pids rise, so that the process that a search finds is the only one of its pid.
-use Rattle.std.proofs.Common.{◌≡◌, true, false, sym, ◌∙◌, ap, subst, get_or, inl, refl}
+use Rattle.std.proofs.Common.{sym, subst}
 use Rattle.std.specs.Prelude.{Contains}
-use Rattle.st_runtime.specs.declared.entry.Entry.{Entry}
-use Rattle.st_runtime.specs.Joining.{HasAt}
-use Rattle.st_runtime.specs.Pcb.{Control}
 use Rattle.st_runtime.proofs.PartLemmas.{match_test}
 use Rattle.st_runtime.proofs.Legal.{on_true, on_false}
 use Rattle.st_runtime.proofs.Wholeness.{control_at, has_at_one, not_among}

@@ -1,6 +1,5 @@
 -- Ranks rise, so that the entry stands at the place that a search for its rank finds, or nowhere.
-use Rattle.std.proofs.Common.{◌≡◌, rules, true, false, sym, ◌∙◌, get_or}
-use Rattle.std.specs.Prelude.{Contains}
+use Rattle.std.proofs.Common.{rules, sym, ◌∙◌}
 use Rattle.std.proofs.lemmas.List.Sorted.{answers_always}
 use Rattle.std.proofs.lemmas.List.{get_or_default}
 use Rattle.st_runtime.specs.declared.entry.Entry.{Entry}

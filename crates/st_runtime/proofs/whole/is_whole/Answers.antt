@@ -1,7 +1,6 @@
 -- An act that isn't one of a whole node touches its actor and a send's receiver alone.
-use Rattle.std.proofs.Common.{◌≡◌, true, false, sym, ◌∙◌, ap, subst}
+use Rattle.std.proofs.Common.{sym, ◌∙◌, subst}
 use Rattle.st_core.specs.declared.types.Pid.{Pid}
-use Rattle.st_core.specs.Step.{actor, receiver}
 use Rattle.st_runtime.specs.Joining.{HasAt}
 use Rattle.st_runtime.proofs.PartLemmas.{match_test}
 use Rattle.st_runtime.proofs.Legal.{on_true, on_false}

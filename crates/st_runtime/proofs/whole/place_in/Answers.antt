@@ -1,13 +1,12 @@
 -- A binary search by pid finds a process in a list whose pids rise exactly where it stands there.
-use Rattle.std.proofs.Common.{rules, map, length, IfSome, Result, Ok, Err}
+use Rattle.std.proofs.Common.{rules}
 use Rattle.std.specs.Result.{result_ok}
 use Rattle.std.proofs.lemmas.List.Sorted.{answers_always}
-use Rattle.std.proofs.lemmas.List.{length-map}
 use Rattle.st_core.specs.Pid.{pid_cmp}
 use Rattle.st_core.proofs.ForCallers.{missing_from_search}
 use Rattle.st_runtime.specs.Pcb.{Control}
 use Rattle.st_runtime.specs.Pieces.{pids_in}
-use Rattle.st_runtime.proofs.PidLemmas.{place_tells, found_from_search}
+use Rattle.st_runtime.proofs.PidLemmas.{place_tells}
 use Rattle.st_runtime.proofs.Searching.{search_keys, process_found, pids_found}
 use Rattle.st_runtime.proofs.whole.place_in.Goals as goal
 
