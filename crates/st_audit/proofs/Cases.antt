@@ -1,8 +1,7 @@
 -- Worked cases: the definitions computed. Nothing cites this file; it shows that the definitions say what is meant.
-use Rattle.std.specs.Prelude.{◌≡◌, ℕ, Bool, true, false, List, [], ◌∷◌, ◌++◌, Option, Some, None, refl}
+use Rattle.std.specs.Prelude.{◌≡◌, ℕ, Bool, true, false, List, [], ◌∷◌, ◌++◌, Some, None, refl}
 use Rattle.st_core.specs.declared.types.Pid.{Pid}
 use Rattle.st_core.specs.declared.types.Event.{Event}
-use Rattle.st_core.specs.declared.types.Flags.{Flags}
 use Rattle.st_core.specs.declared.types.Kind.TheVariants as kind
 use Rattle.st_core.specs.declared.types.Act.{Act}
 use Rattle.st_core.specs.declared.types.Act.TheVariants as act
@@ -11,7 +10,7 @@ use Rattle.st_core.specs.declared.types.Want.TheVariants as want
 use Rattle.st_core.specs.Pid.{pid_on}
 use Rattle.st_core.specs.Run.{Stream}
 use Rattle.st_order.specs.Order.{order}
-use Rattle.st_audit.specs.Moves.{clock, last, moves, skip, skips, Move}
+use Rattle.st_audit.specs.Moves.{clock, last, moves, Move}
 use Rattle.st_audit.specs.Reasons.{too_wide, uncaused}
 use Rattle.st_audit.specs.Build.{construction, unstamped}
 

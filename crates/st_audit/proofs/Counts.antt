@@ -1,11 +1,10 @@
 -- What acts do to clocks and last counts: an act other than a reset moves those of its actor alone, and none that comes
 -- before a stamp lets the clock fall.
-use Rattle.std.proofs.Common.{◌≡◌, ℕ, ◌+◌, ◌-◌, ◌<◌, ◌≤◌, ◌==◌, ◌&&◌, max, nat_lt, zero, suc, Bool, true, false, cond}
+use Rattle.std.proofs.Common.{◌≡◌, ℕ, ◌+◌, ◌-◌, ◌≤◌, ◌==◌, ◌&&◌, nat_lt, zero, suc, Bool, true, false, cond}
 use Rattle.std.proofs.Common.{List, []}
-use Rattle.std.proofs.Common.{◌∷◌, ◌++◌, Option, Some, None, is_some, option_map, refl, sym, ◌∙◌, ap, subst, arith}
+use Rattle.std.proofs.Common.{◌∷◌, ◌++◌, Option, Some, None, refl, sym, ◌∙◌, ap, subst, arith}
 use Rattle.std.proofs.Common.{if◌then◌else◌}
 use Rattle.std.specs.List.{AllByRecursion}
-use Rattle.std.proofs.lemmas.Bool.{ltb-true, lt-ltb, false≢true}
 use Rattle.std.proofs.lemmas.Option.{same_Some, none-some}
 use Rattle.st_core.specs.declared.types.Pid.{Pid}
 use Rattle.st_core.specs.declared.types.Token.{Token}
@@ -19,12 +18,12 @@ use Rattle.st_core.specs.declared.types.Serial.{Serial}
 use Rattle.st_core.specs.declared.types.Component.TheVariants as component
 use Rattle.st_core.specs.Pid.{pid_eq, node_eq}
 use Rattle.st_core.specs.State.{LocalState, Process, State, process}
-use Rattle.st_core.specs.Stamp.{stamp, stamp_any, stamped_token}
-use Rattle.st_core.specs.Local.{default_token, started, with_set}
+use Rattle.st_core.specs.Stamp.{stamp_any, stamped_token}
+use Rattle.st_core.specs.Local.{default_token, started}
 use Rattle.st_core.specs.Report.{flag_of, report}
-use Rattle.st_core.specs.Step.{Acted, Outcome, acted, actor, reached, changed, sends, prints, step}
+use Rattle.st_core.specs.Step.{Acted, Outcome, acted, actor, reached, changed, prints, step}
 use Rattle.st_core.specs.Run.{run_from}
-use Rattle.st_core.proofs.ForCallers.{mapped, process_after, process_pid, run_parts, step_parts, Stepped, pid_eq-refl}
+use Rattle.st_core.proofs.ForCallers.{mapped, process_after, process_pid, run_parts, step_parts, pid_eq-refl}
 use Rattle.st_audit.specs.declared.plan.Start.{Start}
 use Rattle.st_audit.specs.Build.{dress, is_dressed, quiet, raise, ready, renew, renewed, silent, state_after, unstamped}
 use Rattle.st_audit.proofs.Ready.{is_alone}

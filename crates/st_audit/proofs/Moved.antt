@@ -1,7 +1,7 @@
 -- What an item's acts do to the counts: those of its own process become what its move makes of them, and no others
 -- move. For a reported item its report says so, for a hidden send the acts before it do.
-use Rattle.std.proofs.Common.{◌≡◌, ℕ, ◌+◌, ◌-◌, ◌<◌, ◌≤◌, ◌⊎◌, inl, inr, max, Bool, true, false, not, ◌&&◌, cond}
-use Rattle.std.proofs.Common.{◌==◌, List, Option, Some, None, nat_lt, refl, sym, ◌∙◌, ap, subst, arith}
+use Rattle.std.proofs.Common.{◌≡◌, ℕ, ◌+◌, ◌<◌, ◌≤◌, ◌⊎◌, inl, inr, max, true, false, not, ◌&&◌}
+use Rattle.std.proofs.Common.{◌==◌, Option, Some, None, nat_lt, refl, sym, ◌∙◌, ap, subst, arith}
 use Rattle.std.proofs.lemmas.Bool.{eqb-true, ltb-false}
 use Rattle.std.proofs.lemmas.Option.{same_Some, none-some}
 use Rattle.st_core.specs.declared.types.Pid.{Pid}
@@ -9,7 +9,6 @@ use Rattle.st_core.specs.declared.types.Token.{Token}
 use Rattle.st_core.specs.declared.types.Event.{Event}
 use Rattle.st_core.specs.declared.types.Flags.{Flags}
 use Rattle.st_core.specs.declared.types.Serial.{Serial}
-use Rattle.st_core.specs.declared.types.Kind.{Kind}
 use Rattle.st_core.specs.declared.types.Kind.TheVariants as kind
 use Rattle.st_core.specs.declared.types.Message.{Message}
 use Rattle.st_core.specs.declared.types.Act.{Act}
@@ -17,18 +16,17 @@ use Rattle.st_core.specs.declared.types.Act.TheVariants as act
 use Rattle.st_core.specs.declared.types.Want.TheVariants as want
 use Rattle.st_core.specs.Pid.{pid_eq}
 use Rattle.st_core.specs.State.{LocalState, Process, State, process}
-use Rattle.st_core.specs.Stamp.{stamp_any, stamped_token}
+use Rattle.st_core.specs.Stamp.{stamp_any}
 use Rattle.st_core.specs.Local.{received}
 use Rattle.st_core.specs.Pick.{pick}
 use Rattle.st_core.specs.Report.{report}
-use Rattle.st_core.specs.Step.{Acted, Outcome, acted, actor, prints, receives, sends, step}
-use Rattle.st_core.specs.Run.{run_from}
+use Rattle.st_core.specs.Step.{Acted, acted, actor, prints, receives, sends}
 use Rattle.st_core.proofs.ForCallers.{mapped}
 use Rattle.st_mail.specs.declared.outcome.Outcome.{Outcome as Told}
 use Rattle.st_world.specs.World.{outcome_to}
 use Rattle.st_audit.specs.Build.{ready, start_of, state_after}
 use Rattle.st_audit.specs.Progress.{is_uncaused, IsStamped, IsStampOf, IsTaken}
-use Rattle.st_audit.proofs.Counts.{HasRisen, HaveSame, IsNoReset, IsTold, WasActor, WasSame, actor_same, all_risen}
+use Rattle.st_audit.proofs.Counts.{HasRisen, IsNoReset, IsTold, WasActor, WasSame, actor_same, all_risen}
 use Rattle.st_audit.proofs.Counts.{others_same}
 use Rattle.st_audit.proofs.Counts.{ready_alone, stamp_some, stamp_told, told_serial, was_same}
 use Rattle.st_audit.proofs.Lift.{lifted}

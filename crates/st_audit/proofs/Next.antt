@@ -1,17 +1,15 @@
 -- An item's acts lead from the counts of the moves before it to those with its own: its process's become the move's,
 -- and its skip is added. Where the construction halts instead for a reason of its own, the counts show it.
-use Rattle.std.proofs.Common.{◌≡◌, ℕ, ◌+◌, ◌-◌, ◌==◌, ◌&&◌, ◌||◌, ◌<◌, max, nat_lt, Bool, true, false, not, cond}
-use Rattle.std.proofs.Common.{List, [], ◌∷◌, take, Option, Some, None, slice_get, refl, sym, ◌∙◌, ap, subst, arith}
-use Rattle.std.proofs.lemmas.Option.{same_Some}
+use Rattle.std.proofs.Common.{◌≡◌, ℕ, ◌+◌, ◌-◌, ◌==◌, ◌&&◌, ◌||◌, max, nat_lt, Bool, true, false, not, cond}
+use Rattle.std.proofs.Common.{List, ◌∷◌, take, Some, None, slice_get, refl, sym, ◌∙◌, ap, subst, arith}
 use Rattle.st_core.specs.declared.types.Pid.{Pid}
 use Rattle.st_core.specs.declared.types.Event.{Event}
-use Rattle.st_core.specs.declared.types.Serial.{Serial}
 use Rattle.st_core.specs.Pid.{pid_eq, IsRising}
-use Rattle.st_core.specs.State.{LocalState, Process, State, process}
+use Rattle.st_core.specs.State.{LocalState, State, process}
 use Rattle.st_core.specs.Run.{Stream, pids_of}
 use Rattle.st_core.proofs.ForCallers.{pid_eq-swap, pid_same}
 use Rattle.st_pair.specs.Pairing.{refusal}
-use Rattle.st_pair.specs.Places.{event_at, is_stamp}
+use Rattle.st_pair.specs.Places.{is_stamp}
 use Rattle.st_pair.proofs.ForCallers.{paired, serial_rises}
 use Rattle.st_order.specs.declared.item.Item.{Item}
 use Rattle.st_order.specs.declared.item.Item.TheVariants as item
@@ -19,10 +17,10 @@ use Rattle.st_order.specs.Order.{IsOrder}
 use Rattle.st_order.specs.Items.{event_of}
 use Rattle.st_audit.specs.declared.construction.Halt.{Halt}
 use Rattle.st_audit.specs.declared.construction.Halt.TheVariants as halt
-use Rattle.st_audit.specs.Moves.{Move, clock, is_taking, last, move_by, moves, skip, skips}
+use Rattle.st_audit.specs.Moves.{Move, clock, is_taking, last, move_by, skip, skips}
 use Rattle.st_audit.specs.Reasons.{most_skipped, most_skipped_in_all, too_wide, uncaused}
 use Rattle.st_audit.specs.Build.{start_of}
-use Rattle.st_audit.specs.Progress.{earlier_of, is_too_wide, is_uncaused, missing, AreCounted, HaltsAt, HoldsOf}
+use Rattle.st_audit.specs.Progress.{earlier_of, is_too_wide, is_uncaused, missing, AreCounted, HaltsAt}
 use Rattle.st_audit.specs.Progress.{IsActed, IsCounted, IsHalt, IsHiddenDone, IsReportedDone, IsSoFar, IsStampHaltAt}
 use Rattle.st_audit.proofs.Along.{earlier_more, hidden_clock}
 use Rattle.st_audit.proofs.Moved.{HasMoved, hidden_moves, reported_moves, taken_moves}

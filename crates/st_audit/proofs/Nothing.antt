@@ -1,9 +1,8 @@
 -- Without items there are no events, so the checker accepts no acts: nothing is left, and no act can stop.
-use Rattle.std.proofs.Common.{◌≡◌, ℕ, ◌+◌, ◌<◌, nat_lt, Bool, true, false, cond, List, [], ◌∷◌, ◌++◌, length, find}
-use Rattle.std.proofs.Common.{Option, Some, None, refl, sym, ◌∙◌, ap, subst, arith}
+use Rattle.std.proofs.Common.{◌≡◌, ℕ, ◌+◌, ◌<◌, nat_lt, true, false, cond, List, [], ◌∷◌, ◌++◌, length, find}
+use Rattle.std.proofs.Common.{Some, None, refl, sym, ◌∙◌, ap, arith}
 use Rattle.std.specs.List.{AllByRecursion}
-use Rattle.std.specs.List.Sorted.{IsPermutation}
-use Rattle.std.proofs.lemmas.Option.{same_Some, none-some}
+use Rattle.std.proofs.lemmas.Option.{none-some}
 use Rattle.st_core.specs.declared.types.Pid.{Pid}
 use Rattle.st_core.specs.declared.types.Event.{Event}
 use Rattle.st_core.specs.Step.{Outcome}
@@ -11,7 +10,7 @@ use Rattle.st_core.specs.Run.{Stream, stream}
 use Rattle.st_core.specs.Verdict as verdicts
 use Rattle.st_order.specs.declared.item.Item.{Item}
 use Rattle.st_order.specs.declared.item.Item.TheVariants as item
-use Rattle.st_order.specs.Items.{is_hidden, items, items_among, items_at, items_from}
+use Rattle.st_order.specs.Items.{is_hidden, items, items_among, items_from}
 use Rattle.st_order.specs.Order.{IsOrder}
 use Rattle.st_order.proofs.ForCallers.{members, Among}
 use Rattle.std.proofs.lemmas.List.Sorted.{IsPermutation-sym}

@@ -1,18 +1,17 @@
 -- What runs under one greatest clock runs the same under a greater one: only a stamp looks at it, and only to see that
 -- the clock is below.
-use Rattle.std.proofs.Common.{◌≡◌, ℕ, ◌+◌, ◌<◌, ◌≤◌, nat_lt, Bool, true, false, cond, List, [], ◌∷◌}
+use Rattle.std.proofs.Common.{◌≡◌, ℕ, ◌+◌, ◌≤◌, nat_lt, Bool, true, false, cond, List, [], ◌∷◌}
 use Rattle.std.proofs.Common.{Option, Some, None, is_some, option_map, option_and_then, refl, sym, ◌∙◌, ap, arith}
-use Rattle.std.proofs.Common.{if◌then◌else◌}
 use Rattle.std.proofs.lemmas.Bool.{ltb-true, lt-ltb}
-use Rattle.std.proofs.lemmas.Option.{none-some, same_Some}
+use Rattle.std.proofs.lemmas.Option.{none-some}
 use Rattle.st_core.specs.declared.types.Pid.{Pid}
 use Rattle.st_core.specs.declared.types.Token.{Token}
 use Rattle.st_core.specs.declared.types.Act.{Act}
 use Rattle.st_core.specs.declared.types.Act.TheVariants as act
-use Rattle.st_core.specs.State.{LocalState, Process, State, process}
+use Rattle.st_core.specs.State.{LocalState, Process, State}
 use Rattle.st_core.specs.Stamp.{stamp, stamp_any, stamped_token}
 use Rattle.st_core.specs.Local.{has_label}
-use Rattle.st_core.specs.Step.{Acted, Outcome, acted, actor, answers, outcome_of, prints, receiver, sends, step}
+use Rattle.st_core.specs.Step.{Acted, Outcome, acted, answers, prints, sends, step}
 use Rattle.st_core.specs.Run.{run_from}
 use Rattle.st_core.proofs.ForCallers.{mapped, run_parts, step_parts}
 use Rattle.st_core.specs.declared.types.Reply.TheVariants as reply

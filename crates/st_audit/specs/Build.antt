@@ -1,5 +1,5 @@
 -- For the parts alone: the acts that are built for an item, from what the process whose it is has before.
-use Rattle.std.specs.Prelude.{◌≡◌, ℕ, ◌-◌, ◌==◌, ◌&&◌, zero, suc, max, nat_lt, Bool, true, false, not, List, []}
+use Rattle.std.specs.Prelude.{ℕ, ◌-◌, ◌==◌, ◌&&◌, zero, suc, max, nat_lt, Bool, true, false, not, List, []}
 use Rattle.std.specs.Prelude.{◌∷◌, ◌++◌, Option, Some, None, if◌then◌else◌, is_some, option_map, option_and_then}
 use Rattle.std.specs.Prelude.{position}
 use Rattle.std.specs.Option.{option_map_or}

@@ -1,10 +1,9 @@
 -- Each item leads to the counts with its move, and where it halts the counts before it show why.
-use Rattle.std.proofs.Common.{◌≡◌, Some, take, slice_get, sym, ◌∙◌, ap, subst}
+use Rattle.std.proofs.Common.{Some, take, sym, ◌∙◌, ap, subst}
 use Rattle.std.proofs.lemmas.Option.{same_Some, slice_get-get_or}
 use Rattle.std.proofs.lemmas.Result.{IfOk-weaker}
 use Rattle.st_order.specs.declared.item.Item.{Item}
 use Rattle.st_order.specs.declared.item.Item.TheVariants as item
-use Rattle.st_audit.specs.declared.construction.Halt.{Halt}
 use Rattle.st_audit.specs.Progress.{IsHalt}
 use Rattle.st_audit.proofs.Ending.{if_err}
 use Rattle.st_audit.proofs.Next.{hidden_halt, hidden_next, reported_halt, reported_next}

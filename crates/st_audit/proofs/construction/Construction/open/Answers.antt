@@ -1,6 +1,5 @@
 -- Where a tracer was put, no count moved.
-use Rattle.std.proofs.Common.{◌≡◌, ℕ, true, [], sym, ◌∙◌, subst, get_or}
-use Rattle.st_core.specs.declared.types.Pid.{Pid}
+use Rattle.std.proofs.Common.{◌≡◌, true, [], sym, ◌∙◌, subst}
 use Rattle.st_world.specs.World.{outcome_to}
 use Rattle.st_audit.specs.declared.construction.Construction.{Construction}
 use Rattle.st_audit.specs.Progress.{AreCounted}
