@@ -9,7 +9,7 @@ use crate::{ChartFault, chart};
 use st_chain::Chains;
 use st_core::{Draft, Event, Kind, Label, MemorySink, Pid, Serial, Streams};
 use st_order::Item;
-use st_pair::{Pairing, pair};
+use st_pair::pair;
 use std::alloc::Global;
 
 /// The processes 30 and 31 of node 0.
@@ -100,16 +100,18 @@ lane 2 <0.31.0>
    R   .  receive  {2,4} 6 after hidden
 ";
 
-/// A chart of streams and their pairing.
+/// A chart of streams that pairing accepts.
 fn drawn(
     alloc: Global,
     sink: &mut MemorySink,
     streams: &Streams,
-    pairing: &Pairing,
     items: &[Item],
     label: u32,
 ) -> Result<(), ChartFault> {
-    let Ok(chains) = Chains::new(alloc, streams, pairing) else {
+    let Ok(pairing) = pair(alloc, streams) else {
+        return Err(ChartFault::Memory);
+    };
+    let Ok(chains) = Chains::new(alloc, streams, &pairing) else {
         return Err(ChartFault::Memory);
     };
     chart(alloc, sink, streams, &chains, items, Label(label))

@@ -4,16 +4,14 @@ use super::{HIDDEN_CHART, drawn, hidden_items, hidden_sends, made, p30, p31, rec
 use crate::ChartFault;
 use st_core::{MemorySink, Pid};
 use st_order::Item;
-use st_pair::pair;
 use std::test::Fail;
 
 #[test]
 fn hidden_sends_are_drawn(rt: HostRuntime) -> Result<(), Fail> {
     let alloc = rt.alloc();
     let streams = made(alloc, &hidden_sends()).ok_or("no streams")?;
-    let pairing = pair(alloc, &streams)?;
     let mut sink = MemorySink::new(alloc, 1000, None)?;
-    drawn(alloc, &mut sink, &streams, &pairing, &hidden_items(), 17)?;
+    drawn(alloc, &mut sink, &streams, &hidden_items(), 17)?;
     assert_eq!(rt; sink.written(), HIDDEN_CHART);
     Ok(())
 }
@@ -22,9 +20,8 @@ fn hidden_sends_are_drawn(rt: HostRuntime) -> Result<(), Fail> {
 fn a_label_that_no_item_has_writes_nothing(rt: HostRuntime) -> Result<(), Fail> {
     let alloc = rt.alloc();
     let streams = made(alloc, &hidden_sends()).ok_or("no streams")?;
-    let pairing = pair(alloc, &streams)?;
     let mut sink = MemorySink::new(alloc, 1000, None)?;
-    let answer = drawn(alloc, &mut sink, &streams, &pairing, &hidden_items(), 18);
+    let answer = drawn(alloc, &mut sink, &streams, &hidden_items(), 18);
     assert_eq!(rt; answer, Err(ChartFault::NoLabel));
     assert!(rt; sink.written().is_empty());
     Ok(())
@@ -38,10 +35,9 @@ fn a_reported_send_is_drawn(rt: HostRuntime) -> Result<(), Fail> {
         received((0, 1), p30(), p31(), 5),
     ];
     let streams = made(alloc, &events).ok_or("no streams")?;
-    let pairing = pair(alloc, &streams)?;
     let items = [Item::Reported(p30(), 0), Item::Reported(p31(), 0)];
     let mut sink = MemorySink::new(alloc, 1000, None)?;
-    drawn(alloc, &mut sink, &streams, &pairing, &items, 17)?;
+    drawn(alloc, &mut sink, &streams, &items, 17)?;
     let wanted: &[u8] = b"label 17
 lane 1 <0.30.0>
 lane 2 <0.31.0>
@@ -64,7 +60,6 @@ fn a_message_to_itself_has_one_mark(rt: HostRuntime) -> Result<(), Fail> {
         received((1, 2), p32, p32, 6),
     ];
     let streams = made(alloc, &events).ok_or("no streams")?;
-    let pairing = pair(alloc, &streams)?;
     let items = [
         Item::Reported(p30(), 0),
         Item::Reported(p32, 0),
@@ -72,7 +67,7 @@ fn a_message_to_itself_has_one_mark(rt: HostRuntime) -> Result<(), Fail> {
         Item::Reported(p32, 2),
     ];
     let mut sink = MemorySink::new(alloc, 1000, None)?;
-    drawn(alloc, &mut sink, &streams, &pairing, &items, 17)?;
+    drawn(alloc, &mut sink, &streams, &items, 17)?;
     let wanted: &[u8] = b"label 17
 lane 1 <0.30.0>
 lane 2 <0.32.0>
