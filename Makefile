@@ -1,5 +1,5 @@
 # On a fresh machine with the Rattle toolchain:
-#   make try FILE=..   runs the program on an input without its proofs, in under a minute
+#   make try FILE=..   runs the program on an input without its proofs, in about a minute
 #   make demo          proves and builds the program, and runs it on examples/
 #   make test          runs the merge gate
 
@@ -35,9 +35,9 @@ $(PROGRAM): crates.txt $(shell find crates -path '*/out' -prune -o -type f -prin
 demo: $(PROGRAM)
 	@examples/demo $(PROGRAM)
 
-# Runs the program on one input without proving it first, which takes under a minute.
-COMMAND ?= check
-FILE ?= examples/request.txt
+# Runs the program on one input without proving it first, which takes about a minute.
+COMMAND ?= audit
+FILE ?= examples/collected.txt
 try:
 	@echo 'An unproved run: the program is built without its proofs. "make demo" proves it first.'
 	@cd crates/seqaudit && rt try -- $(COMMAND) < "$(abspath $(FILE))" || echo "exit status $$?"
@@ -45,7 +45,7 @@ try:
 install: $(PROGRAM)
 	install -D $(PROGRAM) $(DESTDIR)$(PREFIX)/bin/seqaudit
 
-# Times check and replay on a bundle of 1,000,000 acts, beside wc -l.
+# Times the commands on bundles of 1,000,000 acts, beside wc -l.
 bench: $(PROGRAM)
 	bench/run
 

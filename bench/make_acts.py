@@ -1,12 +1,14 @@
 #!/usr/bin/env python3
-"""Writes the text of a bundle of acts without events, the same at each run: 64 processes on two
-nodes that send, receive and print under one trace each. `seqaudit replay` makes of it the bundle
-that the measurements take."""
+"""Writes the text of a bundle of acts without events, the same at each run: processes on two nodes
+that send, receive and print under one trace each. `seqaudit replay` makes of it the bundles that the
+measurements take.
 
+    make_acts.py [--processes N] [--acts N] [FLAG ..]
+
+N processes make N acts; FLAG is send, receive or print, and says what is reported."""
+
+import argparse
 import sys
-
-PROCESSES = 64
-ACTS = 1_000_000
 
 
 def numbers(seed):
@@ -16,17 +18,17 @@ def numbers(seed):
         yield seed >> 32
 
 
-def acts(pids):
+def acts(pids, count, flags):
     """A tracer for each node, a trace for each process, and then the acts."""
     yield f"tracer {pids[0]} true"
     yield f"tracer {pids[-1]} true"
     for place, pid in enumerate(pids):
         yield f"set {pid} label {17 + place}"
-        for flag in ("receive", "print"):
+        for flag in flags:
             yield f"set {pid} {flag} true"
     given = numbers(2026)
     queued = [0] * len(pids)
-    for _ in range(ACTS - 2 - 3 * len(pids)):
+    for _ in range(count - 2 - (1 + len(flags)) * len(pids)):
         actor = next(given) % len(pids)
         kind = next(given) % 8
         if kind < 3 or (kind < 6 and queued[actor] == 0):
@@ -43,12 +45,17 @@ def acts(pids):
 
 
 def main():
-    pids = [f"<{1 + n * 2 // PROCESSES}.{1000 + n}.0>" for n in range(PROCESSES)]
+    reader = argparse.ArgumentParser()
+    reader.add_argument("--processes", type=int, default=64)
+    reader.add_argument("--acts", type=int, default=1_000_000)
+    reader.add_argument("flags", nargs="*", default=["receive", "print"])
+    words = reader.parse_args()
+    pids = [f"<{1 + n * 2 // words.processes}.{1000 + n}.0>" for n in range(words.processes)]
     out = sys.stdout
     out.write("seqtrace 2\n")
     out.writelines(f"process {pid}\n" for pid in pids)
     out.write("acts\n")
-    out.writelines(f"{act}\n" for act in acts(pids))
+    out.writelines(f"{act}\n" for act in acts(pids, words.acts, words.flags))
 
 
 main()
