@@ -24,9 +24,9 @@ use Rattle.st_core.specs.Report.{flag_of, report}
 use Rattle.st_core.specs.Step.{Acted, Outcome, acted, actor, reached, changed, prints, step}
 use Rattle.st_core.specs.Run.{run_from}
 use Rattle.st_core.proofs.ForCallers.{mapped, process_after, process_pid, run_parts, step_parts, pid_eq-refl}
-use Rattle.st_audit.specs.declared.plan.Start.{Start}
-use Rattle.st_audit.specs.Build.{dress, is_dressed, quiet, raise, ready, renew, renewed, silent, state_after, unstamped}
-use Rattle.st_audit.proofs.Ready.{is_alone}
+use Rattle.st_plan.specs.declared.plan.Start.{Start}
+use Rattle.st_plan.specs.Build.{dress, is_dressed, quiet, raise, ready, renew, renewed, silent, state_after, unstamped}
+use Rattle.st_plan.proofs.ForCallers.{is_alone}
 
 -- ONE ACT
 

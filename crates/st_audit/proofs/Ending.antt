@@ -15,12 +15,12 @@ use Rattle.st_pair.specs.Places.{event_at}
 use Rattle.st_order.specs.declared.item.Item.{Item}
 use Rattle.st_order.specs.declared.item.Item.TheVariants as item
 use Rattle.st_order.specs.Order.{IsOrder}
-use Rattle.st_audit.specs.Moves.{Move, move_by, moves}
+use Rattle.st_plan.specs.Moves.{Move, move_by, moves, earlier_of}
 use Rattle.st_audit.specs.declared.construction.Halt.{Halt}
 use Rattle.st_audit.specs.declared.construction.Halt.TheVariants as halt
-use Rattle.st_audit.specs.Reasons.{item_place, too_wide, uncaused, HoldsAt}
-use Rattle.st_audit.specs.Progress.{earlier_of, HoldsOf, IsHalt}
-use Rattle.st_audit.proofs.Along.{moves_append, one_move, order_there, IsAt, IsThere}
+use Rattle.st_plan.specs.Reasons.{item_place, too_wide, uncaused, HoldsAt}
+use Rattle.st_audit.specs.Progress.{HoldsOf, IsHalt}
+use Rattle.st_plan.proofs.ForCallers.{moves_append, one_move, order_there, IsAt, IsThere}
 
 pub if_err : {T E : Type 0} (r : Result T E) (P Q : E → Type 0) → ((e : E) → P e → Q e) → IfErr r P → IfErr r Q
 if_err (Ok x) P Q f h = tt

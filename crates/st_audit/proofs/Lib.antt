@@ -1,11 +1,6 @@
-mod Cases
-mod Silent
-mod Ready
-mod Lift
 mod Counts
 mod Widening
 mod Moved
-mod Along
 mod Next
 mod Opened
 mod Nothing

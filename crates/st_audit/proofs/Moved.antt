@@ -24,13 +24,13 @@ use Rattle.st_core.specs.Step.{Acted, acted, actor, prints, receives, sends}
 use Rattle.st_core.proofs.ForCallers.{mapped}
 use Rattle.st_mail.specs.declared.outcome.Outcome.{Outcome as Told}
 use Rattle.st_world.specs.World.{outcome_to}
-use Rattle.st_audit.specs.Build.{ready, start_of, state_after}
+use Rattle.st_plan.specs.Build.{ready, start_of, state_after}
 use Rattle.st_audit.specs.Progress.{is_uncaused, IsStamped, IsStampOf, IsTaken}
 use Rattle.st_audit.proofs.Counts.{HasRisen, IsNoReset, IsTold, WasActor, WasSame, actor_same, all_risen}
 use Rattle.st_audit.proofs.Counts.{others_same}
 use Rattle.st_audit.proofs.Counts.{ready_alone, stamp_some, stamp_told, told_serial, was_same}
-use Rattle.st_audit.proofs.Lift.{lifted}
-use Rattle.st_audit.proofs.Ready.{is_ready}
+use Rattle.st_plan.proofs.ForCallers.{lifted}
+use Rattle.st_plan.proofs.ForCallers.{is_ready}
 use Rattle.st_audit.proofs.Widening.{run_wider}
 
 -- between these states q's counts became those of this serial, and no others moved

@@ -17,12 +17,12 @@ use Rattle.st_order.specs.Order.{IsOrder}
 use Rattle.st_order.specs.Items.{event_of}
 use Rattle.st_audit.specs.declared.construction.Halt.{Halt}
 use Rattle.st_audit.specs.declared.construction.Halt.TheVariants as halt
-use Rattle.st_audit.specs.Moves.{Move, clock, is_taking, last, move_by, skip, skips}
-use Rattle.st_audit.specs.Reasons.{most_skipped, most_skipped_in_all, too_wide, uncaused}
-use Rattle.st_audit.specs.Build.{start_of}
-use Rattle.st_audit.specs.Progress.{earlier_of, is_too_wide, is_uncaused, missing, AreCounted, HaltsAt}
+use Rattle.st_plan.specs.Moves.{Move, clock, is_taking, last, move_by, skip, skips, earlier_of}
+use Rattle.st_plan.specs.Reasons.{most_skipped, most_skipped_in_all, too_wide, uncaused}
+use Rattle.st_plan.specs.Build.{start_of}
+use Rattle.st_audit.specs.Progress.{is_too_wide, is_uncaused, missing, AreCounted, HaltsAt}
 use Rattle.st_audit.specs.Progress.{IsActed, IsCounted, IsHalt, IsHiddenDone, IsReportedDone, IsSoFar, IsStampHaltAt}
-use Rattle.st_audit.proofs.Along.{earlier_more, hidden_clock}
+use Rattle.st_plan.proofs.ForCallers.{earlier_more, hidden_clock}
 use Rattle.st_audit.proofs.Moved.{HasMoved, hidden_moves, reported_moves, taken_moves}
 
 -- COUNTS

@@ -10,10 +10,10 @@ use Rattle.st_core.specs.State.{LocalState, Process, State, process, zero_local,
 use Rattle.st_core.specs.Step.{Acted, Outcome, step}
 use Rattle.st_core.specs.Run.{Stream, run_from}
 use Rattle.st_core.proofs.ForCallers.{pid_same}
-use Rattle.st_audit.specs.Build.{state_after}
+use Rattle.st_plan.specs.Build.{state_after}
 use Rattle.st_audit.specs.Progress.{AreCounted, IsCounted, IsSoFar, Ran}
 use Rattle.st_audit.proofs.Counts.{HaveSame, actor_same, others_same}
-use Rattle.st_audit.proofs.Lift.{run_append, state_append}
+use Rattle.st_plan.proofs.ForCallers.{run_append, state_append}
 
 zero_counted : (pids : List Pid) → AreCounted [] (zero_state pids)
 zero_counted [] x r h = absurd (none-some r h)

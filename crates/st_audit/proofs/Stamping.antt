@@ -11,8 +11,8 @@ use Rattle.st_core.specs.Step.{step}
 use Rattle.st_core.proofs.ForCallers.{mapped}
 use Rattle.st_mail.specs.declared.outcome.Outcome.{Outcome as Told}
 use Rattle.st_world.specs.World.{outcome_to}
-use Rattle.st_audit.specs.declared.plan.Start.{Start}
-use Rattle.st_audit.specs.Build.{ready, start_of}
+use Rattle.st_plan.specs.declared.plan.Start.{Start}
+use Rattle.st_plan.specs.Build.{ready, start_of}
 use Rattle.st_audit.specs.Progress.{is_too_wide, is_uncaused, missing, IsStamped, IsStampOf, Ran}
 
 allowed : (b : Bool) (k now : ℕ) → Some now ≡ cond b None (Some k) → now ≡ k

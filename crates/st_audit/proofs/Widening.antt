@@ -15,7 +15,7 @@ use Rattle.st_core.specs.Step.{Acted, Outcome, acted, answers, prints, sends, st
 use Rattle.st_core.specs.Run.{run_from}
 use Rattle.st_core.proofs.ForCallers.{mapped, run_parts, step_parts}
 use Rattle.st_core.specs.declared.types.Reply.TheVariants as reply
-use Rattle.st_audit.proofs.Lift.{step_is}
+use Rattle.st_plan.proofs.ForCallers.{step_is}
 
 module _ (top wide : ℕ) (wider : top ≤ wide) where
   under : (b c : Bool) (l m : LocalState) → (b ≡ true → c ≡ true) → cond b (Some l) None ≡ Some m

@@ -12,7 +12,7 @@ use Rattle.st_audit.specs.declared.finding.Reason.{Reason}
 use Rattle.st_audit.specs.declared.finding.Reason.TheVariants as reason
 use Rattle.st_audit.specs.declared.finding.Finding.{Finding}
 use Rattle.st_audit.specs.declared.finding.Finding.TheVariants as finding
-use Rattle.st_audit.specs.Reasons.{HoldsAt, uncaused, too_wide}
+use Rattle.st_plan.specs.Reasons.{HoldsAt, uncaused, too_wide}
 
 -- the verdict is no yes
 abbrev pub IsNo : verdicts.Verdict → Type 0

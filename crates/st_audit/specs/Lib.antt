@@ -1,8 +1,4 @@
--- What public contracts cite: what is found, over the reasons against an item, over the counts along the order.
+-- What public contracts cite: what is found, over the reasons of `st_plan`.
 pub mod Findings
-pub mod Reasons
-pub mod Moves
--- For the parts of one module each: `src/plan.rt` and `src/construction.rt`.
-pub mod Build
--- their state
+-- For the parts alone: the state of `src/construction.rt`.
 pub mod Progress

@@ -1,5 +1,5 @@
 -- For the parts alone: what the construction keeps along the items, and what it did for one of them.
-use Rattle.std.specs.Prelude.{◌≡◌, ℕ, ◌+◌, ◌-◌, ◌==◌, ◌&&◌, ◌||◌, nat_lt, Bool, true, false, not, List, reverse}
+use Rattle.std.specs.Prelude.{◌≡◌, ℕ, ◌+◌, ◌-◌, ◌==◌, ◌&&◌, ◌||◌, nat_lt, Bool, true, false, not, List}
 use Rattle.std.specs.Prelude.{Some}
 use Rattle.st_core.specs.declared.types.Pid.{Pid}
 use Rattle.st_core.specs.declared.types.Event.{Event}
@@ -16,16 +16,12 @@ use Rattle.st_world.specs.World.{outcome_to}
 use Rattle.st_pair.specs.Places.{event_at, is_stamp}
 use Rattle.st_order.specs.declared.item.Item.{Item}
 use Rattle.st_order.specs.Items.{event_of}
-use Rattle.st_audit.specs.declared.plan.Start.{Start}
+use Rattle.st_plan.specs.declared.plan.Start.{Start}
 use Rattle.st_audit.specs.declared.construction.Halt.{Halt}
 use Rattle.st_audit.specs.declared.construction.Halt.TheVariants as halt
-use Rattle.st_audit.specs.Moves.{Move, move_by, moves, clock, last, skips}
-use Rattle.st_audit.specs.Reasons.{most_skipped, most_skipped_in_all, uncaused, too_wide}
-use Rattle.st_audit.specs.Build.{start_of, ready, state_after}
-
--- the moves of these items, the nearest first
-abbrev pub earlier_of : List Stream → List Item → List Move
-earlier_of streams xs = reverse (moves streams xs)
+use Rattle.st_plan.specs.Moves.{Move, move_by, clock, earlier_of, last, skips}
+use Rattle.st_plan.specs.Reasons.{most_skipped, most_skipped_in_all, uncaused, too_wide}
+use Rattle.st_plan.specs.Build.{start_of, ready, state_after}
 
 -- p's clock and last count are what the moves so far make of them
 pub record IsCounted (earlier : List Move) (p : Pid) (l : LocalState) : Type 0 where

@@ -9,7 +9,7 @@ ghost use Rattle.st_pair.specs.Pairing.{refusal, IsPairFault};
 ghost use Rattle.st_pair.specs.Places.{event_at};
 ghost use Rattle.st_pair.specs.Final.{IsPrevNotBefore, NeverShown, NeverShownInOneTrace};
 ghost use Rattle.st_audit.specs.Findings.{fault_of, unfit_by, HandsOn, IsFinding};
-ghost use Rattle.st_audit.specs.Reasons.{item_place};
+ghost use Rattle.st_plan.specs.Reasons.{item_place};
 
 use crate::construction::{Construction, Halt};
 use crate::finding::{AuditFault, Finding, Reason};

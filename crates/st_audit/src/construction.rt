@@ -19,16 +19,16 @@ ghost use Rattle.st_order.specs.declared.item.Item.{Item as ItemValue};
 ghost use Rattle.st_order.specs.declared.item.Item.TheVariants as item;
 ghost use Rattle.st_order.specs.Order.{IsOrder};
 ghost use Rattle.st_world.specs.World.{outcome_to};
-ghost use Rattle.st_audit.specs.Build.{flags_of, start_of};
-ghost use Rattle.st_audit.specs.Moves.{move_by};
+ghost use Rattle.st_plan.specs.Build.{flags_of, start_of};
+ghost use Rattle.st_plan.specs.Moves.{move_by};
 ghost use Rattle.st_audit.specs.Progress.{is_too_wide, is_uncaused, missing, AreCounted, IsHalt};
 ghost use Rattle.st_audit.specs.Progress.{IsActed, IsActHalt, IsHiddenDone, IsPlainHalt, IsReportedDone, IsSoFar};
 ghost use Rattle.st_audit.specs.Progress.{IsStamped, IsStampHalt, IsStampHaltAt, IsStampOf, IsTaken, Ran};
 
-use crate::plan::{QUIET, Start, ready};
 use st_core::{Act, Event, Flags, Kind, Pid, Sequence, Serial, Streams, Want};
 use st_order::Item;
 use st_pair::Pairing;
+use st_plan::{QUIET, Start, ready};
 use st_world::{Outcome, StepFault, World};
 use std::alloc::{AllocError, Global};
 

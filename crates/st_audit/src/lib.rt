@@ -7,7 +7,6 @@
 mod auditing;
 mod construction;
 mod finding;
-mod plan;
 
 pub use auditing::audit;
 pub use finding::{AuditFault, Finding, Reason};

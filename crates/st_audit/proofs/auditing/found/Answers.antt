@@ -1,7 +1,7 @@
 -- The place of each item has an event, and where the construction halts for a reason of its own it holds there.
 use Rattle.std.proofs.Common.{◌-◌, length, take, sym, ◌∙◌}
 use Rattle.std.proofs.lemmas.Option.{slice_get-get_or}
-use Rattle.st_audit.specs.Reasons.{too_wide, uncaused}
+use Rattle.st_plan.specs.Reasons.{too_wide, uncaused}
 use Rattle.st_audit.proofs.Ending.{holds_there, last_within, place_there, too_wide_halt, uncaused_halt}
 use Rattle.st_audit.proofs.auditing.found.Goals as goal
 

@@ -1,7 +1,7 @@
 -- The parts of what a stamp is.
 use Rattle.std.proofs.Common.{◌≡◌, ℕ, ◌+◌, cond, None, Some, ◌++◌, sym, ◌∙◌, ap, subst}
 use Rattle.std.proofs.lemmas.Result.{IfOk-weaker}
-use Rattle.st_audit.specs.Build.{ready}
+use Rattle.st_plan.specs.Build.{ready}
 use Rattle.st_audit.specs.Progress.{is_too_wide, Ran}
 use Rattle.st_audit.proofs.Stamping.{stamped}
 use Rattle.st_audit.proofs.construction.Construction.stamp.Goals as goal

@@ -6,7 +6,7 @@ use Rattle.st_core.specs.Run.{Stream}
 use Rattle.st_order.specs.declared.item.Item.{Item}
 use Rattle.st_order.specs.declared.item.Item.TheVariants as item
 use Rattle.st_order.specs.Order.{IsOrder}
-use Rattle.st_audit.specs.Moves.{Move, moves, is_taking, clock, last, skip, skips}
+use Rattle.st_plan.specs.Moves.{Move, moves, is_taking, clock, last, skip, skips}
 
 -- the most counts that may be missing before one item, and before all
 abbrev pub most_skipped : ℕ

@@ -23,8 +23,7 @@ use Rattle.st_order.specs.declared.item.Item.TheVariants as item
 use Rattle.st_order.specs.Items.{event_of, greatest, height, is_hidden, items, items_among, items_at, items_from}
 use Rattle.st_order.specs.Order.{comes_before, Key, key, key_by, key_cmp, IsOrder, KeysRise}
 use Rattle.st_order.proofs.ForCallers.{all_found, among_all, comes_before_is, drop_front, members, Among, AreFound}
-use Rattle.st_audit.specs.Moves.{Move, clock, move_by, moves}
-use Rattle.st_audit.specs.Progress.{earlier_of}
+use Rattle.st_plan.specs.Moves.{Move, clock, earlier_of, move_by, moves}
 
 -- LISTS
 

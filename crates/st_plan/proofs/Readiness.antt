@@ -20,9 +20,9 @@ use Rattle.st_core.specs.State.{LocalState}
 use Rattle.st_core.specs.Stamp.{stamped_token}
 use Rattle.st_core.specs.Local.{default_token}
 use Rattle.st_core.specs.Step.{acted}
-use Rattle.st_audit.specs.declared.plan.Start.{Start}
-use Rattle.st_audit.specs.Build.{bool_eq, dress, flags_eq, is_dressed, quiet, raise, ready, renew, renewed, silent}
-use Rattle.st_audit.specs.Build.{start_of, unstamped}
+use Rattle.st_plan.specs.declared.plan.Start.{Start}
+use Rattle.st_plan.specs.Build.{bool_eq, dress, flags_eq, is_dressed, quiet, raise, ready, renew, renewed, silent}
+use Rattle.st_plan.specs.Build.{start_of, unstamped}
 
 -- QUIET ACTS
 

@@ -1,6 +1,6 @@
 -- The items of an order as moves of counts: what the clock and the last count of each process are between them (own
 -- profile). `earlier` is always the list of the moves before one, the nearest first.
-use Rattle.std.specs.Prelude.{ℕ, ◌+◌, ◌-◌, max, Bool, false, not, List, [], ◌∷◌, None, Some, if◌then◌else◌}
+use Rattle.std.specs.Prelude.{ℕ, ◌+◌, ◌-◌, max, Bool, false, not, List, [], ◌∷◌, reverse, None, Some, if◌then◌else◌}
 use Rattle.st_core.specs.declared.types.Pid.{Pid}
 use Rattle.st_core.specs.declared.types.Event.{Event}
 use Rattle.st_core.specs.Pid.{pid_eq}
@@ -27,6 +27,10 @@ moves streams (x ∷ xs) = elim (event_of streams x) [
   | None ↦ moves streams xs
   | Some e ↦ move_by x e ∷ moves streams xs
 ]
+
+-- the moves of these items, the nearest first
+abbrev pub earlier_of : List Stream → List Item → List Move
+earlier_of streams xs = reverse (moves streams xs)
 
 -- a reported receive
 abbrev pub is_taking : Move → Bool

@@ -2,14 +2,14 @@
 //! nothing here steps a world.
 
 ghost use Rattle.std.specs.Prelude.{◌≡◌, ◌++◌, OnOk};
-ghost use Rattle.st_audit.specs.Build.{dress, flags_eq, is_dressed, raise, ready, renew, silent, unstamped};
+ghost use Rattle.st_plan.specs.Build.{dress, flags_eq, is_dressed, raise, ready, renew, silent, unstamped};
 
 use st_core::{Act, Component, Flags, Label, Pid, Serial, Token};
 use std::alloc::AllocError;
 
 /// What a process has before an item.
 #[derive(Clone, Copy, Debug)]
-pub(crate) struct Start {
+pub struct Start {
     /// Its token, if it has one.
     pub token: Option<Token>,
     /// Its clock.
@@ -19,7 +19,7 @@ pub(crate) struct Start {
 }
 
 /// The flags under which nothing is reported.
-pub(crate) const QUIET: Flags = Flags {
+pub const QUIET: Flags = Flags {
     send: false,
     receive: false,
     print: false,
@@ -123,7 +123,7 @@ fn raise(
 
 /// The acts after which the process stands ready to stamp this serial under this label and these
 /// flags.
-pub(crate) fn ready(
+pub fn ready(
     plan: &mut Vec<Act>,
     pid: Pid,
     start: &Start,

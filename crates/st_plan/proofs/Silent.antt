@@ -2,7 +2,7 @@
 use Rattle.std.proofs.Common.{◌≡◌, ℕ, ◌+◌, zero, suc, [], ◌∷◌, ◌++◌, refl, ◌∙◌, ap, arith}
 use Rattle.st_core.specs.declared.types.Pid.{Pid}
 use Rattle.st_core.specs.declared.types.Act.TheVariants as act
-use Rattle.st_audit.specs.Build.{silent}
+use Rattle.st_plan.specs.Build.{silent}
 
 last_print : (p : Pid) (n : ℕ) → silent p (suc n) ≡ silent p n ++ act.Print p 0 ∷ []
 last_print p zero = refl

@@ -10,8 +10,8 @@ use Rattle.st_core.specs.State.{LocalState, Process, State, process}
 use Rattle.st_core.specs.Step.{Acted, Outcome, acted, actor, receiver, touches, reached, changed, outcome_of, step}
 use Rattle.st_core.specs.Run.{run_from}
 use Rattle.st_core.proofs.ForCallers.{changed_pid, changed_untouched, pid_eq-refl, process_pid, process-map}
-use Rattle.st_audit.specs.Build.{state_after}
-use Rattle.st_audit.proofs.Ready.{is_alone, QuietRun}
+use Rattle.st_plan.specs.Build.{state_after}
+use Rattle.st_plan.proofs.Readiness.{is_alone, QuietRun}
 
 -- A STEP FROM ITS PARTS
 

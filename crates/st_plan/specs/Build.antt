@@ -1,5 +1,5 @@
 -- For the parts alone: the acts that are built for an item, from what the process whose it is has before.
-use Rattle.std.specs.Prelude.{ℕ, ◌-◌, ◌==◌, ◌&&◌, zero, suc, max, nat_lt, Bool, true, false, not, List, []}
+use Rattle.std.specs.Prelude.{◌≡◌, ℕ, ◌-◌, ◌==◌, ◌&&◌, zero, suc, max, nat_lt, Bool, true, false, not, List, []}
 use Rattle.std.specs.Prelude.{◌∷◌, ◌++◌, Option, Some, None, if◌then◌else◌, is_some, option_map, option_and_then}
 use Rattle.std.specs.Prelude.{position}
 use Rattle.std.specs.Option.{option_map_or}
@@ -15,12 +15,13 @@ use Rattle.st_core.specs.declared.types.Act.{Act}
 use Rattle.st_core.specs.declared.types.Act.TheVariants as act
 use Rattle.st_core.specs.State.{LocalState, Process, State, process, zero_state}
 use Rattle.st_core.specs.Step.{Outcome}
-use Rattle.st_core.specs.Run.{Stream, pids_of, run_from}
+use Rattle.st_core.specs.Run.{Stream, pids_of, run_from, stream}
 use Rattle.st_mail.specs.Mail.{is_stamp}
 use Rattle.st_pair.specs.Pairing.{receiver_at}
 use Rattle.st_order.specs.declared.item.Item.TheVariants as item
-use Rattle.st_audit.specs.declared.plan.Start.{Start}
-use Rattle.st_audit.specs.Moves.{Move, is_taking}
+use Rattle.st_plan.specs.declared.plan.Start.{Start}
+use Rattle.st_plan.specs.Moves.{Move, is_taking}
+use Rattle.st_plan.specs.Plain.{told_by}
 
 -- what of a process's state the acts are built from
 abbrev pub start_of : LocalState → Start
@@ -111,6 +112,16 @@ acts_of streams r m = option_map (λ a. (if is_taking m then []
 abbrev pub state_after : State → List Outcome → State
 state_after s [] = s
 state_after s (o ∷ os) = state_after o.after os
+
+-- the acts of a move run from s, and report what the streams tell of it
+pub record GoesOn (top : ℕ) (streams : List Stream) (s : State) (m : Move) : Type 0 where
+  pub before : Process
+  pub is_before : process s m.who ≡ Some before
+  pub acts : List Act
+  pub are : acts_of streams before m ≡ Some acts
+  pub outcomes : List Outcome
+  pub runs : run_from top s acts ≡ Some outcomes
+  pub tells : (p : Pid) → stream acts outcomes p ≡ told_by p m
 
 -- all acts of these moves, each item's from the state that the acts before lead to
 abbrev pub build : ℕ → List Stream → State → List Move → Option (List Act)

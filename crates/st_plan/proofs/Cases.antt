@@ -10,9 +10,9 @@ use Rattle.st_core.specs.declared.types.Want.TheVariants as want
 use Rattle.st_core.specs.Pid.{pid_on}
 use Rattle.st_core.specs.Run.{Stream}
 use Rattle.st_order.specs.Order.{order}
-use Rattle.st_audit.specs.Moves.{clock, last, moves, Move}
-use Rattle.st_audit.specs.Reasons.{too_wide, uncaused}
-use Rattle.st_audit.specs.Build.{construction, unstamped}
+use Rattle.st_plan.specs.Moves.{clock, last, moves, Move}
+use Rattle.st_plan.specs.Reasons.{too_wide, uncaused}
+use Rattle.st_plan.specs.Build.{construction, unstamped}
 
 abbrev top : ℕ
 top = 18446744073709551615

@@ -1,0 +1,10 @@
+//! What the auditor's acts have to be: the items of an order as moves of counts, the reasons
+//! against one of them, and the acts that are built for each.
+//!
+//! The definitions say it of streams alone, and `ready` writes the acts before a stamp as a list.
+//! Nothing here steps a world.
+#![tactic(auto)]
+
+mod plan;
+
+pub use plan::{QUIET, Start, ready};
