@@ -4,6 +4,6 @@
 -- ---- the moves along an order
 pub use Rattle.st_plan.proofs.Along.{moves_append, one_move, earlier_more, order_there, hidden_clock, IsAt, IsThere}
 -- ---- acts as steps of the machine
-pub use Rattle.st_plan.proofs.Lift.{step_is, run_append, state_append, lifted, Lifted}
+pub use Rattle.st_plan.proofs.Lift.{step_is, run_append, state_append, lifted, stream_silent, Lifted, Silent}
 -- ---- the acts before a stamp
 pub use Rattle.st_plan.proofs.Readiness.{is_alone, is_ready, IsQuiet, QuietRun, Reaches}

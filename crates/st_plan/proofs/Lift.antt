@@ -1,6 +1,7 @@
 -- Acts of one process's own as steps of the whole machine.
-use Rattle.std.proofs.Common.{◌≡◌, ℕ, false, cond, List, [], ◌∷◌, ◌++◌, Option, Some, None}
-use Rattle.std.proofs.Common.{option_map, option_and_then, refl, sym, ◌∙◌, ap, subst}
+use Rattle.std.proofs.Common.{◌≡◌, ℕ, true, false, cond, List, [], ◌∷◌, ◌++◌, Option, Some, None}
+use Rattle.std.proofs.Common.{option_map, option_and_then, option_to_list, refl, sym, ◌∙◌, ap, subst}
+use Rattle.std.specs.List.{AllByRecursion}
 use Rattle.std.proofs.lemmas.Option.{same_Some, none-some}
 use Rattle.st_core.specs.declared.types.Pid.{Pid}
 use Rattle.st_core.specs.declared.types.Act.{Act}
@@ -8,7 +9,7 @@ use Rattle.st_core.specs.declared.types.Act.TheVariants as act
 use Rattle.st_core.specs.Pid.{pid_eq}
 use Rattle.st_core.specs.State.{LocalState, Process, State, process}
 use Rattle.st_core.specs.Step.{Acted, Outcome, acted, actor, receiver, touches, reached, changed, outcome_of, step}
-use Rattle.st_core.specs.Run.{run_from}
+use Rattle.st_core.specs.Run.{run_from, stream}
 use Rattle.st_core.proofs.ForCallers.{changed_pid, changed_untouched, pid_eq-refl, process_pid, process-map}
 use Rattle.st_plan.specs.Build.{state_after}
 use Rattle.st_plan.proofs.Readiness.{is_alone, QuietRun}
@@ -55,6 +56,20 @@ pub state_append : (s : State) (os ps : List Outcome) → state_after s (os ++ p
 state_append s [] ps = refl
 state_append s (o ∷ os) ps = state_append o.after os ps
 
+-- acts that report nothing
+abbrev pub Silent : List Outcome → Type 0
+Silent os = AllByRecursion (λ (o : Outcome). o.report ≡ None) os
+
+pub stream_silent : (acts : List Act) (os : List Outcome) (p : Pid) → Silent os → stream acts os p ≡ []
+stream_silent [] os p all = refl
+stream_silent (a ∷ acts) [] p all = refl
+stream_silent (a ∷ acts) (o ∷ os) p all =
+    ap (λ report. cond (pid_eq (actor a) p) (option_to_list report) [] ++ stream acts os p) all.0
+    ∙ elim (pid_eq (actor a) p) as (λ b. cond b (option_to_list None) [] ++ stream acts os p ≡ []) [
+      | true ↦ stream_silent acts os p all.1
+      | false ↦ stream_silent acts os p all.1
+    ]
+
 -- QUIET ACTS
 
 pub record Lifted (top : ℕ) (s : State) (p : Pid) (r : Process) (acts : List Act) : Type 0 where
@@ -62,6 +77,7 @@ pub record Lifted (top : ℕ) (s : State) (p : Pid) (r : Process) (acts : List A
   pub runs : run_from top s acts ≡ Some os
   pub here : process (state_after s os) p ≡ Some r
   pub others : (x : Pid) → pid_eq x p ≡ false → process (state_after s os) x ≡ process s x
+  pub silent : Silent os
 
 alone_actor : (p : Pid) (a : Act) → is_alone p a → (actor a ≡ p) × (receiver a ≡ p)
 alone_actor p (act.Print q v) h = (sym h, sym h)
@@ -118,6 +134,7 @@ lifted top p [] s r l m is local runs = record {
   runs = refl;
   here = is ∙ ap (λ (x : LocalState). Some (record r { local = x })) (local ∙ runs);
   others = λ x apart. refl;
+  silent = tt;
 }
 lifted top p (a ∷ acts) s r l m is local runs =
     let x = runs.0 in
@@ -144,4 +161,5 @@ lifted top p (a ∷ acts) s r l m is local runs =
       here = rest.here;
       others = λ y apart. rest.others y apart ∙ process_then s a done y
           ∙ unchanged a done y (process s y) (process_pid s y) (alone_touches p a y q.alone apart);
+      silent = (refl, rest.silent);
     }
