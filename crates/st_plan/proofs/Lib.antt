@@ -3,4 +3,7 @@ pub mod Silent
 pub mod Readiness
 pub mod Lift
 pub mod Along
+pub mod Kept
+pub mod Stamping
+pub mod Taking
 pub mod ForCallers

@@ -1,0 +1,211 @@
+-- What the moves say of the machine, tokens aside: after the acts of the moves so far each process has the clock and the
+-- last count that they leave it, and in its queue the messages that they sent to it and didn't take.
+use Rattle.std.proofs.Common.{◌≡◌, ℕ, ◌<◌, ◌≤◌, ◌&&◌, ◌⊎◌, max, nat_lt, Bool, true, false, not}
+use Rattle.std.proofs.Common.{◌==◌, cond, List, [], ◌∷◌, ◌++◌, Option, Some, None, is_some, option_map}
+use Rattle.std.proofs.Common.{option_to_list, inl, inr, refl, sym, ◌∙◌, ap, subst, arith, if◌then◌else◌}
+use Rattle.std.specs.List.{remove, position}
+use Rattle.std.specs.Option.{option_map_or}
+use Rattle.std.proofs.lemmas.Bool.{eqb-true, ltb-false, false≢true}
+use Rattle.std.proofs.lemmas.Option.{same_Some}
+use Rattle.st_core.specs.declared.types.Pid.{Pid}
+use Rattle.st_core.specs.declared.types.Token.{Token}
+use Rattle.st_core.specs.declared.types.Message.{Message}
+use Rattle.st_core.specs.declared.types.Kind.TheVariants as kind
+use Rattle.st_core.specs.declared.types.Event.{Event}
+use Rattle.st_core.specs.declared.types.Act.{Act}
+use Rattle.st_core.specs.Pid.{pid_eq}
+use Rattle.st_core.specs.State.{Process, State, process}
+use Rattle.st_core.specs.Report.{report}
+use Rattle.st_core.specs.Step.{Outcome, actor, sends}
+use Rattle.st_core.specs.Run.{Stream, run_from, stream}
+use Rattle.st_core.specs.Streams.{lists}
+use Rattle.st_core.proofs.ForCallers.{pid_same, pid_eq-refl, run_parts}
+use Rattle.st_core.proofs.ForCallers.{pid_eq-swap}
+use Rattle.st_mail.specs.Mail.{is_stamp}
+use Rattle.st_order.specs.declared.item.Item.{Item}
+use Rattle.st_order.specs.declared.item.Item.TheVariants as item
+use Rattle.st_plan.specs.Moves.{Move, is_taking, clock, last}
+use Rattle.st_plan.specs.Reasons.{uncaused}
+use Rattle.st_plan.specs.Build.{flags_of, state_after}
+use Rattle.st_plan.specs.Moves.{move_by}
+use Rattle.st_plan.specs.Plain.{told_by}
+use Rattle.st_plan.specs.Build.{GoesOn}
+use Rattle.st_plan.proofs.Lift.{Lifted, Silent}
+
+-- THE INVARIANT
+
+-- the token that a stamping move leaves, and the message of a send
+abbrev pub token_of : List Stream → Move → Token
+token_of streams m = record { label = m.event.label; flags = flags_of streams m; serial = m.event.serial; from = m.who }
+
+abbrev pub message_of : List Stream → Move → Message
+message_of streams m = record { from = m.who; value = m.event.value; token = Some (token_of streams m) }
+
+-- the move sends to q, reported or hidden
+abbrev pub sends_to : Pid → Move → Bool
+sends_to q m = elim m.item [
+  | item.Hidden p i ↦ option_map_or (λ x. pid_eq q x) m.event.to false
+  | item.Reported p i ↦ elim m.event.kind [
+    | kind.Send ↦ option_map_or (λ x. pid_eq q x) m.event.to false
+    | kind.Receive ↦ false
+    | kind.Print ↦ false
+  ]
+]
+
+-- without the first message whose token has this from and this count
+abbrev pub without : Pid → ℕ → List Message → List Message
+without from this queue = elim (position (λ x. is_stamp from this x.token) queue) [
+  | None ↦ queue
+  | Some k ↦ remove queue k
+]
+
+-- the messages that were sent to q by these moves and not yet taken, the oldest first
+abbrev pub queue_of : List Stream → Pid → List Move → List Message
+queue_of streams q [] = []
+queue_of streams q (m ∷ earlier) =
+    let old = queue_of streams q earlier in
+    if is_taking m
+    then (if pid_eq m.who q then without m.event.from m.event.serial.this old else old)
+    else (if sends_to q m then old ++ message_of streams m ∷ [] else old)
+
+-- p's record is what the moves say
+pub record IsSo (streams : List Stream) (earlier : List Move) (p : Pid) (r : Process) : Type 0 where
+  pub clocked : r.local.clock ≡ clock p earlier
+  pub lasted : r.local.last ≡ last p earlier
+  pub traced : r.local.traced ≡ true
+  pub queued : r.queue ≡ queue_of streams p earlier
+
+pub record IsKept (streams : List Stream) (earlier : List Move) (s : State) : Type 0 where
+  pub there : (p : Pid) → lists streams p ≡ true → is_some (process s p) ≡ true
+  pub each : (p : Pid) (r : Process) → process s p ≡ Some r → IsSo streams earlier p r
+
+-- the event that a move reports
+abbrev pub told_event : Move → Option Event
+told_event m = elim m.item [ item.Reported q i ↦ Some m.event | item.Hidden q i ↦ None ]
+
+-- the acts of a move run from s, report what the streams tell of it, and keep the invariant
+abbrev pub Continues : ℕ → List Stream → List Move → State → Move → Type 0
+Continues top streams earlier s m =
+    (g : GoesOn top streams s m) × IsKept streams (m ∷ earlier) (state_after s g.outcomes)
+
+-- SMALL FACTS
+
+pub found : {A : Type 0} (o : Option A) → is_some o ≡ true → (x : A) × (o ≡ Some x)
+found None h = absurd (false≢true h)
+found (Some x) h = (x, refl)
+
+pub there_mapped : {A B : Type 0} (f : A → B) (o : Option A) → is_some (option_map f o) ≡ is_some o
+there_mapped f None = refl
+there_mapped f (Some x) = refl
+
+-- a process that is there stays there through acts of p's own
+pub still_there : (top : ℕ) (s : State) (p : Pid) (r before : Process) (acts : List Act) (l : Lifted top s p r acts)
+    → process s p ≡ Some before → (x : Pid) → is_some (process (state_after s l.os) x) ≡ is_some (process s x)
+still_there top s p r before acts l is x =
+    elim (pid_eq x p) as (λ b. pid_eq x p ≡ b → is_some (process (state_after s l.os) x) ≡ is_some (process s x)) [
+      | true ↦ λ e. let who = pid_same x p e in ap (λ y. is_some (process (state_after s l.os) y)) who
+          ∙ ap (λ (o : Option Process). is_some o) (l.here ∙ sym (ap (λ (o : Option Process). option_map (λ y. r) o) is))
+          ∙ there_mapped (λ y. r) (process s p) ∙ ap (λ y. is_some (process s y)) (sym who)
+      | false ↦ λ e. ap (λ (o : Option Process). is_some o) (l.others x e)
+    ] refl
+
+-- a stamp that isn't uncaused
+pub caused : (earlier : List Move) (m : Move) → is_taking m ≡ false → uncaused earlier m ≡ false
+    → (m.event.serial.prev ≡ last m.who earlier) ⊎ (clock m.who earlier ≤ m.event.serial.prev)
+caused earlier m stamps h =
+    let late = nat_lt m.event.serial.prev (clock m.who earlier) in
+    let same = m.event.serial.prev == last m.who earlier in
+    let rest : (not same && late) ≡ false = ap (λ b. not b && (not same && late)) (sym stamps) ∙ h in
+    elim same as (λ b. same ≡ b → (not b && late) ≡ false
+    → (m.event.serial.prev ≡ last m.who earlier) ⊎ (clock m.who earlier ≤ m.event.serial.prev)) [
+      | true ↦ λ e h. inl (eqb-true m.event.serial.prev (last m.who earlier) e)
+      | false ↦ λ e h. inr (ltb-false m.event.serial.prev (clock m.who earlier) h)
+    ] refl rest
+
+-- WHAT A MOVE MAKES OF THE COUNTS
+
+pub own_clock : (m : Move) (earlier : List Move) → clock m.who earlier < m.event.serial.this
+    → clock m.who (m ∷ earlier) ≡ m.event.serial.this
+own_clock m earlier below =
+    let greater : max (clock m.who earlier) m.event.serial.this ≡ m.event.serial.this = omega arith in
+    ap (λ b. cond b (max (clock m.who earlier) m.event.serial.this) (clock m.who earlier))
+    (pid_eq-refl m.who) ∙ greater
+
+pub own_last : (m : Move) (earlier : List Move) → is_taking m ≡ false → last m.who (m ∷ earlier) ≡ m.event.serial.prev
+own_last m earlier stamps = ap (λ b. cond b (cond (is_taking m) m.event.serial.this m.event.serial.prev)
+    (last m.who earlier)) (pid_eq-refl m.who) ∙ ap (λ b. cond b m.event.serial.this m.event.serial.prev) stamps
+
+pub apart_from : (x p : Pid) → pid_eq x p ≡ false → pid_eq p x ≡ false
+apart_from x p h = pid_eq-swap p x ∙ h
+
+pub other_clock : (m : Move) (earlier : List Move) (x : Pid) → pid_eq x m.who ≡ false
+    → clock x (m ∷ earlier) ≡ clock x earlier
+other_clock m earlier x h = ap (λ b. cond b (max (clock x earlier) m.event.serial.this) (clock x earlier))
+    (apart_from x m.who h)
+
+pub other_last : (m : Move) (earlier : List Move) (x : Pid) → pid_eq x m.who ≡ false
+    → last x (m ∷ earlier) ≡ last x earlier
+other_last m earlier x h = ap (λ b. cond b (cond (is_taking m) m.event.serial.this m.event.serial.prev)
+    (last x earlier)) (apart_from x m.who h)
+
+-- the queue of x after a move that stamps
+pub stamp_queue : (streams : List Stream) (m : Move) (earlier : List Move) (x : Pid) (b : Bool) → is_taking m ≡ false
+    → sends_to x m ≡ b → queue_of streams x (m ∷ earlier) ≡ cond b (queue_of streams x earlier
+    ++ message_of streams m ∷ []) (queue_of streams x earlier)
+stamp_queue streams m earlier x b stamps sends =
+    let old = queue_of streams x earlier in
+    let took = cond (pid_eq m.who x) (without m.event.from m.event.serial.this old) old in
+    ap (λ t. cond t took (cond (sends_to x m) (old ++ message_of streams m ∷ []) old)) stamps
+    ∙ ap (λ t. cond t (old ++ message_of streams m ∷ []) old) sends
+
+-- and after one that takes
+pub taken_queue : (streams : List Stream) (m : Move) (earlier : List Move) (x : Pid) (b : Bool) → is_taking m ≡ true
+    → pid_eq m.who x ≡ b → queue_of streams x (m ∷ earlier) ≡ cond b
+    (without m.event.from m.event.serial.this (queue_of streams x earlier)) (queue_of streams x earlier)
+taken_queue streams m earlier x b takes who =
+    let old = queue_of streams x earlier in
+    let took = without m.event.from m.event.serial.this old in
+    ap (λ t. cond t (cond (pid_eq m.who x) took old) (cond (sends_to x m) (old ++ message_of streams m ∷ []) old)) takes
+    ∙ ap (λ t. cond t took old) who
+
+-- ONE ACT MORE
+
+pub stream_last : (acts : List Act) (a : Act) (os : List Outcome) (o : Outcome) (p : Pid) (top : ℕ) (s : State)
+    → run_from top s acts ≡ Some os → Silent os → stream (acts ++ a ∷ []) (os ++ o ∷ []) p
+    ≡ (if pid_eq (actor a) p then option_to_list o.report else []) ++ []
+stream_last [] a os o p top s runs silent = ap (λ xs. stream (a ∷ []) (xs ++ o ∷ []) p) (sym (same_Some [] os runs))
+stream_last (b ∷ acts) a os o p top s runs silent =
+    let t = run_parts top s b acts os runs in
+    let quiet : Silent (t.first ∷ t.others) = subst Silent t.is_whole silent in
+    ap (λ xs. stream (b ∷ (acts ++ a ∷ [])) (xs ++ o ∷ []) p) t.is_whole
+    ∙ ap (λ report. cond (pid_eq (actor b) p) (option_to_list report) []
+    ++ stream (acts ++ a ∷ []) (t.others ++ o ∷ []) p) quiet.0
+    ∙ elim (pid_eq (actor b) p) as (λ c. cond c (option_to_list None) []
+    ++ stream (acts ++ a ∷ []) (t.others ++ o ∷ []) p ≡ (if pid_eq (actor a) p then option_to_list o.report else [])
+    ++ []) [
+      | true ↦ stream_last acts a t.others o p top t.first.after t.is_rest quiet.1
+      | false ↦ stream_last acts a t.others o p top t.first.after t.is_rest quiet.1
+    ]
+
+-- what p sees of the last act of an item, where its report is the move's event
+abbrev pub shown_to : Pid → Move → Option Event → List Event
+shown_to p m report = (if pid_eq m.who p then option_to_list report else []) ++ []
+
+told_of : (x : Item) (e : Event) (p : Pid) → shown_to p (move_by x e) (told_event (move_by x e))
+    ≡ told_by p (move_by x e)
+told_of (item.Reported q i) e p =
+    elim (pid_eq q p) as (λ b. (cond b (e ∷ []) []) ++ [] ≡ cond b (e ∷ []) []) [
+      | true ↦ refl
+      | false ↦ refl
+    ]
+told_of (item.Hidden q i) e p =
+    let none : Option Event = None in
+    elim (pid_eq e.from p) as (λ b. (cond b (option_to_list none) []) ++ [] ≡ []) [
+      | true ↦ refl
+      | false ↦ refl
+    ]
+
+pub told_last : (m : Move) (report : Option Event) (p : Pid) → move_by m.item m.event ≡ m → report ≡ told_event m
+    → shown_to p m report ≡ told_by p m
+told_last m report p is h = ap (shown_to p m) h
+    ∙ subst (λ y. shown_to p y (told_event y) ≡ told_by p y) is (told_of m.item m.event p)

@@ -1,0 +1,160 @@
+-- A receive keeps the invariant: it takes the message that waits for it, which leaves the queue and gives the event.
+use Rattle.std.proofs.Common.{◌≡◌, ℕ, zero, suc, ◌+◌, max, true, false}
+use Rattle.std.proofs.Common.{cond, List, [], ◌∷◌, Option, Some, None, is_some, option_map}
+use Rattle.std.proofs.Common.{refl, sym, ◌∙◌, ap, subst, arith}
+use Rattle.std.specs.List.{remove, position, slice_get}
+use Rattle.std.proofs.lemmas.Bool.{eq-eqb, ne_eqb}
+use Rattle.std.proofs.lemmas.Option.{same_Some, none-some}
+use Rattle.st_core.specs.declared.types.Pid.{Pid}
+use Rattle.st_core.specs.declared.types.Token.{Token}
+use Rattle.st_core.specs.declared.types.Message.{Message}
+use Rattle.st_core.specs.declared.types.Kind.TheVariants as kind
+use Rattle.st_core.specs.declared.types.Event.{Event}
+use Rattle.st_core.specs.declared.types.Act.TheVariants as act
+use Rattle.st_core.specs.Pid.{pid_eq}
+use Rattle.st_core.specs.State.{Process, State, process}
+use Rattle.st_core.specs.declared.types.Want.TheVariants as want
+use Rattle.st_core.specs.Local.{received}
+use Rattle.st_core.specs.Pick.{pick, pick_from}
+use Rattle.st_core.specs.Report.{report}
+use Rattle.st_core.specs.Step.{acted, receives, changed, outcome_of}
+use Rattle.st_core.specs.Step.{step}
+use Rattle.st_core.specs.Run.{Stream}
+use Rattle.st_core.specs.Streams.{lists}
+use Rattle.st_core.proofs.ForCallers.{pid_same, pid_eq-refl, process_pid, mapped}
+use Rattle.st_mail.specs.Mail.{is_stamp}
+use Rattle.st_plan.specs.Moves.{Move, is_taking, clock, last}
+use Rattle.st_plan.specs.Build.{act_of}
+use Rattle.st_plan.specs.Moves.{move_by}
+use Rattle.st_plan.proofs.Lift.{step_is, process_then, changed_own}
+use Rattle.st_plan.proofs.Kept.{queue_of, IsSo, IsKept, told_event, Continues, found, there_mapped, apart_from}
+use Rattle.st_plan.proofs.Kept.{other_clock, other_last, taken_queue, told_last}
+use Rattle.st_plan.proofs.Stamping.{one_run}
+
+pick_place : (n k : ℕ) (queue : List Message) (x : Message) → slice_get queue k ≡ Some x
+    → pick_from n (want.Place (n + k)) queue ≡ Some (n + k, x)
+pick_place n k [] x at = absurd (none-some x at)
+pick_place n zero (y ∷ queue) x at =
+    let here : n + 0 ≡ n = omega arith in
+    ap (λ b. cond b (Some (n, y)) (pick_from (n + 1) (want.Place (n + 0)) queue)) (eq-eqb n (n + 0) (sym here))
+    ∙ ap (λ k. Some (k, y)) (sym here) ∙ ap (λ z. Some (n + 0, z)) (same_Some y x at)
+pick_place n (suc k) (y ∷ queue) x at =
+    let sum : n + 1 + k ≡ n + suc k = omega arith in
+    ap (λ b. cond b (Some (n, y)) (pick_from (n + 1) (want.Place (n + suc k)) queue))
+    (ne_eqb n (n + suc k) (λ h. omega arith))
+    ∙ ap (λ j. pick_from (n + 1) (want.Place j) queue) (sym sum) ∙ pick_place (n + 1) k queue x at
+    ∙ ap (λ j. Some (j, x)) sum
+
+-- the message that a receive takes stands in its queue, and gives its event
+pub record IsWaiting (streams : List Stream) (earlier : List Move) (m : Move) : Type 0 where
+  pub place : ℕ
+  pub message : Message
+  pub token : Token
+  pub is : position (λ x. is_stamp m.event.from m.event.serial.this x.token) (queue_of streams m.who earlier)
+      ≡ Some place
+  pub at : slice_get (queue_of streams m.who earlier) place ≡ Some message
+  pub has : message.token ≡ Some token
+  pub seen : token.flags.receive ≡ true
+  pub gives : (let e : Event = record {
+    label = token.label;
+    kind = kind.Receive;
+    serial = token.serial;
+    from = token.from;
+    to = Some m.who;
+    value = message.value;
+  } in e) ≡ m.event
+
+pub taking : (top : ℕ) (streams : List Stream) (earlier : List Move) (s : State) (m : Move) → IsKept streams earlier s
+    → lists streams m.who ≡ true
+    → is_taking m ≡ true → ((r : Process) → act_of r m ≡ option_map (λ k. act.Receive m.who (want.Place k))
+    (position (λ x. is_stamp m.event.from m.event.serial.this x.token) r.queue)) → told_event m ≡ Some m.event
+    → move_by m.item m.event ≡ m → IsWaiting streams earlier m → Continues top streams earlier s m
+taking top streams earlier s m kept listed takes is_act is_told is w =
+    let at = found (process s m.who) (kept.there m.who listed) in
+    let r = at.0 in
+    let so = kept.each m.who r at.1 in
+    let who : r.pid ≡ m.who = process_pid s m.who r at.1 in
+    let k = w.place in
+    let a = act.Receive m.who (want.Place k) in
+    let test = λ (x : Message). is_stamp m.event.from m.event.serial.this x.token in
+    let picked : pick (want.Place k) r.queue ≡ Some (k, w.message) = let zero_sum : 0 + k ≡ k = omega arith in
+    ap (λ j. pick_from 0 (want.Place j) r.queue) (sym zero_sum)
+    ∙ pick_place 0 k r.queue w.message (ap (λ q. slice_get q k) so.queued ∙ w.at)
+    ∙ ap (λ j. Some (j, w.message)) zero_sum in
+    let done = receives r (Some (k, w.message)) in
+    let acted_is : acted top r a ≡ Some done = ap (λ f. Some (receives r f)) picked in
+    let o = outcome_of s a done in
+    let stepped : step top s a ≡ Some o = step_is top s a r r done at.1 at.1 acted_is in
+    let this : w.token.serial.this ≡ m.event.serial.this = ap (λ (e : Event). e.serial.this) w.gives in
+    let report_is : o.report ≡ told_event m =
+    ap (λ t. report r.local.traced kind.Receive t (Some r.pid) w.message.value) w.has
+    ∙ ap (λ b. report b kind.Receive (Some w.token) (Some r.pid) w.message.value) so.traced
+    ∙ ap (λ p. report true kind.Receive (Some w.token) (Some p) w.message.value) who
+    ∙ ap (λ b. cond b (Some (record {
+      label = w.token.label;
+      kind = kind.Receive;
+      serial = w.token.serial;
+      from = w.token.from;
+      to = Some m.who;
+      value = w.message.value;
+    })) None) w.seen
+    ∙ ap (λ (e : Event). Some e) w.gives ∙ sym is_told in
+    let put : Process = record r { local = received r.local w.message.token; queue = remove r.queue k } in
+    let put_is : put ≡ record r { local = received r.local (Some w.token); queue = remove r.queue k } =
+    ap (λ t. let y : Process = record r { local = received r.local t; queue = remove r.queue k } in y) w.has in
+    let own : IsSo streams (m ∷ earlier) m.who (changed a done r) =
+    subst (IsSo streams (m ∷ earlier) m.who) (sym (changed_own a done r who ∙ put_is)) (record {
+      clocked = ap (λ c. max c w.token.serial.this) so.clocked ∙ ap (max (clock m.who earlier)) this
+          ∙ sym (ap (λ b. cond b (max (clock m.who earlier) m.event.serial.this) (clock m.who earlier))
+          (pid_eq-refl m.who));
+      lasted = this ∙ sym (ap (λ b. cond b (cond (is_taking m) m.event.serial.this m.event.serial.prev)
+          (last m.who earlier)) (pid_eq-refl m.who) ∙ ap (λ b. cond b m.event.serial.this m.event.serial.prev) takes);
+      traced = so.traced;
+      queued = ap (λ q. remove q k) so.queued ∙ sym (taken_queue streams m earlier m.who true takes (pid_eq-refl m.who)
+          ∙ ap (λ p. elim p [
+            | None ↦ queue_of streams m.who earlier
+            | Some j ↦ remove (queue_of streams m.who earlier) j
+          ]) w.is);
+    }) in
+    let each : (x : Pid) (r2 : Process) → process o.after x ≡ Some r2 → IsSo streams (m ∷ earlier) x r2 =
+    λ x r2 h.
+    let parts = mapped (changed a done) (process s x) r2 (sym (process_then s a done x) ∙ h) in
+    let z = parts.0 in
+    subst (IsSo streams (m ∷ earlier) x) parts.2
+    (elim (pid_eq x m.who) as (λ b. pid_eq x m.who ≡ b → IsSo streams (m ∷ earlier) x (changed a done z)) [
+      | true ↦ λ e.
+          let same = pid_same x m.who e in
+          let is_r : r ≡ z = same_Some r z (sym at.1 ∙ ap (process s) (sym same) ∙ parts.1) in
+          subst (λ p. IsSo streams (m ∷ earlier) p (changed a done z)) (sym same)
+          (subst (λ q. IsSo streams (m ∷ earlier) m.who (changed a done q)) is_r own)
+      | false ↦ λ e.
+          let pid : z.pid ≡ x = process_pid s x z parts.1 in
+          let not_own : changed a done z ≡ z = ap (λ b. cond b (record z {
+            local = done.local;
+            queue = done.queue;
+          }) z) (ap (λ p. pid_eq p m.who) pid ∙ e) in
+          let there = kept.each x z parts.1 in
+          subst (IsSo streams (m ∷ earlier) x) (sym not_own) (record {
+            clocked = there.clocked ∙ sym (other_clock m earlier x e);
+            lasted = there.lasted ∙ sym (other_last m earlier x e);
+            traced = there.traced;
+            queued = there.queued ∙ sym (taken_queue streams m earlier x false takes (apart_from x m.who e));
+          })
+    ] refl) in (
+      record {
+        before = r;
+        is_before = at.1;
+        acts = a ∷ [];
+        are = rw (is_act r, takes) (ap (λ q. option_map (λ b. b ∷ [])
+            (option_map (λ k. act.Receive m.who (want.Place k)) (position test q))) so.queued
+            ∙ ap (λ p. option_map (λ b. b ∷ []) (option_map (λ k. act.Receive m.who (want.Place k)) p)) w.is);
+        outcomes = o ∷ [];
+        runs = one_run top s a o stepped;
+        tells = λ p. told_last m o.report p is report_is;
+      },
+      record {
+        there = λ x h. ap (λ (p : Option Process). is_some p) (process_then s a done x)
+            ∙ there_mapped (changed a done) (process s x) ∙ kept.there x h;
+        each = each;
+      },
+    )
