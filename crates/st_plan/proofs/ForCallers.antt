@@ -1,9 +1,13 @@
--- The lemmas that proofs of the crates above may cite: on the moves along an order, on acts of one process's own, and
--- on what the acts before a stamp do.
+-- The lemmas that proofs of the crates above may cite: on the moves along an order, on acts of one process's own, on
+-- what the moves say of the machine, and on what the acts before a stamp do.
 
 -- ---- the moves along an order
 pub use Rattle.st_plan.proofs.Along.{moves_append, one_move, earlier_more, order_there, hidden_clock, IsAt, IsThere}
 -- ---- acts as steps of the machine
 pub use Rattle.st_plan.proofs.Lift.{step_is, run_append, state_append, lifted, stream_silent, Lifted, Silent}
+-- ---- what the moves say of the machine, from the first acts on
+pub use Rattle.st_plan.proofs.Kept.{IsKept, IsSo}
+pub use Rattle.st_plan.proofs.Opening.{opens, IsOpened}
+pub use Rattle.st_plan.proofs.Built.{stream_append}
 -- ---- the acts before a stamp
 pub use Rattle.st_plan.proofs.Readiness.{is_alone, is_ready, IsQuiet, QuietRun, Reaches}

@@ -6,4 +6,7 @@ pub mod Along
 pub mod Kept
 pub mod Stamping
 pub mod Taking
+pub mod Free
+pub mod Opening
+pub mod Built
 pub mod ForCallers

@@ -1,5 +1,5 @@
 -- The streams that the auditor explains: pairing accepts them, and nothing stands against any item of their order.
-use Rattle.std.specs.Prelude.{◌≡◌, ℕ, ◌+◌, ◌≤◌, ◌==◌, Bool, false, not, List, [], ◌∷◌, None, Some, if◌then◌else◌}
+use Rattle.std.specs.Prelude.{◌≡◌, ℕ, ◌+◌, ◌≤◌, ◌==◌, Bool, false, not, List, [], ◌∷◌, ◌++◌, None, Some, if◌then◌else◌}
 use Rattle.st_core.specs.declared.types.Pid.{Pid}
 use Rattle.st_core.specs.declared.types.Event.{Event}
 use Rattle.st_core.specs.Pid.{pid_eq}
@@ -16,6 +16,11 @@ told_by p m = elim m.item [
   | item.Reported q i ↦ if pid_eq q p then m.event ∷ [] else []
   | item.Hidden q i ↦ []
 ]
+
+-- all that p reports of these moves
+abbrev pub told_all : Pid → List Move → List Event
+told_all p [] = []
+told_all p (m ∷ ms) = told_by p m ++ told_all p ms
 
 -- how many of these moves p reports
 abbrev pub told : Pid → List Move → ℕ

@@ -1,0 +1,258 @@
+-- The tracers come first: a tracer for each node marks all its processes, reports nothing and leaves all else at zero, so
+-- that after them the state is what no moves say.
+use Rattle.std.proofs.Common.{◌≡◌, ℕ, ◌==◌, ◌&&◌, zero, suc, true, false, cond, List, [], ◌∷◌, Option}
+use Rattle.std.proofs.Common.{Some, None, is_some, option_map, option_and_then}
+use Rattle.std.proofs.Common.{refl, sym, ◌∙◌, ap, subst, arith}
+use Rattle.std.specs.List.{slice_get}
+use Rattle.std.specs.Option.{option_map_or}
+use Rattle.std.proofs.lemmas.Bool.{false≢true, eq-eqb}
+use Rattle.std.proofs.lemmas.Option.{same_Some, none-some}
+use Rattle.st_core.specs.declared.types.Pid.{Pid}
+use Rattle.st_core.specs.declared.types.Reply.TheVariants as reply
+use Rattle.st_core.specs.declared.types.Act.{Act}
+use Rattle.st_core.specs.declared.types.Act.TheVariants as act
+use Rattle.st_core.specs.Pid.{pid_eq, node_eq}
+use Rattle.st_core.specs.State.{Process, State, process, zero_local, zero_state}
+use Rattle.st_core.specs.Step.{Outcome, answers, changed, outcome_of, step}
+use Rattle.st_core.specs.Run.{Stream, pids_of, run_from}
+use Rattle.st_core.specs.Streams.{lists, stream_of}
+use Rattle.st_core.proofs.ForCallers.{pid_same, pid_eq-refl, process_pid, mapped}
+use Rattle.std.proofs.lemmas.Bool.Decides.{nat_tests}
+use Rattle.st_plan.specs.Build.{state_after, tracers_after}
+use Rattle.st_plan.proofs.Lift.{step_is, process_then, Silent}
+use Rattle.st_plan.proofs.Kept.{IsKept, found, there_mapped}
+
+swap : (m n : ℕ) → (m == n) ≡ (n == m)
+swap m n = grind (arith, nat_tests)
+
+pub record IsZero (r : Process) : Type 0 where
+  pub clocked : r.local.clock ≡ 0
+  pub lasted : r.local.last ≡ 0
+  pub queued : r.queue ≡ []
+
+abbrev AreZero : State → Type 0
+AreZero s = (x : Pid) (r : Process) → process s x ≡ Some r → IsZero r
+
+abbrev IsTraced : State → Pid → Type 0
+IsTraced s x = (r : Process) → process s x ≡ Some r → r.local.traced ≡ true
+
+-- the state after a tracer change by p
+abbrev switched : State → Pid → Process → State
+switched s p r = (outcome_of s (act.Tracer p true) (answers r r.local (reply.Was r.local.traced))).after
+
+tracer_zero : (p : Pid) (before r : Process) → IsZero before → IsZero r
+    → IsZero (changed (act.Tracer p true) (answers before before.local (reply.Was before.local.traced)) r)
+tracer_zero p before r z y =
+    let own : Process = cond (pid_eq r.pid p) (record r { local = before.local; queue = before.queue }) r in
+    let mine : IsZero own = elim (pid_eq r.pid p) as (λ b. IsZero (cond b (record r {
+      local = before.local;
+      queue = before.queue;
+    }) r)) [
+      | true ↦ record { clocked = z.clocked; lasted = z.lasted; queued = z.queued }
+      | false ↦ y
+    ] in
+    elim (node_eq own.pid p) as (λ b. IsZero (cond b (record own {
+      local =
+          record own.local { traced = true };
+    }) own)) [
+      | true ↦ record {
+        clocked = mine.clocked;
+        lasted = mine.lasted;
+        queued = mine.queued;
+      }
+      | false ↦ mine
+    ]
+
+own_pid : (p : Pid) (before r : Process) → (cond (pid_eq r.pid p) (record r {
+  local = before.local;
+  queue = before.queue;
+}) r).pid ≡ r.pid
+own_pid p before r = elim (pid_eq r.pid p) as (λ b. (cond b (record r {
+  local = before.local;
+  queue = before.queue;
+}) r).pid ≡ r.pid) [ true ↦ refl | false ↦ refl ]
+
+-- on p's node all are traced
+tracer_node : (p : Pid) (before r : Process) → node_eq r.pid p ≡ true
+    → (changed (act.Tracer p true) (answers before before.local (reply.Was before.local.traced)) r).local.traced ≡ true
+tracer_node p before r h =
+    let own : Process = cond (pid_eq r.pid p) (record r { local = before.local; queue = before.queue }) r in
+    ap (λ b. (cond b (record own { local = record own.local { traced = true } }) own).local.traced)
+    (ap (λ x. node_eq x p) (own_pid p before r) ∙ h)
+
+-- and elsewhere as before
+tracer_keeps : (p : Pid) (before r : Process) → r.local.traced ≡ true
+    → (changed (act.Tracer p true) (answers before before.local (reply.Was before.local.traced)) r).local.traced ≡ true
+tracer_keeps p before r h =
+    elim (node_eq r.pid p) as (λ b. node_eq r.pid p ≡ b → (changed (act.Tracer p true)
+    (answers before before.local (reply.Was before.local.traced)) r).local.traced ≡ true) [
+      | true ↦ λ e. tracer_node p before r e
+      | false ↦ λ e.
+          let apart : pid_eq r.pid p ≡ false = ap (λ b. b && (r.pid.number == p.number)) e in
+          ap (λ b. (let own : Process = cond b (record r { local = before.local; queue = before.queue }) r in
+          (cond (node_eq own.pid p) (record own {
+            local = record own.local {
+              traced =
+                  true;
+            };
+          }) own)).local.traced) apart
+          ∙ ap (λ b. (cond b (record r { local = record r.local { traced = true } }) r).local.traced) e ∙ h
+    ] refl
+
+pub record IsOpened (top : ℕ) (s : State) (acts : List Act) (ps : List Pid) : Type 0 where
+  pub os : List Outcome
+  pub runs : run_from top s acts ≡ Some os
+  pub silent : Silent os
+  pub zero : AreZero (state_after s os)
+  pub there : (x : Pid) → is_some (process (state_after s os) x) ≡ is_some (process s x)
+  pub keeps : (x : Pid) → IsTraced s x → IsTraced (state_after s os) x
+  pub all : (k : ℕ) (x : Pid) → slice_get ps k ≡ Some x → IsTraced (state_after s os) x
+
+all_of : (top : ℕ) (s after : State) (p : Pid) (ps : List Pid) → IsTraced after p
+    → ((k : ℕ) (x : Pid) → slice_get ps k ≡ Some x → IsTraced after x) → (k : ℕ) (x : Pid)
+    → slice_get (p ∷ ps) k ≡ Some x → IsTraced after x
+all_of top s after p ps one rest zero x h = subst (IsTraced after) (same_Some p x h) one
+all_of top s after p ps one rest (suc k) x h = rest k x h
+
+opened : (top : ℕ) (ps : List Pid) (seen : Option ℕ) (s : State)
+    → ((k : ℕ) (x : Pid) → slice_get ps k ≡ Some x → is_some (process s x) ≡ true) → AreZero s
+    → ((x : Pid) → option_map_or (λ n. n == x.node) seen false ≡ true → IsTraced s x)
+    → IsOpened top s (tracers_after seen ps) ps
+opened top [] seen s there zeroed traced = record {
+  os = [];
+  runs = refl;
+  silent = tt;
+  zero = zeroed;
+  there = λ x. refl;
+  keeps = λ x h. h;
+  all = λ k x h. absurd (none-some x h);
+}
+opened top (p ∷ ps) seen s there zeroed traced =
+    elim (option_map_or (λ n. n == p.node) seen false) as (λ b. option_map_or (λ n. n == p.node) seen false ≡ b
+    → IsOpened top s (cond b (tracers_after seen ps) (act.Tracer p true ∷ tracers_after (Some p.node) ps)) (p ∷ ps)) [
+      | true ↦ λ e.
+          let rest = opened top ps seen s (λ k x h. there (suc k) x h) zeroed traced in
+          record {
+            os = rest.os;
+            runs = rest.runs;
+            silent = rest.silent;
+            zero = rest.zero;
+            there = rest.there;
+            keeps = rest.keeps;
+            all = all_of top s (state_after s rest.os) p ps (rest.keeps p (traced p e)) rest.all;
+          }
+      | false ↦ λ e.
+          let at = found (process s p) (there 0 p refl) in
+          let r = at.0 in
+          let a = act.Tracer p true in
+          let now = answers r r.local (reply.Was r.local.traced) in
+          let o = outcome_of s a now in
+          let first : step top s a ≡ Some o = step_is top s a r r now at.1 at.1 refl in
+          let here : (x : Pid) → process o.after x ≡ option_map (changed a now) (process s x) =
+          λ x. process_then s a now x in
+          let stays : (x : Pid) → is_some (process o.after x)
+          ≡ is_some (process s x) = λ x. ap (λ (q : Option Process). is_some q) (here x)
+          ∙ there_mapped (changed a now) (process s x) in
+          let still : (x : Pid) → IsTraced s x → IsTraced o.after x = λ x h r2 is. let parts =
+          mapped (changed a now) (process s x) r2 (sym (here x) ∙ is) in
+          subst (λ (y : Process). y.local.traced ≡ true) parts.2 (tracer_keeps p r parts.0 (h parts.0 parts.1)) in
+          let node : (x : Pid) → node_eq x p ≡ true → IsTraced o.after x = λ x same r2 is. let parts =
+          mapped (changed a now) (process s x) r2 (sym (here x) ∙ is) in
+          subst (λ (y : Process). y.local.traced ≡ true) parts.2
+          (tracer_node p r parts.0 (ap (λ q. node_eq q p) (process_pid s x parts.0 parts.1) ∙ same)) in
+          let zeros : AreZero o.after = λ x r2 is. let parts =
+          mapped (changed a now) (process s x) r2 (sym (here x) ∙ is) in
+          subst IsZero parts.2 (tracer_zero p r parts.0 (zeroed p r at.1) (zeroed x parts.0 parts.1)) in
+          let rest = opened top ps (Some p.node) o.after (λ k x h. stays x
+          ∙ there (suc k) x h) zeros (λ x h. node x (swap x.node p.node ∙ h)) in
+          record {
+            os = o ∷ rest.os;
+            runs = ap (option_and_then (λ (o : Outcome). option_map (λ os. o ∷ os)
+                (run_from top o.after (tracers_after (Some p.node) ps)))) first
+                ∙ ap (option_map (λ os. o ∷ os)) rest.runs;
+            silent = (refl, rest.silent);
+            zero = rest.zero;
+            there = λ x. rest.there x ∙ stays x;
+            keeps = λ x h. rest.keeps x (still x h);
+            all = all_of top s (state_after o.after rest.os) p ps
+                (rest.keeps p (node p (eq-eqb p.node p.node refl))) rest.all;
+          }
+    ] refl
+
+zero_found : (pids : List Pid) (x : Pid) (r : Process) → process (zero_state pids) x ≡ Some r
+    → (k : ℕ) × (slice_get pids k ≡ Some x)
+zero_found [] x r h = absurd (none-some r h)
+zero_found (p ∷ pids) x r h =
+    elim (pid_eq p x) as (λ b. pid_eq p x ≡ b → cond b (Some (record {
+      pid = p;
+      local = zero_local;
+      queue = [];
+    })) (process (zero_state pids) x) ≡ Some r → (k : ℕ) × (slice_get (p ∷ pids) k ≡ Some x)) [
+      | true ↦ λ e h. (0, ap (λ (q : Pid). Some q) (pid_same p x e))
+      | false ↦ λ e h. let rest = zero_found pids x r h in (suc rest.0, rest.1)
+    ] refl h
+
+zero_there : (pids : List Pid) (k : ℕ) (x : Pid) → slice_get pids k ≡ Some x
+    → is_some (process (zero_state pids) x) ≡ true
+zero_there [] k x h = absurd (none-some x h)
+zero_there (p ∷ pids) zero x h = ap (λ b. is_some (cond b (Some (record {
+  pid = p;
+  local = zero_local;
+  queue = [];
+})) (process (zero_state pids) x))) (ap (λ q. pid_eq q x) (same_Some p x h) ∙ pid_eq-refl x)
+zero_there (p ∷ pids) (suc k) x h =
+    elim (pid_eq p x) as (λ b. is_some (cond b (Some (record {
+      pid = p;
+      local = zero_local;
+      queue = [];
+    })) (process (zero_state pids) x)) ≡ true) [ true ↦ refl | false ↦ zero_there pids k x h ]
+
+zero_zero : (pids : List Pid) → AreZero (zero_state pids)
+zero_zero [] x r h = absurd (none-some r h)
+zero_zero (p ∷ pids) x r h =
+    elim (pid_eq p x) as (λ b. cond b (Some (record {
+      pid = p;
+      local = zero_local;
+      queue = [];
+    })) (process (zero_state pids) x) ≡ Some r → IsZero r) [
+      | true ↦ λ h. subst IsZero (same_Some _ r h) (record { clocked = refl; lasted = refl; queued = refl })
+      | false ↦ λ h. zero_zero pids x r h
+    ] h
+
+listed_there : (streams : List Stream) (x : Pid) → lists streams x ≡ true
+    → is_some (process (zero_state (pids_of streams)) x) ≡ true
+listed_there [] x h = absurd (false≢true h)
+listed_there (y ∷ streams) x h =
+    elim (pid_eq y.pid x) as (λ b. is_some (cond b (Some y) (stream_of streams x)) ≡ true
+    → is_some (cond b (Some (record {
+      pid = y.pid;
+      local = zero_local;
+      queue = [];
+    })) (process (zero_state (pids_of streams)) x)) ≡ true) [
+      | true ↦ λ h. refl
+      | false ↦ λ h. listed_there streams x h
+    ] h
+
+-- after the tracers the invariant holds of no moves
+pub opens : (top : ℕ) (streams : List Stream) → (o : IsOpened top (zero_state (pids_of streams))
+    (tracers_after None (pids_of streams)) (pids_of streams))
+    × IsKept streams [] (state_after (zero_state (pids_of streams)) o.os)
+opens top streams =
+    let pids = pids_of streams in
+    let o = opened top pids None (zero_state pids) (zero_there pids) (zero_zero pids) (λ x h. absurd (false≢true h)) in (
+      o,
+      record {
+        there = λ p h. o.there p ∙ listed_there streams p h;
+        each = λ p r h.
+            let z = o.zero p r h in
+            let was = found (process (zero_state pids) p) (sym (o.there p)
+            ∙ ap (λ (q : Option Process). is_some q) h) in
+            let listed = zero_found pids p was.0 was.1 in
+            record {
+              clocked = z.clocked;
+              lasted = z.lasted;
+              traced = o.all listed.0 p listed.1 r h;
+              queued = z.queued;
+            };
+      },
+    )
