@@ -27,7 +27,7 @@ use Rattle.st_plan.specs.Moves.{Move, clock, earlier_of, move_by, moves}
 
 -- LISTS
 
-all_append : {A : Type 0} (P : A → Type 0) (xs ys : List A) → AllByRecursion P xs → AllByRecursion P ys
+pub all_append : {A : Type 0} (P : A → Type 0) (xs ys : List A) → AllByRecursion P xs → AllByRecursion P ys
     → AllByRecursion P (xs ++ ys)
 all_append P [] ys one two = two
 all_append P (x ∷ xs) ys one two = (one.0, all_append P xs ys one.1 two)
@@ -165,7 +165,7 @@ step_below m n rest h = elim (cases_order m n) [
   | inr (inr more) ↦ absurd (false≢true (ap (λ o. is_lt (ordering_then o rest)) (sym (cmp_greater m n more)) ∙ h))
 ]
 
-key_below : (k l : Key) → is_lt (key_cmp k l) ≡ true → IsKeyBelow k l
+pub key_below : (k l : Key) → is_lt (key_cmp k l) ≡ true → IsKeyBelow k l
 key_below k l h = elim (step_below k.height l.height _ h) [
   | inl less ↦ record {
     height = omega arith;
@@ -188,7 +188,7 @@ key_below k l h = elim (step_below k.height l.height _ h) [
 ]
 
 -- of rising keys each before an item is below its own
-all_before : (streams : List Stream) (xs : List Item) (n : ℕ) (x : Item) → KeysRise streams xs
+pub all_before : (streams : List Stream) (xs : List Item) (n : ℕ) (x : Item) → KeysRise streams xs
     → slice_get xs n ≡ Some x → AllByRecursion (λ y. comes_before streams y x ≡ true) (take n xs)
 all_before streams [] n x rise at = absurd (none-some x at)
 all_before streams (y ∷ xs) zero x rise at = tt
@@ -197,7 +197,7 @@ all_before streams (y ∷ xs) (suc n) x rise at =
 
 -- HEIGHTS
 
-event_below : (es : List Event) (n j : ℕ) (e : Event) → slice_get es j ≡ Some e → j < n
+pub event_below : (es : List Event) (n j : ℕ) (e : Event) → slice_get es j ≡ Some e → j < n
     → e.serial.this ≤ greatest (map (λ (x : Event). x.serial.this) (take n es))
 event_below [] n j e at less = absurd (none-some e at)
 event_below (d ∷ es) zero j e at less = absurd (omega arith)
@@ -209,7 +209,7 @@ event_below (d ∷ es) (suc n) (suc j) e at less =
     omega arith
 
 -- an item of a hidden send's process with a lower key has a lower count
-hidden_above : (streams : List Stream) (y : Item) (d : Event) (p : Pid) (i : ℕ) (e : Event) → IsAt streams y d
+pub hidden_above : (streams : List Stream) (y : Item) (d : Event) (p : Pid) (i : ℕ) (e : Event) → IsAt streams y d
     → IsKeyBelow (key_by streams y d) (key_by streams (item.Hidden p i) e) → (move_by y d).who ≡ e.from
     → d.serial.this < e.serial.this
 hidden_above streams (item.Reported q j) d p i e at below who =
@@ -232,12 +232,12 @@ hidden_above streams (item.Hidden q j) d p i e at below who =
       | inr (inr more) ↦ absurd (omega arith)
     ]
 
-event_is : (x : Item) (e : Event) → (move_by x e).event ≡ e
+pub event_is : (x : Item) (e : Event) → (move_by x e).event ≡ e
 event_is (item.Reported p i) e = refl
 event_is (item.Hidden p i) e = refl
 
 -- the clocks of these moves' process are below this count
-abbrev AreBelow : Pid → ℕ → List Move → Type 0
+abbrev pub AreBelow : Pid → ℕ → List Move → Type 0
 AreBelow q this = AllByRecursion (λ (m : Move). m.who ≡ q → m.event.serial.this < this)
 
 moves_below : (streams : List Stream) (p : Pid) (i : ℕ) (e : Event) → IsAt streams (item.Hidden p i) e
@@ -260,7 +260,7 @@ moves_below streams p i e at (y ∷ ys) there before =
       moves_below streams p i e at ys there.1 before.1,
     )
 
-clock_below : (q : Pid) (this : ℕ) (earlier : List Move) → 0 < this → AreBelow q this earlier → clock q earlier < this
+pub clock_below : (q : Pid) (this : ℕ) (earlier : List Move) → 0 < this → AreBelow q this earlier → clock q earlier < this
 clock_below q this [] some all = some
 clock_below q this (y ∷ earlier) some all =
     let rest = clock_below q this earlier some all.1 in

@@ -9,4 +9,6 @@ pub mod Taking
 pub mod Free
 pub mod Opening
 pub mod Built
+pub mod Rising
+pub mod Clocks
 pub mod ForCallers
