@@ -11,4 +11,7 @@ pub mod Opening
 pub mod Built
 pub mod Rising
 pub mod Clocks
+pub mod Waiting
+pub mod Matching
+pub mod Sources
 pub mod ForCallers

@@ -45,6 +45,17 @@ pick_place n (suc k) (y ∷ queue) x at =
     ∙ ap (λ j. pick_from (n + 1) (want.Place j) queue) (sym sum) ∙ pick_place (n + 1) k queue x at
     ∙ ap (λ j. Some (j, x)) sum
 
+-- the event of p's receive of a message with this value and token
+abbrev pub got_of : Pid → ℕ → Token → Event
+got_of p v t = record {
+  label = t.label;
+  kind = kind.Receive;
+  serial = t.serial;
+  from = t.from;
+  to = Some p;
+  value = v;
+}
+
 -- the message that a receive takes stands in its queue, and gives its event
 pub record IsWaiting (streams : List Stream) (earlier : List Move) (m : Move) : Type 0 where
   pub place : ℕ
@@ -55,14 +66,7 @@ pub record IsWaiting (streams : List Stream) (earlier : List Move) (m : Move) : 
   pub at : slice_get (queue_of streams m.who earlier) place ≡ Some message
   pub has : message.token ≡ Some token
   pub seen : token.flags.receive ≡ true
-  pub gives : (let e : Event = record {
-    label = token.label;
-    kind = kind.Receive;
-    serial = token.serial;
-    from = token.from;
-    to = Some m.who;
-    value = message.value;
-  } in e) ≡ m.event
+  pub gives : got_of m.who message.value token ≡ m.event
 
 pub taking : (top : ℕ) (streams : List Stream) (earlier : List Move) (s : State) (m : Move) → IsKept streams earlier s
     → lists streams m.who ≡ true
