@@ -14,4 +14,7 @@ pub mod Clocks
 pub mod Waiting
 pub mod Matching
 pub mod Sources
+pub mod Orderly
+pub mod Proper
+pub mod Serving
 pub mod ForCallers
