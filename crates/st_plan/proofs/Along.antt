@@ -37,7 +37,7 @@ all_reverse P [] all = tt
 all_reverse P (x ∷ xs) all = subst (AllByRecursion P) (sym (reverse-append (x ∷ []) xs))
     (all_append P (reverse xs) (x ∷ []) (all_reverse P xs all.1) (all.0, tt))
 
-take_more : {A : Type 0} (xs : List A) (n : ℕ) (x : A) → slice_get xs n ≡ Some x
+pub take_more : {A : Type 0} (xs : List A) (n : ℕ) (x : A) → slice_get xs n ≡ Some x
     → take (suc n) xs ≡ take n xs ++ x ∷ []
 take_more [] n x at = absurd (none-some x at)
 take_more (y ∷ xs) zero x at = ap (λ z. z ∷ []) (same_Some y x at)

@@ -17,4 +17,6 @@ pub mod Sources
 pub mod Orderly
 pub mod Proper
 pub mod Serving
+pub mod Telling
+pub mod Listing
 pub mod ForCallers
