@@ -19,4 +19,5 @@ pub mod Proper
 pub mod Serving
 pub mod Telling
 pub mod Listing
+pub mod Plain
 pub mod ForCallers

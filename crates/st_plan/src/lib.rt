@@ -5,6 +5,7 @@
 //! Nothing here steps a world.
 #![tactic(auto)]
 
+pub mod laws;
 mod plan;
 
 pub use plan::{QUIET, Start, ready};

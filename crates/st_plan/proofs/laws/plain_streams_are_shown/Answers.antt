@@ -1,0 +1,5 @@
+use Rattle.st_plan.proofs.Plain.{plain_is_shown}
+use Rattle.st_plan.proofs.laws.plain_streams_are_shown.Goals as goal
+
+pub returns : goal.returns
+returns c = plain_is_shown
