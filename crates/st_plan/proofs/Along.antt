@@ -260,7 +260,8 @@ moves_below streams p i e at (y ∷ ys) there before =
       moves_below streams p i e at ys there.1 before.1,
     )
 
-pub clock_below : (q : Pid) (this : ℕ) (earlier : List Move) → 0 < this → AreBelow q this earlier → clock q earlier < this
+pub clock_below : (q : Pid) (this : ℕ) (earlier : List Move) → 0 < this → AreBelow q this earlier
+    → clock q earlier < this
 clock_below q this [] some all = some
 clock_below q this (y ∷ earlier) some all =
     let rest = clock_below q this earlier some all.1 in

@@ -1,8 +1,7 @@
 -- The acts of all moves in a row: each move's go on from what those before left, so that they run and report what the
 -- streams tell of the moves.
-use Rattle.std.proofs.Common.{◌≡◌, ℕ, List, [], ◌∷◌, ◌++◌}
-use Rattle.std.proofs.Common.{Some, None, option_map, option_and_then, option_to_list, append_assoc, get_or}
-use Rattle.std.proofs.Common.{All, refl, sym, ◌∙◌, ap, if◌then◌else◌}
+use Rattle.std.proofs.Common.{◌≡◌, ℕ, List, [], ◌∷◌, ◌++◌, Some, None, option_map, option_and_then, option_to_list}
+use Rattle.std.proofs.Common.{append_assoc, get_or, All, refl, sym, ◌∙◌, ap, if◌then◌else◌}
 use Rattle.std.proofs.lemmas.Option.{same_Some}
 use Rattle.st_core.specs.declared.types.Pid.{Pid}
 use Rattle.st_core.specs.declared.types.Event.{Event}
@@ -13,9 +12,9 @@ use Rattle.st_core.specs.Step.{Outcome, actor}
 use Rattle.st_core.specs.Run.{Stream, Shows, pids_of, run_from, stream}
 use Rattle.st_core.proofs.ForCallers.{run_parts}
 use Rattle.st_plan.specs.Moves.{Move}
-use Rattle.st_plan.proofs.Free.{AllAlong}
 use Rattle.st_plan.specs.Build.{state_after, build, tracers_after, construction}
 use Rattle.st_plan.specs.Plain.{told_by, told_all}
+use Rattle.st_plan.proofs.Free.{AllAlong}
 use Rattle.st_plan.proofs.Lift.{run_append, stream_silent}
 use Rattle.st_plan.proofs.Kept.{IsKept, Continues}
 use Rattle.st_plan.proofs.Opening.{opens}

@@ -1,17 +1,16 @@
--- Along an order in which each process's items come in turn the clock of a stamp's process is below its count: a reported
--- stamp is above the event of its process before it, which came right before, and so above all that its process did.
-use Rattle.std.proofs.Common.{◌≡◌, ℕ, zero, suc, ◌+◌, ◌<◌, Bool, true, false, not, cond, List, []}
-use Rattle.std.proofs.Common.{◌∷◌, Some, inl, inr, refl, sym, ◌∙◌, ap, subst, arith}
-use Rattle.std.proofs.Common.{if◌then◌else◌}
+-- Along an order in which each process's items come in turn the clock of a stamp's process is below its count: a
+-- reported stamp is above the event of its process before it, which came, and so above all that its process did.
+use Rattle.std.proofs.Common.{◌≡◌, ℕ, zero, suc, ◌+◌, ◌<◌, Bool, true, false, not, cond, List, [], ◌∷◌, Some, inl, inr}
+use Rattle.std.proofs.Common.{refl, sym, ◌∙◌, ap, subst, arith, if◌then◌else◌}
 use Rattle.std.specs.List.{slice_get, AllByRecursion}
 use Rattle.std.proofs.lemmas.Bool.{not-false, cases_lt}
 use Rattle.st_core.specs.declared.types.Pid.{Pid}
 use Rattle.st_core.specs.declared.types.Event.{Event}
 use Rattle.st_core.specs.Pid.{pid_eq}
 use Rattle.st_core.specs.Run.{Stream}
-use Rattle.st_core.proofs.ForCallers.{pid_same}
-use Rattle.st_core.proofs.ForCallers.{all_at}
+use Rattle.st_core.proofs.ForCallers.{pid_same, all_at}
 use Rattle.st_pair.specs.Places.{event_at, is_stamp}
+use Rattle.st_pair.proofs.ForCallers.{serial_rises, stamp_counts_rise, IsPaired}
 use Rattle.st_order.specs.declared.item.Item.{Item}
 use Rattle.st_order.specs.declared.item.Item.TheVariants as item
 use Rattle.st_order.specs.Items.{height}
@@ -19,7 +18,6 @@ use Rattle.st_order.specs.Order.{key_by}
 use Rattle.st_plan.specs.Moves.{Move, move_by, is_taking, clock}
 use Rattle.st_plan.specs.Plain.{told}
 use Rattle.st_plan.proofs.Free.{AllAlong, IsInTurn}
-use Rattle.st_pair.proofs.ForCallers.{serial_rises, stamp_counts_rise, IsPaired}
 use Rattle.st_plan.proofs.Along.{clock_below, IsAt, IsKeyBelow}
 use Rattle.st_plan.proofs.Rising.{height_is, height_more, height_of, rank_of, this_below, IsTop, Stamps}
 

@@ -1,7 +1,7 @@
 -- Nothing stands against any move of the order of plain streams: each move splits the order, and of no split a reason
 -- holds.
-use Rattle.std.proofs.Common.{◌≡◌, ℕ, ◌==◌, Bool, true, false, not, List, [], ◌∷◌, ◌++◌, reverse, refl, sym, ◌∙◌}
-use Rattle.std.proofs.Common.{ap, subst, append_assoc}
+use Rattle.std.proofs.Common.{◌≡◌, ℕ, ◌==◌, Bool, true, false, not, List, [], ◌∷◌, ◌++◌, reverse, refl, sym, ◌∙◌, ap}
+use Rattle.std.proofs.Common.{subst, append_assoc}
 use Rattle.std.proofs.lemmas.Bool.{eqb-true, not-false}
 use Rattle.std.proofs.lemmas.List.{reverse-append}
 use Rattle.st_core.specs.Run.{Stream}

@@ -1,8 +1,8 @@
--- What the moves say of the machine, tokens aside: after the acts of the moves so far each process has the clock and the
--- last count that they leave it, and in its queue the messages that they sent to it and didn't take.
-use Rattle.std.proofs.Common.{◌≡◌, ℕ, ◌<◌, ◌≤◌, ◌&&◌, ◌⊎◌, max, nat_lt, Bool, true, false, not}
-use Rattle.std.proofs.Common.{◌==◌, cond, List, [], ◌∷◌, ◌++◌, Option, Some, None, is_some, option_map}
-use Rattle.std.proofs.Common.{option_to_list, inl, inr, refl, sym, ◌∙◌, ap, subst, arith, if◌then◌else◌}
+-- What the moves say of the machine, tokens aside: after the acts of the moves so far each process has the clock and
+-- the last count that they leave it, and in its queue the messages that they sent to it and didn't take.
+use Rattle.std.proofs.Common.{◌≡◌, ℕ, ◌<◌, ◌≤◌, ◌&&◌, ◌⊎◌, max, nat_lt, Bool, true, false, not, ◌==◌, cond, List, []}
+use Rattle.std.proofs.Common.{◌∷◌, ◌++◌, Option, Some, None, is_some, option_map, option_to_list, inl, inr, refl, sym}
+use Rattle.std.proofs.Common.{◌∙◌, ap, subst, arith, if◌then◌else◌}
 use Rattle.std.specs.List.{remove, position}
 use Rattle.std.specs.Option.{option_map_or}
 use Rattle.std.proofs.lemmas.Bool.{eqb-true, ltb-false, false≢true}
@@ -16,21 +16,18 @@ use Rattle.st_core.specs.declared.types.Act.{Act}
 use Rattle.st_core.specs.Pid.{pid_eq}
 use Rattle.st_core.specs.State.{Process, State, process}
 use Rattle.st_core.specs.Report.{report}
-use Rattle.st_core.specs.Step.{Outcome, actor, sends}
+use Rattle.st_core.specs.Step.{actor, changed, outcome_of, reached, Acted, Outcome}
 use Rattle.st_core.specs.Run.{Stream, run_from, stream}
 use Rattle.st_core.specs.Streams.{lists}
-use Rattle.st_core.proofs.ForCallers.{pid_same, pid_eq-refl, run_parts}
-use Rattle.st_core.proofs.ForCallers.{pid_eq-swap}
+use Rattle.st_core.proofs.ForCallers.{mapped, pid_same, pid_eq-refl, process_pid, run_parts, pid_eq-swap}
 use Rattle.st_mail.specs.Mail.{is_stamp}
 use Rattle.st_order.specs.declared.item.Item.{Item}
 use Rattle.st_order.specs.declared.item.Item.TheVariants as item
-use Rattle.st_plan.specs.Moves.{Move, is_taking, clock, last}
+use Rattle.st_plan.specs.Moves.{Move, is_taking, clock, last, move_by}
 use Rattle.st_plan.specs.Reasons.{uncaused}
-use Rattle.st_plan.specs.Build.{flags_of, state_after}
-use Rattle.st_plan.specs.Moves.{move_by}
+use Rattle.st_plan.specs.Build.{flags_of, state_after, GoesOn}
 use Rattle.st_plan.specs.Plain.{told_by}
-use Rattle.st_plan.specs.Build.{GoesOn}
-use Rattle.st_plan.proofs.Lift.{Lifted, Silent}
+use Rattle.st_plan.proofs.Lift.{process_then, Lifted, Silent}
 
 -- THE INVARIANT
 
@@ -103,9 +100,12 @@ pub still_there : (top : ℕ) (s : State) (p : Pid) (r before : Process) (acts :
     → process s p ≡ Some before → (x : Pid) → is_some (process (state_after s l.os) x) ≡ is_some (process s x)
 still_there top s p r before acts l is x =
     elim (pid_eq x p) as (λ b. pid_eq x p ≡ b → is_some (process (state_after s l.os) x) ≡ is_some (process s x)) [
-      | true ↦ λ e. let who = pid_same x p e in ap (λ y. is_some (process (state_after s l.os) y)) who
-          ∙ ap (λ (o : Option Process). is_some o) (l.here ∙ sym (ap (λ (o : Option Process). option_map (λ y. r) o) is))
-          ∙ there_mapped (λ y. r) (process s p) ∙ ap (λ y. is_some (process s y)) (sym who)
+      | true ↦ λ e.
+          let who = pid_same x p e in
+          ap (λ y. is_some (process (state_after s l.os) y)) who
+          ∙ ap (λ (o : Option Process). is_some o) l.here
+          ∙ sym (ap (λ (o : Option Process). is_some o) is)
+          ∙ ap (λ y. is_some (process s y)) (sym who)
       | false ↦ λ e. ap (λ (o : Option Process). is_some o) (l.others x e)
     ] refl
 
@@ -167,6 +167,39 @@ taken_queue streams m earlier x b takes who =
     let took = without m.event.from m.event.serial.this old in
     ap (λ t. cond t (cond (pid_eq m.who x) took old) (cond (sends_to x m) (old ++ message_of streams m ∷ []) old)) takes
     ∙ ap (λ t. cond t took old) who
+
+-- A STEP
+
+-- a step keeps the invariant, where its actor's record and each other one are afterwards what the moves say
+pub step_keeps : (streams : List Stream) (earlier : List Move) (m : Move) (s : State) (a : Act) (done : Acted)
+    (r : Process) → ((x : Pid) → lists streams x ≡ true → is_some (process s x) ≡ true) → process s m.who ≡ Some r
+    → actor a ≡ m.who → IsSo streams (m ∷ earlier) m.who (changed a done r)
+    → ((x : Pid) (z : Process) → pid_eq x m.who ≡ false → process s x ≡ Some z
+    → IsSo streams (m ∷ earlier) x (reached a done.local.token z))
+    → IsKept streams (m ∷ earlier) (outcome_of s a done).after
+step_keeps streams earlier m s a done r there is by own others = record {
+  there = λ x h. ap (λ (p : Option Process). is_some p) (process_then s a done x)
+      ∙ there_mapped (changed a done) (process s x)
+      ∙ there x h;
+  each = λ x after h.
+      let parts = mapped (changed a done) (process s x) after (sym (process_then s a done x) ∙ h) in
+      let z = parts.0 in
+      subst (IsSo streams (m ∷ earlier) x) parts.2
+      (elim (pid_eq x m.who) as (λ b. pid_eq x m.who ≡ b → IsSo streams (m ∷ earlier) x (changed a done z)) [
+        | true ↦ λ e.
+            let same = pid_same x m.who e in
+            let is_r : r ≡ z = same_Some r z (sym is ∙ ap (process s) (sym same) ∙ parts.1) in
+            subst (λ p. IsSo streams (m ∷ earlier) p (changed a done z)) (sym same)
+            (subst (λ q. IsSo streams (m ∷ earlier) m.who (changed a done q)) is_r own)
+        | false ↦ λ e.
+            let pid : z.pid ≡ x = process_pid s x z parts.1 in
+            let mine : Process = record z { local = done.local; queue = done.queue } in
+            let apart : pid_eq z.pid (actor a) ≡ false = ap (λ p. pid_eq p (actor a)) pid ∙ ap (pid_eq x) by ∙ e in
+            let not_own : changed a done z ≡ reached a done.local.token z =
+            ap (λ b. reached a done.local.token (cond b mine z)) apart in
+            subst (IsSo streams (m ∷ earlier) x) (sym not_own) (others x z e parts.1)
+      ] refl);
+}
 
 -- ONE ACT MORE
 

@@ -1,8 +1,7 @@
--- What an accepting pairing says of a receive and the moves before it: none took its message, since no other receive has
--- its sender and count, and its sender's stamp with its count is its send.
-use Rattle.std.proofs.Common.{◌≡◌, ℕ, ◌==◌, ◌&&◌, ◌||◌, Bool, true, false, not}
-use Rattle.std.proofs.Common.{List, [], ◌∷◌, Option, Some, None, option_and_then}
-use Rattle.std.proofs.Common.{refl, sym, ◌∙◌, ap, subst, arith, if◌then◌else◌}
+-- What an accepting pairing says of a receive and the moves before it: none took its message, since no other receive
+-- has its sender and count, and its sender's stamp with its count is its send.
+use Rattle.std.proofs.Common.{◌≡◌, ℕ, ◌==◌, ◌&&◌, ◌||◌, Bool, true, false, not, List, [], ◌∷◌, Option, Some, None}
+use Rattle.std.proofs.Common.{option_and_then, refl, sym, ◌∙◌, ap, subst, arith, if◌then◌else◌}
 use Rattle.std.specs.List.{AllByRecursion}
 use Rattle.std.proofs.lemmas.Bool.{eqb-true, false≢true, and_parts}
 use Rattle.std.proofs.lemmas.Option.{same_Some}
@@ -10,16 +9,15 @@ use Rattle.st_core.specs.declared.types.Pid.{Pid}
 use Rattle.st_core.specs.declared.types.Event.{Event}
 use Rattle.st_core.specs.Pid.{pid_eq}
 use Rattle.st_core.specs.Run.{Stream}
-use Rattle.st_core.proofs.ForCallers.{pid_same}
+use Rattle.st_core.proofs.ForCallers.{pid_same, not_true}
 use Rattle.st_pair.specs.declared.answer.PairFault.TheVariants as fault
 use Rattle.st_pair.specs.Places.{event_at, is_stamp}
 use Rattle.st_pair.specs.Pairing.{stamp_of, receive_of, to_eq, is_send, agrees, mismatch}
+use Rattle.st_pair.proofs.ForCallers.{cond_none, event_none, once_place, stamp_once, IsPaired}
 use Rattle.st_order.specs.declared.item.Item.{Item}
 use Rattle.st_order.specs.declared.item.Item.TheVariants as item
 use Rattle.st_order.specs.Order.{key_by}
 use Rattle.st_plan.specs.Moves.{Move, is_taking}
-use Rattle.st_core.proofs.ForCallers.{not_true}
-use Rattle.st_pair.proofs.ForCallers.{cond_none, event_none, once_place, stamp_once, IsPaired}
 use Rattle.st_plan.proofs.Along.{IsAt, IsKeyBelow}
 use Rattle.st_plan.proofs.Clocks.{HasCome}
 use Rattle.st_plan.proofs.Waiting.{Untaken}

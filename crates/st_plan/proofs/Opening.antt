@@ -1,12 +1,12 @@
--- The tracers come first: a tracer for each node marks all its processes, reports nothing and leaves all else at zero, so
--- that after them the state is what no moves say.
-use Rattle.std.proofs.Common.{◌≡◌, ℕ, ◌==◌, ◌&&◌, zero, suc, true, false, cond, List, [], ◌∷◌, Option}
-use Rattle.std.proofs.Common.{Some, None, is_some, option_map, option_and_then}
-use Rattle.std.proofs.Common.{refl, sym, ◌∙◌, ap, subst, arith}
+-- The tracers come first: a tracer for each node marks all its processes, reports nothing and leaves all else at zero,
+-- so that after them the state is what no moves say.
+use Rattle.std.proofs.Common.{◌≡◌, ℕ, ◌==◌, ◌&&◌, zero, suc, true, false, cond, List, [], ◌∷◌, Option, Some, None}
+use Rattle.std.proofs.Common.{is_some, option_map, option_and_then, refl, sym, ◌∙◌, ap, subst, arith}
 use Rattle.std.specs.List.{slice_get}
 use Rattle.std.specs.Option.{option_map_or}
 use Rattle.std.proofs.lemmas.Bool.{false≢true, eq-eqb}
 use Rattle.std.proofs.lemmas.Option.{same_Some, none-some}
+use Rattle.std.proofs.lemmas.Bool.Decides.{nat_tests}
 use Rattle.st_core.specs.declared.types.Pid.{Pid}
 use Rattle.st_core.specs.declared.types.Reply.TheVariants as reply
 use Rattle.st_core.specs.declared.types.Act.{Act}
@@ -17,7 +17,6 @@ use Rattle.st_core.specs.Step.{Outcome, answers, changed, outcome_of, step}
 use Rattle.st_core.specs.Run.{Stream, pids_of, run_from}
 use Rattle.st_core.specs.Streams.{lists, stream_of}
 use Rattle.st_core.proofs.ForCallers.{pid_same, pid_eq-refl, process_pid, mapped}
-use Rattle.std.proofs.lemmas.Bool.Decides.{nat_tests}
 use Rattle.st_plan.specs.Build.{state_after, tracers_after}
 use Rattle.st_plan.proofs.Lift.{step_is, process_then, Silent}
 use Rattle.st_plan.proofs.Kept.{IsKept, found, there_mapped}
@@ -239,7 +238,8 @@ pub opens : (top : ℕ) (streams : List Stream) → (o : IsOpened top (zero_stat
     × IsKept streams [] (state_after (zero_state (pids_of streams)) o.os)
 opens top streams =
     let pids = pids_of streams in
-    let o = opened top pids None (zero_state pids) (zero_there pids) (zero_zero pids) (λ x h. absurd (false≢true h)) in (
+    let zero = zero_state pids in
+    let o = opened top pids None zero (zero_there pids) (zero_zero pids) (λ x h. absurd (false≢true h)) in (
       o,
       record {
         there = λ p h. o.there p ∙ listed_there streams p h;

@@ -1,7 +1,7 @@
--- In an order of all that is there each move is above those before it, and a receive's source has a lower key, so that it
--- came: each receive finds its message, and each stamp its process's clock below its count.
-use Rattle.std.proofs.Common.{◌≡◌, ℕ, zero, suc, ◌<◌, ◌⊎◌, true, false, not, List, [], ◌∷◌}
-use Rattle.std.proofs.Common.{Some, option_map, inl, inr, refl, sym, ◌∙◌, ap, subst, arith}
+-- In an order of all that is there each move is above those before it, and a receive's source has a lower key, so that
+-- it came: each receive finds its message, and each stamp its process's clock below its count.
+use Rattle.std.proofs.Common.{◌≡◌, ℕ, zero, suc, ◌<◌, ◌⊎◌, true, false, not, List, [], ◌∷◌, Some, option_map, inl, inr}
+use Rattle.std.proofs.Common.{refl, sym, ◌∙◌, ap, subst, arith}
 use Rattle.std.specs.List.{slice_get, AllByRecursion}
 use Rattle.std.proofs.lemmas.Bool.{false≢true}
 use Rattle.std.proofs.lemmas.Option.{same_Some, none-some}
@@ -10,13 +10,13 @@ use Rattle.st_core.specs.declared.types.Event.{Event}
 use Rattle.st_core.specs.Run.{Stream}
 use Rattle.st_core.proofs.ForCallers.{all_at}
 use Rattle.st_pair.specs.Places.{event_at, is_stamp}
+use Rattle.st_pair.proofs.ForCallers.{IsPaired}
 use Rattle.st_order.specs.declared.item.Item.{Item}
 use Rattle.st_order.specs.declared.item.Item.TheVariants as item
 use Rattle.st_order.specs.Items.{event_of}
 use Rattle.st_order.specs.Order.{key_by, key, comes_before, KeysRise}
-use Rattle.st_plan.specs.Moves.{Move, move_by, moves, is_taking, clock}
 use Rattle.st_order.proofs.ForCallers.{comes_before_is}
-use Rattle.st_pair.proofs.ForCallers.{IsPaired}
+use Rattle.st_plan.specs.Moves.{Move, move_by, moves, is_taking, clock}
 use Rattle.st_plan.proofs.Along.{event_is, key_below, one_move, there_event, IsAt, IsKeyBelow, IsThere}
 use Rattle.st_plan.proofs.Free.{AllAlong, IsInTurn}
 use Rattle.st_plan.proofs.Taking.{IsWaiting}
@@ -224,8 +224,8 @@ IsWhole streams xs = (z : Item) (d : Event) → IsAt streams z d → (n : ℕ) �
 abbrev pub IsClockBelow : List Move → Move → Type 0
 IsClockBelow before m = is_taking m ≡ false → clock m.who before < m.event.serial.this
 
--- what an order of all items in turn gives: at each stamp its process's clock is below its count, and each receive finds
--- its message
+-- what an order of all items in turn gives: at each stamp its process's clock is below its count, and each receive
+-- finds its message
 pub record IsOrderly (streams : List Stream) (xs : List Item) : Type 0 where
   pub clocks : AllAlong IsClockBelow [] (moves streams xs)
   pub waits : AllAlong (Waits streams) [] (moves streams xs)

@@ -116,8 +116,8 @@ told_events : (streams : List Stream) (ms : List Move) → IsStreams streams
 told_events streams ms sound told k d within =
     let x = get_or streams k d in
     let found = all_found streams sound.draft.rising in
-    told x.pid
-    ∙ all_at (λ (s : Stream). events_of streams s.pid ≡ s.events) streams k x found (slice_get-get_or streams k d within)
+    let at = slice_get-get_or streams k d within in
+    told x.pid ∙ all_at (λ (s : Stream). events_of streams s.pid ≡ s.events) streams k x found at
 
 abbrev IsShown : ℕ → List Stream → List Move → Type 0
 IsShown top streams ms = (acts : List Act) × (construction top streams ms ≡ Some acts) × Shows top streams acts

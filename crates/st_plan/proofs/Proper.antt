@@ -1,8 +1,10 @@
--- Each event of streams is its process's own and names listed processes, so that its kind says which of its pids are whose.
-use Rattle.std.proofs.Common.{◌≡◌, ℕ, true, false, cond, List, [], ◌∷◌}
-use Rattle.std.proofs.Common.{Option, Some, None, is_some, refl, sym, ◌∙◌, ap, subst}
+-- Each event of streams is its process's own and names listed processes, so that its kind says which of its pids are
+-- whose.
+use Rattle.std.proofs.Common.{◌≡◌, ℕ, true, false, cond, List, [], ◌∷◌, Option, Some, None, is_some, refl, sym, ◌∙◌, ap}
+use Rattle.std.proofs.Common.{subst}
 use Rattle.std.specs.List.{slice_get}
 use Rattle.std.specs.Option.{option_map_or}
+use Rattle.std.specs.Prelude.{MatchOption}
 use Rattle.std.proofs.lemmas.Bool.{false≢true, and_parts}
 use Rattle.std.proofs.lemmas.Option.{none-some}
 use Rattle.st_core.specs.declared.types.Pid.{Pid}
@@ -12,12 +14,9 @@ use Rattle.st_core.specs.declared.types.Event.{Event}
 use Rattle.st_core.specs.Pid.{pid_eq}
 use Rattle.st_core.specs.Run.{Stream}
 use Rattle.st_core.specs.Streams.{stream_of, lists, is_of, is_own, AreOwn, IsStreams}
-use Rattle.st_core.proofs.ForCallers.{pid_same}
-use Rattle.st_core.proofs.ForCallers.{all_at}
-use Rattle.st_pair.specs.Places.{event_at}
-use Rattle.std.specs.Prelude.{MatchOption}
 use Rattle.st_core.specs.Laws.{AreAllListed, IsLeastUnlisted}
-use Rattle.st_core.proofs.ForCallers.{unlisted_is_least}
+use Rattle.st_core.proofs.ForCallers.{pid_same, all_at, unlisted_is_least}
+use Rattle.st_pair.specs.Places.{event_at}
 
 -- what streams say of each event of p: it is p's own, and names listed processes
 pub data IsProper (streams : List Stream) (p : Pid) (e : Event) : Type 0 where

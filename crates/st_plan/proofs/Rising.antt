@@ -1,11 +1,9 @@
 -- A stamp that is above all events of its process before it is above each item of its process with a lower key: a
 -- reported one has a lower index, and a hidden one another count.
-use Rattle.std.proofs.Common.{◌≡◌, ℕ, zero, suc, ◌+◌, ◌<◌, ◌≤◌, ◌==◌, ◌&&◌, max, Bool, true, false}
-use Rattle.std.proofs.Common.{cond, List, [], ◌∷◌, map, take, Option, Some, None}
-use Rattle.std.proofs.Common.{inl, inr, refl, sym, ◌∙◌, ap, arith, if◌then◌else◌}
+use Rattle.std.proofs.Common.{◌≡◌, ℕ, zero, suc, ◌+◌, ◌<◌, ◌≤◌, ◌==◌, ◌&&◌, max, Bool, true, false, cond, List, [], ◌∷◌}
+use Rattle.std.proofs.Common.{map, take, Option, Some, None, inl, inr, refl, sym, ◌∙◌, ap, arith, if◌then◌else◌}
 use Rattle.std.specs.List.{slice_get}
-use Rattle.std.proofs.lemmas.Bool.{eq-eqb, and_from, false≢true}
-use Rattle.std.proofs.lemmas.Bool.{cases_order, cases_lt}
+use Rattle.std.proofs.lemmas.Bool.{eq-eqb, and_from, false≢true, cases_order, cases_lt}
 use Rattle.std.proofs.lemmas.Option.{same_Some, none-some}
 use Rattle.st_core.specs.declared.types.Pid.{Pid}
 use Rattle.st_core.specs.declared.types.Event.{Event}
@@ -15,12 +13,12 @@ use Rattle.st_pair.specs.declared.answer.Source.{Source}
 use Rattle.st_pair.specs.declared.answer.Source.TheVariants as source
 use Rattle.st_pair.specs.Places.{event_at, is_stamp}
 use Rattle.st_pair.specs.Pairing.{stamp_of, source_of}
+use Rattle.st_pair.proofs.ForCallers.{from_none}
 use Rattle.st_order.specs.declared.item.Item.{Item}
 use Rattle.st_order.specs.declared.item.Item.TheVariants as item
 use Rattle.st_order.specs.Items.{greatest, height, is_hidden}
 use Rattle.st_order.specs.Order.{key_by}
 use Rattle.st_plan.specs.Moves.{move_by}
-use Rattle.st_pair.proofs.ForCallers.{from_none}
 use Rattle.st_plan.proofs.Along.{event_below, hidden_above, IsAt, IsKeyBelow}
 
 -- HEIGHTS

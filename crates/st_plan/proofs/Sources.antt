@@ -1,8 +1,7 @@
--- A receive's message is of its source, a hidden send or its sender's stamp with its count, which has a lower key: as high
--- at most and a send; and each send that came with its sender and count gives its event.
-use Rattle.std.proofs.Common.{◌≡◌, ℕ, suc, ◌+◌, ◌==◌, ◌&&◌, max, Bool, true, false, not, cond}
-use Rattle.std.proofs.Common.{List, Option, Some, None, is_some, option_and_then, refl}
-use Rattle.std.proofs.Common.{sym, ◌∙◌, ap, subst, arith, if◌then◌else◌}
+-- A receive's message is of its source, a hidden send or its sender's stamp with its count, which has a lower key: it is
+-- a send, and at most as high. And each send that came with its sender and count gives its event.
+use Rattle.std.proofs.Common.{◌≡◌, ℕ, suc, ◌+◌, ◌==◌, ◌&&◌, max, Bool, true, false, not, cond, List, Option, Some, None}
+use Rattle.std.proofs.Common.{is_some, option_and_then, refl, sym, ◌∙◌, ap, subst, arith, if◌then◌else◌}
 use Rattle.std.specs.List.{slice_get, AllByRecursion}
 use Rattle.std.specs.Option.{option_map_or}
 use Rattle.std.proofs.lemmas.Bool.{eqb-true, false≢true, not-false, and_parts}
@@ -15,19 +14,18 @@ use Rattle.st_core.specs.declared.types.Event.{Event}
 use Rattle.st_core.specs.Pid.{pid_eq}
 use Rattle.st_core.specs.Run.{Stream}
 use Rattle.st_core.specs.Streams.{events_of}
-use Rattle.st_core.proofs.ForCallers.{pid_eq-refl}
-use Rattle.st_core.proofs.ForCallers.{all_at}
+use Rattle.st_core.proofs.ForCallers.{pid_eq-refl, all_at}
 use Rattle.st_pair.specs.declared.answer.Source.{Source}
 use Rattle.st_pair.specs.declared.answer.Source.TheVariants as source
 use Rattle.st_pair.specs.Places.{event_at, is_stamp}
 use Rattle.st_pair.specs.Pairing.{stamp_of, receive_of, is_send, source_of, receiver_at}
+use Rattle.st_pair.proofs.ForCallers.{given_from, once_place, own_rule, IsPaired}
 use Rattle.st_order.specs.declared.item.Item.{Item}
 use Rattle.st_order.specs.declared.item.Item.TheVariants as item
 use Rattle.st_order.specs.Items.{height, is_hidden}
 use Rattle.st_order.specs.Order.{key_by}
 use Rattle.st_plan.specs.Moves.{Move, move_by}
 use Rattle.st_plan.specs.Build.{quiet}
-use Rattle.st_pair.proofs.ForCallers.{given_from, once_place, own_rule, IsPaired}
 use Rattle.st_plan.proofs.Taking.{IsWaiting}
 use Rattle.st_plan.proofs.Along.{event_below, IsAt, IsKeyBelow}
 use Rattle.st_plan.proofs.Rising.{height_is, height_more, height_of, rank_of, IsTop}

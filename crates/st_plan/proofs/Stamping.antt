@@ -1,36 +1,34 @@
--- A stamp keeps the invariant: the acts before it leave its process ready, and then its act stamps the move's serial, so
--- that it reports the move's event and queues its message.
-use Rattle.std.proofs.Common.{◌≡◌, ℕ, ◌+◌, ◌<◌, ◌≤◌, ◌⊎◌, Bool, true, false}
-use Rattle.std.proofs.Common.{cond, List, [], ◌∷◌, ◌++◌, Option, Some, None, is_some}
-use Rattle.std.proofs.Common.{inl, inr, refl, sym, ◌∙◌, ap, subst, arith}
+-- A stamp keeps the invariant: the acts before it leave its process ready, and then its act stamps the move's serial,
+-- so that it reports the move's event and queues its message.
+use Rattle.std.proofs.Common.{◌≡◌, ℕ, ◌+◌, ◌<◌, ◌≤◌, ◌⊎◌, Bool, true, false, cond, List, [], ◌∷◌, ◌++◌, Option, Some}
+use Rattle.std.proofs.Common.{None, is_some, inl, inr, refl, sym, ◌∙◌, ap, subst, arith, option_to_list, if◌then◌else◌}
 use Rattle.std.proofs.lemmas.Bool.{lt-ltb}
-use Rattle.std.proofs.lemmas.Option.{same_Some}
 use Rattle.st_core.specs.declared.types.Pid.{Pid}
 use Rattle.st_core.specs.declared.types.Token.{Token}
 use Rattle.st_core.specs.declared.types.Message.{Message}
+use Rattle.st_core.specs.declared.types.Kind.{Kind}
 use Rattle.st_core.specs.declared.types.Kind.TheVariants as kind
+use Rattle.st_core.specs.declared.types.Event.{Event}
+use Rattle.st_core.specs.declared.types.Reply.TheVariants as reply
+use Rattle.st_core.specs.Step.{actor, answers, receiver, Acted, Outcome, acted, reached, changed, outcome_of, step}
+use Rattle.st_core.specs.Run.{stream, Stream, run_from}
 use Rattle.st_core.specs.declared.types.Act.{Act}
 use Rattle.st_core.specs.declared.types.Act.TheVariants as act
 use Rattle.st_core.specs.Pid.{pid_eq}
 use Rattle.st_core.specs.State.{LocalState, Process, State, process}
 use Rattle.st_core.specs.Stamp.{stamped_token}
 use Rattle.st_core.specs.Report.{report}
-use Rattle.st_core.specs.Step.{Outcome, acted, sends, prints, reached, changed, outcome_of}
-use Rattle.st_core.specs.Step.{step}
-use Rattle.st_core.specs.Run.{Stream, run_from}
 use Rattle.st_core.specs.Streams.{lists}
-use Rattle.st_core.proofs.ForCallers.{pid_same, process_pid, mapped}
-use Rattle.st_plan.specs.Moves.{Move, is_taking, clock}
+use Rattle.st_core.proofs.ForCallers.{process_pid}
+use Rattle.st_plan.specs.Plain.{told_by}
+use Rattle.st_plan.specs.Moves.{Move, is_taking, clock, move_by}
 use Rattle.st_plan.specs.Reasons.{uncaused}
-use Rattle.st_plan.specs.Build.{ready, flags_of, act_of, state_after}
-use Rattle.st_plan.specs.Moves.{move_by}
-use Rattle.st_plan.specs.Build.{start_of}
-use Rattle.st_plan.proofs.Readiness.{is_ready}
-use Rattle.st_plan.proofs.Lift.{step_is, process_then, run_append, state_append, Lifted, lifted}
-use Rattle.st_plan.proofs.Lift.{changed_own}
-use Rattle.st_plan.proofs.Kept.{token_of, message_of, sends_to, queue_of, IsSo, IsKept, told_event, Continues, found}
-use Rattle.st_plan.proofs.Kept.{there_mapped, still_there, caused, own_clock, own_last, other_clock, other_last}
+use Rattle.st_plan.specs.Build.{ready, flags_of, act_of, state_after, start_of}
+use Rattle.st_plan.proofs.Kept.{step_keeps, token_of, message_of, sends_to, queue_of, IsSo, IsKept, told_event}
+use Rattle.st_plan.proofs.Kept.{Continues, found, still_there, caused, own_clock, own_last, other_clock, other_last}
 use Rattle.st_plan.proofs.Kept.{stamp_queue, stream_last, told_last}
+use Rattle.st_plan.proofs.Readiness.{is_ready}
+use Rattle.st_plan.proofs.Lift.{step_is, run_append, state_append, Lifted, lifted, changed_own}
 
 -- READY
 
@@ -106,247 +104,185 @@ stands_ready top streams earlier s m can =
           ∙ kept.there x h;
     }
 
--- A SEND
+-- THE STAMP
 
 pub one_run : (top : ℕ) (s : State) (a : Act) (o : Outcome) → step top s a ≡ Some o
     → run_from top s (a ∷ []) ≡ Some (o ∷ [])
 one_run top s a o h = rw h refl
 
-reached_send_local : (p q : Pid) (v : ℕ) (t : Option Token) (r : Process)
-    → (reached (act.Send p q v) t r).local ≡ r.local
-reached_send_local p q v t r = elim (pid_eq r.pid q) as (λ b. (cond b (record r {
-  queue = r.queue
-      ++ record { from = p; value = v; token = t } ∷ [];
-}) r).local ≡ r.local) [ true ↦ refl | false ↦ refl ]
-
-reached_send_queue : (p q : Pid) (v : ℕ) (t : Option Token) (r : Process)
-    → (reached (act.Send p q v) t r).queue ≡ cond (pid_eq r.pid q) (r.queue
-    ++ record { from = p; value = v; token = t } ∷ []) r.queue
-reached_send_queue p q v t r = elim (pid_eq r.pid q) as (λ b. (cond b (record r {
-  queue = r.queue
-      ++ record { from = p; value = v; token = t } ∷ [];
-}) r).queue
-    ≡ cond b (r.queue ++ record { from = p; value = v; token = t } ∷ []) r.queue) [ true ↦ refl | false ↦ refl ]
-
 -- a record stamped
 abbrev final : Pid → LocalState → Token → LocalState
 final p l t = record l { token = Some (stamped_token p l t); clock = l.clock + 1 }
 
-acted_send : (top : ℕ) (r : Process) (p to : Pid) (v : ℕ) (t : Token) → r.local.token ≡ Some t → r.local.clock < top
-    → acted top r (act.Send p to v) ≡ Some (sends r to v (final r.pid r.local t))
-acted_send top r p to v t is below = rw (is, lt-ltb r.local.clock top below) refl
+-- what a stamp of this kind does where this record is made of its process's
+abbrev stamps_as : Kind → Option Pid → ℕ → Process → LocalState → Acted
+stamps_as k to v r l = record (answers r l reply.Done) { report = report r.local.traced k l.token to v }
 
-acted_print : (top : ℕ) (r : Process) (p : Pid) (v : ℕ) (t : Token) → r.local.token ≡ Some t → r.local.clock < top
-    → acted top r (act.Print p v) ≡ Some (prints r v (final r.pid r.local t))
-acted_print top r p v t is below = rw (is, lt-ltb r.local.clock top below) refl
+-- the record with the move's message, if it is for its process
+abbrev with_message : List Stream → Move → Process → Process
+with_message streams m z =
+    record z { queue = if sends_to z.pid m then z.queue ++ message_of streams m ∷ [] else z.queue }
+
+-- the act is the stamp of the move
+record IsStampOf (streams : List Stream) (m : Move) (a : Act) : Type 0 where
+  kind : Kind
+  to : Option Pid
+  is : (r : Process) → act_of r m ≡ Some a
+  by : actor a ≡ m.who
+  listed : lists streams (receiver a) ≡ true
+  acts : (top : ℕ) (r : Process) (t : Token) → r.local.token ≡ Some t → r.local.clock < top
+      → acted top r a ≡ Some (stamps_as kind to m.event.value r (final r.pid r.local t))
+  reaches : (z : Process) → reached a (Some (token_of streams m)) z ≡ with_message streams m z
+  reports : report true kind (Some (token_of streams m)) to m.event.value ≡ told_event m
 
 -- the record of another process, with the move's message if it is for it
-so_other : (streams : List Stream) (m : Move) (earlier : List Move) (x : Pid) (z : Process) (b : Bool)
-    (queue : List Message) → pid_eq x m.who ≡ false → is_taking m ≡ false → sends_to x m ≡ b → IsSo streams earlier x z
-    → queue ≡ cond b (z.queue ++ message_of streams m ∷ []) z.queue
-    → IsSo streams (m ∷ earlier) x (record z { queue = queue })
-so_other streams m earlier x z b queue apart stamps sends so is = record {
-  clocked = so.clocked ∙ sym (other_clock m earlier x apart);
-  lasted = so.lasted ∙ sym (other_last m earlier x apart);
-  traced = so.traced;
-  queued = is ∙ ap (λ q. cond b (q ++ message_of streams m ∷ []) q) so.queued
-      ∙ sym (stamp_queue streams m earlier x b stamps sends);
-}
+so_other : (streams : List Stream) (earlier : List Move) (m : Move) (x : Pid) (z : Process) → z.pid ≡ x
+    → pid_eq x m.who ≡ false → is_taking m ≡ false → IsSo streams earlier x z
+    → IsSo streams (m ∷ earlier) x (with_message streams m z)
+so_other streams earlier m x z pid apart stamps so =
+    let push : Bool → List Message → List Message = λ b q. cond b (q ++ message_of streams m ∷ []) q in
+    record {
+      clocked = so.clocked ∙ sym (other_clock m earlier x apart);
+      lasted = so.lasted ∙ sym (other_last m earlier x apart);
+      traced = so.traced;
+      queued = ap (λ p. push (sends_to p m) z.queue) pid
+          ∙ ap (push (sends_to x m)) so.queued
+          ∙ sym (stamp_queue streams m earlier x (sends_to x m) stamps refl);
+    }
 
 -- the stamping process's own
-so_own : (top : ℕ) (streams : List Stream) (m : Move) (earlier : List Move) (s : State)
-    (y : StandsReady top streams earlier s m) (p : Pid) (b : Bool) (queue : List Message) → is_taking m ≡ false
-    → clock m.who earlier < m.event.serial.this → sends_to m.who m ≡ b
-    → queue ≡ cond b (y.before.queue ++ message_of streams m ∷ []) y.before.queue
-    → IsSo streams (m ∷ earlier) m.who (record y.before { local = final p y.end y.token; queue = queue })
-so_own top streams m earlier s y p b queue stamps below sends is = record {
-  clocked = y.clocked ∙ sym (own_clock m earlier below);
-  lasted = y.lasted ∙ sym (own_last m earlier stamps);
-  traced = y.traced;
-  queued = is ∙ ap (λ q. cond b (q ++ message_of streams m ∷ []) q) y.queued
-      ∙ sym (stamp_queue streams m earlier m.who b stamps sends);
+so_own : (top : ℕ) (streams : List Stream) (earlier : List Move) (s : State) (m : Move)
+    (y : StandsReady top streams earlier s m) → y.before.pid ≡ m.who → is_taking m ≡ false
+    → clock m.who earlier < m.event.serial.this
+    → IsSo streams (m ∷ earlier) m.who
+    (with_message streams m (record y.before { local = final y.before.pid y.end y.token }))
+so_own top streams earlier s m y pid stamps below =
+    let push : Bool → List Message → List Message = λ b q. cond b (q ++ message_of streams m ∷ []) q in
+    record {
+      clocked = y.clocked ∙ sym (own_clock m earlier below);
+      lasted = y.lasted ∙ sym (own_last m earlier stamps);
+      traced = y.traced;
+      queued = ap (λ p. push (sends_to p m) y.before.queue) pid
+          ∙ ap (push (sends_to m.who m)) y.queued
+          ∙ sym (stamp_queue streams m earlier m.who (sends_to m.who m) stamps refl);
+    }
+
+stamping : (top : ℕ) (streams : List Stream) (earlier : List Move) (s : State) (m : Move) (a : Act)
+    → CanStamp top streams earlier s m → IsStampOf streams m a → Continues top streams earlier s m
+stamping top streams earlier s m a can st =
+    let kept = can.kept in
+    let within = can.within in
+    let y = stands_ready top streams earlier s m can in
+    let clocked = y.clocked in
+    let v = m.event.value in
+    let first_acts = ready m.who (start_of y.before.local) m.event.label m.event.serial (flags_of streams m) in
+    let s1 = state_after s y.lift.os in
+    let r : Process = record y.before { local = y.end } in
+    let who : r.pid ≡ m.who = process_pid s m.who y.before y.is_before in
+    let stamp = stamped_token r.pid y.end y.token in
+    let stamp_is : stamp ≡ token_of streams m = ap (λ p. stamped_token p y.end y.token) who ∙ y.stamped in
+    let done = stamps_as st.kind st.to v r (final r.pid y.end y.token) in
+    let acted_is : acted top r a ≡ Some done = st.acts top r y.token y.is (omega arith) in
+    let other = found (process s1 (receiver a)) (y.there (receiver a) st.listed) in
+    let o = outcome_of s1 a done in
+    let here : process s1 (actor a) ≡ Some r = ap (process s1) st.by ∙ y.lift.here in
+    let stepped : step top s1 a ≡ Some o = step_is top s1 a r other.0 done here other.1 acted_is in
+    let report_is : o.report ≡ told_event m = ap (λ b. report b st.kind (Some stamp) st.to v) y.traced
+    ∙ ap (λ t. report true st.kind (Some t) st.to v) stamp_is
+    ∙ st.reports in
+    let reaches : (z : Process) → reached a (Some stamp) z ≡ with_message streams m z =
+    λ z. ap (λ t. reached a (Some t) z) stamp_is ∙ st.reaches z in
+    let own : IsSo streams (m ∷ earlier) m.who (changed a done r) =
+    subst (IsSo streams (m ∷ earlier) m.who)
+    (sym (changed_own a done r (who ∙ sym st.by) ∙ reaches (record r { local = done.local })))
+    (so_own top streams earlier s m y who can.stamps can.below) in
+    let others : (x : Pid) (z : Process) → pid_eq x m.who ≡ false → process s1 x ≡ Some z
+    → IsSo streams (m ∷ earlier) x (reached a (Some stamp) z) =
+    λ x z apart is.
+    let before : process s x ≡ Some z = sym (y.lift.others x apart) ∙ is in
+    subst (IsSo streams (m ∷ earlier) x) (sym (reaches z))
+    (so_other streams earlier m x z (process_pid s x z before) apart can.stamps (kept.each x z before)) in
+    let state : state_after s (y.lift.os ++ o ∷ []) ≡ o.after = state_append s y.lift.os (o ∷ []) in
+    let shown : (p : Pid) → stream (first_acts ++ a ∷ []) (y.lift.os ++ o ∷ []) p ≡ told_by p m = λ p.
+    stream_last first_acts a y.lift.os o p top s y.lift.runs y.lift.silent
+    ∙ ap (λ q. (if pid_eq q p then option_to_list o.report else []) ++ []) st.by
+    ∙ told_last m o.report p can.is report_is in (
+      record {
+        before = y.before;
+        is_before = y.is_before;
+        acts = first_acts ++ a ∷ [];
+        are = rw (st.is y.before, can.stamps) refl;
+        outcomes = y.lift.os ++ o ∷ [];
+        runs = run_append top s first_acts (a ∷ []) y.lift.os (o ∷ []) y.lift.runs (one_run top s1 a o stepped);
+        tells = shown;
+      },
+      subst (IsKept streams (m ∷ earlier)) (sym state)
+          (step_keeps streams earlier m s1 a done r y.there y.lift.here st.by own others),
+    )
+
+-- A SEND AND A PRINT
+
+sent : (p to : Pid) (v : ℕ) (t : Token) (z : Process) (b : Bool) → b ≡ pid_eq z.pid to
+    → reached (act.Send p to v) (Some t) z
+    ≡ record z { queue = if b then z.queue ++ record { from = p; value = v; token = Some t } ∷ [] else z.queue }
+sent p to v t z true is = ap
+    (λ b. cond b (record z { queue = z.queue ++ record { from = p; value = v; token = Some t } ∷ [] }) z) (sym is)
+sent p to v t z false is = ap
+    (λ b. cond b (record z { queue = z.queue ++ record { from = p; value = v; token = Some t } ∷ [] }) z) (sym is)
+
+-- what a send of the move reports
+abbrev pub sent_event : Move → Pid → Event
+sent_event m to = record {
+  label = m.event.label;
+  kind = kind.Send;
+  serial = m.event.serial;
+  from = m.who;
+  to = Some to;
+  value = m.event.value;
 }
 
 pub sending : (top : ℕ) (streams : List Stream) (earlier : List Move) (s : State) (m : Move) (to : Pid)
     → CanStamp top streams earlier s m → lists streams to ≡ true
     → ((r : Process) → act_of r m ≡ Some (act.Send m.who to m.event.value)) → ((q : Pid) → sends_to q m ≡ pid_eq q to)
-    → (let f = flags_of streams m in cond f.send (Some (record {
-      label = m.event.label;
-      kind = kind.Send;
-      serial = m.event.serial;
-      from = m.who;
-      to = Some to;
-      value = m.event.value;
-    })) None ≡ told_event m)
+    → (if (flags_of streams m).send then Some (sent_event m to) else None) ≡ told_event m
     → Continues top streams earlier s m
-sending top streams earlier s m to can listed_to is_act is_to reports =
-    let kept = can.kept in
-    let stamps = can.stamps in
-    let below = can.below in
-    let within = can.within in
-    let y = stands_ready top streams earlier s m can in
-    let v = m.event.value in
-    let first_acts = ready m.who (start_of y.before.local) m.event.label m.event.serial (flags_of streams m) in
-    let s1 = state_after s y.lift.os in
-    let r1 : Process = record y.before { local = y.end } in
-    let who : r1.pid ≡ m.who = process_pid s m.who y.before y.is_before in
-    let a = act.Send m.who to v in
-    let stamp = stamped_token r1.pid y.end y.token in
-    let stamp_is : stamp ≡ token_of streams m = ap (λ p. stamped_token p y.end y.token) who ∙ y.stamped in
-    let done = sends r1 to v (final r1.pid y.end y.token) in
-    let clocked = y.clocked in
-    let acted_is : acted top r1 a ≡ Some done = acted_send top r1 m.who to v y.token y.is (omega arith) in
-    let other = found (process s1 to) (y.there to listed_to) in
-    let o = outcome_of s1 a done in
-    let stepped : step top s1 a ≡ Some o = step_is top s1 a r1 other.0 done y.lift.here other.1 acted_is in
-    let state : state_after s (y.lift.os ++ o ∷ []) ≡ o.after = state_append s y.lift.os (o ∷ []) in
-    let message : (let x : Message = record { from = m.who; value = v; token = Some stamp } in x)
-    ≡ message_of streams m = ap (λ t. let x : Message = record { from = m.who; value = v; token = Some t } in
-    x) stamp_is in
-    let report_is : o.report ≡ told_event m = ap (λ b. report b kind.Send (Some stamp) (Some to) v) y.traced
-    ∙ ap (λ t. report true kind.Send (Some t) (Some to) v) stamp_is ∙ reports in
-    let own : IsSo streams (m ∷ earlier) m.who (changed a done r1) =
-    let put : Process = record y.before { local = final r1.pid y.end y.token; queue = y.before.queue } in
-    let is_put = changed_own a done r1 who in
-    let queue : (reached a (Some stamp) put).queue ≡ cond (pid_eq m.who to) (y.before.queue
-    ++ message_of streams m ∷ []) y.before.queue =
-    reached_send_queue m.who to v (Some stamp) put ∙ ap (λ p. cond (pid_eq p to) (y.before.queue
-    ++ record { from = m.who; value = v; token = Some stamp } ∷ []) y.before.queue) who
-    ∙ ap (λ x. cond (pid_eq m.who to) (y.before.queue ++ x ∷ []) y.before.queue) message in
-    let so = so_own top streams m earlier s y r1.pid (pid_eq m.who to) (reached a (Some stamp) put).queue stamps below
-    (is_to m.who) queue in
-    let local = reached_send_local m.who to v (Some stamp) put in
-    subst (IsSo streams (m ∷ earlier) m.who) (sym is_put) (record {
-      clocked = ap (λ (l : LocalState). l.clock) local ∙ so.clocked;
-      lasted = ap (λ (l : LocalState). l.last) local ∙ so.lasted;
-      traced = ap (λ (l : LocalState). l.traced) local ∙ so.traced;
-      queued = so.queued;
-    }) in
-    let each : (x : Pid) (r2 : Process) → process o.after x ≡ Some r2 → IsSo streams (m ∷ earlier) x r2 =
-    λ x r2 h.
-    let parts = mapped (changed a done) (process s1 x) r2 (sym (process_then s1 a done x) ∙ h) in
-    let z = parts.0 in
-    subst (IsSo streams (m ∷ earlier) x) parts.2
-    (elim (pid_eq x m.who) as (λ b. pid_eq x m.who ≡ b → IsSo streams (m ∷ earlier) x (changed a done z)) [
-      | true ↦ λ e.
-          let same = pid_same x m.who e in
-          let is_r1 : r1 ≡ z = same_Some r1 z (sym y.lift.here ∙ ap (process s1) (sym same) ∙ parts.1) in
-          subst (λ p. IsSo streams (m ∷ earlier) p (changed a done z)) (sym same)
-          (subst (λ q. IsSo streams (m ∷ earlier) m.who (changed a done q)) is_r1 own)
-      | false ↦ λ e.
-          let before : process s x ≡ Some z = sym (y.lift.others x e) ∙ parts.1 in
-          let pid : z.pid ≡ x = process_pid s x z before in
-          let so = kept.each x z before in
-          let not_own : changed a done z ≡ reached a (Some stamp) z =
-          ap (λ b. reached a (Some stamp) (cond b (record z { local = done.local; queue = done.queue }) z))
-          (ap (λ p. pid_eq p m.who) pid ∙ e) in
-          let queue : (reached a (Some stamp) z).queue ≡ cond (pid_eq x to) (z.queue
-          ++ message_of streams m ∷ []) z.queue =
-          reached_send_queue m.who to v (Some stamp) z ∙ ap (λ p. cond (pid_eq p to) (z.queue
-          ++ record { from = m.who; value = v; token = Some stamp } ∷ []) z.queue) pid
-          ∙ ap (λ y. cond (pid_eq x to) (z.queue ++ y ∷ []) z.queue) message in
-          let there = so_other streams m earlier x z (pid_eq x to) (reached a (Some stamp) z).queue e stamps
-          (is_to x) so queue in
-          let local = reached_send_local m.who to v (Some stamp) z in
-          subst (IsSo streams (m ∷ earlier) x) (sym not_own) (record {
-            clocked = ap (λ (l : LocalState). l.clock) local ∙ there.clocked;
-            lasted = ap (λ (l : LocalState). l.last) local ∙ there.lasted;
-            traced = ap (λ (l : LocalState). l.traced) local ∙ there.traced;
-            queued = there.queued;
-          })
-    ] refl) in (
-      record {
-        before = y.before;
-        is_before = y.is_before;
-        acts = first_acts ++ a ∷ [];
-        are = rw (is_act y.before, stamps) refl;
-        outcomes = y.lift.os ++ o ∷ [];
-        runs = run_append top s first_acts (a ∷ []) y.lift.os (o ∷ []) y.lift.runs (one_run top s1 a o stepped);
-        tells = λ p. stream_last first_acts a y.lift.os o p top s y.lift.runs y.lift.silent
-            ∙ told_last m o.report p can.is report_is;
-      },
-      subst (IsKept streams (m ∷ earlier)) (sym state) (record {
-        there =
-            λ x h. ap (λ (p : Option Process). is_some p) (process_then s1 a done x)
-            ∙ there_mapped (changed a done) (process s1 x) ∙ y.there x h;
-        each = each;
-      }),
-    )
+sending top streams earlier s m to can listed is is_to reports =
+    stamping top streams earlier s m (act.Send m.who to m.event.value) can (record {
+      kind = kind.Send;
+      to = Some to;
+      is = is;
+      by = refl;
+      listed = listed;
+      acts = λ top r t has below. rw (has, lt-ltb r.local.clock top below) refl;
+      reaches = λ z. sent m.who to m.event.value (token_of streams m) z (sends_to z.pid m) (is_to z.pid);
+      reports = reports;
+    })
 
--- A PRINT
+-- what a print of the move reports
+abbrev pub printed_event : Move → Event
+printed_event m = record {
+  label = m.event.label;
+  kind = kind.Print;
+  serial = m.event.serial;
+  from = m.who;
+  to = None;
+  value = m.event.value;
+}
 
 pub printing : (top : ℕ) (streams : List Stream) (earlier : List Move) (s : State) (m : Move)
     → CanStamp top streams earlier s m → ((r : Process) → act_of r m ≡ Some (act.Print m.who m.event.value))
     → ((q : Pid) → sends_to q m ≡ false)
-    → (let f = flags_of streams m in cond f.print (Some (record {
-      label = m.event.label;
-      kind = kind.Print;
-      serial = m.event.serial;
-      from = m.who;
-      to = None;
-      value = m.event.value;
-    })) None ≡ told_event m)
+    → (if (flags_of streams m).print then Some (printed_event m) else None) ≡ told_event m
     → Continues top streams earlier s m
-printing top streams earlier s m can is_act is_to reports =
-    let kept = can.kept in
-    let stamps = can.stamps in
-    let below = can.below in
-    let within = can.within in
-    let y = stands_ready top streams earlier s m can in
-    let v = m.event.value in
-    let first_acts = ready m.who (start_of y.before.local) m.event.label m.event.serial (flags_of streams m) in
-    let s1 = state_after s y.lift.os in
-    let r1 : Process = record y.before { local = y.end } in
-    let who : r1.pid ≡ m.who = process_pid s m.who y.before y.is_before in
-    let a = act.Print m.who v in
-    let stamp = stamped_token r1.pid y.end y.token in
-    let stamp_is : stamp ≡ token_of streams m = ap (λ p. stamped_token p y.end y.token) who ∙ y.stamped in
-    let done = prints r1 v (final r1.pid y.end y.token) in
-    let clocked = y.clocked in
-    let acted_is : acted top r1 a ≡ Some done = acted_print top r1 m.who v y.token y.is (omega arith) in
-    let o = outcome_of s1 a done in
-    let stepped : step top s1 a ≡ Some o = step_is top s1 a r1 r1 done y.lift.here y.lift.here acted_is in
-    let state : state_after s (y.lift.os ++ o ∷ []) ≡ o.after = state_append s y.lift.os (o ∷ []) in
-    let report_is : o.report ≡ told_event m = ap (λ b. report b kind.Print (Some stamp) None v) y.traced
-    ∙ ap (λ t. report true kind.Print (Some t) None v) stamp_is ∙ reports in
-    let own : IsSo streams (m ∷ earlier) m.who (changed a done r1) =
-    subst (IsSo streams (m ∷ earlier) m.who) (sym (changed_own a done r1 who))
-    (so_own top streams m earlier s y r1.pid false y.before.queue stamps below (is_to m.who) refl) in
-    let each : (x : Pid) (r2 : Process) → process o.after x ≡ Some r2 → IsSo streams (m ∷ earlier) x r2 =
-    λ x r2 h.
-    let parts = mapped (changed a done) (process s1 x) r2 (sym (process_then s1 a done x) ∙ h) in
-    let z = parts.0 in
-    subst (IsSo streams (m ∷ earlier) x) parts.2
-    (elim (pid_eq x m.who) as (λ b. pid_eq x m.who ≡ b → IsSo streams (m ∷ earlier) x (changed a done z)) [
-      | true ↦ λ e.
-          let same = pid_same x m.who e in
-          let is_r1 : r1 ≡ z = same_Some r1 z (sym y.lift.here ∙ ap (process s1) (sym same) ∙ parts.1) in
-          subst (λ p. IsSo streams (m ∷ earlier) p (changed a done z)) (sym same)
-          (subst (λ q. IsSo streams (m ∷ earlier) m.who (changed a done q)) is_r1 own)
-      | false ↦ λ e.
-          let before : process s x ≡ Some z = sym (y.lift.others x e) ∙ parts.1 in
-          let pid : z.pid ≡ x = process_pid s x z before in
-          let not_own : changed a done z ≡ z = ap (λ b. cond b (record z {
-            local = done.local;
-            queue = done.queue;
-          }) z) (ap (λ p. pid_eq p m.who) pid ∙ e) in
-          subst (IsSo streams (m ∷ earlier) x) (sym not_own)
-          (so_other streams m earlier x z false z.queue e stamps (is_to x) (kept.each x z before) refl)
-    ] refl) in (
-      record {
-        before = y.before;
-        is_before = y.is_before;
-        acts = first_acts ++ a ∷ [];
-        are = rw (is_act y.before, stamps) refl;
-        outcomes = y.lift.os ++ o ∷ [];
-        runs = run_append top s first_acts (a ∷ []) y.lift.os (o ∷ []) y.lift.runs (one_run top s1 a o stepped);
-        tells = λ p. stream_last first_acts a y.lift.os o p top s y.lift.runs y.lift.silent
-            ∙ told_last m o.report p can.is report_is;
-      },
-      subst (IsKept streams (m ∷ earlier)) (sym state) (record {
-        there =
-            λ x h. ap (λ (p : Option Process). is_some p) (process_then s1 a done x)
-            ∙ there_mapped (changed a done) (process s1 x) ∙ y.there x h;
-        each = each;
-      }),
-    )
+printing top streams earlier s m can is is_to reports =
+    stamping top streams earlier s m (act.Print m.who m.event.value) can (record {
+      kind = kind.Print;
+      to = None;
+      is = is;
+      by = refl;
+      listed = can.listed;
+      acts = λ top r t has below. rw (has, lt-ltb r.local.clock top below) refl;
+      reaches = λ z. ap
+          (λ b. record z { queue = if b then z.queue ++ message_of streams m ∷ [] else z.queue }) (sym (is_to z.pid));
+      reports = reports;
+    })

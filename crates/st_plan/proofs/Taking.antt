@@ -1,6 +1,5 @@
 -- A receive keeps the invariant: it takes the message that waits for it, which leaves the queue and gives the event.
-use Rattle.std.proofs.Common.{◌≡◌, ℕ, zero, suc, ◌+◌, max, true, false}
-use Rattle.std.proofs.Common.{cond, List, [], ◌∷◌, Option, Some, None, is_some, option_map}
+use Rattle.std.proofs.Common.{◌≡◌, ℕ, zero, suc, ◌+◌, max, true, false, cond, List, [], ◌∷◌, Some, None, option_map}
 use Rattle.std.proofs.Common.{refl, sym, ◌∙◌, ap, subst, arith}
 use Rattle.std.specs.List.{remove, position, slice_get}
 use Rattle.std.proofs.lemmas.Bool.{eq-eqb, ne_eqb}
@@ -17,17 +16,15 @@ use Rattle.st_core.specs.declared.types.Want.TheVariants as want
 use Rattle.st_core.specs.Local.{received}
 use Rattle.st_core.specs.Pick.{pick, pick_from}
 use Rattle.st_core.specs.Report.{report}
-use Rattle.st_core.specs.Step.{acted, receives, changed, outcome_of}
-use Rattle.st_core.specs.Step.{step}
+use Rattle.st_core.specs.Step.{acted, receives, changed, outcome_of, step}
 use Rattle.st_core.specs.Run.{Stream}
 use Rattle.st_core.specs.Streams.{lists}
-use Rattle.st_core.proofs.ForCallers.{pid_same, pid_eq-refl, process_pid, mapped}
+use Rattle.st_core.proofs.ForCallers.{pid_eq-refl, process_pid}
 use Rattle.st_mail.specs.Mail.{is_stamp}
-use Rattle.st_plan.specs.Moves.{Move, is_taking, clock, last}
+use Rattle.st_plan.specs.Moves.{Move, is_taking, clock, last, move_by}
 use Rattle.st_plan.specs.Build.{act_of}
-use Rattle.st_plan.specs.Moves.{move_by}
-use Rattle.st_plan.proofs.Lift.{step_is, process_then, changed_own}
-use Rattle.st_plan.proofs.Kept.{queue_of, IsSo, IsKept, told_event, Continues, found, there_mapped, apart_from}
+use Rattle.st_plan.proofs.Lift.{step_is, changed_own}
+use Rattle.st_plan.proofs.Kept.{queue_of, IsSo, IsKept, told_event, Continues, found, apart_from, step_keeps}
 use Rattle.st_plan.proofs.Kept.{other_clock, other_last, taken_queue, told_last}
 use Rattle.st_plan.proofs.Stamping.{one_run}
 
@@ -94,14 +91,7 @@ taking top streams earlier s m kept listed takes is_act is_told is w =
     ap (λ t. report r.local.traced kind.Receive t (Some r.pid) w.message.value) w.has
     ∙ ap (λ b. report b kind.Receive (Some w.token) (Some r.pid) w.message.value) so.traced
     ∙ ap (λ p. report true kind.Receive (Some w.token) (Some p) w.message.value) who
-    ∙ ap (λ b. cond b (Some (record {
-      label = w.token.label;
-      kind = kind.Receive;
-      serial = w.token.serial;
-      from = w.token.from;
-      to = Some m.who;
-      value = w.message.value;
-    })) None) w.seen
+    ∙ ap (λ b. cond b (Some (got_of m.who w.message.value w.token)) None) w.seen
     ∙ ap (λ (e : Event). Some e) w.gives ∙ sym is_told in
     let put : Process = record r { local = received r.local w.message.token; queue = remove r.queue k } in
     let put_is : put ≡ record r { local = received r.local (Some w.token); queue = remove r.queue k } =
@@ -120,31 +110,16 @@ taking top streams earlier s m kept listed takes is_act is_told is w =
             | Some j ↦ remove (queue_of streams m.who earlier) j
           ]) w.is);
     }) in
-    let each : (x : Pid) (r2 : Process) → process o.after x ≡ Some r2 → IsSo streams (m ∷ earlier) x r2 =
-    λ x r2 h.
-    let parts = mapped (changed a done) (process s x) r2 (sym (process_then s a done x) ∙ h) in
-    let z = parts.0 in
-    subst (IsSo streams (m ∷ earlier) x) parts.2
-    (elim (pid_eq x m.who) as (λ b. pid_eq x m.who ≡ b → IsSo streams (m ∷ earlier) x (changed a done z)) [
-      | true ↦ λ e.
-          let same = pid_same x m.who e in
-          let is_r : r ≡ z = same_Some r z (sym at.1 ∙ ap (process s) (sym same) ∙ parts.1) in
-          subst (λ p. IsSo streams (m ∷ earlier) p (changed a done z)) (sym same)
-          (subst (λ q. IsSo streams (m ∷ earlier) m.who (changed a done q)) is_r own)
-      | false ↦ λ e.
-          let pid : z.pid ≡ x = process_pid s x z parts.1 in
-          let not_own : changed a done z ≡ z = ap (λ b. cond b (record z {
-            local = done.local;
-            queue = done.queue;
-          }) z) (ap (λ p. pid_eq p m.who) pid ∙ e) in
-          let there = kept.each x z parts.1 in
-          subst (IsSo streams (m ∷ earlier) x) (sym not_own) (record {
-            clocked = there.clocked ∙ sym (other_clock m earlier x e);
-            lasted = there.lasted ∙ sym (other_last m earlier x e);
-            traced = there.traced;
-            queued = there.queued ∙ sym (taken_queue streams m earlier x false takes (apart_from x m.who e));
-          })
-    ] refl) in (
+    let others : (x : Pid) (z : Process) → pid_eq x m.who ≡ false → process s x ≡ Some z
+    → IsSo streams (m ∷ earlier) x z =
+    λ x z apart is_z.
+    let there = kept.each x z is_z in
+    record {
+      clocked = there.clocked ∙ sym (other_clock m earlier x apart);
+      lasted = there.lasted ∙ sym (other_last m earlier x apart);
+      traced = there.traced;
+      queued = there.queued ∙ sym (taken_queue streams m earlier x false takes (apart_from x m.who apart));
+    } in (
       record {
         before = r;
         is_before = at.1;
@@ -156,9 +131,5 @@ taking top streams earlier s m kept listed takes is_act is_told is w =
         runs = one_run top s a o stepped;
         tells = λ p. told_last m o.report p is report_is;
       },
-      record {
-        there = λ x h. ap (λ (p : Option Process). is_some p) (process_then s a done x)
-            ∙ there_mapped (changed a done) (process s x) ∙ kept.there x h;
-        each = each;
-      },
+      step_keeps streams earlier m s a done r kept.there at.1 refl own others,
     )
