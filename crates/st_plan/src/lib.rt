@@ -9,3 +9,6 @@ pub mod laws;
 mod plan;
 
 pub use plan::{QUIET, Start, ready};
+
+#[cfg(test)]
+mod tests;

@@ -1,0 +1,77 @@
+//! Worked plans, each counted by hand; that each call succeeds with ample memory.
+
+use crate::{QUIET, Start, ready};
+use st_core::{Act, Flags, Label, Pid, Serial, Token};
+use std::alloc::Global;
+use std::test::Fail;
+
+/// The flags under which a print is reported.
+const PRINTED: Flags = Flags {
+    print: true,
+    ..QUIET
+};
+
+/// What process 30 does before a reported print of label 17.
+fn planned(alloc: Global, start: &Start, prev: u64, this: u64) -> Result<Vec<Act>, Fail> {
+    let mut plan = Vec::new(alloc);
+    ready(
+        &mut plan,
+        Pid::new(30),
+        start,
+        Label(17),
+        Serial { prev, this },
+        PRINTED,
+    )?;
+    Ok(plan)
+}
+
+/// How many of these acts are prints.
+fn prints(plan: &[Act]) -> usize {
+    plan.iter()
+        .filter(|act| matches!(act, Act::Print(_, _)))
+        .count()
+}
+
+#[test]
+fn prints_nobody_sees_bring_the_clock_below_the_count(rt: HostRuntime) -> Result<(), Fail> {
+    let start = Start {
+        token: None,
+        clock: 2,
+        last: 1,
+    };
+    let plan = planned(rt.alloc(), &start, 1, 6)?;
+    assert_eq!(rt; prints(&plan), 3);
+    assert_eq!(rt; plan.len(), 5);
+    Ok(())
+}
+
+#[test]
+fn new_trace_begins_at_a_prev_above_the_clock(rt: HostRuntime) -> Result<(), Fail> {
+    let start = Start {
+        token: None,
+        clock: 1,
+        last: 0,
+    };
+    let plan = planned(rt.alloc(), &start, 3, 4)?;
+    assert_eq!(rt; prints(&plan), 2);
+    assert!(rt; plan.contains(&Act::Clear(Pid::new(30))));
+    assert_eq!(rt; plan.len(), 6);
+    Ok(())
+}
+
+#[test]
+fn nothing_is_planned_for_a_process_that_stands_ready(rt: HostRuntime) -> Result<(), Fail> {
+    let token = Token {
+        label: Label(17),
+        flags: PRINTED,
+        serial: Serial { prev: 0, this: 0 },
+        from: Pid::new(31),
+    };
+    let start = Start {
+        token: Some(token),
+        clock: 4,
+        last: 2,
+    };
+    assert!(rt; planned(rt.alloc(), &start, 2, 5)?.is_empty());
+    Ok(())
+}
