@@ -1,6 +1,6 @@
 -- The tracers come first: a tracer for each node marks all its processes, reports nothing and leaves all else at zero,
 -- so that after them the state is what no moves say.
-use Rattle.std.proofs.Common.{◌≡◌, ℕ, ◌==◌, ◌&&◌, zero, suc, true, false, cond, List, [], ◌∷◌, Option, Some, None}
+use Rattle.std.proofs.Common.{◌≡◌, ℕ, ◌==◌, ◌&&◌, zero, suc, Bool, true, false, cond, List, [], ◌∷◌, Option, Some, None}
 use Rattle.std.proofs.Common.{is_some, option_map, option_and_then, refl, sym, ◌∙◌, ap, subst, arith}
 use Rattle.std.specs.List.{slice_get}
 use Rattle.std.specs.Option.{option_map_or}
@@ -13,7 +13,7 @@ use Rattle.st_core.specs.declared.types.Act.{Act}
 use Rattle.st_core.specs.declared.types.Act.TheVariants as act
 use Rattle.st_core.specs.Pid.{pid_eq, node_eq}
 use Rattle.st_core.specs.State.{Process, State, process, zero_local, zero_state}
-use Rattle.st_core.specs.Step.{Outcome, answers, changed, outcome_of, step}
+use Rattle.st_core.specs.Step.{Acted, Outcome, answers, changed, outcome_of, step}
 use Rattle.st_core.specs.Run.{Stream, pids_of, run_from}
 use Rattle.st_core.specs.Streams.{lists, stream_of}
 use Rattle.st_core.proofs.ForCallers.{pid_same, pid_eq-refl, process_pid, mapped}
@@ -35,69 +35,58 @@ AreZero s = (x : Pid) (r : Process) → process s x ≡ Some r → IsZero r
 abbrev IsTraced : State → Pid → Type 0
 IsTraced s x = (r : Process) → process s x ≡ Some r → r.local.traced ≡ true
 
--- the state after a tracer change by p
-abbrev switched : State → Pid → Process → State
-switched s p r = (outcome_of s (act.Tracer p true) (answers r r.local (reply.Was r.local.traced))).after
+-- A TRACER
 
-tracer_zero : (p : Pid) (before r : Process) → IsZero before → IsZero r
-    → IsZero (changed (act.Tracer p true) (answers before before.local (reply.Was before.local.traced)) r)
+-- what p's tracer change makes of p's own part, of its process and of each on its node
+abbrev switched : Process → Acted
+switched p = answers p p.local (reply.Was p.local.traced)
+
+abbrev owned : Bool → Process → Process → Process
+owned b before r = cond b (record r { local = before.local; queue = before.queue }) r
+
+abbrev marked : Bool → Process → Process
+marked b r = cond b (record r { local = record r.local { traced = true } }) r
+
+abbrev after_tracer : Pid → Process → Process → Process
+after_tracer p before r = changed (act.Tracer p true) (switched before) r
+
+tracer_zero : (p : Pid) (before r : Process) → IsZero before → IsZero r → IsZero (after_tracer p before r)
 tracer_zero p before r z y =
-    let own : Process = cond (pid_eq r.pid p) (record r { local = before.local; queue = before.queue }) r in
-    let mine : IsZero own = elim (pid_eq r.pid p) as (λ b. IsZero (cond b (record r {
-      local = before.local;
-      queue = before.queue;
-    }) r)) [
+    let own : Process = owned (pid_eq r.pid p) before r in
+    let mine : IsZero own = elim (pid_eq r.pid p) as (λ b. IsZero (owned b before r)) [
       | true ↦ record { clocked = z.clocked; lasted = z.lasted; queued = z.queued }
       | false ↦ y
     ] in
-    elim (node_eq own.pid p) as (λ b. IsZero (cond b (record own {
-      local =
-          record own.local { traced = true };
-    }) own)) [
-      | true ↦ record {
-        clocked = mine.clocked;
-        lasted = mine.lasted;
-        queued = mine.queued;
-      }
+    elim (node_eq own.pid p) as (λ b. IsZero (marked b own)) [
+      | true ↦ record { clocked = mine.clocked; lasted = mine.lasted; queued = mine.queued }
       | false ↦ mine
     ]
 
-own_pid : (p : Pid) (before r : Process) → (cond (pid_eq r.pid p) (record r {
-  local = before.local;
-  queue = before.queue;
-}) r).pid ≡ r.pid
-own_pid p before r = elim (pid_eq r.pid p) as (λ b. (cond b (record r {
-  local = before.local;
-  queue = before.queue;
-}) r).pid ≡ r.pid) [ true ↦ refl | false ↦ refl ]
+own_pid : (p : Pid) (before r : Process) → (owned (pid_eq r.pid p) before r).pid ≡ r.pid
+own_pid p before r = elim (pid_eq r.pid p) as (λ b. (owned b before r).pid ≡ r.pid) [ true ↦ refl | false ↦ refl ]
 
 -- on p's node all are traced
 tracer_node : (p : Pid) (before r : Process) → node_eq r.pid p ≡ true
-    → (changed (act.Tracer p true) (answers before before.local (reply.Was before.local.traced)) r).local.traced ≡ true
+    → (after_tracer p before r).local.traced ≡ true
 tracer_node p before r h =
-    let own : Process = cond (pid_eq r.pid p) (record r { local = before.local; queue = before.queue }) r in
-    ap (λ b. (cond b (record own { local = record own.local { traced = true } }) own).local.traced)
+    ap (λ b. (marked b (owned (pid_eq r.pid p) before r)).local.traced)
     (ap (λ x. node_eq x p) (own_pid p before r) ∙ h)
 
 -- and elsewhere as before
-tracer_keeps : (p : Pid) (before r : Process) → r.local.traced ≡ true
-    → (changed (act.Tracer p true) (answers before before.local (reply.Was before.local.traced)) r).local.traced ≡ true
+tracer_keeps : (p : Pid) (before r : Process) → r.local.traced ≡ true → (after_tracer p before r).local.traced ≡ true
 tracer_keeps p before r h =
-    elim (node_eq r.pid p) as (λ b. node_eq r.pid p ≡ b → (changed (act.Tracer p true)
-    (answers before before.local (reply.Was before.local.traced)) r).local.traced ≡ true) [
+    elim (node_eq r.pid p) as (λ b. node_eq r.pid p ≡ b → (after_tracer p before r).local.traced ≡ true) [
       | true ↦ λ e. tracer_node p before r e
       | false ↦ λ e.
           let apart : pid_eq r.pid p ≡ false = ap (λ b. b && (r.pid.number == p.number)) e in
-          ap (λ b. (let own : Process = cond b (record r { local = before.local; queue = before.queue }) r in
-          (cond (node_eq own.pid p) (record own {
-            local = record own.local {
-              traced =
-                  true;
-            };
-          }) own)).local.traced) apart
-          ∙ ap (λ b. (cond b (record r { local = record r.local { traced = true } }) r).local.traced) e ∙ h
+          ap (λ b. (marked (node_eq (owned b before r).pid p) (owned b before r)).local.traced) apart
+          ∙ ap (λ b. (marked b r).local.traced) e
+          ∙ h
     ] refl
 
+-- ALL TRACERS
+
+-- what a state is after these acts, which are the tracers of some pids
 pub record IsOpened (top : ℕ) (s : State) (acts : List Act) (ps : List Pid) : Type 0 where
   pub os : List Outcome
   pub runs : run_from top s acts ≡ Some os
@@ -144,26 +133,31 @@ opened top (p ∷ ps) seen s there zeroed traced =
           let at = found (process s p) (there 0 p refl) in
           let r = at.0 in
           let a = act.Tracer p true in
-          let now = answers r r.local (reply.Was r.local.traced) in
+          let now = switched r in
           let o = outcome_of s a now in
           let first : step top s a ≡ Some o = step_is top s a r r now at.1 at.1 refl in
           let here : (x : Pid) → process o.after x ≡ option_map (changed a now) (process s x) =
           λ x. process_then s a now x in
-          let stays : (x : Pid) → is_some (process o.after x)
-          ≡ is_some (process s x) = λ x. ap (λ (q : Option Process). is_some q) (here x)
-          ∙ there_mapped (changed a now) (process s x) in
-          let still : (x : Pid) → IsTraced s x → IsTraced o.after x = λ x h r2 is. let parts =
-          mapped (changed a now) (process s x) r2 (sym (here x) ∙ is) in
-          subst (λ (y : Process). y.local.traced ≡ true) parts.2 (tracer_keeps p r parts.0 (h parts.0 parts.1)) in
-          let node : (x : Pid) → node_eq x p ≡ true → IsTraced o.after x = λ x same r2 is. let parts =
-          mapped (changed a now) (process s x) r2 (sym (here x) ∙ is) in
-          subst (λ (y : Process). y.local.traced ≡ true) parts.2
-          (tracer_node p r parts.0 (ap (λ q. node_eq q p) (process_pid s x parts.0 parts.1) ∙ same)) in
-          let zeros : AreZero o.after = λ x r2 is. let parts =
-          mapped (changed a now) (process s x) r2 (sym (here x) ∙ is) in
-          subst IsZero parts.2 (tracer_zero p r parts.0 (zeroed p r at.1) (zeroed x parts.0 parts.1)) in
-          let rest = opened top ps (Some p.node) o.after (λ k x h. stays x
-          ∙ there (suc k) x h) zeros (λ x h. node x (swap x.node p.node ∙ h)) in
+          let stays : (x : Pid) → is_some (process o.after x) ≡ is_some (process s x) =
+          λ x. ap (λ (q : Option Process). is_some q) (here x) ∙ there_mapped (changed a now) (process s x) in
+          let was : (x : Pid) (r2 : Process) → process o.after x ≡ Some r2
+          → (z : Process) × (process s x ≡ Some z) × (changed a now z ≡ r2) =
+          λ x r2 is. mapped (changed a now) (process s x) r2 (sym (here x) ∙ is) in
+          let still : (x : Pid) → IsTraced s x → IsTraced o.after x =
+          λ x h r2 is.
+          let z = was x r2 is in
+          subst (λ (y : Process). y.local.traced ≡ true) z.2 (tracer_keeps p r z.0 (h z.0 z.1)) in
+          let node : (x : Pid) → node_eq x p ≡ true → IsTraced o.after x =
+          λ x same r2 is.
+          let z = was x r2 is in
+          let near : node_eq z.0.pid p ≡ true = ap (λ q. node_eq q p) (process_pid s x z.0 z.1) ∙ same in
+          subst (λ (y : Process). y.local.traced ≡ true) z.2 (tracer_node p r z.0 near) in
+          let zeros : AreZero o.after =
+          λ x r2 is.
+          let z = was x r2 is in
+          subst IsZero z.2 (tracer_zero p r z.0 (zeroed p r at.1) (zeroed x z.0 z.1)) in
+          let rest = opened top ps (Some p.node) o.after (λ k x h. stays x ∙ there (suc k) x h) zeros
+          (λ x h. node x (swap x.node p.node ∙ h)) in
           record {
             os = o ∷ rest.os;
             runs = ap (option_and_then (λ (o : Outcome). option_map (λ os. o ∷ os)
@@ -178,15 +172,16 @@ opened top (p ∷ ps) seen s there zeroed traced =
           }
     ] refl
 
+-- FROM ZERO
+
+abbrev zeroes : Pid → Process
+zeroes p = record { pid = p; local = zero_local; queue = [] }
+
 zero_found : (pids : List Pid) (x : Pid) (r : Process) → process (zero_state pids) x ≡ Some r
     → (k : ℕ) × (slice_get pids k ≡ Some x)
 zero_found [] x r h = absurd (none-some r h)
 zero_found (p ∷ pids) x r h =
-    elim (pid_eq p x) as (λ b. pid_eq p x ≡ b → cond b (Some (record {
-      pid = p;
-      local = zero_local;
-      queue = [];
-    })) (process (zero_state pids) x) ≡ Some r → (k : ℕ) × (slice_get (p ∷ pids) k ≡ Some x)) [
+    elim (pid_eq p x) as (λ b. pid_eq p x ≡ b → cond b (Some (zeroes p)) (process (zero_state pids) x) ≡ Some r → (k : ℕ) × (slice_get (p ∷ pids) k ≡ Some x)) [
       | true ↦ λ e h. (0, ap (λ (q : Pid). Some q) (pid_same p x e))
       | false ↦ λ e h. let rest = zero_found pids x r h in (suc rest.0, rest.1)
     ] refl h
@@ -194,26 +189,14 @@ zero_found (p ∷ pids) x r h =
 zero_there : (pids : List Pid) (k : ℕ) (x : Pid) → slice_get pids k ≡ Some x
     → is_some (process (zero_state pids) x) ≡ true
 zero_there [] k x h = absurd (none-some x h)
-zero_there (p ∷ pids) zero x h = ap (λ b. is_some (cond b (Some (record {
-  pid = p;
-  local = zero_local;
-  queue = [];
-})) (process (zero_state pids) x))) (ap (λ q. pid_eq q x) (same_Some p x h) ∙ pid_eq-refl x)
+zero_there (p ∷ pids) zero x h = ap (λ b. is_some (cond b (Some (zeroes p)) (process (zero_state pids) x))) (ap (λ q. pid_eq q x) (same_Some p x h) ∙ pid_eq-refl x)
 zero_there (p ∷ pids) (suc k) x h =
-    elim (pid_eq p x) as (λ b. is_some (cond b (Some (record {
-      pid = p;
-      local = zero_local;
-      queue = [];
-    })) (process (zero_state pids) x)) ≡ true) [ true ↦ refl | false ↦ zero_there pids k x h ]
+    elim (pid_eq p x) as (λ b. is_some (cond b (Some (zeroes p)) (process (zero_state pids) x)) ≡ true) [ true ↦ refl | false ↦ zero_there pids k x h ]
 
 zero_zero : (pids : List Pid) → AreZero (zero_state pids)
 zero_zero [] x r h = absurd (none-some r h)
 zero_zero (p ∷ pids) x r h =
-    elim (pid_eq p x) as (λ b. cond b (Some (record {
-      pid = p;
-      local = zero_local;
-      queue = [];
-    })) (process (zero_state pids) x) ≡ Some r → IsZero r) [
+    elim (pid_eq p x) as (λ b. cond b (Some (zeroes p)) (process (zero_state pids) x) ≡ Some r → IsZero r) [
       | true ↦ λ h. subst IsZero (same_Some _ r h) (record { clocked = refl; lasted = refl; queued = refl })
       | false ↦ λ h. zero_zero pids x r h
     ] h
@@ -223,11 +206,7 @@ listed_there : (streams : List Stream) (x : Pid) → lists streams x ≡ true
 listed_there [] x h = absurd (false≢true h)
 listed_there (y ∷ streams) x h =
     elim (pid_eq y.pid x) as (λ b. is_some (cond b (Some y) (stream_of streams x)) ≡ true
-    → is_some (cond b (Some (record {
-      pid = y.pid;
-      local = zero_local;
-      queue = [];
-    })) (process (zero_state (pids_of streams)) x)) ≡ true) [
+    → is_some (cond b (Some (zeroes y.pid)) (process (zero_state (pids_of streams)) x)) ≡ true) [
       | true ↦ λ h. refl
       | false ↦ λ h. listed_there streams x h
     ] h
