@@ -76,8 +76,7 @@ have_by m earlier (item.Reported p i) is turn have q k less =
                   number = 0;
                   move = m;
                   among = refl;
-                  is = is ∙ ap (λ r. item.Reported r i) who
-                      ∙ ap (item.Reported q) here;
+                  is = is ∙ ap (λ r. item.Reported r i) who ∙ ap (item.Reported q) here;
                 }
           ]
       | false ↦ λ other less. later m earlier q k (have q k (omega arith))
@@ -85,7 +84,7 @@ have_by m earlier (item.Reported p i) is turn have q k less =
 
 -- A REPORTED STAMP IS ABOVE WHAT ITS PROCESS DID
 
-at_event : (streams : List Stream) (x : Item) (e : Event) → IsAt streams x e
+pub at_event : (streams : List Stream) (x : Item) (e : Event) → IsAt streams x e
     → (p : Pid) × (i : ℕ) × (event_at streams p i ≡ Some e)
 at_event streams (item.Reported p i) e h = (p, i, h)
 at_event streams (item.Hidden p i) e h = (p, i, h.0)
@@ -94,15 +93,16 @@ pub top_of : (streams : List Stream) (earlier : List Move) (x : Item) (e : Event
     → IsInTurn earlier x → AllByRecursion (λ y. IsKeyBelow (key_by streams y.item y.event) (key_by streams x e)) earlier
     → IsKnown streams earlier → IsTop streams x e
 top_of streams earlier (item.Hidden p i) e ok at turn below known = tt
-top_of streams earlier (item.Reported p zero) e ok at turn below known = λ stamps. let rises =
-    serial_rises streams ok p 0 e at in omega arith
+top_of streams earlier (item.Reported p zero) e ok at turn below known = λ stamps.
+    let rises = serial_rises streams ok p 0 e at in
+    omega arith
 top_of streams earlier (item.Reported p (suc k)) e ok at turn below known = λ stamps.
     let count = turn in
     let s = known.have p k (omega arith) in
     let d = s.move.event in
     let came = all_at (HasCome streams) earlier s.number s.move known.each s.among in
-    let lower = all_at (λ (y : Move). IsKeyBelow (key_by streams y.item y.event)
-    (key_by streams (item.Reported p (suc k)) e)) earlier s.number s.move below s.among in
+    let above = λ (y : Move). IsKeyBelow (key_by streams y.item y.event) (key_by streams (item.Reported p (suc k)) e) in
+    let lower = all_at above earlier s.number s.move below s.among in
     let at_d : event_at streams p k ≡ Some d = subst (λ y. IsAt streams y d) s.is came.at in
     let top_d : IsTop streams (item.Reported p k) d = subst (λ y. IsTop streams y d) s.is came.top in
     let key_d : IsKeyBelow (key_by streams (item.Reported p k) d) (key_by streams (item.Reported p (suc k)) e) =

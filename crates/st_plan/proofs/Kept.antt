@@ -128,12 +128,15 @@ pub own_clock : (m : Move) (earlier : List Move) → clock m.who earlier < m.eve
     → clock m.who (m ∷ earlier) ≡ m.event.serial.this
 own_clock m earlier below =
     let greater : max (clock m.who earlier) m.event.serial.this ≡ m.event.serial.this = omega arith in
-    ap (λ b. cond b (max (clock m.who earlier) m.event.serial.this) (clock m.who earlier))
-    (pid_eq-refl m.who) ∙ greater
+    ap (λ b. cond b (max (clock m.who earlier) m.event.serial.this) (clock m.who earlier)) (pid_eq-refl m.who)
+    ∙ greater
 
 pub own_last : (m : Move) (earlier : List Move) → is_taking m ≡ false → last m.who (m ∷ earlier) ≡ m.event.serial.prev
-own_last m earlier stamps = ap (λ b. cond b (cond (is_taking m) m.event.serial.this m.event.serial.prev)
-    (last m.who earlier)) (pid_eq-refl m.who) ∙ ap (λ b. cond b m.event.serial.this m.event.serial.prev) stamps
+own_last m earlier stamps =
+    let this = m.event.serial.this in
+    let prev = m.event.serial.prev in
+    ap (λ b. cond b (cond (is_taking m) this prev) (last m.who earlier)) (pid_eq-refl m.who)
+    ∙ ap (λ b. cond b this prev) stamps
 
 pub apart_from : (x p : Pid) → pid_eq x p ≡ false → pid_eq p x ≡ false
 apart_from x p h = pid_eq-swap p x ∙ h
@@ -150,8 +153,9 @@ other_last m earlier x h = ap (λ b. cond b (cond (is_taking m) m.event.serial.t
 
 -- the queue of x after a move that stamps
 pub stamp_queue : (streams : List Stream) (m : Move) (earlier : List Move) (x : Pid) (b : Bool) → is_taking m ≡ false
-    → sends_to x m ≡ b → queue_of streams x (m ∷ earlier) ≡ cond b (queue_of streams x earlier
-    ++ message_of streams m ∷ []) (queue_of streams x earlier)
+    → sends_to x m ≡ b
+    → queue_of streams x (m ∷ earlier)
+    ≡ cond b (queue_of streams x earlier ++ message_of streams m ∷ []) (queue_of streams x earlier)
 stamp_queue streams m earlier x b stamps sends =
     let old = queue_of streams x earlier in
     let took = cond (pid_eq m.who x) (without m.event.from m.event.serial.this old) old in
@@ -160,8 +164,9 @@ stamp_queue streams m earlier x b stamps sends =
 
 -- and after one that takes
 pub taken_queue : (streams : List Stream) (m : Move) (earlier : List Move) (x : Pid) (b : Bool) → is_taking m ≡ true
-    → pid_eq m.who x ≡ b → queue_of streams x (m ∷ earlier) ≡ cond b
-    (without m.event.from m.event.serial.this (queue_of streams x earlier)) (queue_of streams x earlier)
+    → pid_eq m.who x ≡ b
+    → queue_of streams x (m ∷ earlier)
+    ≡ cond b (without m.event.from m.event.serial.this (queue_of streams x earlier)) (queue_of streams x earlier)
 taken_queue streams m earlier x b takes who =
     let old = queue_of streams x earlier in
     let took = without m.event.from m.event.serial.this old in
@@ -204,18 +209,18 @@ step_keeps streams earlier m s a done r there is by own others = record {
 -- ONE ACT MORE
 
 pub stream_last : (acts : List Act) (a : Act) (os : List Outcome) (o : Outcome) (p : Pid) (top : ℕ) (s : State)
-    → run_from top s acts ≡ Some os → Silent os → stream (acts ++ a ∷ []) (os ++ o ∷ []) p
-    ≡ (if pid_eq (actor a) p then option_to_list o.report else []) ++ []
+    → run_from top s acts ≡ Some os → Silent os
+    → stream (acts ++ a ∷ []) (os ++ o ∷ []) p ≡ (if pid_eq (actor a) p then option_to_list o.report else []) ++ []
 stream_last [] a os o p top s runs silent = ap (λ xs. stream (a ∷ []) (xs ++ o ∷ []) p) (sym (same_Some [] os runs))
 stream_last (b ∷ acts) a os o p top s runs silent =
     let t = run_parts top s b acts os runs in
     let quiet : Silent (t.first ∷ t.others) = subst Silent t.is_whole silent in
+    let rest = stream (acts ++ a ∷ []) (t.others ++ o ∷ []) p in
+    let none : Option Event = None in
+    let end : List Event = (if pid_eq (actor a) p then option_to_list o.report else []) ++ [] in
     ap (λ xs. stream (b ∷ (acts ++ a ∷ [])) (xs ++ o ∷ []) p) t.is_whole
-    ∙ ap (λ report. cond (pid_eq (actor b) p) (option_to_list report) []
-    ++ stream (acts ++ a ∷ []) (t.others ++ o ∷ []) p) quiet.0
-    ∙ elim (pid_eq (actor b) p) as (λ c. cond c (option_to_list None) []
-    ++ stream (acts ++ a ∷ []) (t.others ++ o ∷ []) p ≡ (if pid_eq (actor a) p then option_to_list o.report else [])
-    ++ []) [
+    ∙ ap (λ report. cond (pid_eq (actor b) p) (option_to_list report) [] ++ rest) quiet.0
+    ∙ elim (pid_eq (actor b) p) as (λ c. cond c (option_to_list none) [] ++ rest ≡ end) [
       | true ↦ stream_last acts a t.others o p top t.first.after t.is_rest quiet.1
       | false ↦ stream_last acts a t.others o p top t.first.after t.is_rest quiet.1
     ]
@@ -224,8 +229,8 @@ stream_last (b ∷ acts) a os o p top s runs silent =
 abbrev pub shown_to : Pid → Move → Option Event → List Event
 shown_to p m report = (if pid_eq m.who p then option_to_list report else []) ++ []
 
-told_of : (x : Item) (e : Event) (p : Pid) → shown_to p (move_by x e) (told_event (move_by x e))
-    ≡ told_by p (move_by x e)
+told_of : (x : Item) (e : Event) (p : Pid)
+    → shown_to p (move_by x e) (told_event (move_by x e)) ≡ told_by p (move_by x e)
 told_of (item.Reported q i) e p =
     elim (pid_eq q p) as (λ b. (cond b (e ∷ []) []) ++ [] ≡ cond b (e ∷ []) []) [
       | true ↦ refl

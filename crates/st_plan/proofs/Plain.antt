@@ -4,13 +4,11 @@ use Rattle.std.proofs.Common.{◌≡◌, ℕ, zero, suc, ◌≤◌, false, List,
 use Rattle.std.proofs.Common.{slice_get, ◌∙◌, ap, subst}
 use Rattle.std.proofs.lemmas.Option.{none-some, same_Some, slice_get-get_or}
 use Rattle.st_core.specs.declared.types.Pid.{Pid}
-use Rattle.st_core.specs.declared.types.Event.{Event}
 use Rattle.st_core.specs.declared.types.Act.{Act}
 use Rattle.st_core.specs.State.{State}
 use Rattle.st_core.specs.Run.{Shows, Stream}
 use Rattle.st_core.specs.Streams.{events_of, IsStreams}
 use Rattle.st_core.proofs.ForCallers.{all_at}
-use Rattle.st_pair.specs.Places.{event_at}
 use Rattle.st_pair.proofs.ForCallers.{paired}
 use Rattle.st_order.specs.declared.item.Item.{Item}
 use Rattle.st_order.specs.declared.item.Item.TheVariants as item
@@ -20,11 +18,11 @@ use Rattle.st_plan.specs.Moves.{Move, move_by, moves}
 use Rattle.st_plan.specs.Reasons.{too_wide, uncaused}
 use Rattle.st_plan.specs.Plain.{told, told_all, IsPlain}
 use Rattle.st_plan.specs.Build.{construction, state_after, GoesOn}
-use Rattle.st_plan.proofs.Along.{one_move, order_there, there_event, IsAt}
+use Rattle.st_plan.proofs.Along.{one_move, order_there, there_event}
 use Rattle.st_plan.proofs.Kept.{IsKept}
 use Rattle.st_plan.proofs.Free.{along_at, plain_free, AllAlong, IsFree, IsInTurn}
 use Rattle.st_plan.proofs.Built.{construction_shows, Serves}
-use Rattle.st_plan.proofs.Clocks.{IsNext}
+use Rattle.st_plan.proofs.Clocks.{at_event, IsNext}
 use Rattle.st_plan.proofs.Orderly.{item_is, next_along, orderly, AreInTurn, AreThere}
 use Rattle.st_plan.proofs.Serving.{serves_along}
 use Rattle.st_plan.proofs.Proper.{are_proper}
@@ -48,12 +46,6 @@ move_at streams (y ∷ xs) (suc n) x there at =
     let e = there.0.0 in
     let cons = one_move streams y e xs (there_event streams y e there.0.1) in
     (rest.0, ap (λ ms. slice_get ms (suc n)) cons ∙ rest.1, rest.2)
-
--- the event of a move is one of its process's
-event_there : (streams : List Stream) (x : Item) (e : Event) → IsAt streams x e
-    → (p : Pid) × (i : ℕ) × (event_at streams p i ≡ Some e)
-event_there streams (item.Reported p i) e at = (p, i, at)
-event_there streams (item.Hidden p i) e at = (p, i, at.0)
 
 module _ (top : ℕ) (streams : List Stream) (sound : IsStreams streams) (plain : IsPlain top streams) (xs : List Item)
     (is_order : IsOrder streams xs) where
@@ -107,7 +99,7 @@ module _ (top : ℕ) (streams : List Stream) (sound : IsStreams streams) (plain 
     pub within_at : m.event.serial.this ≤ top
     within_at =
         let here = along_at (IsNext streams) (moves streams xs) earlier later m next split in
-        let event = event_there streams m.item m.event here.at in
+        let event = at_event streams m.item m.event here.at in
         plain.within event.0 event.1 m.event event.2
 
 -- what the moves tell of the streams' processes

@@ -13,7 +13,7 @@ use Rattle.st_pair.specs.declared.answer.Source.{Source}
 use Rattle.st_pair.specs.declared.answer.Source.TheVariants as source
 use Rattle.st_pair.specs.Places.{event_at, is_stamp}
 use Rattle.st_pair.specs.Pairing.{stamp_of, source_of}
-use Rattle.st_pair.proofs.ForCallers.{from_none}
+use Rattle.st_pair.proofs.ForCallers.{from_none, own_rule}
 use Rattle.st_order.specs.declared.item.Item.{Item}
 use Rattle.st_order.specs.declared.item.Item.TheVariants as item
 use Rattle.st_order.specs.Items.{greatest, height, is_hidden}
@@ -48,8 +48,9 @@ abbrev pub IsTop : List Stream → Item → Event → Type 0
 IsTop streams (item.Reported p i) e = is_stamp e ≡ true → height_of streams p i < e.serial.this
 IsTop streams (item.Hidden p i) e = Unit {0}
 
-heights_rise : (es : List Event) (m n : ℕ) → m ≤ n → greatest
-    (map (λ (x : Event). x.serial.this) (take m es)) ≤ greatest (map (λ (x : Event). x.serial.this) (take n es))
+heights_rise : (es : List Event) (m n : ℕ) → m ≤ n
+    → greatest (map (λ (x : Event). x.serial.this) (take m es))
+    ≤ greatest (map (λ (x : Event). x.serial.this) (take n es))
 heights_rise es zero n le = omega arith
 heights_rise es (suc m) zero le = absurd (omega arith)
 heights_rise [] (suc m) (suc n) le = omega arith
@@ -64,11 +65,11 @@ rank_of e = if is_stamp e then 0 else 1
 stamp_rank : (e : Event) → is_stamp e ≡ true → rank_of e ≡ 0
 stamp_rank e h = ap (λ b. let n : ℕ = if b then 0 else 1 in n) h
 
-abbrev hidden_by : Source → Bool
+abbrev pub hidden_by : Source → Bool
 hidden_by source.Hidden = true
 hidden_by (source.Event q j) = false
 
-abbrev source_by : Pid → Option (ℕ × Event) → Source
+abbrev pub source_by : Pid → Option (ℕ × Event) → Source
 source_by q None = source.Hidden
 source_by q (Some f) = source.Event q f.0
 
@@ -76,8 +77,9 @@ nothing_found : (q : Pid) (o : Option (ℕ × Event)) → hidden_by (source_by q
 nothing_found q None h = refl
 nothing_found q (Some f) h = absurd (false≢true h)
 
-not_found : (streams : List Stream) (d : Event) (b : Bool) → (if b then false else hidden_by (source_of streams d))
-    ≡ true → stamp_of streams d.from d.serial.this ≡ None
+not_found : (streams : List Stream) (d : Event) (b : Bool)
+    → (if b then false else hidden_by (source_of streams d)) ≡ true
+    → stamp_of streams d.from d.serial.this ≡ None
 not_found streams d true h = absurd (false≢true h)
 not_found streams d false h = nothing_found d.from (stamp_of streams d.from d.serial.this) h
 
@@ -85,15 +87,11 @@ not_found streams d false h = nothing_found d.from (stamp_of streams d.from d.se
 hidden_apart : (streams : List Stream) (d e : Event) (i : ℕ) → is_hidden streams d ≡ true
     → event_at streams d.from i ≡ Some e → is_stamp e ≡ true → d.serial.this ≡ e.serial.this → ⊥
 hidden_apart streams d e i hidden at stamps same =
-    let rule = λ (p : Pid) (j : ℕ) (f : Event). if is_stamp f && f.serial.this == d.serial.this then Some (
-      j,
-      f,
-    ) else None in
     let sought : stamp_of streams d.from d.serial.this ≡ None = not_found streams d (is_stamp d) hidden in
-    let none = from_none rule d.from 0 (events_of streams d.from) sought i e at in
-    let test : (is_stamp e && e.serial.this == d.serial.this)
-    ≡ true = and_from (is_stamp e) (e.serial.this == d.serial.this) stamps
-    (eq-eqb e.serial.this d.serial.this (sym same)) in
+    let none = from_none (own_rule d.serial.this) d.from 0 (events_of streams d.from) sought i e at in
+    let count = eq-eqb e.serial.this d.serial.this (sym same) in
+    let test : (is_stamp e && e.serial.this == d.serial.this) ≡ true =
+    and_from (is_stamp e) (e.serial.this == d.serial.this) stamps count in
     none-some (0 + i, e) (sym none ∙ ap (λ b. cond b (Some (0 + i, e)) None) test)
 
 -- an item of the same process with a lower key has a lower count than a stamp
@@ -102,8 +100,8 @@ pub this_below : (streams : List Stream) (y x : Item) (d e : Event) → IsAt str
     → d.serial.this < e.serial.this
 this_below streams (item.Reported q j) (item.Reported p i) d e at_d at_e stamps tops below who =
     let top = tops stamps in
-    let here : height streams p i ≡ max (height_of streams p i) e.serial.this = height_is streams p i
-    ∙ height_more streams p i e at_e in
+    let here : height streams p i ≡ max (height_of streams p i) e.serial.this =
+    height_is streams p i ∙ height_more streams p i e at_e in
     let there = height_is streams q j in
     let one = below.height in
     let less : j < i = elim (cases_lt j i) [
@@ -126,8 +124,8 @@ this_below streams (item.Reported q j) (item.Reported p i) d e at_d at_e stamps 
     omega arith
 this_below streams (item.Hidden a b) (item.Reported p i) d e at_d at_e stamps tops below who =
     let top = tops stamps in
-    let here : height streams p i ≡ max (height_of streams p i) e.serial.this = height_is streams p i
-    ∙ height_more streams p i e at_e in
+    let here : height streams p i ≡ max (height_of streams p i) e.serial.this =
+    height_is streams p i ∙ height_more streams p i e at_e in
     let one = below.height in
     elim (cases_order d.serial.this e.serial.this) [
       | inl same ↦ absurd (hidden_apart streams d e i at_d.1 (ap (λ r. event_at streams r i) who ∙ at_e) stamps same)

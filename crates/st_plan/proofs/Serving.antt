@@ -1,11 +1,10 @@
 -- Each move of an order goes on, by the kind of its item: the acts of a stamp find its clock below its count, and those
 -- of a receive its message.
-use Rattle.std.proofs.Common.{◌≡◌, ℕ, ◌<◌, ◌≤◌, Bool, true, false, not, cond, List, [], ◌∷◌, Option, Some, None}
+use Rattle.std.proofs.Common.{◌≡◌, ℕ, ◌<◌, ◌≤◌, true, false, not, cond, List, [], ◌∷◌, Option, Some, None}
 use Rattle.std.proofs.Common.{option_map, refl, sym, ◌∙◌, ap, subst}
 use Rattle.std.specs.Option.{option_map_or}
 use Rattle.std.proofs.lemmas.Bool.{false≢true}
 use Rattle.st_core.specs.declared.types.Pid.{Pid}
-use Rattle.st_core.specs.declared.types.Kind.{Kind}
 use Rattle.st_core.specs.declared.types.Kind.TheVariants as kind
 use Rattle.st_core.specs.declared.types.Event.{Event}
 use Rattle.st_core.specs.declared.types.Act.TheVariants as act
@@ -27,7 +26,7 @@ use Rattle.st_plan.proofs.Stamping.{printing, sending, CanStamp}
 use Rattle.st_plan.proofs.Taking.{taking, IsWaiting}
 use Rattle.st_plan.proofs.Free.{AllAlong, IsFree}
 use Rattle.st_plan.proofs.Built.{Serves}
-use Rattle.st_plan.proofs.Sources.{hidden_receives}
+use Rattle.st_plan.proofs.Sources.{hidden_receives, stamp_kind}
 use Rattle.st_plan.proofs.Orderly.{AreThere, IsClockBelow, Waits}
 use Rattle.st_plan.proofs.Proper.{AreProper, Got, IsProper, Printed, Sent}
 
@@ -133,12 +132,6 @@ module _ (top : ℕ) (streams : List Stream) (earlier : List Move) (p : Pid) (i 
       taking top streams earlier s (move_by (item.Reported p i) e) kept listed (rw kd refl) (λ r. rw kd refl) refl refl
       waits
 
-stamp_kind : (e : Event) (k : Kind) → e.kind ≡ k
-    → (let b : Bool = elim k [ kind.Send ↦ true | kind.Receive ↦ false | kind.Print ↦ true ] in b) ≡ is_stamp e
-stamp_kind e k h =
-    ap (λ (x : Kind). let b : Bool = elim x [ kind.Send ↦ true | kind.Receive ↦ false | kind.Print ↦ true ] in b)
-    (sym h)
-
 hidden_got : (streams : List Stream) (e : Event) → is_hidden streams e ≡ true → is_stamp e ≡ true → ⊥
 hidden_got streams e hidden stamps = false≢true (sym (hidden_receives streams e hidden) ∙ stamps)
 
@@ -157,24 +150,24 @@ reported_by : (top : ℕ) (streams : List Stream) (earlier : List Move) (p : Pid
     → Serves top streams earlier (move_by (item.Reported p i) e)
 reported_by top streams earlier p i e h (Sent to kd from is_to there) free below waits s kept =
     send_serves top streams earlier p i e s h.listed h.rises h.within kept to kd from is_to there free.caused
-    (below (ap not (sym (stamp_kind e kind.Send kd))))
+    (below (ap not (stamp_kind e kind.Send kd)))
 reported_by top streams earlier p i e h (Got kd is_to from) free below waits s kept =
     receive_serves top streams earlier p i e s h.listed h.rises h.within kept kd
     (waits p i e refl (record { at = h.at; kind = kd; to = is_to }))
 reported_by top streams earlier p i e h (Printed kd from is_to) free below waits s kept =
     print_serves top streams earlier p i e s h.listed h.rises h.within kept kd from is_to free.caused
-    (below (ap not (sym (stamp_kind e kind.Print kd))))
+    (below (ap not (stamp_kind e kind.Print kd)))
 
 hidden_by : (top : ℕ) (streams : List Stream) (earlier : List Move) (p : Pid) (i : ℕ) (e : Event)
     → IsHere top streams p i e → is_hidden streams e ≡ true → IsProper streams p e
     → IsFree earlier (move_by (item.Hidden p i) e) → clock e.from earlier < e.serial.this
     → Serves top streams earlier (move_by (item.Hidden p i) e)
 hidden_by top streams earlier p i e h hidden (Sent to kd from is_to there) free below s kept =
-    absurd (hidden_got streams e hidden (sym (stamp_kind e kind.Send kd)))
+    absurd (hidden_got streams e hidden (stamp_kind e kind.Send kd))
 hidden_by top streams earlier p i e h hidden (Got kd is_to from) free below s kept =
     hidden_serves top streams earlier p i e s h.listed h.rises h.within kept is_to from free.caused below
 hidden_by top streams earlier p i e h hidden (Printed kd from is_to) free below s kept =
-    absurd (hidden_got streams e hidden (sym (stamp_kind e kind.Print kd)))
+    absurd (hidden_got streams e hidden (stamp_kind e kind.Print kd))
 
 -- the counts of all events are ones that a clock can have
 abbrev pub AreWithin : ℕ → List Stream → Type 0

@@ -15,8 +15,6 @@ use Rattle.st_core.specs.Pid.{pid_eq}
 use Rattle.st_core.specs.Run.{Stream}
 use Rattle.st_core.specs.Streams.{events_of}
 use Rattle.st_core.proofs.ForCallers.{pid_eq-refl, all_at}
-use Rattle.st_pair.specs.declared.answer.Source.{Source}
-use Rattle.st_pair.specs.declared.answer.Source.TheVariants as source
 use Rattle.st_pair.specs.Places.{event_at, is_stamp}
 use Rattle.st_pair.specs.Pairing.{stamp_of, receive_of, is_send, source_of, receiver_at}
 use Rattle.st_pair.proofs.ForCallers.{given_from, once_place, own_rule, IsPaired}
@@ -28,7 +26,7 @@ use Rattle.st_plan.specs.Moves.{Move, move_by}
 use Rattle.st_plan.specs.Build.{quiet}
 use Rattle.st_plan.proofs.Taking.{IsWaiting}
 use Rattle.st_plan.proofs.Along.{event_below, IsAt, IsKeyBelow}
-use Rattle.st_plan.proofs.Rising.{height_is, height_more, height_of, rank_of, IsTop}
+use Rattle.st_plan.proofs.Rising.{height_is, height_more, height_of, hidden_by, rank_of, source_by, IsTop}
 use Rattle.st_plan.proofs.Clocks.{HasCome, IsBelow}
 use Rattle.st_plan.proofs.Waiting.{is_waiting, Fits, IsSendTo}
 use Rattle.st_plan.proofs.Matching.{matched_send, same_place, untaken}
@@ -64,12 +62,16 @@ pub record IsReceive (streams : List Stream) (p : Pid) (i : ℕ) (e : Event) : T
   pub kind : e.kind ≡ kind.Receive
   pub to : e.to ≡ Some p
 
+abbrev pub stamp_by : Kind → Bool
+stamp_by kind.Send = true
+stamp_by kind.Receive = false
+stamp_by kind.Print = true
+
+pub stamp_kind : (e : Event) (k : Kind) → e.kind ≡ k → is_stamp e ≡ stamp_by k
+stamp_kind e k h = ap stamp_by h
+
 pub receive_stamp : (e : Event) → e.kind ≡ kind.Receive → is_stamp e ≡ false
-receive_stamp e h = ap (λ (k : Kind). let b : Bool = elim k [
-  | kind.Send ↦ true
-  | kind.Receive ↦ false
-  | kind.Print ↦ true
-] in b) h
+receive_stamp e h = stamp_kind e kind.Receive h
 
 -- the item whose message it takes
 pub record HasSource (streams : List Stream) (p : Pid) (i : ℕ) (e : Event) : Type 0 where
@@ -97,15 +99,8 @@ not_after streams p i e x d at receive high low below =
 hidden_is : (streams : List Stream) (e : Event) → is_stamp e ≡ false → stamp_of streams e.from e.serial.this ≡ None
     → is_hidden streams e ≡ true
 hidden_is streams e receive none =
-    ap (λ b. let c : Bool = if b then false else elim (source_of streams e) [
-      | source.Hidden ↦ true
-      | source.Event q j ↦ false
-    ] in c) receive
-    ∙ ap (λ (o : Option (ℕ × Event)). let s : Source = elim o [
-      | None ↦ source.Hidden
-      | Some f ↦ source.Event e.from f.0
-    ] in let c : Bool = elim s [ source.Hidden ↦ true | source.Event q j ↦ false ] in
-    c) none
+    ap (λ b. if b then false else hidden_by (source_of streams e)) receive
+    ∙ ap (λ (o : Option (ℕ × Event)). hidden_by (source_by e.from o)) none
 
 to_is : (p : Pid) (to : Option Pid) → to ≡ Some p → option_map_or (λ x. pid_eq p x) to false ≡ true
 to_is p to h = ap (λ (o : Option Pid). option_map_or (λ x. pid_eq p x) o false) h ∙ pid_eq-refl p
@@ -155,9 +150,11 @@ source_item streams ok tops p i e r =
 -- EACH SEND WITH ITS FROM AND COUNT
 
 pub hidden_receives : (streams : List Stream) (d : Event) → is_hidden streams d ≡ true → is_stamp d ≡ false
-hidden_receives streams d h = elim (is_stamp d) as (λ b. (let c : Bool =
-    if b then false else elim (source_of streams d) [ source.Hidden ↦ true | source.Event q j ↦ false ] in c) ≡ true
-    → b ≡ false) [ true ↦ λ h. absurd (false≢true h) | false ↦ λ h. refl ] h
+hidden_receives streams d h =
+    elim (is_stamp d) as (λ b. (if b then false else hidden_by (source_of streams d)) ≡ true → b ≡ false) [
+      | true ↦ λ h. absurd (false≢true h)
+      | false ↦ λ h. refl
+    ] h
 
 fits_by : (streams : List Stream) → IsPaired streams → (p : Pid) (i : ℕ) (e : Event) → IsReceive streams p i e
     → (x : Item) (d : Event) → IsAt streams x d → IsSendTo p e.from e.serial.this (move_by x d)
@@ -167,8 +164,9 @@ fits_by streams ok p i e r (item.Hidden a b) d at sent =
     let count = sent.count in
     let same = same_place streams ok p i e a b d r.at (receive_stamp e r.kind) at.0
     (hidden_receives streams d at.1) who count in
-    let event : d ≡ e = same_Some d e (sym at.0 ∙ ap (λ q. event_at streams q b) same.0 ∙ ap (event_at streams p) same.1
-    ∙ r.at) in
+    let there : event_at streams a b ≡ event_at streams p i =
+    ap (λ q. event_at streams q b) same.0 ∙ ap (event_at streams p) same.1 in
+    let event : d ≡ e = same_Some d e (sym at.0 ∙ there ∙ r.at) in
     let kinds = sym r.kind in
     let tos = sym r.to in (
       refl,
@@ -188,8 +186,10 @@ fits_by streams ok p i e r (item.Reported q j) d at sent =
     let stamp = not-false (is_stamp d) sent.stamps in
     let agreed = matched_send streams ok p i e q j d r.at receive at stamp who count in
     let kind_is = is_sending p d.to d.kind sent.sends in
-    let first : receive_of streams q d.serial.this ≡ Some (p, i) = ap (λ r. receive_of streams r d.serial.this) who
-    ∙ ap (receive_of streams e.from) count ∙ once_place streams ok p i e r.at receive in
+    let first : receive_of streams q d.serial.this ≡ Some (p, i) =
+    ap (λ r. receive_of streams r d.serial.this) who
+    ∙ ap (receive_of streams e.from) count
+    ∙ once_place streams ok p i e r.at receive in
     let receiver : receiver_at streams q j ≡ Some (p, i) =
     ap (option_and_then (λ (f : Event). if is_send f then receive_of streams q f.serial.this else None)) at
     ∙ ap (λ b. cond b (receive_of streams q d.serial.this) None) agreed.sends ∙ first in

@@ -1,4 +1,5 @@
 -- A receive keeps the invariant: it takes the message that waits for it, which leaves the queue and gives the event.
+use Rattle.std.proofs.Common.{Option}
 use Rattle.std.proofs.Common.{◌≡◌, ℕ, zero, suc, ◌+◌, max, true, false, cond, List, [], ◌∷◌, Some, None, option_map}
 use Rattle.std.proofs.Common.{refl, sym, ◌∙◌, ap, subst, arith}
 use Rattle.std.specs.List.{remove, position, slice_get}
@@ -9,6 +10,7 @@ use Rattle.st_core.specs.declared.types.Token.{Token}
 use Rattle.st_core.specs.declared.types.Message.{Message}
 use Rattle.st_core.specs.declared.types.Kind.TheVariants as kind
 use Rattle.st_core.specs.declared.types.Event.{Event}
+use Rattle.st_core.specs.declared.types.Act.{Act}
 use Rattle.st_core.specs.declared.types.Act.TheVariants as act
 use Rattle.st_core.specs.Pid.{pid_eq}
 use Rattle.st_core.specs.State.{Process, State, process}
@@ -65,11 +67,15 @@ pub record IsWaiting (streams : List Stream) (earlier : List Move) (m : Move) : 
   pub seen : token.flags.receive ≡ true
   pub gives : got_of m.who message.value token ≡ m.event
 
+-- the act of a receive's move
+abbrev taken_by : Process → Move → Option Act
+taken_by r m = option_map (λ k. act.Receive m.who (want.Place k))
+    (position (λ x. is_stamp m.event.from m.event.serial.this x.token) r.queue)
+
 pub taking : (top : ℕ) (streams : List Stream) (earlier : List Move) (s : State) (m : Move) → IsKept streams earlier s
-    → lists streams m.who ≡ true
-    → is_taking m ≡ true → ((r : Process) → act_of r m ≡ option_map (λ k. act.Receive m.who (want.Place k))
-    (position (λ x. is_stamp m.event.from m.event.serial.this x.token) r.queue)) → told_event m ≡ Some m.event
-    → move_by m.item m.event ≡ m → IsWaiting streams earlier m → Continues top streams earlier s m
+    → lists streams m.who ≡ true → is_taking m ≡ true → ((r : Process) → act_of r m ≡ taken_by r m)
+    → told_event m ≡ Some m.event → move_by m.item m.event ≡ m → IsWaiting streams earlier m
+    → Continues top streams earlier s m
 taking top streams earlier s m kept listed takes is_act is_told is w =
     let at = found (process s m.who) (kept.there m.who listed) in
     let r = at.0 in
@@ -78,7 +84,8 @@ taking top streams earlier s m kept listed takes is_act is_told is w =
     let k = w.place in
     let a = act.Receive m.who (want.Place k) in
     let test = λ (x : Message). is_stamp m.event.from m.event.serial.this x.token in
-    let picked : pick (want.Place k) r.queue ≡ Some (k, w.message) = let zero_sum : 0 + k ≡ k = omega arith in
+    let zero_sum : 0 + k ≡ k = omega arith in
+    let picked : pick (want.Place k) r.queue ≡ Some (k, w.message) =
     ap (λ j. pick_from 0 (want.Place j) r.queue) (sym zero_sum)
     ∙ pick_place 0 k r.queue w.message (ap (λ q. slice_get q k) so.queued ∙ w.at)
     ∙ ap (λ j. Some (j, w.message)) zero_sum in
@@ -96,19 +103,23 @@ taking top streams earlier s m kept listed takes is_act is_told is w =
     let put : Process = record r { local = received r.local w.message.token; queue = remove r.queue k } in
     let put_is : put ≡ record r { local = received r.local (Some w.token); queue = remove r.queue k } =
     ap (λ t. let y : Process = record r { local = received r.local t; queue = remove r.queue k } in y) w.has in
+    let count = m.event.serial.this in
+    let before = clock m.who earlier in
+    let waiting = queue_of streams m.who earlier in
+    let own_clock : clock m.who (m ∷ earlier) ≡ max before count =
+    ap (λ b. cond b (max before count) before) (pid_eq-refl m.who) in
+    let own_last : last m.who (m ∷ earlier) ≡ count =
+    ap (λ b. cond b (cond (is_taking m) count m.event.serial.prev) (last m.who earlier)) (pid_eq-refl m.who)
+    ∙ ap (λ b. cond b count m.event.serial.prev) takes in
+    let own_queue : queue_of streams m.who (m ∷ earlier) ≡ remove waiting k =
+    taken_queue streams m earlier m.who true takes (pid_eq-refl m.who)
+    ∙ ap (λ p. elim p [ None ↦ waiting | Some j ↦ remove waiting j ]) w.is in
     let own : IsSo streams (m ∷ earlier) m.who (changed a done r) =
     subst (IsSo streams (m ∷ earlier) m.who) (sym (changed_own a done r who ∙ put_is)) (record {
-      clocked = ap (λ c. max c w.token.serial.this) so.clocked ∙ ap (max (clock m.who earlier)) this
-          ∙ sym (ap (λ b. cond b (max (clock m.who earlier) m.event.serial.this) (clock m.who earlier))
-          (pid_eq-refl m.who));
-      lasted = this ∙ sym (ap (λ b. cond b (cond (is_taking m) m.event.serial.this m.event.serial.prev)
-          (last m.who earlier)) (pid_eq-refl m.who) ∙ ap (λ b. cond b m.event.serial.this m.event.serial.prev) takes);
+      clocked = ap (λ c. max c w.token.serial.this) so.clocked ∙ ap (max before) this ∙ sym own_clock;
+      lasted = this ∙ sym own_last;
       traced = so.traced;
-      queued = ap (λ q. remove q k) so.queued ∙ sym (taken_queue streams m earlier m.who true takes (pid_eq-refl m.who)
-          ∙ ap (λ p. elim p [
-            | None ↦ queue_of streams m.who earlier
-            | Some j ↦ remove (queue_of streams m.who earlier) j
-          ]) w.is);
+      queued = ap (λ q. remove q k) so.queued ∙ sym own_queue;
     }) in
     let others : (x : Pid) (z : Process) → pid_eq x m.who ≡ false → process s x ≡ Some z
     → IsSo streams (m ∷ earlier) x z =

@@ -24,8 +24,10 @@ use Rattle.st_plan.proofs.Clocks.{one_by, IsNext}
 tell_by : (streams : List Stream) (earlier : List Move) (p : Pid) (x : Item) (e : Event) → IsAt streams x e
     → IsInTurn earlier x → take (told p earlier + one_by p x) (events_of streams p)
     ≡ take (told p earlier) (events_of streams p) ++ told_by p (move_by x e)
-tell_by streams earlier p (item.Hidden q i) e at turn = let same : told p earlier + 0 ≡ told p earlier = omega arith in
-    ap (λ n. take n (events_of streams p)) same ∙ sym (append-nil (take (told p earlier) (events_of streams p)))
+tell_by streams earlier p (item.Hidden q i) e at turn =
+    let same : told p earlier + 0 ≡ told p earlier = omega arith in
+    ap (λ n. take n (events_of streams p)) same
+    ∙ sym (append-nil (take (told p earlier) (events_of streams p)))
 tell_by streams earlier p (item.Reported q i) e at turn =
     let es = events_of streams p in
     let n = told p earlier in
@@ -34,28 +36,34 @@ tell_by streams earlier p (item.Reported q i) e at turn =
           let who = pid_same q p same in
           let count = turn in
           let index : i ≡ n = sym count ∙ ap (λ r. told r earlier) who in
-          let here : slice_get es n ≡ Some e = ap (slice_get es) (sym index) ∙ ap (λ r. event_at streams r i) (sym who)
-          ∙ at in
+          let here : slice_get es n ≡ Some e =
+          ap (slice_get es) (sym index) ∙ ap (λ r. event_at streams r i) (sym who) ∙ at in
           let more : n + 1 ≡ suc n = omega arith in
           ap (λ k. take k es) more ∙ take_more es n e here
-      | false ↦ λ other. let same : n + 0 ≡ n = omega arith in ap (λ k. take k es) same ∙ sym (append-nil (take n es))
+      | false ↦ λ other.
+          let same : n + 0 ≡ n = omega arith in
+          ap (λ k. take k es) same ∙ sym (append-nil (take n es))
     ] refl
 
 tell_along : (streams : List Stream) (p : Pid) (earlier ms : List Move) → AllAlong (IsNext streams) earlier ms
     → take (told p earlier + told p ms) (events_of streams p)
     ≡ take (told p earlier) (events_of streams p) ++ told_all p ms
-tell_along streams p earlier [] all = let same : told p earlier + 0 ≡ told p earlier = omega arith in
-    ap (λ n. take n (events_of streams p)) same ∙ sym (append-nil (take (told p earlier) (events_of streams p)))
+tell_along streams p earlier [] all =
+    let same : told p earlier + 0 ≡ told p earlier = omega arith in
+    ap (λ n. take n (events_of streams p)) same
+    ∙ sym (append-nil (take (told p earlier) (events_of streams p)))
 tell_along streams p earlier (m ∷ ms) all =
     let es = events_of streams p in
     let next = all.0 in
     let rest = tell_along streams p (m ∷ earlier) ms all.1 in
     let one = tell_by streams earlier p m.item m.event next.at next.turn in
-    let step : take (told p earlier + one_by p m.item) es ≡ take (told p earlier) es ++ told_by p m = one
-    ∙ ap (λ y. take (told p earlier) es ++ told_by p y) next.is in
-    let sum : told p earlier + (told p ms + one_by p m.item)
-    ≡ told p earlier + one_by p m.item + told p ms = omega arith in
-    ap (λ n. take n es) sum ∙ rest ∙ ap (λ xs. xs ++ told_all p ms) step
+    let step : take (told p earlier + one_by p m.item) es ≡ take (told p earlier) es ++ told_by p m =
+    one ∙ ap (λ y. take (told p earlier) es ++ told_by p y) next.is in
+    let sum : told p earlier + (told p ms + one_by p m.item) ≡ told p earlier + one_by p m.item + told p ms =
+    omega arith in
+    ap (λ n. take n es) sum
+    ∙ rest
+    ∙ ap (λ xs. xs ++ told_all p ms) step
     ∙ append_assoc (take (told p earlier) es) (told_by p m) (told_all p ms)
 
 -- a reported item that comes later has an index below the count at the end
@@ -66,8 +74,8 @@ index_low streams p i earlier (y ∷ ms) all zero m at is =
     let same : y ≡ m = same_Some y m at in
     let item_is : y.item ≡ item.Reported p i = ap (λ (z : Move). z.item) same ∙ is in
     let count : told p earlier ≡ i = subst (IsInTurn earlier) item_is all.0.turn in
-    let one : one_by p y.item ≡ 1 = ap (one_by p) item_is ∙ ap (λ b. let k : ℕ = if b then 1 else 0 in
-    k) (pid_eq-refl p) in
+    let one : one_by p y.item ≡ 1 =
+    ap (one_by p) item_is ∙ ap (λ b. let k : ℕ = if b then 1 else 0 in k) (pid_eq-refl p) in
     let total : told p (y ∷ ms) ≡ told p ms + one_by p y.item = refl in
     omega arith
 index_low streams p i earlier (y ∷ ms) all (suc n) m at is =

@@ -47,19 +47,16 @@ in_front test xs ys i = record {
 
 at_end : (test : Message → Bool) (xs : List Message) (x : Message) → test x ≡ true → IsIn test (xs ++ x ∷ [])
 at_end test [] x h = record { place = 0; message = x; at = refl; passes = h }
-at_end test (y ∷ xs) x h = let rest = at_end test xs x h in record {
-  place = suc rest.place;
-  message = rest.message;
-  at = rest.at;
-  passes = rest.passes;
-}
+at_end test (y ∷ xs) x h =
+    let rest = at_end test xs x h in
+    record { place = suc rest.place; message = rest.message; at = rest.at; passes = rest.passes }
 
 -- it stays where another is removed
 kept_in : (test : Message → Bool) (xs : List Message) (k j : ℕ) (x y : Message) → slice_get xs k ≡ Some x
     → test x ≡ true → slice_get xs j ≡ Some y → test y ≡ false → IsIn test (remove xs j)
 kept_in test [] k j x y at pass there fail = absurd (none-some x at)
-kept_in test (z ∷ xs) zero zero x y at pass there fail = absurd (false≢true (sym fail
-    ∙ ap test (sym (same_Some z y there)) ∙ ap test (same_Some z x at) ∙ pass))
+kept_in test (z ∷ xs) zero zero x y at pass there fail =
+    absurd (false≢true (sym fail ∙ ap test (sym (same_Some z y there)) ∙ ap test (same_Some z x at) ∙ pass))
 kept_in test (z ∷ xs) zero (suc j) x y at pass there fail = record {
   place = 0;
   message = z;
@@ -67,7 +64,8 @@ kept_in test (z ∷ xs) zero (suc j) x y at pass there fail = record {
   passes = ap test (same_Some z x at) ∙ pass;
 }
 kept_in test (z ∷ xs) (suc k) zero x y at pass there fail = record { place = k; message = x; at = at; passes = pass }
-kept_in test (z ∷ xs) (suc k) (suc j) x y at pass there fail = let rest = kept_in test xs k j x y at pass there fail in
+kept_in test (z ∷ xs) (suc k) (suc j) x y at pass there fail =
+    let rest = kept_in test xs k j x y at pass there fail in
     record { place = suc rest.place; message = rest.message; at = rest.at; passes = rest.passes }
 
 -- what position finds
@@ -80,7 +78,8 @@ pub record IsFirst (test : Message → Bool) (xs : List Message) : Type 0 where
 
 found_at : (test : Message → Bool) (xs : List Message) (k : ℕ) (d : Message) → position test xs ≡ Some k
     → IsFirst test xs
-found_at test xs k d h = let at = position-Some test xs k d h in
+found_at test xs k d h =
+    let at = position-Some test xs k d h in
     record { place = k; message = get_or xs k d; is = h; at = slice_get-get_or xs k d at.0; passes = at.1 }
 
 low_place : (test : Message → Bool) (xs : List Message) (k : ℕ) (x : Message) → slice_get xs k ≡ Some x → test x ≡ true
@@ -166,16 +165,16 @@ stays_in streams p from this y earlier untaken i =
     let old = queue_of streams p earlier in
     let took = without y.event.from y.event.serial.this old in
     let sent = if sends_to p y then old ++ message_of streams y ∷ [] else old in
-    elim (is_taking y) as (λ b. is_taking y ≡ b → IsIn (has_stamp from this)
-    (cond b (cond (pid_eq y.who p) took old) sent)) [
-      | true ↦ λ takes. elim (pid_eq y.who p) as (λ b. pid_eq y.who p ≡ b
-          → IsIn (has_stamp from this) (cond b took old)) [
-            | true ↦ λ same. kept_without from y.event.from this y.event.serial.this old
-                (untaken takes (pid_same y.who p same)) i
+    let waits = λ (xs : List Message). IsIn (has_stamp from this) xs in
+    elim (is_taking y) as (λ b. is_taking y ≡ b → waits (cond b (cond (pid_eq y.who p) took old) sent)) [
+      | true ↦ λ takes.
+          elim (pid_eq y.who p) as (λ b. pid_eq y.who p ≡ b → waits (cond b took old)) [
+            | true ↦ λ same.
+                kept_without from y.event.from this y.event.serial.this old (untaken takes (pid_same y.who p same)) i
             | false ↦ λ other. i
           ] refl
-      | false ↦ λ stamps. elim (sends_to p y) as (λ b. IsIn (has_stamp from this) (cond b (old
-          ++ message_of streams y ∷ []) old)) [
+      | false ↦ λ stamps.
+          elim (sends_to p y) as (λ b. waits (cond b (old ++ message_of streams y ∷ []) old)) [
             | true ↦ in_front (has_stamp from this) old (message_of streams y ∷ []) i
             | false ↦ i
           ]
@@ -241,26 +240,31 @@ queued_of streams p (y ∷ earlier) k x at =
     let old = queue_of streams p earlier in
     let test = has_stamp y.event.from y.event.serial.this in
     let left = λ (o : Option ℕ). let ys : List Message = elim o [ None ↦ old | Some j ↦ remove old j ] in ys in
-    elim (is_taking y) as (λ b. is_taking y ≡ b → slice_get (cond b
-    (cond (pid_eq y.who p) (left (position test old)) old) (cond (sends_to p y) (old
-    ++ message_of streams y ∷ []) old)) k ≡ Some x → IsOf streams p (y ∷ earlier) x) [
-      | true ↦ λ takes at. elim (pid_eq y.who p) as (λ b. slice_get (cond b (left (position test old)) old) k ≡ Some x
-          → IsOf streams p (y ∷ earlier) x) [
-            | true ↦ λ at. elim (position test old) as (λ o. slice_get (left o) k ≡ Some x
-                → IsOf streams p (y ∷ earlier) x) [
-                  | None ↦ λ at. of_later streams p y earlier x (queued_of streams p earlier k x at)
-                  | Some j ↦ λ at. let was = removed_at old j k x at in
-                      of_later streams p y earlier x (queued_of streams p earlier was.0 x was.1)
+    let sent = old ++ message_of streams y ∷ [] in
+    let took = left (position test old) in
+    let later = of_later streams p y earlier x in
+    let Of = IsOf streams p (y ∷ earlier) x in
+    elim (is_taking y) as (λ b. is_taking y ≡ b
+    → slice_get (cond b (cond (pid_eq y.who p) took old) (cond (sends_to p y) sent old)) k ≡ Some x → Of) [
+      | true ↦ λ takes at.
+          elim (pid_eq y.who p) as (λ b. slice_get (cond b took old) k ≡ Some x → Of) [
+            | true ↦ λ at.
+                elim (position test old) as (λ o. slice_get (left o) k ≡ Some x → Of) [
+                  | None ↦ λ at. later (queued_of streams p earlier k x at)
+                  | Some j ↦ λ at.
+                      let was = removed_at old j k x at in
+                      later (queued_of streams p earlier was.0 x was.1)
                 ] at
-            | false ↦ λ at. of_later streams p y earlier x (queued_of streams p earlier k x at)
+            | false ↦ λ at. later (queued_of streams p earlier k x at)
           ] at
-      | false ↦ λ stamps at. elim (sends_to p y) as (λ b. sends_to p y ≡ b
-          → slice_get (cond b (old ++ message_of streams y ∷ []) old) k ≡ Some x → IsOf streams p (y ∷ earlier) x) [
-            | true ↦ λ sends at. elim (pushed_at old (message_of streams y) k x at) [
-              | inl was ↦ of_later streams p y earlier x (queued_of streams p earlier k x was)
-              | inr new ↦ record { number = 0; move = y; among = refl; stamps = stamps; sends = sends; is = new }
-            ]
-            | false ↦ λ sends at. of_later streams p y earlier x (queued_of streams p earlier k x at)
+      | false ↦ λ stamps at.
+          elim (sends_to p y) as (λ b. sends_to p y ≡ b → slice_get (cond b sent old) k ≡ Some x → Of) [
+            | true ↦ λ sends at.
+                elim (pushed_at old (message_of streams y) k x at) [
+                  | inl was ↦ later (queued_of streams p earlier k x was)
+                  | inr new ↦ record { number = 0; move = y; among = refl; stamps = stamps; sends = sends; is = new }
+                ]
+            | false ↦ λ sends at. later (queued_of streams p earlier k x at)
           ] refl at
     ] refl at
 
