@@ -33,13 +33,18 @@ behind [] ys z m = m
 behind (x ∷ xs) ys z m = inr (behind xs ys z m)
 
 among_at : (all : List Stream) (p : Pid) (k : ℕ) (e : Event) → IsIn (items_at all p k e) (item.Reported p k)
-among_at all p k e = elim (is_hidden all e) as (λ b. IsIn (cond b (item.Hidden p k ∷ item.Reported p k ∷ [])
-    (item.Reported p k ∷ [])) (item.Reported p k)) [ true ↦ inr (inl refl) | false ↦ inl refl ]
+among_at all p k e =
+    let reported = item.Reported p k ∷ [] in
+    elim (is_hidden all e) as (λ b. IsIn (cond b (item.Hidden p k ∷ reported) reported) (item.Reported p k)) [
+      | true ↦ inr (inl refl)
+      | false ↦ inl refl
+    ]
 
 hidden_at : (all : List Stream) (p : Pid) (k : ℕ) (e : Event) → is_hidden all e ≡ true
     → IsIn (items_at all p k e) (item.Hidden p k)
-hidden_at all p k e h = subst (λ b. IsIn (cond b (item.Hidden p k ∷ item.Reported p k ∷ []) (item.Reported p k ∷ []))
-    (item.Hidden p k)) (sym h) (inl refl)
+hidden_at all p k e h =
+    let reported = item.Reported p k ∷ [] in
+    subst (λ b. IsIn (cond b (item.Hidden p k ∷ reported) reported) (item.Hidden p k)) (sym h) (inl refl)
 
 among_from : (all : List Stream) (p : Pid) (k : ℕ) (es : List Event) (j : ℕ) (e : Event) (z : ℕ → Item)
     → ((n : ℕ) → n ≡ k + j → IsIn (items_at all p n e) (z n)) → slice_get es j ≡ Some e
@@ -49,8 +54,8 @@ among_from all p k (d ∷ es) zero e z one at =
     let here : k ≡ k + 0 = omega arith in
     let same : d ≡ e = same_Some d e at in
     in_front (items_at all p k d) (items_from all p (k + 1) es) (z (k + 0))
-    (subst (λ n. IsIn (items_at all p k d) (z n)) here (subst (λ c. IsIn (items_at all p k c) (z k)) (sym same)
-    (one k here)))
+    (subst (λ n. IsIn (items_at all p k d) (z n)) here
+    (subst (λ c. IsIn (items_at all p k c) (z k)) (sym same) (one k here)))
 among_from all p k (d ∷ es) (suc j) e z one at =
     let next : k + 1 + j ≡ k + suc j = omega arith in
     let rest = among_from all p (k + 1) es j e z (λ n h. one n (h ∙ next)) at in

@@ -17,9 +17,9 @@ use Rattle.st_pair.proofs.ForCallers.{cond_none, event_none, once_place, stamp_o
 use Rattle.st_order.specs.declared.item.Item.{Item}
 use Rattle.st_order.specs.declared.item.Item.TheVariants as item
 use Rattle.st_order.specs.Order.{key_by}
-use Rattle.st_plan.specs.Moves.{Move, is_taking}
+use Rattle.st_plan.specs.Moves.{Move, is_taking, move_by}
 use Rattle.st_plan.proofs.Along.{IsAt, IsKeyBelow}
-use Rattle.st_plan.proofs.Clocks.{HasCome}
+use Rattle.st_plan.proofs.Clocks.{HasCome, IsBelow}
 use Rattle.st_plan.proofs.Waiting.{Untaken}
 
 -- ONE RECEIVE FOR A FROM AND A COUNT
@@ -52,28 +52,31 @@ untaken_one : (streams : List Stream) → IsPaired streams → (p : Pid) (i : �
     → IsKeyBelow (key_by streams y.item y.event) (key_by streams (item.Reported p i) e) → is_taking y ≡ true
     → (pid_eq e.from y.event.from && e.serial.this == y.event.serial.this) ≡ false
 untaken_one streams ok p i e y at receive came below takes =
-    elim (pid_eq e.from y.event.from && e.serial.this == y.event.serial.this)
-    as (λ b. (pid_eq e.from y.event.from && e.serial.this == y.event.serial.this) ≡ b → b ≡ false) [
+    let same_key = pid_eq e.from y.event.from && e.serial.this == y.event.serial.this in
+    elim same_key as (λ b. same_key ≡ b → b ≡ false) [
       | false ↦ λ h. refl
       | true ↦ λ h.
           let parts = and_parts (pid_eq e.from y.event.from) (e.serial.this == y.event.serial.this) h in
+          let from = sym (pid_same e.from y.event.from parts.0) in
+          let count = sym (eqb-true e.serial.this y.event.serial.this parts.1) in
           let as_is = takes_as y.item y.event takes in
           let at_y : event_at streams as_is.0 as_is.1 ≡ Some y.event =
           subst (λ x. IsAt streams x y.event) as_is.2 came.at in
-          let same = same_place streams ok p i e as_is.0 as_is.1 y.event at receive at_y as_is.3
-          (sym (pid_same e.from y.event.from parts.0)) (sym (eqb-true e.serial.this y.event.serial.this parts.1)) in
-          let item_is : y.item ≡ item.Reported p i = as_is.2 ∙ ap (λ q. item.Reported q as_is.1) same.0
-          ∙ ap (item.Reported p) same.1 in
-          let event_is : y.event ≡ e = same_Some y.event e (sym at_y ∙ ap (λ q. event_at streams q as_is.1) same.0
-          ∙ ap (event_at streams p) same.1 ∙ at) in
-          absurd (no_self streams (item.Reported p i) e (subst
-          (λ x. IsKeyBelow (key_by streams x e) (key_by streams (item.Reported p i) e)) item_is
-          (subst (λ d. IsKeyBelow (key_by streams y.item d) (key_by streams (item.Reported p i) e)) event_is below)))
+          let same = same_place streams ok p i e as_is.0 as_is.1 y.event at receive at_y as_is.3 from count in
+          let item_is : y.item ≡ item.Reported p i =
+          as_is.2 ∙ ap (λ q. item.Reported q as_is.1) same.0 ∙ ap (item.Reported p) same.1 in
+          let there : event_at streams as_is.0 as_is.1 ≡ event_at streams p i =
+          ap (λ q. event_at streams q as_is.1) same.0 ∙ ap (event_at streams p) same.1 in
+          let event_is : y.event ≡ e = same_Some y.event e (sym at_y ∙ there ∙ at) in
+          let key = key_by streams (item.Reported p i) e in
+          absurd (no_self streams (item.Reported p i) e
+          (subst (λ x. IsKeyBelow (key_by streams x e) key) item_is
+          (subst (λ d. IsKeyBelow (key_by streams y.item d) key) event_is below)))
     ] refl
 
 pub untaken : (streams : List Stream) → IsPaired streams → (p : Pid) (i : ℕ) (e : Event) (earlier : List Move)
     → event_at streams p i ≡ Some e → is_stamp e ≡ false → AllByRecursion (HasCome streams) earlier
-    → AllByRecursion (λ y. IsKeyBelow (key_by streams y.item y.event) (key_by streams (item.Reported p i) e)) earlier
+    → AllByRecursion (IsBelow streams (move_by (item.Reported p i) e)) earlier
     → (who : Pid) → Untaken who e.from e.serial.this earlier
 untaken streams ok p i e [] at receive came below who = tt
 untaken streams ok p i e (y ∷ earlier) at receive came below who = (
@@ -99,11 +102,11 @@ same_to (Some p) (Some q) h = ap (λ (x : Pid). Some x) (pid_same p q h)
 
 agreed : (f e : Event) → agrees f e ≡ true → IsAgreed f e
 agreed f e h =
-    let one = and_parts (is_send f) (f.label.0 == e.label.0 &&
-    (f.serial.prev == e.serial.prev && (to_eq f.to e.to && f.value == e.value))) h in
-    let two = and_parts (f.label.0 == e.label.0) (f.serial.prev == e.serial.prev &&
-    (to_eq f.to e.to && f.value == e.value)) one.1 in
-    let three = and_parts (f.serial.prev == e.serial.prev) (to_eq f.to e.to && f.value == e.value) two.1 in
+    let to_value = to_eq f.to e.to && f.value == e.value in
+    let prev_on = f.serial.prev == e.serial.prev && to_value in
+    let one = and_parts (is_send f) (f.label.0 == e.label.0 && prev_on) h in
+    let two = and_parts (f.label.0 == e.label.0) prev_on one.1 in
+    let three = and_parts (f.serial.prev == e.serial.prev) to_value two.1 in
     let four = and_parts (to_eq f.to e.to) (f.value == e.value) three.1 in
     let number = eqb-true f.label.0 e.label.0 two.0 in
     record {
@@ -123,7 +126,7 @@ matched_send streams ok p i e q j f at receive at_f stamps who count =
     let sought : stamp_of streams e.from e.serial.this ≡ Some (j, f) =
     ap (λ r. stamp_of streams r e.serial.this) (sym who) ∙ ap (stamp_of streams q) (sym count) ∙ found in
     let given = event_none (mismatch streams) streams ok.matched p i e at in
-    let test = cond_none (is_stamp e || agrees f e) (fault.Mismatch p i e.from j)
-    (ap (option_and_then (λ (g : ℕ × Event). if is_stamp e || agrees g.1 e then None else Some
-    (fault.Mismatch p i e.from g.0))) (sym sought) ∙ given) in
+    let rule = λ (g : ℕ × Event). if is_stamp e || agrees g.1 e then None else Some (fault.Mismatch p i e.from g.0) in
+    let none = ap (option_and_then rule) (sym sought) ∙ given in
+    let test = cond_none (is_stamp e || agrees f e) (fault.Mismatch p i e.from j) none in
     agreed f e (ap (λ b. b || agrees f e) (sym receive) ∙ test)

@@ -181,7 +181,8 @@ zero_found : (pids : List Pid) (x : Pid) (r : Process) → process (zero_state p
     → (k : ℕ) × (slice_get pids k ≡ Some x)
 zero_found [] x r h = absurd (none-some r h)
 zero_found (p ∷ pids) x r h =
-    elim (pid_eq p x) as (λ b. pid_eq p x ≡ b → cond b (Some (zeroes p)) (process (zero_state pids) x) ≡ Some r → (k : ℕ) × (slice_get (p ∷ pids) k ≡ Some x)) [
+    elim (pid_eq p x) as (λ b. pid_eq p x ≡ b → cond b (Some (zeroes p)) (process (zero_state pids) x) ≡ Some r
+    → (k : ℕ) × (slice_get (p ∷ pids) k ≡ Some x)) [
       | true ↦ λ e h. (0, ap (λ (q : Pid). Some q) (pid_same p x e))
       | false ↦ λ e h. let rest = zero_found pids x r h in (suc rest.0, rest.1)
     ] refl h
@@ -189,9 +190,14 @@ zero_found (p ∷ pids) x r h =
 zero_there : (pids : List Pid) (k : ℕ) (x : Pid) → slice_get pids k ≡ Some x
     → is_some (process (zero_state pids) x) ≡ true
 zero_there [] k x h = absurd (none-some x h)
-zero_there (p ∷ pids) zero x h = ap (λ b. is_some (cond b (Some (zeroes p)) (process (zero_state pids) x))) (ap (λ q. pid_eq q x) (same_Some p x h) ∙ pid_eq-refl x)
+zero_there (p ∷ pids) zero x h =
+    ap (λ b. is_some (cond b (Some (zeroes p)) (process (zero_state pids) x)))
+    (ap (λ q. pid_eq q x) (same_Some p x h) ∙ pid_eq-refl x)
 zero_there (p ∷ pids) (suc k) x h =
-    elim (pid_eq p x) as (λ b. is_some (cond b (Some (zeroes p)) (process (zero_state pids) x)) ≡ true) [ true ↦ refl | false ↦ zero_there pids k x h ]
+    elim (pid_eq p x) as (λ b. is_some (cond b (Some (zeroes p)) (process (zero_state pids) x)) ≡ true) [
+      | true ↦ refl
+      | false ↦ zero_there pids k x h
+    ]
 
 zero_zero : (pids : List Pid) → AreZero (zero_state pids)
 zero_zero [] x r h = absurd (none-some r h)

@@ -54,12 +54,11 @@ pub record Leads (streams : List Stream) (xs : List Item) (y : Move) : Type 0 wh
   pub before : AllByRecursion (λ x. comes_before streams y.item x ≡ true) xs
 
 leads_below : (streams : List Stream) (x : Item) (xs : List Item) (e : Event) (earlier : List Move) → IsAt streams x e
-    → AllByRecursion (Leads streams (x ∷ xs)) earlier → AllByRecursion
-    (λ y. IsKeyBelow (key_by streams y.item y.event) (key_by streams x e)) earlier
+    → AllByRecursion (Leads streams (x ∷ xs)) earlier
+    → AllByRecursion (λ y. IsKeyBelow (key_by streams y.item y.event) (key_by streams x e)) earlier
 leads_below streams x xs e [] at all = tt
 leads_below streams x xs e (y ∷ earlier) at all = (
-  before_below streams y.item x y.event e all.0.at
-      (there_event streams x e at) all.0.before.0,
+  before_below streams y.item x y.event e all.0.at (there_event streams x e at) all.0.before.0,
   leads_below streams x xs e earlier at all.1,
 )
 
@@ -95,20 +94,19 @@ next_along streams earlier (x ∷ xs) there leads rise turns =
     let cons = one_move streams x e xs (there_event streams x e at) in
     let turned : AreInTurn earlier (m ∷ moves streams xs) = subst (AreInTurn earlier) cons turns in
     let below = leads_below streams x xs e earlier at leads in
+    let AreBelow : Item → Event → Type 0 =
+    λ z d. AllByRecursion (λ y. IsKeyBelow (key_by streams y.item y.event) (key_by streams z d)) earlier in
+    let leading : AllByRecursion (Leads streams xs) (m ∷ earlier) =
+    (leads_new streams x xs e at rise.0, leads_on streams x xs earlier leads) in
     subst (AllAlong (IsNext streams) earlier) (sym cons) (
       record {
         at = moved_at streams x e at;
         is = again x e;
-        below = subst (λ z. AllByRecursion (λ y. IsKeyBelow (key_by streams y.item y.event)
-            (key_by streams z (move_by x e).event)) earlier) (sym (item_is x e))
-            (subst (λ d. AllByRecursion (λ y. IsKeyBelow (key_by streams y.item y.event) (key_by streams x d)) earlier)
-            (sym (event_is x e)) below);
+        below = subst (λ z. AreBelow z (move_by x e).event) (sym (item_is x e))
+            (subst (AreBelow x) (sym (event_is x e)) below);
         turn = turned.0;
       },
-      next_along streams (m ∷ earlier) xs there.1 (
-        leads_new streams x xs e at rise.0,
-        leads_on streams x xs earlier leads,
-      ) rise.1 turned.1,
+      next_along streams (m ∷ earlier) xs there.1 leading rise.1 turned.1,
     )
 
 -- what is known at each move
@@ -187,8 +185,8 @@ waits_by : (streams : List Stream) → IsPaired streams → AreTops streams
 waits_by streams ok tops earlier p i e xs r leads rise covers came =
     let source = source_item streams ok tops p i e r in
     let first = source_came streams earlier p i e xs r.at (receive_stamp e r.kind) rise covers source in
-    receive_waits streams ok earlier p i e r came (leads_below streams
-    (item.Reported p i) xs e earlier r.at leads) source first.0 first.1
+    let below = leads_below streams (item.Reported p i) xs e earlier r.at leads in
+    receive_waits streams ok earlier p i e r came below source first.0 first.1
 
 pub waits_along : (streams : List Stream) → IsPaired streams → AreTops streams → (earlier : List Move) (xs : List Item)
     → AreThere streams xs → AllByRecursion (Leads streams xs) earlier → KeysRise streams xs → Covers streams earlier xs
@@ -201,18 +199,18 @@ waits_along streams ok tops earlier (x ∷ xs) there leads rise covers known =
     let cons = one_move streams x e xs (there_event streams x e at) in
     let knew : AllAlong (Knows streams) earlier (m ∷ moves streams xs) =
     subst (AllAlong (Knows streams) earlier) cons known in
+    let leading : AllByRecursion (Leads streams xs) (m ∷ earlier) =
+    (leads_new streams x xs e at rise.0, leads_on streams x xs earlier leads) in
     subst (AllAlong (Waits streams) earlier) (sym cons) (
       λ p i d is r.
           let same : x ≡ item.Reported p i = sym (item_is x e) ∙ ap (λ (y : Move). y.item) is in
           subst (IsWaiting streams earlier) (sym is)
-          (waits_by streams ok tops earlier p i d xs r (subst
-          (λ z. AllByRecursion (Leads streams (z ∷ xs)) earlier) same leads)
+          (waits_by streams ok tops earlier p i d xs r
+          (subst (λ z. AllByRecursion (Leads streams (z ∷ xs)) earlier) same leads)
           (subst (λ z. KeysRise streams (z ∷ xs)) same rise)
           (subst (λ z. Covers streams earlier (z ∷ xs)) same covers) knew.0.0.each),
-      waits_along streams ok tops (m ∷ earlier) xs there.1 (
-        leads_new streams x xs e at rise.0,
-        leads_on streams x xs earlier leads,
-      ) rise.1 (covers_on streams earlier x xs e at covers) knew.1,
+      waits_along streams ok tops (m ∷ earlier) xs there.1 leading rise.1 (covers_on streams earlier x xs e at covers)
+          knew.1,
     )
 
 -- IN AN ORDER
@@ -259,7 +257,9 @@ orderly streams ok xs there whole rise turns =
     let next = next_along streams [] xs there tt rise turns in
     let none : IsKnown streams [] = record { each = tt; have = λ q k less. absurd (omega arith) } in
     let known = known_along streams [] (moves streams xs) ok next none in
-    let tops : AreTops streams = λ x d at. let place = whole x d at in
+    let tops : AreTops streams =
+    λ x d at.
+    let place = whole x d at in
     tops_from streams [] xs there known place.0 x d place.1 at in
     record {
       clocks = clocks_below streams [] (moves streams xs) ok next none;

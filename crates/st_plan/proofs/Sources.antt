@@ -1,5 +1,5 @@
--- A receive's message is of its source, a hidden send or its sender's stamp with its count, which has a lower key: it is
--- a send, and at most as high. And each send that came with its sender and count gives its event.
+-- A receive's message is of its source, a hidden send or its sender's stamp with its count, which has a lower key: it
+-- is a send, and at most as high. And each send that came with its sender and count gives its event.
 use Rattle.std.proofs.Common.{◌≡◌, ℕ, suc, ◌+◌, ◌==◌, ◌&&◌, max, Bool, true, false, not, cond, List, Option, Some, None}
 use Rattle.std.proofs.Common.{is_some, option_and_then, refl, sym, ◌∙◌, ap, subst, arith, if◌then◌else◌}
 use Rattle.std.specs.List.{slice_get, AllByRecursion}

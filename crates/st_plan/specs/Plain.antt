@@ -41,8 +41,8 @@ out_of_turn earlier m = elim m.item [
 abbrev pub HoldsNowhere : (List Move → Move → Bool) → List Stream → Type 0
 HoldsNowhere test streams = (p : Pid) (i : ℕ) → ¬ HoldsAt test streams p i
 
--- Pairing accepts the streams, the order lists each process's reported items by rising index, nothing is uncaused or too
--- wide, and a clock can have each count.
+-- Pairing accepts the streams, the order lists each process's reported items by rising index, nothing is uncaused or
+-- too wide, and a clock can have each count.
 pub record IsPlain (top : ℕ) (streams : List Stream) : Type 0 where
   pub accepted : refusal streams ≡ None
   pub in_turn : HoldsNowhere out_of_turn streams
