@@ -12,6 +12,7 @@ use Rattle.st_core.specs.Run.{Stream}
 use Rattle.st_order.specs.Order.{order}
 use Rattle.st_plan.specs.Moves.{clock, last, moves, Move}
 use Rattle.st_plan.specs.Reasons.{too_wide, uncaused}
+use Rattle.st_plan.specs.Plain.{out_of_turn, told_all}
 use Rattle.st_plan.specs.Build.{construction, unstamped}
 
 abbrev top : ℕ
@@ -74,6 +75,10 @@ hidden_uncaused = refl
 hidden_too_wide : along too_wide [] hidden ≡ false ∷ false ∷ false ∷ false ∷ false ∷ false ∷ []
 hidden_too_wide = refl
 
+-- what a process tells: its own events and no hidden send
+hidden_told : told_all b hidden ≡ got 17 0 2 a b 5 ∷ printed 17 2 3 b 8 ∷ []
+hidden_told = refl
+
 -- their certificate
 hidden_acts : construction top hidden_sends hidden ≡ Some (
     act.Tracer a true ∷ restored a 17 false false true ∷ act.Print a 7
@@ -116,3 +121,7 @@ one_height_free : along uncaused [] (moves one_height (order one_height))
     ++ along too_wide [] (moves one_height (order one_height))
     ≡ false ∷ false ∷ false ∷ false ∷ false ∷ false ∷ false ∷ false ∷ false ∷ false ∷ []
 one_height_free = refl
+
+one_height_late : along out_of_turn [] (moves one_height (order one_height))
+    ≡ false ∷ false ∷ true ∷ true ∷ true ∷ []
+one_height_late = refl

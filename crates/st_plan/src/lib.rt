@@ -2,7 +2,7 @@
 //! against one of them, and the acts that are built for each.
 //!
 //! The definitions say it of streams alone, and `ready` writes the acts before a stamp as a list.
-//! Nothing here steps a world.
+//! Nothing here steps a world. The law is that the acts of plain streams show them.
 #![tactic(auto)]
 
 pub mod laws;
