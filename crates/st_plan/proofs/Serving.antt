@@ -22,7 +22,7 @@ use Rattle.st_plan.specs.Reasons.{uncaused}
 use Rattle.st_plan.specs.Build.{flags_of}
 use Rattle.st_plan.proofs.Along.{one_move, there_event, IsAt}
 use Rattle.st_plan.proofs.Kept.{Continues, IsKept}
-use Rattle.st_plan.proofs.Stamping.{printing, sending, CanStamp}
+use Rattle.st_plan.proofs.Stamping.{printed_event, printing, sending, sent_event, CanStamp}
 use Rattle.st_plan.proofs.Taking.{taking, IsWaiting}
 use Rattle.st_plan.proofs.Free.{AllAlong, IsFree}
 use Rattle.st_plan.proofs.Built.{Serves}
@@ -77,16 +77,8 @@ module _ (top : ℕ) (streams : List Stream) (earlier : List Move) (p : Pid) (i 
       let kinds = sym kd in
       let froms = sym from in
       let tos = sym to in
-      let told : Event = record {
-        label = e.label;
-        kind = kind.Print;
-        serial = e.serial;
-        from = p;
-        to = None;
-        value = e.value;
-      } in
       let seen : (flags_of streams m).print ≡ true = rw kd refl in
-      let same : told ≡ e = λ k. record {
+      let same : printed_event m ≡ e = λ k. record {
         label = e.label;
         kind = kinds k;
         serial = e.serial;
@@ -95,7 +87,8 @@ module _ (top : ℕ) (streams : List Stream) (earlier : List Move) (p : Pid) (i 
         value = e.value;
       } in
       printing top streams earlier s m (reported (rw kd refl) free below) (λ r. rw kd refl) (λ q. rw kd refl)
-      (ap (λ b. let o : Option Event = cond b (Some told) None in o) seen ∙ ap (λ (x : Event). Some x) same)
+      (ap (λ b. let o : Option Event = cond b (Some (printed_event m)) None in o) seen
+      ∙ ap (λ (x : Event). Some x) same)
 
   send_serves : (q : Pid) → e.kind ≡ kind.Send → e.from ≡ p → e.to ≡ Some q → lists streams q ≡ true
       → uncaused earlier (move_by (item.Reported p i) e) ≡ false → clock p earlier < e.serial.this
@@ -105,16 +98,8 @@ module _ (top : ℕ) (streams : List Stream) (earlier : List Move) (p : Pid) (i 
       let kinds = sym kd in
       let froms = sym from in
       let tos = sym to in
-      let told : Event = record {
-        label = e.label;
-        kind = kind.Send;
-        serial = e.serial;
-        from = p;
-        to = Some q;
-        value = e.value;
-      } in
       let seen : (flags_of streams m).send ≡ true = rw kd refl in
-      let same : told ≡ e = λ k. record {
+      let same : sent_event m q ≡ e = λ k. record {
         label = e.label;
         kind = kinds k;
         serial = e.serial;
@@ -124,7 +109,8 @@ module _ (top : ℕ) (streams : List Stream) (earlier : List Move) (p : Pid) (i 
       } in
       sending top streams earlier s m q (reported (rw kd refl) free below) listed_to
       (λ r. rw (kd, to) refl) (λ x. rw (kd, to) refl)
-      (ap (λ b. let o : Option Event = cond b (Some told) None in o) seen ∙ ap (λ (x : Event). Some x) same)
+      (ap (λ b. let o : Option Event = cond b (Some (sent_event m q)) None in o) seen
+      ∙ ap (λ (x : Event). Some x) same)
 
   receive_serves : e.kind ≡ kind.Receive → IsWaiting streams earlier (move_by (item.Reported p i) e)
       → Continues top streams earlier s (move_by (item.Reported p i) e)
