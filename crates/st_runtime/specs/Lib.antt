@@ -7,6 +7,7 @@ pub mod Seat
 pub mod System
 pub mod Pieces
 pub mod Joined
+pub mod Driven
 -- For the contracts of the crate's parts alone.
 pub mod Inside
 pub mod Locked

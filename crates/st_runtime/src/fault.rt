@@ -51,3 +51,21 @@ pub enum JoinFault {
     /// doesn't tell of. The least such process.
     SeatDiffers(Pid),
 }
+
+/// Why scripts are not driven. The refusals come in this order: `NotRising`, `Thread`, `Memory`, `Act`,
+/// `Join`, save that a growth that is refused before the threads start answers `Memory` at once.
+#[derive(Clone, Copy, Debug, PartialEq, Eq)]
+pub enum DriveFault {
+    /// Refusal 1: no memory, also where a worker's act or the join answered that.
+    Memory,
+    /// Refusal 2: this act of this process's script was refused, and its worker stopped there. The
+    /// least such process. `Stray` stands here also for a `ClockFull` or a `RankFull` that so few acts
+    /// can't lead to.
+    Act(Pid, u64, ActFault),
+    /// Refusal 3: the pieces don't fit, which no call leaves.
+    Join(JoinFault),
+    /// Refusal 4: a thread couldn't be started. Those that were started have run to their end.
+    Thread,
+    /// Refusal 5: the pids do not rise strictly.
+    NotRising,
+}

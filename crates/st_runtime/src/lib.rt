@@ -10,6 +10,7 @@
 
 mod acts;
 mod collect;
+mod driver;
 mod entry;
 mod fault;
 mod gate;
@@ -29,8 +30,9 @@ mod seating;
 mod system;
 mod whole;
 
+pub use driver::drive;
 pub use entry::Entry;
-pub use fault::{ActFault, JoinFault, OpenFault, PcbFault};
+pub use fault::{ActFault, DriveFault, JoinFault, OpenFault, PcbFault};
 pub use gate::{Gate, OpenGate};
 pub use join::join_pieces;
 pub use pcb::Pcb;

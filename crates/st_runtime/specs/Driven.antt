@@ -1,0 +1,71 @@
+-- Scripts that are driven: what a record of them says, and what each refusal says of them.
+use Rattle.std.specs.Prelude.{◌≡◌, ◌≢◌, ◌↔◌, ℕ, ◌<◌, true, false, List, map, filter, length, sum_by, count_by}
+use Rattle.std.specs.Prelude.{Contains, zip, slice_get, Some}
+use Rattle.st_core.specs.declared.types.Pid.{Pid}
+use Rattle.st_core.specs.declared.types.Act.{Act}
+use Rattle.st_core.specs.Pid.{pid_eq, IsRising}
+use Rattle.st_core.specs.Run.{Shows, pids_of, run}
+use Rattle.st_core.specs.Step.{Outcome, actor}
+use Rattle.st_core.specs.Streams.{IsStreams}
+use Rattle.st_runtime.specs.declared.fault.ActFault.{ActFault}
+use Rattle.st_runtime.specs.declared.fault.ActFault.TheVariants as act
+use Rattle.st_runtime.specs.declared.fault.DriveFault.{DriveFault}
+use Rattle.st_runtime.specs.declared.fault.DriveFault.TheVariants as fault
+use Rattle.st_runtime.specs.declared.fault.JoinFault.TheVariants as joining
+use Rattle.st_runtime.specs.declared.record.Record.{Record}
+use Rattle.st_runtime.specs.System.{knows, is_stamping}
+
+-- the acts of p among these, in order
+abbrev pub acts_by : Pid → List Act → List Act
+acts_by p acts = filter (λ a. pid_eq (actor a) p) acts
+
+-- The record is one run of the machine over exactly these pids, and each process's acts in it are its script.
+pub record IsDriven (top : ℕ) (pids : List Pid) (scripts : List (List Act)) (r : Record) : Type 0 where
+  pub outcomes : List Outcome
+  pub runs : run top pids r.acts ≡ Some outcomes
+  pub replies : r.replies ≡ map (λ o. o.reply) outcomes
+  pub shows : Shows top r.streams r.acts
+  pub streams : IsStreams r.streams
+  pub listed : pids_of r.streams ≡ pids
+  pub made : map (λ p. acts_by p r.acts) pids ≡ scripts
+
+-- how many acts scripts hold
+abbrev pub acts_in : List (List Act) → ℕ
+acts_in scripts = sum_by (λ script. length script) scripts
+
+-- how many acts of scripts stamp a token where there is one
+abbrev pub stamps_in : List (List Act) → ℕ
+stamps_in scripts = sum_by (λ script. count_by is_stamping script) scripts
+
+-- Act n of p's script is refused so in a system of these pids: NotYours and Unknown exactly where they hold.
+pub record IsRefused (pids : List Pid) (p : Pid) (script : List Act) (n : ℕ) (f : ActFault) : Type 0 where
+  pub asked : Act
+  pub place : slice_get script n ≡ Some asked
+  pub not_yours : (f ≡ act.NotYours) ↔ (actor asked ≢ p)
+  pub unknown : (f ≡ act.Unknown) ↔ ((actor asked ≡ p) × (knows pids asked ≡ false))
+  pub clock : f ≡ act.ClockFull → is_stamping asked ≡ true
+
+-- A full clock or rank takes more acts than it counts to. Want of memory is a refusal of its own.
+abbrev pub IsPossible : ℕ → ℕ → List (List Act) → ActFault → Type 0
+IsPossible top ranks scripts act.NotYours = Unit {0}
+IsPossible top ranks scripts act.Unknown = Unit {0}
+IsPossible top ranks scripts act.Stray = Unit {0}
+IsPossible top ranks scripts act.ClockFull = top < stamps_in scripts
+IsPossible top ranks scripts act.RankFull = ranks < acts_in scripts
+IsPossible top ranks scripts act.Memory = ⊥
+
+-- p is one of the pids, and act n of its script was refused
+pub record IsWorkerFault (top ranks : ℕ) (pids : List Pid) (scripts : List (List Act)) (p : Pid) (n : ℕ) (f : ActFault)
+    : Type 0 where
+  pub script : List Act
+  pub scripted : Contains (zip pids scripts) (p, script)
+  pub refused : IsRefused pids p script n f
+  pub possible : IsPossible top ranks scripts f
+
+-- when scripts aren't driven: NotRising exactly where the pids don't rise
+abbrev pub IsDriveFault : ℕ → ℕ → List Pid → List (List Act) → DriveFault → Type 0
+IsDriveFault top ranks pids scripts fault.Memory = IsRising pids
+IsDriveFault top ranks pids scripts (fault.Act p n f) = IsRising pids × IsWorkerFault top ranks pids scripts p n f
+IsDriveFault top ranks pids scripts (fault.Join f) = IsRising pids × (f ≢ joining.Memory)
+IsDriveFault top ranks pids scripts fault.Thread = IsRising pids
+IsDriveFault top ranks pids scripts fault.NotRising = ¬ IsRising pids
