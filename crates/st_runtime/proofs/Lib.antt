@@ -16,3 +16,6 @@ pub mod Searching
 pub mod Wholeness
 pub mod Seated
 pub mod JoinLemmas
+-- What workers leave.
+pub mod Workers
+pub mod Driving

@@ -12,3 +12,4 @@ pub mod Driven
 pub mod Inside
 pub mod Locked
 pub mod Joining
+pub mod Working

@@ -4,6 +4,7 @@ ghost use Rattle.std.specs.Prelude.{◌≡◌};
 ghost use Rattle.st_core.specs.Step.{receiver};
 ghost use Rattle.st_runtime.specs.Locked.{wide_reply};
 ghost use Rattle.st_runtime.specs.Pcb.{is_wide};
+ghost use Rattle.st_runtime.specs.System.{is_stamping};
 
 use st_core::{Act, Pid, Reply};
 
@@ -40,4 +41,11 @@ pub fn wide_reply(act: &Act, was: bool) -> Reply
         Act::Tracer(..) => Reply::Was(was),
         _ => Reply::Done,
     }
+}
+
+/// Whether the act stamps its actor's token, where there is one.
+pub fn is_stamping(act: &Act) -> bool
+    ensures { result ≡ is_stamping act.now }
+{
+    matches!(*act, Act::Send(..) | Act::Print(..) | Act::PrintAt(..))
 }

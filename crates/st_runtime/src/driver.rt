@@ -1,13 +1,21 @@
 //! Scripts that are driven: one worker thread for each process, and the run that they made.
 
-ghost use Rattle.std.specs.Prelude.{◌≡◌, length, vec_len, IfOk, IfErr};
-ghost use Rattle.st_runtime.specs.Driven.{IsDriven, IsDriveFault};
+ghost use Rattle.std.specs.Prelude.{◌≡◌, ◌≢◌, ◌<◌, ◌≤◌, length, map, count_by, vec_len, All, IfOk, IfErr};
+ghost use Rattle.std.specs.Prelude.{IsFalse, Some, None, MatchOption};
+ghost use Rattle.st_runtime.specs.Driven.{IsDriven, IsDriveFault, IsRefused, acts_in, stamps_in};
+ghost use Rattle.st_runtime.specs.System.{is_stamping};
+ghost use Rattle.st_runtime.specs.Working.{IsEnding};
 
-use crate::fault::DriveFault;
+use crate::acts::is_stamping;
+use crate::fault::{ActFault, DriveFault};
 use crate::gate::Gate;
+use crate::join::join_pieces;
 use crate::record::Record;
-use st_core::{Act, Pid, Sequence, is_rising};
-use std::alloc::Global;
+use crate::seat::Seat;
+use crate::system::System;
+use crate::worker::{Ending, tasks_of, work_all};
+use st_core::{Act, Pid, Sequence};
+use std::alloc::{AllocError, Global};
 use std::sync::Wait;
 use std::thread::Threads;
 
@@ -26,9 +34,106 @@ pub fn drive<const TOP: u64, const RANKS: u64, R: Threads + Wait + Sync, G: Gate
     ensures ok { IfOk result (IsDriven TOP pids.now scripts.items) }
     ensures err { IfErr result (IsDriveFault TOP RANKS pids.now scripts.items) }
 {
-    if !is_rising(pids) {
-        return Err(DriveFault::NotRising);
+    let acts = acts_in(scripts.as_slice());
+    let stamps = stamps_in(scripts.as_slice());
+    let (system, seats) = System::<TOP, RANKS>::open(alloc, pids)?;
+    let tasks = tasks_of(alloc, seats, scripts)?;
+    let ends = work_all(rt, alloc, &system, gate, tasks)?;
+    if lacks_memory(ends.as_slice()) {
+        return Err(DriveFault::Memory);
     }
-    let _ = (rt, alloc, scripts, gate);
-    Err(DriveFault::Memory)
+    if let Some((pid, n, fault)) = first_refusal(ends.as_slice()) {
+        let told = possible::<TOP, RANKS>(fault, acts, stamps);
+        return Err(DriveFault::Act(pid, n, told));
+    }
+    let seats = seats_of(alloc, ends)?;
+    let Ok(pieces) = system.gather(seats) else {
+        return Err(DriveFault::Memory);
+    };
+    Ok(join_pieces(alloc, &pieces)?)
+}
+
+/// How many acts the scripts hold; the greatest count, where there are more.
+fn acts_in(scripts: &[Sequence<Act>]) -> u64
+    ensures { result ≤ acts_in scripts.now }
+{
+    let mut total: u64 = 0;
+    for script in scripts {
+        total = total.saturating_add(script.len() as u64);
+    }
+    total
+}
+
+/// How many acts of the scripts stamp a token; the greatest count, where there are more.
+fn stamps_in(scripts: &[Sequence<Act>]) -> u64
+    ensures { result ≤ stamps_in scripts.now }
+{
+    let mut total: u64 = 0;
+    for script in scripts {
+        total = total.saturating_add(stamps_of(script.as_slice()) as u64);
+    }
+    total
+}
+
+/// How many acts of a script stamp a token.
+fn stamps_of(script: &[Act]) -> usize
+    ensures { result ≡ count_by is_stamping script.now }
+{
+    script.iter().filter(|act| is_stamping(act)).count()
+}
+
+/// Whether a worker met want of memory.
+fn lacks_memory(ends: &[Ending]) -> bool
+    ensures { IsFalse result → All (λ end. end.fault ≢ Some ActFault.Memory) ends.now }
+{
+    for end in ends {
+        if let Some(ActFault::Memory) = end.fault {
+            return true;
+        }
+    }
+    false
+}
+
+/// The refusal that the first of these workers met which met one: whose it is, at which act of its
+/// script, and why.
+fn first_refusal(ends: &[Ending]) -> Option<(Pid, u64, ActFault)>
+    ensures { MatchOption result
+        (All (λ end. end.fault ≡ None) ends.now)
+        (λ r. IsEnding ends.now r.0 r.1 r.2) }
+{
+    for end in ends {
+        if let Some(fault) = end.fault {
+            return Some((end.seat.pid(), end.seat.mine().len() as u64, fault));
+        }
+    }
+    None
+}
+
+/// The refusal, or `Stray` in place of a full clock or rank that so few acts can't lead to.
+fn possible<const TOP: u64, const RANKS: u64>(fault: ActFault, acts: u64, stamps: u64) -> ActFault
+    requires { fault ≢ ActFault.Memory }
+    ensures memory { result ≢ ActFault.Memory }
+    ensures clock { result ≡ ActFault.ClockFull → TOP < stamps }
+    ensures rank { result ≡ ActFault.RankFull → RANKS < acts }
+    ensures refused { (pids : _) (p : _) (script : _) (n : _)
+        → IsRefused pids p script n fault → IsRefused pids p script n result }
+{
+    match fault {
+        ActFault::ClockFull if stamps <= TOP => ActFault::Stray,
+        ActFault::RankFull if acts <= RANKS => ActFault::Stray,
+        _ => fault,
+    }
+}
+
+/// The seats that the workers gave back.
+fn seats_of(alloc: Global, ends: Vec<Ending>) -> Result<Vec<Seat>, AllocError>
+    ensures { IfOk result (λ v. v.items ≡ map (λ end. end.seat) ends.items) }
+{
+    let mut seats = Vec::with_capacity(alloc, ends.len())?;
+    for end in ends {
+        let Ok(()) = seats.push(end.seat) else {
+            return Err(AllocError);
+        };
+    }
+    Ok(seats)
 }

@@ -1,6 +1,10 @@
 //! Why a call was refused. After each refusal all is as it was, capacity aside.
 
+ghost use Rattle.std.specs.Prelude.{◌≡◌};
+ghost use Rattle.st_runtime.specs.Working.{opening_fault, joining_fault};
+
 use st_core::Pid;
+use std::alloc::AllocError;
 
 /// Why a step call on lent processes was refused.
 #[derive(Clone, Copy, Debug, PartialEq, Eq)]
@@ -68,4 +72,36 @@ pub enum DriveFault {
     Thread,
     /// Refusal 5: the pids do not rise strictly.
     NotRising,
+}
+
+impl From<AllocError> for DriveFault {
+    ghost use Rattle.st_runtime.specs.declared.fault.DriveFault.TheVariants.{Memory};
+
+    ghost from_gives = { λ _ fault. fault ≡ Memory };
+
+    fn from(_: AllocError) -> DriveFault {
+        DriveFault::Memory
+    }
+}
+
+impl From<OpenFault> for DriveFault {
+    ghost from_gives = { λ opening fault. fault ≡ opening_fault opening };
+
+    fn from(fault: OpenFault) -> DriveFault {
+        match fault {
+            OpenFault::Memory => DriveFault::Memory,
+            OpenFault::NotRising => DriveFault::NotRising,
+        }
+    }
+}
+
+impl From<JoinFault> for DriveFault {
+    ghost from_gives = { λ joining fault. fault ≡ joining_fault joining };
+
+    fn from(fault: JoinFault) -> DriveFault {
+        match fault {
+            JoinFault::Memory => DriveFault::Memory,
+            JoinFault::Missing(..) | JoinFault::SeatDiffers(_) => DriveFault::Join(fault),
+        }
+    }
 }

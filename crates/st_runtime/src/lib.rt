@@ -29,6 +29,7 @@ mod seat;
 mod seating;
 mod system;
 mod whole;
+mod worker;
 
 pub use driver::drive;
 pub use entry::Entry;

@@ -52,6 +52,7 @@ impl<const TOP: u64, const RANKS: u64> System<TOP, RANKS> {
         ensures system { IfOk result (λ r. r.0 ≡ pids.now) }
         ensures seats { IfOk result (λ r. r.1.items ≡ map no_calls pids.now) }
         ensures rising { OnOk result (IsRising pids.now) }
+        ensures memory { result ≡ Err OpenFault.Memory → IsRising pids.now }
         ensures not_rising { (result ≡ Err OpenFault.NotRising) ↔ ¬ IsRising pids.now }
     {
         if !is_rising(pids) {

@@ -1,0 +1,174 @@
+-- A record of joined pieces is that of driven scripts: the seats hold the scripts, and each seat's calls stand in the run
+-- in their order. A worker's refusal is one of an act of its script.
+use Rattle.std.proofs.Common.{◌≡◌, ◌≢◌, ℕ, zero, suc, ◌<◌, ◌≤◌, Bool, true, false, cond, List, [], ◌∷◌, ◌++◌}
+use Rattle.std.proofs.Common.{length, map, None, refl, sym, ◌∙◌, ap, subst, arith, inl, inr}
+use Rattle.std.proofs.Common.{⊎_elim}
+use Rattle.std.specs.List.{AllZip, zip}
+use Rattle.std.specs.Prelude.{All, Contains, MatchOption}
+use Rattle.std.proofs.lemmas.Slice.Zip.{firsts-zip, seconds-zip}
+use Rattle.st_core.specs.declared.types.Act.{Act}
+use Rattle.st_core.specs.declared.types.Pid.{Pid}
+use Rattle.st_core.specs.declared.types.Reply.{Reply}
+use Rattle.st_core.specs.Pid.{pid_eq, IsRising}
+use Rattle.st_core.specs.Run.{Shows, pids_of, run}
+use Rattle.st_core.specs.Step.{actor}
+use Rattle.st_core.specs.Streams.{IsStreams}
+use Rattle.st_runtime.specs.declared.entry.Entry.{Entry}
+use Rattle.st_runtime.specs.declared.fault.ActFault.{ActFault}
+use Rattle.st_runtime.specs.declared.fault.ActFault.TheVariants as fault
+use Rattle.st_runtime.specs.declared.record.Record.{Record}
+use Rattle.st_runtime.specs.declared.worker.Ending.{Ending}
+use Rattle.st_runtime.specs.Driven.{acts_by, acts_in, stamps_in, IsDriven, IsRefused, IsPossible, IsWorkerFault}
+use Rattle.st_runtime.specs.Joined.{IsJoined}
+use Rattle.st_runtime.specs.Pieces.{Parts, pids_in, calls_of}
+use Rattle.st_runtime.specs.Seat.{Calls, no_calls}
+use Rattle.st_runtime.specs.Working.{acts_of, IsWorked, IsEnding}
+use Rattle.st_runtime.proofs.Members.{In, In-Contains, Contains-In}
+use Rattle.st_runtime.proofs.Runs.{pids_streams}
+use Rattle.st_runtime.proofs.Shown.{are_streams}
+
+abbrev pub Task : Type 0
+Task = Pid × List Act
+
+-- ---- seats
+
+-- seats through which no act was made yet
+pub fresh_seats : (pids : List Pid) → All (λ (s : Calls). s.mine ≡ []) (map no_calls pids)
+fresh_seats [] k d below = absurd (omega arith)
+fresh_seats (p ∷ ps) zero d below = refl
+fresh_seats (p ∷ ps) (suc k) d below = fresh_seats ps k d (omega arith)
+
+pub fresh_pids : (pids : List Pid) → map (λ s. s.pid) (map no_calls pids) ≡ pids
+fresh_pids [] = refl
+fresh_pids (p ∷ ps) = ap (λ rest. p ∷ rest) (fresh_pids ps)
+
+-- what became of the tasks of a system that was opened is what became of the scripts
+pub scripts_worked : (pids system : List Pid) (seats : List Calls) (scripts : List (List Act)) (ts : List Task)
+    (es : List Ending) → system ≡ pids → seats ≡ map no_calls pids → ts ≡ zip (map (λ s. s.pid) seats) scripts
+    → AllZip (IsWorked system) ts es → AllZip (IsWorked pids) (zip pids scripts) es
+scripts_worked pids system seats scripts ts es opened fresh given worked =
+    let tasks : ts ≡ zip pids scripts =
+    given ∙ ap (λ (ss : List Calls). zip (map (λ s. s.pid) ss) scripts) fresh
+    ∙ ap (λ ps. zip ps scripts) (fresh_pids pids) in
+    subst (λ ps. AllZip (IsWorked ps) (zip pids scripts) es) opened
+    (subst (λ all. AllZip (IsWorked system) all es) tasks worked)
+
+-- ---- workers that met no refusal
+
+pids_worked : (pids : List Pid) (ts : List Task) (es : List Ending) → AllZip (IsWorked pids) ts es
+    → map (λ e. e.seat.pid) es ≡ map (λ t. t.0) ts
+pids_worked pids [] [] worked = refl
+pids_worked pids [] (e ∷ es) worked = absurd worked
+pids_worked pids (t ∷ ts) [] worked = absurd worked
+pids_worked pids (t ∷ ts) (e ∷ es) worked = λ i. worked.0.pid i ∷ pids_worked pids ts es worked.1 i
+
+acts_done : (pids : List Pid) (t : Task) (e : Ending) → IsWorked pids t e → e.fault ≡ None
+    → acts_of e.seat.mine ≡ t.1
+acts_done pids t e worked none =
+    subst (λ o. MatchOption o (acts_of e.seat.mine ≡ t.1) (IsRefused pids t.0 t.1 (length e.seat.mine))) none worked.acts
+
+acts_worked : (pids : List Pid) (ts : List Task) (es : List Ending) → AllZip (IsWorked pids) ts es
+    → All (λ (e : Ending). e.fault ≡ None) es → map (λ e. acts_of e.seat.mine) es ≡ map (λ t. t.1) ts
+acts_worked pids [] [] worked none = refl
+acts_worked pids [] (e ∷ es) worked none = absurd worked
+acts_worked pids (t ∷ ts) [] worked none = absurd worked
+acts_worked pids (t ∷ ts) (e ∷ es) worked none =
+    let here = acts_done pids t e worked.0 (none 0 e (omega arith)) in
+    let rest = acts_worked pids ts es worked.1 (λ k d below. none (suc k) d (omega arith)) in
+    λ i. here i ∷ rest i
+
+-- ---- the run
+
+own_act : (b : Bool) (a : Act) (y : Reply) (rest : List Act) (cs : List (Act × Reply))
+    → rest ≡ acts_of cs → cond b (a ∷ rest) rest ≡ acts_of (cond b ((a, y) ∷ []) [] ++ cs)
+own_act true a y rest cs same = ap (λ more. a ∷ more) same
+own_act false a y rest cs same = same
+
+-- a process's acts among entries are those of its calls there
+own_acts : (p : Pid) (es : List Entry) → acts_by p (map (λ e. e.act) es) ≡ acts_of (calls_of p es)
+own_acts p [] = refl
+own_acts p (e ∷ es) =
+    own_act (pid_eq (actor e.act) p) e.act e.reply (acts_by p (map (λ d. d.act) es)) (calls_of p es) (own_acts p es)
+
+seat_acts : (es : List Entry) (ends : List Ending)
+    → All (λ (s : Calls). calls_of s.pid es ≡ s.mine) (map (λ e. e.seat) ends)
+    → map (λ p. acts_by p (map (λ e. e.act) es)) (map (λ e. e.seat.pid) ends) ≡ map (λ e. acts_of e.seat.mine) ends
+seat_acts es [] calls = refl
+seat_acts es (d ∷ ds) calls =
+    let here = own_acts d.seat.pid es ∙ ap acts_of (calls 0 d.seat (omega arith)) in
+    let rest = seat_acts es ds (λ k x below. calls (suc k) x (omega arith)) in
+    λ i. here i ∷ rest i
+
+pub driven : (top : ℕ) (pieces : Parts) (r : Record) (pids : List Pid) (scripts : List (List Act))
+    (ends : List Ending) → length scripts ≡ length pids → IsRising pids → pids_in pieces.processes ≡ pids
+    → pieces.seats ≡ map (λ e. e.seat) ends → AllZip (IsWorked pids) (zip pids scripts) ends
+    → All (λ (e : Ending). e.fault ≡ None) ends → IsJoined top pieces r → IsDriven top pids scripts r
+driven top pieces r pids scripts ends even rising of_pids of_seats worked none joined =
+    let xs = pieces.processes in
+    let es = joined.entries in
+    let acts = map (λ (e : Entry). e.act) es in
+    let one = joined.run in
+    let calls : All (λ (s : Calls). calls_of s.pid es ≡ s.mine) (map (λ e. e.seat) ends) =
+    subst (λ seats. All (λ (s : Calls). calls_of s.pid es ≡ s.mine) seats) of_seats joined.seats in
+    let from : map (λ e. e.seat.pid) ends ≡ pids =
+    pids_worked pids (zip pids scripts) ends worked ∙ firsts-zip pids scripts even in
+    record {
+      outcomes = one.outcomes;
+      runs = ap (λ ps. run top ps r.acts) (sym of_pids) ∙ ap (λ made. run top (pids_in xs) made) joined.acts ∙ one.runs;
+      replies = joined.replies ∙ sym one.replies;
+      shows = subst (λ made. Shows top r.streams made) (sym joined.acts)
+          (subst (λ streams. Shows top streams acts) (sym joined.streams) one.shows);
+      streams = subst IsStreams (sym joined.streams) (are_streams top xs es (subst IsRising (sym of_pids) rising) one);
+      listed = ap pids_of joined.streams ∙ pids_streams xs ∙ of_pids;
+      made = ap (λ made. map (λ p. acts_by p made) pids) joined.acts
+          ∙ ap (λ ps. map (λ p. acts_by p acts) ps) (sym from)
+          ∙ seat_acts es ends calls
+          ∙ acts_worked pids (zip pids scripts) ends worked none
+          ∙ seconds-zip pids scripts even;
+    }
+
+-- ---- a worker's refusal
+
+-- the task of an ending
+task_of : (pids : List Pid) (ts : List Task) (es : List Ending) (e : Ending) → AllZip (IsWorked pids) ts es → In e es
+    → (t : Task) × (In t ts × IsWorked pids t e)
+task_of pids [] [] e worked i = absurd i
+task_of pids [] (d ∷ ds) e worked i = absurd worked
+task_of pids (t ∷ ts) [] e worked i = absurd i
+task_of pids (t ∷ ts) (d ∷ ds) e worked i =
+    ⊎_elim
+    (λ same. (t, (inl refl, subst (IsWorked pids t) (sym same) worked.0)))
+    (λ later. let r = task_of pids ts ds e worked.1 later in (r.0, (inr r.1.0, r.1.1))) i
+
+pub is_possible : (top ranks : ℕ) (scripts : List (List Act)) (f : ActFault) (acts stamps : ℕ)
+    → f ≢ fault.Memory → (f ≡ fault.ClockFull → top < stamps) → (f ≡ fault.RankFull → ranks < acts)
+    → acts ≤ acts_in scripts → stamps ≤ stamps_in scripts → IsPossible top ranks scripts f
+is_possible top ranks scripts fault.Memory acts stamps memory clock rank of_acts of_stamps = absurd (memory refl)
+is_possible top ranks scripts fault.Unknown acts stamps memory clock rank of_acts of_stamps = tt
+is_possible top ranks scripts fault.ClockFull acts stamps memory clock rank of_acts of_stamps =
+    let full = clock refl in omega arith
+is_possible top ranks scripts fault.RankFull acts stamps memory clock rank of_acts of_stamps =
+    let full = rank refl in omega arith
+is_possible top ranks scripts fault.NotYours acts stamps memory clock rank of_acts of_stamps = tt
+is_possible top ranks scripts fault.Stray acts stamps memory clock rank of_acts of_stamps = tt
+
+pub worker_fault : (top ranks : ℕ) (pids : List Pid) (scripts : List (List Act)) (ends : List Ending) (p : Pid) (n : ℕ)
+    (f g : ActFault) → AllZip (IsWorked pids) (zip pids scripts) ends → IsEnding ends p n f
+    → ((script : List Act) → IsRefused pids p script n f → IsRefused pids p script n g)
+    → IsPossible top ranks scripts g → IsWorkerFault top ranks pids scripts p n g
+worker_fault top ranks pids scripts ends p n f g worked ending told possible =
+    let e = ending.end in
+    let found = task_of pids (zip pids scripts) ends e worked (Contains-In e ends ending.among) in
+    let t = found.0 in
+    let whose : t.0 ≡ p = sym found.1.1.pid ∙ ending.pid in
+    let script = t.1 in
+    let refused : IsRefused pids t.0 script (length e.seat.mine) f =
+    subst (λ o. MatchOption o (acts_of e.seat.mine ≡ script) (IsRefused pids t.0 script (length e.seat.mine)))
+    ending.refused found.1.1.acts in
+    let at_n : IsRefused pids t.0 script n f = subst (λ m. IsRefused pids t.0 script m f) ending.place refused in
+    record {
+      script = script;
+      scripted = subst (λ q. Contains (zip pids scripts) (q, script)) whose (In-Contains t (zip pids scripts) found.1.0);
+      refused = told script (subst (λ q. IsRefused pids q script n f) whose at_n);
+      possible = possible;
+    }

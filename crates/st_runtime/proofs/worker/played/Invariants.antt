@@ -1,0 +1,10 @@
+-- The seat is still the process's, and holds the script's acts so far.
+use Rattle.std.proofs.Common.{◌≡◌, take, length}
+use Rattle.st_runtime.specs.Working.{acts_of}
+use Rattle.st_runtime.proofs.worker.played.Given as goal
+
+abbrev pub invariant-loop-act : goal.invariant-loop-act
+invariant-loop-act g l =
+    (l.seat.pid ≡ l.initial.seat.pid)
+    × (acts_of l.seat.mine ≡ take l.act-index l.script)
+    × (length l.seat.mine ≡ l.act-index)

@@ -1,0 +1,153 @@
+//! The workers of a drive: each makes the acts of one script in a thread of its own.
+
+ghost use Rattle.std.specs.Prelude.{◌≡◌, [], length, map, zip, All, IfOk, IfErr};
+ghost use Rattle.st_runtime.specs.Working.{IsWorked, AreWorked, IsOwnFault};
+
+use crate::fault::{ActFault, DriveFault};
+use crate::gate::Gate;
+use crate::seat::Seat;
+use crate::system::System;
+use st_core::{Act, Sequence};
+use std::alloc::{AllocError, Global};
+use std::marker::Model;
+use std::snapshot::Snapshot;
+use std::sync::Wait;
+use std::thread;
+use std::thread::{Promise, Threads};
+
+/// What a worker is given: a seat through which no act was made yet, and the acts to make.
+#[derive(Drop)]
+pub struct Task {
+    seat: Seat,
+    script: Sequence<Act>,
+}
+
+impl Model for Task {
+    ghost use Rattle.std.specs.Prelude.{List, ◌≡◌, []};
+    ghost use Rattle.st_core.specs.declared.types.Act.{Act};
+    ghost use Rattle.st_core.specs.declared.types.Pid.{Pid};
+
+    ghost Value = { Pid × List Act };
+
+    ghost view = { λ t. (t.seat.pid, t.script) };
+
+    ghost invariant = { λ t. t.seat.mine ≡ [] };
+}
+
+/// What a worker leaves: its seat, and the refusal at which it stopped, if it met one.
+#[derive(Drop)]
+pub struct Ending {
+    pub seat: Seat,
+    pub fault: Option<ActFault>,
+}
+
+/// A task for each seat and its script.
+pub fn tasks_of(
+    alloc: Global,
+    seats: Vec<Seat>,
+    scripts: Vec<Sequence<Act>>,
+) -> Result<Vec<Task>, AllocError>
+    requires { All (λ s. s.mine ≡ []) seats.items }
+    ensures { IfOk result (λ v. v.items ≡ zip (map (λ s. s.pid) seats.items) scripts.items) }
+{
+    let mut tasks = Vec::with_capacity(alloc, seats.len())?;
+    for (seat, script) in seats.into_iter().zip(scripts) {
+        let Ok(()) = tasks.push(Task { seat, script }) else {
+            return Err(AllocError);
+        };
+    }
+    Ok(tasks)
+}
+
+/// What the worker of this task in this system leaves.
+#[derive(Drop)]
+struct Leaves<const TOP: u64, const RANKS: u64> {
+    system: Snapshot<System<TOP, RANKS>>,
+    task: Snapshot<Task>,
+}
+
+impl<const TOP: u64, const RANKS: u64> Promise<Ending> for Leaves<TOP, RANKS> {
+    ghost kept_by = { λ p end. IsWorked p.system.value p.task.value end };
+}
+
+/// All workers at once, each in a thread of its own. Where a thread can't be started, those that were
+/// started end first.
+///
+/// Refusals: `Thread`, then `Memory`; but `Memory` at once where there is no room for the threads.
+pub fn work_all<const TOP: u64, const RANKS: u64, R: Threads + Wait + Sync, G: Gate + Sync>(
+    rt: &R,
+    alloc: Global,
+    system: &System<TOP, RANKS>,
+    gate: &G,
+    tasks: Vec<Task>,
+) -> Result<Vec<Ending>, DriveFault>
+    ensures ok { IfOk result (λ v. AreWorked system.now tasks.items v.items) }
+    ensures err { IfErr result IsOwnFault }
+{
+    thread::scope(
+        thread::scope_env(),
+        rt,
+        |scope| -> Result<Vec<Ending>, DriveFault>
+            ensures ok { IfOk result (λ v. AreWorked system.entry.now tasks.items v.items) }
+            ensures err { IfErr result IsOwnFault }
+        {
+            let Ok(mut workers) = Vec::with_capacity(alloc, tasks.len()) else {
+                return Err(DriveFault::Memory);
+            };
+            for task in tasks {
+                let leaves = Leaves {
+                    system: Snapshot::of(system),
+                    task: Snapshot::of(&task),
+                };
+                let work = move || -> Ending
+                    ensures { IsWorked system.entry.now task result }
+                { work(rt, system, gate, task) };
+                let Ok(worker) = scope.spawn_with(leaves, work) else {
+                    return Err(DriveFault::Thread);
+                };
+                let Ok(()) = workers.push(worker) else {
+                    return Err(DriveFault::Memory);
+                };
+            }
+            match thread::join_promised(rt, workers) {
+                Ok(ends) => Ok(ends),
+                Err(_) => Err(DriveFault::Memory),
+            }
+        },
+    )
+}
+
+/// Makes the script's acts in order, until one is refused.
+fn work<const TOP: u64, const RANKS: u64, R: Wait, G: Gate>(
+    rt: &R,
+    system: &System<TOP, RANKS>,
+    gate: &G,
+    task: Task,
+) -> Ending
+    ensures { IsWorked system.now task result }
+{
+    let Task { seat, script } = task;
+    played(rt, system, gate, seat, script.as_slice())
+}
+
+/// The same, of the task's parts.
+fn played<const TOP: u64, const RANKS: u64, R: Wait, G: Gate>(
+    rt: &R,
+    system: &System<TOP, RANKS>,
+    gate: &G,
+    mut seat: Seat,
+    script: &[Act],
+) -> Ending
+    requires { seat.mine ≡ [] }
+    ensures { IsWorked system.now (seat.pid, script.now) result }
+{
+    for act in script {
+        if let Err(fault) = system.act(rt, gate, &mut seat, act) {
+            return Ending {
+                seat,
+                fault: Some(fault),
+            };
+        }
+    }
+    Ending { seat, fault: None }
+}
