@@ -137,3 +137,6 @@ fn seats_of(alloc: Global, ends: Vec<Ending>) -> Result<Vec<Seat>, AllocError>
     }
     Ok(seats)
 }
+
+#[cfg(test)]
+mod tests;

@@ -61,3 +61,6 @@ fn run_of_logs<const TOP: u64, const RANKS: u64>(
         replies: Sequence::from_vec(replies),
     })
 }
+
+#[cfg(test)]
+mod tests;

@@ -1,16 +1,15 @@
 //! Worked acts in systems, on one thread and on two.
 
 use super::System;
-use crate::fault::{ActFault, OpenFault};
+use crate::fault::ActFault;
 use crate::gate::{Gate, OpenGate};
 use crate::seat::Seat;
 use st_core::{Act, Component, Label, Pid, Reply, Serial, Want};
 use std::process::Abort;
 use std::sync::Wait;
-use std::sync::atomic::{AtomicBool, AtomicU64, Ordering};
+use std::sync::atomic::{AtomicU64, Ordering};
 use std::test::Fail;
 use std::thread;
-use std::time::{Clock, Duration};
 
 /// An act and what it answers.
 type Played = (Act, Result<Reply, ActFault>);
@@ -24,36 +23,8 @@ fn play<const TOP: u64, const RANKS: u64, R: Wait + Abort, G: Gate>(
     acts: &[Played],
 ) {
     for (act, expected) in acts {
-        assert_eq!(rt; system.act(rt, gate, seat, act), *expected, "at {act:?}");
+        assert_eq!(rt; system.act(rt, gate, seat, act), *expected);
     }
-}
-
-#[test]
-fn falling_pids_are_refused(rt: HostRuntime) {
-    let opened = System::<9, 9>::open(rt.alloc(), &[Pid::new(31), Pid::new(30)]);
-    let Err(fault) = opened else {
-        panic!(rt; "opened");
-    };
-    assert_eq!(rt; fault, OpenFault::NotRising);
-}
-
-#[test]
-fn the_greatest_rank_is_the_last(rt: HostRuntime) -> Result<(), Fail> {
-    let me = Pid::new(30);
-    let (system, seats) = System::<9, 3>::open(rt.alloc(), &[me])?;
-    for mut seat in seats {
-        let looked = (Act::Look(me), Ok(Reply::Current(None)));
-        let refused = (Act::Look(me), Err(ActFault::RankFull));
-        play(
-            &rt,
-            &OpenGate,
-            &system,
-            &mut seat,
-            &[looked, looked, looked, refused],
-        );
-        assert_eq!(rt; seat.mine().len(), 3);
-    }
-    Ok(())
 }
 
 /// Counts how often it is told, and adds the numbers of acts that it is told of.
@@ -116,24 +87,6 @@ fn refused_acts_change_nothing(rt: HostRuntime) -> Result<(), Fail> {
     Ok(())
 }
 
-// The ranks in the log of the process at this place.
-fn assert_ranks<const TOP: u64, const RANKS: u64, R: Wait + Abort>(
-    rt: &R,
-    system: &System<TOP, RANKS>,
-    place: usize,
-    expected: &[u64],
-) {
-    let Some(lock) = system.locks.get(place) else {
-        panic!(rt; "no lock");
-    };
-    let guard = lock.lock(rt);
-    let log = guard.log();
-    assert_eq!(rt; log.len(), expected.len());
-    for (entry, rank) in log.iter().zip(expected) {
-        assert_eq!(rt; entry.rank, *rank);
-    }
-}
-
 // A reset and a tracer change reach the processes of the actor's node, and no other.
 #[test]
 fn acts_of_a_node_leave_other_nodes(rt: HostRuntime) -> Result<(), Fail> {
@@ -162,110 +115,21 @@ fn acts_of_a_node_leave_other_nodes(rt: HostRuntime) -> Result<(), Fail> {
             play(&rt, &OpenGate, &system, &mut seat, &[traced]);
         }
     }
-    assert_ranks(&rt, &system, 0, &[1, 2, 3, 4, 5, 6, 7]);
-    assert_ranks(&rt, &system, 1, &[3, 4, 6, 7]);
-    assert_ranks(&rt, &system, 2, &[2, 3]);
-    Ok(())
-}
-
-// With a growth of the reset refused, as where this test runs with an allocation that fails, the
-// reset is as if it was not asked for.
-#[test]
-fn a_refused_reset_changes_nothing(rt: HostRuntime) -> Result<(), Fail> {
-    let pids = [Pid::new(30), Pid::new(31), Pid::new(32), Pid::new(33)];
-    let (system, seats) = System::<9, 9>::open(rt.alloc(), &pids)?;
-    let mut kept = 0;
-    for mut seat in seats {
-        let me = seat.pid();
-        if me == Pid::new(30) {
-            match system.act(&rt, &OpenGate, &mut seat, &Act::Reset(me)) {
-                Ok(reply) => {
-                    assert_eq!(rt; reply, Reply::Done);
-                    kept = 1;
-                }
-                Err(fault) => assert_eq!(rt; fault, ActFault::Memory),
-            }
-            assert_eq!(rt; seat.mine().len(), kept);
-        }
-        play(
-            &rt,
-            &OpenGate,
-            &system,
-            &mut seat,
-            &[(Act::Look(me), Ok(Reply::Current(None)))],
-        );
-    }
-    Ok(())
-}
-
-/// Lets two acts wait until both hold their locks. `R` is a clock to pause by.
-#[derive(Drop)]
-struct Meeting<'a, R: Clock> {
-    clock: &'a R,
-    first: Pid,
-    first_holds: AtomicBool,
-    other_holds: AtomicBool,
-    met: AtomicU64,
-}
-
-/// How often a thread looks for the other, with a pause of a millisecond after each look.
-const TURNS: u64 = 5_000;
-
-impl<R: Clock> Gate for Meeting<'_, R> {
-    fn before(&self, pid: Pid, _n: u64) {
-        let (mine, theirs) = if pid == self.first {
-            (&self.first_holds, &self.other_holds)
+    let pieces = system
+        .gather(Vec::new(rt.alloc()))
+        .ok()
+        .ok_or("not gathered")?;
+    for process in pieces.processes {
+        let (entries, rank) = if process.pid() == here {
+            (7, 7)
+        } else if process.pid() == beside {
+            (4, 7)
         } else {
-            (&self.other_holds, &self.first_holds)
+            (2, 3)
         };
-        mine.store(true, Ordering::SeqCst);
-        for _ in 0..TURNS {
-            if theirs.load(Ordering::SeqCst) {
-                self.met.fetch_add(1, Ordering::SeqCst);
-                return;
-            }
-            thread::sleep(self.clock, Duration::from_millis(1));
-        }
+        assert_eq!(rt; process.log().len(), entries);
+        assert_eq!(rt; process.last_rank(), rank);
     }
-
-    fn after(&self, _pid: Pid, _n: u64) {}
-}
-
-// One lock round all processes would keep the second act from its locks.
-#[test]
-fn acts_on_different_processes_run_at_the_same_time(rt: HostRuntime) -> Result<(), Fail> {
-    let pids = [Pid::new(30), Pid::new(31), Pid::new(32), Pid::new(33)];
-    let (system, seats) = System::<9, 9>::open(rt.alloc(), &pids)?;
-    let mut seats = seats.into_iter();
-    let (Some(mut one), Some(_), Some(mut other)) = (seats.next(), seats.next(), seats.next())
-    else {
-        panic!(rt; "no seats");
-    };
-    let gate = Meeting {
-        clock: &rt,
-        first: Pid::new(30),
-        first_holds: AtomicBool::new(false),
-        other_holds: AtomicBool::new(false),
-        met: AtomicU64::new(0),
-    };
-    let answers = thread::join(
-        &rt,
-        || system.act(
-            &rt,
-            &gate,
-            &mut one,
-            &Act::Send(Pid::new(30), Pid::new(31), 1),
-        ),
-        || system.act(
-            &rt,
-            &gate,
-            &mut other,
-            &Act::Send(Pid::new(32), Pid::new(33), 2),
-        ),
-    );
-    assert_eq!(rt; answers.0, Ok(Reply::Done));
-    assert_eq!(rt; answers.1, Ok(Reply::Done));
-    assert_eq!(rt; gate.met.load(Ordering::SeqCst), 2);
     Ok(())
 }
 

@@ -1,0 +1,186 @@
+//! Driven scripts: threads that meet, refusals, and scripts that busy one another.
+
+use super::drive;
+use crate::fault::{ActFault, DriveFault};
+use crate::gate::{Gate, OpenGate};
+use crate::record::Record;
+use st_core::{Act, Component, Label, Pid, Sequence, Want};
+use std::alloc::Global;
+use std::process::Abort;
+use std::sync::Wait;
+use std::sync::atomic::{AtomicBool, AtomicU64, Ordering};
+use std::test::Fail;
+use std::thread;
+use std::thread::Threads;
+use std::time::{Clock, Duration};
+
+/// Drives these scripts, which are as many as the pids.
+fn driven<const TOP: u64, const RANKS: u64, R: Threads + Wait + Sync + Abort, G: Gate + Sync>(
+    rt: &R,
+    alloc: Global,
+    gate: &G,
+    pids: &[Pid],
+    scripts: &[&[Act]],
+) -> Result<Record, DriveFault> {
+    let mut all = Vec::new(alloc);
+    for script in scripts {
+        let script = Sequence::from_vec(Vec::from_slice(alloc, *script)?);
+        let Ok(()) = all.push(script) else {
+            return Err(DriveFault::Memory);
+        };
+    }
+    assert_eq!(rt; all.len(), pids.len());
+    drive::<TOP, RANKS, R, G>(rt, alloc, pids, all, gate)
+}
+
+/// Asserts why these scripts are not driven.
+fn assert_refused<const TOP: u64, const RANKS: u64, R: Threads + Wait + Sync + Abort>(
+    rt: &R,
+    alloc: Global,
+    pids: &[Pid],
+    scripts: &[&[Act]],
+    expected: DriveFault,
+) {
+    match driven::<TOP, RANKS, R, OpenGate>(rt, alloc, &OpenGate, pids, scripts) {
+        Ok(_) => panic!(rt; "driven"),
+        Err(fault) => assert_eq!(rt; fault, expected),
+    }
+}
+
+#[test]
+fn refused_acts_and_falling_pids(rt: HostRuntime) {
+    let alloc = rt.alloc();
+    let me = Pid::new(30);
+    let other = Pid::new(31);
+    let look = Act::Look(me);
+    let print = Act::Print(me, 0);
+    let set = Act::Set(me, Component::Label(Label(1)));
+    let foreign = DriveFault::Act(me, 0, ActFault::NotYours);
+    assert_refused::<9, 9, _>(&rt, alloc, &[me], &[&[Act::Look(other)]], foreign);
+    let falling = DriveFault::NotRising;
+    assert_refused::<9, 9, _>(&rt, alloc, &[other, me], &[&[], &[]], falling);
+    let rank = DriveFault::Act(me, 3, ActFault::RankFull);
+    assert_refused::<9, 3, _>(&rt, alloc, &[me], &[&[look, look, look, look]], rank);
+    let clock = DriveFault::Act(me, 4, ActFault::ClockFull);
+    assert_refused::<3, 9, _>(
+        &rt,
+        alloc,
+        &[me],
+        &[&[set, print, print, print, print]],
+        clock,
+    );
+}
+
+// The send reaches the other node, and the reset after it does not.
+#[test]
+fn a_send_to_another_node(rt: HostRuntime) -> Result<(), Fail> {
+    let here = Pid::on(1, 30);
+    let away = Pid::on(2, 31);
+    let script = [Act::Send(here, away, 5), Act::Reset(here)];
+    let record = driven::<9, 9, _, _>(&rt, rt.alloc(), &OpenGate, &[here, away], &[&script, &[]])?;
+    assert_eq!(rt; record.acts.as_slice(), script.as_slice());
+    assert_eq!(rt; record.streams.pids(), [here, away].as_slice());
+    Ok(())
+}
+
+/// Lets the acts of two processes wait until both hold their locks. `R` is a clock to pause by.
+#[derive(Drop)]
+struct Meeting<'a, R: Clock> {
+    clock: &'a R,
+    first: Pid,
+    first_holds: AtomicBool,
+    other_holds: AtomicBool,
+    met: AtomicU64,
+}
+
+/// How often a thread looks for the other, with a pause of a millisecond after each look.
+const TURNS: u64 = 5_000;
+
+impl<R: Clock> Gate for Meeting<'_, R> {
+    fn before(&self, pid: Pid, _n: u64) {
+        let (mine, theirs) = if pid == self.first {
+            (&self.first_holds, &self.other_holds)
+        } else {
+            (&self.other_holds, &self.first_holds)
+        };
+        mine.store(true, Ordering::SeqCst);
+        for _ in 0..TURNS {
+            if theirs.load(Ordering::SeqCst) {
+                self.met.fetch_add(1, Ordering::SeqCst);
+                return;
+            }
+            thread::sleep(self.clock, Duration::from_millis(1));
+        }
+    }
+
+    fn after(&self, _pid: Pid, _n: u64) {}
+}
+
+// One lock round all processes, or one thread for all scripts, would keep the second act from its locks.
+#[test]
+fn two_senders_at_once(rt: HostRuntime) -> Result<(), Fail> {
+    let pids = [Pid::new(30), Pid::new(31), Pid::new(32), Pid::new(33)];
+    let gate = Meeting {
+        clock: &rt,
+        first: pids[0],
+        first_holds: AtomicBool::new(false),
+        other_holds: AtomicBool::new(false),
+        met: AtomicU64::new(0),
+    };
+    let one = [Act::Send(pids[0], pids[1], 1)];
+    let other = [Act::Send(pids[2], pids[3], 2)];
+    let record = driven::<9, 9, _, _>(&rt, rt.alloc(), &gate, &pids, &[&one, &[], &other, &[]])?;
+    assert_eq!(rt; gate.met.load(Ordering::SeqCst), 2);
+    assert_eq!(rt; record.acts.len(), 2);
+    Ok(())
+}
+
+/// Act n of a busy process: sends to the other processes, receives, sets and prints.
+fn busy(me: Pid, n: u16) -> Act {
+    let other = Pid::new(30 + me.number().wrapping_add(n) % 4);
+    match n % 10 {
+        0 => Act::Set(me, Component::Print(true)),
+        1 => Act::Send(me, other, 1),
+        2 => Act::Receive(me, Want::First),
+        3 => Act::Print(me, 3),
+        4 => Act::Send(me, other, 2),
+        5 => Act::Receive(me, Want::From(other)),
+        6 => Act::PrintAt(me, Label(0), 4),
+        7 => Act::Receive(me, Want::Value(2)),
+        8 => Act::Receive(me, Want::Place(0)),
+        _ => match n {
+            19 => Act::Reset(me),
+            29 => Act::Tracer(me, true),
+            _ => Act::Clear(me),
+        },
+    }
+}
+
+/// Drives four scripts of fifty acts each, and answers how many acts the record has.
+fn four_busy<R: Threads + Wait + Sync + Abort>(rt: &R, alloc: Global) -> Result<usize, DriveFault> {
+    let pids = [Pid::new(30), Pid::new(31), Pid::new(32), Pid::new(33)];
+    let mut scripts = Vec::new(alloc);
+    for pid in &pids {
+        let mut script = Sequence::new(alloc);
+        for n in 0..50 {
+            let Ok(()) = script.push(busy(*pid, n)) else {
+                return Err(DriveFault::Memory);
+            };
+        }
+        let Ok(()) = scripts.push(script) else {
+            return Err(DriveFault::Memory);
+        };
+    }
+    assert_eq!(rt; scripts.len(), pids.len());
+    let record = drive::<1_000, 1_000, R, OpenGate>(rt, alloc, &pids, scripts, &OpenGate)?;
+    Ok(record.acts.len())
+}
+
+// A record comes each time: no entry is missing, and no seat differs.
+#[test]
+fn four_busy_scripts(rt: HostRuntime) -> Result<(), Fail> {
+    for _ in 0..20 {
+        assert_eq!(rt; four_busy(&rt, rt.alloc())?, 200);
+    }
+    Ok(())
+}
