@@ -360,3 +360,58 @@ fn pids_that_do_not_rise_are_refused(rt: HostRuntime) {
     let refused = replay::<MOST>(rt.alloc(), &[p31(), p30()], &[]);
     assert!(rt; matches!(refused, Err(ReplayFault::NotRising)));
 }
+
+/// The streams of 30 and 31 in which 30's send of 5 was received; none where a growth is refused.
+fn one_received(alloc: Global) -> Option<Streams> {
+    let event = received(1, (0, 1), p30(), p31(), 5);
+    let mut draft = Draft::new(alloc);
+    draft.open(p30()).ok()?;
+    draft.open(p31()).ok()?;
+    draft.add(p31(), event).ok()?;
+    draft.close().ok()
+}
+
+/// A traced send and its receive.
+fn send_one() -> [Act; 5] {
+    [
+        Act::Tracer(p30(), true),
+        Act::Set(p30(), Component::Label(Label(1))),
+        Act::Set(p30(), Component::Receive(true)),
+        Act::Send(p30(), p31(), 5),
+        Act::Receive(p31(), Want::First),
+    ]
+}
+
+// Where a growth is refused the answer is Memory, and the same call answers right afterwards. That is
+// seen where these two tests run with an allocation that fails.
+#[test]
+fn a_check_without_memory_may_be_asked_again(rt: HostRuntime) {
+    let alloc = rt.alloc();
+    let Some(streams) = one_received(alloc) else {
+        return;
+    };
+    let wanted = Wanted::Yes(&[(4, 3)]);
+    let told = match answers::<MOST>(alloc, &streams, &send_one(), wanted) {
+        Err(_) => answers::<MOST>(alloc, &streams, &send_one(), wanted),
+        told => told,
+    };
+    assert_eq!(rt; told, Ok(true));
+}
+
+/// How many replies a replay of the send and its receive gives.
+fn replies(alloc: Global) -> Result<usize, ReplayFault> {
+    match replay::<MOST>(alloc, &[p30(), p31()], &send_one())? {
+        Replayed::Ran(_, replies) => Ok(replies.as_slice().len()),
+        Replayed::Stuck(_) => Ok(0),
+    }
+}
+
+#[test]
+fn a_replay_without_memory_may_be_asked_again(rt: HostRuntime) {
+    let alloc = rt.alloc();
+    let told = match replies(alloc) {
+        Err(_) => replies(alloc),
+        told => told,
+    };
+    assert_eq!(rt; told, Ok(5));
+}
