@@ -13,6 +13,3 @@ mod label_table;
 pub use cause::Cause;
 pub use chain::Chain;
 pub use chains::Chains;
-
-#[cfg(test)]
-mod tests;

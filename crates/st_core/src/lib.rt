@@ -21,6 +21,3 @@ pub use streams::{AddFault, Draft, OpenFault, Streams, Unlisted};
 pub use types::{
     Act, Component, Event, Flags, Kind, Label, Message, Pid, Reply, Serial, Token, Want,
 };
-
-#[cfg(test)]
-mod tests;

@@ -15,6 +15,3 @@ mod tables;
 
 pub use answer::{PairFault, Source};
 pub use pairing::{Pairing, pair};
-
-#[cfg(test)]
-mod tests;

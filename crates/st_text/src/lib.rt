@@ -28,6 +28,3 @@ pub use reader::read;
 pub use sink::{Device, flush, make_room};
 pub use spell::{Buffer, put_act, put_bytes, put_event, put_number, put_pid, put_serial};
 pub use writer::{write, write_act, write_event, write_parts, write_pid};
-
-#[cfg(test)]
-mod tests;

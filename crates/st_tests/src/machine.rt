@@ -1,11 +1,11 @@
 //! Tests of what no clause says: worked values, and that each call succeeds with ample memory. A call
-//! that is refused fails its test; what comes back where a growth was refused is `tests/refused`'s.
+//! that is refused fails its test; what comes back where a growth was refused is `machine/refused`'s.
 
 mod devices;
 mod refused;
 
-use crate::places::SLOTS;
-use crate::{
+use crate::collected::{p30, p31};
+use st_core::{
     Act, AddFault, Component, Draft, Event, Flags, Kind, Label, Local, OpenFault, Pid, Sequence,
     Serial, Token, is_rising,
 };
@@ -14,13 +14,8 @@ use std::test::Fail;
 /// Enough of anything that a body which gives up early, or has room for a few alone, is seen.
 const MANY: u64 = 20_000;
 
-fn p30() -> Pid {
-    Pid::new(30)
-}
-
-fn p31() -> Pid {
-    Pid::new(31)
-}
+/// How many slots the streams have to guess a pid's place by: pids that lie so far apart share one.
+const SLOTS: u16 = 2_048;
 
 /// An event of label 17 with serial {0,1} and value 5.
 fn event(kind: Kind, from: Pid, to: Option<Pid>) -> Event {
@@ -148,8 +143,7 @@ fn streams_hold_many_processes_and_events(rt: HostRuntime) -> Result<(), Fail> {
     let streams = draft.close()?;
     assert!(rt; streams.pids().len() == 5_000 && streams.total() == MANY);
     assert!(rt; streams.events(p31()).len() as u64 == MANY);
-    let slots = SLOTS as u16;
-    for number in [30, 30 + slots, 30 + 2 * slots] {
+    for number in [30, 30 + SLOTS, 30 + 2 * SLOTS] {
         assert!(rt; streams.place_of(Pid::new(number)) == Some(usize::from(number)));
     }
     assert!(rt; streams.place_of(Pid::on(1, 30)).is_none());

@@ -3,7 +3,7 @@
 ghost use Rattle.std.specs.Prelude.{◌≤◌, IfOk};
 
 use super::MANY;
-use crate::{
+use st_core::{
     ByteSink, ByteSource, EndlessSource, Failed, MemorySink, MemorySource, ReadFrom, Recorder,
     WriteTo,
 };

@@ -2,8 +2,8 @@
 
 use super::texts::PRINT_ONE;
 use super::{refusal, sink, text_of};
-use crate::{Bundle, ReadFault, read, write};
 use st_core::{EndlessSource, MemorySource, ReadFrom, WriteTo};
+use st_text::{Bundle, ReadFault, read, write};
 use std::alloc::Global;
 use std::io::{self, Error, ErrorKind, Read, Write};
 use std::process::Abort;

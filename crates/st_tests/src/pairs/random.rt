@@ -1,7 +1,7 @@
 //! Random streams against a slow plain reading of the rules: each rule over all pairs of places.
 
-use crate::{PairFault, Pairing, Source, pair};
 use st_core::{Draft, Event, Kind, Label, Pid, Serial, Streams};
+use st_pair::{PairFault, Pairing, Source, pair};
 use std::alloc::{AllocError, Global};
 use std::process::Abort;
 use std::test::Fail;

@@ -1,8 +1,8 @@
 //! The reader's limits, on generated texts.
 
 use super::refusal;
-use crate::{Feed, ReadFault, read};
 use st_core::MemorySource;
+use st_text::{Feed, ReadFault, read};
 use std::alloc::Global;
 use std::process::Abort;
 use std::test::Fail;

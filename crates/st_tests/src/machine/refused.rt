@@ -2,7 +2,7 @@
 //! something only where an allocation fails: `rt try --test --fail-alloc N` fails the N-th of each.
 
 use super::{MANY, event};
-use crate::{AddFault, ByteSink, Draft, Kind, MemorySink, OpenFault, Pid, Recorder, Sequence};
+use st_core::{AddFault, ByteSink, Draft, Kind, MemorySink, OpenFault, Pid, Recorder, Sequence};
 
 #[test]
 fn a_refused_push_gives_its_item_back(rt: HostRuntime) {

@@ -1,6 +1,6 @@
 //! The texts of the tests, each with what is wrong with it.
 
-use crate::ReadFault;
+use st_text::ReadFault;
 
 /// The stored run: one traced print.
 pub(super) const PRINT_ONE: &str = "seqtrace 1\n\
@@ -13,7 +13,7 @@ pub(super) const PRINT_ONE: &str = "seqtrace 1\n\
     print <0.30.0> 7\n";
 
 /// A certificate of two sends that weren't reported.
-pub(super) const CERTIFICATE: &str = "seqtrace 1\n\
+pub(crate) const CERTIFICATE: &str = "seqtrace 1\n\
     process <0.30.0>\n\
     {seq_trace,17,{print,{0,1},<0.30.0>,[],7}}\n\
     {seq_trace,17,{'receive',{2,4},<0.31.0>,<0.30.0>,6}}\n\

@@ -6,12 +6,15 @@ mod devices;
 mod limits;
 mod texts;
 
-use crate::{Bundle, Feed, ReadFault, read, write, write_act, write_event, write_parts, write_pid};
 use st_core::{Act, Draft, Event, Kind, Label, MemorySink, MemorySource, Pid, Sequence, Serial};
+use st_text::{
+    Bundle, Feed, ReadFault, read, write, write_act, write_event, write_parts, write_pid,
+};
 use std::alloc::Global;
 use std::process::Abort;
 use std::test::Fail;
-use texts::{CERTIFICATE, PRINT_ONE, REFUSED, WANT_AWAY};
+pub(crate) use texts::CERTIFICATE;
+use texts::{PRINT_ONE, REFUSED, WANT_AWAY};
 
 fn refusal(rt: &impl Abort, answer: Result<Bundle, ReadFault>) -> ReadFault {
     match answer {

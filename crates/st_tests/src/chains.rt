@@ -1,66 +1,22 @@
 //! Worked streams, each with the causes and chains that the rules give by hand, and what a refused
 //! growth leaves.
 
-use crate::{Cause, Chains};
+use crate::collected::{ONE_MESSAGE, made, p30, p31, p32, streams};
+use crate::text::CERTIFICATE;
+use st_chain::{Cause, Chains};
 use st_core::{Draft, Event, Kind, Label, Pid, Serial, Streams};
 use st_pair::pair;
-use std::alloc::Global;
+use std::alloc::{AllocError, Global};
 use std::process::Abort;
 use std::test::Fail;
 
-/// The processes 30 and 31 of node 0.
-fn p30() -> Pid {
-    Pid::new(30)
-}
-
-fn p31() -> Pid {
-    Pid::new(31)
-}
-
-/// A print's event.
-fn printed(label: u32, serial: (u64, u64), from: Pid, value: u64) -> (Pid, Event) {
-    let event = Event {
-        label: Label(label),
-        kind: Kind::Print,
-        serial: Serial {
-            prev: serial.0,
-            this: serial.1,
-        },
-        from,
-        to: None,
-        value,
-    };
-    (from, event)
-}
-
-/// An event of label 17 with a receiver.
-fn passed(kind: Kind, serial: (u64, u64), from: Pid, to: Pid, value: u64) -> Event {
-    let (_, event) = printed(17, serial, from, value);
-    Event {
-        kind,
-        to: Some(to),
-        ..event
-    }
-}
-
-fn sent(serial: (u64, u64), from: Pid, to: Pid, value: u64) -> (Pid, Event) {
-    (from, passed(Kind::Send, serial, from, to, value))
-}
-
-fn received(serial: (u64, u64), from: Pid, to: Pid, value: u64) -> (Pid, Event) {
-    (to, passed(Kind::Receive, serial, from, to, value))
-}
-
-/// The streams of the processes 30 and 31 with these events, where no growth is refused.
-fn made(alloc: Global, events: &[(Pid, Event)]) -> Option<Streams> {
-    let mut draft = Draft::new(alloc);
-    draft.open(p30()).ok()?;
-    draft.open(p31()).ok()?;
-    for (pid, event) in events {
-        draft.add(*pid, *event).ok()?;
-    }
-    draft.close().ok()
-}
+/// Prints of two labels by one process of two.
+const TWO_LABELS: &str = "seqtrace 1\n\
+    process <0.30.0>\n\
+    {seq_trace,18,{print,{0,1},<0.30.0>,[],7}}\n\
+    {seq_trace,17,{print,{0,2},<0.30.0>,[],7}}\n\
+    {seq_trace,18,{print,{0,3},<0.30.0>,[],7}}\n\
+    process <0.31.0>\n";
 
 fn assert_chain(rt: &impl Abort, chains: &Chains, pid: Pid, label: u32, wanted: &[u64]) {
     let mut count = 0;
@@ -74,13 +30,7 @@ fn assert_chain(rt: &impl Abort, chains: &Chains, pid: Pid, label: u32, wanted: 
 #[test]
 fn hidden_sends_end_the_way_back(rt: HostRuntime) -> Result<(), Fail> {
     let alloc = rt.alloc();
-    let events = [
-        printed(17, (0, 1), p30(), 7),
-        received((2, 4), p31(), p30(), 6),
-        received((0, 2), p30(), p31(), 5),
-        printed(17, (2, 3), p31(), 8),
-    ];
-    let streams = made(alloc, &events).ok_or("no streams")?;
+    let streams = streams(alloc, CERTIFICATE)?;
     let pairing = pair(alloc, &streams)?;
     let chains = Chains::new(alloc, &streams, &pairing)?;
     assert_chain(&rt, &chains, p30(), 17, &[0, 1]);
@@ -94,52 +44,63 @@ fn hidden_sends_end_the_way_back(rt: HostRuntime) -> Result<(), Fail> {
 #[test]
 fn chains_go_by_label(rt: HostRuntime) -> Result<(), Fail> {
     let alloc = rt.alloc();
-    let events = [
-        printed(18, (0, 1), p30(), 7),
-        printed(17, (0, 2), p30(), 7),
-        printed(18, (0, 3), p30(), 7),
-    ];
-    let streams = made(alloc, &events).ok_or("no streams")?;
+    let streams = streams(alloc, TWO_LABELS)?;
     let pairing = pair(alloc, &streams)?;
     let chains = Chains::new(alloc, &streams, &pairing)?;
     assert_chain(&rt, &chains, p30(), 17, &[1]);
     assert_chain(&rt, &chains, p30(), 18, &[0, 2]);
     assert_chain(&rt, &chains, p31(), 17, &[]);
-    assert_chain(&rt, &chains, Pid::new(32), 17, &[]);
+    assert_chain(&rt, &chains, p32(), 17, &[]);
     Ok(())
 }
 
 /// Prints of both processes whose labels, 0 to 4, change without a pattern.
-fn mixed(alloc: Global) -> Option<Streams> {
-    let mut events = Vec::new(alloc);
+fn mixed(alloc: Global) -> Result<Streams, Fail> {
+    let mut draft = Draft::new(alloc);
+    draft.open(p30())?;
+    draft.open(p31())?;
     let mut number = 1u64;
     for count in 1..=600 {
         number = number
             .wrapping_mul(6364136223846793005)
             .wrapping_add(1442695040888963407);
         let from = if number >> 63 == 0 { p30() } else { p31() };
-        let label = (number >> 32) as u32 % 5;
-        events
-            .push(printed(label, (count - 1, count), from, 7))
-            .ok()?;
+        let event = Event {
+            label: Label((number >> 32) as u32 % 5),
+            kind: Kind::Print,
+            serial: Serial {
+                prev: count - 1,
+                this: count,
+            },
+            from,
+            to: None,
+            value: 7,
+        };
+        draft.add(from, event)?;
     }
-    made(alloc, events.as_slice())
+    Ok(draft.close()?)
+}
+
+/// The places of the label in a process's events.
+fn filtered(alloc: Global, events: &[Event], label: u32) -> Result<Vec<u64>, AllocError> {
+    let mut places = Vec::new(alloc);
+    for (i, event) in events.iter().enumerate() {
+        if event.label == Label(label) {
+            places.push(i as u64)?;
+        }
+    }
+    Ok(places)
 }
 
 #[test]
 fn chains_are_the_plain_filters(rt: HostRuntime) -> Result<(), Fail> {
     let alloc = rt.alloc();
-    let streams = mixed(alloc).ok_or("no streams")?;
+    let streams = mixed(alloc)?;
     let pairing = pair(alloc, &streams)?;
     let chains = Chains::new(alloc, &streams, &pairing)?;
     for &pid in streams.pids() {
         for label in 0..6 {
-            let mut wanted = Vec::new(alloc);
-            for (i, event) in streams.events(pid).iter().enumerate() {
-                if event.label == Label(label) {
-                    wanted.push(i as u64)?;
-                }
-            }
+            let wanted = filtered(alloc, streams.events(pid), label)?;
             assert_eq!(rt; wanted.is_empty(), label == 5);
             assert_chain(&rt, &chains, pid, label, wanted.as_slice());
         }
@@ -147,18 +108,10 @@ fn chains_are_the_plain_filters(rt: HostRuntime) -> Result<(), Fail> {
     Ok(())
 }
 
-/// A send of 30 and its receive by 31.
-fn one_message() -> [(Pid, Event); 2] {
-    [
-        sent((0, 1), p30(), p31(), 5),
-        received((0, 1), p30(), p31(), 5),
-    ]
-}
-
 #[test]
 fn a_receive_is_caused_by_its_send(rt: HostRuntime) -> Result<(), Fail> {
     let alloc = rt.alloc();
-    let streams = made(alloc, &one_message()).ok_or("no streams")?;
+    let streams = streams(alloc, ONE_MESSAGE)?;
     let pairing = pair(alloc, &streams)?;
     let chains = Chains::new(alloc, &streams, &pairing)?;
     assert_eq!(rt; chains.cause(p31(), 0), Some(Cause::Event(p30(), 0)));
@@ -183,7 +136,7 @@ fn way_back(alloc: Global, streams: &Streams) -> Option<(Option<u64>, Vec<(Pid, 
 #[test]
 fn a_refused_growth_is_answered(rt: HostRuntime) {
     let alloc = rt.alloc();
-    let Some(streams) = made(alloc, &one_message()) else {
+    let Some(streams) = made(alloc, ONE_MESSAGE) else {
         return;
     };
     let (first, back) = match way_back(alloc, &streams) {
