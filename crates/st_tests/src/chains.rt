@@ -3,7 +3,7 @@
 
 use crate::collected::{ONE_MESSAGE, made, p30, p31, p32, streams};
 use crate::text::CERTIFICATE;
-use st_chain::{Cause, Chains};
+use st_chain::{Cause, Chain, Chains};
 use st_core::{Draft, Event, Kind, Label, Pid, Serial, Streams};
 use st_pair::pair;
 use std::alloc::{AllocError, Global};
@@ -18,40 +18,82 @@ const TWO_LABELS: &str = "seqtrace 1\n\
     {seq_trace,18,{print,{0,3},<0.30.0>,[],7}}\n\
     process <0.31.0>\n";
 
-fn assert_chain(rt: &impl Abort, chains: &Chains, pid: Pid, label: u32, wanted: &[u64]) {
-    let mut count = 0;
-    for index in chains.of(pid, Label(label)) {
-        assert_eq!(rt; wanted.get(count), Some(&index));
-        count += 1;
+/// The indexes that a chain gives.
+fn indexes(alloc: Global, chain: Chain<'_>) -> Result<Vec<u64>, AllocError> {
+    let mut indexes = Vec::new(alloc);
+    for index in chain {
+        indexes.push(index)?;
     }
-    assert_eq!(rt; count, wanted.len());
+    Ok(indexes)
+}
+
+/// The chain of a process and label in a text's streams.
+fn chain_of(alloc: Global, text: &str, pid: Pid, label: u32) -> Result<Vec<u64>, Fail> {
+    let streams = streams(alloc, text)?;
+    let pairing = pair(alloc, &streams)?;
+    let chains = Chains::new(alloc, &streams, &pairing)?;
+    Ok(indexes(alloc, chains.of(pid, Label(label)))?)
+}
+
+/// The cause of an event of a text's streams.
+fn cause_of(alloc: Global, text: &str, pid: Pid, index: u64) -> Result<Option<Cause>, Fail> {
+    let streams = streams(alloc, text)?;
+    let pairing = pair(alloc, &streams)?;
+    let chains = Chains::new(alloc, &streams, &pairing)?;
+    Ok(chains.cause(pid, index))
+}
+
+/// The way back from an event of a text's streams.
+fn back_from(alloc: Global, text: &str, pid: Pid, index: u64) -> Result<Vec<(Pid, u64)>, Fail> {
+    let streams = streams(alloc, text)?;
+    let pairing = pair(alloc, &streams)?;
+    let chains = Chains::new(alloc, &streams, &pairing)?;
+    Ok(chains.back(alloc, pid, index)?)
+}
+
+fn assert_chain(
+    rt: &impl Abort,
+    alloc: Global,
+    text: &str,
+    pid: Pid,
+    label: u32,
+    wanted: &[u64],
+) -> Result<(), Fail> {
+    let chain = chain_of(alloc, text, pid, label)?;
+    assert_eq!(rt; chain.as_slice(), wanted);
+    Ok(())
+}
+
+fn assert_back(
+    rt: &impl Abort,
+    alloc: Global,
+    text: &str,
+    from: (Pid, u64),
+    wanted: &[(Pid, u64)],
+) -> Result<(), Fail> {
+    let back = back_from(alloc, text, from.0, from.1)?;
+    assert_eq!(rt; back.as_slice(), wanted);
+    Ok(())
 }
 
 #[test]
 fn hidden_sends_end_the_way_back(rt: HostRuntime) -> Result<(), Fail> {
     let alloc = rt.alloc();
-    let streams = streams(alloc, CERTIFICATE)?;
-    let pairing = pair(alloc, &streams)?;
-    let chains = Chains::new(alloc, &streams, &pairing)?;
-    assert_chain(&rt, &chains, p30(), 17, &[0, 1]);
-    assert_chain(&rt, &chains, p30(), 18, &[]);
-    assert_eq!(rt; chains.cause(p30(), 1), Some(Cause::Hidden));
-    let back = chains.back(alloc, p31(), 1)?;
-    assert_eq!(rt; back.as_slice(), [(p31(), 1), (p31(), 0)].as_slice());
-    Ok(())
+    assert_chain(&rt, alloc, CERTIFICATE, p30(), 17, &[0, 1])?;
+    assert_chain(&rt, alloc, CERTIFICATE, p30(), 18, &[])?;
+    let cause = cause_of(alloc, CERTIFICATE, p30(), 1)?;
+    assert_eq!(rt; cause, Some(Cause::Hidden));
+    let back = [(p31(), 1), (p31(), 0)];
+    assert_back(&rt, alloc, CERTIFICATE, (p31(), 1), &back)
 }
 
 #[test]
 fn chains_go_by_label(rt: HostRuntime) -> Result<(), Fail> {
     let alloc = rt.alloc();
-    let streams = streams(alloc, TWO_LABELS)?;
-    let pairing = pair(alloc, &streams)?;
-    let chains = Chains::new(alloc, &streams, &pairing)?;
-    assert_chain(&rt, &chains, p30(), 17, &[1]);
-    assert_chain(&rt, &chains, p30(), 18, &[0, 2]);
-    assert_chain(&rt, &chains, p31(), 17, &[]);
-    assert_chain(&rt, &chains, p32(), 17, &[]);
-    Ok(())
+    assert_chain(&rt, alloc, TWO_LABELS, p30(), 17, &[1])?;
+    assert_chain(&rt, alloc, TWO_LABELS, p30(), 18, &[0, 2])?;
+    assert_chain(&rt, alloc, TWO_LABELS, p31(), 17, &[])?;
+    assert_chain(&rt, alloc, TWO_LABELS, p32(), 17, &[])
 }
 
 /// Prints of both processes whose labels, 0 to 4, change without a pattern.
@@ -92,18 +134,30 @@ fn filtered(alloc: Global, events: &[Event], label: u32) -> Result<Vec<u64>, All
     Ok(places)
 }
 
+fn assert_filtered(
+    rt: &impl Abort,
+    alloc: Global,
+    chains: &Chains,
+    pid: Pid,
+    events: &[Event],
+) -> Result<(), AllocError> {
+    for label in 0..6 {
+        let wanted = filtered(alloc, events, label)?;
+        assert_eq!(rt; wanted.is_empty(), label == 5);
+        let chain = indexes(alloc, chains.of(pid, Label(label)))?;
+        assert_eq!(rt; chain.as_slice(), wanted.as_slice());
+    }
+    Ok(())
+}
+
 #[test]
 fn chains_are_the_plain_filters(rt: HostRuntime) -> Result<(), Fail> {
     let alloc = rt.alloc();
     let streams = mixed(alloc)?;
     let pairing = pair(alloc, &streams)?;
     let chains = Chains::new(alloc, &streams, &pairing)?;
-    for &pid in streams.pids() {
-        for label in 0..6 {
-            let wanted = filtered(alloc, streams.events(pid), label)?;
-            assert_eq!(rt; wanted.is_empty(), label == 5);
-            assert_chain(&rt, &chains, pid, label, wanted.as_slice());
-        }
+    for pid in [p30(), p31()] {
+        assert_filtered(&rt, alloc, &chains, pid, streams.events(pid))?;
     }
     Ok(())
 }
@@ -111,16 +165,16 @@ fn chains_are_the_plain_filters(rt: HostRuntime) -> Result<(), Fail> {
 #[test]
 fn a_receive_is_caused_by_its_send(rt: HostRuntime) -> Result<(), Fail> {
     let alloc = rt.alloc();
-    let streams = streams(alloc, ONE_MESSAGE)?;
-    let pairing = pair(alloc, &streams)?;
-    let chains = Chains::new(alloc, &streams, &pairing)?;
-    assert_eq!(rt; chains.cause(p31(), 0), Some(Cause::Event(p30(), 0)));
-    assert_eq!(rt; chains.cause(p30(), 0), Some(Cause::Start));
-    assert_eq!(rt; chains.cause(p30(), 7), None);
-    let back = chains.back(alloc, p31(), 0)?;
-    assert_eq!(rt; back.as_slice(), [(p31(), 0), (p30(), 0)].as_slice());
-    assert!(rt; chains.back(alloc, p30(), 7)?.is_empty());
-    Ok(())
+    for (pid, index, cause) in [
+        (p31(), 0, Some(Cause::Event(p30(), 0))),
+        (p30(), 0, Some(Cause::Start)),
+        (p30(), 7, None),
+    ] {
+        assert_eq!(rt; cause_of(alloc, ONE_MESSAGE, pid, index)?, cause);
+    }
+    let back = [(p31(), 0), (p30(), 0)];
+    assert_back(&rt, alloc, ONE_MESSAGE, (p31(), 0), &back)?;
+    assert_back(&rt, alloc, ONE_MESSAGE, (p30(), 7), &[])
 }
 
 /// The first of 31's chain of label 17 and the way back from it, where no growth is refused.

@@ -7,8 +7,9 @@ mod refused;
 use crate::collected::{p30, p31};
 use st_core::{
     Act, AddFault, Component, Draft, Event, Flags, Kind, Label, Local, OpenFault, Pid, Sequence,
-    Serial, Token, is_rising,
+    Serial, Streams, Token, is_rising,
 };
+use std::process::Abort;
 use std::test::Fail;
 
 /// Enough of anything that a body which gives up early, or has room for a few alone, is seen.
@@ -110,6 +111,15 @@ fn a_draft_refuses_what_is_not_its_own(rt: HostRuntime) -> Result<(), Fail> {
     Ok(())
 }
 
+/// 30 has two events, of which the second is a send, and 31 none.
+fn assert_two_events(rt: &impl Abort, streams: &Streams) {
+    assert!(rt; streams.len(p30()) == 2);
+    assert!(rt; streams.len(p31()) == 0);
+    assert!(rt; streams.total() == 2);
+    assert!(rt; streams.event(p30(), 1).map(|sent| sent.kind) == Some(Kind::Send));
+    assert!(rt; streams.event(p30(), 2).is_none());
+}
+
 #[test]
 fn a_draft_comes_back_with_its_unlisted_place_and_closes_later(
     rt: HostRuntime,
@@ -122,11 +132,7 @@ fn a_draft_comes_back_with_its_unlisted_place_and_closes_later(
     assert!(rt; unlisted.pid == p30() && unlisted.index == 1);
     let mut draft = unlisted.draft;
     draft.open(p31())?;
-    let streams = draft.close()?;
-    assert!(rt; streams.len(p30()) == 2 && streams.len(p31()) == 0 && streams.total() == 2);
-    let sent = streams.event(p30(), 1).ok_or("lost")?;
-    assert!(rt; sent.kind == Kind::Send);
-    assert!(rt; streams.event(p30(), 2).is_none());
+    assert_two_events(&rt, &draft.close()?);
     Ok(())
 }
 

@@ -53,18 +53,26 @@ fn in_pieces(alloc: Global, text: &[u8], n: usize) -> Result<Bundle, ReadFault>
     feed.end()
 }
 
-#[test]
-fn refused_texts(rt: HostRuntime) {
-    let alloc = rt.alloc();
-    for (text, fault) in REFUSED {
-        let answer = read(alloc, &mut MemorySource::new(text.as_bytes(), None));
-        assert_eq!(rt; refusal(&rt, answer), fault);
-        for n in [1, 2, 3, 7] {
-            if n > 0 {
-                assert_eq!(rt; refusal(&rt, in_pieces(alloc, text.as_bytes(), n)), fault);
-            }
+/// Read whole, and fed in pieces, the text is refused so.
+fn assert_refused(rt: &impl Abort, alloc: Global, text: &[u8], fault: ReadFault) {
+    let answer = read(alloc, &mut MemorySource::new(text, None));
+    assert_eq!(rt; refusal(rt, answer), fault);
+    for n in [1, 2, 3, 7] {
+        if n > 0 {
+            assert_eq!(rt; refusal(rt, in_pieces(alloc, text, n)), fault);
         }
     }
+}
+
+fn assert_all_refused(rt: &impl Abort, alloc: Global, texts: &[(&str, ReadFault)]) {
+    for (text, fault) in texts {
+        assert_refused(rt, alloc, text.as_bytes(), *fault);
+    }
+}
+
+#[test]
+fn refused_texts(rt: HostRuntime) {
+    assert_all_refused(&rt, rt.alloc(), REFUSED.as_slice());
 }
 
 #[test]

@@ -144,12 +144,16 @@ fn an_endless_source_gives_zeros(rt: HostRuntime) {
 }
 
 #[test]
-fn a_recorder_keeps_what_passed_over_devices_that_tell_nothing(rt: HostRuntime) {
+fn a_recorder_keeps_what_passed_over_a_device_that_tells_nothing(rt: HostRuntime) {
     let mut piece = [0; 8];
     let mut source = Recorder::new(rt.alloc(), ReadFrom::new(b"yes\nno\n".as_slice()));
     assert!(rt; source.take(&mut piece[..4]) == Ok(4));
     assert!(rt; source.take(&mut piece) == Ok(3));
     assert!(rt; source.passed() == b"yes\nno\n".as_slice());
+}
+
+#[test]
+fn a_recorder_fails_where_its_device_does(rt: HostRuntime) {
     let mut sink = Recorder::new(rt.alloc(), WriteTo::new(Unsteady::new(3, ERRORS[0])));
     assert!(rt; sink.put(b"yes\n") == Ok(3));
     assert!(rt; sink.put(b"\n") == Ok(1));

@@ -3,7 +3,7 @@
 use super::refusal;
 use st_core::MemorySource;
 use st_text::{Feed, ReadFault, read};
-use std::alloc::Global;
+use std::alloc::{AllocError, Global};
 use std::process::Abort;
 use std::test::Fail;
 
@@ -37,26 +37,24 @@ fn acts(rt: HostRuntime) {
     );
 }
 
+/// A feed of so many processes, line by line.
+fn of_processes(rt: &impl Abort, alloc: Global, count: u16) -> Result<Feed, AllocError> {
+    let mut feed = Feed::new(alloc);
+    assert_eq!(rt; feed.piece(b"seqtrace 1\n"), Ok(()));
+    for n in 0..count {
+        let line = format!(in alloc; "process <0.{n}.0>\n")?;
+        assert_eq!(rt; feed.piece(line.as_bytes()), Ok(()));
+    }
+    Ok(feed)
+}
+
 #[test]
 fn processes(rt: HostRuntime) -> Result<(), Fail> {
     let alloc = rt.alloc();
-    let mut feed = Feed::new(alloc);
-    assert_eq!(rt; feed.piece(b"seqtrace 1\n"), Ok(()));
-    for n in 0..1_024u16 {
-        let line = format!(in alloc; "process <0.{n}.0>\n")?;
-        assert_eq!(rt; feed.piece(line.as_bytes()), Ok(()));
-    }
-    match feed.end() {
-        Err(fault) => panic!(rt; "{fault:?}"),
-        Ok(bundle) => assert_eq!(rt; bundle.streams.pids().len(), 1_024),
-    }
-    let mut feed = Feed::new(alloc);
-    assert_eq!(rt; feed.piece(b"seqtrace 1\n"), Ok(()));
-    for n in 0..1_025u16 {
-        let line = format!(in alloc; "process <0.{n}.0>\n")?;
-        assert_eq!(rt; feed.piece(line.as_bytes()), Ok(()));
-    }
-    assert_eq!(rt; refusal(&rt, feed.end()), ReadFault::TooMany(1_026));
+    let bundle = of_processes(&rt, alloc, 1_024)?.end()?;
+    assert_eq!(rt; bundle.streams.pids().len(), 1_024);
+    let answer = of_processes(&rt, alloc, 1_025)?.end();
+    assert_eq!(rt; refusal(&rt, answer), ReadFault::TooMany(1_026));
     Ok(())
 }
 
