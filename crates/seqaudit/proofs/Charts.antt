@@ -1,14 +1,11 @@
 -- A chart is written where an item has the label, a line says where none has it, and a reason of pairing is reported.
-use Rattle.std.proofs.Common.{◌≡◌, ◌≢◌, ℕ, Bool, true, false, List, refl, sym, subst}
-use Rattle.std.specs.Prelude.{◌↔◌, Option, Some, None, Result, Ok, Err}
-use Rattle.std.specs.List.{list_any}
+use Rattle.std.proofs.Common.{◌≡◌, ◌≢◌, ℕ, Bool, true, false, List, refl, subst}
+use Rattle.std.specs.Prelude.{◌↔◌, Some, Result, Err}
 use Rattle.st_core.specs.declared.types.Label.{Label}
 use Rattle.st_core.specs.Run.{Stream}
 use Rattle.st_pair.specs.declared.answer.PairFault.{PairFault}
 use Rattle.st_pair.specs.declared.answer.PairFault.TheVariants as fault
-use Rattle.st_pair.specs.Pairing.{refusal, IsPairFault}
-use Rattle.st_order.specs.declared.item.Item.{Item}
-use Rattle.st_order.specs.Labels.{has_label}
+use Rattle.st_pair.specs.Pairing.{IsPairFault}
 use Rattle.st_audit.specs.declared.finding.Finding.{Finding}
 use Rattle.st_audit.specs.Findings.{unfit_by}
 use Rattle.st_chart.specs.declared.fault.ChartFault.{ChartFault}

@@ -1,5 +1,5 @@
 -- The definitions of the output say what is meant: here they are computed on worked values.
-use Rattle.std.proofs.Common.{◌≡◌, ℕ, List, [], ◌∷◌, codes, refl}
+use Rattle.std.proofs.Common.{◌≡◌, [], ◌∷◌, codes, refl}
 use Rattle.std.specs.Fmt.{digits}
 use Rattle.st_core.specs.Pid.{pid_on}
 use Rattle.st_core.specs.Verdict.{Stuck, Differs, Left, Yes}

@@ -1,13 +1,11 @@
 -- Status 0 of an audit belongs to a certificate alone, and status 1 to an event and a reason.
 use Rattle.std.proofs.Common.{◌≡◌, ℕ, Bool, List, refl, arith}
-use Rattle.std.specs.Prelude.{Some}
-use Rattle.st_core.specs.declared.types.Act.{Act}
 use Rattle.st_core.specs.Run.{Stream}
-use Rattle.st_core.specs.Verdict.{Yes, IsVerdict}
+use Rattle.st_core.specs.Verdict.{Yes}
 use Rattle.st_audit.specs.declared.finding.Finding.{Finding}
 use Rattle.st_audit.specs.declared.finding.Finding.TheVariants as finding
-use Rattle.seqaudit.specs.Output.{Output, judged}
-use Rattle.seqaudit.specs.Checked.{top, Spells, IsChecked, Judged}
+use Rattle.seqaudit.specs.Output.{judged}
+use Rattle.seqaudit.specs.Checked.{Judged}
 use Rattle.seqaudit.specs.Audited.{HasFinding, IsAudited, Found, Faulty, reported, finding_status}
 use Rattle.seqaudit.specs.Command.{Owes, Tells}
 use Rattle.seqaudit.specs.Meaning.{MeansFits, MeansUnfit, Says}

@@ -10,4 +10,6 @@ pub mod Owed
 pub mod Outputs
 pub mod Meanings
 pub mod Findings
+pub mod Scripts
+pub mod Drives
 pub mod Stored

@@ -1,6 +1,6 @@
 -- A status belongs to one kind of output: 0 to a yes, 1 to a no. So an output with it has that verdict, which tells
 -- the rest.
-use Rattle.std.proofs.Common.{◌≡◌, ◌≢◌, ℕ, ◌+◌, ◌≤◌, Bool, List, length, take, refl, sym, ap, subst, ◌∙◌, arith}
+use Rattle.std.proofs.Common.{◌≡◌, ◌≢◌, ℕ, ◌+◌, ◌≤◌, Bool, List, take, refl, ap, subst, arith}
 use Rattle.std.specs.Prelude.{Option, Some, None, IsSome}
 use Rattle.st_core.specs.declared.types.Act.{Act}
 use Rattle.st_core.specs.State.{zero_state}
@@ -11,8 +11,8 @@ use Rattle.st_core.specs.Verdict.{Verdict, Stuck, Differs, Left, Yes, IsVerdict}
 use Rattle.st_core.proofs.ForCallers.{one_verdict, run_from-take}
 use Rattle.st_text.specs.declared.fault.ReadFault.{ReadFault}
 use Rattle.st_text.specs.declared.fault.ReadFault.TheVariants as faults
-use Rattle.seqaudit.specs.Output.{Output, judged, no_acts, refused}
-use Rattle.seqaudit.specs.Checked.{top, Spells, IsJudged, IsChecked, Judged, Lacking, Faulty}
+use Rattle.seqaudit.specs.Output.{Output, judged, refused}
+use Rattle.seqaudit.specs.Checked.{top, IsJudged, IsChecked, Judged, Lacking, Faulty}
 use Rattle.seqaudit.specs.Command.{Owes, Tells}
 use Rattle.seqaudit.specs.Meaning.{MeansYes, MeansNo, Says}
 use Rattle.seqaudit.specs.Laws.{YesMeans, NoMeans, ShownIsYes, NeverStuck, NeverStuckInReplay}

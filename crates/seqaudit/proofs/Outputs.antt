@@ -1,6 +1,6 @@
 -- Bytes have one output of each command at most: they are the text of one bundle, or have one fault, and acts have one
 -- verdict and one run.
-use Rattle.std.proofs.Common.{◌≡◌, ℕ, ◌+◌, ◌<◌, List, length, take, Option, Some, None, refl, sym, ap, subst, ◌∙◌}
+use Rattle.std.proofs.Common.{◌≡◌, ℕ, ◌+◌, ◌<◌, List, take, Option, Some, None, refl, sym, ap, subst, ◌∙◌}
 use Rattle.std.proofs.Common.{inl, inr, arith}
 use Rattle.std.specs.Prelude.{IsSome}
 use Rattle.std.proofs.lemmas.Bool.{cases_lt}
@@ -17,7 +17,7 @@ use Rattle.st_text.specs.declared.fault.ReadFault.{ReadFault}
 use Rattle.st_text.specs.Text.{Contents}
 use Rattle.st_text.specs.Fault.{fault}
 use Rattle.st_text.proofs.ForCallers.{text_one, text_sound}
-use Rattle.seqaudit.specs.Output.{Output, judged, refused}
+use Rattle.seqaudit.specs.Output.{judged, refused}
 use Rattle.seqaudit.specs.Checked.{top, Spells, IsJudged, IsChecked}
 use Rattle.seqaudit.specs.Checked as checked
 use Rattle.seqaudit.specs.Replayed.{HasRun, HasStuck, IsReplayed, replayed, stuck}

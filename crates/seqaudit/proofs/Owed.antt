@@ -7,7 +7,6 @@ use Rattle.st_core.specs.Step.{Outcome}
 use Rattle.st_core.specs.Verdict.{Verdict, IsVerdict}
 use Rattle.st_check.proofs.ForCallers.{few_acts_run, verdict_follows, verdict_pairs}
 use Rattle.st_text.specs.declared.fault.ReadFault.{ReadFault}
-use Rattle.st_text.specs.Text.{Contents}
 use Rattle.st_text.specs.Fault.{fault}
 use Rattle.st_text.proofs.ForCallers.{readable}
 use Rattle.seqaudit.specs.Output.{Output, judged, refused, no_acts}

@@ -1,13 +1,12 @@
 -- A replay's streams and acts are those of the output, and the act that it is stuck at has no step.
-use Rattle.std.proofs.Common.{◌≡◌, List, subst, sym, ap, ◌∙◌}
+use Rattle.std.proofs.Common.{◌≡◌, List, subst, sym, ap}
 use Rattle.st_core.specs.declared.types.Pid.{Pid}
 use Rattle.st_core.specs.declared.types.Act.{Act}
 use Rattle.st_core.specs.Run.{Stream, pids_of}
-use Rattle.st_check.specs.Answers.{IsReplay, reported}
+use Rattle.st_check.specs.Answers.{IsReplay}
 use Rattle.st_check.specs.declared.verdict.Replayed.{Replayed}
 use Rattle.st_check.specs.declared.verdict.Replayed.TheVariants as answers
 use Rattle.seqaudit.specs.Checked.{top}
-use Rattle.seqaudit.specs.Output.{Output}
 use Rattle.seqaudit.specs.Parts.{ReplaysTo, Runs, Sticks, bundled, replayed_output}
 
 replays_on : (streams : List Stream) (acts : List Act) (r : Replayed) → IsReplay top (pids_of streams) acts r

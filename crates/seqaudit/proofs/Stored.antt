@@ -1,6 +1,6 @@
 -- Two stored runs are yeses by the definitions alone: each value that the definitions ask for is computed here.
 -- Nothing cites this file; it shows that what `check` is proved to owe of these bytes is what a reader expects.
-use Rattle.std.proofs.Common.{◌≡◌, ℕ, ◌≤◌, Bool, true, false, List, [], ◌∷◌, ◌++◌, length, Option, Some, None, All}
+use Rattle.std.proofs.Common.{◌≡◌, ℕ, Bool, true, false, List, [], ◌∷◌, ◌++◌, length, Option, Some, None}
 use Rattle.std.proofs.Common.{refl, arith}
 use Rattle.std.specs.Prelude.{codes}
 use Rattle.std.specs.Fmt.{digits}
@@ -8,7 +8,6 @@ use Rattle.std.specs.Option.{option_map_or}
 use Rattle.std.proofs.lemmas.List.Elements.{All-nil, All-cons}
 use Rattle.st_core.specs.declared.types.Pid.{Pid}
 use Rattle.st_core.specs.declared.types.Label.{Label}
-use Rattle.st_core.specs.declared.types.Serial.{Serial}
 use Rattle.st_core.specs.declared.types.Token.{Token}
 use Rattle.st_core.specs.declared.types.Kind.{Kind}
 use Rattle.st_core.specs.declared.types.Kind.TheVariants as kind
@@ -21,9 +20,8 @@ use Rattle.st_core.specs.Pid.{pid_on}
 use Rattle.st_core.specs.Step.{Outcome}
 use Rattle.st_core.specs.Run.{Stream, pids_of, run, stream}
 use Rattle.st_core.specs.Verdict.{Yes, IsVerdict}
-use Rattle.st_text.specs.Range.{FitsPid, FitsSerial, FitsEvent, FitsToken}
+use Rattle.st_text.specs.Range.{FitsPid, FitsEvent, FitsToken}
 use Rattle.st_text.specs.Text.{spelling}
-use Rattle.seqaudit.specs.Output.{Output}
 use Rattle.seqaudit.specs.Checked.{top, Spells, IsChecked, Judged}
 use Rattle.seqaudit.proofs.Owed.{judgement}
 

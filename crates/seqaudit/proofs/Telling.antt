@@ -1,7 +1,7 @@
 -- What the parts of a command say adds up to what the command owes: the bytes that were read go with each answer.
-use Rattle.std.proofs.Common.{◌≡◌, ◌≢◌, ℕ, ◌+◌, ◌<◌, ◌≤◌, Bool, true, false, List, length, refl, sym, subst, ◌∙◌, ap}
+use Rattle.std.proofs.Common.{◌≡◌, ◌≢◌, ℕ, ◌<◌, ◌≤◌, Bool, false, List, length, refl, sym, subst}
 use Rattle.std.proofs.Common.{inl, inr, arith}
-use Rattle.std.specs.Prelude.{Option, Some, None, Result, Ok, Err, MatchResult}
+use Rattle.std.specs.Prelude.{Some, None, Result, Ok, Err, MatchResult}
 use Rattle.st_core.specs.declared.types.Act.{Act}
 use Rattle.st_core.specs.declared.types.Label.{Label}
 use Rattle.st_pair.specs.Pairing.{refusal}
@@ -18,8 +18,8 @@ use Rattle.st_text.specs.Text.{Contents}
 use Rattle.st_text.specs.Fault.{fault}
 use Rattle.st_text.specs.Reads.{ReadsSource}
 use Rattle.st_text.proofs.ForCallers.{fault_too_large}
-use Rattle.st_text.specs.Writing.{Writes, WritesPart, WritesText}
-use Rattle.seqaudit.specs.Output.{Output, judged, refused, no_acts, no_memory}
+use Rattle.st_text.specs.Writing.{WritesText}
+use Rattle.seqaudit.specs.Output.{Output, judged, refused, no_acts}
 use Rattle.seqaudit.specs.Checked.{Spells, IsChecked, Judged}
 use Rattle.seqaudit.specs.Checked as checked
 use Rattle.seqaudit.specs.Replayed.{IsReplayed}

@@ -12,6 +12,7 @@ use Rattle.seqaudit.specs.Checked.{IsChecked}
 use Rattle.seqaudit.specs.Audited.{IsAudited}
 use Rattle.seqaudit.specs.Replayed.{IsReplayed}
 use Rattle.seqaudit.specs.Charted.{IsCharted}
+use Rattle.seqaudit.specs.Recorded.{IsRecorded}
 
 -- of a reader: what its calls give, whether it is at its end, whether it failed, and its states before and after
 module _ {R : Type 0} (gives : R → List ℕ → R → Type 0) (ended : R → Type 0) (failed : R → Bool) (old new : R) where
@@ -30,12 +31,12 @@ module _ {R : Type 0} (gives : R → List ℕ → R → Type 0) (ended : R → T
     ForReader : (bytes : List ℕ) → InARow gives old bytes new → length bytes ≤ most_bytes → failed new ≡ true
         → Owes IsOutput no_device
 
-  -- the output that each command owes; where one isn't there yet nothing is read
+  -- the output that each command owes
   abbrev pub OwesBy : Task → Output → Type 0
   OwesBy task.Check out = Owes IsChecked out
   OwesBy task.Audit out = Owes IsAudited out
   OwesBy task.Replay out = Owes IsReplayed out
-  OwesBy task.Drive out = (new ≡ old) × (out ≡ usage)
+  OwesBy task.Drive out = Owes IsRecorded out
   OwesBy (task.Chart label) out = Owes (IsCharted label) out
 
   -- the output that the program owes, by its words: where they ask for no command, nothing is read

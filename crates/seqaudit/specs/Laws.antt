@@ -3,12 +3,14 @@ use Rattle.std.specs.Prelude.{◌≡◌, ℕ, List, Some}
 use Rattle.st_core.specs.declared.types.Act.{Act}
 use Rattle.st_core.specs.Run.{Stream, Shows}
 use Rattle.st_core.specs.Verdict.{Stuck, Yes, IsVerdict}
+use Rattle.st_runtime.specs.declared.record.Record.{Record}
 use Rattle.st_text.specs.Text.{spelling}
 use Rattle.seqaudit.specs.Output.{Output, judged}
 use Rattle.seqaudit.specs.Checked.{top, Spells, IsJudged, IsChecked}
-use Rattle.seqaudit.specs.Replayed.{HasStuck, IsReplayed}
+use Rattle.seqaudit.specs.Replayed.{HasStuck}
 use Rattle.seqaudit.specs.Audited.{IsAudited}
-use Rattle.seqaudit.specs.Meaning.{MeansYes, MeansNo, MeansFits, MeansUnfit}
+use Rattle.seqaudit.specs.Recorded.{HasRecord, IsRecorded, recorded}
+use Rattle.seqaudit.specs.Meaning.{MeansYes, MeansNo, MeansFits, MeansUnfit, MeansDriven}
 
 -- status 0 is a yes, and status 1 a no
 abbrev pub YesMeans : Type 0
@@ -41,6 +43,16 @@ CertificateIsYes =
     (streams : List Stream) (acts : List Act) (pairs : List (ℕ × ℕ)) → IsVerdict top streams acts (Yes pairs)
     → Spells (certificate streams acts) streams (Some acts)
     → (out : Output) → IsChecked (certificate streams acts) out → out ≡ judged (Yes pairs)
+
+-- status 0 of `drive` is a record
+abbrev pub DrivenMeans : Type 0
+DrivenMeans = (bytes : List ℕ) (out : Output) → IsRecorded bytes out → out.status ≡ 0 → MeansDriven bytes out
+
+-- where the text of a record is one within the reader's limits, `check` of it answers yes
+abbrev pub RecordedIsYes : Type 0
+RecordedIsYes =
+    (bytes : List ℕ) (r : Record) → HasRecord bytes r → Spells (recorded r).text r.streams (Some r.acts)
+    → (out : Output) → IsChecked (recorded r).text out → out.status ≡ 0
 
 -- bytes have an output of the command, and one at most
 abbrev pub HasOutput : (List ℕ → Output → Type 0) → Type 0

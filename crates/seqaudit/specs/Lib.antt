@@ -4,6 +4,7 @@ pub mod Checked
 pub mod Audited
 pub mod Replayed
 pub mod Charted
+pub mod Recorded
 pub mod Words
 pub mod Command
 pub mod Meaning

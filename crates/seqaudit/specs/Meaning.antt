@@ -1,10 +1,11 @@
--- What a yes and a no of `check` and the findings of `audit` mean, each as one record of plain facts, in the words of
--- the machine.
-use Rattle.std.specs.Prelude.{◌≡◌, ℕ, Bool, List, ◌++◌, Option, Some, IsSome, All, codes}
+-- What a yes and a no of `check`, the findings of `audit` and a record of `drive` mean, each as one record of plain
+-- facts, in the words of the machine.
+use Rattle.std.specs.Prelude.{◌≡◌, ℕ, Bool, List, ◌++◌, Option, Some, IsSome, All, codes, filter}
 use Rattle.std.specs.List.{flat_map}
 use Rattle.st_core.specs.declared.types.Pid.{Pid}
 use Rattle.st_core.specs.declared.types.Act.{Act}
-use Rattle.st_core.specs.Step.{Outcome}
+use Rattle.st_core.specs.Pid.{pid_eq}
+use Rattle.st_core.specs.Step.{Outcome, actor}
 use Rattle.st_core.specs.Run.{Stream, Shows, pids_of, run, stream}
 use Rattle.st_core.specs.Pairs.{Follows, AllPaired, pairs}
 use Rattle.st_core.specs.Verdict.{Verdict, IsVerdict}
@@ -81,6 +82,25 @@ pub record MeansUnfit (bytes : List ℕ) (out : Output) : Type 0 where
   pub holds : IsReason top streams pid index reason
   -- the text names the event and the reason, and what the reason rests on
   pub text : out.text ≡ report_text streams (finding.Unfit pid index reason)
+
+-- a record of threads: status 0 of `drive`
+pub record MeansDriven (bytes : List ℕ) (out : Output) : Type 0 where
+  pub listed : List Stream
+  pub given : List Act
+  pub streams : List Stream
+  pub acts : List Act
+  pub outcomes : List Outcome
+  -- the bytes spell acts of listed processes, within the reader's limits
+  pub spelled : Spells bytes listed (Some given)
+  -- acts are a run of the machine from zero clocks over these processes
+  pub runs : run top (pids_of streams) acts ≡ Some outcomes
+  pub pids : pids_of streams ≡ pids_of listed
+  -- in it each process reports exactly its stream; so the acts show the streams (`Shows`)
+  pub reports : All (λ x. stream acts outcomes x.pid ≡ x.events) streams
+  -- each process's acts are its own of the given ones, in their order
+  pub own : All (λ p. filter (λ a. pid_eq (actor a) p) acts ≡ filter (λ a. pid_eq (actor a) p) given) (pids_of streams)
+  -- the text is that of the streams with these acts
+  pub text : out.text ≡ spelling (record { streams = streams; acts = Some acts })
 
 -- all bytes were read, and of them an output with this meaning was written whole
 pub record Says {R W : Type 0} (gives : R → List ℕ → R → Type 0) (ended : R → Type 0) (read_failed : R → Bool)

@@ -1,8 +1,7 @@
 -- The outputs of a bundle that was read, for the contracts of the functions that a command is made of. What a command
 -- does in all stands in `Command`.
-use Rattle.std.specs.Prelude.{◌≡◌, ℕ, true, false, List, Option, Some, None}
+use Rattle.std.specs.Prelude.{◌≡◌, ℕ, true, false, List, Some, None}
 use Rattle.std.specs.List.{list_any}
-use Rattle.st_core.specs.declared.types.Pid.{Pid}
 use Rattle.st_core.specs.declared.types.Label.{Label}
 use Rattle.st_core.specs.declared.types.Act.{Act}
 use Rattle.st_core.specs.Step.{Outcome}
@@ -18,6 +17,10 @@ use Rattle.st_pair.specs.Pairing.{refusal}
 use Rattle.st_order.specs.declared.item.Item.{Item}
 use Rattle.st_order.specs.Order.{IsOrder}
 use Rattle.st_order.specs.Labels.{has_label}
+use Rattle.st_runtime.specs.declared.fault.DriveFault.{DriveFault}
+use Rattle.st_runtime.specs.declared.fault.DriveFault.TheVariants as drive
+use Rattle.st_runtime.specs.declared.record.Record.{Record}
+use Rattle.st_runtime.specs.Driven.{IsDriven, IsDriveFault}
 use Rattle.st_text.specs.Text.{Contents, spelling}
 use Rattle.seqaudit.specs.declared.words.Refusal.{Refusal}
 use Rattle.seqaudit.specs.declared.words.Refusal.TheVariants as refusals
@@ -26,6 +29,7 @@ use Rattle.seqaudit.specs.Checked.{top}
 use Rattle.seqaudit.specs.Replayed.{replayed, stuck}
 use Rattle.seqaudit.specs.Audited.{reported}
 use Rattle.seqaudit.specs.Charted.{drawn, no_label}
+use Rattle.seqaudit.specs.Recorded.{ranks, scripts_of, recorded, act_fault, thread_fault, join_fault}
 
 -- the verdict of streams and acts
 pub data ChecksTo (streams : List Stream) (acts : List Act) : Output → Type 0 where
@@ -53,12 +57,28 @@ pub data ChartsTo (streams : List Stream) (label : Label) : Output → Type 0 wh
       → ChartsTo streams label (reported streams found)
   NoRoomToOrder : ChartsTo streams label no_memory
 
+-- why scripts of streams weren't driven; their pids rise, so that they don't is no answer
+abbrev pub drive_refused : DriveFault → Output
+drive_refused drive.Memory = no_memory
+drive_refused (drive.Act p n f) = act_fault p n
+drive_refused (drive.Join f) = join_fault
+drive_refused drive.Thread = thread_fault
+drive_refused drive.NotRising = no_memory
+
 -- what the acts report
 pub data ReplaysTo (streams : List Stream) (acts : List Act) : Output → Type 0 where
   Runs : (os : List Outcome) → run top (pids_of streams) acts ≡ Some os
       → ReplaysTo streams acts (replayed (pids_of streams) acts os)
   Sticks : (n : ℕ) → SticksAt top (pids_of streams) acts n → ReplaysTo streams acts (stuck n)
   NoRoomToReplay : ReplaysTo streams acts no_memory
+
+-- what the acts come to as scripts of the streams' processes
+pub data DrivesTo (streams : List Stream) (acts : List Act) : Output → Type 0 where
+  Records : (r : Record) → IsDriven top (pids_of streams) (scripts_of (pids_of streams) acts) r
+      → DrivesTo streams acts (recorded r)
+  Refuses : (f : DriveFault) → IsDriveFault top ranks (pids_of streams) (scripts_of (pids_of streams) acts) f
+      → DrivesTo streams acts (drive_refused f)
+  NoRoomToDrive : DrivesTo streams acts no_memory
 
 -- the same of a bundle, which may have no acts
 pub data OfBundle (OfActs : List Stream → List Act → Output → Type 0) (c : Contents) : Output → Type 0 where

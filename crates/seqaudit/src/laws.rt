@@ -4,6 +4,7 @@
 ghost use Rattle.seqaudit.specs.Checked.{IsChecked};
 ghost use Rattle.seqaudit.specs.Laws.{YesMeans, NoMeans, ShownIsYes, HasOutput, HasOneOutput};
 ghost use Rattle.seqaudit.specs.Laws.{FitsMeans, UnfitMeans, CertificateIsYes};
+ghost use Rattle.seqaudit.specs.Laws.{DrivenMeans, RecordedIsYes};
 ghost use Rattle.seqaudit.specs.Laws.{NeverStuck, NeverStuckInReplay};
 ghost use Rattle.seqaudit.specs.Replayed.{IsReplayed};
 
@@ -43,6 +44,18 @@ pub fn unfit_means()
 /// The check of a certificate that is a text within the reader's limits answers yes and the pairs.
 pub fn certificate_is_yes()
     ensures { CertificateIsYes }
+{}
+
+/// An output of the drive with status 0 means that the bytes spell acts of listed processes, and that
+/// what it writes is the text of streams and acts that are a run of the machine from zero clocks in
+/// which each process reports exactly its stream and makes exactly its own acts of those, in order.
+pub fn driven_means()
+    ensures { DrivenMeans }
+{}
+
+/// The check of a record that is a text within the reader's limits answers yes.
+pub fn recorded_is_yes()
+    ensures { RecordedIsYes }
 {}
 
 /// Bytes have an output of the check and of the replay.

@@ -9,6 +9,7 @@ ghost use Rattle.st_text.specs.Room.{buffer_room, line_room, number_room};
 ghost use Rattle.st_text.specs.Writing.{GoesOn, WritesText};
 ghost use Rattle.seqaudit.specs.Lines.{words, text_of, words_room};
 ghost use Rattle.seqaudit.specs.Output.{fault_words, pair_words, pair_line, verdict_text};
+ghost use Rattle.seqaudit.specs.Recorded.{act_fault_words};
 
 use st_check::Verdict;
 use st_core::{ByteSink, Label, Pid};
@@ -33,6 +34,12 @@ pub(crate) enum OutputLine {
     Fault(ReadFault),
     /// The input has no acts.
     NoActs,
+    /// The act of this process's script that was refused, by its number there.
+    ActFault(Pid, u64),
+    /// A thread couldn't be started.
+    ThreadFault,
+    /// What the threads left isn't one run.
+    JoinFault,
     /// How the program is called.
     Usage,
 }
@@ -76,6 +83,17 @@ fn put_fault(buffer: &mut Buffer, fault: ReadFault)
     }
 }
 
+/// Appends the words of an act that was refused.
+fn put_act_fault(buffer: &mut Buffer, pid: Pid, n: u64)
+    requires { array_vec_len buffer.old + words_room ≤ buffer_room }
+    ensures items { buffer.new.items ≡ buffer.old.items ++ act_fault_words pid n }
+    ensures len { array_vec_len buffer.new ≤ array_vec_len buffer.old + words_room }
+{
+    put_bytes(buffer, b"fault act ");
+    put_pid(buffer, pid);
+    put_numbered(buffer, b" ", n);
+}
+
 /// Appends the words of a line.
 fn put_words(buffer: &mut Buffer, line: OutputLine)
     requires { array_vec_len buffer.old + words_room ≤ buffer_room }
@@ -94,6 +112,9 @@ fn put_words(buffer: &mut Buffer, line: OutputLine)
         OutputLine::NoLabel(label) => put_numbered(buffer, b"no label ", u64::from(label.0)),
         OutputLine::Fault(fault) => put_fault(buffer, fault),
         OutputLine::NoActs => put_bytes(buffer, b"fault no acts"),
+        OutputLine::ActFault(pid, n) => put_act_fault(buffer, pid, n),
+        OutputLine::ThreadFault => put_bytes(buffer, b"fault thread"),
+        OutputLine::JoinFault => put_bytes(buffer, b"fault join"),
         OutputLine::Usage => put_bytes(
             buffer,
             b"usage: seqaudit check|audit|replay|drive|chart --label N",

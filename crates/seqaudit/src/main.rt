@@ -1,5 +1,5 @@
-//! The program `seqaudit`: audits, checks, replays and charts the texts of collected sequential
-//! traces.
+//! The program `seqaudit`: audits, checks, replays, drives and charts the texts of collected
+//! sequential traces.
 //!
 //! What it writes and answers is said by `run`, and for each command by a function of its own; the
 //! definitions stand in `specs/`. `main` only joins `run` to the outside.
@@ -9,6 +9,7 @@ mod answer;
 mod audit;
 mod chart;
 mod check;
+mod drive;
 pub mod laws;
 mod lines;
 mod program;
@@ -22,6 +23,7 @@ use crate::answer::tell_refusal;
 pub use audit::run_audit;
 pub use chart::run_chart;
 pub use check::run_check;
+pub use drive::run_drive;
 pub use program::run;
 pub use replay::run_replay;
 use st_core::{ReadFrom, WriteTo};

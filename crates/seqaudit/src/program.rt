@@ -7,14 +7,16 @@ use crate::answer::tell_refusal;
 use crate::audit::run_audit;
 use crate::chart::run_chart;
 use crate::check::run_check;
+use crate::drive::run_drive;
 use crate::replay::run_replay;
-use crate::words::{Refusal, Task, read_words};
+use crate::words::{Task, read_words};
 use st_core::{ByteSink, ByteSource};
 use std::convert::AsStr;
+use std::sync::Wait;
 use std::thread::Threads;
 
 /// Does what this command does.
-fn run_task<H: AllocGlobal + Threads + Sync, R: ByteSource, W: ByteSink>(
+fn run_task<H: AllocGlobal + Threads + Wait + Sync, R: ByteSource, W: ByteSink>(
     rt: &H,
     task: Task,
     reader: &mut R,
@@ -28,14 +30,14 @@ fn run_task<H: AllocGlobal + Threads + Sync, R: ByteSource, W: ByteSink>(
         Task::Audit => run_audit(rt, rt.alloc(), reader, writer),
         Task::Replay => run_replay(rt.alloc(), reader, writer),
         Task::Chart(label) => run_chart(rt, rt.alloc(), reader, writer, label),
-        Task::Drive => tell_refusal(writer, Refusal::Usage),
+        Task::Drive => run_drive(rt, rt.alloc(), reader, writer),
     }
 }
 
 /// Does what the words ask for, of which the first is the program's name, and gives the exit
 /// status. Words that ask for no command are told how to, with status 3. All texts go to the
 /// writer.
-pub fn run<H: AllocGlobal + Threads + Sync, S: AsStr, R: ByteSource, W: ByteSink>(
+pub fn run<H: AllocGlobal + Threads + Wait + Sync, S: AsStr, R: ByteSource, W: ByteSink>(
     rt: &H,
     words: &[S],
     reader: &mut R,

@@ -17,6 +17,7 @@ use crate::run;
 use st_core::{MemorySink, MemorySource};
 use std::alloc::AllocError;
 use std::process::Abort;
+use std::sync::Wait;
 use std::test::Fail;
 use std::thread::Threads;
 
@@ -29,7 +30,7 @@ struct Case {
 }
 
 /// Runs the program on the input, and compares what it wrote and its status.
-fn expect<H: Abort + AllocGlobal + Threads + Sync>(
+fn expect<H: Abort + AllocGlobal + Threads + Wait + Sync>(
     rt: &H,
     name: &str,
     words: &[&str],
@@ -48,7 +49,7 @@ fn expect<H: Abort + AllocGlobal + Threads + Sync>(
 }
 
 /// The same for each case of a command's words.
-fn expect_cases<H: Abort + AllocGlobal + Threads + Sync>(
+fn expect_cases<H: Abort + AllocGlobal + Threads + Wait + Sync>(
     rt: &H,
     words: &[&str],
     cases: &[Case],
