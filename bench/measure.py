@@ -40,6 +40,12 @@ def describe(path):
     return size
 
 
+def acts_of(path):
+    """How many acts a bundle holds."""
+    with open(path, encoding="ascii") as text:
+        return text.read().partition("\nacts\n")[2].count("\n")
+
+
 def commonest_label(path):
     """The label of the most events."""
     with open(path, encoding="ascii") as lines:
@@ -50,7 +56,7 @@ def commonest_label(path):
 def show(words, path, size):
     best, peak = best_of(words, path)
     print(f"  {' '.join(os.path.basename(w) for w in words):28} {best:6.3f} s {size / best / 1e6:8.0f} MB/s {peak:6} MB")
-    return best
+    return best, peak
 
 
 def main():
@@ -59,11 +65,16 @@ def main():
     for words in (["wc", "-l"], [program, "check"], [program, "replay"]):
         show(words, "bin/bench.txt", size)
     size = describe("bin/collected.txt")
-    audited = show([program, "audit"], "bin/collected.txt", size)
+    audited, _ = show([program, "audit"], "bin/collected.txt", size)
     show([program, "chart", "--label", commonest_label("bin/collected.txt")], "bin/collected.txt", size)
     size = describe("bin/fitted.txt")
-    checked = show([program, "check"], "bin/fitted.txt", size)
+    checked, _ = show([program, "check"], "bin/fitted.txt", size)
     print(f"  an audit takes {audited / checked:.1f} times the check of what it answers")
+    size = describe("bin/scripts.txt")
+    driven, peak = show([program, "drive"], "bin/scripts.txt", size)
+    replayed, _ = show([program, "replay"], "bin/scripts.txt", size)
+    acts = acts_of("bin/scripts.txt")
+    print(f"  {peak * 2**20 / acts:.0f} bytes of memory an act; {driven / replayed:.1f} times the replay on one thread")
 
 
 main()

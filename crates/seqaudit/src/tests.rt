@@ -5,6 +5,7 @@ mod audits;
 mod certificates;
 mod charts;
 mod devices;
+mod drives;
 mod faults;
 mod limits;
 mod nodes;
@@ -75,6 +76,7 @@ fn worked_inputs_are_answered(rt: HostRuntime) -> Result<(), Fail> {
     expect_cases(&rt, &["seqaudit", "check"], &faults::CASES)?;
     expect_cases(&rt, &["seqaudit", "replay"], &replays::CASES)?;
     expect_cases(&rt, &["seqaudit", "audit"], &audits::CASES)?;
+    expect_cases(&rt, &["seqaudit", "drive"], &drives::CASES)?;
     expect_cases(&rt, &["seqaudit", "chart", "--label", "17"], &charts::CASES)?;
     Ok(())
 }

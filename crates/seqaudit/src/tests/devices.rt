@@ -76,7 +76,7 @@ impl Write for Taker {
 
 #[test]
 fn a_reader_that_errs_is_told(rt: HostRuntime) -> Result<(), Fail> {
-    for command in ["check", "replay"] {
+    for command in ["check", "replay", "drive"] {
         let mut reader = MemorySource::new(PRINT_ONE.as_bytes(), Some(100));
         let mut writer = MemorySink::new(rt.alloc(), 1000, None)?;
         let status = run(&rt, &["seqaudit", command], &mut reader, &mut writer);
@@ -140,5 +140,16 @@ fn a_writer_that_errs_keeps_what_it_took(rt: HostRuntime) -> Result<(), Fail> {
         assert!(rt; Some(taker.taken.as_slice()) == PRINT_ONE.as_bytes().get(..count));
         assert_eq!(rt; status, answer);
     }
+    Ok(())
+}
+
+#[test]
+fn a_record_is_cut_where_the_writer_fails(rt: HostRuntime) -> Result<(), Fail> {
+    // One process: its record is its input.
+    let mut reader = MemorySource::new(PRINT_ONE.as_bytes(), None);
+    let mut writer = MemorySink::new(rt.alloc(), 1000, Some(50))?;
+    let status = run(&rt, &["seqaudit", "drive"], &mut reader, &mut writer);
+    assert!(rt; Some(writer.written()) == PRINT_ONE.as_bytes().get(..50));
+    assert_eq!(rt; status, 4);
     Ok(())
 }
