@@ -1,5 +1,5 @@
 -- Worked cases: the definitions computed. Nothing cites this file; it shows that the definitions say what is meant.
-use Rattle.std.specs.Prelude.{◌≡◌, ℕ, ◌==◌, Bool, true, false, List, [], ◌∷◌, ◌||◌, Some, None, refl}
+use Rattle.std.specs.Prelude.{◌≡◌, ℕ, ◌==◌, Bool, true, false, List, [], ◌∷◌, ◌||◌, Some, None, filter, refl}
 use Rattle.st_core.specs.declared.types.Pid.{Pid}
 use Rattle.st_core.specs.declared.types.Label.{Label}
 use Rattle.st_core.specs.declared.types.Event.{Event}
@@ -11,6 +11,7 @@ use Rattle.st_order.specs.declared.item.Item.TheVariants as item
 use Rattle.st_order.specs.Items.{height}
 use Rattle.st_order.specs.Order.{key, KeysRise, order}
 use Rattle.st_order.specs.Labels.{label_of, IsByLabel}
+use Rattle.st_order.specs.Turn.{in_turn, is_event_of}
 
 abbrev label_17 : Label
 label_17 = record { 0 = 17 }
@@ -90,6 +91,10 @@ hidden_heights : height hidden_sends a 0
     ∷ [] ≡ 1 ∷ 2 ∷ 3 ∷ 4 ∷ []
 hidden_heights = refl
 
+-- each process's events stand in turn
+hidden_turns : filter (is_event_of a) hidden_order ≡ in_turn a 0 2
+hidden_turns = refl
+
 -- by label they are one list
 six_times : (x : Bool) → (x || false) ≡ (x || (x || (x || (x || (x || (x || false))))))
 six_times true = refl
@@ -105,6 +110,11 @@ low_counts = of a [] ∷ of b (got 1 0 2 a b ∷ got 1 0 1 c b ∷ printed 1 1 2
 low_counts_are : order low_counts
     ≡ item.Hidden b 1 ∷ item.Hidden b 0 ∷ item.Reported b 2 ∷ item.Reported b 0 ∷ item.Reported b 1 ∷ []
 low_counts_are = refl
+
+-- its print doesn't count more than the receives before it, and stands in front of them
+low_counts_out_of_turn : filter (is_event_of b) (order low_counts)
+    ≡ item.Reported b 2 ∷ item.Reported b 0 ∷ item.Reported b 1 ∷ []
+low_counts_out_of_turn = refl
 
 -- a reported send stands before its receive, and neither is hidden
 abbrev passed : List Stream

@@ -5,6 +5,7 @@ pub mod Keys
 pub mod Apart
 pub mod Rising
 pub mod One
+pub mod Turns
 pub mod Insertion
 pub mod Merging
 pub mod RowKeys

@@ -1,7 +1,8 @@
--- What happened by streams, in one order, and by label. Public contracts cite these three.
+-- What happened by streams, in one order, by label, and in each process. Public contracts cite these four.
 pub mod Items
 pub mod Order
 pub mod Labels
+pub mod Turn
 -- For the parts of one module each: `src/row.rt`, `src/sorting.rt` and `src/labels.rt`.
 pub mod Row
 pub mod Sorting
