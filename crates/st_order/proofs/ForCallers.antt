@@ -8,7 +8,8 @@ pub use Rattle.st_order.proofs.One.{one_order, Among, among_all, members}
 pub use Rattle.st_order.proofs.Insertion.{an_order}
 pub use Rattle.st_order.proofs.Rising.{NotFalling, order_from}
 -- ---- the events of a process in turn
-pub use Rattle.st_order.proofs.Turns.{keeps_turn, tallest, tallest_has, all_kept}
+pub use Rattle.st_order.proofs.Turns.{keeps_turn}
+pub use Rattle.st_order.proofs.Lists.{all_right}
 -- ---- the events of a listed process
 pub use Rattle.st_order.proofs.Found.{drop_front, AreFound, all_found}
 -- ---- a receive that no other repeats

@@ -68,7 +68,7 @@ under_less k l u =
 -- HEIGHTS
 
 -- the greatest count of the first n
-abbrev pub tallest : List Event → ℕ → ℕ
+abbrev tallest : List Event → ℕ → ℕ
 tallest es n = greatest (map (λ e. e.serial.this) (take n es))
 
 tallest_grows : (es : List Event) (m n : ℕ) → m ≤ n → tallest es m ≤ tallest es n
@@ -77,7 +77,7 @@ tallest_grows es (suc m) zero less = absurd (omega arith)
 tallest_grows [] (suc m) (suc n) less = omega arith
 tallest_grows (e ∷ es) (suc m) (suc n) less = let rest = tallest_grows es m n (omega arith) in omega arith
 
-pub tallest_has : (es : List Event) (n j : ℕ) (e : Event) → slice_get es j ≡ Some e → j < n
+tallest_has : (es : List Event) (n j : ℕ) (e : Event) → slice_get es j ≡ Some e → j < n
     → e.serial.this ≤ tallest es n
 tallest_has [] n j e at less = absurd (none-some e at)
 tallest_has (d ∷ es) zero j e at less = absurd (omega arith)
@@ -218,7 +218,7 @@ module _ (all : List Stream) (p : Pid) where
 
 -- WHAT IS KEPT OF A LIST
 
-pub all_kept : (P : Item → Type 0) (test : Item → Bool) (xs : List Item) → AllByRecursion P xs
+all_kept : (P : Item → Type 0) (test : Item → Bool) (xs : List Item) → AllByRecursion P xs
     → AllByRecursion P (filter test xs)
 all_kept P test [] all = tt
 all_kept P test (x ∷ xs) all = elim (test x) as (λ b. AllByRecursion P (cond b (x ∷ filter test xs) (filter test xs))) [

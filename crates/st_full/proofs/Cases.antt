@@ -1,0 +1,249 @@
+-- A worked run: the premises of the law, computed. Nothing cites this file; it shows that the definitions say what is
+-- meant.
+use Rattle.std.specs.Prelude.{◌≡◌, ℕ, ◌&&◌, ◌||◌, Bool, true, false, not, List, [], ◌∷◌, ◌++◌, Option, Some, None}
+use Rattle.std.specs.Prelude.{is_some}
+use Rattle.std.proofs.Common.{refl, sym, ◌∙◌, ap}
+use Rattle.std.proofs.lemmas.Bool.{and_parts, false≢true}
+use Rattle.std.proofs.lemmas.List.Elements.{All-from_recursion}
+use Rattle.st_core.specs.declared.types.Pid.{Pid}
+use Rattle.st_core.specs.declared.types.Event.{Event}
+use Rattle.st_core.specs.declared.types.Kind.{Kind}
+use Rattle.st_core.specs.declared.types.Kind.TheVariants as kind
+use Rattle.st_core.specs.declared.types.Act.{Act}
+use Rattle.st_core.specs.declared.types.Act.TheVariants as act
+use Rattle.st_core.specs.declared.types.Component.TheVariants as component
+use Rattle.st_core.specs.declared.types.Want.TheVariants as want
+use Rattle.st_core.specs.Pid.{pid_on}
+use Rattle.st_core.specs.State.{Process, State, process, zero_state}
+use Rattle.st_core.specs.Step.{Outcome, actor}
+use Rattle.st_core.specs.Run.{Shows, Stream, pids_of, run, stream}
+use Rattle.st_core.specs.Laws.{moves_token, NoReset, ReportsEverything}
+use Rattle.st_order.specs.declared.item.Item.{Item}
+use Rattle.st_order.specs.declared.item.Item.TheVariants as item
+use Rattle.st_order.specs.Order.{order}
+use Rattle.st_plan.specs.Moves.{Move, clock, last, moves}
+use Rattle.st_plan.specs.Plain.{IsPlain, out_of_turn, told}
+use Rattle.st_plan.specs.Reasons.{too_wide, uncaused}
+use Rattle.st_full.proofs.Plainness.{full_plain}
+
+abbrev a : Pid
+a = pid_on 0 30
+
+abbrev b : Pid
+b = pid_on 0 31
+
+abbrev event : Kind → ℕ → ℕ → ℕ → Pid → Option Pid → ℕ → Event
+event k label prev this from to value = record {
+  label = record { 0 = label };
+  kind = k;
+  serial = record { prev = prev; this = this };
+  from = from;
+  to = to;
+  value = value;
+}
+
+-- p's token gets a label and all flags
+abbrev started : Pid → ℕ → List Act
+started p n =
+    act.Set p (component.Label (record { 0 = n }))
+    ∷ act.Set p (component.Send true)
+    ∷ act.Set p (component.Receive true)
+    ∷ act.Set p (component.Print true)
+    ∷ []
+
+-- a message there and one back, and then a new trace
+abbrev acts : List Act
+acts = (act.Tracer a true ∷ started a 1) ++ (
+    act.Send a b 5
+    ∷ act.Receive b want.First
+    ∷ act.Print b 8
+    ∷ act.Send b a 6
+    ∷ act.Receive a want.First
+    ∷ act.Clear a
+    ∷ started a 2
+    ) ++ (act.Print a 9 ∷ [])
+
+abbrev streams : List Stream
+streams =
+    record {
+      pid = a;
+      events = event kind.Send 1 0 1 a (Some b) 5
+          ∷ event kind.Receive 1 1 3 b (Some a) 6
+          ∷ event kind.Print 2 3 4 a None 9
+          ∷ [];
+    }
+    ∷ record {
+      pid = b;
+      events = event kind.Receive 1 0 1 a (Some b) 5
+          ∷ event kind.Print 1 1 2 b None 8
+          ∷ event kind.Send 1 1 3 b (Some a) 6
+          ∷ [];
+    }
+    ∷ []
+
+abbrev outcomes_in : Option (List Outcome) → List Outcome
+outcomes_in None = []
+outcomes_in (Some os) = os
+
+abbrev outcomes : List Outcome
+outcomes = outcomes_in (run 9 (pids_of streams) acts)
+
+abbrev in_order : List Item
+in_order =
+    item.Reported a 0
+    ∷ item.Reported b 0
+    ∷ item.Reported b 1
+    ∷ item.Reported b 2
+    ∷ item.Reported a 1
+    ∷ item.Reported a 2
+    ∷ []
+
+order_is : order streams ≡ in_order
+order_is = refl
+
+-- what the function gives at each of these moves, after those before it
+abbrev along : {X : Type 0} → (List Move → Move → X) → List Move → List Move → List X
+along f earlier [] = []
+along f earlier (m ∷ ms) = f earlier m ∷ along f (m ∷ earlier) ms
+
+abbrev in_moves : List Move
+in_moves = moves streams (order streams)
+
+clocks : along (λ e m. clock m.who e) [] in_moves ≡ 0 ∷ 0 ∷ 1 ∷ 2 ∷ 1 ∷ 3 ∷ []
+clocks = refl
+
+lasts : along (λ e m. last m.who e) [] in_moves ≡ 0 ∷ 0 ∷ 1 ∷ 1 ∷ 0 ∷ 3 ∷ []
+lasts = refl
+
+turns : along (λ e m. told m.who e) [] in_moves ≡ 0 ∷ 0 ∷ 1 ∷ 2 ∷ 1 ∷ 2 ∷ []
+turns = refl
+
+reasons : along out_of_turn [] in_moves ++ along uncaused [] in_moves ++ along too_wide [] in_moves
+    ≡ false ∷ false ∷ false ∷ false ∷ false ∷ false ∷ false ∷ false ∷ false
+    ∷ false ∷ false ∷ false ∷ false ∷ false ∷ false ∷ false ∷ false ∷ false ∷ []
+reasons = refl
+
+shown : Shows 9 streams acts
+shown = (
+  outcomes,
+  refl,
+  All-from_recursion (λ (x : Stream). stream acts outcomes x.pid ≡ x.events) streams
+      (refl, (refl, tt)),
+)
+
+no_reset : NoReset acts
+no_reset = (
+  refl,
+  (
+    refl,
+    (
+      refl,
+      (
+        refl,
+        (
+          refl,
+          (
+            refl,
+            (
+              refl,
+              (
+                refl,
+                (
+                  refl,
+                  (
+                    refl,
+                    (
+                      refl,
+                      (
+                        refl,
+                        (
+                          refl,
+                          (
+                            refl,
+                            (
+                              refl,
+                              (refl, tt),
+                            ),
+                          ),
+                        ),
+                      ),
+                    ),
+                  ),
+                ),
+              ),
+            ),
+          ),
+        ),
+      ),
+    ),
+  ),
+)
+
+-- an act by this actor's record is reported if it moves a token
+abbrev is_told : Act → Outcome → Option Process → Bool
+is_told a o None = true
+is_told a o (Some r) = not (moves_token r a) || is_some o.report
+
+-- the same of a run, computed
+abbrev tells : State → List Act → List Outcome → Bool
+tells s [] os = true
+tells s (a ∷ rest) [] = true
+tells s (a ∷ rest) (o ∷ os) = is_told a o (process s (actor a)) && tells o.after rest os
+
+told_if : (moves some : Bool) → (not moves || some) ≡ true → moves ≡ true → some ≡ true
+told_if true some h m = h
+told_if false some h m = absurd (false≢true m)
+
+tells_everything : (s : State) (acts : List Act) (os : List Outcome) → tells s acts os ≡ true
+    → ReportsEverything s acts os
+tells_everything s [] os h = tt
+tells_everything s (a ∷ rest) [] h = tt
+tells_everything s (a ∷ rest) (o ∷ os) h =
+    let parts = and_parts (is_told a o (process s (actor a))) (tells o.after rest os) h in (
+      λ r is. told_if (moves_token r a) (is_some o.report) (ap (is_told a o) (sym is) ∙ parts.0),
+      tells_everything o.after rest os parts.1,
+    )
+
+everything : ReportsEverything (zero_state (pids_of streams)) acts outcomes
+everything = tells_everything (zero_state (pids_of streams)) acts outcomes refl
+
+is_plain : IsPlain 9 streams
+unfolding shown
+is_plain = full_plain 9 streams acts shown ((refl, tt), (tt, tt)) no_reset everything
+
+-- Without 'every stamp' it doesn't hold: two processes send before they receive, and don't report the sends
+abbrev crossing : List Stream
+crossing =
+    record { pid = a; events = event kind.Receive 1 0 1 b (Some a) 4 ∷ [] }
+    ∷ record { pid = b; events = event kind.Receive 1 0 2 a (Some b) 5 ∷ [] }
+    ∷ []
+
+abbrev quiet : Pid → List Act
+quiet p = act.Set p (component.Label (record { 0 = 1 })) ∷ act.Set p (component.Receive true) ∷ []
+
+abbrev crossing_acts : List Act
+crossing_acts = (act.Tracer a true ∷ quiet a) ++ quiet b ++ (
+    act.Print a 0
+    ∷ act.Send a b 5
+    ∷ act.Send b a 4
+    ∷ act.Receive a want.First
+    ∷ act.Receive b want.First
+    ∷ []
+    )
+
+abbrev crossing_outcomes : List Outcome
+crossing_outcomes = outcomes_in (run 9 (pids_of crossing) crossing_acts)
+
+crossing_shown : Shows 9 crossing crossing_acts
+crossing_shown = (
+  crossing_outcomes,
+  refl,
+  All-from_recursion (λ (x : Stream). stream crossing_acts crossing_outcomes x.pid ≡ x.events) crossing
+      (refl, (refl, tt)),
+)
+
+crossing_tells : tells (zero_state (pids_of crossing)) crossing_acts crossing_outcomes ≡ false
+crossing_tells = refl
+
+crossing_uncaused : along uncaused [] (moves crossing (order crossing)) ≡ false ∷ false ∷ true ∷ false ∷ []
+crossing_uncaused = refl
