@@ -1,10 +1,8 @@
 -- Full streams are plain: each stamp counts one more than its process's clock, so nothing is missing, and its
 -- prev is the last count or the clock.
 use Rattle.std.proofs.Common.{◌≡◌, ℕ, zero, suc, ◌+◌, ◌-◌, ◌<◌, ◌≤◌, ◌==◌, ◌&&◌, ◌||◌, nat_lt, Bool, true, false, not}
-use Rattle.std.proofs.Common.{cond}
-use Rattle.std.proofs.Common.{List, [], ◌∷◌, ◌++◌, take, drop, reverse, filter, Some, inl, inr, slice_get, refl, sym}
-use Rattle.std.proofs.Common.{◌∙◌, ap}
-use Rattle.std.proofs.Common.{subst, arith}
+use Rattle.std.proofs.Common.{cond, List, [], ◌∷◌, ◌++◌, take, drop, reverse, filter, Some, inl, inr, slice_get, refl}
+use Rattle.std.proofs.Common.{sym, ◌∙◌, ap, subst, arith}
 use Rattle.std.proofs.lemmas.Bool.{eq-eqb, false≢true}
 use Rattle.std.proofs.lemmas.Bool.Decides.{nat_tests}
 use Rattle.std.proofs.lemmas.Option.{none-some, same_Some}

@@ -1,8 +1,7 @@
 -- What a full run says of its streams: pairing accepts them, each stamp goes on from the events before it, no send is
 -- hidden, and each count is one that a clock has had.
-use Rattle.std.proofs.Common.{◌≡◌, ℕ, ◌+◌, ◌≤◌, ◌==◌, ◌&&◌, Bool, true, false, cond, if◌then◌else◌, ◌≢◌}
-use Rattle.std.proofs.Common.{List, [], ◌∷◌, take, Option, Some, None, slice_get, option_and_then, refl, sym, ◌∙◌, ap}
-use Rattle.std.proofs.Common.{subst}
+use Rattle.std.proofs.Common.{◌≡◌, ℕ, ◌+◌, ◌≤◌, ◌==◌, ◌&&◌, Bool, true, false, cond, if◌then◌else◌, ◌≢◌, List, []}
+use Rattle.std.proofs.Common.{◌∷◌, take, Option, Some, None, slice_get, option_and_then, refl, sym, ◌∙◌, ap, subst}
 use Rattle.std.proofs.Common.{arith}
 use Rattle.std.specs.List.{All}
 use Rattle.std.proofs.lemmas.Bool.{eqb-true, false≢true, and_parts}
