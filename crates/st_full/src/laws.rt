@@ -11,7 +11,7 @@ ghost use Rattle.st_core.specs.State.{zero_state};
 ghost use Rattle.st_plan.specs.Plain.{IsPlain};
 ghost use Rattle.st_full.specs.Full.{IsFull};
 
-/// Streams that tell all are plain: so `audit` answers Fits.
+/// Streams that tell all are plain: the auditor has no reason against them.
 pub fn full_streams_are_plain()
     ensures { (top : ℕ) (streams : List Stream) → IsRising (pids_of streams) → IsFull top streams
         → IsPlain top streams }
@@ -25,7 +25,7 @@ pub fn full_runs_have_full_streams()
 {}
 
 /// Where acts without a reset show streams and report every stamp and every receive of a token, the
-/// streams are plain: so `audit` answers Fits.
+/// streams are plain: the auditor has no reason against them.
 pub fn full_runs_are_plain()
     ensures { (top : ℕ) (streams : List Stream) (acts : List Act) (shows : Shows top streams acts)
         → IsRising (pids_of streams) → NoReset acts
