@@ -28,7 +28,7 @@ pub use Rattle.st_core.proofs.Clocks.{reported_sends_agree}
 -- ---- what every run without a reset keeps
 pub use Rattle.st_core.proofs.Clocks.{reported_stamps_lift, followed_sends_lift, lifted_once, lifted_later}
 -- ---- what every run that reports all stamps and all receives of tokens keeps
-pub use Rattle.st_core.proofs.FullReports.{tell_counts, have_sends}
+pub use Rattle.st_core.proofs.FullReports.{tell_counts, have_sends, greatest_push, prev_push}
 -- ---- the numbers of the sends in the queues
 pub use Rattle.st_core.proofs.Tags.{no_tags}
 pub use Rattle.st_core.proofs.Queues.{IsTag, AreTags, no_tags_are, receive_none, receive_some, tags_step}

@@ -185,12 +185,12 @@ told_same es l m same told = record {
   last = elim told.last [ inl x ↦ inl (same.last ∙ x) | inr x ↦ inr (same.last ∙ x ∙ sym same.clock) ];
 }
 
-greatest_push : (es : List Event) (e : Event)
+pub greatest_push : (es : List Event) (e : Event)
     → greatest_count (es ++ e ∷ []) ≡ max (greatest_count es) e.serial.this
 greatest_push [] e = omega arith
 greatest_push (d ∷ es) e = let rest = greatest_push es e in omega arith
 
-prev_push : (es : List Event) (e : Event) → prev_after (es ++ e ∷ []) ≡ prev_after (e ∷ [])
+pub prev_push : (es : List Event) (e : Event) → prev_after (es ++ e ∷ []) ≡ prev_after (e ∷ [])
 prev_push [] e = refl
 prev_push (d ∷ []) e = refl
 prev_push (d ∷ f ∷ es) e = prev_push (f ∷ es) e

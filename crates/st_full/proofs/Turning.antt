@@ -6,8 +6,7 @@ use Rattle.std.proofs.Common.{ap, subst, arith}
 use Rattle.std.specs.List.{AllByRecursion}
 use Rattle.std.proofs.lemmas.Bool.{false≢true}
 use Rattle.std.proofs.lemmas.List.{reverse-append}
-use Rattle.std.proofs.lemmas.Option.{get_or_from_slice_get, none-some, same_Some, slice_get_within}
-use Rattle.std.proofs.Math.Seq.{take-suc}
+use Rattle.std.proofs.lemmas.Option.{none-some, same_Some}
 use Rattle.st_core.specs.declared.types.Pid.{Pid}
 use Rattle.st_core.specs.declared.types.Kind.TheVariants as kind
 use Rattle.st_core.specs.declared.types.Event.{Event}
@@ -15,7 +14,7 @@ use Rattle.st_core.specs.Pid.{pid_eq, IsRising}
 use Rattle.st_core.specs.Run.{Stream, pids_of}
 use Rattle.st_core.specs.Streams.{events_of}
 use Rattle.st_core.specs.Laws.{greatest_count, prev_after}
-use Rattle.st_core.proofs.ForCallers.{pid_same}
+use Rattle.st_core.proofs.ForCallers.{greatest_push, pid_same, prev_push}
 use Rattle.st_pair.specs.Places.{event_at, is_stamp}
 use Rattle.st_order.specs.declared.item.Item.{Item}
 use Rattle.st_order.specs.declared.item.Item.TheVariants as item
@@ -25,22 +24,7 @@ use Rattle.st_order.specs.Turn.{in_turn, is_event_of, StampsLead}
 use Rattle.st_order.proofs.ForCallers.{all_right, drop_front, keeps_turn}
 use Rattle.st_plan.specs.Moves.{Move, clock, last, move_by, moves}
 use Rattle.st_plan.specs.Plain.{told}
-use Rattle.st_plan.proofs.ForCallers.{IsThere, one_move, order_there}
-
--- EVENTS, ONE MORE AT THE END
-
-take_more : (es : List Event) (n : ℕ) (e : Event) → slice_get es n ≡ Some e → take (suc n) es ≡ take n es ++ e ∷ []
-take_more es n e at = take-suc es n e (slice_get_within es n e at)
-    ∙ ap (λ x. take n es ++ x ∷ []) (get_or_from_slice_get es n e e at)
-
-greatest_push : (es : List Event) (e : Event) → greatest_count (es ++ e ∷ []) ≡ max (greatest_count es) e.serial.this
-greatest_push [] e = omega arith
-greatest_push (d ∷ es) e = let rest = greatest_push es e in omega arith
-
-prev_push : (es : List Event) (e : Event) → prev_after (es ++ e ∷ []) ≡ prev_after (e ∷ [])
-prev_push [] e = refl
-prev_push (d ∷ []) e = refl
-prev_push (d ∷ f ∷ es) e = prev_push (f ∷ es) e
+use Rattle.st_plan.proofs.ForCallers.{take_more, IsThere, one_move, order_there}
 
 -- MOVES IN TURN
 

@@ -3,12 +3,14 @@
 
 -- ---- keys, and what comes before what
 pub use Rattle.st_order.proofs.Keys.{key_total, IsKeyed, items_keyed, comes_before_is, one_way, chain}
+pub use Rattle.st_order.proofs.Keys.{hidden_receives}
 -- ---- the one order
 pub use Rattle.st_order.proofs.One.{one_order, Among, among_all, members}
 pub use Rattle.st_order.proofs.Insertion.{an_order}
 pub use Rattle.st_order.proofs.Rising.{NotFalling, order_from}
 -- ---- the events of a process in turn
-pub use Rattle.st_order.proofs.Turns.{keeps_turn}
+pub use Rattle.st_order.proofs.Turns.{keeps_turn, tallest_has}
+pub use Rattle.st_order.proofs.RowKeys.{greatest_more}
 pub use Rattle.st_order.proofs.Lists.{all_right}
 -- ---- the events of a listed process
 pub use Rattle.st_order.proofs.Found.{drop_front, AreFound, all_found}

@@ -122,7 +122,7 @@ before_from streams x y a b apart h =
 above_zero : (i : ℕ) → (i + 1 == 0) ≡ false
 above_zero i = grind (arith, nat_tests)
 
-hidden_receives : (streams : List Stream) (e : Event) → is_hidden streams e ≡ true → is_stamp e ≡ false
+pub hidden_receives : (streams : List Stream) (e : Event) → is_hidden streams e ≡ true → is_stamp e ≡ false
 hidden_receives streams e h = elim (is_stamp e) as
     (λ b. cond b false (elim (source_of streams e) [ source.Hidden ↦ true | source.Event q j ↦ false ]) ≡ true
     → b ≡ false) [

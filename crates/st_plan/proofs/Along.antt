@@ -1,7 +1,7 @@
 -- What stands before an item in the order has a lower key; so the counts of a hidden send's process before it are
 -- lower than its own.
 use Rattle.std.proofs.Common.{◌≡◌, ℕ, zero, suc, ◌+◌, ◌<◌, ◌≤◌, ◌⊎◌, inl, inr, max, true, false, cond}
-use Rattle.std.proofs.Common.{List, [], ◌∷◌, ◌++◌, map, take, drop, reverse, Option, Some, None, option_map, slice_get}
+use Rattle.std.proofs.Common.{List, [], ◌∷◌, ◌++◌, take, drop, reverse, Option, Some, None, option_map, slice_get}
 use Rattle.std.proofs.Common.{refl, sym, ◌∙◌, ap, subst, arith}
 use Rattle.std.specs.List.{AllByRecursion}
 use Rattle.std.specs.declared.cmp.Ordering.{Ordering}
@@ -20,9 +20,10 @@ use Rattle.st_core.proofs.ForCallers.{all_at, pid_cmp-same, pid_same}
 use Rattle.st_pair.specs.Places.{event_at}
 use Rattle.st_order.specs.declared.item.Item.{Item}
 use Rattle.st_order.specs.declared.item.Item.TheVariants as item
-use Rattle.st_order.specs.Items.{event_of, greatest, height, is_hidden, items, items_among, items_at, items_from}
+use Rattle.st_order.specs.Items.{event_of, height, is_hidden, items, items_among, items_at, items_from}
 use Rattle.st_order.specs.Order.{comes_before, Key, key, key_by, key_cmp, IsOrder, KeysRise}
-use Rattle.st_order.proofs.ForCallers.{all_found, among_all, comes_before_is, drop_front, members, Among, AreFound}
+use Rattle.st_order.proofs.ForCallers.{all_found, among_all, comes_before_is, drop_front, members, tallest_has, Among}
+use Rattle.st_order.proofs.ForCallers.{AreFound}
 use Rattle.st_plan.specs.Moves.{Move, clock, earlier_of, move_by, moves}
 
 -- LISTS
@@ -197,23 +198,12 @@ all_before streams (y ∷ xs) (suc n) x rise at =
 
 -- HEIGHTS
 
-pub event_below : (es : List Event) (n j : ℕ) (e : Event) → slice_get es j ≡ Some e → j < n
-    → e.serial.this ≤ greatest (map (λ (x : Event). x.serial.this) (take n es))
-event_below [] n j e at less = absurd (none-some e at)
-event_below (d ∷ es) zero j e at less = absurd (omega arith)
-event_below (d ∷ es) (suc n) zero e at less =
-    let same = ap (λ (x : Event). x.serial.this) (same_Some d e at) in
-    omega arith
-event_below (d ∷ es) (suc n) (suc j) e at less =
-    let rest = event_below es n j e at (omega arith) in
-    omega arith
-
 -- an item of a hidden send's process with a lower key has a lower count
 pub hidden_above : (streams : List Stream) (y : Item) (d : Event) (p : Pid) (i : ℕ) (e : Event) → IsAt streams y d
     → IsKeyBelow (key_by streams y d) (key_by streams (item.Hidden p i) e) → (move_by y d).who ≡ e.from
     → d.serial.this < e.serial.this
 hidden_above streams (item.Reported q j) d p i e at below who =
-    let low = event_below (events_of streams q) (j + 1) j d at (omega arith) in
+    let low = tallest_has (events_of streams q) (j + 1) j d at (omega arith) in
     let one = below.height in
     elim (cases_order (height streams q j) e.serial.this) [
       | inl same ↦

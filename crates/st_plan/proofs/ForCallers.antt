@@ -2,7 +2,8 @@
 -- what the moves say of the machine, on each move of plain streams, and on what the acts before a stamp do.
 
 -- ---- the moves along an order
-pub use Rattle.st_plan.proofs.Along.{moves_append, one_move, earlier_more, order_there, hidden_clock, IsAt, IsThere}
+pub use Rattle.st_plan.proofs.Along.{take_more, moves_append, one_move, earlier_more, order_there, hidden_clock, IsAt}
+pub use Rattle.st_plan.proofs.Along.{IsThere}
 -- ---- acts as steps of the machine
 pub use Rattle.st_plan.proofs.Lift.{step_is, run_append, state_append, lifted, stream_silent, Lifted, Silent}
 -- ---- what the moves say of the machine, from the first acts on

@@ -2,9 +2,8 @@
 -- reported one has a lower index, and a hidden one another count.
 use Rattle.std.proofs.Common.{◌≡◌, ℕ, zero, suc, ◌+◌, ◌<◌, ◌≤◌, ◌==◌, ◌&&◌, max, Bool, true, false, cond, List, [], ◌∷◌}
 use Rattle.std.proofs.Common.{map, take, Option, Some, None, inl, inr, refl, sym, ◌∙◌, ap, arith, if◌then◌else◌}
-use Rattle.std.specs.List.{slice_get}
 use Rattle.std.proofs.lemmas.Bool.{eq-eqb, and_from, false≢true, cases_order, cases_lt}
-use Rattle.std.proofs.lemmas.Option.{same_Some, none-some}
+use Rattle.std.proofs.lemmas.Option.{none-some}
 use Rattle.st_core.specs.declared.types.Pid.{Pid}
 use Rattle.st_core.specs.declared.types.Event.{Event}
 use Rattle.st_core.specs.Run.{Stream}
@@ -18,8 +17,9 @@ use Rattle.st_order.specs.declared.item.Item.{Item}
 use Rattle.st_order.specs.declared.item.Item.TheVariants as item
 use Rattle.st_order.specs.Items.{greatest, height, is_hidden}
 use Rattle.st_order.specs.Order.{key_by}
+use Rattle.st_order.proofs.ForCallers.{greatest_more, tallest_has}
 use Rattle.st_plan.specs.Moves.{move_by}
-use Rattle.st_plan.proofs.Along.{event_below, hidden_above, IsAt, IsKeyBelow}
+use Rattle.st_plan.proofs.Along.{hidden_above, IsAt, IsKeyBelow}
 
 -- HEIGHTS
 
@@ -27,15 +27,8 @@ use Rattle.st_plan.proofs.Along.{event_below, hidden_above, IsAt, IsKeyBelow}
 abbrev pub height_of : List Stream → Pid → ℕ → ℕ
 height_of streams p n = greatest (map (λ (e : Event). e.serial.this) (take n (events_of streams p)))
 
-greatest_more : (es : List Event) (n : ℕ) (e : Event) → slice_get es n ≡ Some e
-    → greatest (map (λ (x : Event). x.serial.this) (take (suc n) es))
-    ≡ max (greatest (map (λ (x : Event). x.serial.this) (take n es))) e.serial.this
-greatest_more [] n e at = absurd (none-some e at)
-greatest_more (d ∷ es) zero e at = let same = ap (λ (x : Event). x.serial.this) (same_Some d e at) in omega arith
-greatest_more (d ∷ es) (suc n) e at = let rest = greatest_more es n e at in omega arith
-
 pub height_more : (streams : List Stream) (p : Pid) (n : ℕ) (e : Event) → event_at streams p n ≡ Some e
-    → height_of streams p (suc n) ≡ max (height_of streams p n) e.serial.this
+    → height_of streams p (suc n) ≡ max e.serial.this (height_of streams p n)
 height_more streams p n e at = greatest_more (events_of streams p) n e at
 
 -- the item stamps
@@ -100,7 +93,7 @@ pub this_below : (streams : List Stream) (y x : Item) (d e : Event) → IsAt str
     → d.serial.this < e.serial.this
 this_below streams (item.Reported q j) (item.Reported p i) d e at_d at_e stamps tops below who =
     let top = tops stamps in
-    let here : height streams p i ≡ max (height_of streams p i) e.serial.this =
+    let here : height streams p i ≡ max e.serial.this (height_of streams p i) =
     height_is streams p i ∙ height_more streams p i e at_e in
     let there = height_is streams q j in
     let one = below.height in
@@ -119,12 +112,12 @@ this_below streams (item.Reported q j) (item.Reported p i) d e at_d at_e stamps 
           let place = below.place equal ranks who in
           absurd (omega arith)
     ] in
-    let low = event_below (events_of streams q) i j d at_d less in
+    let low = tallest_has (events_of streams q) i j d at_d less in
     let same : height_of streams q i ≡ height_of streams p i = ap (λ r. height_of streams r i) who in
     omega arith
 this_below streams (item.Hidden a b) (item.Reported p i) d e at_d at_e stamps tops below who =
     let top = tops stamps in
-    let here : height streams p i ≡ max (height_of streams p i) e.serial.this =
+    let here : height streams p i ≡ max e.serial.this (height_of streams p i) =
     height_is streams p i ∙ height_more streams p i e at_e in
     let one = below.height in
     elim (cases_order d.serial.this e.serial.this) [

@@ -17,6 +17,7 @@ use Rattle.st_pair.proofs.ForCallers.{serial_rises, IsPaired}
 use Rattle.st_order.specs.declared.item.Item.{Item}
 use Rattle.st_order.specs.declared.item.Item.TheVariants as item
 use Rattle.st_order.specs.Items.{is_hidden}
+use Rattle.st_order.proofs.ForCallers.{hidden_receives}
 use Rattle.st_plan.specs.Moves.{Move, clock, is_taking, move_by, moves}
 use Rattle.st_plan.specs.Reasons.{uncaused}
 use Rattle.st_plan.specs.Build.{flags_of}
@@ -26,7 +27,7 @@ use Rattle.st_plan.proofs.Stamping.{printed_event, printing, sending, sent_event
 use Rattle.st_plan.proofs.Taking.{taking, IsWaiting}
 use Rattle.st_plan.proofs.Free.{AllAlong, IsFree}
 use Rattle.st_plan.proofs.Built.{Serves}
-use Rattle.st_plan.proofs.Sources.{hidden_receives, stamp_kind}
+use Rattle.st_plan.proofs.Sources.{stamp_kind}
 use Rattle.st_plan.proofs.Orderly.{AreThere, IsClockBelow, Waits}
 use Rattle.st_plan.proofs.Proper.{AreProper, Got, IsProper, Printed, Sent}
 

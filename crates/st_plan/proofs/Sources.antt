@@ -22,10 +22,11 @@ use Rattle.st_order.specs.declared.item.Item.{Item}
 use Rattle.st_order.specs.declared.item.Item.TheVariants as item
 use Rattle.st_order.specs.Items.{height, is_hidden}
 use Rattle.st_order.specs.Order.{key_by}
+use Rattle.st_order.proofs.ForCallers.{hidden_receives, tallest_has}
 use Rattle.st_plan.specs.Moves.{Move, move_by}
 use Rattle.st_plan.specs.Build.{quiet}
 use Rattle.st_plan.proofs.Taking.{IsWaiting}
-use Rattle.st_plan.proofs.Along.{event_below, IsAt, IsKeyBelow}
+use Rattle.st_plan.proofs.Along.{IsAt, IsKeyBelow}
 use Rattle.st_plan.proofs.Rising.{height_is, height_more, height_of, hidden_by, rank_of, source_by, IsTop}
 use Rattle.st_plan.proofs.Clocks.{HasCome, IsBelow}
 use Rattle.st_plan.proofs.Waiting.{is_waiting, Fits, IsSendTo}
@@ -91,7 +92,7 @@ not_after : (streams : List Stream) (p : Pid) (i : ℕ) (e : Event) (x : Item) (
 not_after streams p i e x d at receive high low below =
     let one = below.height in
     let mine = height_is streams p i in
-    let least = event_below (events_of streams p) (suc i) i e at (omega arith) in
+    let least = tallest_has (events_of streams p) (suc i) i e at (omega arith) in
     let rank = below.rank (omega arith) in
     let ranked = receive_rank e receive in
     omega arith
@@ -130,7 +131,7 @@ source_item streams ok tops p i e r =
           let count = eqb-true f.serial.this e.serial.this tests.1 in
           let top = tops (item.Reported e.from found.0) f found.2 tests.0 in
           let agreed = matched_send streams ok p i e e.from found.0 f r.at receive found.2 tests.0 refl count in
-          let high : height streams e.from found.0 ≡ max (height_of streams e.from found.0) f.serial.this =
+          let high : height streams e.from found.0 ≡ max f.serial.this (height_of streams e.from found.0) =
           height_is streams e.from found.0 ∙ height_more streams e.from found.0 f found.2 in
           let ranked : rank_of f ≡ 0 = ap (λ b. let n : ℕ = if b then 0 else 1 in n) tests.0 in
           record {
@@ -148,13 +149,6 @@ source_item streams ok tops p i e r =
     ] refl
 
 -- EACH SEND WITH ITS FROM AND COUNT
-
-pub hidden_receives : (streams : List Stream) (d : Event) → is_hidden streams d ≡ true → is_stamp d ≡ false
-hidden_receives streams d h =
-    elim (is_stamp d) as (λ b. (if b then false else hidden_by (source_of streams d)) ≡ true → b ≡ false) [
-      | true ↦ λ h. absurd (false≢true h)
-      | false ↦ λ h. refl
-    ] h
 
 fits_by : (streams : List Stream) → IsPaired streams → (p : Pid) (i : ℕ) (e : Event) → IsReceive streams p i e
     → (x : Item) (d : Event) → IsAt streams x d → IsSendTo p e.from e.serial.this (move_by x d)
