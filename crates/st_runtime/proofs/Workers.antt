@@ -1,11 +1,19 @@
 -- What became of each task is what its worker's promise says.
 use Rattle.std.proofs.Common.{◌≡◌, ℕ, suc, ◌<◌, List, [], ◌∷◌, length, map, get_or, refl, ap, subst}
-use Rattle.std.proofs.Common.{arith}
+use Rattle.std.proofs.Common.{arith, ◌++◌, ◌≢◌, ◌↔◌, ◌∙◌, sym, Bool, true, false, Result, Err}
 use Rattle.std.specs.List.{AllZip, zip}
 use Rattle.st_core.specs.declared.types.Act.{Act}
 use Rattle.st_core.specs.declared.types.Pid.{Pid}
+use Rattle.st_core.specs.declared.types.Reply.{Reply}
+use Rattle.st_core.specs.Pid.{pid_eq}
+use Rattle.st_core.specs.Step.{actor}
+use Rattle.st_core.proofs.ForCallers.{pid_eq-true, pid_eq-same}
+use Rattle.st_runtime.specs.declared.fault.ActFault.{ActFault}
+use Rattle.st_runtime.specs.declared.fault.ActFault.TheVariants as fault
 use Rattle.st_runtime.specs.declared.worker.Ending.{Ending}
-use Rattle.st_runtime.specs.Working.{IsWorked}
+use Rattle.st_runtime.specs.Driven.{IsOwn}
+use Rattle.st_runtime.specs.System.{knows}
+use Rattle.st_runtime.specs.Working.{acts_of, IsWorked}
 
 abbrev pub Task : Type 0
 Task = Pid × List Act
@@ -36,3 +44,30 @@ pub zip_map : {A B C : Type 0} (f : A → C) (xs : List A) (ys : List B)
 zip_map f [] ys = refl
 zip_map f (x ∷ xs) [] = refl
 zip_map f (x ∷ xs) (y ∷ ys) = ap (λ rest. (f x, y) ∷ rest) (zip_map f xs ys)
+
+same_unless : (p q : Pid) → ¬ (p ≢ q) → p ≡ q
+same_unless p q alike =
+    elim (pid_eq p q) as (λ b. pid_eq p q ≡ b → p ≡ q) [
+      | true ↦ λ is. pid_eq-true p q is
+      | false ↦ λ is. absurd (alike (λ same. let one : pid_eq p q ≡ true = ap (λ r. pid_eq p r) (sym same) ∙ pid_eq-same p in cc))
+    ] refl
+
+known_unless : (b : Bool) → ¬ (b ≡ false) → b ≡ true
+known_unless true h = refl
+known_unless false h = absurd (h refl)
+
+-- an act that was refused neither as another's nor as unknown
+pub own_act : (pids : List Pid) (p : Pid) (a : Act) (r : Result Reply ActFault)
+    → (r ≡ Err fault.NotYours) ↔ (actor a ≢ p)
+    → (r ≡ Err fault.Unknown) ↔ ((actor a ≡ p) × (knows pids a ≡ false))
+    → ((f : ActFault) → r ≢ Err f) → IsOwn pids p a
+own_act pids p a r not_yours unknown done =
+    let mine : actor a ≡ p = same_unless (actor a) p (λ apart. done fault.NotYours (not_yours.1 apart)) in
+    record {
+      mine = mine;
+      known = known_unless (knows pids a) (λ not. done fault.Unknown (unknown.1 (mine, not)));
+    }
+
+pub acts_push : (cs : List (Act × Reply)) (a : Act) (y : Reply) → acts_of (cs ++ (a, y) ∷ []) ≡ acts_of cs ++ a ∷ []
+acts_push [] a y = refl
+acts_push (c ∷ cs) a y = ap (λ rest. c.0 ∷ rest) (acts_push cs a y)

@@ -1,6 +1,6 @@
 -- Scripts that are driven: what a record of them says, and what each refusal says of them.
 use Rattle.std.specs.Prelude.{◌≡◌, ◌≢◌, ◌↔◌, ℕ, ◌<◌, true, false, List, map, filter, length, sum_by, count_by}
-use Rattle.std.specs.Prelude.{Contains, zip, slice_get, Some}
+use Rattle.std.specs.Prelude.{All, Contains, zip, take, slice_get, Some}
 use Rattle.st_core.specs.declared.types.Pid.{Pid}
 use Rattle.st_core.specs.declared.types.Act.{Act}
 use Rattle.st_core.specs.Pid.{pid_eq, IsRising}
@@ -37,13 +37,20 @@ acts_in scripts = sum_by (λ script. length script) scripts
 abbrev pub stamps_in : List (List Act) → ℕ
 stamps_in scripts = sum_by (λ script. count_by is_stamping script) scripts
 
--- Act n of p's script is refused so in a system of these pids: NotYours and Unknown exactly where they hold.
+-- p may make the act in a system of these pids
+pub record IsOwn (pids : List Pid) (p : Pid) (a : Act) : Type 0 where
+  pub mine : actor a ≡ p
+  pub known : knows pids a ≡ true
+
+-- Act n of p's script is refused so in a system of these pids: NotYours and Unknown exactly where they hold, and for no
+-- act before it.
 pub record IsRefused (pids : List Pid) (p : Pid) (script : List Act) (n : ℕ) (f : ActFault) : Type 0 where
   pub asked : Act
   pub place : slice_get script n ≡ Some asked
   pub not_yours : (f ≡ act.NotYours) ↔ (actor asked ≢ p)
   pub unknown : (f ≡ act.Unknown) ↔ ((actor asked ≡ p) × (knows pids asked ≡ false))
   pub clock : f ≡ act.ClockFull → is_stamping asked ≡ true
+  pub before : All (IsOwn pids p) (take n script)
 
 -- A full clock or rank takes more acts than it counts to. Want of memory is a refusal of its own.
 abbrev pub IsPossible : ℕ → ℕ → List (List Act) → ActFault → Type 0

@@ -1,5 +1,7 @@
--- The seat is still the process's, and holds the script's acts so far.
+-- The seat is still the process's, and holds the script's acts so far, which are its own.
 use Rattle.std.proofs.Common.{◌≡◌, take, length}
+use Rattle.std.specs.Prelude.{All}
+use Rattle.st_runtime.specs.Driven.{IsOwn}
 use Rattle.st_runtime.specs.Working.{acts_of}
 use Rattle.st_runtime.proofs.worker.played.Given as goal
 
@@ -8,3 +10,4 @@ invariant-loop-act g l =
     (l.seat.pid ≡ l.initial.seat.pid)
     × (acts_of l.seat.mine ≡ take l.act-index l.script)
     × (length l.seat.mine ≡ l.act-index)
+    × All (IsOwn l.system l.initial.seat.pid) (take l.act-index l.script)
