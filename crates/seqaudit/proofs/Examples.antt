@@ -5,6 +5,7 @@ use Rattle.st_core.specs.Pid.{pid_on}
 use Rattle.st_core.specs.Verdict.{Stuck, Differs, Left, Yes}
 use Rattle.st_text.specs.declared.fault.ReadFault.TheVariants as faults
 use Rattle.seqaudit.specs.Output.{judged, refused, no_acts, usage}
+use Rattle.seqaudit.specs.Recorded.{act_fault}
 
 two_pairs : (judged (Yes ((9, 4) ∷ (10, 8) ∷ []))).text ≡ codes "yes\npair 9 4\npair 10 8\n"
 unfolding digits
@@ -32,3 +33,7 @@ too_many = refl
 statuses : (judged (Yes [])).status ∷ (judged (Stuck 0)).status ∷ no_acts.status ∷ (refused faults.Truncated).status
     ∷ usage.status ∷ (refused faults.Memory).status ∷ [] ≡ 0 ∷ 1 ∷ 2 ∷ 2 ∷ 3 ∷ 4 ∷ []
 statuses = refl
+
+refused_act : (act_fault (pid_on 1 30) 4).text ≡ codes "fault act <1.30.0> 4\n"
+unfolding digits
+refused_act = refl
