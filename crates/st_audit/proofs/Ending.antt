@@ -44,7 +44,7 @@ place_there streams xs n d at rising order within is =
     (slice_get-get_or xs n d within) in
     subst (λ (p : Pid × ℕ). IsSome (event_at streams p.0 p.1)) (sym is) (place_some streams x there.0 there.1)
 
-cut : {A : Type 0} (xs : List A) (n : ℕ) (x : A) → slice_get xs n ≡ Some x → xs ≡ take n xs ++ x ∷ drop (suc n) xs
+pub cut : {A : Type 0} (xs : List A) (n : ℕ) (x : A) → slice_get xs n ≡ Some x → xs ≡ take n xs ++ x ∷ drop (suc n) xs
 cut [] n x at = absurd (none-some x at)
 cut (y ∷ xs) zero x at = ap (λ z. z ∷ xs) (same_Some y x at)
 cut (y ∷ xs) (suc n) x at = ap (λ zs. y ∷ zs) (cut xs n x at)

@@ -2,7 +2,9 @@ mod Counts
 mod Widening
 mod Moved
 mod Next
+mod Running
 mod Opened
+mod Opening
 mod Nothing
 mod Refused
 mod Finality

@@ -54,3 +54,8 @@ fault_of (finding.Unfit p i (reason.NotRising j)) = Some (fault.NotRising p i j)
 fault_of (finding.Unfit p i (reason.Repeated q j)) = Some (fault.Repeated p i q j)
 fault_of (finding.Unfit p i (reason.Mismatch q j)) = Some (fault.Mismatch p i q j)
 fault_of found = None
+
+-- what is found is a certificate
+abbrev pub IsFit : Finding → Type 0
+IsFit (finding.Fits acts pairs) = Unit {0}
+IsFit (finding.Unfit p i r) = ⊥

@@ -1,6 +1,6 @@
 -- For the parts alone: what the construction keeps along the items, and what it did for one of them.
 use Rattle.std.specs.Prelude.{◌≡◌, ℕ, ◌+◌, ◌-◌, ◌==◌, ◌&&◌, ◌||◌, nat_lt, Bool, true, false, not, List}
-use Rattle.std.specs.Prelude.{Some}
+use Rattle.std.specs.Prelude.{[], ◌∷◌, ◌++◌, ◌<◌, ◌^◌, slice_get, Some, IfErr, IfOk, IsSome, OnOk, Result}
 use Rattle.st_core.specs.declared.types.Pid.{Pid}
 use Rattle.st_core.specs.declared.types.Event.{Event}
 use Rattle.st_core.specs.declared.types.Flags.{Flags}
@@ -10,7 +10,7 @@ use Rattle.st_core.specs.declared.types.Act.{Act}
 use Rattle.st_core.specs.declared.types.Act.TheVariants as act
 use Rattle.st_core.specs.State.{LocalState, Process, State, process}
 use Rattle.st_core.specs.Step.{Outcome, step}
-use Rattle.st_core.specs.Run.{Stream, run_from}
+use Rattle.st_core.specs.Run.{Stream, pids_of, run_from}
 use Rattle.st_mail.specs.declared.outcome.Outcome.{Outcome as Told}
 use Rattle.st_world.specs.World.{outcome_to}
 use Rattle.st_pair.specs.Places.{event_at, is_stamp}
@@ -22,6 +22,7 @@ use Rattle.st_audit.specs.declared.construction.Halt.TheVariants as halt
 use Rattle.st_plan.specs.Moves.{Move, move_by, clock, earlier_of, last, skips}
 use Rattle.st_plan.specs.Reasons.{most_skipped, most_skipped_in_all, uncaused, too_wide}
 use Rattle.st_plan.specs.Build.{start_of, ready, state_after}
+use Rattle.st_plan.specs.Plain.{told}
 
 -- p's clock and last count are what the moves so far make of them
 pub record IsCounted (earlier : List Move) (p : Pid) (l : LocalState) : Type 0 where
@@ -145,3 +146,36 @@ abbrev pub IsHalt : List Stream → List Item → Item → Halt → Type 0
 IsHalt streams xs x halt.Uncaused = HoldsOf uncaused streams xs x
 IsHalt streams xs x halt.TooWide = HoldsOf too_wide streams xs x
 IsHalt streams xs x h = Unit {0}
+
+-- no halt for want of a way on
+abbrev pub IsNoStop : Halt → Type 0
+IsNoStop halt.Stopped = ⊥
+IsNoStop h = Unit {0}
+
+-- the acts that bring a process to stand ready for the event's serial, and the stamp
+abbrev pub stamping : Pid → Process → Event → Flags → Act → List Act
+stamping p r e f a = ready p (start_of r.local) e.label e.serial f ++ a ∷ []
+
+-- the acts ran, and the last of them told this
+pub record RanTo (top : ℕ) (old : State) (acts : List Act) (told : Told) (new : State) : Type 0 where
+  pub outcomes : List Outcome
+  pub runs : run_from top old acts ≡ Some (outcomes ++ outcome_to told new ∷ [])
+
+-- this plan was performed, and nothing stops it where it runs
+pub record Makes (top : ℕ) (plan : List Act) (old : State) (before : List Act) (r : Result Told Halt) (new : State)
+    (acts : List Act) : Type 0 where
+  pub ran : IfOk r (λ told. RanTo top old plan told new)
+  pub put : OnOk r (acts ≡ before ++ plan)
+  pub goes : IsSome (run_from top old plan) → IfErr r IsNoStop
+
+-- acts with these outcomes were put at the end, and nothing stopped them
+pub record Follows (T : Type 0) (plan : List Act) (os : List Outcome) (old : State) (before : List Act)
+    (r : Result T Halt) (new : State) (acts : List Act) : Type 0 where
+  pub goes : IfErr r IsNoStop
+  pub put : OnOk r (acts ≡ before ++ plan)
+  pub after : OnOk r (new ≡ state_after old os)
+
+-- the counts are of the events that these moves report, as long as 64 bits hold these
+abbrev pub AreTold : List Stream → List Move → List ℕ → Type 0
+AreTold streams earlier counts = (k : ℕ) (p : Pid) → slice_get (pids_of streams) k ≡ Some p
+    → told p earlier < 2 ^ 64 → slice_get counts k ≡ Some (told p earlier)

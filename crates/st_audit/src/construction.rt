@@ -6,9 +6,9 @@
 //! doesn't go the way of the streams; what the acts are then worth is the checker's to say.
 
 ghost use Rattle.std.specs.Prelude.{◌≡◌, ◌+◌, ◌++◌, ◌<◌, ◌↔◌, [], ◌∷◌, length, option_map};
-ghost use Rattle.std.specs.Prelude.{IfErr, IfOk, IsTrue, None, List, OnOk, Some, true, take, slice_get};
+ghost use Rattle.std.specs.Prelude.{IfErr, IfOk, IsSome, IsTrue, None, List, OnOk, Some, true, take, slice_get};
 ghost use Rattle.std.specs.Prelude.{if◌then◌else◌};
-ghost use Rattle.st_core.specs.Run.{Stream};
+ghost use Rattle.st_core.specs.Run.{run_from, Stream};
 ghost use Rattle.st_core.specs.State.{process};
 ghost use Rattle.st_core.specs.Step.{step};
 ghost use Rattle.st_core.specs.Streams.{IsStreams};
@@ -19,11 +19,12 @@ ghost use Rattle.st_order.specs.declared.item.Item.{Item as ItemValue};
 ghost use Rattle.st_order.specs.declared.item.Item.TheVariants as item;
 ghost use Rattle.st_order.specs.Order.{IsOrder};
 ghost use Rattle.st_world.specs.World.{outcome_to};
-ghost use Rattle.st_plan.specs.Build.{flags_of, start_of};
+ghost use Rattle.st_plan.specs.Build.{flags_of, start_of, tracers_after};
 ghost use Rattle.st_plan.specs.Moves.{move_by};
 ghost use Rattle.st_audit.specs.Progress.{is_too_wide, is_uncaused, missing, AreCounted, IsHalt};
 ghost use Rattle.st_audit.specs.Progress.{IsActed, IsActHalt, IsHiddenDone, IsPlainHalt, IsReportedDone, IsSoFar};
 ghost use Rattle.st_audit.specs.Progress.{IsStamped, IsStampHalt, IsStampHaltAt, IsStampOf, IsTaken, Ran};
+ghost use Rattle.st_audit.specs.Progress.{IsNoStop};
 
 use st_core::{Act, Event, Flags, Kind, Pid, Sequence, Serial, Streams, Want};
 use st_order::Item;
@@ -166,6 +167,10 @@ impl<const TOP: u64> Construction<TOP> {
     pub(crate) fn open(&mut self, pids: &[Pid]) -> Result<(), Halt>
         requires { AreCounted [] self.old.world }
         ensures counted { OnOk result (AreCounted [] self.new.world) }
+        ensures ran { OnOk result (Ran TOP self.old.world (tracers_after None pids.now) self.new.world) }
+        ensures acts { OnOk result (self.new.acts ≡ self.old.acts ++ tracers_after None pids.now) }
+        ensures goes { IsSome (run_from TOP self.old.world (tracers_after None pids.now)) →
+            IfErr result IsNoStop }
         ensures skipped { self.new.skipped ≡ self.old.skipped }
         ensures told { self.new.told ≡ self.old.told }
         ensures halt { IfErr result IsPlainHalt }
@@ -184,6 +189,7 @@ impl<const TOP: u64> Construction<TOP> {
     fn perform(&mut self, act: Act) -> Result<Outcome, Halt>
         ensures step { IfOk result (λ told. step TOP self.old.world act ≡ Some (outcome_to told self.new.world)) }
         ensures acts { OnOk result (self.new.acts ≡ self.old.acts ++ act ∷ []) }
+        ensures goes { IsSome (step TOP self.old.world act) → IfErr result IsNoStop }
         ensures skipped { self.new.skipped ≡ self.old.skipped }
         ensures told { self.new.told ≡ self.old.told }
         ensures halt { IfErr result IsPlainHalt }
@@ -202,6 +208,7 @@ impl<const TOP: u64> Construction<TOP> {
     fn perform_all(&mut self, plan: &[Act]) -> Result<(), Halt>
         ensures ran { OnOk result (Ran TOP self.old.world plan.now self.new.world) }
         ensures acts { OnOk result (self.new.acts ≡ self.old.acts ++ plan.now) }
+        ensures goes { IsSome (run_from TOP self.old.world plan.now) → IfErr result IsNoStop }
         ensures skipped { self.new.skipped ≡ self.old.skipped }
         ensures told { self.new.told ≡ self.old.told }
         ensures halt { IfErr result IsPlainHalt }

@@ -1,10 +1,13 @@
 -- The act at this index ran after those before it.
-use Rattle.std.proofs.Common.{List, take, sym, ◌∙◌, subst}
+use Rattle.std.proofs.Common.{List, drop, suc, take, sym, ◌∙◌, rules, subst}
 use Rattle.std.proofs.lemmas.List.{take_more}
+use Rattle.std.proofs.lemmas.Option.{slice_get-get_or}
 use Rattle.st_core.specs.declared.types.Act.{Act}
 use Rattle.st_world.specs.World.{outcome_to}
 use Rattle.st_audit.specs.Progress.{Ran}
+use Rattle.st_audit.proofs.Ending.{cut}
 use Rattle.st_audit.proofs.Opened.{put_more, ran_more}
+use Rattle.st_audit.proofs.Running.{next_steps}
 use Rattle.st_audit.proofs.construction.Construction.perform_all.Goals as goal
 
 pub loop-act-preserved : goal.loop-act-preserved
@@ -21,3 +24,12 @@ loop-act-preserved g c =
       done.skipped ∙ c.loop-act.invariant.2,
       done.told ∙ c.loop-act.invariant.3,
     )
+
+pub returns-in_err-perform-clause-goes : goal.returns-in_err-perform-clause-goes
+returns-in_err-perform-clause-goes g c = λ runs.
+    let plan = c.args.plan.now in
+    let n = c.loop-act.act-index in
+    let here = slice_get-get_or plan n _ c.loop-act-test.true in
+    let goes = c.in_err-perform.ensures.goes (next_steps g.row.TOP c.args.self.now.world c.loop-act.self.world plan (take n plan) _
+    (drop (suc n) plan) c.loop-act.invariant.0 (cut plan n _ here) runs) in
+    search rules
