@@ -3,6 +3,8 @@ mod Widening
 mod Moved
 mod Next
 mod Running
+mod Silence
+mod Acting
 mod Opened
 mod Opening
 mod Nothing

@@ -19,6 +19,13 @@ allowed : (b : Bool) (k now : ℕ) → Some now ≡ cond b None (Some k) → now
 allowed true k now h = absurd (none-some now (sym h))
 allowed false k now h = same_Some now k h
 
+-- what the process has is what the code found
+pub started : (old : State) (p : Pid) (r : Process) (start : Start) → process old p ≡ Some r
+    → option_map (λ (r : Process). start_of r.local) (process old p) ≡ Some start → start ≡ start_of r.local
+started old p r start at is =
+    same_Some start (start_of r.local)
+    (sym is ∙ ap (option_map (λ (r : Process). start_of r.local)) at)
+
 pub stamped : (top : ℕ) (old : State) (skipped : ℕ) (p : Pid) (e : Event) (f : Flags) (told : Told) (new : State)
     (now : ℕ) (start : Start) (between : State) (a : Act)
     → option_map (λ (r : Process). start_of r.local) (process old p) ≡ Some start

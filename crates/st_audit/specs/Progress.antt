@@ -152,27 +152,24 @@ abbrev pub IsNoStop : Halt → Type 0
 IsNoStop halt.Stopped = ⊥
 IsNoStop h = Unit {0}
 
--- the acts that bring a process to stand ready for the event's serial, and the stamp
-abbrev pub stamping : Pid → Process → Event → Flags → Act → List Act
-stamping p r e f a = ready p (start_of r.local) e.label e.serial f ++ a ∷ []
-
--- the acts ran, and the last of them told this
-pub record RanTo (top : ℕ) (old : State) (acts : List Act) (told : Told) (new : State) : Type 0 where
+-- the acts ran, and the one after them told this
+pub record RanTo (top : ℕ) (old : State) (acts : List Act) (last : Act) (told : Told) (new : State) : Type 0 where
   pub outcomes : List Outcome
-  pub runs : run_from top old acts ≡ Some (outcomes ++ outcome_to told new ∷ [])
+  pub runs : run_from top old acts ≡ Some outcomes
+  pub steps : step top (state_after old outcomes) last ≡ Some (outcome_to told new)
 
--- this plan was performed, and nothing stops it where it runs
-pub record Makes (top : ℕ) (plan : List Act) (old : State) (before : List Act) (r : Result Told Halt) (new : State)
-    (acts : List Act) : Type 0 where
-  pub ran : IfOk r (λ told. RanTo top old plan told new)
-  pub put : OnOk r (acts ≡ before ++ plan)
-  pub goes : IsSome (run_from top old plan) → IfErr r IsNoStop
+-- these acts and a last one were performed, and nothing stops them where they run
+pub record Makes (top : ℕ) (acts : List Act) (last : Act) (old : State) (before : List Act) (r : Result Told Halt)
+    (new : State) (now : List Act) : Type 0 where
+  pub ran : IfOk r (λ told. RanTo top old acts last told new)
+  pub put : OnOk r (now ≡ before ++ (acts ++ last ∷ []))
+  pub goes : IsSome (run_from top old (acts ++ last ∷ [])) → IfErr r IsNoStop
 
 -- acts with these outcomes were put at the end, and nothing stopped them
-pub record Follows (T : Type 0) (plan : List Act) (os : List Outcome) (old : State) (before : List Act)
-    (r : Result T Halt) (new : State) (acts : List Act) : Type 0 where
+pub record Follows {T : Type 0} (plan : List Act) (os : List Outcome) (old : State) (before : List Act)
+    (r : Result T Halt) (new : State) (now : List Act) : Type 0 where
   pub goes : IfErr r IsNoStop
-  pub put : OnOk r (acts ≡ before ++ plan)
+  pub put : OnOk r (now ≡ before ++ plan)
   pub after : OnOk r (new ≡ state_after old os)
 
 -- the counts are of the events that these moves report, as long as 64 bits hold these

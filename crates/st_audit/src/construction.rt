@@ -7,24 +7,27 @@
 
 ghost use Rattle.std.specs.Prelude.{◌≡◌, ◌+◌, ◌++◌, ◌<◌, ◌↔◌, [], ◌∷◌, length, option_map};
 ghost use Rattle.std.specs.Prelude.{IfErr, IfOk, IsSome, IsTrue, None, List, OnOk, Some, true, take, slice_get};
-ghost use Rattle.std.specs.Prelude.{if◌then◌else◌};
+ghost use Rattle.std.specs.Prelude.{if◌then◌else◌, ℕ};
 ghost use Rattle.st_core.specs.Run.{run_from, Stream};
-ghost use Rattle.st_core.specs.State.{process};
+ghost use Rattle.st_core.specs.declared.types.Act.TheVariants as act;
+ghost use Rattle.st_core.specs.declared.types.Event.{Event as EventValue};
+ghost use Rattle.st_core.specs.declared.types.Want.TheVariants as want;
+ghost use Rattle.st_core.specs.State.{process, Process};
 ghost use Rattle.st_core.specs.Step.{step};
 ghost use Rattle.st_core.specs.Streams.{IsStreams};
 ghost use Rattle.st_pair.specs.Links.{IsPairing};
 ghost use Rattle.st_pair.specs.Pairing.{refusal};
-ghost use Rattle.st_pair.specs.Places.{is_stamp};
+ghost use Rattle.st_pair.specs.Places.{event_at, is_stamp};
 ghost use Rattle.st_order.specs.declared.item.Item.{Item as ItemValue};
 ghost use Rattle.st_order.specs.declared.item.Item.TheVariants as item;
 ghost use Rattle.st_order.specs.Order.{IsOrder};
-ghost use Rattle.st_world.specs.World.{outcome_to};
-ghost use Rattle.st_plan.specs.Build.{flags_of, start_of, tracers_after};
+ghost use Rattle.st_world.specs.World.{outcome_to, place_in};
+ghost use Rattle.st_plan.specs.Build.{flags_of, ready, start_of, tracers_after, GoesOn};
 ghost use Rattle.st_plan.specs.Moves.{move_by};
 ghost use Rattle.st_audit.specs.Progress.{is_too_wide, is_uncaused, missing, AreCounted, IsHalt};
 ghost use Rattle.st_audit.specs.Progress.{IsActed, IsActHalt, IsHiddenDone, IsPlainHalt, IsReportedDone, IsSoFar};
 ghost use Rattle.st_audit.specs.Progress.{IsStamped, IsStampHalt, IsStampHaltAt, IsStampOf, IsTaken, Ran};
-ghost use Rattle.st_audit.specs.Progress.{IsNoStop};
+ghost use Rattle.st_audit.specs.Progress.{Follows, IsNoStop, Makes};
 
 use st_core::{Act, Event, Flags, Kind, Pid, Sequence, Serial, Streams, Want};
 use st_order::Item;
@@ -244,6 +247,9 @@ impl<const TOP: u64> Construction<TOP> {
         requires { IsStampOf pid act }
         ensures stamped { IfOk result (λ told. IsStamped TOP self.old.world self.old.skipped pid event.now flags told
             self.new.world self.new.skipped) }
+        ensures makes { (before : Process) → process self.old.world pid ≡ Some before →
+            Makes TOP (ready pid (start_of before.local) event.now.label event.now.serial flags) act
+            self.old.world self.old.acts result self.new.world self.new.acts }
         ensures told { self.new.told ≡ self.old.told }
         ensures halt { IfErr result (IsStampHalt self.old.world self.old.skipped pid event.now) }
     {
@@ -268,6 +274,9 @@ impl<const TOP: u64> Construction<TOP> {
     /// Lets the process take the message whose token has the event's from and count.
     fn receive(&mut self, pid: Pid, event: &Event) -> Result<Outcome, Halt>
         ensures taken { IfOk result (λ told. IsTaken TOP self.old.world pid told self.new.world) }
+        ensures makes { (place : ℕ) → place_in self.old.world pid event.now.from event.now.serial.this ≡ Some place →
+            Makes TOP [] (act.Receive pid (want.Place place)) self.old.world self.old.acts result
+            self.new.world self.new.acts }
         ensures skipped { self.new.skipped ≡ self.old.skipped }
         ensures told { self.new.told ≡ self.old.told }
         ensures halt { IfErr result IsPlainHalt }
@@ -288,6 +297,9 @@ impl<const TOP: u64> Construction<TOP> {
     ) -> Result<(), Halt>
         ensures done { OnOk result (IsHiddenDone TOP streams.now self.old.world self.old.skipped pid index
             self.new.world self.new.skipped) }
+        ensures follows { (e : EventValue) → event_at streams.now pid index ≡ Some e →
+            (g : GoesOn TOP streams.now self.old.world (move_by (item.Hidden pid index) e)) →
+            Follows g.acts g.outcomes self.old.world self.old.acts result self.new.world self.new.acts }
         ensures told { self.new.told ≡ self.old.told }
         ensures halt { IfErr result (IsStampHaltAt streams.now pid index (λ e. e.from) (λ e. true)
             self.old.world self.old.skipped) }
@@ -314,6 +326,13 @@ impl<const TOP: u64> Construction<TOP> {
     ) -> Result<Outcome, Halt>
         ensures acted { IfOk result (λ told. IsActed (is_stamp event.now) TOP self.old.world self.old.skipped pid
             event.now told self.new.world self.new.skipped) }
+        ensures follows { (streams : List Stream) → IsPairing streams pairing.now →
+            (g : GoesOn TOP streams self.old.world (move_by (item.Reported pid index) event.now)) →
+            Follows g.acts g.outcomes self.old.world self.old.acts result self.new.world self.new.acts }
+        ensures reports { (streams : List Stream) → IsPairing streams pairing.now →
+            GoesOn TOP streams self.old.world (move_by (item.Reported pid index) event.now) →
+            event.now.serial.prev < event.now.serial.this →
+            IfOk result (λ told. told.report ≡ Some event.now) }
         ensures told { self.new.told ≡ self.old.told }
         ensures halt { IfErr result (IsActHalt (is_stamp event.now) self.old.world self.old.skipped pid event.now) }
     {

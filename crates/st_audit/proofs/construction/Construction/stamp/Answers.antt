@@ -1,9 +1,12 @@
 -- The parts of what a stamp is.
-use Rattle.std.proofs.Common.{◌≡◌, ℕ, ◌+◌, cond, None, Some, ◌++◌, sym, ◌∙◌, ap, subst}
+use Rattle.std.proofs.Common.{◌≡◌, ℕ, ◌+◌, cond, None, Some, [], ◌∷◌, ◌++◌, rules, sym, ◌∙◌, ap, subst, IsSome}
 use Rattle.std.proofs.lemmas.Result.{IfOk-weaker}
-use Rattle.st_plan.specs.Build.{ready}
-use Rattle.st_audit.specs.Progress.{is_too_wide, Ran}
-use Rattle.st_audit.proofs.Stamping.{stamped}
+use Rattle.st_core.specs.Run.{run_from}
+use Rattle.st_plan.specs.declared.plan.Start.{Start}
+use Rattle.st_plan.specs.Build.{ready, start_of}
+use Rattle.st_audit.specs.Progress.{is_too_wide, Makes, Ran}
+use Rattle.st_audit.proofs.Running.{front_runs, made}
+use Rattle.st_audit.proofs.Stamping.{stamped, started}
 use Rattle.st_audit.proofs.construction.Construction.stamp.Goals as goal
 
 pub returns-clause-stamped : goal.returns-clause-stamped
@@ -25,3 +28,49 @@ returns-clause-stamped g c =
     c.perform.new.self.skipped start between c.args.act (sym c.start.ensures ∙ c.in-Some.is)
     (sym c.is_uncaused.ensures ∙ c.if-is_uncaused.false) (ap (λ (k : ℕ). Some k) now ∙ missed) ran c.requires steps)
     c.perform.ensures.step
+
+pub returns-clause-makes : goal.returns-clause-makes
+returns-clause-makes g c = λ before is.
+    let start = c.in-Some.start in
+    let e = c.args.event.now in
+    let p = c.args.pid in
+    let a = c.args.act in
+    let old = c.args.self.now in
+    let now = c.perform.new.self in
+    let acts = ready p start e.label e.serial c.args.flags in
+    let planned : c.as_slice.result.now ≡ acts =
+    c.as_slice.ensures.value ∙ c.in-Ok.ensures ∙ ap (λ xs. xs ++ acts) c.new-plan.ensures.items in
+    let done = c.in_ok-perform_all.ensures in
+    let between = c.perform_all.new.self in
+    let ran : Ran g.row.TOP old.world acts between.world =
+    subst (λ xs. Ran g.row.TOP old.world xs between.world) planned done.ran in
+    let put : between.acts ≡ old.acts ++ acts = done.acts ∙ ap (λ xs. old.acts ++ xs) planned in
+    subst (λ (x : Start). Makes g.row.TOP (ready p x e.label e.serial c.args.flags ) a old.world old.acts
+    c.perform.result now.world now.acts)
+    (started old.world p before start is (sym c.start.ensures ∙ c.in-Some.is))
+    (made g.row.TOP old.world between.world acts a old.acts between.acts now.acts c.perform.result now.world ran put
+    c.perform.ensures.step c.perform.ensures.acts c.perform.ensures.goes)
+
+pub returns-in_err-perform_all-clause-makes : goal.returns-in_err-perform_all-clause-makes
+returns-in_err-perform_all-clause-makes g c = λ before is.
+    let start = c.in-Some.start in
+    let e = c.args.event.now in
+    let p = c.args.pid in
+    let old = c.args.self.now in
+    let acts = ready p start e.label e.serial c.args.flags in
+    let planned : c.as_slice.result.now ≡ acts =
+    c.as_slice.ensures.value ∙ c.in-Ok.ensures ∙ ap (λ xs. xs ++ acts) c.new-plan.ensures.items in
+    let same = started old.world p before start is (sym c.start.ensures ∙ c.in-Some.is) in
+    record {
+      ran = search rules;
+      put = search rules;
+      goes = λ runs.
+          let front : IsSome (run_from g.row.TOP old.world (ready p (start_of before.local) e.label e.serial
+          c.args.flags)) = front_runs g.row.TOP old.world _ (c.args.act ∷ []) runs in
+          let plan : IsSome (run_from g.row.TOP old.world c.as_slice.result.now) =
+          subst (λ xs. IsSome (run_from g.row.TOP old.world xs)) (sym planned)
+          (subst (λ (x : Start). IsSome (run_from g.row.TOP old.world (ready p x e.label e.serial c.args.flags)))
+          (sym same) front) in
+          let goes = c.in_err-perform_all.ensures.goes plan in
+          search rules;
+    }
