@@ -26,6 +26,15 @@ use Rattle.st_audit.specs.Progress.{is_uncaused, IsStamped, RanTo}
 use Rattle.st_audit.proofs.Running.{last_ran}
 use Rattle.st_audit.proofs.Silence.{ready_silent}
 
+-- the acts of a receive from this place, if there is one
+abbrev taking : Pid → Option ℕ → Option (List Act)
+taking p place = option_map (λ (a : Act). a ∷ []) (option_map (λ k. act.Receive p (want.Place k)) place)
+
+taken_at : (p : Pid) (place : Option ℕ) (acts : List Act) → taking p place ≡ Some acts
+    → (k : ℕ) × (place ≡ Some k) × (act.Receive p (want.Place k) ∷ [] ≡ acts)
+taken_at p None acts h = absurd (none-some acts h)
+taken_at p (Some k) acts h = (k, refl, same_Some (act.Receive p (want.Place k) ∷ []) acts h)
+
 module _ (streams : List Stream) (p : Pid) (i : ℕ) (e : Event) (r : Process) (acts : List Act)
     (are : acts_of streams r (move_by (item.Reported p i) e) ≡ Some acts) where
   pub print_acts : e.kind ≡ kind.Print
@@ -60,16 +69,12 @@ module _ (streams : List Stream) (p : Pid) (i : ℕ) (e : Event) (r : Process) (
 
   pub receive_acts : (s : State) → process s p ≡ Some r → e.kind ≡ kind.Receive → IsTakenAt s
   receive_acts s at is =
-      let where_it_lies = position (λ x. is_stamp e.from e.serial.this x.token) r.queue in
-      let made : acts_of streams r (move_by (item.Reported p i) e)
-      ≡ option_map (λ (a : Act). a ∷ []) (option_map (λ k. act.Receive p (want.Place k)) where_it_lies) =
-      rw is refl in
-      let outer = mapped (λ (a : Act). a ∷ []) (option_map (λ k. act.Receive p (want.Place k)) where_it_lies) acts
-      (sym made ∙ are) in
-      let inner = mapped (λ k. act.Receive p (want.Place k)) where_it_lies outer.0 outer.1 in
-      let lies : place_in s p e.from e.serial.this ≡ where_it_lies = rw at refl in
-      let same : act.Receive p (want.Place inner.0) ∷ [] ≡ outer.0 ∷ [] = ap (λ (a : Act). a ∷ []) inner.2 in
-      record { place = inner.0; found = lies ∙ inner.1; same = same ∙ outer.2 }
+      let lying = position (λ x. is_stamp e.from e.serial.this x.token) r.queue in
+      let lies : place_in s p e.from e.serial.this ≡ lying = rw at refl in
+      let made : acts_of streams r (move_by (item.Reported p i) e) ≡ taking p lying = rw is refl in
+      let taken = taken_at p lying acts (sym made ∙ are) in
+      let found : place_in s p e.from e.serial.this ≡ Some taken.0 = lies ∙ taken.1 in
+      record { place = taken.0; found = found; same = taken.2 }
 
 -- a hidden send is its sender's
 pub hidden_acts : (streams : List Stream) (p : Pid) (i : ℕ) (e : Event) (r : Process) (acts : List Act) (to : Pid)

@@ -1,5 +1,5 @@
 -- Where the construction halts at an item, its place has an event, and a reason that holds of its move holds there.
-use Rattle.std.proofs.Common.{◌≡◌, ℕ, zero, suc, ◌-◌, ◌<◌, ◌==◌, Bool, false, List, [], ◌∷◌, ◌++◌, take}
+use Rattle.std.proofs.Common.{◌≡◌, ℕ, zero, suc, ◌-◌, ◌<◌, ◌==◌, Bool, false, List, [], ◌∷◌, ◌++◌, reverse, take}
 use Rattle.std.proofs.Common.{drop}
 use Rattle.std.proofs.Common.{Option, Some, IsSome, IfErr, Result, Ok, Err, slice_get, length, get_or, refl}
 use Rattle.std.proofs.Common.{sym, ◌∙◌, ap, subst, arith}
@@ -14,6 +14,7 @@ use Rattle.st_core.proofs.ForCallers.{all_at}
 use Rattle.st_pair.specs.Places.{event_at}
 use Rattle.st_order.specs.declared.item.Item.{Item}
 use Rattle.st_order.specs.declared.item.Item.TheVariants as item
+use Rattle.st_order.specs.Items.{event_of}
 use Rattle.st_order.specs.Order.{IsOrder}
 use Rattle.st_plan.specs.Moves.{Move, move_by, moves, earlier_of}
 use Rattle.st_audit.specs.declared.construction.Halt.{Halt}
@@ -53,6 +54,17 @@ move_place : (x : Item) (e : Event) → (move_by x e).item ≡ x
 move_place (item.Reported p i) e = refl
 move_place (item.Hidden p i) e = refl
 
+-- the moves of an order round that of an item
+pub split_at : (streams : List Stream) (xs : List Item) (n : ℕ) (x : Item) (e : Event) → slice_get xs n ≡ Some x
+    → event_of streams x ≡ Some e
+    → moves streams xs ≡ reverse (earlier_of streams (take n xs)) ++ move_by x e ∷ moves streams (drop (suc n) xs)
+split_at streams xs n x e found there =
+    let before = moves streams (take n xs) in
+    let later = moves streams (drop (suc n) xs) in
+    ap (moves streams) (cut xs n x found) ∙ moves_append streams (take n xs) (x ∷ drop (suc n) xs)
+    ∙ ap (λ ms. before ++ ms) (one_move streams x e (drop (suc n) xs) there)
+    ∙ ap (λ ms. ms ++ move_by x e ∷ later) (sym (reverse-reverse before))
+
 -- a test that holds of an item's move holds at its place
 pub holds_there : (test : List Move → Move → Bool) (streams : List Stream) (xs : List Item) (n : ℕ) (d : Item)
     (at : Pid × ℕ) → IsOrder streams xs → n < length xs → at ≡ item_place (get_or xs n d)
@@ -61,17 +73,13 @@ holds_there test streams xs n d at order within is holds =
     let x = get_or xs n d in
     let e = holds.0 in
     let found = slice_get-get_or xs n d within in
-    let before = moves streams (take n xs) in
-    let later = moves streams (drop (suc n) xs) in
     subst (λ (p : Pid × ℕ). HoldsAt test streams p.0 p.1) (sym is) (record {
       order = xs;
       earlier = earlier_of streams (take n xs);
       move = move_by x e;
-      later = later;
+      later = moves streams (drop (suc n) xs);
       is_order = order;
-      split = ap (moves streams) (cut xs n x found) ∙ moves_append streams (take n xs) (x ∷ drop (suc n) xs)
-          ∙ ap (λ ms. before ++ ms) (one_move streams x e (drop (suc n) xs) holds.1)
-          ∙ ap (λ ms. ms ++ move_by x e ∷ later) (sym (reverse-reverse before));
+      split = split_at streams xs n x e found holds.1;
       place = ap item_place (move_place x e);
       holds = holds.2;
     })

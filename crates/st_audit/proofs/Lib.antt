@@ -2,6 +2,7 @@ mod Counts
 mod Widening
 mod Moved
 mod Next
+mod Telling
 mod Running
 mod Silence
 mod Acting
@@ -12,3 +13,4 @@ mod Refused
 mod Finality
 mod Ending
 mod Stamping
+mod Track

@@ -1,6 +1,6 @@
 -- For the parts alone: what the construction keeps along the items, and what it did for one of them.
 use Rattle.std.specs.Prelude.{◌≡◌, ℕ, ◌+◌, ◌-◌, ◌==◌, ◌&&◌, ◌||◌, nat_lt, Bool, true, false, not, List}
-use Rattle.std.specs.Prelude.{[], ◌∷◌, ◌++◌, ◌<◌, ◌^◌, slice_get, Some, IfErr, IfOk, IsSome, OnOk, Result}
+use Rattle.std.specs.Prelude.{[], ◌∷◌, ◌++◌, ◌<◌, ◌^◌, ◌≢◌, slice_get, Some, IfErr, IfOk, IsSome, OnOk, Result}
 use Rattle.st_core.specs.declared.types.Pid.{Pid}
 use Rattle.st_core.specs.declared.types.Event.{Event}
 use Rattle.st_core.specs.declared.types.Flags.{Flags}
@@ -21,8 +21,8 @@ use Rattle.st_audit.specs.declared.construction.Halt.{Halt}
 use Rattle.st_audit.specs.declared.construction.Halt.TheVariants as halt
 use Rattle.st_plan.specs.Moves.{Move, move_by, clock, earlier_of, last, skips}
 use Rattle.st_plan.specs.Reasons.{most_skipped, most_skipped_in_all, uncaused, too_wide}
-use Rattle.st_plan.specs.Build.{start_of, ready, state_after}
-use Rattle.st_plan.specs.Plain.{told}
+use Rattle.st_plan.specs.Build.{start_of, ready, state_after, GoesOn}
+use Rattle.st_plan.specs.Plain.{told, out_of_turn}
 
 -- p's clock and last count are what the moves so far make of them
 pub record IsCounted (earlier : List Move) (p : Pid) (l : LocalState) : Type 0 where
@@ -176,3 +176,23 @@ pub record Follows {T : Type 0} (plan : List Act) (os : List Outcome) (old : Sta
 abbrev pub AreTold : List Stream → List Move → List ℕ → Type 0
 AreTold streams earlier counts = (k : ℕ) (p : Pid) → slice_get (pids_of streams) k ≡ Some p
     → told p earlier < 2 ^ 64 → slice_get counts k ≡ Some (told p earlier)
+
+-- p has told so many events, if 64 bits hold these
+abbrev pub HasTold : List Stream → List ℕ → Pid → ℕ → Type 0
+HasTold streams counts p i =
+    (k : ℕ) → slice_get (pids_of streams) k ≡ Some p → i < 2 ^ 64 → slice_get counts k ≡ Some i
+
+-- p, at its place, had told so many events and told one more, and no other process did
+pub record TellsOne (streams : List Stream) (p : Pid) (i : ℕ) (old new : List ℕ) : Type 0 where
+  pub place : ℕ
+  pub is_place : slice_get (pids_of streams) place ≡ Some p
+  pub was : slice_get old place ≡ Some i
+  pub now : i + 1 < 2 ^ 64 → slice_get new place ≡ Some (i + 1)
+  pub others : (k : ℕ) → k ≢ place → slice_get new k ≡ slice_get old k
+
+-- the item's move is in its turn, and goes on from this state
+pub record Serves (top : ℕ) (streams : List Stream) (earlier : List Move) (x : Item) (s : State) : Type 0 where
+  pub event : Event
+  pub there : event_of streams x ≡ Some event
+  pub in_turn : out_of_turn earlier (move_by x event) ≡ false
+  pub goes : GoesOn top streams s (move_by x event)

@@ -1,6 +1,7 @@
 //! The auditor.
 
 ghost use Rattle.std.specs.Prelude.{◌≡◌, IfErr, IfOk, IsSome, None, [], ◌∷◌, Some};
+ghost use Rattle.st_core.specs.Run.{pids_of, Shows};
 ghost use Rattle.st_core.specs.Streams.{IsStreams};
 ghost use Rattle.std.specs.Option.{ForSome};
 ghost use Rattle.st_order.specs.Order.{IsOrder};
@@ -8,7 +9,8 @@ ghost use Rattle.st_pair.specs.Links.{IsPairing};
 ghost use Rattle.st_pair.specs.Pairing.{refusal, IsPairFault};
 ghost use Rattle.st_pair.specs.Places.{event_at};
 ghost use Rattle.st_pair.specs.Final.{IsPrevNotBefore, NeverShown, NeverShownInOneTrace};
-ghost use Rattle.st_audit.specs.Findings.{fault_of, unfit_by, HandsOn, IsFinding};
+ghost use Rattle.st_audit.specs.Findings.{fault_of, unfit_by, HandsOn, IsFinding, IsFit};
+ghost use Rattle.st_plan.specs.Plain.{IsPlain};
 ghost use Rattle.st_plan.specs.Reasons.{item_place};
 
 use crate::construction::{Construction, Halt};
@@ -59,7 +61,8 @@ fn judged<const TOP: u64>(
 ) -> Result<Finding, AuditFault>
     requires there { IsSome (event_at streams.now place.0 place.1) }
     requires accepted { refusal streams.now ≡ None }
-    ensures { IfOk result (IsFinding TOP streams.now) }
+    ensures found { IfOk result (IsFinding TOP streams.now) }
+    ensures shown { Shows TOP streams.now acts → IfOk result IsFit }
 {
     match check::<TOP>(alloc, streams, acts.as_slice()) {
         Err(_) => Err(AuditFault::Memory),
@@ -71,7 +74,8 @@ fn judged<const TOP: u64>(
 /// What is found of streams without events: the checker accepts no acts.
 fn found_of_nothing<const TOP: u64>(alloc: Global, streams: &Streams) -> Result<Finding, AuditFault>
     requires { IsOrder streams.now [] }
-    ensures { IfOk result (IsFinding TOP streams.now) }
+    ensures found { IfOk result (IsFinding TOP streams.now) }
+    ensures fits { IfOk result IsFit }
 {
     let acts = Sequence::new(alloc);
     match check::<TOP>(alloc, streams, acts.as_slice()) {
@@ -95,7 +99,9 @@ fn found<const TOP: u64>(
     requires streams { IsStreams streams.now }
     requires accepted { refusal streams.now ≡ None }
     requires order { IsOrder streams.now items.now }
-    ensures { IfOk result (IsFinding TOP streams.now) }
+    ensures found { IfOk result (IsFinding TOP streams.now) }
+    ensures plain_fits { IsPairing streams.now pairing.now → pids.now ≡ pids_of streams.now →
+        IsPlain TOP streams.now → IfOk result IsFit }
 {
     if items.is_empty() {
         return found_of_nothing::<TOP>(alloc, streams);
@@ -132,6 +138,7 @@ fn audited<const TOP: u64>(
 ) -> Result<Finding, AuditFault>
     ensures found { IfOk result (IsFinding TOP streams.now) }
     ensures handed_on { IfOk result (HandsOn streams.now) }
+    ensures plain_fits { IfOk result (λ found. IsPlain TOP streams.now → IsFit found) }
 {
     let pids = streams.pids();
     let pairing = match pair(alloc, streams) {
@@ -166,6 +173,9 @@ pub fn audit<const TOP: u64>(
     ensures final_prev { IfOk result (λ found.
         ForSome (fault_of found) (λ fault. IsPrevNotBefore fault → NeverShown streams.now)) }
     ensures final_without_reset { IfOk result (λ found. IsSome (fault_of found) → NeverShownInOneTrace streams.now) }
+
+    // And where the answer is never a refusal.
+    ensures plain_fits { IfOk result (λ found. IsPlain TOP streams.now → IsFit found) }
 {
     audited::<TOP>(rt, alloc, streams)
 }

@@ -8,11 +8,11 @@
 ghost use Rattle.std.specs.Prelude.{◌≡◌, ◌+◌, ◌++◌, ◌<◌, ◌↔◌, [], ◌∷◌, length, option_map};
 ghost use Rattle.std.specs.Prelude.{IfErr, IfOk, IsSome, IsTrue, None, List, OnOk, Some, true, take, slice_get};
 ghost use Rattle.std.specs.Prelude.{if◌then◌else◌, ℕ};
-ghost use Rattle.st_core.specs.Run.{run_from, Stream};
+ghost use Rattle.st_core.specs.Run.{pids_of, run_from, Stream};
 ghost use Rattle.st_core.specs.declared.types.Act.TheVariants as act;
 ghost use Rattle.st_core.specs.declared.types.Event.{Event as EventValue};
 ghost use Rattle.st_core.specs.declared.types.Want.TheVariants as want;
-ghost use Rattle.st_core.specs.State.{process, Process};
+ghost use Rattle.st_core.specs.State.{process, zero_state, Process};
 ghost use Rattle.st_core.specs.Step.{step};
 ghost use Rattle.st_core.specs.Streams.{IsStreams};
 ghost use Rattle.st_pair.specs.Links.{IsPairing};
@@ -23,11 +23,11 @@ ghost use Rattle.st_order.specs.declared.item.Item.TheVariants as item;
 ghost use Rattle.st_order.specs.Order.{IsOrder};
 ghost use Rattle.st_world.specs.World.{outcome_to, place_in};
 ghost use Rattle.st_plan.specs.Build.{flags_of, ready, start_of, tracers_after, GoesOn};
-ghost use Rattle.st_plan.specs.Moves.{move_by};
+ghost use Rattle.st_plan.specs.Moves.{earlier_of, move_by};
 ghost use Rattle.st_audit.specs.Progress.{is_too_wide, is_uncaused, missing, AreCounted, IsHalt};
 ghost use Rattle.st_audit.specs.Progress.{IsActed, IsActHalt, IsHiddenDone, IsPlainHalt, IsReportedDone, IsSoFar};
 ghost use Rattle.st_audit.specs.Progress.{IsStamped, IsStampHalt, IsStampHaltAt, IsStampOf, IsTaken, Ran};
-ghost use Rattle.st_audit.specs.Progress.{Follows, IsNoStop, Makes};
+ghost use Rattle.st_audit.specs.Progress.{AreTold, Follows, HasTold, IsNoStop, Makes, Serves, TellsOne};
 
 use st_core::{Act, Event, Flags, Kind, Pid, Sequence, Serial, Streams, Want};
 use st_order::Item;
@@ -139,6 +139,8 @@ impl<const TOP: u64> Construction<TOP> {
         ensures so_far { IfOk result (λ c. IsSoFar streams.now [] c.world c.skipped) }
         ensures told { IfOk result (λ c. length c.told.items ≡ length streams.now) }
         ensures acts { IfOk result (λ c. c.acts ≡ []) }
+        ensures world { IfOk result (λ c. c.world ≡ zero_state (pids_of streams.now)) }
+        ensures tells { IfOk result (λ c. AreTold streams.now [] c.told.items) }
     {
         let pids = streams.pids();
         let Ok(world) = World::new(alloc, pids) else {
@@ -359,6 +361,12 @@ impl<const TOP: u64> Construction<TOP> {
         requires { length self.old.told.items ≡ length streams.now }
         ensures done { OnOk result (IsReportedDone TOP streams.now self.old.world self.old.skipped pid index
             self.new.world self.new.skipped) }
+        ensures follows { (e : EventValue) → event_at streams.now pid index ≡ Some e →
+            e.serial.prev < e.serial.this → IsPairing streams.now pairing.now →
+            HasTold streams.now self.old.told.items pid index →
+            (g : GoesOn TOP streams.now self.old.world (move_by (item.Reported pid index) e)) →
+            Follows g.acts g.outcomes self.old.world self.old.acts result self.new.world self.new.acts }
+        ensures tells { OnOk result (TellsOne streams.now pid index self.old.told.items self.new.told.items) }
         ensures told { length self.new.told.items ≡ length self.old.told.items }
         ensures halt { IfErr result (IsStampHaltAt streams.now pid index (λ e. pid) is_stamp
             self.old.world self.old.skipped) }
@@ -397,6 +405,15 @@ impl<const TOP: u64> Construction<TOP> {
         requires told { length self.old.told.items ≡ length streams.now }
         ensures so_far { OnOk result
             (IsSoFar streams.now (take (number + 1) items.now) self.new.world self.new.skipped) }
+        ensures follows { (x : ItemValue) → slice_get items.now number ≡ Some x →
+            IsPairing streams.now pairing.now →
+            AreTold streams.now (earlier_of streams.now (take number items.now)) self.old.told.items →
+            (m : Serves TOP streams.now (earlier_of streams.now (take number items.now)) x self.old.world) →
+            Follows m.goes.acts m.goes.outcomes self.old.world self.old.acts result
+            self.new.world self.new.acts }
+        ensures tells { AreTold streams.now (earlier_of streams.now (take number items.now)) self.old.told.items →
+            OnOk result (AreTold streams.now (earlier_of streams.now (take (number + 1) items.now))
+            self.new.told.items) }
         ensures told { length self.new.told.items ≡ length streams.now }
         ensures halt { (x : ItemValue) → slice_get items.now number ≡ Some x →
             IfErr result (IsHalt streams.now (take number items.now) x) }

@@ -1,8 +1,16 @@
--- The place of each item has an event, and where the construction halts for a reason of its own it holds there.
-use Rattle.std.proofs.Common.{◌-◌, length, take, sym, ◌∙◌}
+-- The place of each item has an event, and where the construction halts for a reason of its own it holds there. In
+-- plain streams it doesn't halt but for memory.
+use Rattle.std.proofs.Common.{◌≡◌, ◌+◌, ◌-◌, ◌++◌, length, take, get_or, rules, arith, None, IsSome, [], sym, ◌∙◌, ap}
+use Rattle.std.proofs.Common.{subst}
 use Rattle.std.proofs.lemmas.Option.{slice_get-get_or}
+use Rattle.st_core.specs.State.{zero_state}
+use Rattle.st_core.specs.Run.{pids_of, run_from, Shows}
+use Rattle.st_plan.specs.Build.{tracers_after}
 use Rattle.st_plan.specs.Reasons.{too_wide, uncaused}
 use Rattle.st_audit.proofs.Ending.{holds_there, last_within, place_there, too_wide_halt, uncaused_halt}
+use Rattle.st_audit.specs.declared.construction.Halt.TheVariants as halt
+use Rattle.st_audit.specs.Progress.{AreTold, Ran}
+use Rattle.st_audit.proofs.Track.{goes_next, no_stop, none, on_track, only_memory, track_next, track_shows, tracers_run}
 use Rattle.st_audit.proofs.auditing.found.Goals as goal
 
 pub judged-requires : goal.judged-requires
@@ -13,8 +21,8 @@ judged-requires g c = record {
   accepted = c.requires.accepted;
 }
 
-pub returns-in-Err-Uncaused : goal.returns-in-Err-Uncaused
-returns-in-Err-Uncaused g c =
+pub returns-in-Err-Uncaused-clause-found : goal.returns-in-Err-Uncaused-clause-found
+returns-in-Err-Uncaused-clause-found g c =
     let streams = c.args.streams.now in
     let xs = c.args.items.now in
     let n = c.loop-number.number in
@@ -31,8 +39,8 @@ returns-in-Err-Uncaused g c =
       ),
     )
 
-pub returns-in-Err-TooWide : goal.returns-in-Err-TooWide
-returns-in-Err-TooWide g c =
+pub returns-in-Err-TooWide-clause-found : goal.returns-in-Err-TooWide-clause-found
+returns-in-Err-TooWide-clause-found g c =
     let streams = c.args.streams.now in
     let xs = c.args.items.now in
     let n = c.loop-number.number in
@@ -59,3 +67,106 @@ judged-requires-2-clause-there g c =
     place_there c.args.streams.now c.args.items.now (length c.args.items.now - 1) _ c.place_of-2.result
     c.requires.streams.draft.rising c.requires.order
     (last_within (length c.args.items.now) (sym c.is_empty.ensures ∙ c.if-is_empty.false)) c.place_of-2.ensures
+
+pub returns-in-Err : goal.returns-in-Err
+returns-in-Err g c =
+    record {
+      found = search rules;
+      plain_fits = λ pairs are plain.
+          let runs : IsSome (run_from g.row.TOP c.in-Ok.construction.world (tracers_after None c.args.pids.now)) =
+          subst (λ w. IsSome (run_from g.row.TOP w (tracers_after None c.args.pids.now))) (sym c.in-Ok.ensures.world)
+          (subst (λ ps. IsSome (run_from g.row.TOP (zero_state (pids_of c.args.streams.now)) (tracers_after None ps)))
+          (sym are) (tracers_run g.row.TOP c.args.streams.now)) in
+          let same : c.in-Err.field-0 ≡ halt.Memory =
+          only_memory c.in-Err.field-0 c.in-Err.ensures.halt (c.in-Err.ensures.goes runs) in
+          search rules;
+    }
+
+pub loop-number-init : goal.loop-number-init
+loop-number-init g c =
+    let top = g.row.TOP in
+    let streams = c.args.streams.now in
+    let now = c.open.new.self in
+    let done = c.in-Ok-open.ensures in
+    let begun = c.in-Ok.ensures in
+    record {
+      so_far = search rules;
+      counts = search rules;
+      told = subst (λ t. AreTold streams [] t.items) (sym done.told) begun.tells;
+      track = λ pairs are plain. on_track top streams now.world now.acts
+          (subst (λ ps. Ran top (zero_state (pids_of streams)) (tracers_after None ps) now.world) are
+          (subst (λ w. Ran top w (tracers_after None c.args.pids.now) now.world) begun.world done.ran))
+          (done.acts ∙ ap (λ xs. xs ++ tracers_after None c.args.pids.now) begun.acts ∙ ap (tracers_after None) are);
+    }
+
+pub loop-number-preserved : goal.loop-number-preserved
+loop-number-preserved g c =
+    let top = g.row.TOP in
+    let streams = c.args.streams.now in
+    let xs = c.args.items.now in
+    let n = c.loop-number.number in
+    let i = c.loop-number.invariant in
+    let old = c.loop-number.construction in
+    let now = c.append.new.self in
+    let done = c.in-Ok-append.ensures in
+    record {
+      so_far = done.so_far;
+      counts = c.append.ensures.told;
+      told = done.tells i.told;
+      track = λ pairs are plain.
+          let track = i.track pairs are plain in
+          let at = slice_get-get_or xs n none c.loop-number-test.true in
+          let x = get_or xs n none in
+          let m = goes_next top streams c.requires.streams plain xs c.requires.order n x at old.world old.acts track in
+          let f = done.follows x at pairs i.told m.serves in
+          track_next top streams c.requires.streams plain xs c.requires.order n x at old.world old.acts track m now.world
+          now.acts f.put f.after;
+    }
+
+pub returns-in-Err-Stopped-clause-plain_fits : goal.returns-in-Err-Stopped-clause-plain_fits
+returns-in-Err-Stopped-clause-plain_fits g c = λ pairs are plain.
+    let streams = c.args.streams.now in
+    let xs = c.args.items.now in
+    let n = c.loop-number.number in
+    let i = c.loop-number.invariant in
+    let old = c.loop-number.construction in
+    let track = i.track pairs are plain in
+    let at = slice_get-get_or xs n none c.loop-number-test.true in
+    let x = get_or xs n none in
+    let m = goes_next g.row.TOP streams c.requires.streams plain xs c.requires.order n x at old.world old.acts track in
+    let f = c.in-Err-Stopped.ensures.follows x at pairs i.told m.serves in
+    absurd (no_stop c.in-Err-Stopped.field-0 c.in-Err-Stopped.field-0-is f.goes)
+
+pub returns-in-Err-Uncaused-clause-plain_fits : goal.returns-in-Err-Uncaused-clause-plain_fits
+returns-in-Err-Uncaused-clause-plain_fits g c = λ pairs are plain.
+    let streams = c.args.streams.now in
+    let xs = c.args.items.now in
+    let n = c.loop-number.number in
+    let at = c.place_of-index.result in
+    let within = c.loop-number-test.true in
+    let holds = uncaused_halt streams (take n xs) _ c.in-Err-Uncaused.field-0 c.in-Err-Uncaused.field-0-is
+    (c.in-Err-Uncaused.ensures.halt _ (slice_get-get_or xs n _ within)) in
+    plain.caused at.0 at.1 (holds_there uncaused streams xs n _ at c.requires.order within c.place_of-index.ensures holds)
+
+pub returns-in-Err-TooWide-clause-plain_fits : goal.returns-in-Err-TooWide-clause-plain_fits
+returns-in-Err-TooWide-clause-plain_fits g c = λ pairs are plain.
+    let streams = c.args.streams.now in
+    let xs = c.args.items.now in
+    let n = c.loop-number.number in
+    let at = c.place_of-index.result in
+    let within = c.loop-number-test.true in
+    let holds = too_wide_halt streams (take n xs) _ c.in-Err-TooWide.field-0 c.in-Err-TooWide.field-0-is
+    (c.in-Err-TooWide.ensures.halt _ (slice_get-get_or xs n _ within)) in
+    plain.narrow at.0 at.1 (holds_there too_wide streams xs n _ at c.requires.order within c.place_of-index.ensures holds)
+
+pub returns-clause-plain_fits : goal.returns-clause-plain_fits
+returns-clause-plain_fits g c = λ pairs are plain.
+    let top = g.row.TOP in
+    let streams = c.args.streams.now in
+    let xs = c.args.items.now in
+    let n = c.loop-number.number in
+    let now = c.loop-number.construction in
+    let track = c.loop-number.invariant.track pairs are plain in
+    let shows = track_shows top streams c.requires.streams plain xs c.requires.order n now.world now.acts (omega arith)
+    track in
+    c.judged-2.ensures.shown (subst (Shows top streams) (sym c.into_acts-2.ensures) shows)

@@ -1,12 +1,18 @@
--- Each item leads to the counts with its move, and where it halts the counts before it show why.
-use Rattle.std.proofs.Common.{Some, take, sym, ◌∙◌, ap, subst}
+-- Each item leads to the counts with its move, and where it halts the counts before it show why. Its acts are those of
+-- its move.
+use Rattle.std.proofs.Common.{◌≡◌, ◌+◌, Some, take, sym, ◌∙◌, ap, subst}
 use Rattle.std.proofs.lemmas.Option.{same_Some, slice_get-get_or}
 use Rattle.std.proofs.lemmas.Result.{IfOk-weaker}
 use Rattle.st_order.specs.declared.item.Item.{Item}
 use Rattle.st_order.specs.declared.item.Item.TheVariants as item
-use Rattle.st_audit.specs.Progress.{IsHalt}
+use Rattle.st_pair.proofs.ForCallers.{paired, serial_rises}
+use Rattle.st_plan.specs.Moves.{earlier_of}
+use Rattle.st_plan.proofs.ForCallers.{earlier_more}
+use Rattle.st_audit.specs.Progress.{AreTold, Follows, IsHalt, Serves}
+use Rattle.st_audit.proofs.Acting.{ok_both}
 use Rattle.st_audit.proofs.Ending.{if_err}
 use Rattle.st_audit.proofs.Next.{hidden_halt, hidden_next, reported_halt, reported_next}
+use Rattle.st_audit.proofs.Telling.{in_turn, told_hidden, told_next}
 use Rattle.st_audit.proofs.construction.Construction.append.Goals as goal
 
 pub returns-in-Reported-clause-so_far : goal.returns-in-Reported-clause-so_far
@@ -53,3 +59,74 @@ returns-in-Hidden-clause-halt g c = λ x is.
     (hidden_halt streams (take n xs) c.args.self.now.world c.args.self.now.skipped c.requires.so_far
     c.in-Hidden.pid c.in-Hidden.index h halts))
     c.send_hidden.ensures.halt
+
+pub returns-in-Reported-clause-follows : goal.returns-in-Reported-clause-follows
+returns-in-Reported-clause-follows g c = λ x at pairs are.
+    let streams = c.args.streams.now in
+    let xs = c.args.items.now in
+    let n = c.args.number in
+    let p = c.in-Reported.pid in
+    let i = c.in-Reported.index in
+    let old = c.args.self.now in
+    let now = c.report.new.self in
+    let earlier = earlier_of streams (take n xs) in
+    let here = slice_get-get_or xs n _ c.requires.within ∙ ap (λ (x : Item). Some x) c.in-Reported.is in
+    let same : item.Reported p i ≡ x = same_Some (item.Reported p i) x (sym here ∙ at) in
+    subst (λ (y : Item). (m : Serves g.row.TOP streams earlier y old.world)
+    → Follows m.goes.acts m.goes.outcomes old.world old.acts c.report.result now.world now.acts) same
+    (λ m.
+        let rises = serial_rises streams (paired streams c.requires.accepted) p i m.event m.there in
+        let turn = in_turn streams earlier old.told.items p i m.event are m.in_turn in
+        c.report.ensures.follows m.event m.there rises pairs turn m.goes)
+
+pub returns-in-Reported-clause-tells : goal.returns-in-Reported-clause-tells
+returns-in-Reported-clause-tells g c = λ are.
+    let streams = c.args.streams.now in
+    let xs = c.args.items.now in
+    let n = c.args.number in
+    let p = c.in-Reported.pid in
+    let i = c.in-Reported.index in
+    let counts = c.report.new.self.told.items in
+    let earlier = earlier_of streams (take n xs) in
+    let here = slice_get-get_or xs n _ c.requires.within ∙ ap (λ (x : Item). Some x) c.in-Reported.is in
+    ok_both c.report.result _ _ (λ x. AreTold streams (earlier_of streams (take (n + 1) xs)) counts)
+    (λ x done tells.
+        let more = earlier_more streams xs n (item.Reported p i) done.event here done.at in
+        subst (λ ms. AreTold streams ms counts) (sym more)
+        (told_next streams earlier c.args.self.now.told.items counts p i done.event c.requires.streams.draft.rising are
+        tells))
+    c.report.ensures.done c.report.ensures.tells
+
+pub returns-in-Hidden-clause-follows : goal.returns-in-Hidden-clause-follows
+returns-in-Hidden-clause-follows g c = λ x at pairs are.
+    let streams = c.args.streams.now in
+    let xs = c.args.items.now in
+    let n = c.args.number in
+    let p = c.in-Hidden.pid in
+    let i = c.in-Hidden.index in
+    let old = c.args.self.now in
+    let now = c.send_hidden.new.self in
+    let earlier = earlier_of streams (take n xs) in
+    let here = slice_get-get_or xs n _ c.requires.within ∙ ap (λ (x : Item). Some x) c.in-Hidden.is in
+    let same : item.Hidden p i ≡ x = same_Some (item.Hidden p i) x (sym here ∙ at) in
+    subst (λ (y : Item). (m : Serves g.row.TOP streams earlier y old.world)
+    → Follows m.goes.acts m.goes.outcomes old.world old.acts c.send_hidden.result now.world now.acts) same
+    (λ m. c.send_hidden.ensures.follows m.event m.there m.goes)
+
+pub returns-in-Hidden-clause-tells : goal.returns-in-Hidden-clause-tells
+returns-in-Hidden-clause-tells g c = λ are.
+    let streams = c.args.streams.now in
+    let xs = c.args.items.now in
+    let n = c.args.number in
+    let p = c.in-Hidden.pid in
+    let i = c.in-Hidden.index in
+    let counts = c.send_hidden.new.self.told.items in
+    let earlier = earlier_of streams (take n xs) in
+    let here = slice_get-get_or xs n _ c.requires.within ∙ ap (λ (x : Item). Some x) c.in-Hidden.is in
+    let same : c.args.self.now.told.items ≡ counts = ap (λ t. t.items) (sym c.send_hidden.ensures.told) in
+    IfOk-weaker c.send_hidden.result _ _
+    (λ x done.
+        let more = earlier_more streams xs n (item.Hidden p i) done.event here done.at in
+        subst (λ ms. AreTold streams ms counts) (sym more)
+        (told_hidden streams earlier counts p i done.event (subst (AreTold streams earlier) same are)))
+    c.send_hidden.ensures.done

@@ -1,0 +1,79 @@
+-- The act's report is the event, at the place of whose process one more is told.
+use Rattle.std.proofs.Common.{◌≡◌, ◌<◌, ◌∷◌, arith, get_or, length, rules, slice_get, slice_set, ℕ, List, Ok, Some, sym, ◌∙◌, ap, subst}
+use Rattle.std.proofs.lemmas.Option.{same_Some, get_or_from_slice_get, slice_get-get_or}
+use Rattle.st_core.specs.declared.types.Event.{Event}
+use Rattle.st_order.specs.declared.item.Item.TheVariants as item
+use Rattle.st_plan.specs.Build.{GoesOn}
+use Rattle.st_plan.specs.Moves.{move_by}
+use Rattle.st_audit.specs.Progress.{Follows, TellsOne}
+use Rattle.st_audit.proofs.Telling.{not_missing, place_below, tells_one}
+use Rattle.st_audit.proofs.construction.Construction.report.Goals as goal
+
+pub returns-in_default-clause-follows : goal.returns-in_default-clause-follows
+returns-in_default-clause-follows g c = λ e at rises pairs told go.
+    absurd (not_missing c.args.streams.now c.args.pid c.args.index e c.in_default.ensures.missing at)
+
+pub index-requires : goal.index-requires
+index-requires g c =
+    let below = place_below c.args.streams.now c.in-Some.place c.args.pid c.in-Some.ensures.found in
+    let within : c.in-Some.place < length c.args.self.now.told.items = omega (arith, c.requires) in
+    search rules
+
+pub returns-then-index-clause-follows : goal.returns-then-index-clause-follows
+returns-then-index-clause-follows g c = λ e at rises pairs told go.
+    let here = told c.in-Some.place c.in-Some.ensures.found (omega (arith, c.ranges.index)) in
+    absurd (c.if-index.true (c.index.ensures
+    ∙ get_or_from_slice_get c.args.self.now.told.items c.in-Some.place c.args.index c.index.result.now here))
+
+pub returns-in_err-told-clause-follows : goal.returns-in_err-told-clause-follows
+returns-in_err-told-clause-follows g c = λ e at rises pairs told.
+    let streams = c.args.streams.now in
+    let old = c.args.self.now in
+    let now = c.act.new.self in
+    let p = c.args.pid in
+    let i = c.args.index in
+    let x = c.in-Some-event.event in
+    let same : x ≡ e = same_Some x e (sym c.in-Some-event.is ∙ c.event.ensures ∙ at) in
+    subst (λ (e : Event). (go : GoesOn g.row.TOP streams old.world (move_by (item.Reported p i) e))
+    → Follows go.acts go.outcomes old.world old.acts c.from_residual.result now.world now.acts) same
+    (λ go.
+        let done = c.in_err-told.ensures.follows streams pairs go in
+        let goes = done.goes in
+        record { goes = search rules; put = search rules; after = search rules })
+
+pub index_mut-requires : goal.index_mut-requires
+index_mut-requires g c =
+    let below = place_below c.args.streams.now c.in-Some.place c.args.pid c.in-Some.ensures.found in
+    let same = ap (λ t. length t.items) c.act.ensures.told in
+    let within : c.in-Some.place < length c.act.new.self.told.items = omega (arith, c.requires) in
+    search rules
+
+pub returns-clause-follows : goal.returns-clause-follows
+returns-clause-follows g c = λ e at rises pairs told.
+    let streams = c.args.streams.now in
+    let old = c.args.self.now in
+    let now = c.act.new.self in
+    let p = c.args.pid in
+    let i = c.args.index in
+    let x = c.in-Some-event.event in
+    let same : x ≡ e = same_Some x e (sym c.in-Some-event.is ∙ c.event.ensures ∙ at) in
+    subst (λ (e : Event). (go : GoesOn g.row.TOP streams old.world (move_by (item.Reported p i) e))
+    → Follows go.acts go.outcomes old.world old.acts (Ok tt) now.world now.acts) same
+    (λ go.
+        let done = c.in_ok-told.ensures.follows streams pairs go in
+        record { goes = tt; put = done.put; after = done.after })
+
+pub returns-clause-tells : goal.returns-clause-tells
+returns-clause-tells g c =
+    let streams = c.args.streams.now in
+    let place = c.in-Some.place in
+    let old = c.args.self.now.told.items in
+    let at = c.in-Some.ensures.found in
+    let below = place_below streams place c.args.pid at in
+    let within : place < length old = omega (arith, c.requires) in
+    let was : slice_get old place ≡ Some c.args.index = slice_get-get_or old place c.index.result.now within
+    ∙ ap (λ (n : ℕ). Some n) (sym c.index.ensures ∙ c.if-index.false) in
+    let same : old ≡ c.act.new.self.told.items = ap (λ t. t.items) (sym c.act.ensures.told) in
+    subst (λ (xs : List ℕ). TellsOne streams c.args.pid c.args.index old
+    (slice_set xs place c.saturating_add.result)) same
+    (tells_one streams c.args.pid c.args.index place c.saturating_add.result old at was c.saturating_add.ensures)
