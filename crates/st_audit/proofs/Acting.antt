@@ -11,16 +11,15 @@ use Rattle.st_core.specs.declared.types.Act.TheVariants as act
 use Rattle.st_core.specs.declared.types.Want.TheVariants as want
 use Rattle.st_core.specs.Pid.{pid_eq}
 use Rattle.st_core.specs.State.{Process, State, process}
-use Rattle.st_core.specs.Step.{Outcome, actor}
-use Rattle.st_core.specs.Run.{Stream, run_from, stream}
-use Rattle.st_core.proofs.ForCallers.{mapped, pid_eq-refl}
+use Rattle.st_core.specs.Step.{actor}
+use Rattle.st_core.specs.Run.{Stream, stream}
+use Rattle.st_core.proofs.ForCallers.{pid_eq-refl}
 use Rattle.st_mail.specs.Mail.{is_stamp}
 use Rattle.st_mail.specs.declared.outcome.Outcome.{Outcome as Told}
 use Rattle.st_world.specs.World.{outcome_to, place_in}
 use Rattle.st_order.specs.declared.item.Item.TheVariants as item
 use Rattle.st_plan.specs.Moves.{move_by}
 use Rattle.st_plan.specs.Build.{acts_of, flags_of, ready, start_of, GoesOn}
-use Rattle.st_plan.specs.Plain.{told_by}
 use Rattle.st_plan.proofs.ForCallers.{stream_append}
 use Rattle.st_audit.specs.Progress.{is_uncaused, IsStamped, RanTo}
 use Rattle.st_audit.proofs.Running.{last_ran}

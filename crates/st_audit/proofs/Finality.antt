@@ -1,11 +1,10 @@
 -- A finding by a reason of pairing is final, since that reason refuses the streams.
-use Rattle.std.proofs.Common.{◌≡◌, ℕ, List, Option, Some, None, IfOk, refl, sym, ◌∙◌}
+use Rattle.std.proofs.Common.{◌≡◌, ℕ, List, Option, Some, None, IfOk, refl, ◌∙◌}
 use Rattle.std.specs.Prelude.{Result, Ok, Err, IsSome}
 use Rattle.std.specs.Option.{ForSome}
-use Rattle.std.proofs.lemmas.Option.{same_Some, none-some}
+use Rattle.std.proofs.lemmas.Option.{none-some}
 use Rattle.st_core.specs.Run.{Stream}
 use Rattle.st_pair.specs.declared.answer.PairFault.{PairFault}
-use Rattle.st_pair.specs.declared.answer.PairFault.TheVariants as fault
 use Rattle.st_pair.specs.Pairing.{refusal}
 use Rattle.st_pair.specs.Final.{IsPrevNotBefore, NeverShown, NeverShownInOneTrace}
 use Rattle.st_pair.proofs.ForCallers.{prev_never_shown, refused_never_shown}

@@ -11,6 +11,7 @@ mod Opening
 mod Nothing
 mod Refused
 mod Finality
+mod Fullness
 mod Ending
 mod Stamping
 mod Track

@@ -61,7 +61,7 @@ module _ (top : ℕ) (old : State) (before : List Act) (pids : List Pid) where
       → Ran top old (tracers_after None pids) now × (acts ≡ before ++ tracers_after None pids)
   all_opened seen now acts n past opens =
       let end : tracers_after seen (drop n pids) ≡ [] = ap (tracers_after seen) (drop_of_length-le pids past) in
-      let whole : opens.tracers ≡ tracers_after None pids = 
+      let whole : opens.tracers ≡ tracers_after None pids =
       sym (opens.rest ∙ ap (λ xs. opens.tracers ++ xs) end ∙ append-nil opens.tracers) in (
         subst (λ xs. Ran top old xs now) whole opens.ran,
         opens.put ∙ ap (λ xs. before ++ xs) whole,

@@ -1,7 +1,7 @@
 -- The acts that bring a process to a stamp report nothing: below the count they lead up to it in quiet, and above it
 -- they put on a token at most.
-use Rattle.std.proofs.Common.{◌≡◌, ℕ, ◌+◌, ◌-◌, ◌<◌, ◌≤◌, ◌==◌, ◌⊎◌, inl, inr, max, nat_lt, true, false, cond, List}
-use Rattle.std.proofs.Common.{[], ◌++◌, Some, refl, sym, ◌∙◌, ap, subst, arith}
+use Rattle.std.proofs.Common.{◌≡◌, ℕ, ◌+◌, ◌-◌, ◌<◌, ◌≤◌, ◌==◌, inl, inr, max, nat_lt, true, false, List}
+use Rattle.std.proofs.Common.{[], Some, refl, sym, ◌∙◌, ap, subst, arith}
 use Rattle.std.proofs.lemmas.Bool.{cases_lt, eq-eqb}
 use Rattle.std.proofs.lemmas.Bool.Decides.{nat_tests}
 use Rattle.std.proofs.lemmas.Option.{same_Some}
@@ -13,7 +13,7 @@ use Rattle.st_core.specs.State.{Process, State, process}
 use Rattle.st_core.specs.Step.{Outcome}
 use Rattle.st_core.specs.Run.{run_from, stream}
 use Rattle.st_plan.specs.declared.plan.Start.{Start}
-use Rattle.st_plan.specs.Build.{dress, raise, ready, renew, renewed, start_of}
+use Rattle.st_plan.specs.Build.{ready, start_of}
 use Rattle.st_plan.proofs.ForCallers.{is_ready, lifted, stream_silent, Silent}
 use Rattle.st_audit.specs.Progress.{is_uncaused}
 use Rattle.st_audit.proofs.Moved.{caused_by}

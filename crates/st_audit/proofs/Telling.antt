@@ -1,6 +1,6 @@
 -- The counts of what each process told: a reported item adds one to its process's, at the place of its pid alone.
 use Rattle.std.proofs.Common.{◌≡◌, ◌≢◌, ℕ, ◌+◌, ◌^◌, ◌<◌, ◌==◌, min, zero, suc, true, false, not, cond, List, [], ◌∷◌, inl, inr}
-use Rattle.std.proofs.Common.{length, replicate, map, None, Option, Some, slice_get, get_or, refl, sym, ◌∙◌, ap, subst, arith, find}
+use Rattle.std.proofs.Common.{length, replicate, None, Option, Some, slice_get, get_or, refl, sym, ◌∙◌, ap, subst, arith}
 use Rattle.std.specs.List.{AllByRecursion, slice_set}
 use Rattle.std.proofs.Math.ListN.{length-map}
 use Rattle.std.proofs.lemmas.Bool.{cases_order, eqb-true, false≢true}
@@ -11,7 +11,7 @@ use Rattle.st_core.specs.declared.types.Pid.{Pid}
 use Rattle.st_core.specs.declared.types.Event.{Event}
 use Rattle.st_core.specs.Pid.{pid_eq, IsBelow, IsRising}
 use Rattle.st_core.specs.Run.{Stream, pids_of}
-use Rattle.st_core.specs.Streams.{stream_of, events_of}
+use Rattle.st_core.specs.Streams.{stream_of}
 use Rattle.st_core.proofs.ForCallers.{pid_eq-refl, pid_same, rising_at, IsBelow-apart}
 use Rattle.st_pair.specs.Places.{event_at}
 use Rattle.st_order.specs.declared.item.Item.TheVariants as item
@@ -116,8 +116,8 @@ told_next streams earlier old new p i e rising are one k q at =
           ap (slice_get new) (sym place) ∙ one.now (omega arith) ∙ ap (λ (n : ℕ). Some (n + 1)) (sym was)
       | false ↦ λ apart fits.
           let other : k ≢ one.place = λ same.
-              let who : p ≡ q = same_Some p q (sym one.is_place ∙ ap (slice_get (pids_of streams)) (sym same) ∙ at) in
-              false≢true (sym apart ∙ ap (pid_eq p) (sym who) ∙ pid_eq-refl p) in
+          let who : p ≡ q = same_Some p q (sym one.is_place ∙ ap (slice_get (pids_of streams)) (sym same) ∙ at) in
+          false≢true (sym apart ∙ ap (pid_eq p) (sym who) ∙ pid_eq-refl p) in
           let still : told q earlier ≡ told q earlier + 0 = omega arith in
           one.others k other ∙ are k q at (omega arith) ∙ ap (λ (n : ℕ). Some n) still
     ] refl

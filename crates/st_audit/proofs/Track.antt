@@ -1,7 +1,7 @@
 -- In plain streams the construction goes on from item to item: its acts run, its world is as the moves say, and its acts
 -- tell what the moves tell. So at the end they show the streams.
-use Rattle.std.proofs.Common.{◌≡◌, ℕ, ◌+◌, ◌≤◌, ◌==◌, suc, true, false, not, List, [], ◌∷◌, ◌++◌, take, drop, length, get_or}
-use Rattle.std.proofs.Common.{reverse, Option, Some, None, IsSome, All, append_assoc, slice_get, refl, sym, ◌∙◌, ap, subst}
+use Rattle.std.proofs.Common.{◌≡◌, ℕ, ◌+◌, ◌≤◌, suc, false, not, List, [], ◌∷◌, ◌++◌, take, drop, length, get_or}
+use Rattle.std.proofs.Common.{Some, None, IsSome, append_assoc, slice_get, refl, sym, ◌∙◌, ap, subst}
 use Rattle.std.proofs.lemmas.Bool.{eq-eqb}
 use Rattle.std.proofs.lemmas.List.{append-nil, take_all, take_more}
 use Rattle.std.proofs.lemmas.Option.{same_Some, get_or_from_slice_get, slice_get-get_or, slice_get_within}
@@ -21,11 +21,11 @@ use Rattle.st_order.specs.Items.{event_of}
 use Rattle.st_order.specs.Order.{IsOrder}
 use Rattle.st_order.proofs.ForCallers.{all_found}
 use Rattle.st_plan.specs.Moves.{Move, earlier_of, move_by, moves}
-use Rattle.st_plan.specs.Build.{state_after, tracers_after, GoesOn}
+use Rattle.st_plan.specs.Build.{state_after, tracers_after}
 use Rattle.st_plan.specs.Plain.{out_of_turn, told, told_all, told_by, IsPlain}
 use Rattle.st_plan.proofs.ForCallers.{earlier_more, goes_on, in_turn_at, moves_append, one_move, opens, order_there}
 use Rattle.st_plan.proofs.ForCallers.{run_append, state_append, stream_append, stream_silent, tells_all_events}
-use Rattle.st_plan.proofs.ForCallers.{IsAt, IsKept, IsThere}
+use Rattle.st_plan.proofs.ForCallers.{IsKept, IsThere}
 use Rattle.st_audit.specs.declared.construction.Halt.{Halt}
 use Rattle.st_audit.specs.declared.construction.Halt.TheVariants as halt
 use Rattle.st_audit.specs.Findings.{IsNo}
@@ -185,8 +185,7 @@ module _ (top : ℕ) (streams : List Stream) (sound : IsStreams streams) (plain 
       → Shows top streams acts
   track_shows n s acts past track =
       let all : take n xs ≡ xs = take_all n xs past in
-      let found = all_found streams sound.draft.rising in
-      (
+      let found = all_found streams sound.draft.rising in (
         track.outcomes,
         track.runs,
         λ k d within.

@@ -11,6 +11,7 @@ ghost use Rattle.st_pair.specs.Places.{event_at};
 ghost use Rattle.st_pair.specs.Final.{IsPrevNotBefore, NeverShown, NeverShownInOneTrace};
 ghost use Rattle.st_audit.specs.Findings.{fault_of, unfit_by, HandsOn, IsFinding, IsFit};
 ghost use Rattle.st_plan.specs.Plain.{IsPlain};
+ghost use Rattle.st_full.specs.Full.{IsFullyShown};
 ghost use Rattle.st_plan.specs.Reasons.{item_place};
 
 use crate::construction::{Construction, Halt};
@@ -139,6 +140,7 @@ fn audited<const TOP: u64>(
     ensures found { IfOk result (IsFinding TOP streams.now) }
     ensures handed_on { IfOk result (HandsOn streams.now) }
     ensures plain_fits { IfOk result (λ found. IsPlain TOP streams.now → IsFit found) }
+    ensures full_fits { IfOk result (λ found. IsFullyShown TOP streams.now → IsFit found) }
 {
     let pids = streams.pids();
     let pairing = match pair(alloc, streams) {
@@ -174,8 +176,9 @@ pub fn audit<const TOP: u64>(
         ForSome (fault_of found) (λ fault. IsPrevNotBefore fault → NeverShown streams.now)) }
     ensures final_without_reset { IfOk result (λ found. IsSome (fault_of found) → NeverShownInOneTrace streams.now) }
 
-    // And where the answer is never a refusal.
+    // And where the answer is never a refusal: nothing stands against the streams, or some run reported all of itself.
     ensures plain_fits { IfOk result (λ found. IsPlain TOP streams.now → IsFit found) }
+    ensures full_fits { IfOk result (λ found. IsFullyShown TOP streams.now → IsFit found) }
 {
     audited::<TOP>(rt, alloc, streams)
 }

@@ -1,9 +1,12 @@
--- Streams that tell all: what a run without a reset that reports everything makes of its streams, said of them alone.
+-- Streams that tell all: what a run without a reset that reports everything makes of its streams, said of them alone;
+-- and such a run.
 use Rattle.std.specs.Prelude.{◌≡◌, ℕ, ◌≤◌, true, false, List, take, None, Some}
 use Rattle.st_core.specs.declared.types.Pid.{Pid}
+use Rattle.st_core.specs.declared.types.Act.{Act}
 use Rattle.st_core.specs.declared.types.Event.{Event}
-use Rattle.st_core.specs.Laws.{GoesOnFrom}
-use Rattle.st_core.specs.Run.{Stream}
+use Rattle.st_core.specs.Laws.{GoesOnFrom, NoReset, ReportsEverything}
+use Rattle.st_core.specs.Run.{Shows, Stream, pids_of}
+use Rattle.st_core.specs.State.{zero_state}
 use Rattle.st_core.specs.Streams.{events_of}
 use Rattle.st_pair.specs.Pairing.{refusal}
 use Rattle.st_pair.specs.Places.{event_at, is_stamp}
@@ -17,3 +20,10 @@ pub record IsFull (top : ℕ) (streams : List Stream) : Type 0 where
       → GoesOnFrom (take i (events_of streams p)) e
   pub reported : (p : Pid) (i : ℕ) (e : Event) → event_at streams p i ≡ Some e → is_hidden streams e ≡ false
   pub within : (p : Pid) (i : ℕ) (e : Event) → event_at streams p i ≡ Some e → e.serial.this ≤ top
+
+-- acts without a reset show the streams, and in their run every stamp and every receive of a token is reported
+pub record IsFullyShown (top : ℕ) (streams : List Stream) : Type 0 where
+  pub acts : List Act
+  pub shows : Shows top streams acts
+  pub one_trace : NoReset acts
+  pub whole : ReportsEverything (zero_state (pids_of streams)) acts shows.0

@@ -1,5 +1,6 @@
 -- A reason of pairing holds of the streams, at a place that has an event.
 use Rattle.std.proofs.Common.{sym, ◌∙◌}
+use Rattle.st_audit.proofs.Fullness.{full_fits, refused_full}
 use Rattle.st_audit.proofs.Refused.{handed}
 use Rattle.st_audit.proofs.auditing.audited.Goals as goal
 
@@ -7,3 +8,13 @@ pub returns-in-Some-clause-found : goal.returns-in-Some-clause-found
 returns-in-Some-clause-found g c =
     handed c.args.streams.now c.pids-pids.ensures.streams.draft.rising g.row.TOP c.in-Err.fault c.in-Some.finding
     c.in-Err.ensures.err (sym c.unfit_by.ensures ∙ c.in-Some.is)
+
+pub returns-in-Some-clause-full_fits : goal.returns-in-Some-clause-full_fits
+returns-in-Some-clause-full_fits g c =
+    refused_full g.row.TOP c.args.streams.now c.in-Err.fault c.in-Some.finding
+    c.pids-pids.ensures.streams.draft.rising c.in-Err.ensures.err (sym c.unfit_by.ensures ∙ c.in-Some.is)
+
+pub returns-clause-full_fits : goal.returns-clause-full_fits
+returns-clause-full_fits g c =
+    full_fits g.row.TOP c.args.streams.now c.pids-pids.ensures.streams.draft.rising c.found.result
+    (c.found.ensures.plain_fits c.in-Ok.ensures.ok c.pids-pids.ensures.value)

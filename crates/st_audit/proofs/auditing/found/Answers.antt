@@ -1,6 +1,6 @@
 -- The place of each item has an event, and where the construction halts for a reason of its own it holds there. In
 -- plain streams it doesn't halt but for memory.
-use Rattle.std.proofs.Common.{◌≡◌, ◌+◌, ◌-◌, ◌++◌, length, take, get_or, rules, arith, None, IsSome, [], sym, ◌∙◌, ap}
+use Rattle.std.proofs.Common.{◌≡◌, ◌-◌, ◌++◌, length, take, get_or, rules, arith, None, IsSome, [], sym, ◌∙◌, ap}
 use Rattle.std.proofs.Common.{subst}
 use Rattle.std.proofs.lemmas.Option.{slice_get-get_or}
 use Rattle.st_core.specs.State.{zero_state}

@@ -75,9 +75,9 @@ returns-in-Reported-clause-follows g c = λ x at pairs are.
     subst (λ (y : Item). (m : Serves g.row.TOP streams earlier y old.world)
     → Follows m.goes.acts m.goes.outcomes old.world old.acts c.report.result now.world now.acts) same
     (λ m.
-        let rises = serial_rises streams (paired streams c.requires.accepted) p i m.event m.there in
-        let turn = in_turn streams earlier old.told.items p i m.event are m.in_turn in
-        c.report.ensures.follows m.event m.there rises pairs turn m.goes)
+    let rises = serial_rises streams (paired streams c.requires.accepted) p i m.event m.there in
+    let turn = in_turn streams earlier old.told.items p i m.event are m.in_turn in
+    c.report.ensures.follows m.event m.there rises pairs turn m.goes)
 
 pub returns-in-Reported-clause-tells : goal.returns-in-Reported-clause-tells
 returns-in-Reported-clause-tells g c = λ are.
@@ -91,10 +91,10 @@ returns-in-Reported-clause-tells g c = λ are.
     let here = slice_get-get_or xs n _ c.requires.within ∙ ap (λ (x : Item). Some x) c.in-Reported.is in
     ok_both c.report.result _ _ (λ x. AreTold streams (earlier_of streams (take (n + 1) xs)) counts)
     (λ x done tells.
-        let more = earlier_more streams xs n (item.Reported p i) done.event here done.at in
-        subst (λ ms. AreTold streams ms counts) (sym more)
-        (told_next streams earlier c.args.self.now.told.items counts p i done.event c.requires.streams.draft.rising are
-        tells))
+    let more = earlier_more streams xs n (item.Reported p i) done.event here done.at in
+    subst (λ ms. AreTold streams ms counts) (sym more)
+    (told_next streams earlier c.args.self.now.told.items counts p i done.event c.requires.streams.draft.rising are
+    tells))
     c.report.ensures.done c.report.ensures.tells
 
 pub returns-in-Hidden-clause-follows : goal.returns-in-Hidden-clause-follows
@@ -126,7 +126,7 @@ returns-in-Hidden-clause-tells g c = λ are.
     let same : c.args.self.now.told.items ≡ counts = ap (λ t. t.items) (sym c.send_hidden.ensures.told) in
     IfOk-weaker c.send_hidden.result _ _
     (λ x done.
-        let more = earlier_more streams xs n (item.Hidden p i) done.event here done.at in
-        subst (λ ms. AreTold streams ms counts) (sym more)
-        (told_hidden streams earlier counts p i done.event (subst (AreTold streams earlier) same are)))
+    let more = earlier_more streams xs n (item.Hidden p i) done.event here done.at in
+    subst (λ ms. AreTold streams ms counts) (sym more)
+    (told_hidden streams earlier counts p i done.event (subst (AreTold streams earlier) same are)))
     c.send_hidden.ensures.done

@@ -1,5 +1,5 @@
 -- The act's report is the event, at the place of whose process one more is told.
-use Rattle.std.proofs.Common.{◌≡◌, ◌<◌, ◌∷◌, arith, get_or, length, rules, slice_get, slice_set, ℕ, List, Ok, Some, sym, ◌∙◌, ap, subst}
+use Rattle.std.proofs.Common.{◌≡◌, ◌<◌, arith, length, rules, slice_get, slice_set, ℕ, List, Ok, Some, sym, ◌∙◌, ap, subst}
 use Rattle.std.proofs.lemmas.Option.{same_Some, get_or_from_slice_get, slice_get-get_or}
 use Rattle.st_core.specs.declared.types.Event.{Event}
 use Rattle.st_order.specs.declared.item.Item.TheVariants as item
@@ -37,9 +37,9 @@ returns-in_err-told-clause-follows g c = λ e at rises pairs told.
     subst (λ (e : Event). (go : GoesOn g.row.TOP streams old.world (move_by (item.Reported p i) e))
     → Follows go.acts go.outcomes old.world old.acts c.from_residual.result now.world now.acts) same
     (λ go.
-        let done = c.in_err-told.ensures.follows streams pairs go in
-        let goes = done.goes in
-        record { goes = search rules; put = search rules; after = search rules })
+    let done = c.in_err-told.ensures.follows streams pairs go in
+    let goes = done.goes in
+    record { goes = search rules; put = search rules; after = search rules })
 
 pub index_mut-requires : goal.index_mut-requires
 index_mut-requires g c =
@@ -60,8 +60,8 @@ returns-clause-follows g c = λ e at rises pairs told.
     subst (λ (e : Event). (go : GoesOn g.row.TOP streams old.world (move_by (item.Reported p i) e))
     → Follows go.acts go.outcomes old.world old.acts (Ok tt) now.world now.acts) same
     (λ go.
-        let done = c.in_ok-told.ensures.follows streams pairs go in
-        record { goes = tt; put = done.put; after = done.after })
+    let done = c.in_ok-told.ensures.follows streams pairs go in
+    record { goes = tt; put = done.put; after = done.after })
 
 pub returns-clause-tells : goal.returns-clause-tells
 returns-clause-tells g c =

@@ -1,5 +1,5 @@
 -- The acts are those of the hidden send.
-use Rattle.std.proofs.Common.{◌≡◌, ◌++◌, ◌∷◌, [], false, true, Some, Ok, sym, ◌∙◌, subst}
+use Rattle.std.proofs.Common.{◌≡◌, false, true, Ok, sym, ◌∙◌, subst}
 use Rattle.std.proofs.lemmas.Option.{same_Some}
 use Rattle.st_core.specs.declared.types.Act.TheVariants as act
 use Rattle.st_core.specs.declared.types.Event.{Event}
@@ -27,9 +27,9 @@ returns-clause-follows g c = λ e at.
     subst (λ (e : Event). (go : GoesOn top streams old.world (move_by (item.Hidden p i) e))
     → Follows go.acts go.outcomes old.world old.acts (Ok tt) now.world now.acts) same
     (λ go.
-        let acts = ready x.from (start_of go.before.local) x.label x.serial f in
-        let is = hidden_acts streams p i x go.before go.acts c.in-Some-to.to go.are c.in-Some-to.is in
-        let makes = c.in_ok-stamp.ensures.makes go.before go.is_before in
-        let done = follow top acts a old.world old.acts (Ok c.in_ok-stamp.field-0) now.world now.acts go.acts
-        go.outcomes makes is go.runs in
-        record { goes = tt; put = done.put; after = done.after })
+    let acts = ready x.from (start_of go.before.local) x.label x.serial f in
+    let is = hidden_acts streams p i x go.before go.acts c.in-Some-to.to go.are c.in-Some-to.is in
+    let makes = c.in_ok-stamp.ensures.makes go.before go.is_before in
+    let done = follow top acts a old.world old.acts (Ok c.in_ok-stamp.field-0) now.world now.acts go.acts
+    go.outcomes makes is go.runs in
+    record { goes = tt; put = done.put; after = done.after })

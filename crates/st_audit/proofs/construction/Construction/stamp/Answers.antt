@@ -45,7 +45,7 @@ returns-clause-makes g c = λ before is.
     let ran : Ran g.row.TOP old.world acts between.world =
     subst (λ xs. Ran g.row.TOP old.world xs between.world) planned done.ran in
     let put : between.acts ≡ old.acts ++ acts = done.acts ∙ ap (λ xs. old.acts ++ xs) planned in
-    subst (λ (x : Start). Makes g.row.TOP (ready p x e.label e.serial c.args.flags ) a old.world old.acts
+    subst (λ (x : Start). Makes g.row.TOP (ready p x e.label e.serial c.args.flags) a old.world old.acts
     c.perform.result now.world now.acts)
     (started old.world p before start is (sym c.start.ensures ∙ c.in-Some.is))
     (made g.row.TOP old.world between.world acts a old.acts between.acts now.acts c.perform.result now.world ran put
