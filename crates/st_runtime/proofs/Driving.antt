@@ -1,5 +1,5 @@
--- A record of joined pieces is that of driven scripts: the seats hold the scripts, and each seat's calls stand in the run
--- in their order. A worker's refusal is one of an act of its script.
+-- A record of joined pieces is that of driven scripts: the seats hold the scripts, and each seat's calls stand in the
+-- run in their order. A worker's refusal is one of an act of its script.
 use Rattle.std.proofs.Common.{◌≡◌, ◌≢◌, ℕ, zero, suc, ◌<◌, ◌≤◌, Bool, true, false, cond, List, [], ◌∷◌, ◌++◌}
 use Rattle.std.proofs.Common.{length, map, None, refl, sym, ◌∙◌, ap, subst, arith, inl, inr}
 use Rattle.std.proofs.Common.{⊎_elim}
@@ -65,7 +65,8 @@ pids_worked pids (t ∷ ts) (e ∷ es) worked = λ i. worked.0.pid i ∷ pids_wo
 acts_done : (pids : List Pid) (t : Task) (e : Ending) → IsWorked pids t e → e.fault ≡ None
     → acts_of e.seat.mine ≡ t.1
 acts_done pids t e worked none =
-    subst (λ o. MatchOption o (acts_of e.seat.mine ≡ t.1) (IsRefused pids t.0 t.1 (length e.seat.mine))) none worked.acts
+    let refused : ActFault → Type 0 = IsRefused pids t.0 t.1 (length e.seat.mine) in
+    subst (λ o. MatchOption o (acts_of e.seat.mine ≡ t.1) refused) none worked.acts
 
 acts_worked : (pids : List Pid) (ts : List Task) (es : List Ending) → AllZip (IsWorked pids) ts es
     → All (λ (e : Ending). e.fault ≡ None) es → map (λ e. acts_of e.seat.mine) es ≡ map (λ t. t.1) ts
@@ -168,7 +169,8 @@ worker_fault top ranks pids scripts ends p n f g worked ending told possible =
     let at_n : IsRefused pids t.0 script n f = subst (λ m. IsRefused pids t.0 script m f) ending.place refused in
     record {
       script = script;
-      scripted = subst (λ q. Contains (zip pids scripts) (q, script)) whose (In-Contains t (zip pids scripts) found.1.0);
+      scripted = subst (λ q. Contains (zip pids scripts) (q, script)) whose
+          (In-Contains t (zip pids scripts) found.1.0);
       refused = told script (subst (λ q. IsRefused pids q script n f) whose at_n);
       possible = possible;
     }

@@ -45,12 +45,10 @@ zip_map f [] ys = refl
 zip_map f (x ∷ xs) [] = refl
 zip_map f (x ∷ xs) (y ∷ ys) = ap (λ rest. (f x, y) ∷ rest) (zip_map f xs ys)
 
-same_unless : (p q : Pid) → ¬ (p ≢ q) → p ≡ q
-same_unless p q alike =
-    elim (pid_eq p q) as (λ b. pid_eq p q ≡ b → p ≡ q) [
-      | true ↦ λ is. pid_eq-true p q is
-      | false ↦ λ is. absurd (alike (λ same. let one : pid_eq p q ≡ true = ap (λ r. pid_eq p r) (sym same) ∙ pid_eq-same p in cc))
-    ] refl
+same_by : (p q : Pid) (b : Bool) → pid_eq p q ≡ b → ¬ (p ≢ q) → p ≡ q
+same_by p q true is alike = pid_eq-true p q is
+same_by p q false is alike =
+    absurd (alike (λ same. let one : pid_eq p q ≡ true = ap (λ r. pid_eq p r) (sym same) ∙ pid_eq-same p in cc))
 
 known_unless : (b : Bool) → ¬ (b ≡ false) → b ≡ true
 known_unless true h = refl
@@ -62,7 +60,8 @@ pub own_act : (pids : List Pid) (p : Pid) (a : Act) (r : Result Reply ActFault)
     → (r ≡ Err fault.Unknown) ↔ ((actor a ≡ p) × (knows pids a ≡ false))
     → ((f : ActFault) → r ≢ Err f) → IsOwn pids p a
 own_act pids p a r not_yours unknown done =
-    let mine : actor a ≡ p = same_unless (actor a) p (λ apart. done fault.NotYours (not_yours.1 apart)) in
+    let mine : actor a ≡ p =
+    same_by (actor a) p (pid_eq (actor a) p) refl (λ apart. done fault.NotYours (not_yours.1 apart)) in
     record {
       mine = mine;
       known = known_unless (knows pids a) (λ not. done fault.Unknown (unknown.1 (mine, not)));

@@ -1,5 +1,5 @@
 -- So far these are the pids of the processes.
-use Rattle.std.proofs.Common.{◌≡◌, map, take}
+use Rattle.std.proofs.Common.{◌≡◌, take}
 use Rattle.st_runtime.specs.Pieces.{pids_in}
 use Rattle.st_runtime.proofs.join.tests.without_seats.Given as goal
 
