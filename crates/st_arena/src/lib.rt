@@ -21,8 +21,6 @@
 mod chain;
 mod lists;
 mod node;
-#[cfg(test)]
-mod tests;
 mod walk;
 
 pub use lists::Lists;

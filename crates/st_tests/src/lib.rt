@@ -1,12 +1,23 @@
-//! Tests of the crates of the machine's types, texts, pairs and chains.
+//! Tests of the crates below the program, but for those of the auditor and of the runtime.
 //!
 //! They stand in a crate of their own: a crate that has tests is proved twice, with and without them.
+//!
+//! | Module | Tests |
+//! |---|---|
+//! | `machine` | `st_core`: types, local steps, streams, devices |
+//! | `text` | `st_text` |
+//! | `lists` | `st_arena` |
+//! | `pairs` | `st_pair` |
+//! | `chains` | `st_chain` |
+//! | `collected` | none: texts of streams, and pids, that the others share |
 #![tactic(auto)]
 
 #[cfg(test)]
 mod chains;
 #[cfg(test)]
 mod collected;
+#[cfg(test)]
+mod lists;
 #[cfg(test)]
 mod machine;
 #[cfg(test)]

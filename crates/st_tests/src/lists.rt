@@ -4,7 +4,7 @@
 ghost use Rattle.std.specs.Prelude.{◌≡◌, ◌<◌, length, IfOk, map};
 ghost use Rattle.st_arena.specs.Arena.{list_at};
 
-use super::*;
+use st_arena::Lists;
 use std::alloc::{AllocError, Global};
 use std::process::Abort;
 use std::test::Fail;
