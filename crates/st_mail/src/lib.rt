@@ -13,6 +13,3 @@ mod outcome;
 
 pub use mailboxes::Mailboxes;
 pub use outcome::Outcome;
-
-#[cfg(test)]
-mod tests;

@@ -7,6 +7,7 @@
 //! | `machine` | `st_core`: types, local steps, streams, devices |
 //! | `text` | `st_text` |
 //! | `lists` | `st_arena` |
+//! | `mailboxes` | `st_mail` |
 //! | `pairs` | `st_pair` |
 //! | `chains` | `st_chain` |
 //! | `collected` | none: texts of streams, and pids, that the others share |
@@ -20,6 +21,8 @@ mod collected;
 mod lists;
 #[cfg(test)]
 mod machine;
+#[cfg(test)]
+mod mailboxes;
 #[cfg(test)]
 mod pairs;
 #[cfg(test)]

@@ -3,19 +3,12 @@
 
 ghost use Rattle.std.specs.Prelude.{◌≡◌, ◌<◌, ◌+◌, length, IfOk};
 
-use crate::Mailboxes;
+use crate::collected::{p30, p31};
 use st_core::{Message, Pid, Serial, Token, Want};
+use st_mail::Mailboxes;
 use std::alloc::{AllocError, Global};
 use std::process::Abort;
 use std::test::Fail;
-
-fn p30() -> Pid {
-    Pid::new(30)
-}
-
-fn p31() -> Pid {
-    Pid::new(31)
-}
 
 /// A message of this value without a token.
 fn plain(from: Pid, value: u64) -> Message {
