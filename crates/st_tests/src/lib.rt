@@ -8,6 +8,7 @@
 //! | `text` | `st_text` |
 //! | `lists` | `st_arena` |
 //! | `mailboxes` | `st_mail` |
+//! | `world` | `st_world` |
 //! | `pairs` | `st_pair` |
 //! | `chains` | `st_chain` |
 //! | `collected` | none: texts of streams, and pids, that the others share |
@@ -27,3 +28,5 @@ mod mailboxes;
 mod pairs;
 #[cfg(test)]
 mod text;
+#[cfg(test)]
+mod world;

@@ -13,6 +13,3 @@ mod world;
 pub use outcome::{NewFault, StepFault};
 pub use st_mail::Outcome;
 pub use world::World;
-
-#[cfg(test)]
-mod tests;

@@ -4,8 +4,8 @@ ghost use Rattle.std.specs.Prelude.{◌<◌};
 
 use super::assert_counts;
 use super::slow::{Process, TOP, place_of, processes, step};
-use crate::World;
 use st_core::{Act, Component, Flags, Label, Pid, Serial, Token, Want};
+use st_world::World;
 use std::alloc::AllocError;
 use std::process::Abort;
 use std::test::Fail;

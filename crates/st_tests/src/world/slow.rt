@@ -2,10 +2,10 @@
 
 ghost use Rattle.std.specs.Prelude.{◌<◌, length, IfSome};
 
-use crate::{Outcome, StepFault};
 use st_core::{
     Act, Component, Event, Flags, Kind, Label, Message, Pid, Reply, Serial, Token, Want,
 };
+use st_world::{Outcome, StepFault};
 use std::alloc::{AllocError, Global};
 
 /// The greatest value of a clock.

@@ -4,24 +4,12 @@
 mod random;
 mod slow;
 
-use crate::{NewFault, Outcome, StepFault, World};
+use crate::collected::{p30, p31, p32};
 use st_core::{Act, Component, Event, Flags, Kind, Label, Pid, Reply, Serial, Token, Want};
+use st_world::{NewFault, Outcome, StepFault, World};
 use std::alloc::Global;
 use std::process::Abort;
 use std::test::Fail;
-
-/// The processes 30, 31 and 32 of node 0.
-fn p30() -> Pid {
-    Pid::new(30)
-}
-
-fn p31() -> Pid {
-    Pid::new(31)
-}
-
-fn p32() -> Pid {
-    Pid::new(32)
-}
 
 /// An outcome of a reply alone.
 fn only(reply: Reply) -> Result<Outcome, StepFault> {
