@@ -16,6 +16,3 @@ mod sorting;
 pub use item::Item;
 pub use labels::by_label;
 pub use sorting::order;
-
-#[cfg(test)]
-mod tests;

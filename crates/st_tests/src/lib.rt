@@ -11,6 +11,7 @@
 //! | `world` | `st_world` |
 //! | `pairs` | `st_pair` |
 //! | `chains` | `st_chain` |
+//! | `orders` | `st_order` |
 //! | `collected` | none: texts of streams, and pids, that the others share |
 #![tactic(auto)]
 
@@ -24,6 +25,8 @@ mod lists;
 mod machine;
 #[cfg(test)]
 mod mailboxes;
+#[cfg(test)]
+mod orders;
 #[cfg(test)]
 mod pairs;
 #[cfg(test)]

@@ -1,23 +1,122 @@
-//! Worked orders, each with the answer that the rules give by hand, and a large one against a plain
-//! sort; that each call succeeds with ample memory, and what it answers where a growth was refused
-//! (`rt try --test --fail-alloc N` refuses the N-th).
+//! Worked orders, each with the answer that the rules give by hand, a large one against a plain
+//! sort, and what a refused growth leaves.
 
-use crate::{Item, by_label, order};
+use crate::collected::{ONE_MESSAGE, made, p30, p31, p32, streams};
+use crate::text::CERTIFICATE;
 use st_core::{Draft, Event, Kind, Label, Pid, Sequence, Serial, Streams};
+use st_order::{Item, by_label, order};
 use st_pair::pair;
 use std::alloc::{AllocError, Global};
 use std::process::Abort;
 use std::test::Fail;
 use std::thread::Threads;
 
-/// The processes 30 and 31 of node 0.
-fn p30() -> Pid {
-    Pid::new(30)
+/// Prints whose labels fall.
+const FALLING_LABELS: &str = "seqtrace 1\n\
+    process <0.30.0>\n\
+    {seq_trace,18,{print,{0,1},<0.30.0>,[],0}}\n\
+    {seq_trace,17,{print,{0,2},<0.30.0>,[],0}}\n\
+    process <0.31.0>\n";
+
+/// The order of the certificate's items, by heights 1, 2, 2, 3, 4 and 4.
+fn certificate_order() -> [Item; 6] {
+    [
+        Item::Reported(p30(), 0),
+        Item::Hidden(p31(), 0),
+        Item::Reported(p31(), 0),
+        Item::Reported(p31(), 1),
+        Item::Hidden(p30(), 1),
+        Item::Reported(p30(), 1),
+    ]
 }
 
-fn p31() -> Pid {
-    Pid::new(31)
+/// That the order of the certificate's streams, and their items by label, are the worked ones.
+fn assert_certificate(
+    rt: &(impl Threads + Sync + Abort),
+    alloc: Global,
+    streams: &Streams,
+) -> Result<(), AllocError> {
+    let pairing = pair(alloc, streams).map_err(|_| AllocError)?;
+    let items = order(rt, alloc, streams, &pairing)?;
+    let expected = certificate_order();
+    assert_eq!(rt; items.as_slice(), expected.as_slice());
+    let groups = by_label(rt, alloc, streams, items.as_slice())?;
+    assert_eq!(rt; groups.len(), 1);
+    assert_group(rt, groups.as_slice().first(), 17, expected.as_slice());
+    Ok(())
 }
+
+#[test]
+fn hidden_sends_stand_before_their_receives(rt: HostRuntime) -> Result<(), Fail> {
+    let streams = streams(rt.alloc(), CERTIFICATE)?;
+    assert_certificate(&rt, rt.alloc(), &streams)?;
+    Ok(())
+}
+
+/// Where a growth is refused the answer is want of memory, and the same calls answer right afterwards.
+#[test]
+fn a_refused_growth_is_answered(rt: HostRuntime) {
+    let alloc = rt.alloc();
+    let Some(streams) = made(alloc, CERTIFICATE) else {
+        return;
+    };
+    if assert_certificate(&rt, alloc, &streams).is_err() {
+        assert!(rt; assert_certificate(&rt, alloc, &streams).is_ok());
+    }
+}
+
+/// That the group is there and has this label and these items.
+fn assert_group(
+    rt: &impl Abort,
+    group: Option<&(Label, Sequence<Item>)>,
+    label: u32,
+    items: &[Item],
+) {
+    match group {
+        None => panic!(rt; "no such group"),
+        Some((found, found_items)) => {
+            assert_eq!(rt; found.0, label);
+            assert_eq!(rt; found_items.as_slice(), items);
+        }
+    }
+}
+
+#[test]
+fn a_send_stands_before_its_receive(rt: HostRuntime) -> Result<(), Fail> {
+    let streams = streams(rt.alloc(), ONE_MESSAGE)?;
+    let pairing = pair(rt.alloc(), &streams)?;
+    let items = order(&rt, rt.alloc(), &streams, &pairing)?;
+    let expected = [Item::Reported(p30(), 0), Item::Reported(p31(), 0)];
+    assert_eq!(rt; items.as_slice(), expected.as_slice());
+    Ok(())
+}
+
+#[test]
+fn labels_rise(rt: HostRuntime) -> Result<(), Fail> {
+    let streams = streams(rt.alloc(), FALLING_LABELS)?;
+    let (first, second) = (Item::Reported(p30(), 0), Item::Reported(p30(), 1));
+    let groups = by_label(&rt, rt.alloc(), &streams, &[first, second])?;
+    assert_eq!(rt; groups.len(), 2);
+    assert_group(&rt, groups.as_slice().first(), 17, &[second]);
+    assert_group(&rt, groups.as_slice().last(), 18, &[first]);
+    Ok(())
+}
+
+#[test]
+fn an_item_of_no_place_has_no_label(rt: HostRuntime) -> Result<(), Fail> {
+    let streams = streams(rt.alloc(), CERTIFICATE)?;
+    let items = [Item::Reported(p30(), 2), Item::Hidden(p32(), 0)];
+    assert!(rt; by_label(&rt, rt.alloc(), &streams, &items)?.is_empty());
+    Ok(())
+}
+
+// A large case: in each process every fourth event is a send to the next process, and what follows it a
+// receive from the process before; half of these sends aren't reported.
+const PROCESSES: u16 = 50;
+
+const EVENTS: u32 = 200;
+
+const LABELS: u32 = 20;
 
 /// A print's event.
 fn printed(label: u32, serial: (u64, u64), from: Pid) -> Event {
@@ -48,146 +147,6 @@ fn received(label: u32, serial: (u64, u64), from: Pid, to: Pid) -> Event {
         ..sent(label, serial, from, to)
     }
 }
-
-/// The streams of P30 and P31 with these events. Where they aren't made, whatever the cause, the
-/// error is one: a test that needs them fails.
-fn streams(alloc: Global, events: &[(Pid, Event)]) -> Result<Streams, AllocError> {
-    let mut draft = Draft::new(alloc);
-    draft.open(p30()).map_err(|_| AllocError)?;
-    draft.open(p31()).map_err(|_| AllocError)?;
-    for (pid, event) in events {
-        draft.add(*pid, *event).map_err(|_| AllocError)?;
-    }
-    closed(draft)
-}
-
-fn closed(draft: Draft) -> Result<Streams, AllocError> {
-    draft.close().map_err(|_| AllocError)
-}
-
-/// Two processes that received messages whose sends nobody reported.
-fn hidden_sends(alloc: Global) -> Result<Streams, AllocError> {
-    let events = [
-        (p30(), printed(17, (0, 1), p30())),
-        (p30(), received(17, (2, 4), p31(), p30())),
-        (p31(), received(17, (0, 2), p30(), p31())),
-        (p31(), printed(17, (2, 3), p31())),
-    ];
-    streams(alloc, events.as_slice())
-}
-
-/// Their order, by heights 1, 2, 2, 3, 4 and 4.
-fn hidden_sends_order() -> [Item; 6] {
-    [
-        Item::Reported(p30(), 0),
-        Item::Hidden(p31(), 0),
-        Item::Reported(p31(), 0),
-        Item::Reported(p31(), 1),
-        Item::Hidden(p30(), 1),
-        Item::Reported(p30(), 1),
-    ]
-}
-
-/// That the order of these streams, and their items by label, are the worked ones.
-fn assert_hidden_sends(
-    rt: &(impl Threads + Sync + Abort),
-    alloc: Global,
-) -> Result<(), AllocError> {
-    let streams = hidden_sends(alloc)?;
-    let pairing = pair(alloc, &streams).map_err(|_| AllocError)?;
-    let items = order(rt, alloc, &streams, &pairing)?;
-    let expected = hidden_sends_order();
-    assert_eq!(rt; items.as_slice(), expected.as_slice());
-    let groups = by_label(rt, alloc, &streams, items.as_slice())?;
-    assert_eq!(rt; groups.len(), 1);
-    assert_group(rt, groups.as_slice(), 0, 17, expected.as_slice());
-    Ok(())
-}
-
-#[test]
-fn hidden_sends_stand_before_their_receives(rt: HostRuntime) -> Result<(), Fail> {
-    assert_hidden_sends(&rt, rt.alloc())?;
-    Ok(())
-}
-
-#[test]
-fn a_refused_growth_is_memory_or_the_right_answer(rt: HostRuntime) {
-    let _right_or_memory = assert_hidden_sends(&rt, rt.alloc());
-}
-
-/// That the group at this place has this label and these items.
-fn assert_group(
-    rt: &impl Abort,
-    groups: &[(Label, Sequence<Item>)],
-    place: usize,
-    label: u32,
-    items: &[Item],
-) {
-    match groups.get(place) {
-        None => panic!(rt; "no such group"),
-        Some((found, found_items)) => {
-            assert_eq!(rt; found.0, label);
-            assert_eq!(rt; found_items.as_slice(), items);
-        }
-    }
-}
-
-#[test]
-fn a_send_stands_before_its_receive(rt: HostRuntime) -> Result<(), Fail> {
-    let events = [
-        (p30(), sent(17, (0, 1), p30(), p31())),
-        (p31(), received(17, (0, 1), p30(), p31())),
-    ];
-    let streams = streams(rt.alloc(), events.as_slice())?;
-    let pairing = pair(rt.alloc(), &streams)?;
-    let items = order(&rt, rt.alloc(), &streams, &pairing)?;
-    let expected = [Item::Reported(p30(), 0), Item::Reported(p31(), 0)];
-    assert_eq!(rt; items.as_slice(), expected.as_slice());
-    Ok(())
-}
-
-#[test]
-fn labels_rise(rt: HostRuntime) -> Result<(), Fail> {
-    let events = [
-        (p30(), printed(18, (0, 1), p30())),
-        (p30(), printed(17, (0, 2), p30())),
-    ];
-    let streams = streams(rt.alloc(), events.as_slice())?;
-    let items = [Item::Reported(p30(), 0), Item::Reported(p30(), 1)];
-    let groups = by_label(&rt, rt.alloc(), &streams, items.as_slice())?;
-    assert_eq!(rt; groups.len(), 2);
-    assert_group(
-        &rt,
-        groups.as_slice(),
-        0,
-        17,
-        [Item::Reported(p30(), 1)].as_slice(),
-    );
-    assert_group(
-        &rt,
-        groups.as_slice(),
-        1,
-        18,
-        [Item::Reported(p30(), 0)].as_slice(),
-    );
-    Ok(())
-}
-
-#[test]
-fn an_item_of_no_place_has_no_label(rt: HostRuntime) -> Result<(), Fail> {
-    let streams = hidden_sends(rt.alloc())?;
-    let items = [Item::Reported(p30(), 2), Item::Hidden(Pid::new(32), 0)];
-    assert!(rt; by_label(&rt, rt.alloc(), &streams, items.as_slice())?.is_empty());
-    Ok(())
-}
-
-// A large case: in each process every fourth event is a send to the next process, and what follows it a receive from
-// the process before; half of these sends aren't reported.
-const PROCESSES: u16 = 50;
-
-const EVENTS: u32 = 200;
-
-const LABELS: u32 = 20;
 
 /// The process whose sends this one receives.
 fn before(process: u16) -> u16 {
@@ -251,17 +210,15 @@ fn event_at(process: u16, index: u32) -> Event {
     }
 }
 
-fn large(alloc: Global) -> Result<Streams, AllocError> {
+fn large(alloc: Global) -> Result<Streams, Fail> {
     let mut draft = Draft::new(alloc);
     for process in 0..PROCESSES {
-        draft.open(Pid::new(process)).map_err(|_| AllocError)?;
+        draft.open(Pid::new(process))?;
         for index in 0..EVENTS {
-            draft
-                .add(Pid::new(process), event_at(process, index))
-                .map_err(|_| AllocError)?;
+            draft.add(Pid::new(process), event_at(process, index))?;
         }
     }
-    closed(draft)
+    Ok(draft.close()?)
 }
 
 /// An item with its key, as the rules give them.
@@ -349,15 +306,10 @@ fn a_large_order_is_a_plain_sort_and_its_labels_are_plain_filters(
     assert_eq!(rt; items.as_slice(), expected.as_slice());
     let groups = by_label(&rt, alloc, &streams, items.as_slice())?;
     assert_eq!(rt; groups.len(), 20);
+    let mut groups = groups.as_slice().iter();
     for label in 0..LABELS {
         let filtered = plain_filter(alloc, &streams, expected.as_slice(), label)?;
-        assert_group(
-            &rt,
-            groups.as_slice(),
-            label as usize,
-            label,
-            filtered.as_slice(),
-        );
+        assert_group(&rt, groups.next(), label, filtered.as_slice());
     }
     Ok(())
 }
