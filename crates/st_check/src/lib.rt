@@ -9,8 +9,6 @@ pub mod laws;
 mod progress;
 mod recording;
 mod tags;
-#[cfg(test)]
-mod tests;
 mod verdict;
 
 pub use checking::check;

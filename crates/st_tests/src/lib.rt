@@ -12,11 +12,14 @@
 //! | `pairs` | `st_pair` |
 //! | `chains` | `st_chain` |
 //! | `orders` | `st_order` |
+//! | `checks` | `st_check`: checks and replays |
 //! | `collected` | none: texts of streams, and pids, that the others share |
 #![tactic(auto)]
 
 #[cfg(test)]
 mod chains;
+#[cfg(test)]
+mod checks;
 #[cfg(test)]
 mod collected;
 #[cfg(test)]

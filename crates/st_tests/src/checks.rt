@@ -1,73 +1,84 @@
-//! Worked certificates and replays, each with the answer that the rules of the machine give by hand.
-//! A call that refuses memory fails the test.
+//! Worked certificates and replays, each with the answer that the rules of the machine give by hand,
+//! and what a refused growth leaves.
 
-use crate::{CheckFault, ReplayFault, Replayed, Verdict, check, replay};
-use st_core::{
-    Act, Component, Draft, Event, Kind, Label, Pid, Reply, Sequence, Serial, Streams, Want,
-};
+use crate::collected::{made, p30, p31, p32, streams};
+use st_check::{CheckFault, ReplayFault, Replayed, Verdict, check, replay};
+use st_core::{Act, Component, Label, Pid, Reply, Sequence, Streams, Want};
 use std::alloc::{AllocError, Global};
-use std::process::Abort;
 use std::test::Fail;
 
 /// The greatest clock of the program.
 const MOST: u64 = u64::MAX;
 
-/// The processes 30, 31 and 32 of node 0.
-fn p30() -> Pid {
-    Pid::new(30)
-}
+/// One process, with no event, a print, that print twice, and another.
+const NO_PRINT: &str = "seqtrace 1\n\
+    process <0.30.0>\n";
 
-fn p31() -> Pid {
-    Pid::new(31)
-}
+const PRINT: &str = "seqtrace 1\n\
+    process <0.30.0>\n\
+    {seq_trace,17,{print,{0,1},<0.30.0>,[],7}}\n";
 
-fn p32() -> Pid {
-    Pid::new(32)
-}
+const PRINT_TWICE: &str = "seqtrace 1\n\
+    process <0.30.0>\n\
+    {seq_trace,17,{print,{0,1},<0.30.0>,[],7}}\n\
+    {seq_trace,17,{print,{0,1},<0.30.0>,[],7}}\n";
 
-/// A print's event.
-fn printed(label: u32, serial: (u64, u64), from: Pid, value: u64) -> Event {
-    Event {
-        label: Label(label),
-        kind: Kind::Print,
-        serial: Serial {
-            prev: serial.0,
-            this: serial.1,
-        },
-        from,
-        to: None,
-        value,
-    }
-}
+const OTHER_PRINT: &str = "seqtrace 1\n\
+    process <0.30.0>\n\
+    {seq_trace,17,{print,{0,2},<0.30.0>,[],7}}\n";
 
-/// An event of this kind with a receiver.
-fn passed(kind: Kind, label: u32, serial: (u64, u64), from: Pid, to: Pid, value: u64) -> Event {
-    Event {
-        kind,
-        to: Some(to),
-        ..printed(label, serial, from, value)
-    }
-}
+/// Receives of the second, first and third of three sends.
+const SECOND_FIRST: &str = "seqtrace 1\n\
+    process <0.30.0>\n\
+    process <0.31.0>\n\
+    {seq_trace,1,{'receive',{0,2},<0.30.0>,<0.31.0>,9}}\n\
+    {seq_trace,1,{'receive',{0,1},<0.30.0>,<0.31.0>,8}}\n\
+    {seq_trace,1,{'receive',{0,3},<0.30.0>,<0.31.0>,8}}\n";
 
-fn received(label: u32, serial: (u64, u64), from: Pid, to: Pid, value: u64) -> Event {
-    passed(Kind::Receive, label, serial, from, to, value)
-}
+/// Receives of the second, third and first.
+const FIRST_LAST: &str = "seqtrace 1\n\
+    process <0.30.0>\n\
+    process <0.31.0>\n\
+    {seq_trace,1,{'receive',{0,2},<0.30.0>,<0.31.0>,9}}\n\
+    {seq_trace,1,{'receive',{0,3},<0.30.0>,<0.31.0>,8}}\n\
+    {seq_trace,1,{'receive',{0,1},<0.30.0>,<0.31.0>,8}}\n";
 
-/// The streams of these processes with these events.
-fn streams(alloc: Global, pids: &[Pid], events: &[(Pid, Event)]) -> Result<Streams, Fail> {
-    let mut draft = Draft::new(alloc);
-    for pid in pids {
-        draft.open(*pid)?;
-    }
-    for (pid, event) in events {
-        draft.add(*pid, *event)?;
-    }
-    Ok(
-        draft
-            .close()
-            .map_err(|_| "an event names a process that isn't listed")?,
-    )
-}
+/// Receives on another node: of the first send twice, of it once, and of the second.
+const FAR_TWICE: &str = "seqtrace 2\n\
+    process <1.30.0>\n\
+    process <2.31.0>\n\
+    {seq_trace,17,{'receive',{0,1},<1.30.0>,<2.31.0>,5}}\n\
+    {seq_trace,17,{'receive',{0,1},<1.30.0>,<2.31.0>,5}}\n";
+
+const FAR_ONCE: &str = "seqtrace 2\n\
+    process <1.30.0>\n\
+    process <2.31.0>\n\
+    {seq_trace,17,{'receive',{0,1},<1.30.0>,<2.31.0>,5}}\n";
+
+const FAR_LATER: &str = "seqtrace 2\n\
+    process <1.30.0>\n\
+    process <2.31.0>\n\
+    {seq_trace,17,{'receive',{0,2},<1.30.0>,<2.31.0>,5}}\n";
+
+/// A message to oneself, and a send of the next.
+const OWN: &str = "seqtrace 1\n\
+    process <0.30.0>\n\
+    {seq_trace,17,{'receive',{0,1},<0.30.0>,<0.30.0>,5}}\n\
+    {seq_trace,17,{send,{1,2},<0.30.0>,<0.30.0>,6}}\n";
+
+/// What is reported of sends with a falling serial.
+const LOW_SERIAL: &str = "seqtrace 1\n\
+    process <0.30.0>\n\
+    process <0.31.0>\n\
+    {seq_trace,0,{send,{3,6},<0.31.0>,<0.30.0>,9}}\n\
+    process <0.32.0>\n\
+    {seq_trace,0,{send,{0,3},<0.32.0>,<0.31.0>,3}}\n";
+
+/// The receive of 30's send of 5.
+const RECEIVED: &str = "seqtrace 1\n\
+    process <0.30.0>\n\
+    process <0.31.0>\n\
+    {seq_trace,1,{'receive',{0,1},<0.30.0>,<0.31.0>,5}}\n";
 
 /// What `check` is to answer.
 #[derive(Clone, Copy)]
@@ -98,15 +109,9 @@ fn answers<const TOP: u64>(
     Ok(is_wanted(&verdict, wanted))
 }
 
-/// The same of streams that are made here, and of the program's clocks.
-fn judges(
-    alloc: Global,
-    pids: &[Pid],
-    events: &[(Pid, Event)],
-    acts: &[Act],
-    wanted: Wanted,
-) -> Result<bool, Fail> {
-    let streams = streams(alloc, pids, events)?;
+/// The same of a text's streams, and of the program's clocks.
+fn judges(alloc: Global, text: &str, acts: &[Act], wanted: Wanted) -> Result<bool, Fail> {
+    let streams = streams(alloc, text)?;
     Ok(answers::<MOST>(alloc, &streams, acts, wanted)?)
 }
 
@@ -122,22 +127,20 @@ fn print_one() -> [Act; 4] {
 
 #[test]
 fn one_print_is_compared_with_its_stream(rt: HostRuntime) -> Result<(), Fail> {
-    let event = (p30(), printed(17, (0, 1), p30(), 7));
-    let other = (p30(), printed(17, (0, 2), p30(), 7));
     let look = [Act::Look(p31())];
     let send = [Act::Send(p30(), p31(), 1)];
     let print = print_one();
-    let cases: [(&[(Pid, Event)], &[Act], Wanted); 7] = [
-        (&[event], &print, Wanted::Yes(&[])),
-        (&[event, event], &print, Wanted::Left(p30())),
-        (&[], &print, Wanted::Differs(3)),
-        (&[other], &print, Wanted::Differs(3)),
-        (&[event], &[], Wanted::Left(p30())),
-        (&[event], &look, Wanted::Stuck(0)),
-        (&[event], &send, Wanted::Stuck(0)),
+    let cases: [(&str, &[Act], Wanted); 7] = [
+        (PRINT, &print, Wanted::Yes(&[])),
+        (PRINT_TWICE, &print, Wanted::Left(p30())),
+        (NO_PRINT, &print, Wanted::Differs(3)),
+        (OTHER_PRINT, &print, Wanted::Differs(3)),
+        (PRINT, &[], Wanted::Left(p30())),
+        (PRINT, &look, Wanted::Stuck(0)),
+        (PRINT, &send, Wanted::Stuck(0)),
     ];
-    for (events, acts, wanted) in cases {
-        assert!(rt; judges(rt.alloc(), &[p30()], events, acts, wanted)?);
+    for (text, acts, wanted) in cases {
+        assert!(rt; judges(rt.alloc(), text, acts, wanted)?);
     }
     Ok(())
 }
@@ -161,22 +164,10 @@ fn three_sends() -> [Act; 9] {
 fn receives_are_paired_with_the_sends_whose_messages_they_took(
     rt: HostRuntime,
 ) -> Result<(), Fail> {
-    let pids = [p30(), p31()];
-    let nine = (p31(), received(1, (0, 2), p30(), p31(), 9));
-    let first = (p31(), received(1, (0, 1), p30(), p31(), 8));
-    let last = (p31(), received(1, (0, 3), p30(), p31(), 8));
     let acts = three_sends();
     let pairs = Wanted::Yes(&[(6, 4), (7, 3), (8, 5)]);
-    assert!(rt; judges(rt.alloc(), &pids, &[nine, first, last], &acts, pairs)?);
-    assert!(rt;
-        judges(
-            rt.alloc(),
-            &pids,
-            &[nine, last, first],
-            &acts,
-            Wanted::Differs(7)
-        )?
-    );
+    assert!(rt; judges(rt.alloc(), SECOND_FIRST, &acts, pairs)?);
+    assert!(rt; judges(rt.alloc(), FIRST_LAST, &acts, Wanted::Differs(7))?);
     Ok(())
 }
 
@@ -202,35 +193,19 @@ fn two_nodes(reset: Pid) -> [Act; 11] {
 
 #[test]
 fn a_reset_empties_the_tokens_queued_on_its_own_node_alone(rt: HostRuntime) -> Result<(), Fail> {
-    let near = Pid::on(1, 30);
-    let far = Pid::on(2, 31);
-    let pids = [near, far];
-    let event = (far, received(17, (0, 1), near, far, 5));
-    let later = (far, received(17, (0, 2), near, far, 5));
-    let near_reset = two_nodes(near);
+    let near = two_nodes(Pid::on(1, 30));
     let twice = Wanted::Yes(&[(9, 4), (10, 8)]);
-    assert!(rt; judges(rt.alloc(), &pids, &[event, event], &near_reset, twice)?);
-    assert!(rt;
-        judges(
-            rt.alloc(),
-            &pids,
-            &[event],
-            &near_reset,
-            Wanted::Differs(10)
-        )?
-    );
+    assert!(rt; judges(rt.alloc(), FAR_TWICE, &near, twice)?);
+    assert!(rt; judges(rt.alloc(), FAR_ONCE, &near, Wanted::Differs(10))?);
     // The first message lost its token, so its receive isn't reported and has no pair.
+    let far = two_nodes(Pid::on(2, 31));
     let once = Wanted::Yes(&[(10, 8)]);
-    assert!(rt; judges(rt.alloc(), &pids, &[later], &two_nodes(far), once)?);
+    assert!(rt; judges(rt.alloc(), FAR_LATER, &far, once)?);
     Ok(())
 }
 
 #[test]
 fn a_send_to_oneself_is_paired(rt: HostRuntime) -> Result<(), Fail> {
-    let events = [
-        (p30(), received(17, (0, 1), p30(), p30(), 5)),
-        (p30(), passed(Kind::Send, 17, (1, 2), p30(), p30(), 6)),
-    ];
     let acts = [
         Act::Tracer(p30(), true),
         Act::Set(p30(), Component::Label(Label(17))),
@@ -240,7 +215,7 @@ fn a_send_to_oneself_is_paired(rt: HostRuntime) -> Result<(), Fail> {
         Act::Set(p30(), Component::Send(true)),
         Act::Send(p30(), p30(), 6),
     ];
-    assert!(rt; judges(rt.alloc(), &[p30()], &events, &acts, Wanted::Yes(&[(4, 3)]))?);
+    assert!(rt; judges(rt.alloc(), OWN, &acts, Wanted::Yes(&[(4, 3)]))?);
     Ok(())
 }
 
@@ -257,7 +232,7 @@ fn four_prints() -> [Act; 5] {
 
 #[test]
 fn a_full_clock_is_stuck(rt: HostRuntime) -> Result<(), Fail> {
-    let none = streams(rt.alloc(), &[p30()], &[])?;
+    let none = streams(rt.alloc(), NO_PRINT)?;
     let acts = four_prints();
     assert!(rt; answers::<3>(rt.alloc(), &none, &acts, Wanted::Stuck(4))?);
     assert!(rt; answers::<4>(rt.alloc(), &none, &acts, Wanted::Yes(&[]))?);
@@ -302,18 +277,17 @@ fn low_serial() -> [Act; 14] {
 #[test]
 fn a_replay_answers_what_each_act_reports_and_replies(rt: HostRuntime) -> Result<(), Fail> {
     let acts = low_serial();
-    let (streams, replies) = ran(rt.alloc(), &[p30(), p31(), p32()], &acts)?;
-    let last = passed(Kind::Send, 0, (3, 6), p31(), p30(), 9);
-    let low = passed(Kind::Send, 0, (0, 3), p32(), p31(), 3);
-    assert_eq!(rt; streams.total(), 2);
-    assert!(rt; streams.event(p31(), 0) == Some(last));
-    assert!(rt; streams.event(p32(), 0) == Some(low));
+    let (reported, replies) = ran(rt.alloc(), &[p30(), p31(), p32()], &acts)?;
+    let wanted = streams(rt.alloc(), LOW_SERIAL)?;
+    for &pid in wanted.pids() {
+        assert!(rt; reported.events(pid) == wanted.events(pid));
+    }
     assert_eq!(rt; replies.len(), 14);
     let replies = replies.as_slice();
     assert!(rt; replies.first().copied() == Some(Reply::Was(false)));
     assert!(rt; replies.get(1).copied() == Some(Reply::Old(None)));
     assert!(rt; replies.get(12).copied() == Some(Reply::Mail(p32(), 3)));
-    assert!(rt; answers::<MOST>(rt.alloc(), &streams, &acts, Wanted::Yes(&[]))?);
+    assert!(rt; answers::<MOST>(rt.alloc(), &reported, &acts, Wanted::Yes(&[]))?);
     Ok(())
 }
 
@@ -361,16 +335,6 @@ fn pids_that_do_not_rise_are_refused(rt: HostRuntime) {
     assert!(rt; matches!(refused, Err(ReplayFault::NotRising)));
 }
 
-/// The streams of 30 and 31 in which 30's send of 5 was received; none where a growth is refused.
-fn one_received(alloc: Global) -> Option<Streams> {
-    let event = received(1, (0, 1), p30(), p31(), 5);
-    let mut draft = Draft::new(alloc);
-    draft.open(p30()).ok()?;
-    draft.open(p31()).ok()?;
-    draft.add(p31(), event).ok()?;
-    draft.close().ok()
-}
-
 /// A traced send and its receive.
 fn send_one() -> [Act; 5] {
     [
@@ -387,12 +351,12 @@ fn send_one() -> [Act; 5] {
 #[test]
 fn a_check_without_memory_may_be_asked_again(rt: HostRuntime) {
     let alloc = rt.alloc();
-    let Some(streams) = one_received(alloc) else {
+    let Some(streams) = made(alloc, RECEIVED) else {
         return;
     };
     let wanted = Wanted::Yes(&[(4, 3)]);
     let told = match answers::<MOST>(alloc, &streams, &send_one(), wanted) {
-        Err(_) => answers::<MOST>(alloc, &streams, &send_one(), wanted),
+        Err(CheckFault::Memory) => answers::<MOST>(alloc, &streams, &send_one(), wanted),
         told => told,
     };
     assert_eq!(rt; told, Ok(true));
@@ -410,7 +374,7 @@ fn replies(alloc: Global) -> Result<usize, ReplayFault> {
 fn a_replay_without_memory_may_be_asked_again(rt: HostRuntime) {
     let alloc = rt.alloc();
     let told = match replies(alloc) {
-        Err(_) => replies(alloc),
+        Err(ReplayFault::Memory) => replies(alloc),
         told => told,
     };
     assert_eq!(rt; told, Ok(5));
