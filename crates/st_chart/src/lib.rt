@@ -16,6 +16,3 @@ mod words;
 pub use charting::chart;
 pub use fault::ChartFault;
 pub use reporting::report;
-
-#[cfg(test)]
-mod tests;

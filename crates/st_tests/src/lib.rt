@@ -13,11 +13,14 @@
 //! | `chains` | `st_chain` |
 //! | `orders` | `st_order` |
 //! | `checks` | `st_check`: checks and replays |
+//! | `charts` | `st_chart`: charts and reports |
 //! | `collected` | none: texts of streams, and pids, that the others share |
 #![tactic(auto)]
 
 #[cfg(test)]
 mod chains;
+#[cfg(test)]
+mod charts;
 #[cfg(test)]
 mod checks;
 #[cfg(test)]

@@ -1,7 +1,8 @@
 //! Refused growths, and sinks that fail at each place.
 
-use super::{HIDDEN_CHART, drawn, hidden_items, hidden_sends, made};
-use crate::ChartFault;
+use super::{HIDDEN_CHART, HIDDEN_SENDS, drawn, hidden_items};
+use crate::collected::{made, streams};
+use st_chart::ChartFault;
 use st_core::MemorySink;
 use std::test::Fail;
 
@@ -9,7 +10,7 @@ use std::test::Fail;
 #[test]
 fn a_refused_growth_writes_nothing(rt: HostRuntime) {
     let alloc = rt.alloc();
-    let Some(streams) = made(alloc, &hidden_sends()) else {
+    let Some(streams) = made(alloc, HIDDEN_SENDS) else {
         return;
     };
     let Ok(mut sink) = MemorySink::new(alloc, 1000, None) else {
@@ -29,7 +30,7 @@ fn a_refused_growth_writes_nothing(rt: HostRuntime) {
 #[test]
 fn a_failing_sink_has_a_prefix(rt: HostRuntime) -> Result<(), Fail> {
     let alloc = rt.alloc();
-    let streams = made(alloc, &hidden_sends()).ok_or("no streams")?;
+    let streams = streams(alloc, HIDDEN_SENDS)?;
     let items = hidden_items();
     for fuse in 0..HIDDEN_CHART.len() {
         let mut sink = MemorySink::new(alloc, 1000, Some(fuse as u64))?;

@@ -1,13 +1,36 @@
 //! Worked reports.
 
-use super::{hidden_sends, made, p30, p31, printed, received};
-use crate::report;
+use super::HIDDEN_SENDS;
+use crate::collected::{p30, p31, streams};
 use st_audit::{Finding, Reason};
+use st_chart::report;
 use st_check::Verdict;
 use st_core::{Act, MemorySink, Sequence, Streams};
 use std::alloc::Global;
 use std::process::Abort;
 use std::test::Fail;
+
+/// Streams without an event.
+const EMPTY: &str = "seqtrace 1\n\
+    process <0.30.0>\n\
+    process <0.31.0>\n\
+    process <0.32.0>\n";
+
+/// A print after one that counts more, and a receive of a message that its sender printed.
+const FALLING: &str = "seqtrace 1\n\
+    process <0.30.0>\n\
+    {seq_trace,17,{print,{0,2},<0.30.0>,[],7}}\n\
+    {seq_trace,17,{print,{0,1},<0.30.0>,[],7}}\n\
+    process <0.31.0>\n\
+    {seq_trace,17,{'receive',{0,2},<0.30.0>,<0.31.0>,5}}\n\
+    process <0.32.0>\n";
+
+/// A print with its own count before it.
+const OWN_COUNT: &str = "seqtrace 1\n\
+    process <0.30.0>\n\
+    {seq_trace,17,{print,{1,1},<0.30.0>,[],7}}\n\
+    process <0.31.0>\n\
+    process <0.32.0>\n";
 
 /// The report is these bytes, and where the sink fails on the way a prefix of them.
 fn assert_report(
@@ -31,7 +54,7 @@ fn assert_report(
 #[test]
 fn a_certificate_is_the_bundle_with_its_acts(rt: HostRuntime) -> Result<(), Fail> {
     let alloc = rt.alloc();
-    let streams = made(alloc, &[]).ok_or("no streams")?;
+    let streams = streams(alloc, EMPTY)?;
     let acts = Sequence::from_vec(vec![in alloc; Act::Print(p30(), 0)]?);
     let finding = Finding::Fits(acts, Sequence::new(alloc));
     let wanted: &[u8] = b"seqtrace 1
@@ -44,60 +67,67 @@ print <0.30.0> 0
     assert_report(&rt, alloc, &streams, &finding, wanted)
 }
 
-#[test]
-fn each_reason_names_its_places(rt: HostRuntime) -> Result<(), Fail> {
-    let alloc = rt.alloc();
-    let events = [
-        printed((0, 2), p30(), 7),
-        printed((0, 1), p30(), 7),
-        received((0, 2), p30(), p31(), 5),
-    ];
-    let streams = made(alloc, &events).ok_or("no streams")?;
-    let finding = Finding::Unfit(p30(), 1, Reason::NotRising(0));
-    let wanted: &[u8] = b"unfit <0.30.0> 1 notrising <0.30.0> 0
+const NOT_RISING: &[u8] = b"unfit <0.30.0> 1 notrising <0.30.0> 0
 event <0.30.0> 1 {seq_trace,17,{print,{0,1},<0.30.0>,[],7}}
 event <0.30.0> 0 {seq_trace,17,{print,{0,2},<0.30.0>,[],7}}
 ";
-    assert_report(&rt, alloc, &streams, &finding, wanted)?;
-    let finding = Finding::Unfit(p31(), 0, Reason::Mismatch(p30(), 0));
-    let wanted: &[u8] = b"unfit <0.31.0> 0 mismatch <0.30.0> 0
+
+const MISMATCH: &[u8] = b"unfit <0.31.0> 0 mismatch <0.30.0> 0
 event <0.31.0> 0 {seq_trace,17,{'receive',{0,2},<0.30.0>,<0.31.0>,5}}
 event <0.30.0> 0 {seq_trace,17,{print,{0,2},<0.30.0>,[],7}}
 ";
-    assert_report(&rt, alloc, &streams, &finding, wanted)?;
-    let finding = Finding::Unfit(p31(), 0, Reason::Repeated(p31(), 0));
-    let wanted: &[u8] = b"unfit <0.31.0> 0 repeated <0.31.0> 0
+
+const REPEATED: &[u8] = b"unfit <0.31.0> 0 repeated <0.31.0> 0
 event <0.31.0> 0 {seq_trace,17,{'receive',{0,2},<0.30.0>,<0.31.0>,5}}
 event <0.31.0> 0 {seq_trace,17,{'receive',{0,2},<0.30.0>,<0.31.0>,5}}
 ";
-    assert_report(&rt, alloc, &streams, &finding, wanted)
+
+#[test]
+fn each_reason_names_its_places(rt: HostRuntime) -> Result<(), Fail> {
+    let alloc = rt.alloc();
+    let streams = streams(alloc, FALLING)?;
+    for (pid, index, reason, wanted) in [
+        (p30(), 1, Reason::NotRising(0), NOT_RISING),
+        (p31(), 0, Reason::Mismatch(p30(), 0), MISMATCH),
+        (p31(), 0, Reason::Repeated(p31(), 0), REPEATED),
+    ] {
+        let finding = Finding::Unfit(pid, index, reason);
+        assert_report(&rt, alloc, &streams, &finding, wanted)?;
+    }
+    Ok(())
 }
+
+const PREV_NOT_BEFORE: &[u8] = b"unfit <0.30.0> 0 prevnotbefore
+event <0.30.0> 0 {seq_trace,17,{print,{1,1},<0.30.0>,[],7}}
+";
+
+const UNCAUSED: &[u8] = b"unfit <0.30.0> 0 uncaused
+event <0.30.0> 0 {seq_trace,17,{print,{1,1},<0.30.0>,[],7}}
+";
+
+const TOO_WIDE: &[u8] = b"unfit <0.30.0> 0 toowide
+event <0.30.0> 0 {seq_trace,17,{print,{1,1},<0.30.0>,[],7}}
+";
 
 #[test]
 fn three_reasons_rest_on_the_event_alone(rt: HostRuntime) -> Result<(), Fail> {
     let alloc = rt.alloc();
-    let streams = made(alloc, &[printed((1, 1), p30(), 7)]).ok_or("no streams")?;
-    let finding = Finding::Unfit(p30(), 0, Reason::PrevNotBefore);
-    let wanted: &[u8] = b"unfit <0.30.0> 0 prevnotbefore
-event <0.30.0> 0 {seq_trace,17,{print,{1,1},<0.30.0>,[],7}}
-";
-    assert_report(&rt, alloc, &streams, &finding, wanted)?;
-    let finding = Finding::Unfit(p30(), 0, Reason::Uncaused);
-    let wanted: &[u8] = b"unfit <0.30.0> 0 uncaused
-event <0.30.0> 0 {seq_trace,17,{print,{1,1},<0.30.0>,[],7}}
-";
-    assert_report(&rt, alloc, &streams, &finding, wanted)?;
-    let finding = Finding::Unfit(p30(), 0, Reason::TooWide);
-    let wanted: &[u8] = b"unfit <0.30.0> 0 toowide
-event <0.30.0> 0 {seq_trace,17,{print,{1,1},<0.30.0>,[],7}}
-";
-    assert_report(&rt, alloc, &streams, &finding, wanted)
+    let streams = streams(alloc, OWN_COUNT)?;
+    for (reason, wanted) in [
+        (Reason::PrevNotBefore, PREV_NOT_BEFORE),
+        (Reason::Uncaused, UNCAUSED),
+        (Reason::TooWide, TOO_WIDE),
+    ] {
+        let finding = Finding::Unfit(p30(), 0, reason);
+        assert_report(&rt, alloc, &streams, &finding, wanted)?;
+    }
+    Ok(())
 }
 
 #[test]
 fn tried_acts_are_reported(rt: HostRuntime) -> Result<(), Fail> {
     let alloc = rt.alloc();
-    let streams = made(alloc, &hidden_sends()).ok_or("no streams")?;
+    let streams = streams(alloc, HIDDEN_SENDS)?;
     let acts = vec![in alloc; Act::Tracer(p30(), true), Act::Send(p30(), p31(), 5)]?;
     let reason = Reason::NotReplayed(Sequence::from_vec(acts), Verdict::Left(p30()));
     let finding = Finding::Unfit(p31(), 1, reason);
