@@ -5,7 +5,7 @@
 //! | Module | Tests |
 //! |---|---|
 //! | `machine` | `st_core`: types, local steps, streams, devices |
-//! | `text` | `st_text` |
+//! | `text`, `reads` | `st_text`; `reads`: where a growth is refused |
 //! | `lists` | `st_arena` |
 //! | `mailboxes` | `st_mail` |
 //! | `world` | `st_world` |
@@ -35,6 +35,8 @@ mod mailboxes;
 mod orders;
 #[cfg(test)]
 mod pairs;
+#[cfg(test)]
+mod reads;
 #[cfg(test)]
 mod text;
 #[cfg(test)]
