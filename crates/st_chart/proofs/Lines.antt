@@ -37,13 +37,13 @@ pub lanes_split : (ps : List Pid) (i : ℕ)
 lanes_split ps i = sym (lanes_then 1 (take i ps) (drop i ps)) ∙ ap (lane_lines 1) (take-append-drop i ps)
 
 pub lanes_more : {S : Type 0} (puts : S → List ℕ → S → Type 0) (failed : S → Bool) (ps : List Pid) (i : ℕ) (d : Pid)
-    (a b c : S) (x y z : List ℕ)
+    {a b c : S} {x y z : List ℕ}
     → i < length ps → Goes puts failed (lane_lines 1 (take i ps)) a b x y
     → Goes puts failed (lane_line (i + 1) (get_or ps i d)) b c y z
     → Goes puts failed (lane_lines 1 (take (i + 1) ps)) a c x z
-lanes_more puts failed ps i d a b c x y z lt g h =
+lanes_more puts failed ps i d {a} {c} {x} {z} lt g h =
     subst (λ (t : List ℕ). Goes puts failed t a c x z) (sym (lane_more ps i d lt))
-    (goes_then puts failed (lane_lines 1 (take i ps)) (lane_line (i + 1) (get_or ps i d)) a b c x y z g h)
+    (goes_then puts failed (lane_lines 1 (take i ps)) (lane_line (i + 1) (get_or ps i d)) g h)
 
 module _ (streams : List Stream) (label : Label) (caused : List Stream) (ps : List Pid) where
   abbrev pub line_by : Option Charted → List ℕ

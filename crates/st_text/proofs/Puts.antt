@@ -11,25 +11,25 @@ use Rattle.st_core.specs.Device.{InARow, NoCall, OneMore}
 use Rattle.st_text.specs.Writing.{WritesPart, WritesText, Goes, GoesOn}
 
 -- calls in a row, and then more
-pub in_a_row : {S : Type 0} (puts : S → List ℕ → S → Type 0) (a b c : S) (xs ys : List ℕ) → InARow puts b ys c
+pub in_a_row : {S : Type 0} (puts : S → List ℕ → S → Type 0) {a b c : S} {xs ys : List ℕ} → InARow puts b ys c
     → InARow puts a xs b → InARow puts a (xs ++ ys) c
-in_a_row puts a b c xs ys (NoCall s) first = subst (λ (x : List ℕ). InARow puts a x s) (sym (append-nil xs)) first
-in_a_row puts a b c xs ys (OneMore d e f more last row call) first =
+in_a_row puts {a} {xs} (NoCall s) first = subst (λ (x : List ℕ). InARow puts a x s) (sym (append-nil xs)) first
+in_a_row puts {a} {xs} (OneMore d e f more last row call) first =
     subst (λ (x : List ℕ). InARow puts a x f) (append_assoc xs more last)
-    (OneMore a e f (xs ++ more) last (in_a_row puts a d e xs more row first) call)
+    (OneMore a e f (xs ++ more) last (in_a_row puts row first) call)
 
-pub put_more : {S : Type 0} (puts : S → List ℕ → S → Type 0) (a b c : S) (bytes done rest : List ℕ) (n : ℕ)
+pub put_more : {S : Type 0} (puts : S → List ℕ → S → Type 0) {a b c : S} {bytes done : List ℕ} (rest : List ℕ) (n : ℕ)
     → bytes ≡ done ++ rest → InARow puts a done b → puts b (take n rest) c
     → (bytes ≡ (done ++ take n rest) ++ drop n rest) × InARow puts a (done ++ take n rest) c
-put_more puts a b c bytes done rest n e row call = (
+put_more puts {a} {b} {c} {done} rest n e row call = (
   e ∙ ap (λ (x : List ℕ). done ++ x) (sym (take-append-drop n rest))
       ∙ sym (append_assoc done (take n rest) (drop n rest)),
   OneMore a b c done (take n rest) row call,
 )
 
-pub put_none : {S : Type 0} (puts : S → List ℕ → S → Type 0) (a b c : S) (done : List ℕ) → InARow puts a done b
+pub put_none : {S : Type 0} (puts : S → List ℕ → S → Type 0) {a b c : S} {done : List ℕ} → InARow puts a done b
     → puts b [] c → InARow puts a done c
-put_none puts a b c done row call =
+put_none puts {a} {b} {c} {done} row call =
     subst (λ (x : List ℕ). InARow puts a x c) (append-nil done) (OneMore a b c done [] row call)
 
 -- what is done of the bytes was put in a row, and the rest is left
@@ -43,25 +43,25 @@ pub record HasPut {S : Type 0} (puts : S → List ℕ → S → Type 0) (failed 
 
 -- ---- texts one after the other
 
-pub goes_buffer : {S : Type 0} (puts : S → List ℕ → S → Type 0) (failed : S → Bool) (a : S)
-    (waited waits text : List ℕ)
+pub goes_buffer : {S : Type 0} (puts : S → List ℕ → S → Type 0) (failed : S → Bool) {a : S}
+    {waited waits text : List ℕ}
     → waits ≡ waited ++ text → Goes puts failed text a a waited waits
-goes_buffer puts failed a waited waits text e =
+goes_buffer puts failed {a} e =
     record { written = []; put = NoCall a; whole = sym e; mark = refl; alive = λ h. absurd (omega arith) }
 
 -- nothing yet
-pub goes_still : {S : Type 0} (puts : S → List ℕ → S → Type 0) (failed : S → Bool) (a : S) (waited : List ℕ)
+pub goes_still : {S : Type 0} (puts : S → List ℕ → S → Type 0) (failed : S → Bool) {a : S} {waited : List ℕ}
     → Goes puts failed [] a a waited waited
-goes_still puts failed a waited =
+goes_still puts failed {a} {waited} =
     record { written = []; put = NoCall a; whole = append-nil waited; mark = refl; alive = λ h. absurd (omega arith) }
 
-pub goes_then : {S : Type 0} (puts : S → List ℕ → S → Type 0) (failed : S → Bool) (t u : List ℕ) (a b c : S)
-    (x y z : List ℕ)
+pub goes_then : {S : Type 0} (puts : S → List ℕ → S → Type 0) (failed : S → Bool) (t u : List ℕ) {a b c : S}
+    {x y z : List ℕ}
     → Goes puts failed t a b x y → Goes puts failed u b c y z → Goes puts failed (t ++ u) a c x z
-goes_then puts failed t u a b c x y z g h =
+goes_then puts failed t u {x} {y} {z} g h =
     record {
       written = g.written ++ h.written;
-      put = in_a_row puts a b c g.written h.written h.put g.put;
+      put = in_a_row puts h.put g.put;
       whole =
           sym (append_assoc x t u) ∙ ap (λ (w : List ℕ). w ++ u) g.whole ∙ append_assoc g.written y u
           ∙ ap (λ (w : List ℕ). g.written ++ w) h.whole ∙ sym (append_assoc g.written h.written z);
@@ -73,25 +73,25 @@ goes_then puts failed t u a b c x y z g h =
     }
 
 -- the second text failed
-pub part_then : {S : Type 0} (puts : S → List ℕ → S → Type 0) (failed : S → Bool) (t u : List ℕ) (a b c : S)
-    (x y : List ℕ)
+pub part_then : {S : Type 0} (puts : S → List ℕ → S → Type 0) (failed : S → Bool) (t u : List ℕ) {a b c : S}
+    {x y : List ℕ}
     → Goes puts failed t a b x y → WritesPart puts failed (y ++ u) b c → WritesPart puts failed (x ++ (t ++ u)) a c
-part_then puts failed t u a b c x y g h =
+part_then puts failed t u {x} {y} g h =
     record {
       written = g.written ++ h.written;
       rest = h.rest;
       prefix =
           sym (append_assoc x t u) ∙ ap (λ (w : List ℕ). w ++ u) g.whole ∙ append_assoc g.written y u
           ∙ ap (λ (w : List ℕ). g.written ++ w) h.prefix ∙ sym (append_assoc g.written h.written h.rest);
-      put = in_a_row puts a b c g.written h.written h.put g.put;
+      put = in_a_row puts h.put g.put;
       after = h.after;
     }
 
 -- the first text failed
-pub part_longer : {S : Type 0} (puts : S → List ℕ → S → Type 0) (failed : S → Bool) (t u : List ℕ) (a b : S)
+pub part_longer : {S : Type 0} (puts : S → List ℕ → S → Type 0) (failed : S → Bool) (t u : List ℕ) {a b : S}
     (x : List ℕ)
     → WritesPart puts failed (x ++ t) a b → WritesPart puts failed (x ++ (t ++ u)) a b
-part_longer puts failed t u a b x h =
+part_longer puts failed t u x h =
     record {
       written = h.written;
       rest = h.rest ++ u;
@@ -101,35 +101,35 @@ part_longer puts failed t u a b x h =
     }
 
 -- the same of what a call answered
-pub then_on : {S T E : Type 0} (puts : S → List ℕ → S → Type 0) (failed : S → Bool) (t u : List ℕ) (a b c : S)
-    (x y z : List ℕ) (r : Result T E)
+pub then_on : {S T E : Type 0} (puts : S → List ℕ → S → Type 0) (failed : S → Bool) (t u : List ℕ) {a b : S}
+    (c : S) {x y : List ℕ} (z : List ℕ) (r : Result T E)
     → Goes puts failed t a b x y → GoesOn puts failed u b c y z r → GoesOn puts failed (t ++ u) a c x z r
-then_on puts failed t u a b c x y z (Ok v) g h = goes_then puts failed t u a b c x y z g h
-then_on puts failed t u a b c x y z (Err e) g h = part_then puts failed t u a b c x y g h
+then_on puts failed t u c z (Ok v) g h = goes_then puts failed t u g h
+then_on puts failed t u c z (Err e) g h = part_then puts failed t u g h
 
 -- a text behind nothing
-pub behind_none : {S : Type 0} (puts : S → List ℕ → S → Type 0) (failed : S → Bool) (t : List ℕ) (a b c : S)
-    (x y z : List ℕ)
+pub behind_none : {S : Type 0} (puts : S → List ℕ → S → Type 0) (failed : S → Bool) (t : List ℕ) {a b c : S}
+    {x y z : List ℕ}
     → Goes puts failed [] a b x y → Goes puts failed t b c y z → Goes puts failed t a c x z
-behind_none puts failed t a b c x y z g h = goes_then puts failed [] t a b c x y z g h
+behind_none puts failed t g h = goes_then puts failed [] t g h
 
 -- ---- what calls answered
 
 -- a refusal, where a call failed
-pub on_err : {S T E : Type 0} (puts : S → List ℕ → S → Type 0) (failed : S → Bool) (t : List ℕ) (a b : S)
+pub on_err : {S T E : Type 0} {puts : S → List ℕ → S → Type 0} {failed : S → Bool} (t : List ℕ) {a b : S}
     (x y : List ℕ) (r : Result T E)
     → IsErr r → WritesPart puts failed (x ++ t) a b → GoesOn puts failed t a b x y r
-on_err puts failed t a b x y (Ok v) is h = absurd cc
-on_err puts failed t a b x y (Err e) is h = h
+on_err t x y (Ok v) is h = absurd cc
+on_err t x y (Err e) is h = h
 
 -- the text so far and one more failed, so all of it did
-pub failed_among : {S : Type 0} (puts : S → List ℕ → S → Type 0) (failed : S → Bool) (t u v whole : List ℕ) (a b c : S)
-    (x y : List ℕ)
+pub failed_among : {S : Type 0} (puts : S → List ℕ → S → Type 0) (failed : S → Bool) (t u v : List ℕ) {whole : List ℕ}
+    {a b c : S} {x y : List ℕ}
     → whole ≡ t ++ (u ++ v) → Goes puts failed t a b x y → WritesPart puts failed (y ++ u) b c
     → WritesPart puts failed (x ++ whole) a c
-failed_among puts failed t u v whole a b c x y e g h =
+failed_among puts failed t u v {a} {c} {x} {y} e g h =
     subst (λ (w : List ℕ). WritesPart puts failed (x ++ w) a c) (sym e)
-    (part_then puts failed t (u ++ v) a b c x y g (part_longer puts failed u v b c y h))
+    (part_then puts failed t (u ++ v) g (part_longer puts failed u v y h))
 
 -- ---- texts of lists
 
@@ -160,37 +160,37 @@ flat_map-flat_map f g (x ∷ xs) =
 -- ---- a loop over items, each of which has a text
 
 pub one_more : {S X : Type 0} (puts : S → List ℕ → S → Type 0) (failed : S → Bool) (f : X → List ℕ) (xs : List X)
-    (i : ℕ) (d : X) (a b c : S) (x y z : List ℕ)
+    (i : ℕ) (d : X) {a b c : S} {x y z : List ℕ}
     → i < length xs → Goes puts failed (flat_map f (take i xs)) a b x y → Goes puts failed (f (get_or xs i d)) b c y z
     → Goes puts failed (flat_map f (take (i + 1) xs)) a c x z
-one_more puts failed f xs i d a b c x y z lt g h =
+one_more puts failed f xs i d {a} {c} {x} {z} lt g h =
     subst (λ (t : List ℕ). Goes puts failed t a c x z) (sym (flat_map_take f xs i d lt))
-    (goes_then puts failed (flat_map f (take i xs)) (f (get_or xs i d)) a b c x y z g h)
+    (goes_then puts failed (flat_map f (take i xs)) (f (get_or xs i d)) g h)
 
 pub one_failed : {S X : Type 0} (puts : S → List ℕ → S → Type 0) (failed : S → Bool) (f : X → List ℕ) (xs : List X)
-    (i : ℕ) (d : X) (whole : List ℕ) (a b c : S) (x y : List ℕ)
+    (i : ℕ) (d : X) {whole : List ℕ} {a b c : S} {x y : List ℕ}
     → whole ≡ flat_map f xs → i < length xs → Goes puts failed (flat_map f (take i xs)) a b x y
     → WritesPart puts failed (y ++ f (get_or xs i d)) b c → WritesPart puts failed (x ++ whole) a c
-one_failed puts failed f xs i d whole a b c x y e lt g h =
-    failed_among puts failed (flat_map f (take i xs)) (f (get_or xs i d)) (flat_map f (drop (i + 1) xs)) whole a b c x
-    y (e ∙ flat_map_split f xs i d lt) g h
+one_failed puts failed f xs i d e lt g h =
+    failed_among puts failed (flat_map f (take i xs)) (f (get_or xs i d)) (flat_map f (drop (i + 1) xs))
+    (e ∙ flat_map_split f xs i d lt) g h
 
 pub all_done : {S X : Type 0} (puts : S → List ℕ → S → Type 0) (failed : S → Bool) (f : X → List ℕ) (xs : List X)
-    (i : ℕ) (whole : List ℕ) (a b : S) (x y : List ℕ)
+    (i : ℕ) {whole : List ℕ} {a b : S} {x y : List ℕ}
     → whole ≡ flat_map f xs → length xs ≤ i → Goes puts failed (flat_map f (take i xs)) a b x y
     → Goes puts failed whole a b x y
-all_done puts failed f xs i whole a b x y e le g =
+all_done puts failed f xs i {a} {b} {x} {y} e le g =
     subst (λ (t : List ℕ). Goes puts failed t a b x y) (ap (flat_map f) (take_all i xs le) ∙ sym e) g
 
 -- ---- the end of a text
 
 -- what waited last went too
-pub finishes : {S T E : Type 0} (puts : S → List ℕ → S → Type 0) (failed : S → Bool) (text : List ℕ) (a b c : S)
-    (x y : List ℕ) (r : Result T E)
+pub finishes : {S T E : Type 0} (puts : S → List ℕ → S → Type 0) (failed : S → Bool) (text : List ℕ) {a b : S}
+    (c : S) {x : List ℕ} (y : List ℕ) (r : Result T E)
     → 0 < length text → Goes puts failed text a b [] x → GoesOn puts failed [] b c x y r → OnOk r (y ≡ [])
     → WritesText puts failed text a c r
-finishes puts failed text a b c x y (Ok v) some g h over =
-    let all = goes_then puts failed text [] a b c [] x y g h in
+finishes puts failed text {a} c y (Ok v) some g h over =
+    let all = goes_then puts failed text [] g h in
     let is : text ≡ all.written =
     sym (append-nil text) ∙ all.whole ∙ ap (λ (w : List ℕ). all.written ++ w) over ∙ append-nil all.written in
     let before : failed a ≡ false = all.alive (omega (arith, some, ap length is)) in
@@ -200,16 +200,16 @@ finishes puts failed text a b c x y (Ok v) some g h over =
       after = all.mark
           ∙ before;
     }
-finishes puts failed text a b c x y (Err e) some g h over =
-    part_whole puts failed text a c (part_then puts failed text [] a b c [] x g h)
+finishes puts failed text c y (Err e) some g h over =
+    part_whole puts failed text (part_then puts failed text [] g h)
   where
-    part_whole : {S : Type 0} (puts : S → List ℕ → S → Type 0) (failed : S → Bool) (t : List ℕ) (a b : S)
+    part_whole : {S : Type 0} (puts : S → List ℕ → S → Type 0) (failed : S → Bool) (t : List ℕ) {a b : S}
         → WritesPart puts failed (t ++ []) a b → WritesPart puts failed t a b
-    part_whole puts failed t a b h = subst (λ (w : List ℕ). WritesPart puts failed w a b) (append-nil t) h
+    part_whole puts failed t {a} {b} h = subst (λ (w : List ℕ). WritesPart puts failed w a b) (append-nil t) h
 
 -- a refusal on the way is one of the whole
-pub gives_up : {S T E : Type 0} (puts : S → List ℕ → S → Type 0) (failed : S → Bool) (text : List ℕ) (a b : S)
+pub gives_up : {S T E : Type 0} (puts : S → List ℕ → S → Type 0) (failed : S → Bool) (text : List ℕ) {a b : S}
     (r : Result T E)
     → IsErr r → WritesPart puts failed text a b → WritesText puts failed text a b r
-gives_up puts failed text a b (Ok v) is h = absurd cc
-gives_up puts failed text a b (Err e) is h = h
+gives_up puts failed text (Ok v) is h = absurd cc
+gives_up puts failed text (Err e) is h = h

@@ -7,6 +7,6 @@ use Rattle.seqaudit.proofs.lines.send_line.Goals as goal
 
 pub returns : goal.returns
 returns g c =
-    finishes g.W.ByteSink.puts g.W.ByteSink.failed (text_of c.args.line) _ _ _ _ _ c.flush.result
+    finishes g.W.ByteSink.puts g.W.ByteSink.failed (text_of c.args.line) _ _ c.flush.result
     (line_some (words c.args.line)) (rw c.new-buffer.ensures at c.in_ok-write_line.ensures) c.flush.ensures.goes
     c.flush.ensures.empty

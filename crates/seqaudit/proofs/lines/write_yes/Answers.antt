@@ -8,11 +8,11 @@ use Rattle.seqaudit.proofs.lines.write_yes.Goals as goal
 
 pub returns-in_err-write_line : goal.returns-in_err-write_line
 returns-in_err-write_line g c =
-    on_err _ _ _ _ _ _ _ _ c.from_residual.ensures.0
+    on_err _ _ _ _ c.from_residual.ensures.0
     (part_longer g.W.ByteSink.puts g.W.ByteSink.failed (text_of lines.Yes) (flat_map pair_line c.args.pairs.now) _
-    _ _ c.in_err-write_line.ensures)
+    c.in_err-write_line.ensures)
 
 pub returns : goal.returns
 returns g c =
-    then_on g.W.ByteSink.puts g.W.ByteSink.failed (text_of lines.Yes) (flat_map pair_line c.args.pairs.now) _ _ _ _ _
-    _ c.write_pairs.result c.in_ok-write_line.ensures c.write_pairs.ensures
+    then_on g.W.ByteSink.puts g.W.ByteSink.failed (text_of lines.Yes) (flat_map pair_line c.args.pairs.now) _ _
+    c.write_pairs.result c.in_ok-write_line.ensures c.write_pairs.ensures

@@ -13,9 +13,9 @@ returns-in_err-write_label g c =
     let lanes = lane_lines 1 c.args.lanes.now in
     let xs = all_charted c.args.streams.now c.args.items.now c.args.label in
     let rest = flat_map (item_line c.args.chains.now c.args.lanes.now) xs in
-    on_err _ _ _ _ _ _ _ _ c.from_residual.ensures.0
-    (part_longer g.W.ByteSink.puts g.W.ByteSink.failed (first ++ lanes) rest _ _ _
-    (part_longer g.W.ByteSink.puts g.W.ByteSink.failed first lanes _ _ _ c.in_err-write_label.ensures))
+    on_err _ _ _ _ c.from_residual.ensures.0
+    (part_longer g.W.ByteSink.puts g.W.ByteSink.failed (first ++ lanes) rest _
+    (part_longer g.W.ByteSink.puts g.W.ByteSink.failed first lanes _ c.in_err-write_label.ensures))
 
 pub returns-in_err-write_lanes : goal.returns-in_err-write_lanes
 returns-in_err-write_lanes g c =
@@ -24,10 +24,10 @@ returns-in_err-write_lanes g c =
     let xs = all_charted c.args.streams.now c.args.items.now c.args.label in
     let rest = flat_map (item_line c.args.chains.now c.args.lanes.now) xs in
     let part =
-    part_then g.W.ByteSink.puts g.W.ByteSink.failed first lanes _ _ _ _ _ c.in_ok-write_label.ensures
+    part_then g.W.ByteSink.puts g.W.ByteSink.failed first lanes c.in_ok-write_label.ensures
     c.in_err-write_lanes.ensures in
-    on_err _ _ _ _ _ _ _ _ c.from_residual-in_err-write_lanes.ensures.0
-    (part_longer g.W.ByteSink.puts g.W.ByteSink.failed (first ++ lanes) rest _ _ _ part)
+    on_err _ _ _ _ c.from_residual-in_err-write_lanes.ensures.0
+    (part_longer g.W.ByteSink.puts g.W.ByteSink.failed (first ++ lanes) rest _ part)
 
 pub returns : goal.returns
 returns g c =
@@ -37,7 +37,7 @@ returns g c =
     let rest = flat_map (item_line c.args.chains.now c.args.lanes.now) xs in
     let same = lines_are c.args.streams.now c.args.label c.args.chains.now c.args.lanes.now c.args.items.now in
     let begun =
-    goes_then g.W.ByteSink.puts g.W.ByteSink.failed first lanes _ _ _ _ _ _ c.in_ok-write_label.ensures
+    goes_then g.W.ByteSink.puts g.W.ByteSink.failed first lanes c.in_ok-write_label.ensures
     c.in_ok-write_lanes.ensures in
-    then_on g.W.ByteSink.puts g.W.ByteSink.failed (first ++ lanes) rest _ _ _ _ _ _ c.write_items.result begun
+    then_on g.W.ByteSink.puts g.W.ByteSink.failed (first ++ lanes) rest _ _ c.write_items.result begun
     (rw same at c.write_items.ensures)

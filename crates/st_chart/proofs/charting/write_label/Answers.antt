@@ -5,5 +5,5 @@ use Rattle.st_chart.proofs.charting.write_label.Goals as goal
 
 pub returns-in_err-make_room : goal.returns-in_err-make_room
 returns-in_err-make_room g c =
-    no_room g.W.ByteSink.puts g.W.ByteSink.failed (label_line c.args.label) _ _ _ _ _ c.from_residual.ensures.0
+    no_room g.W.ByteSink.puts g.W.ByteSink.failed (label_line c.args.label) _ _ _ c.from_residual.ensures.0
     c.in_err-make_room.ensures.goes

@@ -8,7 +8,7 @@ use Rattle.st_chart.proofs.reporting.write_event.Goals as goal
 
 pub returns-in_err-make_room : goal.returns-in_err-make_room
 returns-in_err-make_room g c =
-    no_room g.W.ByteSink.puts g.W.ByteSink.failed (event_line c.args.streams.now c.args.pid c.args.index) _ _ _ _ _
+    no_room g.W.ByteSink.puts g.W.ByteSink.failed (event_line c.args.streams.now c.args.pid c.args.index) _ _ _
     c.from_residual.ensures.0 c.in_err-make_room.ensures.goes
 
 pub returns-in_err-make_room-2 : goal.returns-in_err-make_room-2
@@ -16,20 +16,18 @@ returns-in_err-make_room-2 g c =
     let front = event_front c.args.pid c.args.index in
     let rest = line (event_words (event_at c.args.streams.now c.args.pid c.args.index)) in
     let begun =
-    room_then g.W.ByteSink.puts g.W.ByteSink.failed front _ _ _ _ _ c.in_ok-make_room.ensures.goes c.put_front.ensures
-    in
+    room_then g.W.ByteSink.puts g.W.ByteSink.failed front c.in_ok-make_room.ensures.goes c.put_front.ensures in
     let is = c.from_residual-in_err-make_room-2.ensures.0 in
-    then_on g.W.ByteSink.puts g.W.ByteSink.failed front rest _ _ _ _ _ _ _ begun
-    (no_room g.W.ByteSink.puts g.W.ByteSink.failed rest _ _ _ _ _ is c.in_err-make_room-2.ensures.goes)
+    then_on g.W.ByteSink.puts g.W.ByteSink.failed front rest _ _ _ begun
+    (no_room g.W.ByteSink.puts g.W.ByteSink.failed rest _ _ _ is c.in_err-make_room-2.ensures.goes)
 
 pub returns : goal.returns
 returns g c =
     let front = event_front c.args.pid c.args.index in
     let rest = line (event_words (event_at c.args.streams.now c.args.pid c.args.index)) in
     let begun =
-    room_then g.W.ByteSink.puts g.W.ByteSink.failed front _ _ _ _ _ c.in_ok-make_room.ensures.goes c.put_front.ensures
-    in
+    room_then g.W.ByteSink.puts g.W.ByteSink.failed front c.in_ok-make_room.ensures.goes c.put_front.ensures in
     let ended =
-    room_then g.W.ByteSink.puts g.W.ByteSink.failed rest _ _ _ _ _ c.in_ok-make_room-2.ensures.goes
+    room_then g.W.ByteSink.puts g.W.ByteSink.failed rest c.in_ok-make_room-2.ensures.goes
     (rw c.event.ensures at c.put_back.ensures) in
-    goes_then g.W.ByteSink.puts g.W.ByteSink.failed front rest _ _ _ _ _ _ begun ended
+    goes_then g.W.ByteSink.puts g.W.ByteSink.failed front rest begun ended

@@ -17,14 +17,14 @@ no_more streams p r (inr (inr e)) = rw e refl
 pub returns-in-PrevNotBefore : goal.returns-in-PrevNotBefore
 returns-in-PrevNotBefore g c =
     rw (no_more c.args.streams.now c.args.pid c.args.reason.now c.in-PrevNotBefore.is)
-    (goes_still g.W.ByteSink.puts g.W.ByteSink.failed _ _)
+    (goes_still g.W.ByteSink.puts g.W.ByteSink.failed)
 
 pub returns-in-PrevNotBefore-2 : goal.returns-in-PrevNotBefore-2
 returns-in-PrevNotBefore-2 g c =
     rw (no_more c.args.streams.now c.args.pid c.args.reason.now c.in-PrevNotBefore.is)
-    (goes_still g.W.ByteSink.puts g.W.ByteSink.failed _ _)
+    (goes_still g.W.ByteSink.puts g.W.ByteSink.failed)
 
 pub returns-in-PrevNotBefore-3 : goal.returns-in-PrevNotBefore-3
 returns-in-PrevNotBefore-3 g c =
     rw (no_more c.args.streams.now c.args.pid c.args.reason.now c.in-PrevNotBefore.is)
-    (goes_still g.W.ByteSink.puts g.W.ByteSink.failed _ _)
+    (goes_still g.W.ByteSink.puts g.W.ByteSink.failed)

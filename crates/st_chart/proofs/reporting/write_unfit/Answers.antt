@@ -10,9 +10,9 @@ returns-in_err-write_unfit_line g c =
     let first = unfit_line c.args.pid c.args.index c.args.reason.now in
     let event = event_line c.args.streams.now c.args.pid c.args.index in
     let rest = evidence c.args.streams.now c.args.pid c.args.reason.now in
-    on_err _ _ _ _ _ _ _ _ c.from_residual.ensures.0
-    (part_longer g.W.ByteSink.puts g.W.ByteSink.failed (first ++ event) rest _ _ _
-    (part_longer g.W.ByteSink.puts g.W.ByteSink.failed first event _ _ _ c.in_err-write_unfit_line.ensures))
+    on_err _ _ _ _ c.from_residual.ensures.0
+    (part_longer g.W.ByteSink.puts g.W.ByteSink.failed (first ++ event) rest _
+    (part_longer g.W.ByteSink.puts g.W.ByteSink.failed first event _ c.in_err-write_unfit_line.ensures))
 
 pub returns-in_err-write_event : goal.returns-in_err-write_event
 returns-in_err-write_event g c =
@@ -20,10 +20,10 @@ returns-in_err-write_event g c =
     let event = event_line c.args.streams.now c.args.pid c.args.index in
     let rest = evidence c.args.streams.now c.args.pid c.args.reason.now in
     let part =
-    part_then g.W.ByteSink.puts g.W.ByteSink.failed first event _ _ _ _ _ c.in_ok-write_unfit_line.ensures
+    part_then g.W.ByteSink.puts g.W.ByteSink.failed first event c.in_ok-write_unfit_line.ensures
     c.in_err-write_event.ensures in
-    on_err _ _ _ _ _ _ _ _ c.from_residual-in_err-write_event.ensures.0
-    (part_longer g.W.ByteSink.puts g.W.ByteSink.failed (first ++ event) rest _ _ _ part)
+    on_err _ _ _ _ c.from_residual-in_err-write_event.ensures.0
+    (part_longer g.W.ByteSink.puts g.W.ByteSink.failed (first ++ event) rest _ part)
 
 pub returns : goal.returns
 returns g c =
@@ -31,7 +31,7 @@ returns g c =
     let event = event_line c.args.streams.now c.args.pid c.args.index in
     let rest = evidence c.args.streams.now c.args.pid c.args.reason.now in
     let begun =
-    goes_then g.W.ByteSink.puts g.W.ByteSink.failed first event _ _ _ _ _ _ c.in_ok-write_unfit_line.ensures
+    goes_then g.W.ByteSink.puts g.W.ByteSink.failed first event c.in_ok-write_unfit_line.ensures
     c.in_ok-write_event.ensures in
-    then_on g.W.ByteSink.puts g.W.ByteSink.failed (first ++ event) rest _ _ _ _ _ _ c.write_evidence.result begun
+    then_on g.W.ByteSink.puts g.W.ByteSink.failed (first ++ event) rest _ _ c.write_evidence.result begun
     c.write_evidence.ensures

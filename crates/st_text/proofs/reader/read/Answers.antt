@@ -62,7 +62,7 @@ returns-in-Err g c =
     let i = c.loop-count.invariant in
     record {
       bytes = i.bytes;
-      given = put_none g.S.ByteSource.gives _ _ _ i.bytes i.given c.in-Err.ensures.given;
+      given = put_none g.S.ByteSource.gives i.given c.in-Err.ensures.given;
       answer = record { mark = c.in-Err.ensures.mark; small = omega (arith, i.counted) };
       memory = λ e. absurd cc;
     }
@@ -81,7 +81,7 @@ returns-in-Ok-eq0 g c =
     let small : length i.bytes ≤ most_bytes = omega (arith, i.counted) in
     record {
       bytes = i.bytes;
-      given = put_none gives _ _ _ i.bytes i.given none;
+      given = put_none gives i.given none;
       answer = reads_end g.S.ByteSource.ended failed i.bytes _ _ c.end.result small (record {
         end = e.end zero room;
         small = small;

@@ -13,7 +13,7 @@ loop-rest-preserved g c =
     let i = c.loop-rest.invariant in
     let rest = c.loop-rest.rest.now in
     let wrote = c.in-Ok.ensures.wrote in
-    let m = put_more g.S.ByteSink.puts _ _ _ c.args.bytes.now i.done rest c.in-Ok.n i.parts i.put wrote in
+    let m = put_more g.S.ByteSink.puts rest c.in-Ok.n i.parts i.put wrote in
     rw c.split_at.ensures.back (record {
       done = _;
       parts = m.0;
@@ -29,6 +29,6 @@ returns-in-Err g c =
       written = i.done;
       rest = c.loop-rest.rest.now;
       prefix = i.parts;
-      put = put_none g.S.ByteSink.puts _ _ _ i.done i.put c.in-Err.ensures.wrote;
+      put = put_none g.S.ByteSink.puts i.put c.in-Err.ensures.wrote;
       after = c.in-Err.ensures.mark;
     }

@@ -8,11 +8,11 @@ use Rattle.st_text.proofs.writer.write_acts.Goals as goal
 
 pub returns-in_err-write_line : goal.returns-in_err-write_line
 returns-in_err-write_line g c =
-    on_err _ _ _ _ _ _ _ _ c.from_residual.ensures.0
+    on_err _ _ _ _ c.from_residual.ensures.0
     (part_longer g.S.ByteSink.puts g.S.ByteSink.failed (ended lines.Acts)
-    (flat_map ended (map lines.Act c.args.acts.now)) _ _ _ c.in_err-write_line.ensures)
+    (flat_map ended (map lines.Act c.args.acts.now)) _ c.in_err-write_line.ensures)
 
 pub returns : goal.returns
 returns g c =
     then_on g.S.ByteSink.puts g.S.ByteSink.failed (ended lines.Acts) (flat_map ended (map lines.Act c.args.acts.now)) _
-    _ _ _ _ _ c.write_act_list.result c.in_ok-write_line.ensures c.write_act_list.ensures
+    _ c.write_act_list.result c.in_ok-write_line.ensures c.write_act_list.ensures

@@ -35,9 +35,9 @@ some_parts ss o a e = two_parts ss o ∙ ap (λ (x : Option (Bor (List Act))). s
 pub returns-in_err-write_streams : goal.returns-in_err-write_streams
 returns-in_err-write_streams g c =
     let longer =
-    part_longer g.S.ByteSink.puts g.S.ByteSink.failed (streams_text c.args.streams.now) (acts_text c.args.acts) _ _
-    _ c.in_err-write_streams.ensures in
-    on_err _ _ _ _ _ _ _ _ c.from_residual.ensures.0
+    part_longer g.S.ByteSink.puts g.S.ByteSink.failed (streams_text c.args.streams.now) (acts_text c.args.acts) _
+    c.in_err-write_streams.ensures in
+    on_err _ _ _ _ c.from_residual.ensures.0
     (subst (λ (t : List ℕ). WritesPart g.S.ByteSink.puts g.S.ByteSink.failed (c.args.buffer.now.items ++ t)
     c.args.sink.now c.write_streams.new.sink) (sym (two_parts c.args.streams.now c.args.acts)) longer)
 
@@ -51,7 +51,7 @@ pub returns-in-Some : goal.returns-in-Some
 returns-in-Some g c =
     let all =
     then_on g.S.ByteSink.puts g.S.ByteSink.failed (streams_text c.args.streams.now)
-    (flat_map ended (lines.Acts ∷ map lines.Act c.in-Some.acts.now)) _ _ _ _ _ _ c.write_acts.result
+    (flat_map ended (lines.Acts ∷ map lines.Act c.in-Some.acts.now)) _ _ c.write_acts.result
     c.in_ok-write_streams.ensures c.write_acts.ensures in
     subst (λ (t : List ℕ). GoesOn g.S.ByteSink.puts g.S.ByteSink.failed t c.args.sink.now c.write_acts.new.sink
     c.args.buffer.now.items c.write_acts.new.buffer.items c.write_acts.result)

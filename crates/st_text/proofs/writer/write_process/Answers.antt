@@ -9,13 +9,13 @@ use Rattle.st_text.proofs.writer.write_process.Goals as goal
 
 pub returns-in_err-write_line : goal.returns-in_err-write_line
 returns-in_err-write_line g c =
-    on_err _ _ _ _ _ _ _ _ c.from_residual.ensures.0
+    on_err _ _ _ _ c.from_residual.ensures.0
     (part_longer g.S.ByteSink.puts g.S.ByteSink.failed (ended (lines.Process c.args.pid))
-    (flat_map ended (map lines.Event (events_of c.args.streams.now c.args.pid))) _ _ _ c.in_err-write_line.ensures)
+    (flat_map ended (map lines.Event (events_of c.args.streams.now c.args.pid))) _ c.in_err-write_line.ensures)
 
 pub returns : goal.returns
 returns g c =
     then_on g.S.ByteSink.puts g.S.ByteSink.failed (ended (lines.Process c.args.pid))
-    (flat_map ended (map lines.Event (events_of c.args.streams.now c.args.pid))) _ _ _ _ _ _ c.write_events.result
+    (flat_map ended (map lines.Event (events_of c.args.streams.now c.args.pid))) _ _ c.write_events.result
     c.in_ok-write_line.ensures
     (rw c.events.ensures.value at c.write_events.ensures)

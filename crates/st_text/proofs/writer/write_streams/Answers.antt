@@ -21,23 +21,22 @@ whole ss ps e is =
     ∙ ap (flat_map (text_of ss)) (sym e)
 
 pub loop-pid-init : goal.loop-pid-init
-loop-pid-init g c = goes_still g.S.ByteSink.puts g.S.ByteSink.failed _ _
+loop-pid-init g c = goes_still g.S.ByteSink.puts g.S.ByteSink.failed
 
 pub loop-pid-preserved : goal.loop-pid-preserved
 loop-pid-preserved g c =
     one_more g.S.ByteSink.puts g.S.ByteSink.failed (text_of c.args.streams.now) c.pids-pid-items.result.now
-    c.loop-pid.pid-index _ _ _ _ _ _ _ c.loop-pid-test.true c.loop-pid.invariant c.in_ok-write_process.ensures
+    c.loop-pid.pid-index _ c.loop-pid-test.true c.loop-pid.invariant c.in_ok-write_process.ensures
 
 pub returns-in_err-write_process : goal.returns-in_err-write_process
 returns-in_err-write_process g c =
-    on_err _ _ _ _ _ _ _ _ c.from_residual.ensures.0
+    on_err _ _ _ _ c.from_residual.ensures.0
     (one_failed g.S.ByteSink.puts g.S.ByteSink.failed (text_of c.args.streams.now) c.pids-pid-items.result.now
-    c.loop-pid.pid-index _ _ _ _ _ _ _
-    (whole c.args.streams.now c.pids-pid-items.result.now c.pids-pid-items.ensures.value
+    c.loop-pid.pid-index _ (whole c.args.streams.now c.pids-pid-items.result.now c.pids-pid-items.ensures.value
     c.pids-pid-items.ensures.streams) c.loop-pid-test.true c.loop-pid.invariant c.in_err-write_process.ensures)
 
 pub returns : goal.returns
 returns g c =
     all_done g.S.ByteSink.puts g.S.ByteSink.failed (text_of c.args.streams.now) c.pids-pid-items.result.now
-    c.loop-pid.pid-index _ _ _ _ _ (whole c.args.streams.now c.pids-pid-items.result.now c.pids-pid-items.ensures.value
+    c.loop-pid.pid-index (whole c.args.streams.now c.pids-pid-items.result.now c.pids-pid-items.ensures.value
     c.pids-pid-items.ensures.streams) c.loop-pid-test.false c.loop-pid.invariant
