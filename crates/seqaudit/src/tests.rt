@@ -7,6 +7,7 @@ mod charts;
 mod devices;
 mod drives;
 mod faults;
+mod finals;
 mod limits;
 mod nodes;
 mod prefixes;
@@ -76,6 +77,7 @@ fn worked_inputs_are_answered(rt: HostRuntime) -> Result<(), Fail> {
     expect_cases(&rt, &["seqaudit", "check"], &faults::CASES)?;
     expect_cases(&rt, &["seqaudit", "replay"], &replays::CASES)?;
     expect_cases(&rt, &["seqaudit", "audit"], &audits::CASES)?;
+    expect_cases(&rt, &["seqaudit", "audit"], &finals::AUDITED)?;
     expect_cases(&rt, &["seqaudit", "drive"], &drives::CASES)?;
     expect_cases(&rt, &["seqaudit", "chart", "--label", "17"], &charts::CASES)?;
     Ok(())

@@ -107,12 +107,6 @@ pub then_on : {S T E : Type 0} (puts : S → List ℕ → S → Type 0) (failed 
 then_on puts failed t u c z (Ok v) g h = goes_then puts failed t u g h
 then_on puts failed t u c z (Err e) g h = part_then puts failed t u g h
 
--- a text behind nothing
-pub behind_none : {S : Type 0} (puts : S → List ℕ → S → Type 0) (failed : S → Bool) (t : List ℕ) {a b c : S}
-    {x y z : List ℕ}
-    → Goes puts failed [] a b x y → Goes puts failed t b c y z → Goes puts failed t a c x z
-behind_none puts failed t g h = goes_then puts failed [] t g h
-
 -- ---- what calls answered
 
 -- a refusal, where a call failed
@@ -206,10 +200,3 @@ finishes puts failed text c y (Err e) some g h over =
     part_whole : {S : Type 0} (puts : S → List ℕ → S → Type 0) (failed : S → Bool) (t : List ℕ) {a b : S}
         → WritesPart puts failed (t ++ []) a b → WritesPart puts failed t a b
     part_whole puts failed t {a} {b} h = subst (λ (w : List ℕ). WritesPart puts failed w a b) (append-nil t) h
-
--- a refusal on the way is one of the whole
-pub gives_up : {S T E : Type 0} (puts : S → List ℕ → S → Type 0) (failed : S → Bool) (text : List ℕ) {a b : S}
-    (r : Result T E)
-    → IsErr r → WritesPart puts failed text a b → WritesText puts failed text a b r
-gives_up puts failed text (Ok v) is h = absurd cc
-gives_up puts failed text (Err e) is h = h

@@ -2,6 +2,53 @@
 
 use super::Case;
 
+/// A print at count 1, and after a reset the same again.
+pub const RESET_REPEATS_SERIAL: &str = "seqtrace 1\n\
+    process <0.30.0>\n\
+    {seq_trace,17,{print,{0,1},<0.30.0>,[],7}}\n\
+    {seq_trace,17,{print,{0,1},<0.30.0>,[],7}}\n\
+    acts\n\
+    tracer <0.30.0> true\n\
+    set <0.30.0> label 17\n\
+    set <0.30.0> print true\n\
+    print <0.30.0> 7\n\
+    reset <0.30.0>\n\
+    set <0.30.0> label 17\n\
+    set <0.30.0> print true\n\
+    print <0.30.0> 7\n";
+
+/// A send and its receive, both reported.
+pub const EVERYTHING_REPORTED: &str = "seqtrace 1\n\
+    process <0.30.0>\n\
+    {seq_trace,17,{send,{0,1},<0.30.0>,<0.31.0>,5}}\n\
+    process <0.31.0>\n\
+    {seq_trace,17,{'receive',{0,1},<0.30.0>,<0.31.0>,5}}\n\
+    acts\n\
+    tracer <0.30.0> true\n\
+    set <0.30.0> label 17\n\
+    set <0.30.0> send true\n\
+    set <0.30.0> receive true\n\
+    send <0.30.0> <0.31.0> 5\n\
+    receive <0.31.0> first\n";
+
+/// Two processes that each sent before they received the other's message; no send was reported.
+pub const CROSSING_SENDS: &str = "seqtrace 1\n\
+    process <0.30.0>\n\
+    {seq_trace,1,{'receive',{0,1},<0.31.0>,<0.30.0>,4}}\n\
+    process <0.31.0>\n\
+    {seq_trace,1,{'receive',{0,2},<0.30.0>,<0.31.0>,5}}\n\
+    acts\n\
+    tracer <0.30.0> true\n\
+    set <0.30.0> label 1\n\
+    set <0.30.0> receive true\n\
+    print <0.30.0> 0\n\
+    send <0.30.0> <0.31.0> 5\n\
+    set <0.31.0> label 1\n\
+    set <0.31.0> receive true\n\
+    send <0.31.0> <0.30.0> 4\n\
+    receive <0.30.0> first\n\
+    receive <0.31.0> first\n";
+
 pub static CASES: [Case; 14] = [
     Case {
         name: "print_one",
@@ -163,19 +210,7 @@ pub static CASES: [Case; 14] = [
     },
     Case {
         name: "reset_repeats_serial",
-        input: "seqtrace 1\n\
-            process <0.30.0>\n\
-            {seq_trace,17,{print,{0,1},<0.30.0>,[],7}}\n\
-            {seq_trace,17,{print,{0,1},<0.30.0>,[],7}}\n\
-            acts\n\
-            tracer <0.30.0> true\n\
-            set <0.30.0> label 17\n\
-            set <0.30.0> print true\n\
-            print <0.30.0> 7\n\
-            reset <0.30.0>\n\
-            set <0.30.0> label 17\n\
-            set <0.30.0> print true\n\
-            print <0.30.0> 7\n",
+        input: RESET_REPEATS_SERIAL,
         text: "yes\n",
         status: 0,
     },
@@ -197,40 +232,14 @@ pub static CASES: [Case; 14] = [
     },
     Case {
         name: "everything_reported_checked",
-        input: "seqtrace 1\n\
-            process <0.30.0>\n\
-            {seq_trace,17,{send,{0,1},<0.30.0>,<0.31.0>,5}}\n\
-            process <0.31.0>\n\
-            {seq_trace,17,{'receive',{0,1},<0.30.0>,<0.31.0>,5}}\n\
-            acts\n\
-            tracer <0.30.0> true\n\
-            set <0.30.0> label 17\n\
-            set <0.30.0> send true\n\
-            set <0.30.0> receive true\n\
-            send <0.30.0> <0.31.0> 5\n\
-            receive <0.31.0> first\n",
+        input: EVERYTHING_REPORTED,
         text: "yes\n\
             pair 5 4\n",
         status: 0,
     },
     Case {
         name: "crossing_sends_checked",
-        input: "seqtrace 1\n\
-            process <0.30.0>\n\
-            {seq_trace,1,{'receive',{0,1},<0.31.0>,<0.30.0>,4}}\n\
-            process <0.31.0>\n\
-            {seq_trace,1,{'receive',{0,2},<0.30.0>,<0.31.0>,5}}\n\
-            acts\n\
-            tracer <0.30.0> true\n\
-            set <0.30.0> label 1\n\
-            set <0.30.0> receive true\n\
-            print <0.30.0> 0\n\
-            send <0.30.0> <0.31.0> 5\n\
-            set <0.31.0> label 1\n\
-            set <0.31.0> receive true\n\
-            send <0.31.0> <0.30.0> 4\n\
-            receive <0.30.0> first\n\
-            receive <0.31.0> first\n",
+        input: CROSSING_SENDS,
         text: "yes\n\
             pair 8 7\n\
             pair 9 4\n",

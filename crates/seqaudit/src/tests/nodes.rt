@@ -2,6 +2,25 @@
 
 use super::Case;
 
+/// Two sends with one count, since a reset of the sender's node lies between; the receiver is on another.
+pub const RESET_LEAVES_OTHER_NODE: &str = "seqtrace 2\n\
+    process <1.30.0>\n\
+    process <2.31.0>\n\
+    {seq_trace,17,{'receive',{0,1},<1.30.0>,<2.31.0>,5}}\n\
+    {seq_trace,17,{'receive',{0,1},<1.30.0>,<2.31.0>,5}}\n\
+    acts\n\
+    tracer <1.30.0> true\n\
+    tracer <2.31.0> true\n\
+    set <1.30.0> label 17\n\
+    set <1.30.0> receive true\n\
+    send <1.30.0> <2.31.0> 5\n\
+    reset <1.30.0>\n\
+    set <1.30.0> label 17\n\
+    set <1.30.0> receive true\n\
+    send <1.30.0> <2.31.0> 5\n\
+    receive <2.31.0> first\n\
+    receive <2.31.0> first\n";
+
 pub static CASES: [Case; 7] = [
     Case {
         name: "pid_other_node_header_1",
@@ -12,23 +31,7 @@ pub static CASES: [Case; 7] = [
     },
     Case {
         name: "node_reset_leaves_other_node",
-        input: "seqtrace 2\n\
-            process <1.30.0>\n\
-            process <2.31.0>\n\
-            {seq_trace,17,{'receive',{0,1},<1.30.0>,<2.31.0>,5}}\n\
-            {seq_trace,17,{'receive',{0,1},<1.30.0>,<2.31.0>,5}}\n\
-            acts\n\
-            tracer <1.30.0> true\n\
-            tracer <2.31.0> true\n\
-            set <1.30.0> label 17\n\
-            set <1.30.0> receive true\n\
-            send <1.30.0> <2.31.0> 5\n\
-            reset <1.30.0>\n\
-            set <1.30.0> label 17\n\
-            set <1.30.0> receive true\n\
-            send <1.30.0> <2.31.0> 5\n\
-            receive <2.31.0> first\n\
-            receive <2.31.0> first\n",
+        input: RESET_LEAVES_OTHER_NODE,
         text: "yes\n\
             pair 9 4\n\
             pair 10 8\n",
