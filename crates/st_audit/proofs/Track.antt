@@ -1,4 +1,5 @@
--- In plain streams the construction goes on from item to item: its acts run, its world is as the moves say, and its acts
+-- In plain streams the construction goes on from item to item: its acts run, its world is as the moves say, and its
+-- acts
 -- tell what the moves tell. So at the end they show the streams.
 use Rattle.std.proofs.Common.{◌≡◌, ℕ, ◌+◌, ◌≤◌, suc, false, not, List, [], ◌∷◌, ◌++◌, take, drop, length, get_or}
 use Rattle.std.proofs.Common.{Some, None, IsSome, append_assoc, slice_get, refl, sym, ◌∙◌, ap, subst}

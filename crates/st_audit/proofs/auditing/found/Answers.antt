@@ -119,7 +119,8 @@ loop-number-preserved g c =
           let x = get_or xs n none in
           let m = goes_next top streams c.requires.streams plain xs c.requires.order n x at old.world old.acts track in
           let f = done.follows x at pairs i.told m.serves in
-          track_next top streams c.requires.streams plain xs c.requires.order n x at old.world old.acts track m now.world
+          track_next top streams c.requires.streams plain xs c.requires.order n x at old.world old.acts track m
+          now.world
           now.acts f.put f.after;
     }
 
@@ -146,7 +147,8 @@ returns-in-Err-Uncaused-clause-plain_fits g c = λ pairs are plain.
     let within = c.loop-number-test.true in
     let holds = uncaused_halt streams (take n xs) _ c.in-Err-Uncaused.field-0 c.in-Err-Uncaused.field-0-is
     (c.in-Err-Uncaused.ensures.halt _ (slice_get-get_or xs n _ within)) in
-    plain.caused at.0 at.1 (holds_there uncaused streams xs n _ at c.requires.order within c.place_of-index.ensures holds)
+    plain.caused at.0 at.1 (holds_there uncaused streams xs n _ at c.requires.order within c.place_of-index.ensures
+    holds)
 
 pub returns-in-Err-TooWide-clause-plain_fits : goal.returns-in-Err-TooWide-clause-plain_fits
 returns-in-Err-TooWide-clause-plain_fits g c = λ pairs are plain.
@@ -157,7 +159,8 @@ returns-in-Err-TooWide-clause-plain_fits g c = λ pairs are plain.
     let within = c.loop-number-test.true in
     let holds = too_wide_halt streams (take n xs) _ c.in-Err-TooWide.field-0 c.in-Err-TooWide.field-0-is
     (c.in-Err-TooWide.ensures.halt _ (slice_get-get_or xs n _ within)) in
-    plain.narrow at.0 at.1 (holds_there too_wide streams xs n _ at c.requires.order within c.place_of-index.ensures holds)
+    plain.narrow at.0 at.1 (holds_there too_wide streams xs n _ at c.requires.order within c.place_of-index.ensures
+    holds)
 
 pub returns-clause-plain_fits : goal.returns-clause-plain_fits
 returns-clause-plain_fits g c = λ pairs are plain.

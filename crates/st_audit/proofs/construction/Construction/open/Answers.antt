@@ -42,7 +42,8 @@ loop-pid-preserved g c =
             skipped = ap (λ (x : Construction top). x.skipped) w.self-is ∙ done.skipped ∙ i.skipped;
             told = ap (λ (x : Construction top). x.told) w.self-is ∙ done.told ∙ i.told;
             opens = subst (λ (x : Construction top). Opens top old.world old.acts pids c.if-ne.node rest x.world x.acts)
-                (sym w.self-is) (subst (λ (m : Option ℕ). Opens top old.world old.acts pids m rest after.world after.acts)
+                (sym w.self-is) (subst (λ (m : Option ℕ). Opens top old.world old.acts pids m rest after.world
+                after.acts)
                 (sym node_is) more);
           }
       | else-ne w ↦

@@ -30,6 +30,7 @@ returns-in_err-perform-clause-goes g c = λ runs.
     let plan = c.args.plan.now in
     let n = c.loop-act.act-index in
     let here = slice_get-get_or plan n _ c.loop-act-test.true in
-    let goes = c.in_err-perform.ensures.goes (next_steps g.row.TOP c.args.self.now.world c.loop-act.self.world plan (take n plan) _
+    let goes = c.in_err-perform.ensures.goes (next_steps g.row.TOP c.args.self.now.world c.loop-act.self.world plan
+    (take n plan) _
     (drop (suc n) plan) c.loop-act.invariant.0 (cut plan n _ here) runs) in
     search rules

@@ -1,5 +1,6 @@
 -- The act's report is the event, at the place of whose process one more is told.
-use Rattle.std.proofs.Common.{◌≡◌, ◌<◌, arith, length, rules, slice_get, slice_set, ℕ, List, Ok, Some, sym, ◌∙◌, ap, subst}
+use Rattle.std.proofs.Common.{◌≡◌, ◌<◌, arith, length, rules, slice_get, slice_set, ℕ, List, Ok, Some, sym, ◌∙◌, ap}
+use Rattle.std.proofs.Common.{subst}
 use Rattle.std.proofs.lemmas.Option.{same_Some, get_or_from_slice_get, slice_get-get_or}
 use Rattle.st_core.specs.declared.types.Event.{Event}
 use Rattle.st_order.specs.declared.item.Item.TheVariants as item
