@@ -12,5 +12,8 @@ returns-in-Ok g c =
     let verdict : IsVerdict g.row.TOP c.args.streams.now c.args.acts (verdict_of c.in-Ok.verdict) =
     subst (λ acts. IsVerdict g.row.TOP c.args.streams.now acts (verdict_of c.in-Ok.verdict)) c.as_slice.ensures
     c.in-Ok.ensures.verdict in
-    record { found = search rules; shown = λ shows. absurd (shown_is_yes g.row.TOP c.args.streams.now c.args.acts
-    (verdict_of c.in-Ok.verdict) shows verdict no) }
+    record {
+      found = search rules;
+      shown = λ shows. absurd (shown_is_yes g.row.TOP c.args.streams.now c.args.acts
+          (verdict_of c.in-Ok.verdict) shows verdict no);
+    }
