@@ -70,7 +70,8 @@ few_acts bytes streams acts s =
 -- ---- an act that was refused
 
 -- a script in its place is that process's acts
-zipped : (ps : List Pid) (xs : List Act) → All (λ (x : Pid × List Act). x.1 ≡ acts_by x.0 xs) (zip ps (scripts_of ps xs))
+zipped : (ps : List Pid) (xs : List Act)
+    → All (λ (x : Pid × List Act). x.1 ≡ acts_by x.0 xs) (zip ps (scripts_of ps xs))
 zipped [] xs = All-nil (λ (x : Pid × List Act). x.1 ≡ acts_by x.0 xs)
 zipped (p ∷ ps) xs =
     All-cons (λ (x : Pid × List Act). x.1 ≡ acts_by x.0 xs) (p, acts_by p xs) (zip ps (scripts_of ps xs)) refl

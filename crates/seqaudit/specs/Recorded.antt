@@ -1,5 +1,5 @@
--- What `drive` makes of bytes: the bundle of one run in which each process makes its own of the acts that they spell, in
--- order, or that there is none, or why they spell no acts. The events in the input are ignored.
+-- What `drive` makes of bytes: the bundle of one run in which each process makes its own of the acts that they spell,
+-- in order, or that there is none, or why they spell no acts. The events in the input are ignored.
 use Rattle.std.specs.Prelude.{◌≡◌, ℕ, List, ◌++◌, Some, map, codes, decimal}
 use Rattle.st_core.specs.declared.types.Pid.{Pid}
 use Rattle.st_core.specs.declared.types.Act.{Act}

@@ -140,7 +140,8 @@ reported_moves top old skipped p e f told new now x report =
 
 -- WHERE IT ISN'T
 
-pub caused_by : (l : LocalState) (s : Serial) → is_uncaused (start_of l) s ≡ false → (s.prev ≡ l.last) ⊎ (l.clock ≤ s.prev)
+pub caused_by : (l : LocalState) (s : Serial) → is_uncaused (start_of l) s ≡ false
+    → (s.prev ≡ l.last) ⊎ (l.clock ≤ s.prev)
 caused_by l s h =
     elim (s.prev == l.last) as (λ b. (s.prev == l.last) ≡ b → (not b && nat_lt s.prev l.clock) ≡ false
     → (s.prev ≡ l.last) ⊎ (l.clock ≤ s.prev)) [
