@@ -12,9 +12,9 @@ use Rattle.st_core.specs.Step.{actor, receiver, touches}
 use Rattle.st_core.specs.Streams.{is_among}
 use Rattle.st_core.proofs.ForCallers.{pid_eq-true, pid_eq-same, IsBelow-apart}
 use Rattle.st_runtime.specs.declared.entry.Entry.{Entry}
-use Rattle.st_runtime.specs.Joining.{HasAt}
+use Rattle.st_runtime.specs.Joining.{HasAt, IsSettled}
 use Rattle.st_runtime.specs.Pcb.{Control, is_wide}
-use Rattle.st_runtime.specs.Pieces.{pids_in, HasIfTouched, IsWhole}
+use Rattle.st_runtime.specs.Pieces.{pids_in, AreWhole, HasIfTouched, IsWhole}
 use Rattle.st_runtime.proofs.Members.{In, In-Contains, Contains-In, All-In, In-All}
 use Rattle.st_runtime.proofs.PartLemmas.{touches_actor}
 use Rattle.st_runtime.proofs.Searching.{key_at}
@@ -132,3 +132,16 @@ whole_actor xs e whole = has_at_of xs e (actor e.act) (touches_actor e.act) whol
 
 pub whole_receiver : (xs : List Control) (e : Entry) → IsWhole xs e → HasAt xs (receiver e.act) e
 whole_receiver xs e whole = has_at_of xs e (receiver e.act) (touches_receiver e.act) whole.receiver whole.everywhere
+
+-- ---- entries that are looked for everywhere once
+
+-- where each entry of each log is settled there, all are whole: it is in its actor's log, where it is whole
+pub settled_whole : (xs : List Control) → All (λ (x : Control). All (IsSettled xs x.process.pid) x.log) xs → AreWhole xs
+settled_whole xs settled =
+    let Settles : Control → Type 0 = λ x. All (IsSettled xs x.process.pid) x.log in
+    let settles : (x : Control) (e : Entry) → In x xs → In e x.log → IsSettled xs x.process.pid e =
+    λ x e i j. All-In (IsSettled xs x.process.pid) x.log e (All-In Settles xs x settled i) j in
+    In-All (λ (x : Control). All (IsWhole xs) x.log) xs (λ x i. In-All (IsWhole xs) x.log (λ e j.
+    let has = (settles x e i j).made in
+    let y = has.control in
+    (settles y e (Contains-In y xs has.among) (Contains-In e y.log has.has)).whole (sym has.pid)))

@@ -13,7 +13,7 @@ use Rattle.st_runtime.specs.declared.entry.Entry.{Entry}
 use Rattle.st_runtime.specs.declared.record.Record.{Record}
 use Rattle.st_runtime.specs.Joined.{IsMerged, IsOneRun, streams_of}
 use Rattle.st_runtime.specs.Pcb.{Control}
-use Rattle.st_runtime.specs.Pieces.{Parts, IsSeated}
+use Rattle.st_runtime.specs.Pieces.{Parts, IsSeated, IsWhole}
 
 -- the process of this pid is there and has the entry
 pub record HasAt (xs : List Control) (p : Pid) (e : Entry) : Type 0 where
@@ -21,6 +21,11 @@ pub record HasAt (xs : List Control) (p : Pid) (e : Entry) : Type 0 where
   pub among : Contains xs control
   pub pid : control.process.pid ≡ p
   pub has : Contains control.log e
+
+-- the entry is in its actor's log, and whole if that is p
+pub record IsSettled (xs : List Control) (p : Pid) (e : Entry) : Type 0 where
+  pub made : HasAt xs (actor e.act) e
+  pub whole : actor e.act ≡ p → IsWhole xs e
 
 -- the least, if there is one, isn't seated, and each of these pids that is below it is
 pub record IsLeastUnseated {X : Type 0} (pid_of : X → Pid) (pieces : Parts) (xs : List X) (least : Option Pid)

@@ -1,12 +1,12 @@
 //! Which entries stand in the log of each process that their acts touch.
 
 ghost use Rattle.std.specs.Prelude.{◌≡◌, ◌<◌, length, take, true, All, Contains, slice_get, slice_index_or};
-ghost use Rattle.std.specs.Prelude.{is_some, Some, IfSome, MatchBool, MatchOption};
+ghost use Rattle.std.specs.Prelude.{is_some, Some, IfSome, IsTrue, MatchBool, MatchOption};
 ghost use Rattle.st_core.specs.Pid.{IsRising};
 ghost use Rattle.st_core.specs.Step.{touches};
 ghost use Rattle.st_core.specs.Streams.{is_among};
 ghost use Rattle.st_runtime.specs.declared.entry.Entry.{Entry};
-ghost use Rattle.st_runtime.specs.Joining.{HasAt};
+ghost use Rattle.st_runtime.specs.Joining.{HasAt, IsSettled};
 ghost use Rattle.st_runtime.specs.Logs.{RanksRise};
 ghost use Rattle.st_runtime.specs.Pcb.{is_wide};
 ghost use Rattle.st_runtime.specs.Pieces.{pids_in, AreWhole, HasIfTouched, IsWhole, IsFirstMissing};
@@ -17,8 +17,69 @@ use crate::pcb::Pcb;
 use crate::same::is_same;
 use st_core::{Act, Pid};
 
-/// The least place of an entry that isn't whole.
+/// The least place of an entry that isn't whole. Where all are, each is looked for everywhere once;
+/// only to name the least place that lacks one each log is asked about each of its entries.
 pub fn first_missing<const TOP: u64, const RANKS: u64>(
+    processes: &[Pcb<TOP, RANKS>],
+) -> Option<(Pid, usize)>
+    requires { IsRising (pids_in processes.now) }
+    ensures { MatchOption result (AreWhole processes.now) (λ r. IsFirstMissing processes.now r.0 r.1) }
+{
+    if are_whole(processes) {
+        return None;
+    }
+    least_missing(processes)
+}
+
+/// Whether it is seen that all entries are whole: those that a process made are, and each entry of
+/// any log is in the log of the process that made it.
+fn are_whole<const TOP: u64, const RANKS: u64>(processes: &[Pcb<TOP, RANKS>]) -> bool
+    requires { IsRising (pids_in processes.now) }
+    ensures { IsTrue result → AreWhole processes.now }
+{
+    for process in processes {
+        if !are_settled(processes, process.pid(), process.log()) {
+            return false;
+        }
+    }
+    true
+}
+
+/// Whether all entries of this process's log are settled there.
+fn are_settled<const TOP: u64, const RANKS: u64>(
+    processes: &[Pcb<TOP, RANKS>],
+    pid: Pid,
+    log: &[Entry],
+) -> bool
+    requires { IsRising (pids_in processes.now) }
+    ensures { IsTrue result → All (IsSettled processes.now pid) log.now }
+{
+    for entry in log {
+        if !is_settled(processes, pid, entry) {
+            return false;
+        }
+    }
+    true
+}
+
+/// Whether an entry of this process's log is in the log of its actor, and whole if that is this one.
+fn is_settled<const TOP: u64, const RANKS: u64>(
+    processes: &[Pcb<TOP, RANKS>],
+    pid: Pid,
+    entry: &Entry,
+) -> bool
+    requires { IsRising (pids_in processes.now) }
+    ensures { IsTrue result → IsSettled processes.now pid entry.now }
+{
+    if entry.act.actor() == pid {
+        is_whole(processes, entry)
+    } else {
+        has_at(processes, entry.act.actor(), entry)
+    }
+}
+
+/// The same, by asking each log about each of its entries.
+fn least_missing<const TOP: u64, const RANKS: u64>(
     processes: &[Pcb<TOP, RANKS>],
 ) -> Option<(Pid, usize)>
     requires { IsRising (pids_in processes.now) }

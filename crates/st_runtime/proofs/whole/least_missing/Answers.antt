@@ -8,7 +8,7 @@ use Rattle.st_runtime.specs.declared.entry.Entry.{Entry}
 use Rattle.st_runtime.specs.Pcb.{Control}
 use Rattle.st_runtime.specs.Pieces.{IsWhole}
 use Rattle.st_runtime.proofs.Members.{All-past}
-use Rattle.st_runtime.proofs.whole.first_missing.Goals as goal
+use Rattle.st_runtime.proofs.whole.least_missing.Goals as goal
 
 pub returns-in-Some : goal.returns-in-Some
 returns-in-Some g c =
