@@ -51,9 +51,11 @@ fn run_of_logs<const TOP: u64, const RANKS: u64>(
     requires whole { AreWhole processes.now }
     ensures { IfOk result (IsLogged TOP processes.now) }
 {
-    let entries = merged(alloc, processes)?;
-    let acts = acts_of(alloc, entries.as_slice())?;
-    let replies = replies_of(alloc, entries.as_slice())?;
+    let (acts, replies) = {
+        let entries = merged(alloc, processes)?;
+        let acts = acts_of(alloc, entries.as_slice())?;
+        (acts, replies_of(alloc, entries.as_slice())?)
+    };
     let streams = streams_of(alloc, processes)?;
     Ok(Record {
         streams,

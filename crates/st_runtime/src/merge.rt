@@ -1,5 +1,5 @@
 //! The entries of all logs as one list. Each process's own entries are all entries, and each once: so
-//! one stable sort by rank of these merges the logs.
+//! one stable sort by rank of these merges the logs. They stay in the logs, and are only referred to.
 
 ghost use Rattle.std.specs.Prelude.{◌≡◌, ◌++◌, map, All, IfOk, OnOk};
 ghost use Rattle.st_core.specs.Pid.{IsRising};
@@ -17,9 +17,10 @@ use std::alloc::{AllocError, Global};
 pub fn merged<const TOP: u64, const RANKS: u64>(
     alloc: Global,
     processes: &[Pcb<TOP, RANKS>],
-) -> Result<Vec<Entry>, AllocError>
+) -> Result<Vec<&Entry>, AllocError>
     requires { IsRising (pids_in processes.now) }
-    ensures merged { IfOk result (λ v. AreWhole processes.now → IsMerged processes.now v.items) }
+    ensures merged { IfOk result (λ v. AreWhole processes.now
+        → IsMerged processes.now (map (λ r. r.now) v.items)) }
     ensures kept { OnOk result (All (λ x. IsKept TOP RANKS x.process x.log) processes.now) }
 {
     let mut all = own_entries(alloc, processes)?;
@@ -31,8 +32,8 @@ pub fn merged<const TOP: u64, const RANKS: u64>(
 fn own_entries<const TOP: u64, const RANKS: u64>(
     alloc: Global,
     processes: &[Pcb<TOP, RANKS>],
-) -> Result<Vec<Entry>, AllocError>
-    ensures items { IfOk result (λ v. v.items ≡ flat_of processes.now) }
+) -> Result<Vec<&Entry>, AllocError>
+    ensures items { IfOk result (λ v. map (λ r. r.now) v.items ≡ flat_of processes.now) }
     ensures kept { OnOk result (All (λ x. IsKept TOP RANKS x.process x.log) processes.now) }
 {
     let mut all = Vec::new(alloc);
@@ -43,12 +44,13 @@ fn own_entries<const TOP: u64, const RANKS: u64>(
 }
 
 /// Adds a process's own entries.
-fn push_own(all: &mut Vec<Entry>, pid: Pid, log: &[Entry]) -> Result<(), AllocError>
-    ensures { OnOk result (all.new.items ≡ all.old.items ++ own_of pid log.now) }
+fn push_own<'a>(all: &mut Vec<&'a Entry>, pid: Pid, log: &'a [Entry]) -> Result<(), AllocError>
+    ensures { OnOk result (map (λ r. r.now) all.new.items
+        ≡ map (λ r. r.now) all.old.items ++ own_of pid log.now) }
 {
     for entry in log {
         if entry.act.actor() == pid {
-            let Ok(()) = all.push(*entry) else {
+            let Ok(()) = all.push(entry) else {
                 return Err(AllocError);
             };
         }
@@ -57,8 +59,8 @@ fn push_own(all: &mut Vec<Entry>, pid: Pid, log: &[Entry]) -> Result<(), AllocEr
 }
 
 /// The acts of entries.
-pub fn acts_of(alloc: Global, entries: &[Entry]) -> Result<Vec<Act>, AllocError>
-    ensures { IfOk result (λ v. v.items ≡ map (λ e. e.act) entries.now) }
+pub fn acts_of(alloc: Global, entries: &[&Entry]) -> Result<Vec<Act>, AllocError>
+    ensures { IfOk result (λ v. v.items ≡ map (λ r. r.now.act) entries.now) }
 {
     let mut all = Vec::with_capacity(alloc, entries.len())?;
     for entry in entries {
@@ -70,8 +72,8 @@ pub fn acts_of(alloc: Global, entries: &[Entry]) -> Result<Vec<Act>, AllocError>
 }
 
 /// What they answered.
-pub fn replies_of(alloc: Global, entries: &[Entry]) -> Result<Vec<Reply>, AllocError>
-    ensures { IfOk result (λ v. v.items ≡ map (λ e. e.reply) entries.now) }
+pub fn replies_of(alloc: Global, entries: &[&Entry]) -> Result<Vec<Reply>, AllocError>
+    ensures { IfOk result (λ v. v.items ≡ map (λ r. r.now.reply) entries.now) }
 {
     let mut all = Vec::with_capacity(alloc, entries.len())?;
     for entry in entries {
