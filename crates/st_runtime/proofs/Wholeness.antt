@@ -115,6 +115,19 @@ whole_of_two xs e rising narrow from to = record {
       (touches_two e.act x.process.pid narrow touched));
 }
 
+wide_receiver : (a : Act) → is_wide a ≡ true → receiver a ≡ actor a
+wide_receiver (act.Send p q v) wide = absurd (cc)
+wide_receiver a wide = refl
+
+-- an entry of a whole node that its actor has, and each process of the node, is whole
+pub whole_of_wide : (xs : List Control) (e : Entry) → is_wide e.act ≡ true → HasAt xs (actor e.act) e
+    → All (HasIfTouched e) xs → IsWhole xs e
+whole_of_wide xs e wide made everywhere = record {
+  actor = among_has xs (actor e.act) e made;
+  receiver = ap (is_among (pids_in xs)) (wide_receiver e.act wide) ∙ among_has xs (actor e.act) e made;
+  everywhere = everywhere;
+}
+
 has_at_of : (xs : List Control) (e : Entry) (p : Pid) → touches e.act p ≡ true → is_among (pids_in xs) p ≡ true
     → All (HasIfTouched e) xs → HasAt xs p e
 has_at_of xs e p touched there everywhere =

@@ -3,7 +3,7 @@
 ghost use Rattle.std.specs.Prelude.{◌≡◌, ◌<◌, length, take, true, All, Contains, slice_get, slice_index_or};
 ghost use Rattle.std.specs.Prelude.{is_some, Some, IfSome, IsTrue, MatchBool, MatchOption};
 ghost use Rattle.st_core.specs.Pid.{IsRising};
-ghost use Rattle.st_core.specs.Step.{touches};
+ghost use Rattle.st_core.specs.Step.{actor, touches};
 ghost use Rattle.st_core.specs.Streams.{is_among};
 ghost use Rattle.st_runtime.specs.declared.entry.Entry.{Entry};
 ghost use Rattle.st_runtime.specs.Joining.{HasAt, IsSettled};
@@ -48,14 +48,15 @@ fn are_whole<const TOP: u64, const RANKS: u64>(processes: &[Pcb<TOP, RANKS>]) ->
 /// Whether all entries of this process's log are settled there.
 fn are_settled<const TOP: u64, const RANKS: u64>(
     processes: &[Pcb<TOP, RANKS>],
-    pid: Pid,
+    here: Pid,
     log: &[Entry],
 ) -> bool
-    requires { IsRising (pids_in processes.now) }
-    ensures { IsTrue result → All (IsSettled processes.now pid) log.now }
+    requires rising { IsRising (pids_in processes.now) }
+    requires here { All (HasAt processes.now here) log.now }
+    ensures { IsTrue result → All (IsSettled processes.now here) log.now }
 {
     for entry in log {
-        if !is_settled(processes, pid, entry) {
+        if !is_settled(processes, here, entry) {
             return false;
         }
     }
@@ -65,14 +66,15 @@ fn are_settled<const TOP: u64, const RANKS: u64>(
 /// Whether an entry of this process's log is in the log of its actor, and whole if that is this one.
 fn is_settled<const TOP: u64, const RANKS: u64>(
     processes: &[Pcb<TOP, RANKS>],
-    pid: Pid,
+    here: Pid,
     entry: &Entry,
 ) -> bool
-    requires { IsRising (pids_in processes.now) }
-    ensures { IsTrue result → IsSettled processes.now pid entry.now }
+    requires rising { IsRising (pids_in processes.now) }
+    requires here { HasAt processes.now here entry.now }
+    ensures { IsTrue result → IsSettled processes.now here entry.now }
 {
-    if entry.act.actor() == pid {
-        is_whole(processes, entry)
+    if entry.act.actor() == here {
+        is_shared(processes, here, entry)
     } else {
         has_at(processes, entry.act.actor(), entry)
     }
@@ -86,68 +88,113 @@ fn least_missing<const TOP: u64, const RANKS: u64>(
     ensures { MatchOption result (AreWhole processes.now) (λ r. IsFirstMissing processes.now r.0 r.1) }
 {
     for (k, process) in processes.iter().enumerate() {
-        if let Some(i) = missing_in(processes, process.log()) {
+        if let Some(i) = missing_in(processes, process.pid(), process.log()) {
             return Some((process.pid(), i));
         }
     }
     None
 }
 
-/// The least place in a log of an entry that isn't whole.
+/// The least place in this process's log of an entry that isn't whole.
 fn missing_in<const TOP: u64, const RANKS: u64>(
     processes: &[Pcb<TOP, RANKS>],
+    here: Pid,
     log: &[Entry],
 ) -> Option<usize>
-    requires { IsRising (pids_in processes.now) }
+    requires rising { IsRising (pids_in processes.now) }
+    requires here { All (HasAt processes.now here) log.now }
     ensures { MatchOption result (All (IsWhole processes.now) log.now) (λ i.
         (i < length log.now) × All (IsWhole processes.now) (take i log.now)
         × ((d : Entry) → ¬ IsWhole processes.now (slice_index_or log.now i d))) }
 {
     for (i, entry) in log.iter().enumerate() {
-        if !is_whole(processes, entry) {
+        if !is_whole(processes, here, entry) {
             return Some(i);
         }
     }
     None
 }
 
-/// Whether the actor and a send's receiver are there, and each process that the act touches has the
-/// entry. Where the act is none of a whole node, it touches these two alone.
-fn is_whole<const TOP: u64, const RANKS: u64>(processes: &[Pcb<TOP, RANKS>], entry: &Entry) -> bool
-    requires { IsRising (pids_in processes.now) }
+/// Whether an entry of this process's log is in the logs of its actor and of each process that the
+/// act touches.
+fn is_whole<const TOP: u64, const RANKS: u64>(
+    processes: &[Pcb<TOP, RANKS>],
+    here: Pid,
+    entry: &Entry,
+) -> bool
+    requires rising { IsRising (pids_in processes.now) }
+    requires here { HasAt processes.now here entry.now }
+    ensures { MatchBool result (IsWhole processes.now entry.now) (¬ IsWhole processes.now entry.now) }
+{
+    is_made(processes, here, entry) && is_shared(processes, here, entry)
+}
+
+/// Whether an entry of this process's log is in the log of its actor.
+fn is_made<const TOP: u64, const RANKS: u64>(
+    processes: &[Pcb<TOP, RANKS>],
+    here: Pid,
+    entry: &Entry,
+) -> bool
+    requires rising { IsRising (pids_in processes.now) }
+    requires here { HasAt processes.now here entry.now }
+    ensures { MatchBool result (HasAt processes.now (actor entry.now.act) entry.now)
+        (¬ HasAt processes.now (actor entry.now.act) entry.now) }
+{
+    entry.act.actor() == here || has_at(processes, entry.act.actor(), entry)
+}
+
+/// Whether each process that the act touches has an entry of this process's log that its actor has.
+/// Where the act is none of a whole node, it touches the actor and a send's receiver alone.
+fn is_shared<const TOP: u64, const RANKS: u64>(
+    processes: &[Pcb<TOP, RANKS>],
+    here: Pid,
+    entry: &Entry,
+) -> bool
+    requires rising { IsRising (pids_in processes.now) }
+    requires here { HasAt processes.now here entry.now }
+    requires made { HasAt processes.now (actor entry.now.act) entry.now }
     ensures { MatchBool result (IsWhole processes.now entry.now) (¬ IsWhole processes.now entry.now) }
 {
     if is_wide(&entry.act) {
-        has_process(processes, entry.act.actor()) && is_everywhere(processes, entry)
-    } else {
-        has_at(processes, entry.act.actor(), entry)
-            && has_at(processes, receiver_of(&entry.act), entry)
+        return is_everywhere(processes, here, entry);
     }
+    let receiver = receiver_of(&entry.act);
+    receiver == here || has_at(processes, receiver, entry)
 }
 
-/// Whether the process is there.
-fn has_process<const TOP: u64, const RANKS: u64>(processes: &[Pcb<TOP, RANKS>], pid: Pid) -> bool
-    requires { IsRising (pids_in processes.now) }
-    ensures { result ≡ is_among (pids_in processes.now) pid }
-{
-    place_in(processes, pid).is_some()
-}
-
-/// Whether each process of the actor's node has the entry.
+/// Whether each process of the actor's node has an entry of this process's log.
 fn is_everywhere<const TOP: u64, const RANKS: u64>(
     processes: &[Pcb<TOP, RANKS>],
+    here: Pid,
     entry: &Entry,
 ) -> bool
-    requires { is_wide entry.now.act ≡ true }
+    requires rising { IsRising (pids_in processes.now) }
+    requires wide { is_wide entry.now.act ≡ true }
+    requires here { HasAt processes.now here entry.now }
     ensures { MatchBool result (All (HasIfTouched entry.now) processes.now)
         (¬ All (HasIfTouched entry.now) processes.now) }
 {
     for process in processes {
-        if is_of_node(&entry.act, process.pid()) && !has_entry(process.log(), entry) {
+        if !has_if_touched(process, here, entry) {
             return false;
         }
     }
     true
+}
+
+/// Whether a process has an entry of a whole node, if it is of this node. The process of this pid has it.
+fn has_if_touched<const TOP: u64, const RANKS: u64>(
+    process: &Pcb<TOP, RANKS>,
+    here: Pid,
+    entry: &Entry,
+) -> bool
+    requires wide { is_wide entry.now.act ≡ true }
+    requires here { process.now.process.pid ≡ here → Contains process.now.log entry.now }
+    ensures { MatchBool result (HasIfTouched entry.now process.now) (¬ HasIfTouched entry.now process.now) }
+{
+    process.pid() == here
+        || !is_of_node(&entry.act, process.pid())
+        || has_entry(process.log(), entry)
 }
 
 /// Whether an act of a whole node touches the process.

@@ -6,9 +6,9 @@ use Rattle.st_runtime.proofs.whole.are_settled.Goals as goal
 
 pub loop-entry-preserved : goal.loop-entry-preserved
 loop-entry-preserved g c =
-    All-more (IsSettled c.args.processes.now c.args.pid) c.args.log.now c.loop-entry.entry-index _
+    All-more (IsSettled c.args.processes.now c.args.here) c.args.log.now c.loop-entry.entry-index _
     c.loop-entry-test.true c.loop-entry.invariant (c.is_settled.ensures c.if-not-is_settled.false)
 
 pub returns : goal.returns
-returns g c sure = All-past (IsSettled c.args.processes.now c.args.pid) c.loop-entry.entry-index c.args.log.now
+returns g c sure = All-past (IsSettled c.args.processes.now c.args.here) c.loop-entry.entry-index c.args.log.now
     (omega (arith, c.loop-entry-test.false)) c.loop-entry.invariant

@@ -4,4 +4,4 @@ use Rattle.st_runtime.specs.Joining.{IsSettled}
 use Rattle.st_runtime.proofs.whole.are_settled.Given as goal
 
 abbrev pub invariant-loop-entry : goal.invariant-loop-entry
-invariant-loop-entry g l = All (IsSettled l.processes l.pid) (take l.entry-index l.log)
+invariant-loop-entry g l = All (IsSettled l.processes l.here) (take l.entry-index l.log)

@@ -1,13 +1,22 @@
-use Rattle.std.proofs.Common.{◌≡◌, arith, ◌∙◌, sym, ap, subst, false}
-use Rattle.std.specs.Prelude.{Contains}
+-- Pids rise, so that a process of the pid whose log the entry comes from is the one that has it.
+use Rattle.std.proofs.Common.{arith, sym, subst}
 use Rattle.std.proofs.lemmas.List.Elements.{All-more}
-use Rattle.st_core.specs.Step.{touches}
 use Rattle.st_runtime.specs.Pieces.{HasIfTouched}
-use Rattle.st_runtime.proofs.Legal.{on_true}
 use Rattle.st_runtime.proofs.Members.{All-past}
+use Rattle.st_runtime.proofs.Wholeness.{has_at_one}
 use Rattle.st_runtime.proofs.whole.is_everywhere.Goals as goal
-use Rattle.st_runtime.proofs.whole.is_everywhere.Goals.{else-is_of_node-via-then-is_of_node+else-not-has_entry}
-use Rattle.st_runtime.proofs.whole.is_everywhere.Goals.{else-is_of_node-via-else-is_of_node}
+
+pub has_if_touched-requires : goal.has_if_touched-requires
+has_if_touched-requires g c =
+    let xs = c.args.processes.now in
+    let x = c.process-item.result in (
+      omega arith,
+      (
+        c.requires.wide,
+        λ same. has_at_one xs x c.args.here c.args.entry.now c.requires.rising
+            (c.loop-process.process-index, c.loop-process-test.true, sym c.process-item.is) same c.requires.here,
+      ),
+    )
 
 pub loop-process-preserved : goal.loop-process-preserved
 loop-process-preserved g c =
@@ -15,14 +24,7 @@ loop-process-preserved g c =
     let e = c.args.entry.now in
     let x = c.process-item.result in
     All-more (HasIfTouched e) xs c.loop-process.process-index x c.loop-process-test.true c.loop-process.invariant
-    (subst (HasIfTouched e) c.process-item.is (elim c.else-is_of_node.branch [
-      | else-is_of_node-via-then-is_of_node+else-not-has_entry w ↦ λ touched.
-          subst (λ log. Contains log e) w.log.ensures.value
-          (on_true w.has_entry.result _ _ w.if-not-has_entry.false w.has_entry.ensures)
-      | else-is_of_node-via-else-is_of_node w ↦ λ touched.
-          let no : touches e.act x.process.pid ≡ false =
-          ap (touches e.act) (sym c.pid.ensures) ∙ sym c.is_of_node.ensures ∙ w.if-is_of_node.false in absurd (cc)
-    ]))
+    (subst (HasIfTouched e) c.process-item.is c.if-not-has_if_touched.ensures)
 
 pub returns : goal.returns
 returns g c =
