@@ -36,7 +36,7 @@ pub fn drive<const TOP: u64, const RANKS: u64, R: Threads + Wait + Sync, G: Gate
 {
     let acts = acts_in(scripts.as_slice());
     let stamps = stamps_in(scripts.as_slice());
-    let (system, seats) = System::<TOP, RANKS>::open(alloc, pids)?;
+    let (system, seats) = System::<TOP, RANKS>::open_for(alloc, pids, scripts.as_slice())?;
     let tasks = tasks_of(alloc, seats, scripts)?;
     let ends = work_all(rt, alloc, &system, gate, tasks)?;
     if lacks_memory(ends.as_slice()) {

@@ -12,6 +12,7 @@ mod acts;
 mod collect;
 mod driver;
 mod entry;
+mod expected;
 mod fault;
 mod gate;
 mod join;

@@ -56,12 +56,22 @@ impl<const TOP: u64, const RANKS: u64> Pcb<TOP, RANKS> {
         ensures process { IfOk result (λ x. x.process ≡ zero_process pid) }
         ensures log { IfOk result (λ x. x.log ≡ []) }
     {
+        Pcb::with_room(alloc, pid, 0)
+    }
+
+    /// The same, with room for this many entries. Refusal 1: no memory.
+    pub(crate) fn with_room(alloc: Global, pid: Pid, room: usize) -> Result<Self, AllocError>
+        ensures process { IfOk result (λ x. x.process ≡ zero_process pid) }
+        ensures log { IfOk result (λ x. x.log ≡ []) }
+        ensures room { IfOk result (λ x. x.spare ≡ room) }
+    {
         let queue = Mailboxes::new(alloc, 1)?;
+        let log = Vec::with_capacity(alloc, room)?;
         Ok(Pcb {
             pid,
             local: Local::new(),
             queue,
-            log: Vec::new(alloc),
+            log,
         })
     }
 

@@ -1,10 +1,10 @@
 //! The right to act for one process, with the acts that were accepted.
 
-ghost use Rattle.std.specs.Prelude.{◌≡◌};
+ghost use Rattle.std.specs.Prelude.{◌≡◌, IfOk};
 ghost use Rattle.st_runtime.specs.Seat.{no_calls};
 
 use st_core::{Act, Pid, Reply};
-use std::alloc::Global;
+use std::alloc::{AllocError, Global};
 use std::marker::Model;
 
 /// Who holds it acts for its process.
@@ -23,14 +23,12 @@ impl Model for Seat {
 }
 
 impl Seat {
-    /// A seat through which no act was made yet.
-    pub(crate) fn new(alloc: Global, pid: Pid) -> Seat
-        ensures { result ≡ no_calls pid }
+    /// A seat through which no act was made yet, with room for this many. Refusal 1: no memory.
+    pub(crate) fn with_room(alloc: Global, pid: Pid, room: usize) -> Result<Seat, AllocError>
+        ensures { IfOk result (λ seat. seat ≡ no_calls pid) }
     {
-        Seat {
-            pid,
-            mine: Vec::new(alloc),
-        }
+        let mine = Vec::with_capacity(alloc, room)?;
+        Ok(Seat { pid, mine })
     }
 
     /// Whose it is.

@@ -14,6 +14,7 @@ ghost use Rattle.st_runtime.specs.System.{knows, is_stamping};
 
 use crate::acts::{is_wide, receiver_of};
 use crate::entry::Entry;
+use crate::expected::expected_entries;
 use crate::fault::{ActFault, OpenFault, PcbFault};
 use crate::gate::Gate;
 use crate::node::Found;
@@ -21,7 +22,7 @@ use crate::pcb::Pcb;
 use crate::pids::{first_on, place_of};
 use crate::pieces::Pieces;
 use crate::seat::Seat;
-use st_core::{Act, Pid, Reply, is_rising};
+use st_core::{Act, Pid, Reply, Sequence, is_rising};
 use std::alloc::{AllocError, Global};
 use std::marker::Model;
 use std::sync::{Mutex, Wait};
@@ -55,10 +56,25 @@ impl<const TOP: u64, const RANKS: u64> System<TOP, RANKS> {
         ensures memory { result ≡ Err OpenFault.Memory → IsRising pids.now }
         ensures not_rising { (result ≡ Err OpenFault.NotRising) ↔ ¬ IsRising pids.now }
     {
+        System::open_for(alloc, pids, &[])
+    }
+
+    /// The same, with room for what these scripts bring the logs and the seats.
+    pub(crate) fn open_for(
+        alloc: Global,
+        pids: &[Pid],
+        scripts: &[Sequence<Act>],
+    ) -> Result<(System<TOP, RANKS>, Vec<Seat>), OpenFault>
+        ensures system { IfOk result (λ r. r.0 ≡ pids.now) }
+        ensures seats { IfOk result (λ r. r.1.items ≡ map no_calls pids.now) }
+        ensures rising { OnOk result (IsRising pids.now) }
+        ensures memory { result ≡ Err OpenFault.Memory → IsRising pids.now }
+        ensures not_rising { (result ≡ Err OpenFault.NotRising) ↔ ¬ IsRising pids.now }
+    {
         if !is_rising(pids) {
             return Err(OpenFault::NotRising);
         }
-        match made(alloc, pids) {
+        match made(alloc, pids, scripts) {
             Ok(made) => Ok(made),
             Err(_) => Err(OpenFault::Memory),
         }
@@ -326,23 +342,27 @@ fn sent<const TOP: u64, const RANKS: u64>(
     told(Pcb::between(from, to, act))
 }
 
-/// A system of pids that rise, and its seats.
+/// A system of pids that rise, and its seats, with room for what the scripts bring them.
 fn made<const TOP: u64, const RANKS: u64>(
     alloc: Global,
     pids: &[Pid],
+    scripts: &[Sequence<Act>],
 ) -> Result<(System<TOP, RANKS>, Vec<Seat>), AllocError>
     requires { IsRising pids.now }
     ensures system { IfOk result (λ r. r.0 ≡ pids.now) }
     ensures seats { IfOk result (λ r. r.1.items ≡ map no_calls pids.now) }
 {
     let own = Vec::from_slice(alloc, pids)?;
+    let entries = expected_entries(alloc, pids, scripts)?;
     let mut locks = Vec::with_capacity(alloc, pids.len())?;
     let mut seats = Vec::with_capacity(alloc, pids.len())?;
-    for pid in pids {
-        let Ok(()) = locks.push(Mutex::new(Pcb::new(alloc, *pid)?)) else {
+    for (i, pid) in pids.iter().enumerate() {
+        let acts = scripts.get(i).map_or(0, |script| script.len());
+        let process = Pcb::with_room(alloc, *pid, entries[i])?;
+        let Ok(()) = locks.push(Mutex::new(process)) else {
             return Err(AllocError);
         };
-        let Ok(()) = seats.push(Seat::new(alloc, *pid)) else {
+        let Ok(()) = seats.push(Seat::with_room(alloc, *pid, acts)?) else {
             return Err(AllocError);
         };
     }

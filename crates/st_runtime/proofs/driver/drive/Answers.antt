@@ -24,7 +24,7 @@ returns-in-Some-clause-err g c =
     rw (← c.as_slice-2.ensures.value) c.stamps_in-stamps.ensures in
     let p = c.in-Some.pid in
     let n = c.in-Some.n in
-    let ending : IsEnding ends p n c.in-Some.fault = rw (← c.as_slice-4.ensures.value) c.in-Some.ensures in
+    let ending : IsEnding ends p n c.in-Some.fault = rw (← c.as_slice-5.ensures.value) c.in-Some.ensures in
     let told = c.possible-told.ensures in
     let possible = is_possible top ranks scripts c.possible-told.result c.acts_in-acts.result
     c.stamps_in-stamps.result told.memory told.clock told.rank acts stamps in (
@@ -41,7 +41,7 @@ returns-clause-ok g c =
     let opened = c.in_ok-system.ensures in
     let worked = scripts_worked pids c.in_ok-system.system c.in_ok-system.seats.items scripts
     c.in_ok-tasks.tasks.items ends opened.system opened.seats c.in_ok-tasks.ensures c.in_ok-ends.ensures.ok in
-    let none : All (λ e. e.fault ≡ None) ends = rw (← c.as_slice-4.ensures.value) c.in_default.ensures in
+    let none : All (λ e. e.fault ≡ None) ends = rw (← c.as_slice-5.ensures.value) c.in_default.ensures in
     let gathered = c.in-Ok.ensures in
     driven g.row.TOP c.in-Ok.pieces c.in_ok-join_pieces.field-0 pids scripts ends
     (sym c.args.scripts.ok.0 ∙ c.requires) opened.rising (gathered.processes ∙ opened.system)

@@ -3,5 +3,5 @@ use Rattle.std.proofs.Common.{◌≡◌, map, take, vec_len}
 use Rattle.st_runtime.specs.Seat.{no_calls}
 use Rattle.st_runtime.proofs.system.made.Given as goal
 
-abbrev pub invariant-loop-pid : goal.invariant-loop-pid
-invariant-loop-pid g l = (vec_len l.locks ≡ l.pid-index) × (l.seats.items ≡ map no_calls (take l.pid-index l.pids))
+abbrev pub invariant-loop-i : goal.invariant-loop-i
+invariant-loop-i g l = (vec_len l.locks ≡ l.i) × (l.seats.items ≡ map no_calls (take l.i l.pids))
