@@ -47,16 +47,17 @@ fn push_at(scripts: &mut [Sequence<Act>], place: usize, act: Act) -> Result<(), 
     Ok(())
 }
 
-/// The acts of each process of these streams, in order.
+/// The acts of each process of these streams, in order. The acts are taken over, so that they are
+/// let go before the scripts are driven.
 fn scripts_of(
     alloc: Global,
     streams: &Streams,
-    acts: &[Act],
+    acts: Sequence<Act>,
 ) -> Result<Vec<Sequence<Act>>, AllocError>
-    ensures { IfOk result (λ scripts. scripts.items ≡ scripts_of (pids_of streams.now) acts.now) }
+    ensures { IfOk result (λ scripts. scripts.items ≡ scripts_of (pids_of streams.now) acts) }
 {
     let mut scripts = empty_scripts(alloc, streams.pids().len())?;
-    for act in acts {
+    for act in acts.as_slice() {
         if let Some(place) = streams.place_of(act.actor()) {
             push_at(&mut scripts, place, *act)?;
         }
@@ -83,10 +84,10 @@ fn drive_acts<H: Threads + Wait + Sync, W: ByteSink>(
     rt: &H,
     alloc: Global,
     streams: &Streams,
-    acts: &[Act],
+    acts: Sequence<Act>,
     writer: &mut W,
 ) -> u8
-    ensures { Tells W.puts W.failed writer.old writer.new (DrivesTo streams.now acts.now) result }
+    ensures { Tells W.puts W.failed writer.old writer.new (DrivesTo streams.now acts) result }
 {
     let Ok(scripts) = scripts_of(alloc, streams, acts) else {
         return tell_fault(writer, ReadFault::Memory);
@@ -101,13 +102,14 @@ fn drive_acts<H: Threads + Wait + Sync, W: ByteSink>(
 fn drive_bundle<H: Threads + Wait + Sync, W: ByteSink>(
     rt: &H,
     alloc: Global,
-    bundle: &Bundle,
+    bundle: Bundle,
     writer: &mut W,
 ) -> u8
-    ensures { Tells W.puts W.failed writer.old writer.new (OfBundle DrivesTo (contents bundle.now)) result }
+    ensures { Tells W.puts W.failed writer.old writer.new (OfBundle DrivesTo (contents bundle)) result }
 {
-    match &bundle.acts {
-        Some(acts) => drive_acts(rt, alloc, &bundle.streams, acts.as_slice(), writer),
+    let Bundle { streams, acts } = bundle;
+    match acts {
+        Some(acts) => drive_acts(rt, alloc, &streams, acts, writer),
         None => tell_line(writer, OutputLine::NoActs, 2),
     }
 }
@@ -129,7 +131,7 @@ pub fn run_drive<H: Threads + Wait + Sync, R: ByteSource, W: ByteSink>(
         Says R.gives R.ended R.failed reader.old reader.new W.puts W.failed writer.old writer.new MeansDriven }
 {
     match read(alloc, reader) {
-        Ok(bundle) => drive_bundle(rt, alloc, &bundle, writer),
+        Ok(bundle) => drive_bundle(rt, alloc, bundle, writer),
         Err(fault) => tell_fault(writer, fault),
     }
 }

@@ -1,6 +1,4 @@
 -- A bundle has acts or has none.
-use Rattle.std.proofs.Common.{sym, ap, ◌∙◌}
-use Rattle.std.specs.Prelude.{Some}
 use Rattle.seqaudit.specs.Output.{no_acts}
 use Rattle.seqaudit.specs.Parts.{OfSome, OfNone}
 use Rattle.seqaudit.proofs.drive.drive_bundle.Goals as goal
@@ -9,11 +7,9 @@ pub returns-in-Some : goal.returns-in-Some
 returns-in-Some g c =
     record {
       output = c.drive_acts.ensures.output;
-      owed =
-          OfSome c.as_slice.result.now c.drive_acts.ensures.output (c.in-Some.is ∙ ap Some (sym c.as_slice.ensures))
-          c.drive_acts.ensures.owed;
+      owed = OfSome c.in-Some.acts c.drive_acts.ensures.output c.in-Some.is c.drive_acts.ensures.owed;
       delivered = c.drive_acts.ensures.delivered;
     }
 
-pub returns-in-None : goal.returns-in-None
-returns-in-None g c = record { output = no_acts; owed = OfNone c.in-None.is; delivered = c.tell_line.ensures }
+pub returns : goal.returns
+returns g c = record { output = no_acts; owed = OfNone c.in-None.is; delivered = c.tell_line.ensures }

@@ -5,4 +5,4 @@ use Rattle.seqaudit.specs.Recorded.{scripts_of}
 use Rattle.seqaudit.proofs.drive.scripts_of.Given as goal
 
 abbrev pub invariant-loop-act : goal.invariant-loop-act
-invariant-loop-act l = l.scripts.items ≡ scripts_of (pids_of l.streams) (take l.act-index l.acts)
+invariant-loop-act l = l.scripts.items ≡ scripts_of (pids_of l.streams) (take l.act-index l.fn.acts)
