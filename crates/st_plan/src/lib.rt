@@ -9,6 +9,3 @@ pub mod laws;
 mod plan;
 
 pub use plan::{QUIET, Start, ready};
-
-#[cfg(test)]
-mod tests;

@@ -13,6 +13,7 @@
 //! | `chains` | `st_chain` |
 //! | `orders` | `st_order` |
 //! | `checks` | `st_check`: checks and replays |
+//! | `plans` | `st_plan` |
 //! | `charts` | `st_chart`: charts and reports |
 //! | `collected` | none: texts of streams, and pids, that the others share |
 #![tactic(auto)]
@@ -35,6 +36,8 @@ mod mailboxes;
 mod orders;
 #[cfg(test)]
 mod pairs;
+#[cfg(test)]
+mod plans;
 #[cfg(test)]
 mod reads;
 #[cfg(test)]

@@ -1,7 +1,8 @@
 //! Worked plans, each counted by hand; that each call succeeds with ample memory.
 
-use crate::{QUIET, Start, ready};
-use st_core::{Act, Flags, Label, Pid, Serial, Token};
+use crate::collected::{p30, p31};
+use st_core::{Act, Flags, Label, Serial, Token};
+use st_plan::{QUIET, Start, ready};
 use std::alloc::Global;
 use std::test::Fail;
 
@@ -16,7 +17,7 @@ fn planned(alloc: Global, start: &Start, prev: u64, this: u64) -> Result<Vec<Act
     let mut plan = Vec::new(alloc);
     ready(
         &mut plan,
-        Pid::new(30),
+        p30(),
         start,
         Label(17),
         Serial { prev, this },
@@ -54,7 +55,7 @@ fn new_trace_begins_at_a_prev_above_the_clock(rt: HostRuntime) -> Result<(), Fai
     };
     let plan = planned(rt.alloc(), &start, 3, 4)?;
     assert_eq!(rt; prints(&plan), 2);
-    assert!(rt; plan.contains(&Act::Clear(Pid::new(30))));
+    assert!(rt; plan.contains(&Act::Clear(p30())));
     assert_eq!(rt; plan.len(), 6);
     Ok(())
 }
@@ -65,7 +66,7 @@ fn nothing_is_planned_for_a_process_that_stands_ready(rt: HostRuntime) -> Result
         label: Label(17),
         flags: PRINTED,
         serial: Serial { prev: 0, this: 0 },
-        from: Pid::new(31),
+        from: p31(),
     };
     let start = Start {
         token: Some(token),
