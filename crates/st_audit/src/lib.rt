@@ -10,6 +10,3 @@ mod finding;
 
 pub use auditing::audit;
 pub use finding::{AuditFault, Finding, Reason};
-
-#[cfg(test)]
-mod tests;

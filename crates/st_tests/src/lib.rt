@@ -1,4 +1,4 @@
-//! Tests of the crates below the program, but for those of the auditor and of the runtime.
+//! Tests of the crates below the program, but for those of the runtime.
 //!
 //! They stand in a crate of their own: a crate that has tests is proved twice, with and without them.
 //!
@@ -14,10 +14,13 @@
 //! | `orders` | `st_order` |
 //! | `checks` | `st_check`: checks and replays |
 //! | `plans` | `st_plan` |
+//! | `audits` | `st_audit` |
 //! | `charts` | `st_chart`: charts and reports |
 //! | `collected` | none: texts of streams, and pids, that the others share |
 #![tactic(auto)]
 
+#[cfg(test)]
+mod audits;
 #[cfg(test)]
 mod chains;
 #[cfg(test)]

@@ -2,7 +2,8 @@
 //! ample memory, and what it answers where a growth was refused (`rt try --test --fail-alloc N`
 //! refuses the N-th).
 
-use crate::{AuditFault, Finding, Reason, audit};
+use crate::collected::{p30, p31, p32};
+use st_audit::{AuditFault, Finding, Reason, audit};
 use st_check::Verdict;
 use st_core::{
     Act, Component, Draft, Event, Flags, Kind, Label, Pid, Sequence, Serial, Streams, Token, Want,
@@ -13,18 +14,6 @@ use std::test::Fail;
 
 /// The program's greatest clock.
 const TOP: u64 = u64::MAX;
-
-fn p30() -> Pid {
-    Pid::new(30)
-}
-
-fn p31() -> Pid {
-    Pid::new(31)
-}
-
-fn p32() -> Pid {
-    Pid::new(32)
-}
 
 /// A print's event.
 fn printed(label: u32, serial: (u64, u64), from: Pid, value: u64) -> Event {
