@@ -10,7 +10,7 @@ use Rattle.st_runtime.specs.declared.record.Record.{Record}
 use Rattle.st_runtime.specs.Joined.{IsOneRun, IsJoined}
 use Rattle.st_runtime.specs.Joining.{IsLogged}
 use Rattle.st_runtime.specs.Pcb.{Control}
-use Rattle.st_runtime.specs.Pieces.{Parts, AreWhole, calls_of, seat_of, seats_told, IsSeated}
+use Rattle.st_runtime.specs.Pieces.{Parts, calls_of, seat_of, seats_told, IsSeated, IsFit}
 use Rattle.st_runtime.specs.Seat.{Calls}
 use Rattle.st_runtime.proofs.Members.{In, All-In, In-All, In-filter, In-to_filter}
 
@@ -35,10 +35,10 @@ seat_calls top pieces es s run seated i =
     ∙ All-In (λ (y : Control). calls_of y.process.pid es ≡ calls_of y.process.pid y.log) xs x run.calls among
     ∙ ap (λ (t : Calls). t.mine) (sym is)
 
-pub joined : (top : ℕ) (pieces : Parts) (r : Record) → AreWhole pieces.processes
-    → ((p : Pid) → IsSeated pieces p) → IsLogged top pieces.processes r → IsJoined top pieces r
-joined top pieces r whole seated logged = record {
-  fit = record { whole = whole; seated = seated };
+pub joined : (top : ℕ) (pieces : Parts) (r : Record) → IsFit pieces → IsLogged top pieces.processes r
+    → IsJoined top pieces r
+joined top pieces r fit logged = record {
+  fit = fit;
   entries = logged.entries;
   merged = logged.merged;
   run = logged.run;
@@ -46,5 +46,5 @@ joined top pieces r whole seated logged = record {
   acts = logged.acts;
   replies = logged.replies;
   seats = In-All (λ (s : Calls). calls_of s.pid logged.entries ≡ s.mine) pieces.seats
-      (λ s i. seat_calls top pieces logged.entries s logged.run seated i);
+      (λ s i. seat_calls top pieces logged.entries s logged.run fit.seated i);
 }

@@ -9,7 +9,7 @@ ghost use Rattle.st_runtime.specs.Working.{IsEnding};
 use crate::acts::is_stamping;
 use crate::fault::{ActFault, DriveFault};
 use crate::gate::Gate;
-use crate::join::join_pieces;
+use crate::join::join_given;
 use crate::record::Record;
 use crate::seat::Seat;
 use crate::system::System;
@@ -50,7 +50,7 @@ pub fn drive<const TOP: u64, const RANKS: u64, R: Threads + Wait + Sync, G: Gate
     let Ok(pieces) = system.gather(seats) else {
         return Err(DriveFault::Memory);
     };
-    Ok(join_pieces(alloc, &pieces)?)
+    Ok(join_given(alloc, pieces)?)
 }
 
 /// How many acts the scripts hold; the greatest count, where there are more.

@@ -74,6 +74,16 @@ pub enum DriveFault {
     NotRising,
 }
 
+impl From<AllocError> for JoinFault {
+    ghost use Rattle.st_runtime.specs.declared.fault.JoinFault.TheVariants.{Memory};
+
+    ghost from_gives = { λ _ fault. fault ≡ Memory };
+
+    fn from(_: AllocError) -> JoinFault {
+        JoinFault::Memory
+    }
+}
+
 impl From<AllocError> for DriveFault {
     ghost use Rattle.st_runtime.specs.declared.fault.DriveFault.TheVariants.{Memory};
 

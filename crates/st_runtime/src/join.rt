@@ -1,10 +1,10 @@
 //! The one run that pieces tell of.
 
-ghost use Rattle.std.specs.Prelude.{◌≡◌, All, IfOk, IfErr};
+ghost use Rattle.std.specs.Prelude.{◌≡◌, All, IfOk, IfErr, OnOk};
 ghost use Rattle.st_core.specs.Pid.{IsRising};
 ghost use Rattle.st_runtime.specs.Joined.{IsJoined};
 ghost use Rattle.st_runtime.specs.Joining.{IsLogged};
-ghost use Rattle.st_runtime.specs.Pieces.{pids_in, AreWhole, IsJoinFault};
+ghost use Rattle.st_runtime.specs.Pieces.{pids_in, AreWhole, IsFit, IsJoinFault};
 
 use crate::collect::streams_of;
 use crate::fault::JoinFault;
@@ -29,6 +29,29 @@ pub fn join_pieces<const TOP: u64, const RANKS: u64>(
     ensures ok { IfOk result (IsJoined TOP pieces.now) }
     ensures err { IfErr result (IsJoinFault pieces.now) }
 {
+    check_fit(pieces)?;
+    Ok(run_of_logs(alloc, pieces.processes.as_slice())?)
+}
+
+/// The same of pieces that are given away. Their seats, which hold each act once more, are let go before
+/// the logs are merged.
+pub(crate) fn join_given<const TOP: u64, const RANKS: u64>(
+    alloc: Global,
+    pieces: Pieces<TOP, RANKS>,
+) -> Result<Record, JoinFault>
+    ensures ok { IfOk result (IsJoined TOP pieces.entry) }
+    ensures err { IfErr result (IsJoinFault pieces.entry) }
+{
+    check_fit(&pieces)?;
+    let processes = pieces.into_processes();
+    Ok(run_of_logs(alloc, processes.as_slice())?)
+}
+
+/// Refuses pieces that don't fit.
+fn check_fit<const TOP: u64, const RANKS: u64>(pieces: &Pieces<TOP, RANKS>) -> Result<(), JoinFault>
+    ensures ok { OnOk result (IsFit pieces.now) }
+    ensures err { IfErr result (IsJoinFault pieces.now) }
+{
     let processes = pieces.processes.as_slice();
     if let Some((pid, place)) = first_missing(processes) {
         return Err(JoinFault::Missing(pid, place as u64));
@@ -36,10 +59,7 @@ pub fn join_pieces<const TOP: u64, const RANKS: u64>(
     if let Some(pid) = first_unseated(processes, pieces.seats.as_slice()) {
         return Err(JoinFault::SeatDiffers(pid));
     }
-    match run_of_logs(alloc, processes) {
-        Ok(record) => Ok(record),
-        Err(_) => Err(JoinFault::Memory),
-    }
+    Ok(())
 }
 
 /// The one run of whole logs.

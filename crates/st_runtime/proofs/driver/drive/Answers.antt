@@ -43,6 +43,6 @@ returns-clause-ok g c =
     c.in_ok-tasks.tasks.items ends opened.system opened.seats c.in_ok-tasks.ensures c.in_ok-ends.ensures.ok in
     let none : All (λ e. e.fault ≡ None) ends = rw (← c.as_slice-5.ensures.value) c.in_default.ensures in
     let gathered = c.in-Ok.ensures in
-    driven g.row.TOP c.in-Ok.pieces c.in_ok-join_pieces.field-0 pids scripts ends
+    driven g.row.TOP c.in-Ok.pieces c.in_ok-join_given.field-0 pids scripts ends
     (sym c.args.scripts.ok.0 ∙ c.requires) opened.rising (gathered.processes ∙ opened.system)
-    (gathered.seats ∙ c.in_ok-seats.ensures) worked none c.in_ok-join_pieces.ensures.ok
+    (gathered.seats ∙ c.in_ok-seats.ensures) worked none c.in_ok-join_given.ensures.ok

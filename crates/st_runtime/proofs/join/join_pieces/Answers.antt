@@ -1,38 +1,26 @@
--- What was found of the slices holds of the pieces, whose processes and seats they are.
-use Rattle.std.proofs.Common.{◌≡◌, ◌∙◌, subst}
-use Rattle.st_runtime.specs.Joined.{IsJoined}
-use Rattle.st_runtime.specs.Pieces.{Parts, AreWhole, IsFirstUnseated, IsFit}
+use Rattle.std.proofs.Common.{◌∙◌, arith, sym, ap, subst, List}
+use Rattle.st_core.specs.Pid.{IsRising}
+use Rattle.st_runtime.specs.Joining.{IsLogged}
+use Rattle.st_runtime.specs.Pcb.{Control}
+use Rattle.st_runtime.specs.Pieces.{Parts, pids_in, AreWhole}
 use Rattle.st_runtime.proofs.JoinLemmas.{joined}
 use Rattle.st_runtime.proofs.join.join_pieces.Goals as goal
 
-pub returns-in-Some-first_unseated-clause-err : goal.returns-in-Some-first_unseated-clause-err
-returns-in-Some-first_unseated-clause-err g c =
-    let found : Parts = record { processes = c.as_slice-processes.result.now; seats = c.as_slice.result.now } in
-    let is : found ≡ c.args.pieces.now = (λ i. record {
-      processes = c.as_slice-processes.ensures.value i;
-      seats = c.as_slice.ensures.value i;
-    }) ∙ c.pieces.view_is in
-    let Differs : Parts → Type 0 = λ v. AreWhole v.processes × IsFirstUnseated v c.in-Some-first_unseated.pid in
-    subst Differs is (c.in_default.ensures, c.in-Some-first_unseated.ensures)
+pub run_of_logs-requires : goal.run_of_logs-requires
+run_of_logs-requires g c =
+    let is = c.as_slice.ensures.value ∙ ap (λ (v : Parts). v.processes) c.pieces.view_is in
+    let Rises : List Control → Type 0 = λ xs. IsRising (pids_in xs) in (
+      omega arith,
+      (
+        subst Rises (sym c.as_slice.ensures.value) c.pieces.invariant,
+        subst AreWhole (sym is) c.in_ok-check_fit.ensures.ok.whole,
+      ),
+    )
 
-pub returns-in-Ok-clause-ok : goal.returns-in-Ok-clause-ok
-returns-in-Ok-clause-ok g c =
+pub returns-clause-ok : goal.returns-clause-ok
+returns-clause-ok g c =
     let top = g.row.TOP in
-    let r = c.in-Ok.record in
-    let found : Parts = record { processes = c.as_slice-processes.result.now; seats = c.as_slice.result.now } in
-    let is : found ≡ c.args.pieces.now = (λ i. record {
-      processes = c.as_slice-processes.ensures.value i;
-      seats = c.as_slice.ensures.value i;
-    }) ∙ c.pieces.view_is in
-    let Joins : Parts → Type 0 = λ v. IsJoined top v r in
-    subst Joins is (joined top found r c.in_default.ensures c.in_default-first_unseated.ensures c.in-Ok.ensures)
-
-pub returns-in-Err-clause-err : goal.returns-in-Err-clause-err
-returns-in-Err-clause-err g c =
-    let found : Parts = record { processes = c.as_slice-processes.result.now; seats = c.as_slice.result.now } in
-    let is : found ≡ c.args.pieces.now = (λ i. record {
-      processes = c.as_slice-processes.ensures.value i;
-      seats = c.as_slice.ensures.value i;
-    }) ∙ c.pieces.view_is in
-    let fit : IsFit found = record { whole = c.in_default.ensures; seated = c.in_default-first_unseated.ensures } in
-    subst IsFit is fit
+    let r = c.in_ok-run_of_logs.field-0 in
+    let is = c.as_slice.ensures.value ∙ ap (λ (v : Parts). v.processes) c.pieces.view_is in
+    joined top c.args.pieces.now r c.in_ok-check_fit.ensures.ok
+    (subst (λ (xs : List Control). IsLogged top xs r) is c.in_ok-run_of_logs.ensures)

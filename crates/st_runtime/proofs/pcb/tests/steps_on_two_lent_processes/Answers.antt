@@ -1,6 +1,5 @@
 -- The two processes are still those that they were made as, and these are apart.
 use Rattle.std.proofs.Common.{◌≡◌, ◌≢◌, ap, sym, ◌∙◌, arith}
-use Rattle.st_core.specs.declared.types.Pid.{Pid}
 use Rattle.st_core.specs.declared.types.Act.TheVariants.{Send}
 use Rattle.st_core.specs.Pid.{number_of}
 use Rattle.st_runtime.proofs.pcb.tests.steps_on_two_lent_processes.Goals as goal

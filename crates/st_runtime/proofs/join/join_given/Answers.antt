@@ -1,0 +1,26 @@
+use Rattle.std.proofs.Common.{◌∙◌, arith, sym, subst, List}
+use Rattle.st_core.specs.Pid.{IsRising}
+use Rattle.st_runtime.specs.Joining.{IsLogged}
+use Rattle.st_runtime.specs.Pcb.{Control}
+use Rattle.st_runtime.specs.Pieces.{pids_in, AreWhole}
+use Rattle.st_runtime.proofs.JoinLemmas.{joined}
+use Rattle.st_runtime.proofs.join.join_given.Goals as goal
+
+pub run_of_logs-requires : goal.run_of_logs-requires
+run_of_logs-requires g c =
+    let is = c.as_slice.ensures.value ∙ c.into_processes-processes.ensures.processes in
+    let Rises : List Control → Type 0 = λ xs. IsRising (pids_in xs) in (
+      omega arith,
+      (
+        subst Rises (sym c.as_slice.ensures.value) c.into_processes-processes.ensures.rising,
+        subst AreWhole (sym is) c.in_ok-check_fit.ensures.ok.whole,
+      ),
+    )
+
+pub returns-clause-ok : goal.returns-clause-ok
+returns-clause-ok g c =
+    let top = g.row.TOP in
+    let r = c.in_ok-run_of_logs.field-0 in
+    let is = c.as_slice.ensures.value ∙ c.into_processes-processes.ensures.processes in
+    joined top c.args.pieces r c.in_ok-check_fit.ensures.ok
+    (subst (λ (xs : List Control). IsLogged top xs r) is c.in_ok-run_of_logs.ensures)
