@@ -1,36 +1,17 @@
 //! The program `seqaudit`: audits, checks, replays, drives and charts the texts of collected
 //! sequential traces.
 //!
-//! What it writes and answers is said by `run`, and for each command by a function of its own; the
-//! definitions stand in `specs/`. `main` only joins `run` to the outside.
+//! It only joins `st_commands` to the outside: what it writes and answers is said there, by `run`.
 #![tactic(auto)]
-
-mod answer;
-mod audit;
-mod chart;
-mod check;
-mod drive;
-pub mod laws;
-mod lines;
-mod program;
-mod replay;
-mod words;
 
 ghost use Rattle.std.specs.IoError.{error_kind};
 ghost use Rattle.std.specs.Prelude.{◌≡◌, ◌≢◌};
 
-use crate::answer::tell_refusal;
-pub use audit::run_audit;
-pub use chart::run_chart;
-pub use check::run_check;
-pub use drive::run_drive;
-pub use program::run;
-pub use replay::run_replay;
+use st_commands::{Refusal, run, tell_refusal};
 use st_core::{ReadFrom, WriteTo};
 use std::io::ErrorKind;
 use std::process::ExitCode;
 use std::{env, io};
-pub use words::{Refusal, Task, plain_words, read_words};
 
 /// Why the words of the command line can't be had: for want of memory, or where one isn't UTF-8, which
 /// is no word of a command.
@@ -59,6 +40,3 @@ fn main(rt: HostRuntime) -> ExitCode {
     };
     ExitCode::from(status)
 }
-
-#[cfg(test)]
-mod tests;

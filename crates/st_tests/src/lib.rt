@@ -1,4 +1,4 @@
-//! Tests of the crates below the program, but for those of the runtime.
+//! Tests of the crates below the commands, but for those of the runtime.
 //!
 //! They stand in a crate of their own: a crate that has tests is proved twice, with and without them.
 //!

@@ -1,6 +1,0 @@
--- Bytes are a text or have a fault, and acts have a verdict and a run.
-use Rattle.seqaudit.proofs.Owed.{a_check, a_replay}
-use Rattle.seqaudit.proofs.laws.an_answer.Goals as goal
-
-pub returns : goal.returns
-returns c = record { check = a_check c.a_verdict.ensures; replay = a_replay }

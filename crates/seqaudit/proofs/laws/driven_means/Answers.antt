@@ -1,6 +1,0 @@
--- Status 0 belongs to a record alone.
-use Rattle.seqaudit.proofs.Drives as drives
-use Rattle.seqaudit.proofs.laws.driven_means.Goals as goal
-
-pub returns : goal.returns
-returns c = drives.driven_means

@@ -1,6 +1,0 @@
--- A text has fewer acts than a clock has counts, and lists whoever acts.
-use Rattle.seqaudit.proofs.Meanings.{never_stuck, never_stuck_in_replay}
-use Rattle.seqaudit.proofs.laws.never_stuck.Goals as goal
-
-pub returns : goal.returns
-returns c = record { check = never_stuck; replay = never_stuck_in_replay }

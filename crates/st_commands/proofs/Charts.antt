@@ -1,0 +1,37 @@
+-- A chart is written where an item has the label, a line says where none has it, and a reason of pairing is reported.
+use Rattle.std.proofs.Common.{◌≡◌, ◌≢◌, ℕ, Bool, true, false, List, refl, subst}
+use Rattle.std.specs.Prelude.{◌↔◌, Some, Result, Err}
+use Rattle.st_core.specs.declared.types.Label.{Label}
+use Rattle.st_core.specs.Run.{Stream}
+use Rattle.st_pair.specs.declared.answer.PairFault.{PairFault}
+use Rattle.st_pair.specs.declared.answer.PairFault.TheVariants as fault
+use Rattle.st_pair.specs.Pairing.{IsPairFault}
+use Rattle.st_audit.specs.declared.finding.Finding.{Finding}
+use Rattle.st_audit.specs.Findings.{unfit_by}
+use Rattle.st_chart.specs.declared.fault.ChartFault.{ChartFault}
+use Rattle.st_chart.specs.declared.fault.ChartFault.TheVariants as chart_fault
+use Rattle.st_commands.specs.Output.{Output}
+use Rattle.st_commands.specs.Audited.{reported}
+use Rattle.st_commands.specs.Command.{Delivers}
+use Rattle.st_commands.specs.Parts.{ChartsTo, OfReason}
+
+-- where the answer is another than that no item has the label, one has it
+pub labelled : {T : Type 0} (r : Result T ChartFault) (some : Bool) → r ≢ Err chart_fault.NoLabel
+    → (r ≡ Err chart_fault.NoLabel ↔ some ≡ false) → some ≡ true
+labelled r true other iff = refl
+labelled r false other iff = absurd (other (iff.1 refl))
+
+-- what is delivered from where the chart left the writer is delivered from where it found it
+pub from_there : {W : Type 0} (puts : W → List ℕ → W → Type 0) (failed : W → Bool) (old there new : W) (out : Output)
+    (status : ℕ) → there ≡ old → Delivers puts failed there new out status → Delivers puts failed old new out status
+from_there puts failed old there new out status same d =
+    subst (λ w. Delivers puts failed w new out status) same d
+
+-- a reason that is no want of memory is reported
+pub unpaired : (streams : List Stream) (label : Label) (f : PairFault) (found : Finding) → IsPairFault streams f
+    → unfit_by f ≡ Some found → ChartsTo streams label (reported streams found)
+unpaired streams label fault.Memory found is by = absurd (cc)
+unpaired streams label (fault.PrevNotBefore p i) found is by = OfReason (fault.PrevNotBefore p i) found is by
+unpaired streams label (fault.NotRising p i j) found is by = OfReason (fault.NotRising p i j) found is by
+unpaired streams label (fault.Repeated p i q j) found is by = OfReason (fault.Repeated p i q j) found is by
+unpaired streams label (fault.Mismatch p i q j) found is by = OfReason (fault.Mismatch p i q j) found is by

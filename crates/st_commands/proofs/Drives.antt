@@ -1,0 +1,210 @@
+-- What was driven is a record of the scripts, and a record says what status 0 means. An act of a text that is refused
+-- stands for a stray process alone: its actor and receiver are listed, and a text has fewer acts than clocks and ranks
+-- have counts.
+use Rattle.std.proofs.Common.{◌≡◌, ℕ, ◌*◌, ◌<◌, ◌≤◌, Bool, true, List, [], ◌∷◌, length, map, refl, sym}
+use Rattle.std.proofs.Common.{subst, arith, Some, slice_get}
+use Rattle.std.specs.Prelude.{All, Contains, zip, count_by}
+use Rattle.std.specs.List.{list_all}
+use Rattle.std.proofs.lemmas.List.{length-map}
+use Rattle.std.proofs.lemmas.List.Elements.{All-nil, All-cons, All-filter, filter_passes}
+use Rattle.std.proofs.lemmas.List.Sums.{AllPass-from_list_all, sum_by-cons, length-filter, count_by-le-length}
+use Rattle.st_core.specs.declared.types.Pid.{Pid}
+use Rattle.st_core.specs.declared.types.Act.{Act}
+use Rattle.st_core.specs.Pid.{pid_eq}
+use Rattle.st_core.specs.Run.{Stream, pids_of}
+use Rattle.st_core.specs.Step.{actor}
+use Rattle.st_core.proofs.ForCallers.{All_at, pid_same}
+use Rattle.st_runtime.specs.declared.fault.ActFault.{ActFault}
+use Rattle.st_runtime.specs.declared.fault.ActFault.TheVariants as act
+use Rattle.st_runtime.specs.declared.fault.DriveFault.{DriveFault}
+use Rattle.st_runtime.specs.declared.fault.DriveFault.TheVariants as drive
+use Rattle.st_runtime.specs.declared.record.Record.{Record}
+use Rattle.st_runtime.specs.Driven.{IsDriveFault, acts_by, acts_in, stamps_in}
+use Rattle.st_runtime.specs.System.{knows, is_stamping}
+use Rattle.st_text.specs.Text.{Contents, is_listed}
+use Rattle.st_commands.specs.Output.{Output}
+use Rattle.st_commands.specs.Checked.{top, Spells}
+use Rattle.st_commands.specs.Command.{Owes, OfBytes, ForMemory, Tells}
+use Rattle.st_commands.specs.Parts.{DrivesTo, Records, Refuses, NoRoomToDrive, OfBundle, drive_refused}
+use Rattle.st_commands.specs.Meaning.{MeansDriven, Says}
+use Rattle.st_commands.specs.Laws.{DrivenMeans, RecordedIsYes}
+use Rattle.st_commands.specs.Recorded.{ranks, scripts_of, HasRecord, IsRecorded, recorded}
+use Rattle.st_commands.specs.Recorded as records
+use Rattle.st_commands.proofs.Meanings.{fault_status_high, shown_is_yes}
+use Rattle.st_commands.proofs.Telling.{WasRead, owes_bundle, says}
+
+-- ---- the scripts of few acts hold few acts
+
+-- so many acts at most in each of the scripts
+acts_below : (ps : List Pid) (xs : List Act) → acts_in (scripts_of ps xs) ≤ length ps * length xs
+acts_below [] xs = omega arith
+acts_below (p ∷ ps) xs =
+    let here = length-filter (λ a. pid_eq (actor a) p) xs in
+    let few = count_by-le-length (λ a. pid_eq (actor a) p) xs in
+    let rest = acts_below ps xs in
+    let sum = sum_by-cons (λ (script : List Act). length script) (acts_by p xs) (scripts_of ps xs) in
+    omega arith
+
+stamps_below : (scripts : List (List Act)) → stamps_in scripts ≤ acts_in scripts
+stamps_below [] = omega arith
+stamps_below (s ∷ ss) =
+    let here = count_by-le-length is_stamping s in
+    let rest = stamps_below ss in
+    let stamps = sum_by-cons (λ (script : List Act). count_by is_stamping script) s ss in
+    let acts = sum_by-cons (λ (script : List Act). length script) s ss in
+    omega arith
+
+product : (m n a b : ℕ) → m ≤ a → n ≤ b → m * n ≤ a * b
+product m n a b h k = grind arith
+
+few_acts : (bytes : List ℕ) (streams : List Stream) (acts : List Act) → Spells bytes streams (Some acts)
+    → acts_in (scripts_of (pids_of streams) acts) ≤ 4096000000
+few_acts bytes streams acts s =
+    let processes = s.within.processes in
+    let given = s.within.acts in
+    let below = acts_below (pids_of streams) acts in
+    let pids : length (pids_of streams) ≤ 1024 = omega (arith, length-map streams (λ (x : Stream). x.pid)) in
+    let most = product (length (pids_of streams)) (length acts) 1024 4000000 pids given in
+    omega arith
+
+-- ---- an act that was refused
+
+-- a script in its place is that process's acts
+zipped : (ps : List Pid) (xs : List Act)
+    → All (λ (x : Pid × List Act). x.1 ≡ acts_by x.0 xs) (zip ps (scripts_of ps xs))
+zipped [] xs = All-nil (λ (x : Pid × List Act). x.1 ≡ acts_by x.0 xs)
+zipped (p ∷ ps) xs =
+    All-cons (λ (x : Pid × List Act). x.1 ≡ acts_by x.0 xs) (p, acts_by p xs) (zip ps (scripts_of ps xs)) refl
+    (zipped ps xs)
+
+script_is : (ps : List Pid) (xs : List Act) (p : Pid) (script : List Act)
+    → Contains (zip ps (scripts_of ps xs)) (p, script) → script ≡ acts_by p xs
+script_is ps xs p script c =
+    subst (λ (x : Pid × List Act). x.1 ≡ acts_by x.0 xs) c.2 (zipped ps xs c.0 (p, script) c.1)
+
+-- its acts are that process's, and each is among those of the text, so that its actor and receiver are listed
+own_act : (xs : List Act) (p : Pid) (n : ℕ) (a : Act) → slice_get (acts_by p xs) n ≡ Some a → actor a ≡ p
+own_act xs p n a at =
+    pid_same (actor a) p (All_at (λ x. pid_eq (actor x) p ≡ true) (acts_by p xs) n a at
+    (filter_passes (λ x. pid_eq (actor x) p) xs))
+
+known_act : (ps : List Pid) (xs : List Act) (p : Pid) (n : ℕ) (a : Act) → list_all (is_listed ps) xs ≡ true
+    → slice_get (acts_by p xs) n ≡ Some a → knows ps a ≡ true
+known_act ps xs p n a listed at =
+    All_at (λ x. is_listed ps x ≡ true) (acts_by p xs) n a at
+    (All-filter (λ x. pid_eq (actor x) p) (λ x. is_listed ps x ≡ true) xs
+    (AllPass-from_list_all (is_listed ps) xs listed))
+
+module _ (bytes : List ℕ) (streams : List Stream) (acts : List Act) (s : Spells bytes streams (Some acts)) (p : Pid)
+    (n : ℕ) where
+  abbrev scripts : List (List Act)
+  scripts = scripts_of (pids_of streams) acts
+
+  stray : (f : ActFault) → IsDriveFault top ranks (pids_of streams) scripts (drive.Act p n f)
+      → records.HasStray bytes p n
+  stray act.Stray h = record { streams = streams; acts = acts; spelled = s; refused = h }
+  stray act.Memory h = absurd h.1.possible
+  stray act.ClockFull h =
+      let most : top < stamps_in scripts = h.1.possible in
+      let stamps = stamps_below scripts in
+      let few = few_acts bytes streams acts s in
+      absurd (omega arith)
+  stray act.RankFull h =
+      let most : ranks < acts_in scripts = h.1.possible in
+      let few = few_acts bytes streams acts s in
+      absurd (omega arith)
+  stray act.NotYours h =
+      let w = h.1 in
+      let at = subst (λ (script : List Act). slice_get script n ≡ Some w.refused.asked)
+      (script_is (pids_of streams) acts p w.script w.scripted) w.refused.place in
+      absurd (w.refused.not_yours.0 refl (own_act acts p n w.refused.asked at))
+  stray act.Unknown h =
+      let w = h.1 in
+      let at = subst (λ (script : List Act). slice_get script n ≡ Some w.refused.asked)
+      (script_is (pids_of streams) acts p w.script w.scripted) w.refused.place in
+      let known = known_act (pids_of streams) acts p n w.refused.asked s.text.bundle.listed at in
+      let unknown = (w.refused.unknown.0 refl).1 in
+      absurd (cc)
+
+-- ---- a record
+
+-- each of two lists of scripts at its place
+same_scripts : (f g : Pid → List Act) (ps : List Pid) → map f ps ≡ map g ps → All (λ p. f p ≡ g p) ps
+same_scripts f g [] e = All-nil (λ p. f p ≡ g p)
+same_scripts f g (p ∷ ps) e =
+    let here : f p ≡ g p = cc in
+    let rest : map f ps ≡ map g ps = cc in
+    All-cons (λ q. f q ≡ g q) p ps here (same_scripts f g ps rest)
+
+recorded_means : (bytes : List ℕ) (r : Record) → HasRecord bytes r → MeansDriven bytes (recorded r)
+recorded_means bytes r h =
+    let d = h.driven in
+    record {
+      listed = h.streams;
+      given = h.acts;
+      streams = r.streams;
+      acts = r.acts;
+      outcomes = d.shows.0;
+      spelled = h.spelled;
+      runs = d.shows.1;
+      pids = d.listed;
+      reports = d.shows.2;
+      own = subst (All (λ p. acts_by p r.acts ≡ acts_by p h.acts)) (sym d.listed)
+          (same_scripts (λ p. acts_by p r.acts) (λ p. acts_by p h.acts) (pids_of h.streams) d.made);
+      text = refl;
+    }
+
+pub driven_means : DrivenMeans
+driven_means bytes out (records.Recorded b r h) e = recorded_means b r h
+driven_means bytes out (records.Strayed b p n h) e = absurd (omega (arith, e))
+driven_means bytes out (records.Unstarted b h) e = absurd (omega (arith, e))
+driven_means bytes out (records.Unjoined b h) e = absurd (omega (arith, e))
+driven_means bytes out (records.Lacking b n) e = absurd (omega (arith, e))
+driven_means bytes out (records.Faulty b f is) e = let high = fault_status_high f in absurd (omega arith)
+
+pub recorded_is_yes : RecordedIsYes
+recorded_is_yes bytes r h spelled out is =
+    shown_is_yes (recorded r).text r.streams r.acts out spelled h.driven.shows is
+
+-- ---- what is owed
+
+module _ {R : Type 0} (gives : R → List ℕ → R → Type 0) (ended : R → Type 0) (failed : R → Bool) (old new : R)
+    (c : Contents) (h : WasRead gives ended failed old new c) where
+  owes_refused : (acts : List Act) → Spells h.bytes c.streams (Some acts) → (f : DriveFault)
+      → IsDriveFault top ranks (pids_of c.streams) (scripts_of (pids_of c.streams) acts) f
+      → Owes gives ended failed old new IsRecorded (drive_refused f)
+  owes_refused acts s drive.Memory is = ForMemory h.bytes h.all h.small
+  owes_refused acts s (drive.Act p n f) is =
+      OfBytes h.bytes (records.act_fault p n) h.all
+      (records.Strayed h.bytes p n (stray h.bytes c.streams acts s p n f is))
+  owes_refused acts s (drive.Join f) is =
+      OfBytes h.bytes records.join_fault h.all
+      (records.Unjoined h.bytes (record { streams = c.streams; acts = acts; spelled = s }))
+  owes_refused acts s drive.Thread is =
+      OfBytes h.bytes records.thread_fault h.all
+      (records.Unstarted h.bytes (record { streams = c.streams; acts = acts; spelled = s }))
+  owes_refused acts s drive.NotRising falls = absurd (falls s.text.bundle.streams.draft.rising)
+
+  owes_driven : (acts : List Act) (out : Output) → Spells h.bytes c.streams (Some acts)
+      → DrivesTo c.streams acts out → Owes gives ended failed old new IsRecorded out
+  owes_driven acts out s (Records r is) =
+      OfBytes h.bytes (recorded r) h.all
+      (records.Recorded h.bytes r (record { streams = c.streams; acts = acts; spelled = s; driven = is }))
+  owes_driven acts out s (Refuses f is) = owes_refused acts s f is
+  owes_driven acts out s NoRoomToDrive = ForMemory h.bytes h.all h.small
+
+  pub owes_drive : (out : Output) → OfBundle DrivesTo c out → Owes gives ended failed old new IsRecorded out
+  owes_drive =
+      owes_bundle gives ended failed old new IsRecorded DrivesTo c h owes_driven
+      (λ s. records.Lacking h.bytes (record { streams = c.streams; spelled = s }))
+
+-- ---- of a call
+
+module _ {R W : Type 0} (gives : R → List ℕ → R → Type 0) (ended : R → Type 0) (read_failed : R → Bool)
+    (reader read : R)
+    (puts : W → List ℕ → W → Type 0) (write_failed : W → Bool) (writer written : W) (status : ℕ)
+    (told : Tells puts write_failed writer written (Owes gives ended read_failed reader read IsRecorded) status) where
+  pub says_driven : status ≡ 0 → Says gives ended read_failed reader read puts write_failed writer written MeansDriven
+  says_driven e =
+      says gives ended read_failed reader read puts write_failed writer written IsRecorded MeansDriven 0 (λ same. cc)
+      driven_means status told e

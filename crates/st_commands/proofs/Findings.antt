@@ -1,0 +1,82 @@
+-- Status 0 of an audit belongs to a certificate alone, and status 1 to an event and a reason.
+use Rattle.std.proofs.Common.{◌≡◌, ℕ, Bool, List, refl, arith}
+use Rattle.st_core.specs.Run.{Stream}
+use Rattle.st_core.specs.Verdict.{Yes}
+use Rattle.st_audit.specs.declared.finding.Finding.{Finding}
+use Rattle.st_audit.specs.declared.finding.Finding.TheVariants as finding
+use Rattle.st_commands.specs.Output.{judged}
+use Rattle.st_commands.specs.Checked.{Judged}
+use Rattle.st_commands.specs.Audited.{HasFinding, IsAudited, Found, Faulty, reported, finding_status}
+use Rattle.st_commands.specs.Command.{Owes, Tells}
+use Rattle.st_commands.specs.Meaning.{MeansFits, MeansUnfit, Says}
+use Rattle.st_commands.specs.Laws.{FitsMeans, UnfitMeans, CertificateIsYes, certificate}
+use Rattle.st_commands.proofs.Meanings.{fault_status_high}
+use Rattle.st_commands.proofs.Outputs.{one_check}
+use Rattle.st_commands.proofs.Owed.{judgement}
+use Rattle.st_commands.proofs.Telling.{says}
+
+-- ---- what is found
+
+found_fits : (bytes : List ℕ) (streams : List Stream) (found : Finding) → HasFinding bytes streams found
+    → finding_status found ≡ 0 → MeansFits bytes (reported streams found)
+found_fits bytes streams (finding.Unfit p i r) h e = absurd (omega (arith, e))
+found_fits bytes streams (finding.Fits acts pairs) h e =
+    let yes = h.finding in
+    record {
+      streams = streams;
+      given = h.given;
+      acts = acts;
+      outcomes = yes.0;
+      spelled = h.spelled;
+      runs = yes.1;
+      reports = yes.2;
+      text = refl;
+    }
+
+found_unfit : (bytes : List ℕ) (streams : List Stream) (found : Finding) → HasFinding bytes streams found
+    → finding_status found ≡ 1 → MeansUnfit bytes (reported streams found)
+found_unfit bytes streams (finding.Fits acts pairs) h e = absurd (omega (arith, e))
+found_unfit bytes streams (finding.Unfit p i r) h e =
+    record {
+      streams = streams;
+      given = h.given;
+      pid = p;
+      index = i;
+      reason = r;
+      spelled = h.spelled;
+      there = h.finding.0;
+      holds = h.finding.1;
+      text = refl;
+    }
+
+pub fits_means : FitsMeans
+fits_means bytes out (Found b streams found h) e = found_fits b streams found h e
+fits_means bytes out (Faulty b f is) e = let high = fault_status_high f in absurd (omega arith)
+
+pub unfit_means : UnfitMeans
+unfit_means bytes out (Found b streams found h) e = found_unfit b streams found h e
+unfit_means bytes out (Faulty b f is) e = let high = fault_status_high f in absurd (omega arith)
+
+-- ---- the check of a certificate
+
+pub certificate_is_yes : CertificateIsYes
+certificate_is_yes streams acts pairs accepted spelled out is =
+    let bytes = certificate streams acts in
+    one_check bytes out (judged (Yes pairs)) is
+    (Judged bytes (Yes pairs) (judgement bytes streams acts (Yes pairs) spelled accepted))
+
+-- ---- of a call
+
+module _ {R W : Type 0} (gives : R → List ℕ → R → Type 0) (ended : R → Type 0) (read_failed : R → Bool)
+    (reader read : R)
+    (puts : W → List ℕ → W → Type 0) (write_failed : W → Bool) (writer written : W) (status : ℕ)
+    (told : Tells puts write_failed writer written (Owes gives ended read_failed reader read IsAudited) status) where
+  pub says_fits : status ≡ 0 → Says gives ended read_failed reader read puts write_failed writer written MeansFits
+  says_fits e =
+      says gives ended read_failed reader read puts write_failed writer written IsAudited MeansFits 0 (λ same. cc)
+      fits_means status told e
+
+  pub says_unfit : status ≡ 1 → Says gives ended read_failed reader read puts write_failed writer written MeansUnfit
+  says_unfit e =
+      says gives ended read_failed reader read puts write_failed writer written IsAudited MeansUnfit 1 (λ same. cc)
+      unfit_means status told e

@@ -1,0 +1,134 @@
+-- A status belongs to one kind of output: 0 to a yes, 1 to a no. So an output with it has that verdict, which tells
+-- the rest.
+use Rattle.std.proofs.Common.{◌≡◌, ◌≢◌, ℕ, ◌+◌, ◌≤◌, Bool, List, take, refl, ap, subst, arith}
+use Rattle.std.specs.Prelude.{Option, Some, None, IsSome}
+use Rattle.st_core.specs.declared.types.Act.{Act}
+use Rattle.st_core.specs.State.{zero_state}
+use Rattle.st_core.specs.Step.{Outcome}
+use Rattle.st_core.specs.Run.{Stream, Shows, pids_of, run}
+use Rattle.st_core.specs.Pairs.{Follows, AllPaired, pairs}
+use Rattle.st_core.specs.Verdict.{Verdict, Stuck, Differs, Left, Yes, IsVerdict}
+use Rattle.st_core.proofs.ForCallers.{one_verdict, run_from-take}
+use Rattle.st_text.specs.declared.fault.ReadFault.{ReadFault}
+use Rattle.st_text.specs.declared.fault.ReadFault.TheVariants as faults
+use Rattle.st_commands.specs.Output.{Output, judged, refused}
+use Rattle.st_commands.specs.Checked.{top, IsJudged, IsChecked, Judged, Lacking, Faulty}
+use Rattle.st_commands.specs.Command.{Owes, Tells}
+use Rattle.st_commands.specs.Meaning.{MeansYes, MeansNo, Says}
+use Rattle.st_commands.specs.Laws.{YesMeans, NoMeans, ShownIsYes, NeverStuck, NeverStuckInReplay}
+use Rattle.st_commands.proofs.Outputs.{one_check}
+use Rattle.st_commands.proofs.Owed.{judgement, spelled_run}
+use Rattle.st_commands.proofs.Telling.{says}
+
+-- ---- faults have neither status
+
+pub fault_status_high : (f : ReadFault) → 2 ≤ (refused f).status
+fault_status_high faults.Memory = omega arith
+fault_status_high faults.Device = omega arith
+fault_status_high faults.TooLarge = omega arith
+fault_status_high (faults.Line n) = omega arith
+fault_status_high (faults.Order n) = omega arith
+fault_status_high (faults.Foreign n) = omega arith
+fault_status_high (faults.Unknown n) = omega arith
+fault_status_high (faults.TooMany n) = omega arith
+fault_status_high faults.Truncated = omega arith
+
+-- ---- a yes
+
+yes_verdict : (bytes : List ℕ) (v : Verdict) → IsJudged bytes v → (judged v).status ≡ 0 → MeansYes bytes (judged v)
+yes_verdict bytes (Stuck n) j e = absurd (omega arith)
+yes_verdict bytes (Differs n) j e = absurd (omega arith)
+yes_verdict bytes (Left p) j e = absurd (omega arith)
+yes_verdict bytes (Yes ps) j e =
+    let v = j.verdict in
+    let acts = j.acts in
+    let os = v.0 in
+    record {
+      streams = j.streams;
+      acts = acts;
+      outcomes = os;
+      spelled = j.spelled;
+      runs = v.1;
+      reports = v.2;
+      paired = subst (AllPaired os) v.3 (j.paired os v.1);
+      follows = subst (Follows acts os) v.3 (j.follows os v.1);
+      text = ap (λ x. (judged (Yes x)).text) v.3;
+    }
+
+pub yes_means : YesMeans
+yes_means bytes out (Judged b v j) e = yes_verdict b v j e
+yes_means bytes out (Lacking b n) e = absurd (omega arith)
+yes_means bytes out (Faulty b f is) e = let high = fault_status_high f in absurd (omega arith)
+
+-- ---- a no
+
+-- acts that show the streams have the verdict yes
+shown_yes : (streams : List Stream) (acts : List Act) (h : Shows top streams acts)
+    → IsVerdict top streams acts (Yes (pairs acts h.0))
+shown_yes streams acts h = (h.0, h.1, h.2, refl)
+
+no_verdict : (bytes : List ℕ) (v : Verdict) → IsJudged bytes v → ((ps : List (ℕ × ℕ)) → v ≢ Yes ps)
+    → MeansNo bytes (judged v)
+no_verdict bytes v j never = record {
+  streams = j.streams;
+  acts = j.acts;
+  verdict = v;
+  spelled = j.spelled;
+  refuted = λ shown. never (pairs j.acts shown.0)
+      (one_verdict top j.streams j.acts v (Yes (pairs j.acts shown.0)) j.verdict (shown_yes j.streams j.acts shown));
+  text = refl;
+  place = j.verdict;
+}
+
+judged_no : (bytes : List ℕ) (v : Verdict) → IsJudged bytes v → (judged v).status ≡ 1 → MeansNo bytes (judged v)
+judged_no bytes (Stuck n) j e = no_verdict bytes (Stuck n) j (λ ps same. cc)
+judged_no bytes (Differs n) j e = no_verdict bytes (Differs n) j (λ ps same. cc)
+judged_no bytes (Left p) j e = no_verdict bytes (Left p) j (λ ps same. cc)
+judged_no bytes (Yes ps) j e = absurd (omega arith)
+
+pub no_means : NoMeans
+no_means bytes out (Judged b v j) e = judged_no b v j e
+no_means bytes out (Lacking b n) e = absurd (omega arith)
+no_means bytes out (Faulty b f is) e = let high = fault_status_high f in absurd (omega arith)
+
+-- ---- acts that show the streams
+
+pub shown_is_yes : ShownIsYes
+shown_is_yes bytes streams acts out spelled shown is =
+    let v = shown_yes streams acts shown in
+    let yes = Yes (pairs acts shown.0) in
+    ap (λ (o : Output). o.status) (one_check bytes out (judged yes) is
+    (Judged bytes yes (judgement bytes streams acts yes spelled v)))
+
+-- ---- no act is stuck
+
+has_step : (streams : List Stream) (acts : List Act) (n : ℕ) → IsSome (run top (pids_of streams) acts)
+    → run top (pids_of streams) (take n acts) ≢ None
+has_step streams acts n some none = by (run top (pids_of streams) acts) refl some
+  where
+    by : (o : Option (List Outcome)) → run top (pids_of streams) acts ≡ o → IsSome o → ⊥
+    by None e is = absurd (cc)
+    by (Some os) e is = let before = run_from-take top n (zero_state (pids_of streams)) acts os e in absurd (cc)
+
+pub never_stuck : NeverStuck
+never_stuck bytes n j = has_step j.streams j.acts (n + 1) (spelled_run bytes j.streams j.acts j.spelled) j.verdict.2
+
+pub never_stuck_in_replay : NeverStuckInReplay
+never_stuck_in_replay bytes n h =
+    has_step h.streams h.acts (n + 1) (spelled_run bytes h.streams h.acts h.spelled) h.sticks.none
+
+-- ---- of a call
+
+module _ {R W : Type 0} (gives : R → List ℕ → R → Type 0) (ended : R → Type 0) (read_failed : R → Bool)
+    (reader read : R)
+    (puts : W → List ℕ → W → Type 0) (write_failed : W → Bool) (writer written : W) (status : ℕ)
+    (told : Tells puts write_failed writer written (Owes gives ended read_failed reader read IsChecked) status) where
+  pub says_yes : status ≡ 0 → Says gives ended read_failed reader read puts write_failed writer written MeansYes
+  says_yes e =
+      says gives ended read_failed reader read puts write_failed writer written IsChecked MeansYes 0 (λ same. cc)
+      yes_means status told e
+
+  pub says_no : status ≡ 1 → Says gives ended read_failed reader read puts write_failed writer written MeansNo
+  says_no e =
+      says gives ended read_failed reader read puts write_failed writer written IsChecked MeansNo 1 (λ same. cc)
+      no_means status told e

@@ -1,0 +1,17 @@
+-- Each text ends a line, so none is empty.
+use Rattle.std.proofs.Common.{ℕ, ◌<◌, List, [], ◌∷◌, ◌++◌, length, codes, decimal, arith}
+use Rattle.std.specs.List.{flat_map}
+use Rattle.std.proofs.lemmas.List.{length-append}
+use Rattle.st_core.specs.Verdict.{Verdict, Stuck, Differs, Left, Yes}
+use Rattle.st_text.specs.Spelling as spelled
+use Rattle.st_commands.specs.Output.{line, pair_line, verdict_text}
+
+pub line_some : (words : List ℕ) → 0 < length (line words)
+line_some words = omega (arith, length-append words (10 ∷ []))
+
+pub verdict_some : (v : Verdict) → 0 < length (verdict_text v)
+verdict_some (Stuck n) = line_some (codes "no stuck " ++ decimal n)
+verdict_some (Differs n) = line_some (codes "no differs " ++ decimal n)
+verdict_some (Left p) = line_some (codes "no left " ++ spelled.pid p)
+verdict_some (Yes ps) =
+    omega (arith, line_some (codes "yes"), length-append (line (codes "yes")) (flat_map pair_line ps))

@@ -1,0 +1,6 @@
+-- Bytes are a text or have a fault, and acts have a verdict and a run.
+use Rattle.st_commands.proofs.Owed.{a_check, a_replay}
+use Rattle.st_commands.proofs.laws.an_answer.Goals as goal
+
+pub returns : goal.returns
+returns c = record { check = a_check c.a_verdict.ensures; replay = a_replay }

@@ -1,0 +1,35 @@
+-- What `audit` makes of bytes: the report of what is found of the streams that they spell, or why they spell none. The
+-- acts in the input are ignored.
+use Rattle.std.specs.Prelude.{◌≡◌, ℕ, List, Option, Some}
+use Rattle.st_core.specs.declared.types.Act.{Act}
+use Rattle.st_core.specs.Run.{Stream}
+use Rattle.st_audit.specs.declared.finding.Finding.{Finding}
+use Rattle.st_audit.specs.declared.finding.Finding.TheVariants as finding
+use Rattle.st_audit.specs.Findings.{IsFinding, HandsOn}
+use Rattle.st_chart.specs.Report.{report_text}
+use Rattle.st_text.specs.declared.fault.ReadFault.{ReadFault}
+use Rattle.st_text.specs.Fault.{fault}
+use Rattle.st_commands.specs.Output.{Output, refused}
+use Rattle.st_commands.specs.Checked.{top, Spells}
+
+abbrev pub finding_status : Finding → ℕ
+finding_status (finding.Fits acts pairs) = 0
+finding_status (finding.Unfit p i r) = 1
+
+-- the report of what was found of streams
+abbrev pub reported : List Stream → Finding → Output
+reported streams found = record { text = report_text streams found; status = finding_status found }
+
+-- The bytes spell streams, of which this is found: acts that the checker accepts, or an event that is there and a
+-- reason that holds there. Where pairing refuses the streams, its reason is what is found.
+pub record HasFinding (bytes : List ℕ) (streams : List Stream) (found : Finding) : Type 0 where
+  pub given : Option (List Act)
+  pub spelled : Spells bytes streams given
+  pub finding : IsFinding top streams found
+  pub handed_on : HandsOn streams found
+
+-- the output of the bytes
+pub data IsAudited : List ℕ → Output → Type 0 where
+  Found : (bytes : List ℕ) (streams : List Stream) (found : Finding) → HasFinding bytes streams found
+      → IsAudited bytes (reported streams found)
+  Faulty : (bytes : List ℕ) (f : ReadFault) → fault bytes ≡ Some f → IsAudited bytes (refused f)

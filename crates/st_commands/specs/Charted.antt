@@ -1,0 +1,54 @@
+-- What `chart` makes of bytes: the chart of one label of the streams that they spell, or why there is none. The acts in
+-- the input are ignored.
+use Rattle.std.specs.Prelude.{◌≡◌, ℕ, true, false, List, ◌++◌, Option, Some, None, codes}
+use Rattle.std.specs.List.{list_any}
+use Rattle.st_core.specs.declared.types.Label.{Label}
+use Rattle.st_core.specs.declared.types.Act.{Act}
+use Rattle.st_core.specs.Run.{Stream}
+use Rattle.st_pair.specs.declared.answer.PairFault.{PairFault}
+use Rattle.st_pair.specs.Pairing.{refusal}
+use Rattle.st_order.specs.declared.item.Item.{Item}
+use Rattle.st_order.specs.Order.{IsOrder}
+use Rattle.st_order.specs.Labels.{has_label}
+use Rattle.st_audit.specs.declared.finding.Finding.{Finding}
+use Rattle.st_audit.specs.Findings.{unfit_by}
+use Rattle.st_chart.specs.Chart.{chart_text}
+use Rattle.st_text.specs.declared.fault.ReadFault.{ReadFault}
+use Rattle.st_text.specs.Spelling as spelled
+use Rattle.st_text.specs.Fault.{fault}
+use Rattle.st_commands.specs.Output.{Output, line, refused}
+use Rattle.st_commands.specs.Checked.{Spells}
+use Rattle.st_commands.specs.Audited.{reported}
+
+-- the chart of the items that have the label
+abbrev pub drawn : List Stream → List Item → Label → Output
+drawn streams items label = record { text = chart_text streams items label; status = 0 }
+
+-- no item has the label
+abbrev pub no_label : Label → Output
+no_label label = record { text = line (codes "no label " ++ spelled.label label); status = 1 }
+
+-- the bytes spell streams that pairing accepts, of which this is the order
+pub record HasOrder (bytes : List ℕ) (streams : List Stream) (items : List Item) : Type 0 where
+  pub given : Option (List Act)
+  pub spelled : Spells bytes streams given
+  pub accepted : refusal streams ≡ None
+  pub order : IsOrder streams items
+
+-- the bytes spell streams that pairing refuses, and this is its reason as a finding
+pub record HasReason (bytes : List ℕ) (streams : List Stream) (found : Finding) : Type 0 where
+  pub given : Option (List Act)
+  pub spelled : Spells bytes streams given
+  pub fault : PairFault
+  pub refused : refusal streams ≡ Some fault
+  pub found_by : unfit_by fault ≡ Some found
+
+-- the output of the bytes
+pub data IsCharted (label : Label) : List ℕ → Output → Type 0 where
+  Drawn : (bytes : List ℕ) (streams : List Stream) (items : List Item) → HasOrder bytes streams items
+      → list_any (has_label streams label) items ≡ true → IsCharted label bytes (drawn streams items label)
+  Unlabelled : (bytes : List ℕ) (streams : List Stream) (items : List Item) → HasOrder bytes streams items
+      → list_any (has_label streams label) items ≡ false → IsCharted label bytes (no_label label)
+  Unpaired : (bytes : List ℕ) (streams : List Stream) (found : Finding) → HasReason bytes streams found
+      → IsCharted label bytes (reported streams found)
+  Faulty : (bytes : List ℕ) (f : ReadFault) → fault bytes ≡ Some f → IsCharted label bytes (refused f)

@@ -1,0 +1,40 @@
+-- What `check` makes of bytes: the verdict of the streams and acts that they spell, or why they spell none.
+use Rattle.std.specs.Prelude.{◌≡◌, ℕ, List, Option, Some, None}
+use Rattle.st_core.specs.declared.types.Act.{Act}
+use Rattle.st_core.specs.Run.{Stream}
+use Rattle.st_core.specs.Verdict.{Verdict, IsVerdict}
+use Rattle.st_check.specs.Answers.{FollowsAll, PairsAll}
+use Rattle.st_text.specs.declared.fault.ReadFault.{ReadFault}
+use Rattle.st_text.specs.Text.{IsText, IsWithin}
+use Rattle.st_text.specs.Fault.{fault}
+use Rattle.st_commands.specs.Output.{Output, judged, refused, no_acts}
+
+-- the greatest count that a clock of the program can have: the greatest u64
+abbrev pub top : ℕ
+top = 18446744073709551615
+
+-- the bytes are the text of these streams, and of acts where there are any, within the reader's limits
+pub record Spells (bytes : List ℕ) (streams : List Stream) (acts : Option (List Act)) : Type 0 where
+  pub text : IsText bytes (record { streams = streams; acts = acts })
+  pub within : IsWithin (record { streams = streams; acts = acts })
+
+-- the bytes spell streams and acts, of which this is the verdict; on a yes each reported receive has a pair in which
+-- it follows its send
+pub record IsJudged (bytes : List ℕ) (v : Verdict) : Type 0 where
+  pub streams : List Stream
+  pub acts : List Act
+  pub spelled : Spells bytes streams (Some acts)
+  pub verdict : IsVerdict top streams acts v
+  pub follows : FollowsAll top streams acts v
+  pub paired : PairsAll top streams acts v
+
+-- the bytes spell streams without acts
+pub record LacksActs (bytes : List ℕ) : Type 0 where
+  pub streams : List Stream
+  pub spelled : Spells bytes streams None
+
+-- the output of the bytes
+pub data IsChecked : List ℕ → Output → Type 0 where
+  Judged : (bytes : List ℕ) (v : Verdict) → IsJudged bytes v → IsChecked bytes (judged v)
+  Lacking : (bytes : List ℕ) → LacksActs bytes → IsChecked bytes no_acts
+  Faulty : (bytes : List ℕ) (f : ReadFault) → fault bytes ≡ Some f → IsChecked bytes (refused f)

@@ -1,0 +1,114 @@
+-- What a yes and a no of `check`, the findings of `audit` and a record of `drive` mean, each as one record of plain
+-- facts, in the words of the machine.
+use Rattle.std.specs.Prelude.{◌≡◌, ℕ, Bool, List, ◌++◌, Option, Some, IsSome, All, codes, filter}
+use Rattle.std.specs.List.{flat_map}
+use Rattle.st_core.specs.declared.types.Pid.{Pid}
+use Rattle.st_core.specs.declared.types.Act.{Act}
+use Rattle.st_core.specs.Pid.{pid_eq}
+use Rattle.st_core.specs.Step.{Outcome, actor}
+use Rattle.st_core.specs.Run.{Stream, Shows, pids_of, run, stream}
+use Rattle.st_core.specs.Pairs.{Follows, AllPaired, pairs}
+use Rattle.st_core.specs.Verdict.{Verdict, IsVerdict}
+use Rattle.st_pair.specs.Places.{event_at}
+use Rattle.st_audit.specs.declared.finding.Reason.{Reason}
+use Rattle.st_audit.specs.declared.finding.Finding.TheVariants as finding
+use Rattle.st_audit.specs.Findings.{IsReason}
+use Rattle.st_chart.specs.Report.{report_text}
+use Rattle.st_text.specs.Text.{spelling}
+use Rattle.st_text.specs.Writing.{Writes}
+use Rattle.st_commands.specs.Output.{Output, line, pair_line, verdict_text}
+use Rattle.st_commands.specs.Checked.{top, Spells}
+use Rattle.st_commands.specs.Command.{ReadsAll}
+
+-- a yes: status 0
+pub record MeansYes (bytes : List ℕ) (out : Output) : Type 0 where
+  pub streams : List Stream
+  pub acts : List Act
+  pub outcomes : List Outcome
+  -- the bytes spell streams and acts, within the reader's limits
+  pub spelled : Spells bytes streams (Some acts)
+  -- the acts are a run of the machine from zero clocks over the streams' processes
+  pub runs : run top (pids_of streams) acts ≡ Some outcomes
+  -- in it each process reports exactly its stream; so the acts show the streams (`Shows`)
+  pub reports : All (λ x. stream acts outcomes x.pid ≡ x.events) streams
+  -- each receive that was reported stands in a pair
+  pub paired : AllPaired outcomes (pairs acts outcomes)
+  -- in each pair the receive follows its send, with the same label and serial, and no send stands twice
+  pub follows : Follows acts outcomes (pairs acts outcomes)
+  -- the text is the line yes and a line for each of these pairs
+  pub text : out.text ≡ line (codes "yes") ++ flat_map pair_line (pairs acts outcomes)
+
+-- a no: status 1
+pub record MeansNo (bytes : List ℕ) (out : Output) : Type 0 where
+  pub streams : List Stream
+  pub acts : List Act
+  pub verdict : Verdict
+  -- the bytes spell streams and acts, within the reader's limits
+  pub spelled : Spells bytes streams (Some acts)
+  -- the acts don't show the streams: they have no run in which each process reports exactly its stream
+  pub refuted : ¬ Shows top streams acts
+  -- the text names a place
+  pub text : out.text ≡ verdict_text verdict
+  -- and the place shows it: all before it passes, and act n has no step or reports another event, or p has events left
+  pub place : IsVerdict top streams acts verdict
+
+-- a certificate: status 0 of `audit`
+pub record MeansFits (bytes : List ℕ) (out : Output) : Type 0 where
+  pub streams : List Stream
+  pub given : Option (List Act)
+  pub acts : List Act
+  pub outcomes : List Outcome
+  -- the bytes spell streams, and acts or none, within the reader's limits
+  pub spelled : Spells bytes streams given
+  -- other acts are a run of the machine from zero clocks over the streams' processes
+  pub runs : run top (pids_of streams) acts ≡ Some outcomes
+  -- in it each process reports exactly its stream; so the acts show the streams (`Shows`)
+  pub reports : All (λ x. stream acts outcomes x.pid ≡ x.events) streams
+  -- the text is that of the streams with these acts
+  pub text : out.text ≡ spelling (record { streams = streams; acts = Some acts })
+
+-- an event and a reason: status 1 of `audit`
+pub record MeansUnfit (bytes : List ℕ) (out : Output) : Type 0 where
+  pub streams : List Stream
+  pub given : Option (List Act)
+  pub pid : Pid
+  pub index : ℕ
+  pub reason : Reason
+  -- the bytes spell streams, and acts or none, within the reader's limits
+  pub spelled : Spells bytes streams given
+  -- the event is there
+  pub there : IsSome (event_at streams pid index)
+  -- and the reason holds at it
+  pub holds : IsReason top streams pid index reason
+  -- the text names the event and the reason, and what the reason rests on
+  pub text : out.text ≡ report_text streams (finding.Unfit pid index reason)
+
+-- a record of threads: status 0 of `drive`
+pub record MeansDriven (bytes : List ℕ) (out : Output) : Type 0 where
+  pub listed : List Stream
+  pub given : List Act
+  pub streams : List Stream
+  pub acts : List Act
+  pub outcomes : List Outcome
+  -- the bytes spell acts of listed processes, within the reader's limits
+  pub spelled : Spells bytes listed (Some given)
+  -- acts are a run of the machine from zero clocks over these processes
+  pub runs : run top (pids_of streams) acts ≡ Some outcomes
+  pub pids : pids_of streams ≡ pids_of listed
+  -- in it each process reports exactly its stream; so the acts show the streams (`Shows`)
+  pub reports : All (λ x. stream acts outcomes x.pid ≡ x.events) streams
+  -- each process's acts are its own of the given ones, in their order
+  pub own : All (λ p. filter (λ a. pid_eq (actor a) p) acts ≡ filter (λ a. pid_eq (actor a) p) given) (pids_of streams)
+  -- the text is that of the streams with these acts
+  pub text : out.text ≡ spelling (record { streams = streams; acts = Some acts })
+
+-- all bytes were read, and of them an output with this meaning was written whole
+pub record Says {R W : Type 0} (gives : R → List ℕ → R → Type 0) (ended : R → Type 0) (read_failed : R → Bool)
+    (reader read : R)
+    (puts : W → List ℕ → W → Type 0) (write_failed : W → Bool) (writer written : W)
+    (Means : List ℕ → Output → Type 0) : Type 0 where
+  pub bytes : List ℕ
+  pub output : Output
+  pub reads : ReadsAll gives ended read_failed reader read bytes
+  pub writes : Writes puts write_failed output.text writer written
+  pub means : Means bytes output

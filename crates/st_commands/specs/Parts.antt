@@ -1,0 +1,92 @@
+-- The outputs of a bundle that was read, for the contracts of the functions that a command is made of. What a command
+-- does in all stands in `Command`.
+use Rattle.std.specs.Prelude.{◌≡◌, ℕ, true, false, List, Some, None}
+use Rattle.std.specs.List.{list_any}
+use Rattle.st_core.specs.declared.types.Label.{Label}
+use Rattle.st_core.specs.declared.types.Act.{Act}
+use Rattle.st_core.specs.Step.{Outcome}
+use Rattle.st_core.specs.Run.{Stream, pids_of, run}
+use Rattle.st_core.specs.Verdict.{Verdict, IsVerdict}
+use Rattle.st_check.specs.Answers.{FollowsAll, PairsAll, SticksAt}
+use Rattle.st_check.specs.declared.verdict.Replayed.{Replayed}
+use Rattle.st_check.specs.declared.verdict.Replayed.TheVariants as answers
+use Rattle.st_audit.specs.declared.finding.Finding.{Finding}
+use Rattle.st_audit.specs.Findings.{IsFinding, HandsOn, unfit_by}
+use Rattle.st_pair.specs.declared.answer.PairFault.{PairFault}
+use Rattle.st_pair.specs.Pairing.{refusal}
+use Rattle.st_order.specs.declared.item.Item.{Item}
+use Rattle.st_order.specs.Order.{IsOrder}
+use Rattle.st_order.specs.Labels.{has_label}
+use Rattle.st_runtime.specs.declared.fault.DriveFault.{DriveFault}
+use Rattle.st_runtime.specs.declared.fault.DriveFault.TheVariants as drive
+use Rattle.st_runtime.specs.declared.record.Record.{Record}
+use Rattle.st_runtime.specs.Driven.{IsDriven, IsDriveFault}
+use Rattle.st_text.specs.Text.{Contents, spelling}
+use Rattle.st_commands.specs.Output.{Output, judged, no_acts, no_memory}
+use Rattle.st_commands.specs.Checked.{top}
+use Rattle.st_commands.specs.Replayed.{replayed, stuck}
+use Rattle.st_commands.specs.Audited.{reported}
+use Rattle.st_commands.specs.Charted.{drawn, no_label}
+use Rattle.st_commands.specs.Recorded.{ranks, scripts_of, recorded, act_fault, thread_fault, join_fault}
+
+-- the verdict of streams and acts
+pub data ChecksTo (streams : List Stream) (acts : List Act) : Output → Type 0 where
+  Judges : (v : Verdict) → IsVerdict top streams acts v → FollowsAll top streams acts v → PairsAll top streams acts v
+      → ChecksTo streams acts (judged v)
+  NoRoomToCheck : ChecksTo streams acts no_memory
+
+-- what is found of streams
+pub data AuditsTo (streams : List Stream) : Output → Type 0 where
+  Finds : (found : Finding) → IsFinding top streams found → HandsOn streams found
+      → AuditsTo streams (reported streams found)
+  NoRoomToAudit : AuditsTo streams no_memory
+
+-- the chart of an order's items
+pub data DrawsTo (streams : List Stream) (label : Label) (items : List Item) : Output → Type 0 where
+  Draws : list_any (has_label streams label) items ≡ true → DrawsTo streams label items (drawn streams items label)
+  LacksLabel : list_any (has_label streams label) items ≡ false → DrawsTo streams label items (no_label label)
+  NoRoomToDraw : DrawsTo streams label items no_memory
+
+-- the chart of streams
+pub data ChartsTo (streams : List Stream) (label : Label) : Output → Type 0 where
+  OfOrder : (items : List Item) (out : Output) → refusal streams ≡ None → IsOrder streams items
+      → DrawsTo streams label items out → ChartsTo streams label out
+  OfReason : (f : PairFault) (found : Finding) → refusal streams ≡ Some f → unfit_by f ≡ Some found
+      → ChartsTo streams label (reported streams found)
+  NoRoomToOrder : ChartsTo streams label no_memory
+
+-- why scripts of streams weren't driven; their pids rise, so that they don't is no answer
+abbrev pub drive_refused : DriveFault → Output
+drive_refused drive.Memory = no_memory
+drive_refused (drive.Act p n f) = act_fault p n
+drive_refused (drive.Join f) = join_fault
+drive_refused drive.Thread = thread_fault
+drive_refused drive.NotRising = no_memory
+
+-- what the acts report
+pub data ReplaysTo (streams : List Stream) (acts : List Act) : Output → Type 0 where
+  Runs : (os : List Outcome) → run top (pids_of streams) acts ≡ Some os
+      → ReplaysTo streams acts (replayed (pids_of streams) acts os)
+  Sticks : (n : ℕ) → SticksAt top (pids_of streams) acts n → ReplaysTo streams acts (stuck n)
+  NoRoomToReplay : ReplaysTo streams acts no_memory
+
+-- what the acts come to as scripts of the streams' processes
+pub data DrivesTo (streams : List Stream) (acts : List Act) : Output → Type 0 where
+  Records : (r : Record) → IsDriven top (pids_of streams) (scripts_of (pids_of streams) acts) r
+      → DrivesTo streams acts (recorded r)
+  Refuses : (f : DriveFault) → IsDriveFault top ranks (pids_of streams) (scripts_of (pids_of streams) acts) f
+      → DrivesTo streams acts (drive_refused f)
+  NoRoomToDrive : DrivesTo streams acts no_memory
+
+-- the same of a bundle, which may have no acts
+pub data OfBundle (OfActs : List Stream → List Act → Output → Type 0) (c : Contents) : Output → Type 0 where
+  OfSome : (acts : List Act) (out : Output) → c.acts ≡ Some acts → OfActs c.streams acts out → OfBundle OfActs c out
+  OfNone : c.acts ≡ None → OfBundle OfActs c no_acts
+
+-- the text of streams and acts
+abbrev pub bundled : List Stream → List Act → Output
+bundled streams acts = record { text = spelling (record { streams = streams; acts = Some acts }); status = 0 }
+
+abbrev pub replayed_output : Replayed → List Act → Output
+replayed_output (answers.Ran streams replies) acts = bundled streams acts
+replayed_output (answers.Stuck n) acts = stuck n

@@ -1,0 +1,75 @@
+-- What `drive` makes of bytes: the bundle of one run in which each process makes its own of the acts that they spell,
+-- in order, or that there is none, or why they spell no acts. The events in the input are ignored.
+use Rattle.std.specs.Prelude.{◌≡◌, ℕ, List, ◌++◌, Some, map, codes, decimal}
+use Rattle.st_core.specs.declared.types.Pid.{Pid}
+use Rattle.st_core.specs.declared.types.Act.{Act}
+use Rattle.st_core.specs.Run.{Stream, pids_of}
+use Rattle.st_runtime.specs.declared.fault.ActFault.TheVariants as act
+use Rattle.st_runtime.specs.declared.fault.DriveFault.TheVariants as drive
+use Rattle.st_runtime.specs.declared.record.Record.{Record}
+use Rattle.st_runtime.specs.Driven.{IsDriven, IsDriveFault, acts_by}
+use Rattle.st_text.specs.declared.fault.ReadFault.{ReadFault}
+use Rattle.st_text.specs.Spelling as spelled
+use Rattle.st_text.specs.Text.{spelling}
+use Rattle.st_text.specs.Fault.{fault}
+use Rattle.st_commands.specs.Output.{Output, line, refused, no_acts}
+use Rattle.st_commands.specs.Checked.{top, Spells, LacksActs}
+
+-- the greatest rank that an entry of a log of the program can have: the greatest u64
+abbrev pub ranks : ℕ
+ranks = 18446744073709551615
+
+-- each process's acts among these, in order
+abbrev pub scripts_of : List Pid → List Act → List (List Act)
+scripts_of pids acts = map (λ p. acts_by p acts) pids
+
+-- the record as a bundle
+abbrev pub recorded : Record → Output
+recorded r = record { text = spelling (record { streams = r.streams; acts = Some r.acts }); status = 0 }
+
+-- the bytes spell streams and acts, and this is a record of the acts as scripts of the streams' processes
+pub record HasRecord (bytes : List ℕ) (r : Record) : Type 0 where
+  pub streams : List Stream
+  pub acts : List Act
+  pub spelled : Spells bytes streams (Some acts)
+  pub driven : IsDriven top (pids_of streams) (scripts_of (pids_of streams) acts) r
+
+-- ---- no record
+
+abbrev pub act_fault_words : Pid → ℕ → List ℕ
+act_fault_words p n = codes "fault act " ++ spelled.pid p ++ codes " " ++ decimal n
+
+-- act n of p's script was refused
+abbrev pub act_fault : Pid → ℕ → Output
+act_fault p n = record { text = line (act_fault_words p n); status = 1 }
+
+-- a thread couldn't be started
+abbrev pub thread_fault : Output
+thread_fault = record { text = line (codes "fault thread"); status = 4 }
+
+-- what the threads left is no run
+abbrev pub join_fault : Output
+join_fault = record { text = line (codes "fault join"); status = 4 }
+
+-- the bytes spell streams and acts
+pub record HasActs (bytes : List ℕ) : Type 0 where
+  pub streams : List Stream
+  pub acts : List Act
+  pub spelled : Spells bytes streams (Some acts)
+
+-- the bytes spell streams and acts, and at act n of p's script a lock held another process than its own, which no call
+-- leaves
+pub record HasStray (bytes : List ℕ) (p : Pid) (n : ℕ) : Type 0 where
+  pub streams : List Stream
+  pub acts : List Act
+  pub spelled : Spells bytes streams (Some acts)
+  pub refused : IsDriveFault top ranks (pids_of streams) (scripts_of (pids_of streams) acts) (drive.Act p n act.Stray)
+
+-- the output of the bytes; an act is refused for no other cause
+pub data IsRecorded : List ℕ → Output → Type 0 where
+  Recorded : (bytes : List ℕ) (r : Record) → HasRecord bytes r → IsRecorded bytes (recorded r)
+  Strayed : (bytes : List ℕ) (p : Pid) (n : ℕ) → HasStray bytes p n → IsRecorded bytes (act_fault p n)
+  Unstarted : (bytes : List ℕ) → HasActs bytes → IsRecorded bytes thread_fault
+  Unjoined : (bytes : List ℕ) → HasActs bytes → IsRecorded bytes join_fault
+  Lacking : (bytes : List ℕ) → LacksActs bytes → IsRecorded bytes no_acts
+  Faulty : (bytes : List ℕ) (f : ReadFault) → fault bytes ≡ Some f → IsRecorded bytes (refused f)

@@ -1,0 +1,44 @@
+-- What `replay` makes of bytes: the bundle of what the acts that they spell report, or the act without a step, or why
+-- they spell none. The events in the input are ignored.
+use Rattle.std.specs.Prelude.{◌≡◌, ℕ, List, ◌++◌, Some, codes, decimal}
+use Rattle.st_core.specs.declared.types.Pid.{Pid}
+use Rattle.st_core.specs.declared.types.Act.{Act}
+use Rattle.st_core.specs.Step.{Outcome}
+use Rattle.st_core.specs.Run.{Stream, pids_of, run}
+use Rattle.st_check.specs.Answers.{SticksAt, reported}
+use Rattle.st_text.specs.declared.fault.ReadFault.{ReadFault}
+use Rattle.st_text.specs.Text.{spelling}
+use Rattle.st_text.specs.Fault.{fault}
+use Rattle.st_commands.specs.Output.{Output, line, refused, no_acts}
+use Rattle.st_commands.specs.Checked.{top, Spells, LacksActs}
+
+-- what the acts' run over the pids reports, as a bundle with the acts
+abbrev pub replayed : List Pid → List Act → List Outcome → Output
+replayed pids acts os =
+    record { text = spelling (record { streams = reported pids acts os; acts = Some acts }); status = 0 }
+
+-- act n has no step
+abbrev pub stuck : ℕ → Output
+stuck n = record { text = line (codes "no stuck " ++ decimal n); status = 1 }
+
+-- the bytes spell streams and acts that have this run over the streams' pids
+pub record HasRun (bytes : List ℕ) (pids : List Pid) (acts : List Act) (os : List Outcome) : Type 0 where
+  pub streams : List Stream
+  pub spelled : Spells bytes streams (Some acts)
+  pub listed : pids ≡ pids_of streams
+  pub runs : run top pids acts ≡ Some os
+
+-- the bytes spell streams and acts of which act n is stuck
+pub record HasStuck (bytes : List ℕ) (n : ℕ) : Type 0 where
+  pub streams : List Stream
+  pub acts : List Act
+  pub spelled : Spells bytes streams (Some acts)
+  pub sticks : SticksAt top (pids_of streams) acts n
+
+-- the output of the bytes
+pub data IsReplayed : List ℕ → Output → Type 0 where
+  Ran : (bytes : List ℕ) (pids : List Pid) (acts : List Act) (os : List Outcome) → HasRun bytes pids acts os
+      → IsReplayed bytes (replayed pids acts os)
+  Stuck : (bytes : List ℕ) (n : ℕ) → HasStuck bytes n → IsReplayed bytes (stuck n)
+  Lacking : (bytes : List ℕ) → LacksActs bytes → IsReplayed bytes no_acts
+  Faulty : (bytes : List ℕ) (f : ReadFault) → fault bytes ≡ Some f → IsReplayed bytes (refused f)

@@ -1,0 +1,86 @@
+-- The command line, in the words of `clap`: which command a list of words asks for.
+use Rattle.std.specs.Prelude.{◌≡◌, ◌≢◌, ℕ, pos, true, List, [], ◌∷◌, Option, Some, None, option_map, option_and_then}
+use Rattle.std.specs.Prelude.{codes, if◌then◌else◌}
+use Rattle.std.specs.Str.{bytes_eq}
+use Rattle.std.specs.Str.Parse.{digits_value, without_leading_plus}
+use Rattle.clap.specs.Words.{App, Row, Rule, Text, new_app, new_rule, one_of, with_rule, with_subcommand, subcommand_of}
+use Rattle.clap.specs.Words.{fault_of}
+use Rattle.clap.specs.ValueTests.{is_unsigned_in}
+use Rattle.clap.specs.Walk.{is_empty}
+use Rattle.clap.specs.declared.builder.value_parser.ValueParser.TheVariants as parser
+use Rattle.clap.specs.declared.error.kind.ErrorKind.{ErrorKind}
+use Rattle.clap.specs.declared.error.kind.ErrorKind.TheVariants as kinds
+use Rattle.st_core.specs.declared.types.Label.{Label}
+use Rattle.st_commands.specs.declared.words.Task.{Task}
+use Rattle.st_commands.specs.declared.words.Task.TheVariants as task
+use Rattle.st_commands.specs.declared.words.Refusal.{Refusal}
+use Rattle.st_commands.specs.declared.words.Refusal.TheVariants as refused
+
+-- ---- what `clap` is told
+
+abbrev pub greatest_label : ℕ
+greatest_label = 4294967295
+
+-- `--label N`, which has to be given, read as a number from 0 to the greatest label
+abbrev pub label_rule : Rule
+label_rule = record (new_rule (codes "label")) {
+  long = Some (codes "label");
+  required = true;
+  parser = Some (parser.Signed (pos 0) (pos greatest_label));
+}
+
+abbrev pub chart_line : App
+chart_line = with_rule (new_app (codes "chart")) label_rule
+
+-- the program and its commands, of which `chart` alone takes words of its own
+abbrev pub command_line : App
+command_line =
+    with_subcommand (with_subcommand (with_subcommand (with_subcommand (with_subcommand (new_app (codes "seqaudit"))
+    (new_app (codes "check")).top) (new_app (codes "audit")).top) (new_app (codes "replay")).top)
+    (new_app (codes "drive")).top) chart_line.top
+
+-- ---- what the words ask for
+
+abbrev pub label : ℕ → Label
+label n = record { 0 = n }
+
+-- the label that a text writes: its number, where it is one from 0 to the greatest
+abbrev pub label_in : Text → Option Label
+label_in text =
+    if is_unsigned_in 0 greatest_label text then Some (label (digits_value 10 (without_leading_plus text))) else None
+
+-- the chart that the words of `chart` ask for, by what `clap` found in them; of a number it leaves a first minus out
+abbrev pub chart_of : List Row → Option Task
+chart_of found = option_map (λ l. task.Chart l) (option_and_then label_in (one_of (codes "label") found))
+
+-- the command of this name, of whose own words `clap` found these
+abbrev pub task_of : Text → List Row → Option Task
+task_of name found =
+    if bytes_eq name (codes "check") then Some task.Check
+    else (if bytes_eq name (codes "audit") then Some task.Audit
+    else (if bytes_eq name (codes "replay") then Some task.Replay
+    else (if bytes_eq name (codes "drive") then Some task.Drive
+    else (if bytes_eq name (codes "chart") then chart_of found else None))))
+
+-- the command that the words ask for, by the subcommand that `clap` finds in them; none where it refuses them, or
+-- where it finds no subcommand
+abbrev pub asked : List Text → Option Task
+asked words =
+    if is_empty (fault_of command_line words) then option_and_then (λ p. task_of p.0 p.1)
+    (subcommand_of command_line words) else None
+
+-- the words that ask for a chart of the label that this text writes
+abbrev pub chart_words : Text → Text → List Text
+chart_words name text = name ∷ codes "chart" ∷ codes "--label" ∷ text ∷ []
+
+-- ---- refusals
+
+-- `clap` refuses for want of memory, or for another cause
+abbrev pub IsRefusalOf : ErrorKind → Refusal → Type 0
+IsRefusalOf kind refused.Memory = kind ≡ kinds.OutOfMemory
+IsRefusalOf kind refused.Usage = kind ≢ kinds.OutOfMemory
+
+-- words are refused for want of memory, or where they ask for no command
+abbrev pub IsRefusal : List Text → Refusal → Type 0
+IsRefusal words refused.Memory = Unit {0}
+IsRefusal words refused.Usage = asked words ≡ None

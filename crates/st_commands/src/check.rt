@@ -1,0 +1,56 @@
+//! The command `check`: the verdict of the bundle whose text the input is.
+
+ghost use Rattle.std.specs.Prelude.{◌≡◌};
+ghost use Rattle.st_text.specs.Contents.{contents};
+ghost use Rattle.st_commands.specs.Checked.{IsChecked};
+ghost use Rattle.st_commands.specs.Command.{Owes, Tells};
+ghost use Rattle.st_commands.specs.Meaning.{Says, MeansYes, MeansNo};
+ghost use Rattle.st_commands.specs.Parts.{ChecksTo, OfBundle};
+
+use crate::answer::{tell_fault, tell_line, tell_verdict};
+use crate::lines::OutputLine;
+use st_check::{CheckFault, check};
+use st_core::{Act, ByteSink, ByteSource, Streams};
+use st_text::{Bundle, ReadFault, read};
+use std::alloc::Global;
+
+/// The greatest count that a clock of the program can have.
+pub(crate) const TOP: u64 = u64::MAX;
+
+/// Answers the verdict of streams and acts.
+fn check_acts<W: ByteSink>(alloc: Global, streams: &Streams, acts: &[Act], writer: &mut W) -> u8
+    ensures { Tells W.puts W.failed writer.old writer.new (ChecksTo streams.now acts.now) result }
+{
+    match check::<TOP>(alloc, streams, acts) {
+        Ok(verdict) => tell_verdict(writer, &verdict),
+        Err(CheckFault::Memory) => tell_fault(writer, ReadFault::Memory),
+    }
+}
+
+/// Answers the verdict of a bundle.
+fn check_bundle<W: ByteSink>(alloc: Global, bundle: &Bundle, writer: &mut W) -> u8
+    ensures { Tells W.puts W.failed writer.old writer.new (OfBundle ChecksTo (contents bundle.now)) result }
+{
+    match &bundle.acts {
+        Some(acts) => check_acts(alloc, &bundle.streams, acts.as_slice(), writer),
+        None => tell_line(writer, OutputLine::NoActs, 2),
+    }
+}
+
+/// Reads a bundle and answers its verdict: `yes` and the pairs with status 0, or a no with status
+/// 1. Faulty input is 2; want of memory, and a reader or a writer that fails, are 4.
+pub fn run_check<R: ByteSource, W: ByteSink>(alloc: Global, reader: &mut R, writer: &mut W) -> u8
+    ensures told { Tells W.puts W.failed writer.old writer.new
+        (Owes R.gives R.ended R.failed reader.old reader.new IsChecked) result }
+
+    // What that says of a yes and a no, in the machine's own words.
+    ensures yes { result ≡ 0 →
+        Says R.gives R.ended R.failed reader.old reader.new W.puts W.failed writer.old writer.new MeansYes }
+    ensures no { result ≡ 1 →
+        Says R.gives R.ended R.failed reader.old reader.new W.puts W.failed writer.old writer.new MeansNo }
+{
+    match read(alloc, reader) {
+        Ok(bundle) => check_bundle(alloc, &bundle, writer),
+        Err(fault) => tell_fault(writer, fault),
+    }
+}

@@ -1,0 +1,80 @@
+//! What the answers of the commands mean. The functions do nothing: their contracts are the
+//! laws.
+
+ghost use Rattle.st_commands.specs.Checked.{IsChecked};
+ghost use Rattle.st_commands.specs.Laws.{YesMeans, NoMeans, ShownIsYes, HasOutput, HasOneOutput};
+ghost use Rattle.st_commands.specs.Laws.{FitsMeans, UnfitMeans, CertificateIsYes};
+ghost use Rattle.st_commands.specs.Laws.{DrivenMeans, RecordedIsYes};
+ghost use Rattle.st_commands.specs.Laws.{NeverStuck, NeverStuckInReplay};
+ghost use Rattle.st_commands.specs.Replayed.{IsReplayed};
+
+use st_core::laws::a_verdict;
+
+/// An output of the check with status 0 means that the bytes spell streams and acts, that the acts
+/// are a run of the machine from zero clocks in which each process reports exactly its stream, and
+/// that each reported receive follows its paired send.
+pub fn yes_means()
+    ensures { YesMeans }
+{}
+
+/// An output of the check with status 1 means that the bytes spell streams and acts, that the acts
+/// are no such run, and that the named place shows it.
+pub fn no_means()
+    ensures { NoMeans }
+{}
+
+/// Where the bytes spell streams and acts that show them, the output of the check has status 0.
+pub fn shown_is_yes()
+    ensures { ShownIsYes }
+{}
+
+/// An output of the audit with status 0 means that the bytes spell streams, and that what it writes
+/// is their text with acts that are a run of the machine from zero clocks in which each process
+/// reports exactly its stream.
+pub fn fits_means()
+    ensures { FitsMeans }
+{}
+
+/// An output of the audit with status 1 means that the bytes spell streams, and that the named event
+/// is there and the reason holds at it.
+pub fn unfit_means()
+    ensures { UnfitMeans }
+{}
+
+/// The check of a certificate that is a text within the reader's limits answers yes and the pairs.
+pub fn certificate_is_yes()
+    ensures { CertificateIsYes }
+{}
+
+/// An output of the drive with status 0 means that the bytes spell acts of listed processes, and that
+/// what it writes is the text of streams and acts that are a run of the machine from zero clocks in
+/// which each process reports exactly its stream and makes exactly its own acts of those, in order.
+pub fn driven_means()
+    ensures { DrivenMeans }
+{}
+
+/// The check of a record that is a text within the reader's limits answers yes.
+pub fn recorded_is_yes()
+    ensures { RecordedIsYes }
+{}
+
+/// Bytes have an output of the check and of the replay.
+pub fn an_answer()
+    ensures check { HasOutput IsChecked }
+    ensures replay { HasOutput IsReplayed }
+{
+    a_verdict();
+}
+
+/// Bytes have one output of the check and one of the replay at most, so whoever knows the bytes that were read knows
+/// which output is owed.
+pub fn one_answer()
+    ensures check { HasOneOutput IsChecked }
+    ensures replay { HasOneOutput IsReplayed }
+{}
+
+/// No text within the reader's limits has an act without a step, so `no stuck` never comes.
+pub fn never_stuck()
+    ensures check { NeverStuck }
+    ensures replay { NeverStuckInReplay }
+{}

@@ -1,0 +1,29 @@
+//! The commands of `seqaudit` on any reader and writer: each reads all bytes, writes the text that
+//! they deserve, and answers the exit status.
+//!
+//! What `run` writes and answers is said by its contract, and for each command by that of a function
+//! of its own; the definitions stand in `specs/`, and what the answers mean in `laws`.
+#![tactic(auto)]
+
+mod answer;
+mod audit;
+mod chart;
+mod check;
+mod drive;
+pub mod laws;
+mod lines;
+mod program;
+mod replay;
+mod words;
+
+pub use answer::tell_refusal;
+pub use audit::run_audit;
+pub use chart::run_chart;
+pub use check::run_check;
+pub use drive::run_drive;
+pub use program::run;
+pub use replay::run_replay;
+pub use words::{Refusal, Task, plain_words, read_words};
+
+#[cfg(test)]
+mod tests;

@@ -1,0 +1,209 @@
+//! The lines that the program writes, through a buffer on the stack. Which line is written is
+//! decided elsewhere; writing takes no memory.
+
+ghost use Rattle.std.specs.Prelude.{◌≡◌, ◌≤◌, ◌+◌, ◌++◌, length, decimal};
+ghost use Rattle.std.specs.List.{flat_map};
+ghost use Rattle.arrayvec.specs.ArrayVec.{array_vec_len};
+ghost use Rattle.st_check.specs.Answers.{verdict_of};
+ghost use Rattle.st_text.specs.Room.{buffer_room, line_room, number_room};
+ghost use Rattle.st_text.specs.Writing.{GoesOn, WritesText};
+ghost use Rattle.st_commands.specs.Lines.{words, text_of, words_room};
+ghost use Rattle.st_commands.specs.Output.{fault_words, pair_words, pair_line, verdict_text};
+ghost use Rattle.st_commands.specs.Recorded.{act_fault_words};
+
+use st_check::Verdict;
+use st_core::{ByteSink, Label, Pid};
+use st_text::{Buffer, Device, ReadFault, flush, make_room, put_bytes, put_number, put_pid};
+
+/// A line of the program's own.
+#[derive(Clone, Copy, Debug)]
+pub(crate) enum OutputLine {
+    /// The certificate is one.
+    Yes,
+    /// A reported receive and its send, by the numbers of their acts.
+    Pair(u64, u64),
+    /// The act without a step.
+    Stuck(u64),
+    /// The act that reports something else.
+    Differs(u64),
+    /// The process with events left.
+    Left(Pid),
+    /// No item has this label.
+    NoLabel(Label),
+    /// Why the input is no text, or there is no answer.
+    Fault(ReadFault),
+    /// The input has no acts.
+    NoActs,
+    /// The act of this process's script that was refused, by its number there.
+    ActFault(Pid, u64),
+    /// A thread couldn't be started.
+    ThreadFault,
+    /// What the threads left isn't one run.
+    JoinFault,
+    /// How the program is called.
+    Usage,
+}
+
+/// Appends words and a number.
+fn put_numbered(buffer: &mut Buffer, words: &[u8], number: u64)
+    requires { array_vec_len buffer.old + (length words.now + number_room) ≤ buffer_room }
+    ensures items { buffer.new.items ≡ buffer.old.items ++ (words.now ++ decimal number) }
+    ensures len { array_vec_len buffer.new ≤ array_vec_len buffer.old + (length words.now + number_room) }
+{
+    put_bytes(buffer, words);
+    put_number(buffer, number);
+}
+
+/// Appends the numbers of a receive's act and of its send's.
+fn put_pair(buffer: &mut Buffer, receive: u64, send: u64)
+    requires { array_vec_len buffer.old + words_room ≤ buffer_room }
+    ensures items { buffer.new.items ≡ buffer.old.items ++ pair_words (receive, send) }
+    ensures len { array_vec_len buffer.new ≤ array_vec_len buffer.old + words_room }
+{
+    put_numbered(buffer, b"pair ", receive);
+    put_numbered(buffer, b" ", send);
+}
+
+/// Appends the words of a fault.
+fn put_fault(buffer: &mut Buffer, fault: ReadFault)
+    requires { array_vec_len buffer.old + words_room ≤ buffer_room }
+    ensures items { buffer.new.items ≡ buffer.old.items ++ fault_words fault }
+    ensures len { array_vec_len buffer.new ≤ array_vec_len buffer.old + words_room }
+{
+    match fault {
+        ReadFault::Memory => put_bytes(buffer, b"fault memory"),
+        ReadFault::Device => put_bytes(buffer, b"fault device"),
+        ReadFault::TooLarge => put_bytes(buffer, b"fault too large"),
+        ReadFault::Line(n) => put_numbered(buffer, b"fault line ", n),
+        ReadFault::Order(n) => put_numbered(buffer, b"fault order ", n),
+        ReadFault::Foreign(n) => put_numbered(buffer, b"fault foreign ", n),
+        ReadFault::Unknown(n) => put_numbered(buffer, b"fault unknown ", n),
+        ReadFault::TooMany(n) => put_numbered(buffer, b"fault too many ", n),
+        ReadFault::Truncated => put_bytes(buffer, b"fault truncated"),
+    }
+}
+
+/// Appends the words of an act that was refused.
+fn put_act_fault(buffer: &mut Buffer, pid: Pid, n: u64)
+    requires { array_vec_len buffer.old + words_room ≤ buffer_room }
+    ensures items { buffer.new.items ≡ buffer.old.items ++ act_fault_words pid n }
+    ensures len { array_vec_len buffer.new ≤ array_vec_len buffer.old + words_room }
+{
+    put_bytes(buffer, b"fault act ");
+    put_pid(buffer, pid);
+    put_numbered(buffer, b" ", n);
+}
+
+/// Appends the words of a line.
+fn put_words(buffer: &mut Buffer, line: OutputLine)
+    requires { array_vec_len buffer.old + words_room ≤ buffer_room }
+    ensures items { buffer.new.items ≡ buffer.old.items ++ words line }
+    ensures len { array_vec_len buffer.new ≤ array_vec_len buffer.old + words_room }
+{
+    match line {
+        OutputLine::Yes => put_bytes(buffer, b"yes"),
+        OutputLine::Pair(receive, send) => put_pair(buffer, receive, send),
+        OutputLine::Stuck(n) => put_numbered(buffer, b"no stuck ", n),
+        OutputLine::Differs(n) => put_numbered(buffer, b"no differs ", n),
+        OutputLine::Left(pid) => {
+            put_bytes(buffer, b"no left ");
+            put_pid(buffer, pid);
+        }
+        OutputLine::NoLabel(label) => put_numbered(buffer, b"no label ", u64::from(label.0)),
+        OutputLine::Fault(fault) => put_fault(buffer, fault),
+        OutputLine::NoActs => put_bytes(buffer, b"fault no acts"),
+        OutputLine::ActFault(pid, n) => put_act_fault(buffer, pid, n),
+        OutputLine::ThreadFault => put_bytes(buffer, b"fault thread"),
+        OutputLine::JoinFault => put_bytes(buffer, b"fault join"),
+        OutputLine::Usage => put_bytes(
+            buffer,
+            b"usage: seqaudit check|audit|replay|drive|chart --label N",
+        ),
+    }
+}
+
+/// Appends a line and its newline.
+fn put_line(buffer: &mut Buffer, line: OutputLine)
+    requires { array_vec_len buffer.old + line_room ≤ buffer_room }
+    ensures { buffer.new.items ≡ buffer.old.items ++ text_of line }
+{
+    put_words(buffer, line);
+    put_bytes(buffer, b"\n");
+}
+
+/// Writes a line into the buffer, and first what waits there where that is much.
+fn write_line<W: ByteSink>(
+    writer: &mut W,
+    buffer: &mut Buffer,
+    line: OutputLine,
+) -> Result<(), Device>
+    ensures { GoesOn W.puts W.failed (text_of line)
+        writer.old writer.new buffer.old.items buffer.new.items result }
+{
+    make_room(writer, buffer)?;
+    put_line(buffer, line);
+    Ok(())
+}
+
+/// Writes a line for each pair.
+fn write_pairs<W: ByteSink>(
+    writer: &mut W,
+    buffer: &mut Buffer,
+    pairs: &[(u64, u64)],
+) -> Result<(), Device>
+    ensures { GoesOn W.puts W.failed (flat_map pair_line pairs.now)
+        writer.old writer.new buffer.old.items buffer.new.items result }
+{
+    for pair in pairs {
+        write_line(writer, buffer, OutputLine::Pair(pair.0, pair.1))?;
+    }
+    Ok(())
+}
+
+/// Writes a yes and its pairs.
+fn write_yes<W: ByteSink>(
+    writer: &mut W,
+    buffer: &mut Buffer,
+    pairs: &[(u64, u64)],
+) -> Result<(), Device>
+    ensures { GoesOn W.puts W.failed (text_of OutputLine.Yes ++ flat_map pair_line pairs.now)
+        writer.old writer.new buffer.old.items buffer.new.items result }
+{
+    write_line(writer, buffer, OutputLine::Yes)?;
+    write_pairs(writer, buffer, pairs)
+}
+
+/// Writes a verdict into the buffer.
+fn write_verdict<W: ByteSink>(
+    writer: &mut W,
+    buffer: &mut Buffer,
+    verdict: &Verdict,
+) -> Result<(), Device>
+    ensures { GoesOn W.puts W.failed (verdict_text (verdict_of verdict.now))
+        writer.old writer.new buffer.old.items buffer.new.items result }
+{
+    match verdict {
+        Verdict::Stuck(n) => write_line(writer, buffer, OutputLine::Stuck(*n)),
+        Verdict::Differs(n) => write_line(writer, buffer, OutputLine::Differs(*n)),
+        Verdict::Left(pid) => write_line(writer, buffer, OutputLine::Left(*pid)),
+        Verdict::Yes(pairs) => write_yes(writer, buffer, pairs.as_slice()),
+    }
+}
+
+/// Writes one line to the writer.
+pub(crate) fn send_line<W: ByteSink>(writer: &mut W, line: OutputLine) -> Result<(), Device>
+    ensures { WritesText W.puts W.failed (text_of line) writer.old writer.new result }
+{
+    let mut buffer = Buffer::new();
+    write_line(writer, &mut buffer, line)?;
+    flush(writer, &mut buffer)
+}
+
+/// Writes a verdict to the writer.
+pub(crate) fn send_verdict<W: ByteSink>(writer: &mut W, verdict: &Verdict) -> Result<(), Device>
+    ensures { WritesText W.puts W.failed (verdict_text (verdict_of verdict.now)) writer.old writer.new result }
+{
+    let mut buffer = Buffer::new();
+    write_verdict(writer, &mut buffer, verdict)?;
+    flush(writer, &mut buffer)
+}

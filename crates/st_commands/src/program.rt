@@ -1,0 +1,53 @@
+//! A run of the program: the command that its words ask for, on its reader and its writer.
+
+ghost use Rattle.std.specs.Prelude.{map};
+ghost use Rattle.st_commands.specs.Command.{OwesBy, OwesFor, Tells};
+
+use crate::answer::tell_refusal;
+use crate::audit::run_audit;
+use crate::chart::run_chart;
+use crate::check::run_check;
+use crate::drive::run_drive;
+use crate::replay::run_replay;
+use crate::words::{Task, read_words};
+use st_core::{ByteSink, ByteSource};
+use std::convert::AsStr;
+use std::sync::Wait;
+use std::thread::Threads;
+
+/// Does what this command does.
+fn run_task<H: AllocGlobal + Threads + Wait + Sync, R: ByteSource, W: ByteSink>(
+    rt: &H,
+    task: Task,
+    reader: &mut R,
+    writer: &mut W,
+) -> u8
+    ensures { Tells W.puts W.failed writer.old writer.new
+        (OwesBy R.gives R.ended R.failed reader.old reader.new task) result }
+{
+    match task {
+        Task::Check => run_check(rt.alloc(), reader, writer),
+        Task::Audit => run_audit(rt, rt.alloc(), reader, writer),
+        Task::Replay => run_replay(rt.alloc(), reader, writer),
+        Task::Chart(label) => run_chart(rt, rt.alloc(), reader, writer, label),
+        Task::Drive => run_drive(rt, rt.alloc(), reader, writer),
+    }
+}
+
+/// Does what the words ask for, of which the first is the program's name, and gives the exit
+/// status. Words that ask for no command are told how to, with status 3. All texts go to the
+/// writer.
+pub fn run<H: AllocGlobal + Threads + Wait + Sync, S: AsStr, R: ByteSource, W: ByteSink>(
+    rt: &H,
+    words: &[S],
+    reader: &mut R,
+    writer: &mut W,
+) -> u8
+    ensures { Tells W.puts W.failed writer.old writer.new
+        (OwesFor R.gives R.ended R.failed reader.old reader.new (map S.text words.now)) result }
+{
+    match read_words(rt.alloc(), words) {
+        Ok(task) => run_task(rt, task, reader, writer),
+        Err(refusal) => tell_refusal(writer, refusal),
+    }
+}

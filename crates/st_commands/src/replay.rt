@@ -1,0 +1,59 @@
+//! The command `replay`: what the acts of the input's bundle report. The events in the input are
+//! ignored.
+
+ghost use Rattle.st_text.specs.Contents.{contents};
+ghost use Rattle.st_commands.specs.Command.{Delivers, Owes, Tells};
+ghost use Rattle.st_commands.specs.Parts.{OfBundle, ReplaysTo, replayed_output};
+ghost use Rattle.st_commands.specs.Replayed.{IsReplayed};
+
+use crate::answer::{tell_bundle, tell_fault, tell_line};
+use crate::check::TOP;
+use crate::lines::OutputLine;
+use st_check::{ReplayFault, Replayed, replay};
+use st_core::{Act, ByteSink, ByteSource, Streams};
+use st_text::{Bundle, ReadFault, read};
+use std::alloc::Global;
+
+/// Answers what acts that were replayed came to.
+fn tell_replayed<W: ByteSink>(writer: &mut W, replayed: &Replayed, acts: &[Act]) -> u8
+    ensures { Delivers W.puts W.failed writer.old writer.new (replayed_output replayed.now acts.now) result }
+{
+    match replayed {
+        Replayed::Ran(streams, _) => tell_bundle(writer, streams, acts),
+        Replayed::Stuck(n) => tell_line(writer, OutputLine::Stuck(*n), 1),
+    }
+}
+
+/// Answers what the acts report in a run over the streams' processes.
+fn replay_acts<W: ByteSink>(alloc: Global, streams: &Streams, acts: &[Act], writer: &mut W) -> u8
+    ensures { Tells W.puts W.failed writer.old writer.new (ReplaysTo streams.now acts.now) result }
+{
+    match replay::<TOP>(alloc, streams.pids(), acts) {
+        Ok(replayed) => tell_replayed(writer, &replayed, acts),
+        Err(ReplayFault::Memory) => tell_fault(writer, ReadFault::Memory),
+        Err(ReplayFault::NotRising) => unreachable!(),
+    }
+}
+
+/// Answers what a bundle's acts report.
+fn replay_bundle<W: ByteSink>(alloc: Global, bundle: &Bundle, writer: &mut W) -> u8
+    ensures { Tells W.puts W.failed writer.old writer.new (OfBundle ReplaysTo (contents bundle.now)) result }
+{
+    match &bundle.acts {
+        Some(acts) => replay_acts(alloc, &bundle.streams, acts.as_slice(), writer),
+        None => tell_line(writer, OutputLine::NoActs, 2),
+    }
+}
+
+/// Reads a bundle and answers the bundle of what its acts report, with status 0, or the first act
+/// without a step, with status 1. Faulty input is 2; want of memory, and a reader or a writer that
+/// fails, are 4.
+pub fn run_replay<R: ByteSource, W: ByteSink>(alloc: Global, reader: &mut R, writer: &mut W) -> u8
+    ensures { Tells W.puts W.failed writer.old writer.new
+        (Owes R.gives R.ended R.failed reader.old reader.new IsReplayed) result }
+{
+    match read(alloc, reader) {
+        Ok(bundle) => replay_bundle(alloc, &bundle, writer),
+        Err(fault) => tell_fault(writer, fault),
+    }
+}
