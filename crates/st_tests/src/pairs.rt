@@ -11,20 +11,20 @@ use std::process::Abort;
 use std::test::Fail;
 
 /// A print that stands twice.
-const NOT_RISING: &str = "seqtrace 1\n\
+pub(crate) const NOT_RISING: &str = "seqtrace 1\n\
     process <0.30.0>\n\
     {seq_trace,17,{print,{0,1},<0.30.0>,[],7}}\n\
     {seq_trace,17,{print,{0,1},<0.30.0>,[],7}}\n";
 
 /// A receive of a message that its sender printed.
-const MISMATCH: &str = "seqtrace 1\n\
+pub(crate) const MISMATCH: &str = "seqtrace 1\n\
     process <0.30.0>\n\
     {seq_trace,17,{print,{0,2},<0.30.0>,[],7}}\n\
     process <0.31.0>\n\
     {seq_trace,17,{'receive',{0,2},<0.30.0>,<0.31.0>,5}}\n";
 
 /// Two receives of one message.
-const REPEATED: &str = "seqtrace 1\n\
+pub(crate) const REPEATED: &str = "seqtrace 1\n\
     process <0.30.0>\n\
     process <0.31.0>\n\
     {seq_trace,17,{'receive',{0,2},<0.30.0>,<0.31.0>,5}}\n\
@@ -32,7 +32,7 @@ const REPEATED: &str = "seqtrace 1\n\
     {seq_trace,17,{'receive',{0,2},<0.30.0>,<0.32.0>,5}}\n";
 
 /// Prints whose counts fall, and one with its own count before it.
-const PREV_NOT_BEFORE: &str = "seqtrace 1\n\
+pub(crate) const PREV_NOT_BEFORE: &str = "seqtrace 1\n\
     process <0.30.0>\n\
     {seq_trace,17,{print,{0,2},<0.30.0>,[],7}}\n\
     {seq_trace,17,{print,{0,1},<0.30.0>,[],7}}\n\

@@ -1,0 +1,108 @@
+//! Streams that fit, each with its acts.
+
+use super::{assert_fits, certificate_acts, found, restored};
+use crate::collected::{p30, p31};
+use crate::text::CERTIFICATE;
+use st_audit::Finding;
+use st_core::{Act, Component, Label, Pid, Want};
+use std::test::Fail;
+
+/// No events.
+const NOTHING: &str = "seqtrace 1\n\
+    process <0.30.0>\n\
+    process <0.31.0>\n";
+
+/// Three processes on two nodes, one of which prints.
+const TWO_NODES: &str = "seqtrace 2\n\
+    process <1.7.0>\n\
+    process <1.8.0>\n\
+    {seq_trace,4,{print,{0,1},<1.8.0>,[],9}}\n\
+    process <2.5.0>\n";
+
+/// A reported send whose message is received, and one whose message isn't.
+const ONE_RECEIVED: &str = "seqtrace 1\n\
+    process <0.30.0>\n\
+    {seq_trace,17,{send,{0,1},<0.30.0>,<0.31.0>,5}}\n\
+    {seq_trace,17,{send,{0,2},<0.30.0>,<0.31.0>,6}}\n\
+    process <0.31.0>\n\
+    {seq_trace,17,{'receive',{0,1},<0.30.0>,<0.31.0>,5}}\n";
+
+/// A print with a prev above the clock.
+const HIGH_PREV: &str = "seqtrace 1\n\
+    process <0.30.0>\n\
+    {seq_trace,17,{print,{2,3},<0.30.0>,[],5}}\n";
+
+/// A print before which a thousand counts are missing.
+const THOUSAND_MISSING: &str = "seqtrace 1\n\
+    process <0.30.0>\n\
+    {seq_trace,17,{print,{0,1001},<0.30.0>,[],7}}\n";
+
+#[test]
+fn hidden_sends_fit(rt: HostRuntime) -> Result<(), Fail> {
+    let alloc = rt.alloc();
+    let finding = found(&rt, alloc, CERTIFICATE)?;
+    let acts = certificate_acts(alloc).ok_or("no acts")?;
+    assert_fits(&rt, &finding, acts.as_slice(), &[(5, 4), (10, 9)]);
+    Ok(())
+}
+
+#[test]
+fn nothing_fits_by_no_acts(rt: HostRuntime) -> Result<(), Fail> {
+    let finding = found(&rt, rt.alloc(), NOTHING)?;
+    assert_fits(&rt, &finding, &[], &[]);
+    Ok(())
+}
+
+#[test]
+fn each_node_has_a_tracer(rt: HostRuntime) -> Result<(), Fail> {
+    let finding = found(&rt, rt.alloc(), TWO_NODES)?;
+    let acts = [
+        Act::Tracer(Pid::on(1, 7), true),
+        Act::Tracer(Pid::on(2, 5), true),
+        restored(Pid::on(1, 8), 4, (false, false, true)),
+        Act::Print(Pid::on(1, 8), 9),
+    ];
+    assert_fits(&rt, &finding, &acts, &[]);
+    Ok(())
+}
+
+#[test]
+fn a_send_asks_for_its_receive_alone(rt: HostRuntime) -> Result<(), Fail> {
+    let finding = found(&rt, rt.alloc(), ONE_RECEIVED)?;
+    let acts = [
+        Act::Tracer(p30(), true),
+        restored(p30(), 17, (true, true, false)),
+        Act::Send(p30(), p31(), 5),
+        Act::Receive(p31(), Want::Place(0)),
+        restored(p30(), 17, (true, false, false)),
+        Act::Send(p30(), p31(), 6),
+    ];
+    assert_fits(&rt, &finding, &acts, &[(3, 2)]);
+    Ok(())
+}
+
+#[test]
+fn a_new_trace_begins_at_a_prev_above_the_clock(rt: HostRuntime) -> Result<(), Fail> {
+    let finding = found(&rt, rt.alloc(), HIGH_PREV)?;
+    let acts = [
+        Act::Tracer(p30(), true),
+        restored(p30(), 17, (false, false, false)),
+        Act::Print(p30(), 0),
+        Act::Print(p30(), 0),
+        Act::Clear(p30()),
+        Act::Set(p30(), Component::Label(Label(17))),
+        restored(p30(), 17, (false, false, true)),
+        Act::Print(p30(), 5),
+    ];
+    assert_fits(&rt, &finding, &acts, &[]);
+    Ok(())
+}
+
+#[test]
+fn a_thousand_counts_are_filled_in(rt: HostRuntime) -> Result<(), Fail> {
+    match found(&rt, rt.alloc(), THOUSAND_MISSING)? {
+        Finding::Unfit(..) => panic!(rt; "unfit"),
+        Finding::Fits(acts, _) => assert_eq!(rt; acts.len(), 1004),
+    }
+    Ok(())
+}
