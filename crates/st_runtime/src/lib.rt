@@ -29,6 +29,8 @@ mod same;
 mod seat;
 mod seating;
 mod system;
+#[cfg(test)]
+mod trial;
 mod whole;
 mod worker;
 

@@ -1,14 +1,13 @@
 //! Pieces that fit, and pieces that don't.
 
 use super::join_pieces;
-use crate::fault::{ActFault, JoinFault};
+use crate::fault::JoinFault;
 use crate::gate::OpenGate;
 use crate::pcb::Pcb;
 use crate::pieces::Pieces;
 use crate::record::Record;
-use crate::seat::Seat;
-use crate::system::System;
-use st_core::{Act, Pid, Reply, is_rising};
+use crate::trial::{acted, gathered, opened, room};
+use st_core::{Act, Component, Pid, Reply, is_rising};
 use std::alloc::{AllocError, Global};
 use std::process::Abort;
 use std::test::Fail;
@@ -22,7 +21,7 @@ fn without_seats(
     alloc: Global,
     processes: Vec<Small>,
 ) -> Result<Pieces<9, 9>, AllocError> {
-    let mut pids = Vec::new(alloc);
+    let mut pids = room(alloc, processes.len())?;
     for process in processes.as_slice() {
         let Ok(()) = pids.push(process.pid()) else {
             return Err(AllocError);
@@ -39,11 +38,11 @@ fn assert_not_joined(rt: &impl Abort, joined: Result<Record, JoinFault>, expecte
     }
 }
 
-/// The pieces; gathered a second time where the first time there was no memory.
-fn gathered(system: System<9, 9>, seats: Vec<Seat>) -> Option<Pieces<9, 9>> {
-    match system.gather(seats) {
-        Ok(pieces) => Some(pieces),
-        Err((system, seats)) => system.gather(seats).ok(),
+/// The record; joined a second time where the first time there was no memory.
+fn joined(alloc: Global, pieces: &Pieces<9, 9>) -> Result<Record, JoinFault> {
+    match join_pieces(alloc, pieces) {
+        Err(JoinFault::Memory) => join_pieces(alloc, pieces),
+        answer => answer,
     }
 }
 
@@ -52,57 +51,63 @@ fn gathered(system: System<9, 9>, seats: Vec<Seat>) -> Option<Pieces<9, 9>> {
 fn missing_entry(rt: HostRuntime) -> Result<(), Fail> {
     let from = Pid::new(30);
     let to = Pid::new(31);
-    let (system, seats) = System::<9, 9>::open(rt.alloc(), &[from, to])?;
+    let (system, seats) = opened::<9, 9>(rt.alloc(), &[from, to])?;
     for mut seat in seats {
         if seat.pid() == from {
-            let sent = system.act(&rt, &OpenGate, &mut seat, &Act::Send(from, to, 1));
+            let sent = acted(&rt, &OpenGate, &system, &mut seat, &Act::Send(from, to, 1));
             assert_eq!(rt; sent, Ok(Reply::Done));
         }
     }
     let gathered = gathered(system, Vec::new(rt.alloc())).ok_or("not gathered")?;
-    let mut processes = Vec::new(rt.alloc());
+    let mut processes = room(rt.alloc(), 2)?;
     for process in gathered.processes {
         if process.pid() == from {
             processes.push(process)?;
         }
     }
-    processes.push(Small::new(rt.alloc(), to)?)?;
+    let fresh = match Small::new(rt.alloc(), to) {
+        Ok(fresh) => fresh,
+        Err(_) => Small::new(rt.alloc(), to)?,
+    };
+    processes.push(fresh)?;
     let pieces = without_seats(&rt, rt.alloc(), processes)?;
     let missing = JoinFault::Missing(from, 0);
-    assert_not_joined(&rt, join_pieces(rt.alloc(), &pieces), missing);
+    assert_not_joined(&rt, joined(rt.alloc(), &pieces), missing);
     Ok(())
 }
 
 #[test]
 fn no_seats(rt: HostRuntime) -> Result<(), Fail> {
     let least = Pid::new(30);
-    let (system, _) = System::<9, 9>::open(rt.alloc(), &[least, Pid::new(31)])?;
+    let (system, _) = opened::<9, 9>(rt.alloc(), &[least, Pid::new(31)])?;
     let pieces = gathered(system, Vec::new(rt.alloc())).ok_or("not gathered")?;
     let differs = JoinFault::SeatDiffers(least);
-    assert_not_joined(&rt, join_pieces(rt.alloc(), &pieces), differs);
+    assert_not_joined(&rt, joined(rt.alloc(), &pieces), differs);
     Ok(())
 }
 
-// With a growth of the reset refused, as where this test runs with an allocation that fails, the
-// record is as if the reset was not asked for; with one of gathering refused, it is the whole record.
+// Whichever growth is refused, as where this test runs with an allocation that fails, the call that
+// meets it answers Memory and leaves no trace: made once more it answers right.
 #[test]
 fn refused_growths_leave_no_trace(rt: HostRuntime) -> Result<(), Fail> {
     let pids = [Pid::new(30), Pid::new(31), Pid::new(32)];
-    let (system, seats) = System::<9, 9>::open(rt.alloc(), &pids)?;
-    let mut kept = Vec::new(rt.alloc());
-    let mut used = Vec::new(rt.alloc());
+    let (system, seats) = opened::<9, 9>(rt.alloc(), &pids)?;
+    let mut used = room(rt.alloc(), pids.len())?;
     for mut seat in seats {
         let me = seat.pid();
-        for act in [Act::Reset(me), Act::Look(me)] {
-            match system.act(&rt, &OpenGate, &mut seat, &act) {
-                Ok(_) => kept.push(act)?,
-                Err(fault) => assert_eq!(rt; fault, ActFault::Memory),
-            }
+        let acts = [
+            (Act::Set(me, Component::Print(true)), Reply::Old(None)),
+            (Act::Send(me, pids[1], 7), Reply::Done),
+            (Act::Reset(me), Reply::Done),
+        ];
+        for (act, reply) in &acts {
+            assert_eq!(rt; acted(&rt, &OpenGate, &system, &mut seat, act), Ok(*reply));
         }
         used.push(seat)?;
     }
     let pieces = gathered(system, used).ok_or("not gathered")?;
-    let record = join_pieces(rt.alloc(), &pieces)?;
-    assert_eq!(rt; record.acts.len(), kept.len());
+    let record = joined(rt.alloc(), &pieces)?;
+    assert_eq!(rt; record.acts.len(), 9);
+    assert_eq!(rt; record.streams.pids(), pids.as_slice());
     Ok(())
 }

@@ -4,6 +4,7 @@ use super::System;
 use crate::fault::ActFault;
 use crate::gate::{Gate, OpenGate};
 use crate::seat::Seat;
+use crate::trial::{acted, gathered, opened, room};
 use st_core::{Act, Component, Label, Pid, Reply, Serial, Want};
 use std::process::Abort;
 use std::sync::Wait;
@@ -23,7 +24,7 @@ fn play<const TOP: u64, const RANKS: u64, R: Wait + Abort, G: Gate>(
     acts: &[Played],
 ) {
     for (act, expected) in acts {
-        assert_eq!(rt; system.act(rt, gate, seat, act), *expected);
+        assert_eq!(rt; acted(rt, gate, system, seat, act), *expected);
     }
 }
 
@@ -51,7 +52,7 @@ impl Gate for Counting {
 #[test]
 fn refused_acts_change_nothing(rt: HostRuntime) -> Result<(), Fail> {
     let me = Pid::new(30);
-    let (system, seats) = System::<3, 9>::open(rt.alloc(), &[me])?;
+    let (system, seats) = opened::<3, 9>(rt.alloc(), &[me])?;
     for mut seat in seats {
         let foreign = Act::Look(Pid::new(31));
         let unknown = Act::Send(me, Pid::new(99), 1);
@@ -78,7 +79,7 @@ fn refused_acts_change_nothing(rt: HostRuntime) -> Result<(), Fail> {
         assert_eq!(rt; gate.before.load(Ordering::SeqCst), 7);
         assert_eq!(rt; gate.after.load(Ordering::SeqCst), 7);
         assert_eq!(rt; gate.acts.load(Ordering::SeqCst), 1 + 2 + 3 + 4 + 5 + 6);
-        let looked = system.act(&rt, &OpenGate, &mut seat, &Act::Look(me));
+        let looked = acted(&rt, &OpenGate, &system, &mut seat, &Act::Look(me));
         let Ok(Reply::Current(Some(token))) = looked else {
             panic!(rt; "no token");
         };
@@ -93,7 +94,7 @@ fn acts_of_a_node_leave_other_nodes(rt: HostRuntime) -> Result<(), Fail> {
     let here = Pid::on(1, 30);
     let beside = Pid::on(1, 31);
     let away = Pid::on(2, 31);
-    let (system, seats) = System::<9, 9>::open(rt.alloc(), &[here, beside, away])?;
+    let (system, seats) = opened::<9, 9>(rt.alloc(), &[here, beside, away])?;
     for mut seat in seats {
         if seat.pid() == here {
             let acts = [
@@ -115,10 +116,7 @@ fn acts_of_a_node_leave_other_nodes(rt: HostRuntime) -> Result<(), Fail> {
             play(&rt, &OpenGate, &system, &mut seat, &[traced]);
         }
     }
-    let pieces = system
-        .gather(Vec::new(rt.alloc()))
-        .ok()
-        .ok_or("not gathered")?;
+    let pieces = gathered(system, Vec::new(rt.alloc())).ok_or("not gathered")?;
     for process in pieces.processes {
         let (entries, rank) = if process.pid() == here {
             (7, 7)
@@ -139,17 +137,21 @@ const MANY: u16 = 1_024;
 // The locks of a node take a frame each, and a thread's stack of ordinary size has room for them.
 #[test]
 fn a_reset_of_a_large_node_fits_the_stack(rt: HostRuntime) -> Result<(), Fail> {
-    let mut pids = Vec::new(rt.alloc());
+    let mut pids = room(rt.alloc(), MANY as usize)?;
     for number in 0..MANY {
         pids.push(Pid::new(number))?;
     }
-    let (system, seats) = System::<9, 9>::open(rt.alloc(), pids.as_slice())?;
+    let (system, seats) = opened::<9, 9>(rt.alloc(), pids.as_slice())?;
     let mut seats = seats.into_iter();
     let Some(mut seat) = seats.next() else {
         panic!(rt; "no seats");
     };
     let reset = Act::Reset(Pid::new(0));
-    let answers = thread::join(&rt, || system.act(&rt, &OpenGate, &mut seat, &reset), || ());
+    let answers = thread::join(
+        &rt,
+        || acted(&rt, &OpenGate, &system, &mut seat, &reset),
+        || (),
+    );
     assert_eq!(rt; answers.0, Ok(Reply::Done));
     Ok(())
 }

@@ -4,14 +4,13 @@ use Rattle.st_core.specs.declared.types.Act.TheVariants.{Send}
 use Rattle.st_core.specs.Pid.{number_of}
 use Rattle.st_runtime.proofs.pcb.tests.steps_on_two_lent_processes.Goals as goal
 
-pub between-requires : goal.between-requires
-between-requires g c =
+pub sent-requires : goal.sent-requires
+sent-requires g c =
     let p = c.new-p30.result in
     let q = c.new-p31.result in
-    let from : p ≡ c.alone.new.self.process.pid =
-    sym (c.alone.ensures.pid ∙ ap (λ x. x.pid) c.in_ok-one.ensures.process) in
-    let to : q ≡ c.in_ok-other.other.process.pid = sym (ap (λ x. x.pid) c.in_ok-other.ensures.process) in
+    let from : p ≡ c.acted.new.process.process.pid = sym (c.acted.ensures ∙ c.in_ok-one.ensures) in
+    let to : q ≡ c.in_ok-other.other.process.pid = sym c.in_ok-other.ensures in
     let apart : p ≢ q = λ same.
     let numbers = sym (ap number_of c.new-p30.ensures) ∙ ap number_of same ∙ ap number_of c.new-p31.ensures in
     omega (arith, numbers) in
-    (omega arith, ((λ same. apart (from ∙ same ∙ sym to)), 5, λ i. Send (from i) (to i) 5))
+    ((λ same. apart (from ∙ same ∙ sym to)), 5, λ i. Send (from i) (to i) 5)

@@ -1,0 +1,64 @@
+//! Calls that tests make once more where memory lacked. In a run one growth of which is refused there
+//! is ample memory afterwards, and the second answer is the right one.
+
+ghost use Rattle.std.specs.Prelude.{◌≡◌, [], IfOk};
+
+use crate::fault::{ActFault, OpenFault};
+use crate::gate::Gate;
+use crate::pieces::Pieces;
+use crate::seat::Seat;
+use crate::system::System;
+use st_core::{Act, Pid, Reply};
+use std::alloc::{AllocError, Global};
+use std::process::Abort;
+use std::sync::Wait;
+
+/// An empty list with room for so many.
+pub fn room<T>(alloc: Global, count: usize) -> Result<Vec<T>, AllocError>
+    ensures { IfOk result (λ v. v.items ≡ []) }
+{
+    match Vec::with_capacity(alloc, count) {
+        Ok(list) => Ok(list),
+        Err(_) => Vec::with_capacity(alloc, count),
+    }
+}
+
+/// Opens a system.
+pub fn opened<const TOP: u64, const RANKS: u64>(
+    alloc: Global,
+    pids: &[Pid],
+) -> Result<(System<TOP, RANKS>, Vec<Seat>), OpenFault> {
+    match System::open(alloc, pids) {
+        Err(OpenFault::Memory) => System::open(alloc, pids),
+        answer => answer,
+    }
+}
+
+/// Makes an act. Want of memory leaves its seat as it was.
+pub fn acted<const TOP: u64, const RANKS: u64, R: Wait + Abort, G: Gate>(
+    rt: &R,
+    gate: &G,
+    system: &System<TOP, RANKS>,
+    seat: &mut Seat,
+    act: &Act,
+) -> Result<Reply, ActFault> {
+    let made = seat.mine().len();
+    match system.act(rt, gate, seat, act) {
+        Err(ActFault::Memory) => {
+            assert_eq!(rt; seat.mine().len(), made);
+            system.act(rt, gate, seat, act)
+        }
+        answer => answer,
+    }
+}
+
+/// Gathers the pieces.
+pub fn gathered<const TOP: u64, const RANKS: u64>(
+    system: System<TOP, RANKS>,
+    seats: Vec<Seat>,
+) -> Option<Pieces<TOP, RANKS>> {
+    match system.gather(seats) {
+        Ok(pieces) => Some(pieces),
+        Err((system, seats)) => system.gather(seats).ok(),
+    }
+}
