@@ -11,6 +11,6 @@ loop-i-preserved g c =
     let i = c.loop-i.i in (
       c.in-Ok.ensures.len ∙ ap (λ n. n + 1) c.loop-i.invariant.0,
       c.in-Ok-push.ensures.items
-      ∙ (λ j. c.loop-i.invariant.1 j ++ c.in_ok-with_room.ensures j ∷ [])
-      ∙ sym (map_more no_calls ps i _ c.loop-i-test.true),
+          ∙ (λ j. c.loop-i.invariant.1 j ++ c.in_ok-with_room.ensures j ∷ [])
+          ∙ sym (map_more no_calls ps i _ c.loop-i-test.true),
     )
