@@ -24,6 +24,3 @@ pub use drive::run_drive;
 pub use program::run;
 pub use replay::run_replay;
 pub use words::{Refusal, Task, plain_words, read_words};
-
-#[cfg(test)]
-mod tests;

@@ -16,6 +16,7 @@
 //! | `plans` | `st_plan` |
 //! | `audits` | `st_audit` |
 //! | `charts` | `st_chart`: charts and reports |
+//! | `commands` | `st_commands`: whole commands, byte for byte |
 //! | `collected` | none: texts of streams, and pids, that the others share |
 #![tactic(auto)]
 
@@ -29,6 +30,8 @@ mod charts;
 mod checks;
 #[cfg(test)]
 mod collected;
+#[cfg(test)]
+mod commands;
 #[cfg(test)]
 mod lists;
 #[cfg(test)]

@@ -1,7 +1,7 @@
 //! Acts that are driven: `drive` answers the bundle of the one run that the threads made.
 
 use super::Case;
-use crate::run;
+use st_commands::run;
 use st_core::{MemorySink, MemorySource};
 use std::test::Fail;
 

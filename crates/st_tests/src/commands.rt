@@ -15,7 +15,7 @@ mod refused;
 mod replays;
 mod usage;
 
-use crate::run;
+use st_commands::run;
 use st_core::{MemorySink, MemorySource};
 use std::alloc::AllocError;
 use std::process::Abort;

@@ -1,7 +1,7 @@
 //! Words that ask for no command: the usage line, and status 3. The input isn't read.
 
 use super::expect;
-use crate::{Task, read_words};
+use st_commands::{Task, read_words};
 use st_core::Label;
 use std::test::Fail;
 

@@ -1,7 +1,7 @@
 //! Devices that fail on the way, and readers and writers of std's that pass little at a time, err
 //! once and work again.
 
-use crate::run;
+use st_commands::run;
 use st_core::{MemorySink, MemorySource, ReadFrom, WriteTo};
 use std::io;
 use std::io::{ErrorKind, Read, Write};
