@@ -1,4 +1,4 @@
-//! Tests of the crates below the commands, but for those of the runtime.
+//! Tests of all crates but for the runtime's, which stand beside its code.
 //!
 //! They stand in a crate of their own: a crate that has tests is proved twice, with and without them.
 //!
