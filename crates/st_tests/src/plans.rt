@@ -33,14 +33,16 @@ fn prints(plan: &[Act]) -> usize {
         .count()
 }
 
+/// What process 30 has kept that has no token and begins at clock 2 and last 1.
+const WITHOUT_TOKEN: Start = Start {
+    token: None,
+    clock: 2,
+    last: 1,
+};
+
 #[test]
 fn prints_nobody_sees_bring_the_clock_below_the_count(rt: HostRuntime) -> Result<(), Fail> {
-    let start = Start {
-        token: None,
-        clock: 2,
-        last: 1,
-    };
-    let plan = planned(rt.alloc(), &start, 1, 6)?;
+    let plan = planned(rt.alloc(), &WITHOUT_TOKEN, 1, 6)?;
     assert_eq!(rt; prints(&plan), 3);
     assert_eq!(rt; plan.len(), 5);
     Ok(())
@@ -74,5 +76,19 @@ fn nothing_is_planned_for_a_process_that_stands_ready(rt: HostRuntime) -> Result
         last: 2,
     };
     assert!(rt; planned(rt.alloc(), &start, 2, 5)?.is_empty());
+    Ok(())
+}
+
+/// Where a growth is refused the answer is want of memory, and the same call answers right
+/// afterwards.
+#[test]
+fn a_refused_growth_is_answered(rt: HostRuntime) -> Result<(), Fail> {
+    let alloc = rt.alloc();
+    let plan = match planned(alloc, &WITHOUT_TOKEN, 1, 6) {
+        Ok(plan) => plan,
+        Err(_) => planned(alloc, &WITHOUT_TOKEN, 1, 6)?,
+    };
+    assert_eq!(rt; prints(plan.as_slice()), 3);
+    assert_eq!(rt; plan.len(), 5);
     Ok(())
 }
