@@ -16,6 +16,7 @@ pub mod Collecting
 pub mod Searching
 pub mod Wholeness
 pub mod Seated
+pub mod FitLemmas
 pub mod JoinLemmas
 -- What workers leave.
 pub mod Workers

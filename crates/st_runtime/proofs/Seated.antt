@@ -260,7 +260,7 @@ someone pid_of (x ∷ xs) p =
     ] refl
 
 -- who has neither a log nor a seat is seated
-seated_each : (pieces : Parts) (R : Pid → Type 0)
+pub seated_each : (pieces : Parts) (R : Pid → Type 0)
     → ((x : Control) → In x pieces.processes → R x.process.pid → IsSeated pieces x.process.pid)
     → ((s : Calls) → In s pieces.seats → R s.pid → IsSeated pieces s.pid)
     → (p : Pid) → R p → IsSeated pieces p

@@ -1,6 +1,6 @@
 -- The steps of joining: where an entry stands, the least pid that isn't seated, each process's own entries, and streams
 -- to which one report after the other is added.
-use Rattle.std.specs.Prelude.{◌≡◌, ℕ, List, map, filter, Option, Some, None, if◌then◌else◌, All, Contains, IfSome}
+use Rattle.std.specs.Prelude.{◌≡◌, ℕ, List, map, filter, Option, Some, None, if◌then◌else◌, All, Contains, IfSome, slice_get}
 use Rattle.std.specs.Ordering.{is_lt}
 use Rattle.std.specs.List.{flat_map}
 use Rattle.st_core.specs.declared.types.Pid.{Pid}
@@ -26,6 +26,11 @@ pub record HasAt (xs : List Control) (p : Pid) (e : Entry) : Type 0 where
 pub record IsSettled (xs : List Control) (p : Pid) (e : Entry) : Type 0 where
   pub made : HasAt xs (actor e.act) e
   pub whole : actor e.act ≡ p → IsWhole xs e
+
+-- if there is a process at this place, its entries are settled and it is seated
+abbrev pub FitsAt : Parts → ℕ → Type 0
+FitsAt pieces k = (x : Control) → slice_get pieces.processes k ≡ Some x
+    → All (IsSettled pieces.processes x.process.pid) x.log × IsSeated pieces x.process.pid
 
 -- the least, if there is one, isn't seated, and each of these pids that is below it is
 pub record IsLeastUnseated {X : Type 0} (pid_of : X → Pid) (pieces : Parts) (xs : List X) (least : Option Pid)

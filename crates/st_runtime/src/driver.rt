@@ -50,7 +50,7 @@ pub fn drive<const TOP: u64, const RANKS: u64, R: Threads + Wait + Sync, G: Gate
     let Ok(pieces) = system.gather(seats) else {
         return Err(DriveFault::Memory);
     };
-    Ok(join_given(alloc, pieces)?)
+    Ok(join_given(rt, alloc, pieces)?)
 }
 
 /// How many acts the scripts hold; the greatest count, where there are more.

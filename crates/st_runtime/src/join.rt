@@ -8,7 +8,8 @@ ghost use Rattle.st_runtime.specs.Pieces.{pids_in, AreWhole, IsFit, IsJoinFault}
 
 use crate::collect::streams_of;
 use crate::fault::JoinFault;
-use crate::merge::{acts_of, merged, replies_of};
+use crate::fitting::is_seen_fit;
+use crate::merge::{acts_and_replies, merged};
 use crate::pcb::Pcb;
 use crate::pieces::Pieces;
 use crate::record::Record;
@@ -16,6 +17,7 @@ use crate::seating::first_unseated;
 use crate::whole::first_missing;
 use st_core::Sequence;
 use std::alloc::{AllocError, Global};
+use std::thread::Threads;
 
 /// The record of what the threads did, exactly where the pieces fit: each entry stands in the log of
 /// each process that its act touches, and each seat's calls are those of its process's log. The acts
@@ -29,31 +31,55 @@ pub fn join_pieces<const TOP: u64, const RANKS: u64>(
     ensures ok { IfOk result (IsJoined TOP pieces.now) }
     ensures err { IfErr result (IsJoinFault pieces.now) }
 {
-    check_fit(pieces)?;
+    check_fit(alloc, pieces)?;
     Ok(run_of_logs(alloc, pieces.processes.as_slice())?)
 }
 
-/// The same of pieces that are given away. Their seats, which hold each act once more, are let go before
-/// the logs are merged.
+/// The same of pieces that are given away. Several threads look whether they fit, and their seats, which
+/// hold each act once more, are let go before the logs are merged.
 pub(crate) fn join_given<const TOP: u64, const RANKS: u64>(
+    rt: &(impl Threads + Sync),
     alloc: Global,
     pieces: Pieces<TOP, RANKS>,
 ) -> Result<Record, JoinFault>
     ensures ok { IfOk result (IsJoined TOP pieces.entry) }
     ensures err { IfErr result (IsJoinFault pieces.entry) }
 {
-    check_fit(&pieces)?;
+    see_fit(rt, alloc, &pieces)?;
     let processes = pieces.into_processes();
     Ok(run_of_logs(alloc, processes.as_slice())?)
 }
 
+/// Refuses pieces that don't fit, where it isn't seen at once that they do.
+fn see_fit<const TOP: u64, const RANKS: u64>(
+    rt: &(impl Threads + Sync),
+    alloc: Global,
+    pieces: &Pieces<TOP, RANKS>,
+) -> Result<(), JoinFault>
+    ensures ok { OnOk result (IsFit pieces.now) }
+    ensures err { IfErr result (IsJoinFault pieces.now) }
+{
+    if is_seen_fit(
+        rt,
+        alloc,
+        pieces.processes.as_slice(),
+        pieces.seats.as_slice(),
+    ) {
+        return Ok(());
+    }
+    check_fit(alloc, pieces)
+}
+
 /// Refuses pieces that don't fit.
-fn check_fit<const TOP: u64, const RANKS: u64>(pieces: &Pieces<TOP, RANKS>) -> Result<(), JoinFault>
+fn check_fit<const TOP: u64, const RANKS: u64>(
+    alloc: Global,
+    pieces: &Pieces<TOP, RANKS>,
+) -> Result<(), JoinFault>
     ensures ok { OnOk result (IsFit pieces.now) }
     ensures err { IfErr result (IsJoinFault pieces.now) }
 {
     let processes = pieces.processes.as_slice();
-    if let Some((pid, place)) = first_missing(processes) {
+    if let Some((pid, place)) = first_missing(alloc, processes) {
         return Err(JoinFault::Missing(pid, place as u64));
     }
     if let Some(pid) = first_unseated(processes, pieces.seats.as_slice()) {
@@ -73,8 +99,7 @@ fn run_of_logs<const TOP: u64, const RANKS: u64>(
 {
     let (acts, replies) = {
         let entries = merged(alloc, processes)?;
-        let acts = acts_of(alloc, entries.as_slice())?;
-        (acts, replies_of(alloc, entries.as_slice())?)
+        acts_and_replies(alloc, entries.as_slice())?
     };
     let streams = streams_of(alloc, processes)?;
     Ok(Record {

@@ -58,28 +58,23 @@ fn push_own<'a>(all: &mut Vec<&'a Entry>, pid: Pid, log: &'a [Entry]) -> Result<
     Ok(())
 }
 
-/// The acts of entries.
-pub fn acts_of(alloc: Global, entries: &[&Entry]) -> Result<Vec<Act>, AllocError>
-    ensures { IfOk result (λ v. v.items ≡ map (λ r. r.now.act) entries.now) }
+/// The acts of entries, and what they answered.
+pub fn acts_and_replies(
+    alloc: Global,
+    entries: &[&Entry],
+) -> Result<(Vec<Act>, Vec<Reply>), AllocError>
+    ensures acts { IfOk result (λ r. r.0.items ≡ map (λ e. e.now.act) entries.now) }
+    ensures replies { IfOk result (λ r. r.1.items ≡ map (λ e. e.now.reply) entries.now) }
 {
-    let mut all = Vec::with_capacity(alloc, entries.len())?;
+    let mut acts = Vec::with_capacity(alloc, entries.len())?;
+    let mut replies = Vec::with_capacity(alloc, entries.len())?;
     for entry in entries {
-        let Ok(()) = all.push(entry.act) else {
+        let Ok(()) = acts.push(entry.act) else {
+            return Err(AllocError);
+        };
+        let Ok(()) = replies.push(entry.reply) else {
             return Err(AllocError);
         };
     }
-    Ok(all)
-}
-
-/// What they answered.
-pub fn replies_of(alloc: Global, entries: &[&Entry]) -> Result<Vec<Reply>, AllocError>
-    ensures { IfOk result (λ v. v.items ≡ map (λ r. r.now.reply) entries.now) }
-{
-    let mut all = Vec::with_capacity(alloc, entries.len())?;
-    for entry in entries {
-        let Ok(()) = all.push(entry.reply) else {
-            return Err(AllocError);
-        };
-    }
-    Ok(all)
+    Ok((acts, replies))
 }

@@ -79,7 +79,7 @@ fn lesser(least: Option<Pid>, pid: Pid) -> Option<Pid>
 }
 
 /// Whether the pid has the seat that its log tells of and no other, and none without a log.
-fn is_seated<const TOP: u64, const RANKS: u64>(
+pub fn is_seated<const TOP: u64, const RANKS: u64>(
     processes: &[Pcb<TOP, RANKS>],
     seats: &[Seat],
     pid: Pid,

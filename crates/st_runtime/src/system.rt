@@ -17,6 +17,7 @@ use crate::entry::Entry;
 use crate::expected::expected_entries;
 use crate::fault::{ActFault, OpenFault, PcbFault};
 use crate::gate::Gate;
+use crate::lock::taken;
 use crate::node::Found;
 use crate::pcb::Pcb;
 use crate::pids::{first_on, place_of};
@@ -186,7 +187,7 @@ impl<const TOP: u64, const RANKS: u64> System<TOP, RANKS> {
         ensures clock { result ≡ Err ActFault.ClockFull → is_stamping act.now ≡ true }
     {
         let pid = act.actor();
-        let mut guard = self.locks[place].lock(rt);
+        let mut guard = taken(&self.locks[place], rt);
         gate.before(pid, n);
         let result = acted(&mut guard, act);
         drop(guard);
@@ -212,8 +213,8 @@ impl<const TOP: u64, const RANKS: u64> System<TOP, RANKS> {
         ensures clock { result ≡ Err ActFault.ClockFull → is_stamping act.now ≡ true }
     {
         let pid = act.actor();
-        let mut low = self.locks[me.min(them)].lock(rt);
-        let mut high = self.locks[me.max(them)].lock(rt);
+        let mut low = taken(&self.locks[me.min(them)], rt);
+        let mut high = taken(&self.locks[me.max(them)], rt);
         gate.before(pid, n);
         let result = if me < them {
             sent(&mut low, &mut high, act)
@@ -283,7 +284,7 @@ impl<const TOP: u64, const RANKS: u64> System<TOP, RANKS> {
             gate.before(found.actor, n);
             return found.entry(act, RANKS);
         }
-        let mut guard = self.locks[place].lock(rt);
+        let mut guard = taken(&self.locks[place], rt);
         let Ok(()) = guard.prepare() else {
             return Err(ActFault::Memory);
         };

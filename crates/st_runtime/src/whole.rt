@@ -6,7 +6,7 @@ ghost use Rattle.st_core.specs.Pid.{IsRising};
 ghost use Rattle.st_core.specs.Step.{actor, touches};
 ghost use Rattle.st_core.specs.Streams.{is_among};
 ghost use Rattle.st_runtime.specs.declared.entry.Entry.{Entry};
-ghost use Rattle.st_runtime.specs.Joining.{HasAt, IsSettled};
+ghost use Rattle.st_runtime.specs.Joining.{HasAt};
 ghost use Rattle.st_runtime.specs.Logs.{RanksRise};
 ghost use Rattle.st_runtime.specs.Pcb.{is_wide};
 ghost use Rattle.st_runtime.specs.Pieces.{pids_in, AreWhole, HasIfTouched, IsWhole, IsFirstMissing};
@@ -15,72 +15,26 @@ use crate::acts::{is_wide, receiver_of};
 use crate::entry::Entry;
 use crate::pcb::Pcb;
 use crate::same::is_same;
+use crate::settled::are_seen_whole;
 use st_core::{Act, Pid};
+use std::alloc::Global;
 
-/// The least place of an entry that isn't whole. Where all are, each is looked for everywhere once;
-/// only to name the least place that lacks one each log is asked about each of its entries.
+/// The least place of an entry that isn't whole. Where all are, this is mostly seen at once; else each
+/// log is asked about each of its entries.
 pub fn first_missing<const TOP: u64, const RANKS: u64>(
+    alloc: Global,
     processes: &[Pcb<TOP, RANKS>],
 ) -> Option<(Pid, usize)>
     requires { IsRising (pids_in processes.now) }
     ensures { MatchOption result (AreWhole processes.now) (λ r. IsFirstMissing processes.now r.0 r.1) }
 {
-    if are_whole(processes) {
+    if are_seen_whole(alloc, processes) {
         return None;
     }
     least_missing(processes)
 }
 
-/// Whether it is seen that all entries are whole: those that a process made are, and each entry of
-/// any log is in the log of the process that made it.
-fn are_whole<const TOP: u64, const RANKS: u64>(processes: &[Pcb<TOP, RANKS>]) -> bool
-    requires { IsRising (pids_in processes.now) }
-    ensures { IsTrue result → AreWhole processes.now }
-{
-    for process in processes {
-        if !are_settled(processes, process.pid(), process.log()) {
-            return false;
-        }
-    }
-    true
-}
-
-/// Whether all entries of this process's log are settled there.
-fn are_settled<const TOP: u64, const RANKS: u64>(
-    processes: &[Pcb<TOP, RANKS>],
-    here: Pid,
-    log: &[Entry],
-) -> bool
-    requires rising { IsRising (pids_in processes.now) }
-    requires here { All (HasAt processes.now here) log.now }
-    ensures { IsTrue result → All (IsSettled processes.now here) log.now }
-{
-    for entry in log {
-        if !is_settled(processes, here, entry) {
-            return false;
-        }
-    }
-    true
-}
-
-/// Whether an entry of this process's log is in the log of its actor, and whole if that is this one.
-fn is_settled<const TOP: u64, const RANKS: u64>(
-    processes: &[Pcb<TOP, RANKS>],
-    here: Pid,
-    entry: &Entry,
-) -> bool
-    requires rising { IsRising (pids_in processes.now) }
-    requires here { HasAt processes.now here entry.now }
-    ensures { IsTrue result → IsSettled processes.now here entry.now }
-{
-    if entry.act.actor() == here {
-        is_shared(processes, here, entry)
-    } else {
-        has_at(processes, entry.act.actor(), entry)
-    }
-}
-
-/// The same, by asking each log about each of its entries.
+/// The least place of an entry that isn't whole, by asking each log about each of its entries.
 fn least_missing<const TOP: u64, const RANKS: u64>(
     processes: &[Pcb<TOP, RANKS>],
 ) -> Option<(Pid, usize)>
@@ -163,7 +117,7 @@ fn is_shared<const TOP: u64, const RANKS: u64>(
 }
 
 /// Whether each process of the actor's node has an entry of this process's log.
-fn is_everywhere<const TOP: u64, const RANKS: u64>(
+pub fn is_everywhere<const TOP: u64, const RANKS: u64>(
     processes: &[Pcb<TOP, RANKS>],
     here: Pid,
     entry: &Entry,

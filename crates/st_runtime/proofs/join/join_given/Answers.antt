@@ -13,7 +13,7 @@ run_of_logs-requires g c =
       omega arith,
       (
         subst Rises (sym c.as_slice.ensures.value) c.into_processes-processes.ensures.rising,
-        subst AreWhole (sym is) c.in_ok-check_fit.ensures.ok.whole,
+        subst AreWhole (sym is) c.in_ok-see_fit.ensures.ok.whole,
       ),
     )
 
@@ -22,5 +22,5 @@ returns-clause-ok g c =
     let top = g.row.TOP in
     let r = c.in_ok-run_of_logs.field-0 in
     let is = c.as_slice.ensures.value ∙ c.into_processes-processes.ensures.processes in
-    joined top c.args.pieces r c.in_ok-check_fit.ensures.ok
+    joined top c.args.pieces r c.in_ok-see_fit.ensures.ok
     (subst (λ (xs : List Control). IsLogged top xs r) is c.in_ok-run_of_logs.ensures)

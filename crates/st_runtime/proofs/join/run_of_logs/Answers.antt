@@ -17,11 +17,11 @@ returns g c =
       merged = merged;
       run = one_run top g.row.RANKS xs (seen refs) c.in_ok-entries.ensures.kept c.requires.whole merged;
       streams = c.in_ok-streams.ensures;
-      acts = c.from_vec.ensures ∙ c.in_ok-acts.ensures
+      acts = c.from_vec.ensures ∙ c.in_ok-acts.ensures.acts
           ∙ ap (map (λ (r : Bor Entry). r.now.act)) c.as_slice.ensures.value
           ∙ map-seen (λ (e : Entry). e.act) refs;
-      replies = c.from_vec-2.ensures ∙ c.in_ok-replies_of.ensures
-          ∙ ap (map (λ (r : Bor Entry). r.now.reply)) c.as_slice-2.ensures.value
+      replies = c.from_vec-2.ensures ∙ c.in_ok-acts.ensures.replies
+          ∙ ap (map (λ (r : Bor Entry). r.now.reply)) c.as_slice.ensures.value
           ∙ map-seen (λ (e : Entry). e.reply) refs;
     }
 

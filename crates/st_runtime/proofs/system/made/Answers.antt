@@ -1,7 +1,6 @@
 -- One more lock and one more seat for one more pid.
 use Rattle.std.proofs.Common.{◌+◌, ◌++◌, ◌∷◌, [], sym, ap, ◌∙◌}
 use Rattle.std.proofs.lemmas.List.{map_more}
-use Rattle.st_core.specs.declared.types.Pid.{Pid}
 use Rattle.st_runtime.specs.Seat.{no_calls}
 use Rattle.st_runtime.proofs.system.made.Goals as goal
 

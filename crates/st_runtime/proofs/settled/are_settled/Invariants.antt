@@ -1,7 +1,7 @@
 use Rattle.std.proofs.Common.{take}
 use Rattle.std.specs.Prelude.{All}
 use Rattle.st_runtime.specs.Joining.{IsSettled}
-use Rattle.st_runtime.proofs.whole.are_settled.Given as goal
+use Rattle.st_runtime.proofs.settled.are_settled.Given as goal
 
 abbrev pub invariant-loop-entry : goal.invariant-loop-entry
 invariant-loop-entry g l = All (IsSettled l.processes l.here) (take l.entry-index l.log)

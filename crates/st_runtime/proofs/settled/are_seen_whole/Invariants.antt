@@ -2,7 +2,7 @@ use Rattle.std.proofs.Common.{take}
 use Rattle.std.specs.Prelude.{All}
 use Rattle.st_runtime.specs.Joining.{IsSettled}
 use Rattle.st_runtime.specs.Pcb.{Control}
-use Rattle.st_runtime.proofs.whole.are_whole.Given as goal
+use Rattle.st_runtime.proofs.settled.are_seen_whole.Given as goal
 
 abbrev pub invariant-loop-process : goal.invariant-loop-process
 invariant-loop-process g l =

@@ -2,7 +2,7 @@ use Rattle.std.proofs.lemmas.List.Elements.{All-more}
 use Rattle.std.proofs.Common.{arith}
 use Rattle.st_runtime.specs.Joining.{IsSettled}
 use Rattle.st_runtime.proofs.Members.{All-past}
-use Rattle.st_runtime.proofs.whole.are_settled.Goals as goal
+use Rattle.st_runtime.proofs.settled.are_settled.Goals as goal
 
 pub loop-entry-preserved : goal.loop-entry-preserved
 loop-entry-preserved g c =
