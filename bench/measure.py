@@ -1,5 +1,5 @@
 #!/usr/bin/env python3
-"""Times the commands of the program on the bundles that bench/run made: measure.py PROGRAM."""
+"""Times the commands of the program on the bundles that bench/run made: measure.py PROGRAM PLAIN_DRIVE."""
 
 import os
 import subprocess
@@ -60,7 +60,7 @@ def show(words, path, size):
 
 
 def main():
-    program = sys.argv[1]
+    program, plain = sys.argv[1:]
     size = describe("bin/bench.txt")
     for words in (["wc", "-l"], [program, "check"], [program, "replay"]):
         show(words, "bin/bench.txt", size)
@@ -75,6 +75,8 @@ def main():
     replayed, _ = show([program, "replay"], "bin/scripts.txt", size)
     acts = acts_of("bin/scripts.txt")
     print(f"  {peak * 2**20 / acts:.0f} bytes of memory an act; {driven / replayed:.1f} times the replay on one thread")
+    if os.access(plain, os.X_OK):
+        show([plain], "bin/scripts.txt", size)
 
 
 main()
