@@ -2,12 +2,13 @@
 //! order of their pids, and nothing is known of what a lock holds but what its type keeps.
 
 ghost use Rattle.std.specs.Prelude.{◌≡◌, ◌≢◌, ◌<◌, ◌≤◌, ◌↔◌, false, true, [], ◌∷◌, ◌++◌, length, map, is_some};
-ghost use Rattle.std.specs.Prelude.{slice_get, Some, None, Err, IfOk, IfErr, IfSome, OnOk};
+ghost use Rattle.std.specs.Prelude.{slice_get, Some, None, Err, Ok, IfOk, IfErr, IfSome, OnOk};
 ghost use Rattle.std.specs.Prelude.{OnErr, vec_len};
 ghost use Rattle.st_core.specs.Pid.{IsRising};
 ghost use Rattle.st_core.specs.Step.{actor, receiver};
 ghost use Rattle.st_runtime.specs.Locked.{wide_reply, IsLockFault};
-ghost use Rattle.st_runtime.specs.Pcb.{is_wide};
+ghost use Rattle.st_runtime.specs.declared.fault.PcbFault.{PcbFault};
+ghost use Rattle.st_runtime.specs.Pcb.{is_wide, IsSame, IsStepped};
 ghost use Rattle.st_runtime.specs.Pieces.{pids_in};
 ghost use Rattle.st_runtime.specs.Seat.{no_calls};
 ghost use Rattle.st_runtime.specs.System.{knows, is_stamping};
@@ -297,6 +298,9 @@ impl<const TOP: u64, const RANKS: u64> System<TOP, RANKS> {
 
 /// A step's answer as an act's.
 fn told(step: Result<Reply, PcbFault>) -> Result<Reply, ActFault>
+    ensures ok { IfOk result (λ y. step ≡ Ok y) }
+    ensures err { IfErr result (λ f. (refusal : PcbFault) × (step ≡ Err refusal)) }
+    ensures stray { result ≢ Err ActFault.Stray }
     ensures known { IsLockFault result }
     ensures clock { result ≡ Err ActFault.ClockFull → step ≡ Err PcbFault.ClockFull }
 {
@@ -315,6 +319,9 @@ fn acted<const TOP: u64, const RANKS: u64>(
 ) -> Result<Reply, ActFault>
     requires wide { is_wide act.now ≡ false }
     requires alone { receiver act.now ≡ actor act.now }
+    ensures ok { IfOk result (λ y. IsStepped TOP act.now y (pcb.old ∷ []) (pcb.new ∷ [])) }
+    ensures err { OnErr result (IsSame pcb.old pcb.new) }
+    ensures stray { result ≡ Err ActFault.Stray → pcb.old.process.pid ≢ actor act.now }
     ensures known { IsLockFault result }
     ensures clock { result ≡ Err ActFault.ClockFull → is_stamping act.now ≡ true }
 {
@@ -332,6 +339,8 @@ fn sent<const TOP: u64, const RANKS: u64>(
 ) -> Result<Reply, ActFault>
     requires wide { is_wide act.now ≡ false }
     requires apart { receiver act.now ≢ actor act.now }
+    ensures ok { IfOk result (λ y. IsStepped TOP act.now y (from.old ∷ to.old ∷ []) (from.new ∷ to.new ∷ [])) }
+    ensures err { OnErr result (IsSame from.old from.new × IsSame to.old to.new) }
     ensures known { IsLockFault result }
 {
     if from.pid() != act.actor() {
