@@ -3,7 +3,7 @@
 use crate::collected::{p30, p31};
 use st_core::{Act, Flags, Label, Serial, Token};
 use st_plan::{QUIET, Start, ready};
-use std::alloc::Global;
+use std::alloc::{AllocError, Global};
 use std::test::Fail;
 
 /// The flags under which a print is reported.
@@ -13,7 +13,7 @@ const PRINTED: Flags = Flags {
 };
 
 /// What process 30 does before a reported print of label 17.
-fn planned(alloc: Global, start: &Start, prev: u64, this: u64) -> Result<Vec<Act>, Fail> {
+fn planned(alloc: Global, start: &Start, prev: u64, this: u64) -> Result<Vec<Act>, AllocError> {
     let mut plan = Vec::new(alloc);
     ready(
         &mut plan,
