@@ -14,6 +14,7 @@ use Rattle.st_runtime.proofs.Seated.{seated_each}
 use Rattle.st_runtime.proofs.Sorting.{among_in}
 use Rattle.st_runtime.proofs.Wholeness.{settled_whole}
 
+-- what is asked at each place is asked of each process
 fits_in : (pieces : Parts) → ((k : ℕ) → k < length pieces.processes → FitsAt pieces k)
     → (x : Control) → In x pieces.processes
     → All (IsSettled pieces.processes x.process.pid) x.log × IsSeated pieces x.process.pid
@@ -21,6 +22,7 @@ fits_in pieces each x i =
     let at = In-Contains x pieces.processes i in
     each at.0 at.1 x (slice_get-get_or pieces.processes at.0 x at.1 ∙ ap Some at.2)
 
+-- pieces fit where each process does and each seat is that of a process
 pub all_fit : (pieces : Parts) → ((k : ℕ) → k < length pieces.processes → FitsAt pieces k)
     → All (λ (s : Calls). is_among (pids_in pieces.processes) s.pid ≡ true) pieces.seats → IsFit pieces
 all_fit pieces each listed =

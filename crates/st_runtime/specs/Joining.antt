@@ -1,6 +1,7 @@
 -- The steps of joining: where an entry stands, the least pid that isn't seated, each process's own entries, and streams
 -- to which one report after the other is added.
-use Rattle.std.specs.Prelude.{◌≡◌, ℕ, List, map, filter, Option, Some, None, if◌then◌else◌, All, Contains, IfSome, slice_get}
+use Rattle.std.specs.Prelude.{◌≡◌, ℕ, List, map, filter, Option, Some, None, if◌then◌else◌, All, Contains, IfSome}
+use Rattle.std.specs.Prelude.{slice_get}
 use Rattle.std.specs.Ordering.{is_lt}
 use Rattle.std.specs.List.{flat_map}
 use Rattle.st_core.specs.declared.types.Pid.{Pid}
