@@ -21,7 +21,7 @@ use Rattle.st_audit.specs.declared.construction.Halt.{Halt}
 use Rattle.st_audit.specs.declared.construction.Halt.TheVariants as halt
 use Rattle.st_plan.specs.Reasons.{item_place, too_wide, uncaused, HoldsAt}
 use Rattle.st_audit.specs.Progress.{HoldsOf, IsHalt}
-use Rattle.st_plan.proofs.ForCallers.{moves_append, one_move, order_there, IsAt, IsThere}
+use Rattle.st_plan.proofs.ForCallers.{moves_append, one_move, order_there, IsAt, IsThere, item_is}
 
 pub if_err : {T E : Type 0} (r : Result T E) (P Q : E → Type 0) → ((e : E) → P e → Q e) → IfErr r P → IfErr r Q
 if_err (Ok x) P Q f h = tt
@@ -50,10 +50,6 @@ cut [] n x at = absurd (none-some x at)
 cut (y ∷ xs) zero x at = ap (λ z. z ∷ xs) (same_Some y x at)
 cut (y ∷ xs) (suc n) x at = ap (λ zs. y ∷ zs) (cut xs n x at)
 
-move_place : (x : Item) (e : Event) → (move_by x e).item ≡ x
-move_place (item.Reported p i) e = refl
-move_place (item.Hidden p i) e = refl
-
 -- the moves of an order round that of an item
 pub split_at : (streams : List Stream) (xs : List Item) (n : ℕ) (x : Item) (e : Event) → slice_get xs n ≡ Some x
     → event_of streams x ≡ Some e
@@ -80,7 +76,7 @@ holds_there test streams xs n d at order within is holds =
       later = moves streams (drop (suc n) xs);
       is_order = order;
       split = split_at streams xs n x e found holds.1;
-      place = ap item_place (move_place x e);
+      place = ap item_place (item_is x e);
       holds = holds.2;
     })
 

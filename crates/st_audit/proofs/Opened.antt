@@ -8,8 +8,8 @@ use Rattle.st_core.specs.declared.types.Act.TheVariants as act
 use Rattle.st_core.specs.Pid.{pid_eq}
 use Rattle.st_core.specs.State.{LocalState, Process, State, process, zero_local, zero_state}
 use Rattle.st_core.specs.Step.{Acted, Outcome, step}
-use Rattle.st_core.specs.Run.{Stream, run_from}
-use Rattle.st_core.proofs.ForCallers.{pid_same}
+use Rattle.st_core.specs.Run.{Stream}
+use Rattle.st_core.proofs.ForCallers.{pid_same, run_from-one}
 use Rattle.st_plan.specs.Build.{state_after}
 use Rattle.st_audit.specs.Progress.{AreCounted, IsCounted, IsSoFar, Ran}
 use Rattle.st_audit.proofs.Counts.{HaveSame, actor_same, others_same}
@@ -56,10 +56,6 @@ traced top s p b o h counted x r is =
           counted_as r.local was.before.local x was.same (counted x was.before was.is_before)
     ] refl
 
-one_run : (top : ℕ) (s : State) (a : Act) (o : Outcome) → step top s a ≡ Some o
-    → run_from top s (a ∷ []) ≡ Some (o ∷ [])
-one_run top s a o h = rw h refl
-
 -- an act more ran
 pub ran_more : (top : ℕ) (old s : State) (acts : List Act) (a : Act) (o : Outcome) → Ran top old acts s
     → step top s a ≡ Some o → Ran top old (acts ++ a ∷ []) o.after
@@ -68,7 +64,7 @@ ran_more top old s acts a o ran h =
     record {
       outcomes = ran.outcomes ++ o ∷ [];
       runs = run_append top old acts (a ∷ []) ran.outcomes (o ∷ []) ran.runs
-          (one_run top (state_after old ran.outcomes) a o here);
+          (run_from-one top (state_after old ran.outcomes) a o here);
       after = sym (state_append old ran.outcomes (o ∷ []));
     }
 

@@ -1,23 +1,18 @@
 -- Acts that run go one way: each of them has a step, and what comes of them is one thing.
-use Rattle.std.proofs.Common.{◌≡◌, ℕ, List, [], ◌∷◌, ◌++◌, Option, Some, None, IsSome, Result, Ok, Err, IfErr, IfOk}
+use Rattle.std.proofs.Common.{◌≡◌, ℕ, List, [], ◌∷◌, ◌++◌, Option, Some, IsSome, Result, Ok, Err, IfErr, IfOk}
 use Rattle.std.proofs.Common.{OnOk, append_assoc, refl, sym, ◌∙◌, ap, subst}
-use Rattle.std.proofs.lemmas.Bool.{false≢true}
 use Rattle.std.proofs.lemmas.Option.{same_Some}
 use Rattle.st_core.specs.declared.types.Act.{Act}
 use Rattle.st_core.specs.State.{State}
 use Rattle.st_core.specs.Step.{Outcome, step}
 use Rattle.st_core.specs.Run.{run_from}
-use Rattle.st_core.proofs.ForCallers.{run_parts}
+use Rattle.st_core.proofs.ForCallers.{run_parts, some_of, run_from-more}
 use Rattle.st_mail.specs.declared.outcome.Outcome.{Outcome as Told}
 use Rattle.st_world.specs.World.{outcome_to}
 use Rattle.st_plan.specs.Build.{state_after}
 use Rattle.st_plan.proofs.ForCallers.{run_append, state_append}
 use Rattle.st_audit.specs.declared.construction.Halt.{Halt}
 use Rattle.st_audit.specs.Progress.{Follows, IsNoStop, Makes, Ran, RanTo}
-
-pub some_of : {A : Type 0} (o : Option A) → IsSome o → (x : A) × (o ≡ Some x)
-some_of None h = absurd (false≢true h)
-some_of (Some x) h = (x, refl)
 
 pub some_is : {A : Type 0} (o : Option A) (x : A) → o ≡ Some x → IsSome o
 some_is o x h = subst (λ (y : Option _). IsSome y) (sym h) refl
@@ -44,10 +39,6 @@ next_steps top s t all xs a ys ran is runs =
     subst (λ x. IsSome (step top x a)) (sym ran.after) (step_at top s xs a ys ran.outcomes found.0 ran.runs
     (ap (run_from top s) (sym is) ∙ found.1))
 
-begun : (top : ℕ) (s : State) (a : Act) (rest : List Act) (o : Outcome) (os : List Outcome) → step top s a ≡ Some o
-    → run_from top o.after rest ≡ Some os → run_from top s (a ∷ rest) ≡ Some (o ∷ os)
-begun top s a rest o os first later = rw (first, later) refl
-
 -- the front of acts that run runs
 pub front_runs : (top : ℕ) (s : State) (xs ys : List Act) → IsSome (run_from top s (xs ++ ys))
     → IsSome (run_from top s xs)
@@ -58,7 +49,7 @@ front_runs top s (x ∷ xs) ys h =
     let rest = some_of (run_from top t.first.after xs) (front_runs top t.first.after xs ys
     (some_is (run_from top t.first.after (xs ++ ys)) t.others t.is_rest)) in
     some_is (run_from top s (x ∷ xs)) (t.first ∷ rest.0)
-    (begun top s x xs t.first rest.0 t.is_first rest.1)
+    (run_from-more top s x xs t.first rest.0 t.is_first rest.1)
 
 -- after acts that ran one act more is made
 pub made : (top : ℕ) (old between : State) (acts : List Act) (a : Act) (before mid now : List Act)
@@ -86,7 +77,7 @@ pub last_ran : (top : ℕ) (old : State) (acts : List Act) (a : Act) (told : Tol
     → run_from top old plan ≡ Some os → ran.outcomes ++ outcome_to told new ∷ [] ≡ os
 last_ran top old acts a told new plan os ran is runs =
     same_Some _ os (sym (run_append top old acts (a ∷ []) ran.outcomes (outcome_to told new ∷ []) ran.runs
-    (begun top (state_after old ran.outcomes) a [] (outcome_to told new) [] ran.steps refl))
+    (run_from-more top (state_after old ran.outcomes) a [] (outcome_to told new) [] ran.steps refl))
     ∙ ap (run_from top old) is ∙ runs)
 
 -- acts that are made go the way that they run

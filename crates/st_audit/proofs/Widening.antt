@@ -13,9 +13,8 @@ use Rattle.st_core.specs.Stamp.{stamp, stamp_any, stamped_token}
 use Rattle.st_core.specs.Local.{has_label}
 use Rattle.st_core.specs.Step.{Acted, Outcome, acted, answers, prints, sends, step}
 use Rattle.st_core.specs.Run.{run_from}
-use Rattle.st_core.proofs.ForCallers.{mapped, run_parts, step_parts}
+use Rattle.st_core.proofs.ForCallers.{mapped, run_parts, step_parts, step_done}
 use Rattle.st_core.specs.declared.types.Reply.TheVariants as reply
-use Rattle.st_plan.proofs.ForCallers.{step_is}
 
 module _ (top wide : ℕ) (wider : top ≤ wide) where
   under : (b c : Bool) (l m : LocalState) → (b ≡ true → c ≡ true) → cond b (Some l) None ≡ Some m
@@ -71,7 +70,7 @@ module _ (top wide : ℕ) (wider : top ≤ wide) where
   step_wider : (s : State) (a : Act) (o : Outcome) → step top s a ≡ Some o → step wide s a ≡ Some o
   step_wider s a o h =
       let t = step_parts top s a o h in
-      step_is wide s a t.before t.other t.done t.is_before t.is_other (acted_wider t.before a t.done t.is_done)
+      step_done wide s a t.before t.other t.done t.is_before t.is_other (acted_wider t.before a t.done t.is_done)
       ∙ ap (λ (x : Outcome). Some x) t.is_outcome
 
   pub run_wider : (s : State) (acts : List Act) (os : List Outcome) → run_from top s acts ≡ Some os

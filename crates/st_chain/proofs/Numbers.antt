@@ -8,7 +8,7 @@ use Rattle.std.specs.Ordering.{is_eq, nat_cmp, ordering_then}
 use Rattle.std.proofs.lemmas.Bool.Decides.{nat_tests}
 use Rattle.std.proofs.lemmas.Option.{same_Some}
 use Rattle.st_core.specs.Pid.{pid_cmp}
-use Rattle.st_core.proofs.ForCallers.{pid_cmp-Equal, pid_cmp-same}
+use Rattle.st_core.proofs.ForCallers.{pid_cmp-Equal, pid_cmp-same, nat_cmp-Equal}
 use Rattle.st_chain.specs.declared.label_table.ChainKey.{ChainKey}
 use Rattle.st_chain.specs.Tabled.{chain_key_cmp, AreNumbers}
 
@@ -19,9 +19,6 @@ both_equal Equal Equal h = (refl, refl)
 both_equal Equal Greater h = absurd (cc)
 both_equal Greater b h = absurd (cc)
 
-numbers_equal : (m n : ℕ) → nat_cmp m n ≡ Equal → m ≡ n
-numbers_equal m n h = grind (arith, nat_tests)
-
 number_same : (m : ℕ) → nat_cmp m m ≡ Equal
 number_same m = grind (arith, nat_tests)
 
@@ -30,7 +27,7 @@ pub one_key : (k l : ChainKey) → is_eq (chain_key_cmp k l) ≡ true → k ≡ 
 one_key k l h =
     let parts = both_equal (pid_cmp k.pid l.pid) (nat_cmp k.label.0 l.label.0) h in
     let pids = pid_cmp-Equal k.pid l.pid parts.0 in
-    let labels = numbers_equal k.label.0 l.label.0 parts.1 in
+    let labels = nat_cmp-Equal k.label.0 l.label.0 parts.1 in
     λ i. record { pid = pids i; label = record { 0 = labels i } }
 
 key_same : (k l : ChainKey) → k ≡ l → is_eq (chain_key_cmp k l) ≡ true

@@ -1,6 +1,6 @@
 -- The act of a number comes right after the acts before it, so what one more act does is what this act does.
 use Rattle.std.proofs.Common.{◌≡◌, ℕ, ◌+◌, ◌<◌, ◌⊎◌, false, List, [], ◌∷◌, ◌++◌, length, map, take, get_or, Option}
-use Rattle.std.proofs.Common.{Some, None, IsSome, is_some, option_map, option_and_then, refl, sym, ◌∙◌, ap, subst}
+use Rattle.std.proofs.Common.{Some, None, IsSome, is_some, option_and_then, refl, sym, ◌∙◌, ap, subst}
 use Rattle.std.proofs.Common.{arith, inl, inr, length-take-le, if◌then◌else◌}
 use Rattle.std.specs.Option.{ForSome, option_and}
 use Rattle.std.specs.List.{AllByRecursion, slice_get}
@@ -10,8 +10,8 @@ use Rattle.st_core.specs.declared.types.Pid.{Pid}
 use Rattle.st_core.specs.declared.types.Event.{Event}
 use Rattle.st_core.specs.declared.types.Act.{Act}
 use Rattle.st_core.specs.Pid.{pid_eq, IsRising}
-use Rattle.st_core.specs.State.{Process, State, process}
-use Rattle.st_core.specs.Step.{Outcome, actor, receiver, acted, outcome_of, step}
+use Rattle.st_core.specs.State.{State}
+use Rattle.st_core.specs.Step.{Outcome, actor, step}
 use Rattle.st_core.specs.Run.{Stream, pids_of, run}
 use Rattle.st_core.specs.Streams.{events_of}
 use Rattle.st_core.specs.Pairs.{Tags, tags_after, pair_at}
@@ -19,6 +19,7 @@ use Rattle.st_core.specs.Verdict.{Passes}
 use Rattle.st_world.specs.declared.outcome.StepFault.{StepFault}
 use Rattle.st_world.specs.declared.outcome.StepFault.TheVariants as fault
 use Rattle.st_world.specs.World.{IsFault}
+use Rattle.st_core.proofs.ForCallers.{step_no_actor, step_no_receiver}
 use Rattle.st_check.specs.Progress.{tags_of, count_of, counted, pair_to, stop_of, IsPassed, IsStop}
 use Rattle.st_check.specs.declared.progress.Stop.TheVariants as stop
 use Rattle.st_check.proofs.Appended.{pair_of}
@@ -37,28 +38,16 @@ pub length-tags : (top : ℕ) (streams : List Stream) (acts : List Act) (s : Sta
 length-tags top streams acts s counts tags ps p =
     ap length p.are_tags ∙ length-map (pids_of streams) (tags_of acts p.outcomes)
 
-no_actor : (top : ℕ) (s : State) (a : Act) → process s (actor a) ≡ None → step top s a ≡ None
-no_actor top s a missing =
-    ap (option_and_then (λ r. option_and_then (λ (_ : Process). option_map (outcome_of s a) (acted top r a))
-    (process s (receiver a)))) missing
-
 none_after : {A B : Type 0} (o : Option A) → (let none : Option B = None in option_and_then (λ (_ : A). none) o) ≡ None
 none_after None = refl
 none_after (Some x) = refl
-
-no_receiver : (top : ℕ) (s : State) (a : Act) → process s (receiver a) ≡ None → step top s a ≡ None
-no_receiver top s a missing =
-    ap (λ (x : Option Process). option_and_then
-    (λ r. option_and_then (λ (_ : Process). option_map (outcome_of s a) (acted top r a)) x) (process s (actor a)))
-    missing
-    ∙ none_after (process s (actor a))
 
 -- an act that isn't refused for want of memory has no step
 pub fault_stuck : (top : ℕ) (s : State) (a : Act) (f : StepFault) → IsFault top s a f
     → (f ≡ fault.Memory) ⊎ (step top s a ≡ None)
 fault_stuck top s a fault.Memory is = inl refl
-fault_stuck top s a fault.Unknown (inl missing) = inr (no_actor top s a missing)
-fault_stuck top s a fault.Unknown (inr missing) = inr (no_receiver top s a missing)
+fault_stuck top s a fault.Unknown (inl missing) = inr (step_no_actor top s a missing)
+fault_stuck top s a fault.Unknown (inr missing) = inr (step_no_receiver top s a missing)
 fault_stuck top s a fault.ClockFull is = inr is.2
 
 module _ (top : ℕ) (streams : List Stream) (acts : List Act) (n : ℕ) (d : Act) (s : State) (counts : List ℕ)

@@ -7,7 +7,7 @@ use Rattle.st_core.specs.declared.types.Pid.{Pid}
 use Rattle.st_core.specs.Pid.{pid_eq, IsBelow, IsRising}
 use Rattle.st_core.specs.Run.{Stream, pids_of}
 use Rattle.st_core.specs.Streams.{stream_of, events_of}
-use Rattle.st_core.proofs.ForCallers.{pid_eq-same, pid_eq-swap, IsBelow-apart, all_at}
+use Rattle.st_core.proofs.ForCallers.{pid_eq-same, IsBelow-apart, all_at, all_apart}
 
 -- two lists agree where no pid is p
 pub map_apart : {B : Type 0} (f g : Pid → B) (ps : List Pid) (p : Pid) → AllByRecursion (λ q. pid_eq q p ≡ false) ps
@@ -16,10 +16,6 @@ map_apart f g [] p apart same = refl
 map_apart f g (q ∷ ps) p apart same =
     ap (λ x. x ∷ map g ps) (same q apart.0) ∙ ap (λ xs. f q ∷ xs) (map_apart f g ps p apart.1 same)
 
-above_apart : (ps : List Pid) (p : Pid) → AllByRecursion (IsBelow p) ps → AllByRecursion (λ q. pid_eq q p ≡ false) ps
-above_apart [] p all = tt
-above_apart (q ∷ ps) p all = (pid_eq-swap q p ∙ IsBelow-apart p q all.0, above_apart ps p all.1)
-
 -- a list that differs for p alone is the list before, set at the place of p
 pub map_at : {B : Type 0} (f g : Pid → B) (ps : List Pid) (i : ℕ) (p : Pid) → IsRising ps → slice_get ps i ≡ Some p
     → ((q : Pid) → pid_eq q p ≡ false → g q ≡ f q) → map g ps ≡ set (map f ps) i (g p)
@@ -27,7 +23,7 @@ map_at f g [] i p rising at same = absurd (none-some p at)
 map_at f g (q ∷ ps) zero p rising at same =
     let is : q ≡ p = same_Some q p at in
     let apart : AllByRecursion (λ r. pid_eq r p ≡ false) ps =
-    above_apart ps p (subst (λ r. AllByRecursion (IsBelow r) ps) is rising.0) in
+    all_apart ps p (subst (λ r. AllByRecursion (IsBelow r) ps) is rising.0) in
     ap (λ r. g r ∷ map g ps) is ∙ ap (λ xs. g p ∷ xs) (map_apart f g ps p apart same)
 map_at f g (q ∷ ps) (suc i) p rising at same =
     let apart : pid_eq q p ≡ false = IsBelow-apart q p (all_at (IsBelow q) ps i p rising.0 at) in

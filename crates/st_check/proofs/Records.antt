@@ -1,10 +1,9 @@
 -- An act's report is its actor's own event, so adding it to the actor's stream keeps the streams those of the run.
-use Rattle.std.proofs.Common.{◌≡◌, ℕ, ◌+◌, ◌<◌, ◌⊎◌, inl, inr, zero, suc, Bool, true, false, cond, not, ◌&&◌, ◌||◌}
-use Rattle.std.proofs.Common.{List, [], ◌∷◌, ◌++◌, length, map, take, get_or, position, Option, Some, None, is_some}
+use Rattle.std.proofs.Common.{◌≡◌, ℕ, ◌+◌, ◌<◌, ◌⊎◌, inl, inr, zero, suc, true, false, cond, not, ◌&&◌, ◌||◌}
+use Rattle.std.proofs.Common.{List, [], ◌∷◌, ◌++◌, length, map, take, get_or, Option, Some, None, is_some}
 use Rattle.std.proofs.Common.{option_map, option_to_list, All, refl, sym, ◌∙◌, ap, subst, arith, if◌then◌else◌}
 use Rattle.std.specs.Option.{ForSome, option_map_or}
-use Rattle.std.specs.List.{AllByRecursion, AllZip, slice_get, position_or_len}
-use Rattle.std.proofs.lemmas.Bool.{le-ltb}
+use Rattle.std.specs.List.{AllByRecursion, AllZip, slice_get}
 use Rattle.std.proofs.lemmas.List.{take_more, map_push}
 use Rattle.std.proofs.lemmas.Option.{slice_get-get_or}
 use Rattle.st_core.specs.declared.types.Pid.{Pid}
@@ -19,7 +18,7 @@ use Rattle.st_core.specs.Streams.{stream_of, lists, names_listed, unlisted_among
 use Rattle.st_core.specs.Streams.{ComesLast}
 use Rattle.st_core.specs.Collected.{is_among, names_among}
 use Rattle.st_core.specs.Laws.{IsReportAmong, ReportsAmong}
-use Rattle.st_core.proofs.ForCallers.{pid_eq-true, pid_eq-swap, all_at}
+use Rattle.st_core.proofs.ForCallers.{pid_eq-true, pid_eq-swap, all_at, position-none}
 use Rattle.st_core.proofs.ForCallers.{step_parts}
 use Rattle.st_core.proofs.ForCallers.{run_named}
 use Rattle.st_check.specs.Answers.{reported, AllRise}
@@ -185,19 +184,6 @@ stream_among pids (a ∷ acts) (o ∷ os) p all =
           ]
     ] all.0
 
-none_passes : {A : Type 0} (test : A → Bool) (xs : List A) → AllByRecursion (λ x. test x ≡ false) xs
-    → position_or_len test xs ≡ length xs
-none_passes test [] all = refl
-none_passes test (x ∷ xs) all =
-    let rest = none_passes test xs all.1 in ap (λ b. cond (not b) (1 + position_or_len test xs) 0) all.0
-    ∙ (omega arith)
-
-no_position : {A : Type 0} (test : A → Bool) (xs : List A) → AllByRecursion (λ x. test x ≡ false) xs
-    → position test xs ≡ None
-no_position test xs all =
-    ap (λ b. cond b (Some (position_or_len test xs)) None)
-    (le-ltb (position_or_len test xs) (length xs) (let e = none_passes test xs all in omega arith))
-
 all_false : (pids : List Pid) (acts : List Act) (os : List Outcome) (es : List Event)
     → AllByRecursion (λ e. names_among pids e ≡ true) es
     → AllByRecursion (λ e. not (names_listed (reported pids acts os) e) ≡ false) es
@@ -211,7 +197,7 @@ unlisted_rest pids acts os (p ∷ rest) all =
     let test = λ (e : Event). not (names_listed (reported pids acts os) e) in
     ap (λ (k : Option ℕ). let o : Option (Pid × ℕ) =
     elim k [ None ↦ unlisted_among (reported pids acts os) (reported rest acts os) | Some i ↦ Some (p, i) ] in o)
-    (no_position test (stream acts os p)
+    (position-none test (stream acts os p)
     (all_false pids acts os (stream acts os p) (stream_among pids acts os p all)))
     ∙ unlisted_rest pids acts os rest all
 

@@ -8,9 +8,9 @@ use Rattle.std.proofs.lemmas.List.Elements.{filter-append}
 use Rattle.std.proofs.lemmas.Option.{same_Some}
 use Rattle.st_core.specs.declared.types.Pid.{Pid}
 use Rattle.st_core.specs.declared.types.Act.{Act}
-use Rattle.st_core.specs.Pid.{pid_eq, IsBelow, IsRising}
+use Rattle.st_core.specs.Pid.{pid_eq, IsRising}
 use Rattle.st_core.specs.Step.{actor}
-use Rattle.st_core.proofs.ForCallers.{pid_eq-same, pid_eq-swap, above_apart, IsBelow-apart, place_within}
+use Rattle.st_core.proofs.ForCallers.{pid_eq-same, pid_eq-swap, above_apart, place_within, all_apart}
 use Rattle.st_runtime.specs.Driven.{acts_by}
 use Rattle.st_commands.specs.Recorded.{scripts_of}
 
@@ -34,10 +34,6 @@ unscripted [] xs a others = refl
 unscripted (p ∷ ps) xs a others =
     ap (λ (script : List Act). script ∷ scripts_of ps xs) (sym (not_own p xs a others.0))
     ∙ ap (λ (scripts : List (List Act)). acts_by p (xs ++ a ∷ []) ∷ scripts) (unscripted ps xs a others.1)
-
-all_apart : (ps : List Pid) (p : Pid) → AllByRecursion (IsBelow p) ps → AllByRecursion (λ q. pid_eq q p ≡ false) ps
-all_apart [] p all = tt
-all_apart (q ∷ ps) p all = (pid_eq-swap q p ∙ IsBelow-apart p q all.0, all_apart ps p all.1)
 
 -- the scripts with the act at the end of the one at place i
 abbrev longer : List (List Act) → ℕ → Act → List (List Act)

@@ -5,10 +5,11 @@ use Rattle.std.proofs.Common.{if◌then◌else◌, List, [], ◌∷◌, ◌++◌
 use Rattle.std.proofs.Common.{is_some, slice_get, refl, sym, ◌∙◌, ap, subst, arith, length-append}
 use Rattle.std.proofs.Math.ListN.{length-set}
 use Rattle.std.proofs.lemmas.List.Sums.{sum_by-cons, sum_by-append}
-use Rattle.std.specs.List.{AllByRecursion}
+use Rattle.std.specs.List.{AllByRecursion, position_or_len}
 use Rattle.std.specs.Option.{option_map_or}
 use Rattle.std.proofs.lemmas.Option.{same_Some}
 use Rattle.std.proofs.lemmas.List.{get_or_default}
+use Rattle.std.proofs.lemmas.Bool.{le-ltb}
 use Rattle.st_core.specs.declared.types.Pid.{Pid}
 use Rattle.st_core.specs.declared.types.Event.{Event}
 use Rattle.st_core.specs.Pid.{pid_eq, IsBelow, IsRising}
@@ -240,3 +241,29 @@ first_failing-drop test (p ∷ ps) (e ∷ es) zero read even within is none =
     ap (λ (o : Option ℕ). elim o [ None ↦ first_failing test ps es | Some i ↦ Some (p, i) ]) here
 first_failing-drop test (p ∷ ps) (e ∷ es) (suc k) read even within is none =
     first_failing-drop test ps es k read (omega arith) (omega arith) is none
+
+-- an event for a process leaves the pid of every stream
+pub with_event_pid : (p : Pid) (e : Event) (x : Stream) → (with_event p e x).pid ≡ x.pid
+with_event_pid p e x =
+    elim (pid_eq x.pid p) as (λ b. (cond b (record x { events = x.events ++ e ∷ [] }) x).pid ≡ x.pid)
+    [ true ↦ refl | false ↦ refl ]
+
+-- who is below all of these is none of them
+pub all_apart : (ps : List Pid) (p : Pid) → AllByRecursion (IsBelow p) ps → AllByRecursion (λ q. pid_eq q p ≡ false) ps
+all_apart [] p all = tt
+all_apart (q ∷ ps) p all = (pid_eq-swap q p ∙ IsBelow-apart p q all.0, all_apart ps p all.1)
+
+-- where no element passes a test, none has a position
+pub position_or_len-none : {A : Type 0} (test : A → Bool) (xs : List A) → AllByRecursion (λ x. test x ≡ false) xs
+    → position_or_len test xs ≡ length xs
+position_or_len-none test [] all = refl
+position_or_len-none test (x ∷ xs) all =
+    let rest = position_or_len-none test xs all.1 in
+    ap (λ b. cond (not b) (1 + position_or_len test xs) 0) all.0 ∙ (omega arith)
+
+pub position-none : {A : Type 0} (test : A → Bool) (xs : List A) → AllByRecursion (λ x. test x ≡ false) xs
+    → position test xs ≡ None
+position-none test xs all =
+    let past = position_or_len-none test xs all in
+    ap (λ b. cond b (Some (position_or_len test xs)) None)
+    (le-ltb (position_or_len test xs) (length xs) (omega arith))

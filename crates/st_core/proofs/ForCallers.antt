@@ -3,19 +3,26 @@
 -- definitions alone; nothing here speaks of how the code does it.
 
 -- ---- truth tables
-pub use Rattle.st_core.proofs.Bools.{or_true, or_false, not_true, right_of, both_of, both_true}
--- ---- pids
+pub use Rattle.st_core.proofs.Bools.{or_true, or_false, not_true, not_false, right_of, both_of, both_true}
+pub use Rattle.st_core.proofs.Bools.{and_false, some_of}
+-- ---- the order of numbers
+pub use Rattle.st_core.proofs.Pids.{is_lt-true, nat_cmp-Equal, nat_cmp-same, nat_cmp-below, below_or_same, eqb-swap}
+-- ---- pids, and the streams of each
 pub use Rattle.st_core.proofs.Pids.{pid_eq-true, pid_eq-same, pid_eq-swap, pid_cmp-same, pid_cmp-Equal}
-pub use Rattle.st_core.proofs.Pids.{IsBelow-trans, IsBelow-apart, IsRising-push, missing_from_search, all_at}
+pub use Rattle.st_core.proofs.Pids.{IsBelow-trans, IsBelow-apart, not_below_itself, IsRising-push, missing_from_search}
+pub use Rattle.st_core.proofs.Pids.{all_at}
 pub use Rattle.st_core.proofs.Pids.{pid_eq-true as pid_same, pid_eq-same as pid_eq-refl}
 pub use Rattle.st_core.proofs.RisingPids.{rising_at}
 pub use Rattle.st_core.proofs.Collections.{above_apart, is_among-found, is_among-missing, place_within, own_push}
+pub use Rattle.st_core.proofs.Collections.{with_event_pid, all_apart, position-none}
 pub use Rattle.st_core.proofs.Leastness.{unlisted_is_least}
+pub use Rattle.st_core.proofs.Verdicts.{to_eq-true}
 -- ---- a step and a run, in parts
 pub use Rattle.st_core.proofs.Others.{process_pid, process-map, mapped, Stepped, step_parts, run_parts, process_after}
 pub use Rattle.st_core.proofs.Others.{leaves_others}
-pub use Rattle.st_core.proofs.Steps.{reached_pid, changed_pid, changed_untouched}
-pub use Rattle.st_core.proofs.Runs.{one_verdict, run_from-take}
+pub use Rattle.st_core.proofs.Steps.{reached_pid, changed_pid, changed_untouched, step_done}
+pub use Rattle.st_core.proofs.Steps.{step_no_actor, step_no_receiver}
+pub use Rattle.st_core.proofs.Runs.{one_verdict, run_from-take, run_from-more, run_from-one}
 pub use Rattle.st_core.proofs.Zips.{AllZip_length, AllZip_at, drop_first, drop_rest, remove_past}
 -- ---- what every run keeps
 pub use Rattle.st_core.proofs.Sound.{All_at, run_sound, stamp_any_sound, process_holds, pick_found, step_sound}

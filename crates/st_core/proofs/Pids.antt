@@ -33,7 +33,7 @@ pid_eq-true p q h =
 pub pid_eq-same : (p : Pid) → pid_eq p p ≡ true
 pid_eq-same p = rw (eq-eqb p.node p.node refl, eq-eqb p.number p.number refl) refl
 
-eqb-swap : (m n : ℕ) → (m == n) ≡ (n == m)
+pub eqb-swap : (m n : ℕ) → (m == n) ≡ (n == m)
 eqb-swap m n = grind (arith, nat_tests)
 
 pub pid_eq-swap : (p q : Pid) → pid_eq p q ≡ pid_eq q p
@@ -54,13 +54,13 @@ then_less Greater b h = absurd (cc)
 nat_cmp-Less : (m n : ℕ) → nat_cmp m n ≡ Less → m < n
 nat_cmp-Less m n h = grind (arith, nat_tests)
 
-nat_cmp-Equal : (m n : ℕ) → nat_cmp m n ≡ Equal → m ≡ n
+pub nat_cmp-Equal : (m n : ℕ) → nat_cmp m n ≡ Equal → m ≡ n
 nat_cmp-Equal m n h = grind (arith, nat_tests)
 
-nat_cmp-below : (m n : ℕ) → m < n → nat_cmp m n ≡ Less
+pub nat_cmp-below : (m n : ℕ) → m < n → nat_cmp m n ≡ Less
 nat_cmp-below m n h = grind (arith, nat_tests)
 
-nat_cmp-same : (m n : ℕ) → m ≡ n → nat_cmp m n ≡ Equal
+pub nat_cmp-same : (m n : ℕ) → m ≡ n → nat_cmp m n ≡ Equal
 nat_cmp-same m n h = grind (arith, nat_tests)
 
 pub IsBelow-numbers : (p q : Pid) → IsBelow p q → Before p q
@@ -74,7 +74,7 @@ IsBelow-numbers p q h = elim (then_less _ _ h) [
       record { nodes = omega arith; numbers = λ same. lt }
 ]
 
-below_or_same : (m n : ℕ) → m ≤ n → (m < n) ⊎ (m ≡ n)
+pub below_or_same : (m n : ℕ) → m ≤ n → (m < n) ⊎ (m ≡ n)
 below_or_same m n h = elim (nat_lt m n) as (λ b. nat_lt m n ≡ b → (m < n) ⊎ (m ≡ n)) [
   | true ↦ λ e. inl (grind (arith, nat_tests))
   | false ↦ λ e. inr (grind (arith, nat_tests))
@@ -226,7 +226,7 @@ missing_from_search ps x (Err i) rising found =
       | inr above ↦ let greater : pid_cmp (get_or ps k d) x ≡ Greater = parts.1 k d above within in absurd (cc)
     ])
 
-is_lt-true : (o : Ordering) → is_lt o ≡ true → o ≡ Less
+pub is_lt-true : (o : Ordering) → is_lt o ≡ true → o ≡ Less
 is_lt-true Less h = refl
 is_lt-true Equal h = absurd (cc)
 is_lt-true Greater h = absurd (cc)
@@ -245,3 +245,7 @@ below_decides ps l p b rising at e =
       (λ yes. below_last ps last.0 l p last.1 rising last.2 (is_lt-true (pid_cmp l p) (sym e ∙ yes))),
       (λ all. e ∙ ap is_lt (all_at (λ r. IsBelow r p) ps last.0 l all last.2)),
     )
+
+-- no pid is below itself
+pub not_below_itself : (p : Pid) → IsBelow p p → ⊥
+not_below_itself p below = let apart = IsBelow-apart p p below in let same = pid_eq-same p in cc

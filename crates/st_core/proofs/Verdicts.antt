@@ -22,7 +22,7 @@ use Rattle.st_core.specs.Verdict.{Verdict, Stuck, Differs, Left, Yes, IsPassing,
 use Rattle.st_core.proofs.Pids.{pid_eq-true, pid_eq-same}
 use Rattle.st_core.proofs.Runs.{FailsAt}
 use Rattle.st_core.proofs.Exists.{none_passes, passed_yes}
-use Rattle.st_core.proofs.Bools.{both_of, not_true}
+use Rattle.st_core.proofs.Bools.{both_of, not_true, not_false}
 
 -- THE COMPUTATION
 
@@ -107,7 +107,7 @@ kind_eq-same kind.Send = refl
 kind_eq-same kind.Receive = refl
 kind_eq-same kind.Print = refl
 
-to_eq-true : (p q : Option Pid) → to_eq p q ≡ true → p ≡ q
+pub to_eq-true : (p q : Option Pid) → to_eq p q ≡ true → p ≡ q
 to_eq-true None None h = refl
 to_eq-true None (Some q) h = absurd (cc)
 to_eq-true (Some p) None h = absurd (cc)
@@ -212,10 +212,6 @@ passes_complete top streams acts h =
     ap (fronts streams acts) h.1.runs
     ∙ all_complete acts h.0 streams
     (recursion_from_All (λ x. IsPrefix (stream acts h.0 x.pid) x.events) streams h.1.fronts)
-
-not_false : (b : Bool) → not b ≡ false → b ≡ true
-not_false true h = refl
-not_false false h = absurd (cc)
 
 -- NUMBERS OF ACTS
 

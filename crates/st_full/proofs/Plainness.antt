@@ -14,7 +14,7 @@ use Rattle.st_core.specs.State.{zero_state}
 use Rattle.st_core.specs.Run.{Stream, Shows, pids_of}
 use Rattle.st_core.specs.Streams.{events_of}
 use Rattle.st_core.specs.Laws.{GoesOnFrom, greatest_count, NoReset, ReportsEverything}
-use Rattle.st_core.proofs.ForCallers.{pid_eq-refl}
+use Rattle.st_core.proofs.ForCallers.{pid_eq-refl, and_false}
 use Rattle.st_pair.specs.Places.{event_at, is_stamp}
 use Rattle.st_order.specs.declared.item.Item.{Item}
 use Rattle.st_order.specs.Order.{IsOrder}
@@ -55,10 +55,6 @@ record IsNext (earlier : List Move) (m : Move) : Type 0 where
 
 not_below : (m n : ℕ) → m ≡ n → nat_lt m n ≡ false
 not_below m n h = grind (arith, nat_tests)
-
-and_false : (a b : Bool) → b ≡ false → (a && b) ≡ false
-and_false true b h = h
-and_false false b h = refl
 
 at_move : (streams : List Stream) (p : Pid) (i : ℕ) (e : Event) (earlier later : List Move)
     → ((i : ℕ) (e : Event) → event_at streams p i ≡ Some e → is_stamp e ≡ true

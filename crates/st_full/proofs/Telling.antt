@@ -1,6 +1,6 @@
 -- What a full run says of its streams: pairing accepts them, each stamp goes on from the events before it, no send is
 -- hidden, and each count is one that a clock has had.
-use Rattle.std.proofs.Common.{◌≡◌, ℕ, ◌+◌, ◌≤◌, ◌==◌, ◌&&◌, Bool, true, false, cond, if◌then◌else◌, ◌≢◌, List, []}
+use Rattle.std.proofs.Common.{◌≡◌, ℕ, ◌+◌, ◌≤◌, ◌==◌, ◌&&◌, Bool, true, false, cond, if◌then◌else◌, List, []}
 use Rattle.std.proofs.Common.{◌∷◌, take, Option, Some, None, slice_get, option_and_then, refl, sym, ◌∙◌, ap, subst}
 use Rattle.std.proofs.Common.{arith}
 use Rattle.std.specs.List.{All}
@@ -8,7 +8,6 @@ use Rattle.std.proofs.lemmas.Bool.{eqb-true, false≢true, and_parts}
 use Rattle.std.proofs.lemmas.List.Elements.{All-head, All-tail}
 use Rattle.std.proofs.lemmas.Option.{none-some, same_Some}
 use Rattle.st_core.specs.declared.types.Pid.{Pid}
-use Rattle.st_core.specs.declared.types.Kind.TheVariants as kind
 use Rattle.st_core.specs.declared.types.Event.{Event}
 use Rattle.st_core.specs.declared.types.Act.{Act}
 use Rattle.st_core.specs.Pid.{pid_eq}
@@ -23,7 +22,7 @@ use Rattle.st_pair.specs.declared.answer.Source.{Source}
 use Rattle.st_pair.specs.declared.answer.Source.TheVariants as source
 use Rattle.st_pair.specs.Places.{event_at, is_stamp}
 use Rattle.st_pair.specs.Pairing.{source_of, stamp_of}
-use Rattle.st_pair.proofs.ForCallers.{events_in, given_from, own_rule, send_shown, shown_accepted}
+use Rattle.st_pair.proofs.ForCallers.{events_in, given_from, own_rule, send_shown, shown_accepted, stamp_not_received}
 use Rattle.st_order.specs.Items.{is_hidden}
 use Rattle.st_full.specs.Full.{IsFull}
 
@@ -40,11 +39,6 @@ events_shown (x ∷ streams) acts os p i e shown at =
       | true ↦ λ same at. ap (stream acts os) (sym (pid_eq-true x.pid p same)) ∙ All-head whole x streams shown
       | false ↦ λ other at. events_shown streams acts os p i e (All-tail whole x streams shown) at
     ] refl at
-
-stamps : (e : Event) → is_stamp e ≡ true → e.kind ≢ kind.Receive
-stamps e stamp receives =
-    false≢true (ap (λ k. let b : Bool = elim k [ kind.Send ↦ true | kind.Receive ↦ false | kind.Print ↦ true ] in b)
-    (sym receives) ∙ stamp)
 
 clock_within : (top : ℕ) (s : State) (p : Pid) → All (IsSound top) s → clock_in s p ≤ top
 clock_within top s p all = elim (process s p) as (λ o. process s p ≡ o
@@ -78,7 +72,7 @@ module _ (top : ℕ) (streams : List Stream) (acts : List Act) (shows : Shows to
       let same = events_shown streams acts outcomes p i e shows.2 at in
       subst (λ es. GoesOnFrom (take i es) e) same
       (tell_counts top (pids_of streams) acts outcomes shows.1 none all p i e
-      (ap (λ es. slice_get es i) same ∙ at) (stamps e stamp))
+      (ap (λ es. slice_get es i) same ∙ at) (stamp_not_received e stamp))
 
   send_reported : (p : Pid) (i : ℕ) (e : Event) → event_at streams p i ≡ Some e → is_hidden streams e ≡ false
   send_reported p i e at = elim (is_stamp e) as (λ b. is_stamp e ≡ b
@@ -98,7 +92,7 @@ module _ (top : ℕ) (streams : List Stream) (acts : List Act) (shows : Shows to
       let there = ap (λ es. slice_get es i) (events_shown streams acts outcomes p i e shows.2 at) ∙ at in
       let told = event_reported acts outcomes p i e there in
       let lifts = reported_stamps_lift top (pids_of streams) acts outcomes shows.1 none p told.0 e told.1.reports
-      (stamps e stamp) in
+      (stamp_not_received e stamp) in
       let sound = All_at (KeepsSound top) outcomes told.0 lifts.outcome lifts.at
       (run_sound top (pids_of streams) acts outcomes shows.1) in
       subst (λ n. n ≤ top) lifts.reaches (clock_within top lifts.outcome.after p sound.processes)

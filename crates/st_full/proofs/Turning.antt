@@ -24,7 +24,7 @@ use Rattle.st_order.specs.Turn.{in_turn, is_event_of, StampsLead}
 use Rattle.st_order.proofs.ForCallers.{all_right, drop_front, keeps_turn}
 use Rattle.st_plan.specs.Moves.{Move, clock, last, move_by, moves}
 use Rattle.st_plan.specs.Plain.{told}
-use Rattle.st_plan.proofs.ForCallers.{take_more, IsThere, one_move, order_there}
+use Rattle.st_plan.proofs.ForCallers.{take_more, IsThere, one_move, order_there, item_is}
 
 -- MOVES IN TURN
 
@@ -40,10 +40,6 @@ turned p i (e ∷ es) = event_move p i e ∷ turned p (i + 1) es
 -- the move is one of p's events
 abbrev pub is_move_of : Pid → Move → Bool
 is_move_of p m = is_event_of p m.item
-
-move_item : (x : Item) (e : Event) → (move_by x e).item ≡ x
-move_item (item.Reported p i) e = refl
-move_item (item.Hidden p i) e = refl
 
 abbrev moves_by : List Stream → Item → List Item → Option Event → List Move
 moves_by streams x xs None = moves streams xs
@@ -66,7 +62,7 @@ module _ (streams : List Stream) where
             ]
         | Some e ↦ λ at.
             let ms = filter (is_move_of p) (moves streams xs) in
-            ap (λ y. cond (is_event_of p y) (move_by x e ∷ ms) ms) (move_item x e)
+            ap (λ y. cond (is_event_of p y) (move_by x e ∷ ms) ms) (item_is x e)
             ∙ elim (is_event_of p x) as
             (λ b. cond b (move_by x e ∷ ms) ms ≡ moves streams (cond b (x ∷ kept) kept)) [
               | true ↦ ap (λ ys. move_by x e ∷ ys) rest ∙ sym (one_move streams x e kept at)

@@ -18,6 +18,7 @@ use Rattle.st_core.specs.Streams.{events_of}
 use Rattle.st_pair.specs.declared.answer.Source.TheVariants as source
 use Rattle.st_pair.specs.Places.{event_at, is_stamp, first}
 use Rattle.st_pair.specs.Pairing.{receive_of, repeated, source_of}
+use Rattle.st_core.proofs.ForCallers.{is_lt-true}
 use Rattle.st_order.specs.declared.item.Item.{Item}
 use Rattle.st_order.specs.declared.item.Item.TheVariants as item
 use Rattle.st_order.specs.Items.{is_hidden, items_at, items_from, items_among, items}
@@ -185,11 +186,6 @@ one_way_by Less a b = absurd (cc)
 one_way_by Equal a b = absurd (cc)
 one_way_by Greater a b = absurd (cc)
 
-is_less : (o : Ordering) → is_lt o ≡ true → o ≡ Less
-is_less Less h = refl
-is_less Equal h = absurd (cc)
-is_less Greater h = absurd (cc)
-
 one_way_of : (a b : Option Key) → test_of is_lt a b ≡ true → test_of is_lt b a ≡ true → ⊥
 one_way_of None b h g = absurd (cc)
 one_way_of (Some k) None h g = absurd (cc)
@@ -200,7 +196,7 @@ chain_of None b c h g = absurd (cc)
 chain_of (Some k) None c h g = absurd (cc)
 chain_of (Some k) (Some l) None h g = absurd (cc)
 chain_of (Some k) (Some l) (Some m) h g =
-    ap is_lt (key_total.trans k l m (is_less (key_cmp k l) h) (is_less (key_cmp l m) g))
+    ap is_lt (key_total.trans k l m (is_lt-true (key_cmp k l) h) (is_lt-true (key_cmp l m) g))
 
 -- of two items one at most comes before the other
 pub one_way : (streams : List Stream) (x y : Item) → comes_before streams x y ≡ true

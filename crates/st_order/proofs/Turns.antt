@@ -5,10 +5,8 @@ use Rattle.std.proofs.Common.{◌≡◌, ℕ, zero, suc, ◌+◌, ◌<◌, ◌�
 use Rattle.std.proofs.Common.{List, [], ◌∷◌, ◌++◌, map, take, length, filter, Some, option_map, slice_get, refl, sym}
 use Rattle.std.proofs.Common.{◌∙◌, ap, subst, arith}
 use Rattle.std.specs.List.{AllByRecursion}
-use Rattle.std.specs.declared.cmp.Ordering.TheVariants.{Less, Equal}
 use Rattle.std.specs.Ordering.{nat_cmp, ordering_then, is_lt}
 use Rattle.std.proofs.lemmas.Bool.{cases_order}
-use Rattle.std.proofs.lemmas.Bool.Decides.{nat_tests}
 use Rattle.std.proofs.lemmas.List.{append-nil}
 use Rattle.std.proofs.lemmas.List.Elements.{filter-append}
 use Rattle.std.proofs.lemmas.List.Sorted.{IsPermutation-sym}
@@ -18,7 +16,8 @@ use Rattle.st_core.specs.declared.types.Event.{Event}
 use Rattle.st_core.specs.Pid.{pid_eq, pid_cmp, IsBelow, IsRising}
 use Rattle.st_core.specs.Run.{Stream, pids_of}
 use Rattle.st_core.specs.Streams.{stream_of, events_of}
-use Rattle.st_core.proofs.ForCallers.{pid_eq-true, pid_eq-swap, pid_cmp-same, IsBelow-apart}
+use Rattle.st_core.proofs.ForCallers.{pid_eq-true, pid_eq-swap, pid_cmp-same, IsBelow-apart, nat_cmp-same}
+use Rattle.st_core.proofs.ForCallers.{nat_cmp-below}
 use Rattle.st_pair.specs.Places.{event_at, is_stamp}
 use Rattle.st_pair.proofs.ForCallers.{events_in}
 use Rattle.st_order.specs.declared.item.Item.{Item}
@@ -38,12 +37,6 @@ record IsUnder (k l : Key) : Type 0 where
   pid : k.pid ≡ l.pid
   place : k.place < l.place
 
-cmp_less : (m n : ℕ) → m < n → nat_cmp m n ≡ Less
-cmp_less m n h = grind (arith, nat_tests)
-
-cmp_equal : (m n : ℕ) → m ≡ n → nat_cmp m n ≡ Equal
-cmp_equal m n h = grind (arith, nat_tests)
-
 under_less : (k l : Key) → IsUnder k l → is_lt (key_cmp k l) ≡ true
 under_less k l u =
     let pids = ordering_then (pid_cmp k.pid l.pid) (nat_cmp k.place l.place) in
@@ -52,16 +45,16 @@ under_less k l u =
     elim (cases_order k.height l.height) [
       | inl same ↦
           let rank = u.rank same in
-          ap (λ o. is_lt (ordering_then o ranks)) (cmp_equal k.height l.height same)
+          ap (λ o. is_lt (ordering_then o ranks)) (nat_cmp-same k.height l.height same)
           ∙ elim (cases_order k.rank l.rank) [
-            | inl even ↦ ap (λ o. is_lt (ordering_then o pids)) (cmp_equal k.rank l.rank even)
+            | inl even ↦ ap (λ o. is_lt (ordering_then o pids)) (nat_cmp-same k.rank l.rank even)
                 ∙ ap (λ o. is_lt (ordering_then o (nat_cmp k.place l.place)))
                 (ap (pid_cmp k.pid) (sym u.pid) ∙ pid_cmp-same k.pid)
-                ∙ ap is_lt (cmp_less k.place l.place u.place)
-            | inr (inl less) ↦ ap (λ o. is_lt (ordering_then o pids)) (cmp_less k.rank l.rank less)
+                ∙ ap is_lt (nat_cmp-below k.place l.place u.place)
+            | inr (inl less) ↦ ap (λ o. is_lt (ordering_then o pids)) (nat_cmp-below k.rank l.rank less)
             | inr (inr more) ↦ absurd (omega arith)
           ]
-      | inr (inl less) ↦ ap (λ o. is_lt (ordering_then o ranks)) (cmp_less k.height l.height less)
+      | inr (inl less) ↦ ap (λ o. is_lt (ordering_then o ranks)) (nat_cmp-below k.height l.height less)
       | inr (inr more) ↦ absurd (omega arith)
     ]
 

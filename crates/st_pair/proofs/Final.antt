@@ -37,8 +37,8 @@ use Rattle.st_pair.proofs.Reasons as reasons
 
 -- KINDS
 
-stamp_kind : (e : Event) → is_stamp e ≡ true → e.kind ≢ kind.Receive
-stamp_kind e stamps is = false≢true (sym (receive_unstamped e is) ∙ stamps)
+pub stamp_not_received : (e : Event) → is_stamp e ≡ true → e.kind ≢ kind.Receive
+stamp_not_received e stamps is = false≢true (sym (receive_unstamped e is) ∙ stamps)
 
 receive_kind : (e : Event) → is_stamp e ≡ false → e.kind ≡ kind.Receive
 receive_kind e receives = elim e.kind as (λ k.
@@ -156,7 +156,7 @@ module _ (top : ℕ) (streams : List Stream) (acts : List Act) (os : List Outcom
     stamp_lifts : (p : Pid) (i : ℕ) (e : Event) (n : ℕ) → ReportsEvent acts os p i e n → is_stamp e ≡ true
         → LiftsClock os p e.serial.this n
     stamp_lifts p i e n r stamps =
-        reported_stamps_lift top (pids_of streams) acts os runs none p n e r.reports (stamp_kind e stamps)
+        reported_stamps_lift top (pids_of streams) acts os runs none p n e r.reports (stamp_not_received e stamps)
 
     -- COUNTS THAT DON'T RISE
 

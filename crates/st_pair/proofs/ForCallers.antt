@@ -7,6 +7,8 @@ pub use Rattle.st_pair.proofs.Accepted.{Rule, IsPaired, paired, event_none, seri
 pub use Rattle.st_pair.proofs.Accepted.{from_none, got_rule, cond_none}
 pub use Rattle.st_pair.proofs.Converse.{stamp_counts_rise, stamp_once, source_from_receiver, receiver_from_source}
 pub use Rattle.st_pair.proofs.Ruled.{stamp_at}
+pub use Rattle.st_pair.proofs.Ruled.{receive_unstamped}
+pub use Rattle.st_pair.proofs.Final.{stamp_not_received}
 pub use Rattle.st_pair.proofs.Owned.{own_rule}
 -- ---- what `refusal streams ≡ Some f` says of all acts, and acts that show streams of pairing
 pub use Rattle.st_pair.proofs.Final.{prev_never_shown, refused_never_shown}

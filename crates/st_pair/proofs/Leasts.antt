@@ -2,14 +2,13 @@
 use Rattle.std.proofs.Common.{◌≡◌, ℕ, ◌+◌, ◌<◌, zero, suc, Bool, true, false, cond, List, [], ◌∷◌, Some, None}
 use Rattle.std.proofs.Common.{slice_get, inl, inr, refl, sym, ◌∙◌, ap, subst, arith}
 use Rattle.std.specs.List.{AllByRecursion}
-use Rattle.std.proofs.lemmas.Bool.{false≢true}
 use Rattle.std.proofs.lemmas.Option.{same_Some, none-some}
 use Rattle.st_core.specs.declared.types.Pid.{Pid}
 use Rattle.st_core.specs.declared.types.Event.{Event}
 use Rattle.st_core.specs.Pid.{pid_eq, IsBelow, IsRising}
 use Rattle.st_core.specs.Run.{Stream, pids_of}
 use Rattle.st_core.specs.Streams.{stream_of}
-use Rattle.st_core.proofs.ForCallers.{pid_eq-true, pid_eq-same, IsBelow-apart, IsBelow-trans}
+use Rattle.st_core.proofs.ForCallers.{pid_eq-true, pid_eq-same, IsBelow-apart, IsBelow-trans, not_below_itself}
 use Rattle.st_pair.specs.Laws.{IsEarlier, IsLeast}
 use Rattle.st_pair.specs.Places.{event_at, first_from, first}
 use Rattle.st_pair.specs.Tables.{or_else}
@@ -73,9 +72,6 @@ listed_above (s ∷ streams) p q j f all at = elim (pid_eq s.pid q) as (λ b. pi
       | true ↦ λ same at. subst (IsBelow p) (pid_eq-true s.pid q same) all.0
       | false ↦ λ other at. listed_above streams p q j f all.1 at
     ] refl at
-
-not_below_itself : (p : Pid) → IsBelow p p → ⊥
-not_below_itself p h = false≢true (sym (IsBelow-apart p p h) ∙ pid_eq-same p)
 
 not_earlier : (p q : Pid) (i j : ℕ) → IsBelow p q → IsEarlier q j p i → ⊥
 not_earlier p q i j above (inl below) = not_below_itself p (IsBelow-trans p q p above below)

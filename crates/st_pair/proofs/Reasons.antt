@@ -11,6 +11,7 @@ use Rattle.st_core.specs.declared.types.Event.{Event}
 use Rattle.st_core.specs.Pid.{pid_eq}
 use Rattle.st_core.specs.Run.{Stream}
 use Rattle.st_core.specs.Streams.{events_of}
+use Rattle.st_core.proofs.ForCallers.{not_false}
 use Rattle.st_pair.specs.declared.answer.PairFault.{PairFault}
 use Rattle.st_pair.specs.declared.answer.PairFault.TheVariants as fault
 use Rattle.st_pair.specs.Places.{is_stamp, first}
@@ -58,10 +59,6 @@ reason_of streams f h =
 neither : (x y : Bool) → (x || y) ≡ false → (x ≡ false) × (y ≡ false)
 neither true y h = absurd (false≢true (sym h))
 neither false y h = (refl, h)
-
-not_false : (b : Bool) → not b ≡ false → b ≡ true
-not_false true h = refl
-not_false false h = absurd (false≢true (sym h))
 
 module _ (streams : List Stream) (p : Pid) (i : ℕ) (e : Event) (f : PairFault) where
   pub record SaysPrev : Type 0 where

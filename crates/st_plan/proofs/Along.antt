@@ -16,7 +16,7 @@ use Rattle.st_core.specs.declared.types.Event.{Event}
 use Rattle.st_core.specs.Pid.{pid_eq, pid_cmp, IsRising}
 use Rattle.st_core.specs.Run.{Stream, pids_of}
 use Rattle.st_core.specs.Streams.{events_of}
-use Rattle.st_core.proofs.ForCallers.{all_at, pid_cmp-same, pid_same}
+use Rattle.st_core.proofs.ForCallers.{all_at, pid_cmp-same, pid_same, nat_cmp-same}
 use Rattle.st_pair.specs.Places.{event_at}
 use Rattle.st_order.specs.declared.item.Item.{Item}
 use Rattle.st_order.specs.declared.item.Item.TheVariants as item
@@ -138,15 +138,12 @@ pub record IsKeyBelow (k l : Key) : Type 0 where
   pub rank : k.height ≡ l.height → k.rank ≤ l.rank
   pub place : k.height ≡ l.height → k.rank ≡ l.rank → k.pid ≡ l.pid → k.place < l.place
 
-cmp_equal : (m n : ℕ) → m ≡ n → nat_cmp m n ≡ Equal
-cmp_equal m n h = grind (arith, nat_tests)
-
 cmp_greater : (m n : ℕ) → n < m → nat_cmp m n ≡ Greater
 cmp_greater m n h = grind (arith, nat_tests)
 
 cmp_less : (m n : ℕ) → is_lt (nat_cmp m n) ≡ true → m < n
 cmp_less m n h = elim (cases_order m n) [
-  | inl same ↦ absurd (false≢true (ap is_lt (sym (cmp_equal m n same)) ∙ h))
+  | inl same ↦ absurd (false≢true (ap is_lt (sym (nat_cmp-same m n same)) ∙ h))
   | inr (inl less) ↦ less
   | inr (inr more) ↦ absurd (false≢true (ap is_lt (sym (cmp_greater m n more)) ∙ h))
 ]
@@ -161,7 +158,7 @@ place_below k l pid h =
 step_below : (m n : ℕ) (rest : Ordering) → is_lt (ordering_then (nat_cmp m n) rest) ≡ true
     → (m < n) ⊎ ((m ≡ n) × (is_lt rest ≡ true))
 step_below m n rest h = elim (cases_order m n) [
-  | inl same ↦ inr (same, ap (λ o. is_lt (ordering_then o rest)) (sym (cmp_equal m n same)) ∙ h)
+  | inl same ↦ inr (same, ap (λ o. is_lt (ordering_then o rest)) (sym (nat_cmp-same m n same)) ∙ h)
   | inr (inl less) ↦ inl less
   | inr (inr more) ↦ absurd (false≢true (ap (λ o. is_lt (ordering_then o rest)) (sym (cmp_greater m n more)) ∙ h))
 ]

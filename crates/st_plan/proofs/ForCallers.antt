@@ -4,8 +4,9 @@
 -- ---- the moves along an order
 pub use Rattle.st_plan.proofs.Along.{take_more, moves_append, one_move, earlier_more, order_there, hidden_clock, IsAt}
 pub use Rattle.st_plan.proofs.Along.{IsThere}
+pub use Rattle.st_plan.proofs.Orderly.{item_is}
 -- ---- acts as steps of the machine
-pub use Rattle.st_plan.proofs.Lift.{step_is, run_append, state_append, lifted, stream_silent, Lifted, Silent}
+pub use Rattle.st_plan.proofs.Lift.{run_append, state_append, lifted, stream_silent, Lifted, Silent}
 -- ---- what the moves say of the machine, from the first acts on
 pub use Rattle.st_plan.proofs.Kept.{IsKept, IsSo}
 pub use Rattle.st_plan.proofs.Opening.{opens, IsOpened}

@@ -10,15 +10,11 @@ use Rattle.st_core.specs.Pid.{pid_eq}
 use Rattle.st_core.specs.State.{LocalState, Process, State, process}
 use Rattle.st_core.specs.Step.{Acted, Outcome, acted, actor, receiver, touches, reached, changed, outcome_of, step}
 use Rattle.st_core.specs.Run.{run_from, stream}
-use Rattle.st_core.proofs.ForCallers.{changed_pid, changed_untouched, pid_eq-refl, process_pid, process-map}
+use Rattle.st_core.proofs.ForCallers.{changed_pid, changed_untouched, pid_eq-refl, process_pid, process-map, step_done}
 use Rattle.st_plan.specs.Build.{state_after}
 use Rattle.st_plan.proofs.Readiness.{is_alone, QuietRun}
 
 -- A STEP FROM ITS PARTS
-
-pub step_is : (top : ℕ) (s : State) (a : Act) (r x : Process) (done : Acted) → process s (actor a) ≡ Some r
-    → process s (receiver a) ≡ Some x → acted top r a ≡ Some done → step top s a ≡ Some (outcome_of s a done)
-step_is top s a r x done is_r is_x is = rw (is_r, is_x, is) refl
 
 pub process_then : (s : State) (a : Act) (done : Acted) (p : Pid)
     → process (outcome_of s a done).after p ≡ option_map (changed a done) (process s p)
@@ -145,7 +141,7 @@ lifted top p (a ∷ acts) s r l m is local runs =
     let same : r ≡ record { pid = p; local = l; queue = r.queue } =
     λ i. record { pid = who i; local = local i; queue = r.queue } in
     let acted_is : acted top r a ≡ Some done = ap (λ (y : Process). acted top y a) same ∙ q.acts r.queue in
-    let first : step top s a ≡ Some (outcome_of s a done) = step_is top s a r r done (ap (process s) by.0
+    let first : step top s a ≡ Some (outcome_of s a done) = step_done top s a r r done (ap (process s) by.0
     ∙ is) (ap (process s) by.1 ∙ is) acted_is in
     let after : State = (outcome_of s a done).after in
     let next : Process = record r { local = x } in

@@ -1,6 +1,6 @@
 -- What an accepting pairing says of a receive and the moves before it: none took its message, since no other receive
 -- has its sender and count, and its sender's stamp with its count is its send.
-use Rattle.std.proofs.Common.{◌≡◌, ℕ, ◌==◌, ◌&&◌, ◌||◌, Bool, true, false, not, List, [], ◌∷◌, Option, Some, None}
+use Rattle.std.proofs.Common.{◌≡◌, ℕ, ◌==◌, ◌&&◌, ◌||◌, Bool, true, false, not, List, [], ◌∷◌, Some, None}
 use Rattle.std.proofs.Common.{option_and_then, refl, sym, ◌∙◌, ap, subst, arith, if◌then◌else◌}
 use Rattle.std.specs.List.{AllByRecursion}
 use Rattle.std.proofs.lemmas.Bool.{eqb-true, false≢true, and_parts}
@@ -9,7 +9,7 @@ use Rattle.st_core.specs.declared.types.Pid.{Pid}
 use Rattle.st_core.specs.declared.types.Event.{Event}
 use Rattle.st_core.specs.Pid.{pid_eq}
 use Rattle.st_core.specs.Run.{Stream}
-use Rattle.st_core.proofs.ForCallers.{pid_same, not_true}
+use Rattle.st_core.proofs.ForCallers.{pid_same, not_true, to_eq-true}
 use Rattle.st_pair.specs.declared.answer.PairFault.TheVariants as fault
 use Rattle.st_pair.specs.Places.{event_at, is_stamp}
 use Rattle.st_pair.specs.Pairing.{stamp_of, receive_of, to_eq, is_send, agrees, mismatch}
@@ -94,12 +94,6 @@ pub record IsAgreed (f e : Event) : Type 0 where
   pub to : f.to ≡ e.to
   pub value : f.value ≡ e.value
 
-same_to : (p q : Option Pid) → to_eq p q ≡ true → p ≡ q
-same_to None None h = refl
-same_to None (Some q) h = absurd (false≢true h)
-same_to (Some p) None h = absurd (false≢true h)
-same_to (Some p) (Some q) h = ap (λ (x : Pid). Some x) (pid_same p q h)
-
 agreed : (f e : Event) → agrees f e ≡ true → IsAgreed f e
 agreed f e h =
     let to_value = to_eq f.to e.to && f.value == e.value in
@@ -113,7 +107,7 @@ agreed f e h =
       sends = one.0;
       label = λ i. record { 0 = number i };
       prev = eqb-true f.serial.prev e.serial.prev three.0;
-      to = same_to f.to e.to four.0;
+      to = to_eq-true f.to e.to four.0;
       value = eqb-true f.value e.value four.1;
     }
 

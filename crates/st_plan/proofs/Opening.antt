@@ -1,12 +1,11 @@
 -- The tracers come first: a tracer for each node marks all its processes, reports nothing and leaves all else at zero,
 -- so that after them the state is what no moves say.
 use Rattle.std.proofs.Common.{◌≡◌, ℕ, ◌==◌, ◌&&◌, zero, suc, Bool, true, false, cond, List, [], ◌∷◌, Option, Some, None}
-use Rattle.std.proofs.Common.{is_some, option_map, option_and_then, refl, sym, ◌∙◌, ap, subst, arith}
+use Rattle.std.proofs.Common.{is_some, option_map, option_and_then, refl, sym, ◌∙◌, ap, subst}
 use Rattle.std.specs.List.{slice_get}
 use Rattle.std.specs.Option.{option_map_or}
 use Rattle.std.proofs.lemmas.Bool.{false≢true, eq-eqb}
 use Rattle.std.proofs.lemmas.Option.{same_Some, none-some}
-use Rattle.std.proofs.lemmas.Bool.Decides.{nat_tests}
 use Rattle.st_core.specs.declared.types.Pid.{Pid}
 use Rattle.st_core.specs.declared.types.Reply.TheVariants as reply
 use Rattle.st_core.specs.declared.types.Act.{Act}
@@ -16,13 +15,10 @@ use Rattle.st_core.specs.State.{Process, State, process, zero_local, zero_state}
 use Rattle.st_core.specs.Step.{Acted, Outcome, answers, changed, outcome_of, step}
 use Rattle.st_core.specs.Run.{Stream, pids_of, run_from}
 use Rattle.st_core.specs.Streams.{lists, stream_of}
-use Rattle.st_core.proofs.ForCallers.{pid_same, pid_eq-refl, process_pid, mapped}
+use Rattle.st_core.proofs.ForCallers.{pid_same, pid_eq-refl, process_pid, mapped, eqb-swap, step_done}
 use Rattle.st_plan.specs.Build.{state_after, tracers_after}
-use Rattle.st_plan.proofs.Lift.{step_is, process_then, Silent}
+use Rattle.st_plan.proofs.Lift.{process_then, Silent}
 use Rattle.st_plan.proofs.Kept.{IsKept, found, there_mapped}
-
-swap : (m n : ℕ) → (m == n) ≡ (n == m)
-swap m n = grind (arith, nat_tests)
 
 pub record IsZero (r : Process) : Type 0 where
   pub clocked : r.local.clock ≡ 0
@@ -135,7 +131,7 @@ opened top (p ∷ ps) seen s there zeroed traced =
           let a = act.Tracer p true in
           let now = switched r in
           let o = outcome_of s a now in
-          let first : step top s a ≡ Some o = step_is top s a r r now at.1 at.1 refl in
+          let first : step top s a ≡ Some o = step_done top s a r r now at.1 at.1 refl in
           let here : (x : Pid) → process o.after x ≡ option_map (changed a now) (process s x) =
           λ x. process_then s a now x in
           let stays : (x : Pid) → is_some (process o.after x) ≡ is_some (process s x) =
@@ -157,7 +153,7 @@ opened top (p ∷ ps) seen s there zeroed traced =
           let z = was x r2 is in
           subst IsZero z.2 (tracer_zero p r z.0 (zeroed p r at.1) (zeroed x z.0 z.1)) in
           let rest = opened top ps (Some p.node) o.after (λ k x h. stays x ∙ there (suc k) x h) zeros
-          (λ x h. node x (swap x.node p.node ∙ h)) in
+          (λ x h. node x (eqb-swap x.node p.node ∙ h)) in
           record {
             os = o ∷ rest.os;
             runs = ap (option_and_then (λ (o : Outcome). option_map (λ os. o ∷ os)

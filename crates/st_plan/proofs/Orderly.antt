@@ -10,7 +10,7 @@ use Rattle.st_core.specs.declared.types.Event.{Event}
 use Rattle.st_core.specs.Run.{Stream}
 use Rattle.st_core.proofs.ForCallers.{all_at}
 use Rattle.st_pair.specs.Places.{event_at, is_stamp}
-use Rattle.st_pair.proofs.ForCallers.{IsPaired}
+use Rattle.st_pair.proofs.ForCallers.{IsPaired, receive_unstamped}
 use Rattle.st_order.specs.declared.item.Item.{Item}
 use Rattle.st_order.specs.declared.item.Item.TheVariants as item
 use Rattle.st_order.specs.Items.{event_of}
@@ -22,7 +22,7 @@ use Rattle.st_plan.proofs.Free.{AllAlong, IsInTurn}
 use Rattle.st_plan.proofs.Taking.{IsWaiting}
 use Rattle.st_plan.proofs.Rising.{IsTop}
 use Rattle.st_plan.proofs.Clocks.{clocks_below, have_by, top_of, HasCome, IsKnown, IsNext}
-use Rattle.st_plan.proofs.Sources.{receive_stamp, receive_waits, source_item, AreTops, HasSource, IsReceive}
+use Rattle.st_plan.proofs.Sources.{receive_waits, source_item, AreTops, HasSource, IsReceive}
 
 -- MOVES OF ITEMS
 
@@ -184,7 +184,7 @@ waits_by : (streams : List Stream) → IsPaired streams → AreTops streams
     → IsWaiting streams earlier (move_by (item.Reported p i) e)
 waits_by streams ok tops earlier p i e xs r leads rise covers came =
     let source = source_item streams ok tops p i e r in
-    let first = source_came streams earlier p i e xs r.at (receive_stamp e r.kind) rise covers source in
+    let first = source_came streams earlier p i e xs r.at (receive_unstamped e r.kind) rise covers source in
     let below = leads_below streams (item.Reported p i) xs e earlier r.at leads in
     receive_waits streams ok earlier p i e r came below source first.0 first.1
 

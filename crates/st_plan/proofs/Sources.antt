@@ -17,7 +17,7 @@ use Rattle.st_core.specs.Streams.{events_of}
 use Rattle.st_core.proofs.ForCallers.{pid_eq-refl, all_at}
 use Rattle.st_pair.specs.Places.{event_at, is_stamp}
 use Rattle.st_pair.specs.Pairing.{stamp_of, receive_of, is_send, source_of, receiver_at}
-use Rattle.st_pair.proofs.ForCallers.{given_from, once_place, own_rule, IsPaired}
+use Rattle.st_pair.proofs.ForCallers.{given_from, once_place, own_rule, IsPaired, receive_unstamped}
 use Rattle.st_order.specs.declared.item.Item.{Item}
 use Rattle.st_order.specs.declared.item.Item.TheVariants as item
 use Rattle.st_order.specs.Items.{height, is_hidden}
@@ -71,9 +71,6 @@ stamp_by kind.Print = true
 pub stamp_kind : (e : Event) (k : Kind) → e.kind ≡ k → is_stamp e ≡ stamp_by k
 stamp_kind e k h = ap stamp_by h
 
-pub receive_stamp : (e : Event) → e.kind ≡ kind.Receive → is_stamp e ≡ false
-receive_stamp e h = stamp_kind e kind.Receive h
-
 -- the item whose message it takes
 pub record HasSource (streams : List Stream) (p : Pid) (i : ℕ) (e : Event) : Type 0 where
   pub thing : Item
@@ -113,7 +110,7 @@ AreTops streams = (x : Item) (d : Event) → IsAt streams x d → IsTop streams 
 pub source_item : (streams : List Stream) → IsPaired streams → AreTops streams → (p : Pid) (i : ℕ) (e : Event)
     → IsReceive streams p i e → HasSource streams p i e
 source_item streams ok tops p i e r =
-    let receive = receive_stamp e r.kind in
+    let receive = receive_unstamped e r.kind in
     let sought = stamp_of streams e.from e.serial.this in
     elim sought as (λ o. sought ≡ o → HasSource streams p i e) [
       | None ↦ λ none. record {
@@ -156,7 +153,7 @@ fits_by : (streams : List Stream) → IsPaired streams → (p : Pid) (i : ℕ) (
 fits_by streams ok p i e r (item.Hidden a b) d at sent =
     let who = sent.who in
     let count = sent.count in
-    let same = same_place streams ok p i e a b d r.at (receive_stamp e r.kind) at.0
+    let same = same_place streams ok p i e a b d r.at (receive_unstamped e r.kind) at.0
     (hidden_receives streams d at.1) who count in
     let there : event_at streams a b ≡ event_at streams p i =
     ap (λ q. event_at streams q b) same.0 ∙ ap (event_at streams p) same.1 in
@@ -176,7 +173,7 @@ fits_by streams ok p i e r (item.Hidden a b) d at sent =
 fits_by streams ok p i e r (item.Reported q j) d at sent =
     let who = sent.who in
     let count = sent.count in
-    let receive = receive_stamp e r.kind in
+    let receive = receive_unstamped e r.kind in
     let stamp = not-false (is_stamp d) sent.stamps in
     let agreed = matched_send streams ok p i e q j d r.at receive at stamp who count in
     let kind_is = is_sending p d.to d.kind sent.sends in
@@ -221,6 +218,6 @@ pub receive_waits : (streams : List Stream) → IsPaired streams → (earlier : 
     → (source : HasSource streams p i e) (n : ℕ) → slice_get earlier n ≡ Some (move_by source.thing source.event)
     → IsWaiting streams earlier (move_by (item.Reported p i) e)
 receive_waits streams ok earlier p i e r came below source n at =
-    let free = untaken streams ok p i e earlier r.at (receive_stamp e r.kind) came below p in
+    let free = untaken streams ok p i e earlier r.at (receive_unstamped e r.kind) came below p in
     is_waiting streams earlier (move_by (item.Reported p i) e) n (move_by source.thing source.event) free at source.sent
     (λ k y among sent. fits streams ok p i e r y (all_at (HasCome streams) earlier k y came among) sent)

@@ -10,8 +10,8 @@ use Rattle.st_core.specs.declared.types.Kind.{Kind}
 use Rattle.st_core.specs.declared.types.Kind.TheVariants as kind
 use Rattle.st_core.specs.declared.types.Event.{Event}
 use Rattle.st_core.specs.declared.types.Reply.TheVariants as reply
-use Rattle.st_core.specs.Step.{actor, answers, receiver, Acted, Outcome, acted, reached, changed, outcome_of, step}
-use Rattle.st_core.specs.Run.{stream, Stream, run_from}
+use Rattle.st_core.specs.Step.{actor, answers, receiver, Acted, acted, reached, changed, outcome_of, step}
+use Rattle.st_core.specs.Run.{stream, Stream}
 use Rattle.st_core.specs.declared.types.Act.{Act}
 use Rattle.st_core.specs.declared.types.Act.TheVariants as act
 use Rattle.st_core.specs.Pid.{pid_eq}
@@ -19,7 +19,7 @@ use Rattle.st_core.specs.State.{LocalState, Process, State, process}
 use Rattle.st_core.specs.Stamp.{stamped_token}
 use Rattle.st_core.specs.Report.{report}
 use Rattle.st_core.specs.Streams.{lists}
-use Rattle.st_core.proofs.ForCallers.{process_pid}
+use Rattle.st_core.proofs.ForCallers.{process_pid, step_done, run_from-one}
 use Rattle.st_plan.specs.Plain.{told_by}
 use Rattle.st_plan.specs.Moves.{Move, is_taking, clock, move_by}
 use Rattle.st_plan.specs.Reasons.{uncaused}
@@ -28,7 +28,7 @@ use Rattle.st_plan.proofs.Kept.{step_keeps, token_of, message_of, sends_to, queu
 use Rattle.st_plan.proofs.Kept.{Continues, found, still_there, caused, own_clock, own_last, other_clock, other_last}
 use Rattle.st_plan.proofs.Kept.{stamp_queue, stream_last, told_last}
 use Rattle.st_plan.proofs.Readiness.{is_ready}
-use Rattle.st_plan.proofs.Lift.{step_is, run_append, state_append, Lifted, lifted, changed_own}
+use Rattle.st_plan.proofs.Lift.{run_append, state_append, Lifted, lifted, changed_own}
 
 -- READY
 
@@ -106,10 +106,6 @@ stands_ready top streams earlier s m can =
 
 -- THE STAMP
 
-pub one_run : (top : ℕ) (s : State) (a : Act) (o : Outcome) → step top s a ≡ Some o
-    → run_from top s (a ∷ []) ≡ Some (o ∷ [])
-one_run top s a o h = rw h refl
-
 -- a record stamped
 abbrev final : Pid → LocalState → Token → LocalState
 final p l t = record l { token = Some (stamped_token p l t); clock = l.clock + 1 }
@@ -186,7 +182,7 @@ stamping top streams earlier s m a can st =
     let other = found (process s1 (receiver a)) (y.there (receiver a) st.listed) in
     let o = outcome_of s1 a done in
     let here : process s1 (actor a) ≡ Some r = ap (process s1) st.by ∙ y.lift.here in
-    let stepped : step top s1 a ≡ Some o = step_is top s1 a r other.0 done here other.1 acted_is in
+    let stepped : step top s1 a ≡ Some o = step_done top s1 a r other.0 done here other.1 acted_is in
     let report_is : o.report ≡ told_event m = ap (λ b. report b st.kind (Some stamp) st.to v) y.traced
     ∙ ap (λ t. report true st.kind (Some t) st.to v) stamp_is
     ∙ st.reports in
@@ -213,7 +209,7 @@ stamping top streams earlier s m a can st =
         acts = first_acts ++ a ∷ [];
         are = rw (st.is y.before, can.stamps) refl;
         outcomes = y.lift.os ++ o ∷ [];
-        runs = run_append top s first_acts (a ∷ []) y.lift.os (o ∷ []) y.lift.runs (one_run top s1 a o stepped);
+        runs = run_append top s first_acts (a ∷ []) y.lift.os (o ∷ []) y.lift.runs (run_from-one top s1 a o stepped);
         tells = shown;
       },
       subst (IsKept streams (m ∷ earlier)) (sym state)

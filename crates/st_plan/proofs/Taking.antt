@@ -21,14 +21,13 @@ use Rattle.st_core.specs.Report.{report}
 use Rattle.st_core.specs.Step.{acted, receives, changed, outcome_of, step}
 use Rattle.st_core.specs.Run.{Stream}
 use Rattle.st_core.specs.Streams.{lists}
-use Rattle.st_core.proofs.ForCallers.{pid_eq-refl, process_pid}
+use Rattle.st_core.proofs.ForCallers.{pid_eq-refl, process_pid, step_done, run_from-one}
 use Rattle.st_mail.specs.Mail.{is_stamp}
 use Rattle.st_plan.specs.Moves.{Move, is_taking, clock, last, move_by}
 use Rattle.st_plan.specs.Build.{act_of}
-use Rattle.st_plan.proofs.Lift.{step_is, changed_own}
+use Rattle.st_plan.proofs.Lift.{changed_own}
 use Rattle.st_plan.proofs.Kept.{queue_of, IsSo, IsKept, told_event, Continues, found, apart_from, step_keeps}
 use Rattle.st_plan.proofs.Kept.{other_clock, other_last, taken_queue, told_last}
-use Rattle.st_plan.proofs.Stamping.{one_run}
 
 pick_place : (n k : ℕ) (queue : List Message) (x : Message) → slice_get queue k ≡ Some x
     → pick_from n (want.Place (n + k)) queue ≡ Some (n + k, x)
@@ -92,7 +91,7 @@ taking top streams earlier s m kept listed takes is_act is_told is w =
     let done = receives r (Some (k, w.message)) in
     let acted_is : acted top r a ≡ Some done = ap (λ f. Some (receives r f)) picked in
     let o = outcome_of s a done in
-    let stepped : step top s a ≡ Some o = step_is top s a r r done at.1 at.1 acted_is in
+    let stepped : step top s a ≡ Some o = step_done top s a r r done at.1 at.1 acted_is in
     let this : w.token.serial.this ≡ m.event.serial.this = ap (λ (e : Event). e.serial.this) w.gives in
     let report_is : o.report ≡ told_event m =
     ap (λ t. report r.local.traced kind.Receive t (Some r.pid) w.message.value) w.has
@@ -139,7 +138,7 @@ taking top streams earlier s m kept listed takes is_act is_told is w =
             (option_map (λ k. act.Receive m.who (want.Place k)) (position test q))) so.queued
             ∙ ap (λ p. option_map (λ b. b ∷ []) (option_map (λ k. act.Receive m.who (want.Place k)) p)) w.is);
         outcomes = o ∷ [];
-        runs = one_run top s a o stepped;
+        runs = run_from-one top s a o stepped;
         tells = λ p. told_last m o.report p is report_is;
       },
       step_keeps streams earlier m s a done r kept.there at.1 refl own others,

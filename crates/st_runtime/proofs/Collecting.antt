@@ -12,7 +12,7 @@ use Rattle.st_core.specs.Pid.{pid_eq, IsBelow, IsRising}
 use Rattle.st_core.specs.Step.{actor}
 use Rattle.st_core.specs.Run.{Stream, pids_of}
 use Rattle.st_core.specs.Streams.{stream_of, lists, with_event, added, is_own, ComesLast, AreOwn}
-use Rattle.st_core.proofs.ForCallers.{pid_eq-same, IsBelow-apart}
+use Rattle.st_core.proofs.ForCallers.{pid_eq-same, IsBelow-apart, with_event_pid}
 use Rattle.st_runtime.specs.declared.entry.Entry.{Entry}
 use Rattle.st_runtime.specs.Joined.{reports_of, streams_of}
 use Rattle.st_runtime.specs.Joining.{report_at, with_report}
@@ -34,11 +34,6 @@ lists_last [] p es = rw (pid_eq-same p) refl
 lists_last (x ∷ xs) p es =
     elim (pid_eq x.pid p) as (λ b. is_some (cond b (Some x) (stream_of (xs ++ of p es ∷ []) p)) ≡ true)
     [ true ↦ refl | false ↦ lists_last xs p es ]
-
-with_event_pid : (p : Pid) (e : Event) (x : Stream) → (with_event p e x).pid ≡ x.pid
-with_event_pid p e x =
-    elim (pid_eq x.pid p) as (λ b. (cond b (record x { events = x.events ++ e ∷ [] }) x).pid ≡ x.pid)
-    [ true ↦ refl | false ↦ refl ]
 
 lists_added : (xs : List Stream) (p : Pid) (e : Event) (q : Pid) → lists (added xs p e) q ≡ lists xs q
 lists_added [] p e q = refl

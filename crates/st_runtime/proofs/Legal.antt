@@ -6,8 +6,8 @@ use Rattle.std.proofs.lemmas.Option.{same_Some}
 use Rattle.st_core.specs.declared.types.Pid.{Pid}
 use Rattle.st_core.specs.declared.types.Act.{Act}
 use Rattle.st_core.specs.Pid.{pid_eq}
-use Rattle.st_core.specs.State.{Process, State, process}
-use Rattle.st_core.specs.Step.{Acted, acted, actor, receiver, touches, reached, changed, outcome_of, step}
+use Rattle.st_core.specs.State.{Process}
+use Rattle.st_core.specs.Step.{Acted, acted, actor, touches, reached, changed}
 use Rattle.st_core.proofs.ForCallers.{pid_eq-true, pid_eq-same}
 use Rattle.st_runtime.specs.declared.entry.Entry.{Entry}
 use Rattle.st_runtime.specs.Logs.{carried_by, IsOwnPart, IsOtherPart, IsPart}
@@ -55,12 +55,6 @@ part_changed top r e m before done is one part =
           ∙ sym (reached_carried e.act done.local.token r)
           ∙ ap (λ t. reached e.act t r) is.carried ∙ other.after
     ] refl part.part
-
--- the step where the actor, its part and the receiver are known
-pub step_done : (top : ℕ) (s : State) (a : Act) (r x : Process) (done : Acted)
-    → process s (actor a) ≡ Some r → process s (receiver a) ≡ Some x → acted top r a ≡ Some done
-    → step top s a ≡ Some (outcome_of s a done)
-step_done top s a r x done here there acts = rw (here, there, acts) refl
 
 -- an act that doesn't touch a process is another's
 pub untouched_other : (a : Act) (p : Pid) → touches a p ≡ false → pid_eq (actor a) p ≡ false

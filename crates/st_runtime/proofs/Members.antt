@@ -2,10 +2,8 @@
 use Rattle.std.proofs.Common.{◌≡◌, ℕ, zero, suc, ◌<◌, List, [], ◌∷◌, length, get_or, Bool, true, false, cond, map}
 use Rattle.std.proofs.Common.{refl, sym, ap, ◌∙◌, subst, arith, inl, inr, ⊎_elim, ◌⊎◌, take, set, ◌≤◌}
 use Rattle.std.specs.Prelude.{filter, All, AllPairs, Contains}
-use Rattle.st_core.specs.declared.types.Pid.{Pid}
-use Rattle.st_core.specs.Pid.{IsBelow}
 use Rattle.st_core.specs.Step.{actor}
-use Rattle.st_core.proofs.ForCallers.{pid_eq-same, IsBelow-trans, IsBelow-apart}
+use Rattle.st_core.proofs.ForCallers.{IsBelow-trans, not_below_itself}
 use Rattle.st_runtime.specs.declared.entry.Entry.{Entry}
 use Rattle.st_runtime.specs.Logs.{RanksRise}
 use Rattle.st_runtime.specs.Joined.{IsBefore}
@@ -97,9 +95,6 @@ Rises-above low (e ∷ es) d r i =
 pub IsOrdered-from_rises : (low : ℕ) (es : List Entry) → RanksRise low es → IsOrdered es
 IsOrdered-from_rises low [] r = tt
 IsOrdered-from_rises low (e ∷ es) r = (λ d i. inl (Rises-above e.rank es d r.1 i), IsOrdered-from_rises e.rank es r.1)
-
-not_below_itself : (p : Pid) → IsBelow p p → ⊥
-not_below_itself p h = let apart = IsBelow-apart p p h in let same = pid_eq-same p in cc
 
 before_irreflexive : (e : Entry) → IsBefore e e → ⊥
 before_irreflexive e h = ⊎_elim (λ a. let x = a in omega arith) (λ b. not_below_itself (actor e.act) b.1) h

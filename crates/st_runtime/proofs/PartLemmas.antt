@@ -1,5 +1,5 @@
 -- An entry is legal for a process by the machine's own parts, which the calls on that process answered.
-use Rattle.std.proofs.Common.{◌≡◌, ℕ, Bool, true, false, cond, ◌&&◌, ◌==◌, ◌++◌, List, [], ◌∷◌, map, Option}
+use Rattle.std.proofs.Common.{◌≡◌, ℕ, Bool, true, false, ◌&&◌, ◌==◌, List, Option}
 use Rattle.std.proofs.Common.{Some, None, option_map, refl, sym, ◌∙◌, ap}
 use Rattle.std.specs.Prelude.{MatchBool}
 use Rattle.std.proofs.lemmas.Option.{same_Some}
@@ -12,9 +12,8 @@ use Rattle.st_core.specs.declared.types.Act.TheVariants as act
 use Rattle.st_core.specs.declared.types.Reply.{Reply}
 use Rattle.st_core.specs.Pid.{pid_eq, node_eq}
 use Rattle.st_core.specs.State.{LocalState, Process}
-use Rattle.st_core.specs.Local.{wiped}
-use Rattle.st_core.specs.Step.{untraced, Acted, acted, actor, touches, reached}
-use Rattle.st_core.proofs.ForCallers.{pid_eq-true, pid_eq-same, changed_pid}
+use Rattle.st_core.specs.Step.{Acted, acted, actor, touches, reached}
+use Rattle.st_core.proofs.ForCallers.{pid_eq-true, pid_eq-same, changed_pid, reached_pid}
 use Rattle.st_mail.specs.Actor.{process_of, part_of, is_inner}
 use Rattle.st_mail.specs.declared.outcome.Outcome.{Outcome as Told}
 use Rattle.st_runtime.specs.declared.entry.Entry.{Entry}
@@ -51,22 +50,6 @@ touches_actor (act.Send p q v) = rw (pid_eq-same p) refl
 touches_actor (act.Reset p) = node_same p
 touches_actor (act.Tracer p b) = node_same p
 touches_actor a = pid_eq-same (actor a)
-
--- what reaches a process leaves its pid
-reached_pid : (a : Act) (t : Option Token) (r : Process) → (reached a t r).pid ≡ r.pid
-reached_pid (act.Send p q v) t r =
-    let m : Message = record { from = p; value = v; token = t } in
-    elim (pid_eq r.pid q) as (λ b. (cond b (record r { queue = r.queue ++ m ∷ [] }) r).pid ≡ r.pid) [
-      | true ↦ refl
-      | false ↦ refl
-    ]
-reached_pid (act.Reset p) t r =
-    let after : Process = record r { local = wiped r.local; queue = map untraced r.queue } in
-    elim (node_eq r.pid p) as (λ b. (cond b after r).pid ≡ r.pid) [ true ↦ refl | false ↦ refl ]
-reached_pid (act.Tracer p on) t r =
-    let after : Process = record r { local = record r.local { traced = on } } in
-    elim (node_eq r.pid p) as (λ b. (cond b after r).pid ≡ r.pid) [ true ↦ refl | false ↦ refl ]
-reached_pid a t r = refl
 
 -- no part changes whose process it is
 pub part_pid : (top : ℕ) (r : Process) (e : Entry) (m : Process) → IsPart top r e m → m.pid ≡ r.pid

@@ -7,10 +7,10 @@ use Rattle.st_core.specs.declared.types.Pid.{Pid}
 use Rattle.st_core.specs.declared.types.Act.{Act}
 use Rattle.st_core.specs.Pid.{pid_eq}
 use Rattle.st_core.specs.State.{Process, State, process, zero_state}
-use Rattle.st_core.specs.Step.{Acted, Outcome, actor, receiver, touches, changed, outcome_of, step}
+use Rattle.st_core.specs.Step.{Acted, Outcome, actor, receiver, touches, changed, outcome_of}
 use Rattle.st_core.specs.Run.{Stream, run, run_from, stream, pids_of}
 use Rattle.st_core.specs.Collected.{is_among}
-use Rattle.st_core.proofs.ForCallers.{pid_eq-true}
+use Rattle.st_core.proofs.ForCallers.{pid_eq-true, some_of, step_done, run_from-more}
 use Rattle.st_core.proofs.ForCallers.{changed_pid, changed_untouched}
 use Rattle.st_core.proofs.ForCallers.{process_pid, process-map, mapped}
 use Rattle.st_runtime.specs.declared.entry.Entry.{Entry}
@@ -19,7 +19,7 @@ use Rattle.st_runtime.specs.Pcb.{Control, IsKept}
 use Rattle.st_runtime.specs.Pieces.{pids_in, HasIfTouched, IsWhole, AreWhole, calls_of}
 use Rattle.st_runtime.specs.Joined.{reports_of, streams_of, IsMerged, IsOneRun}
 use Rattle.st_runtime.proofs.PartLemmas.{touches_actor, part_pid}
-use Rattle.st_runtime.proofs.Legal.{own_of_part, IsDone, part_changed, step_done, untouched_other}
+use Rattle.st_runtime.proofs.Legal.{own_of_part, IsDone, part_changed, untouched_other}
 use Rattle.st_runtime.proofs.Members.{In, In-Contains, Contains-In, All-In, In-All, In-filter, In-to_filter}
 use Rattle.st_runtime.proofs.Members.{IsOrdered-from_pairs, IsOrdered-filter, IsOrdered-from_rises, same_list}
 
@@ -52,10 +52,6 @@ record Ran (top : ℕ) (s : State) (es : List Entry) : Type 0 where
   runs : run_from top s (map (λ (e : Entry). e.act) es) ≡ Some outcomes
   replies : map (λ (o : Outcome). o.reply) outcomes ≡ map (λ (e : Entry). e.reply) es
   reports : map (λ (o : Outcome). o.report) outcomes ≡ map (λ (e : Entry). e.report) es
-
-the_some : {A : Type 0} (o : Option A) → IsSome o → (x : A) × (o ≡ Some x)
-the_some None h = absurd (cc)
-the_some (Some x) h = (x, refl)
 
 some_map : {A B : Type 0} (f : A → B) (o : Option A) → IsSome o → IsSome (option_map f o)
 some_map f None h = absurd (cc)
@@ -100,18 +96,14 @@ after_first top e es s r done by here there led =
           ),
     )
 
-run_more : (top : ℕ) (s : State) (a : Act) (rest : List Act) (o : Outcome) (os : List Outcome) → step top s a ≡ Some o
-    → run_from top o.after rest ≡ Some os → run_from top s (a ∷ rest) ≡ Some (o ∷ os)
-run_more top s a rest o os h later = rw (h, later) refl
-
 -- entries by which each process is led are a run
 ran : (top : ℕ) (es : List Entry) (s : State) → AreThere s es → AreLed top s es → Ran top s es
 ran top [] s there led = record { outcomes = []; runs = refl; replies = refl; reports = refl }
 ran top (e ∷ es) s there led =
     let known = there e (inl refl) in
-    let here = the_some (process s (actor e.act)) known.0 in
+    let here = some_of (process s (actor e.act)) known.0 in
     let r = here.0 in
-    let other = the_some (process s (receiver e.act)) known.1 in
+    let other = some_of (process s (receiver e.act)) known.1 in
     let mine : r.pid ≡ actor e.act = process_pid s (actor e.act) r here.1 in
     let first = led (actor e.act) r here.1 in
     let next = leads_first top r e (filter (touching (actor e.act)) es) first.0 (touches e.act (actor e.act))
@@ -124,7 +116,7 @@ ran top (e ∷ es) s there led =
     let rest : Ran top o.after es = ran top es o.after left.0 left.1 in
     record {
       outcomes = o ∷ rest.outcomes;
-      runs = run_more top s e.act (map (λ (d : Entry). d.act) es) o rest.outcomes
+      runs = run_from-more top s e.act (map (λ (d : Entry). d.act) es) o rest.outcomes
           (step_done top s e.act r other.0 done here.1 other.1 own.acts) rest.runs;
       replies = λ i. own.reply i ∷ rest.replies i;
       reports = λ i. own.report i ∷ rest.reports i;

@@ -14,6 +14,7 @@ use Rattle.std.specs.Result.{result_ok}
 use Rattle.std.specs.Prelude.{IfSome}
 use Rattle.st_core.specs.declared.types.Pid.{Pid}
 use Rattle.st_core.specs.Pid.{pid_cmp}
+use Rattle.st_core.proofs.ForCallers.{nat_cmp-Equal}
 use Rattle.st_runtime.specs.declared.entry.Entry.{Entry}
 use Rattle.st_runtime.specs.Logs.{RanksRise}
 use Rattle.st_runtime.specs.Pcb.{Control}
@@ -69,9 +70,6 @@ rank_rises low (x ∷ xs) zero (suc j) d rises lt within = rank_above x.rank xs 
 rank_rises low (x ∷ xs) (suc i) (suc j) d rises lt within = rank_rises x.rank xs i j d rises.1 (omega arith)
     (omega arith)
 
-same_rank : (m n : ℕ) → nat_cmp m n ≡ Equal → m ≡ n
-same_rank m n h = grind (arith, nat_tests)
-
 rank_itself : (n : ℕ) → nat_cmp n n ≡ Equal
 rank_itself n = grind (arith, nat_tests)
 
@@ -97,7 +95,7 @@ at_its_rank log e i rises within same has =
 pub entry_found : (log : List Entry) (e : Entry) (i : ℕ) → RanksRise 0 log → i < length log
     → IsBinarySearchResult (λ (y : Entry). nat_cmp y.rank e.rank) log (Ok i) → Contains log e → get_or log i e ≡ e
 entry_found log e i rises within found has =
-    at_its_rank log e i rises within (same_rank (get_or log i e).rank e.rank (found e)) has
+    at_its_rank log e i rises within (nat_cmp-Equal (get_or log i e).rank e.rank (found e)) has
 
 not_less_itself : (n : ℕ) → nat_cmp n n ≡ Less → ⊥
 not_less_itself n h = let is = rank_itself n in absurd (cc)

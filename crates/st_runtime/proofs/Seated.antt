@@ -16,7 +16,7 @@ use Rattle.st_core.specs.declared.types.Reply.{Reply}
 use Rattle.st_core.specs.Pid.{pid_cmp, pid_eq, IsBelow, IsRising}
 use Rattle.st_core.specs.Step.{actor}
 use Rattle.st_core.specs.Streams.{is_among}
-use Rattle.st_core.proofs.ForCallers.{pid_eq-true, pid_eq-same, IsBelow-apart, IsBelow-trans}
+use Rattle.st_core.proofs.ForCallers.{pid_eq-true, pid_eq-same, IsBelow-apart, IsBelow-trans, not_below_itself}
 use Rattle.st_runtime.specs.declared.entry.Entry.{Entry}
 use Rattle.st_runtime.specs.Joining.{IsLeastUnseated, lesser}
 use Rattle.st_runtime.specs.Pcb.{Control}
@@ -195,16 +195,13 @@ lesser_below (Some r) p q below =
       | false ↦ λ is h. h
     ] refl below
 
-below_itself : (p : Pid) → IsBelow p p → ⊥
-below_itself p below = let apart = IsBelow-apart p p below in let same = pid_eq-same p in cc
-
 -- it is never below the lesser of itself and another
 lesser_itself : (o : Option Pid) (p : Pid) → IfSome (lesser o p) (IsBelow p) → ⊥
-lesser_itself None p below = below_itself p below
+lesser_itself None p below = not_below_itself p below
 lesser_itself (Some r) p below =
     elim (is_lt (pid_cmp p r)) as (λ b. is_lt (pid_cmp p r) ≡ b
     → IfSome (cond b (Some p) (Some r)) (IsBelow p) → ⊥) [
-      | true ↦ λ is h. below_itself p h
+      | true ↦ λ is h. not_below_itself p h
       | false ↦ λ is h. let less : is_lt (pid_cmp p r) ≡ true = ap is_lt h in cc
     ] refl below
 

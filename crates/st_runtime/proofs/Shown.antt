@@ -1,11 +1,10 @@
 -- The streams that logs tell of can be collected: each event is its process's own and names only processes that are
 -- there.
-use Rattle.std.proofs.Common.{◌≡◌, ℕ, ◌+◌, Bool, true, false, cond, not, ◌&&◌, ◌||◌, if◌then◌else◌, List, [], ◌∷◌}
-use Rattle.std.proofs.Common.{◌++◌, length, position, Option, Some, None, is_some, refl, sym, ◌∙◌, ap, subst, arith}
+use Rattle.std.proofs.Common.{◌≡◌, ℕ, true, false, cond, not, ◌&&◌, ◌||◌, if◌then◌else◌, List, [], ◌∷◌}
+use Rattle.std.proofs.Common.{◌++◌, Option, Some, None, is_some, refl, sym, ◌∙◌, ap, subst}
 use Rattle.std.specs.Prelude.{All, option_to_list}
 use Rattle.std.specs.Option.{ForSome, option_map_or}
-use Rattle.std.specs.List.{AllByRecursion, AllZip, position_or_len}
-use Rattle.std.proofs.lemmas.Bool.{le-ltb}
+use Rattle.std.specs.List.{AllByRecursion, AllZip}
 use Rattle.std.proofs.lemmas.List.Elements.{All-head, All-tail}
 use Rattle.st_core.specs.declared.types.Pid.{Pid}
 use Rattle.st_core.specs.declared.types.Event.{Event}
@@ -16,7 +15,7 @@ use Rattle.st_core.specs.Run.{Stream, pids_of, stream}
 use Rattle.st_core.specs.Streams.{stream_of, lists, names_listed, unlisted_among, is_own, AreOwn, IsStreams}
 use Rattle.st_core.specs.Collected.{is_among, names_among}
 use Rattle.st_core.specs.Laws.{IsReportAmong, ReportsAmong}
-use Rattle.st_core.proofs.ForCallers.{pid_eq-true}
+use Rattle.st_core.proofs.ForCallers.{pid_eq-true, position-none}
 use Rattle.st_core.proofs.ForCallers.{run_named}
 use Rattle.st_runtime.specs.declared.entry.Entry.{Entry}
 use Rattle.st_runtime.specs.Pcb.{Control}
@@ -58,17 +57,6 @@ names_among_listed streams e =
     to_same None = refl
     to_same (Some q) = lists_among streams q
 
-none_passes : {A : Type 0} (test : A → Bool) (xs : List A) → AllByRecursion (λ x. test x ≡ false) xs
-    → position_or_len test xs ≡ length xs
-none_passes test [] all = refl
-none_passes test (x ∷ xs) all = let rest = none_passes test xs all.1 in ap
-    (λ b. cond (not b) (1 + position_or_len test xs) 0) all.0 ∙ (omega arith)
-
-no_position : {A : Type 0} (test : A → Bool) (xs : List A) → AllByRecursion (λ x. test x ≡ false) xs
-    → position test xs ≡ None
-no_position test xs all = ap (λ b. cond b (Some (position_or_len test xs)) None)
-    (le-ltb (position_or_len test xs) (length xs) (let e = none_passes test xs all in omega arith))
-
 -- each event is one that its process may report among all
 abbrev AreReports : List Pid → List Stream → Type 0
 AreReports pids streams = AllByRecursion (λ (x : Stream). AllByRecursion (IsReportAmong pids x.pid) x.events) streams
@@ -89,7 +77,7 @@ unlisted_none all (x ∷ rest) h =
     let test = λ (e : Event). not (names_listed all e) in
     ap (λ (k : Option ℕ). let o : Option (Pid × ℕ) =
     elim k [ None ↦ unlisted_among all rest | Some i ↦ Some (x.pid, i) ] in o)
-    (no_position test x.events (all_false all x.pid x.events h.0))
+    (position-none test x.events (all_false all x.pid x.events h.0))
     ∙ unlisted_none all rest h.1
 
 are_own : (pids : List Pid) (streams : List Stream) → AreReports pids streams → AreOwn streams

@@ -140,10 +140,6 @@ passes_none test o e = ap (last_passes test) e
 pub out_first : (a b x : Bool) → (a && b) ≡ false → (a && b && x) ≡ false
 out_first a b x e = rw e refl
 
-pub out_second : (a b : Bool) → b ≡ false → (a && b) ≡ false
-out_second true b e = e
-out_second false b e = refl
-
 pub unsaid_fault : (p : BundleBuilder) (ls : List Line) → IsBuilt p ls
     → line_fault ls None ≡ Some (faults.Line (p.lines + 1))
 unfolding line_fault

@@ -13,7 +13,7 @@ use Rattle.st_core.specs.declared.types.Act.{Act}
 use Rattle.st_core.specs.Pid.{pid_eq, IsBelow, IsRising}
 use Rattle.st_core.specs.Run.{Stream, pids_of}
 use Rattle.st_core.specs.Streams.{ComesLast, added, with_event}
-use Rattle.st_core.proofs.ForCallers.{IsRising-push, IsBelow-apart, pid_eq-same, all_at}
+use Rattle.st_core.proofs.ForCallers.{IsRising-push, IsBelow-apart, pid_eq-same, all_at, with_event_pid}
 use Rattle.st_text.specs.declared.line.Line.{Line}
 use Rattle.st_text.specs.declared.line.Line.TheVariants as lines
 use Rattle.st_text.specs.declared.builder.BundleBuilder.{BundleBuilder}
@@ -104,17 +104,10 @@ added_lines (x ∷ y ∷ ss) p e rising at =
     ∙ ap (λ (z : List Line). process_lines x ++ z) (added_lines (y ∷ ss) p e rising.1 later)
     ∙ sym (append_assoc (process_lines x) (flat_map process_lines (y ∷ ss)) (lines.Event e ∷ []))
 
-same_pid : (p : Pid) (e : Event) (x : Stream) → (with_event p e x).pid ≡ x.pid
-same_pid p e x = by (pid_eq x.pid p)
-  where
-    by : (t : Bool) → (cond t (record x { events = x.events ++ e ∷ [] }) x).pid ≡ x.pid
-    by true = refl
-    by false = refl
-
 pub added_pids : (ss : List Stream) (p : Pid) (e : Event) → pids_of (added ss p e) ≡ pids_of ss
 added_pids [] p e = refl
 added_pids (x ∷ ss) p e =
-    ap (λ (q : Pid). q ∷ pids_of (added ss p e)) (same_pid p e x)
+    ap (λ (q : Pid). q ∷ pids_of (added ss p e)) (with_event_pid p e x)
     ∙ ap (λ (ps : List Pid). x.pid ∷ ps) (added_pids ss p e)
 
 pub so_far_event : (wide : Bool) (ss : List Stream) (p : Pid) (e : Event) → IsRising (pids_of ss)

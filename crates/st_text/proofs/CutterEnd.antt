@@ -7,6 +7,7 @@ use Rattle.std.proofs.lemmas.List.{append-nil, length-append, length-map}
 use Rattle.st_core.specs.declared.types.Event.{Event}
 use Rattle.st_core.specs.declared.types.Act.{Act}
 use Rattle.st_core.specs.Run.{Stream}
+use Rattle.st_text.proofs.CutterSteps.{none_held, some_held}
 use Rattle.st_text.specs.declared.bundle.Bundle.{Bundle}
 use Rattle.st_text.specs.declared.line.Line.{Line}
 use Rattle.st_text.specs.declared.line.Line.TheVariants as lines
@@ -20,7 +21,6 @@ use Rattle.st_text.specs.Contents.{contents}
 use Rattle.st_text.specs.Fault.{cut, onto_first, sayings, fault, closing_fault, first_fault, is_event}
 use Rattle.st_text.specs.Parts.Builder.{so_far, IsBuilt}
 use Rattle.st_text.specs.Parts.Finish.{IsFinished, Finishes}
-use Rattle.st_text.specs.Parts.Cutter.{IsStateAfter}
 use Rattle.st_text.specs.Parts.Cutter.{IsTail}
 use Rattle.st_text.specs.Parts.CutterState.{HasTakenAs}
 use Rattle.st_text.specs.Answer.{Answers, IsAnswer, Reads}
@@ -80,10 +80,6 @@ pub end_tail : (bytes : List ℕ) (long : Bool) (kept : List ℕ) (p : Option Bu
 end_tail bytes long kept p e some few h =
     fault_truncated bytes few h.1.good (truncated_tail bytes
     (omega (arith, some, ap length (kept_some long kept (cut bytes).1 e h.1.tail_is))))
-
-none_held : (o : Option BundleBuilder) (ls : List Line) → o ≡ None → IsStateAfter o ls → ls ≡ []
-none_held None ls e h = h
-none_held (Some p) ls e h = absurd cc
 
 pub end_nothing : (bytes : List ℕ) (long : Bool) (kept : List ℕ) (p : Option BundleBuilder) → p ≡ None
     → length bytes ≤ most_bytes → HasTakenAs false None bytes long kept p → fault bytes ≡ Some faults.Truncated
@@ -176,10 +172,6 @@ few_lines (b ∷ bytes) = by (eqb b 10) (few_lines bytes)
         (b ∷ bytes)
     by true le = omega arith
     by false le = omega (arith, onto b (cut bytes).0 (cut bytes).1)
-
-some_held : (o : Option BundleBuilder) (p : BundleBuilder) (ls : List Line) → o ≡ Some p → IsStateAfter o ls
-    → IsBuilt p ls
-some_held o p ls e h = subst (λ (x : Option BundleBuilder). IsStateAfter x ls) e h
 
 pub end_finish : (bytes : List ℕ) (long : Bool) (kept : List ℕ) (o : Option BundleBuilder) (p : BundleBuilder)
     (r : Result Bundle ReadFault)

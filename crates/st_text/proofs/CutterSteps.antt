@@ -162,11 +162,11 @@ header_none (Some (lines.Event v)) e = refl
 header_none (Some lines.Acts) e = refl
 header_none (Some (lines.Act a)) e = refl
 
-none_held : (o : Option BundleBuilder) (ls : List Line) → o ≡ None → IsStateAfter o ls → ls ≡ []
+pub none_held : (o : Option BundleBuilder) (ls : List Line) → o ≡ None → IsStateAfter o ls → ls ≡ []
 none_held None ls e h = h
 none_held (Some p) ls e h = absurd cc
 
-some_held : (o : Option BundleBuilder) (p : BundleBuilder) (ls : List Line) → o ≡ Some p → IsStateAfter o ls
+pub some_held : (o : Option BundleBuilder) (p : BundleBuilder) (ls : List Line) → o ≡ Some p → IsStateAfter o ls
     → IsBuilt p ls
 some_held o p ls e h = subst (λ (x : Option BundleBuilder). IsStateAfter x ls) e h
 

@@ -83,17 +83,6 @@ step_own top s a i r q done own apart stands there acts is =
     sym (map-map (reached a token) mine s) ∙ ap (map (reached a token)) written in
     rw (stands.found, there, acts) (rw after refl)
 
--- without its actor an act has no step
-pub step_no_actor : (top : ℕ) (s : State) (a : Act) → process s (actor a) ≡ None → step top s a ≡ None
-step_no_actor top s a gone = rw gone refl
-
--- nor without a send's receiver
-pub step_no_receiver : (top : ℕ) (s : State) (a : Act) → process s (receiver a) ≡ None → step top s a ≡ None
-step_no_receiver top s a gone =
-    let rest =
-    λ (r : Process). option_and_then (λ _. option_map (outcome_of s a) (acted top r a)) (process s (receiver a)) in
-    elim (process s (actor a)) as (λ o. option_and_then rest o ≡ None) [ None ↦ refl | Some r ↦ rw gone refl ]
-
 -- where the actor's part has no value, the act has no step
 pub step_full : (top : ℕ) (s : State) (a : Act) (r : Process)
     → process s (actor a) ≡ Some r → acted top r a ≡ None → step top s a ≡ None

@@ -2,11 +2,11 @@
 use Rattle.std.proofs.Common.{◌≡◌, ◌+◌, ◌∙◌, ◌&&◌, ◌||◌, not, true, false, refl, sym, ap}
 use Rattle.std.specs.Prelude.{is_some}
 use Rattle.st_core.specs.Streams.{is_own}
-use Rattle.st_core.proofs.ForCallers.{both_true}
+use Rattle.st_core.proofs.ForCallers.{both_true, and_false}
 use Rattle.st_text.specs.Parts.Remote.{is_event_remote}
 use Rattle.st_text.specs.Fault.{last_passes}
 use Rattle.st_text.proofs.BuilderFaults.{report_fault, report_good, needs_room, no_line, not_own, too_many, begun_out}
-use Rattle.st_text.proofs.BuilderFaults.{out_first, out_second, away_out, let_in, not_begun, none_of_acts}
+use Rattle.st_text.proofs.BuilderFaults.{out_first, away_out, let_in, not_begun, none_of_acts}
 use Rattle.st_text.proofs.BuilderFaults.{at_most, passes_at, passes_none}
 use Rattle.st_text.proofs.BuilderSteps.{sound_event}
 use Rattle.st_text.proofs.builder.BundleBuilder.report.Goals as goal
@@ -33,7 +33,7 @@ returns-in_default c = λ ls s.
     report_fault p ls c.args.event.now s
     ∙ no_line (p.lines + 1) _ _ _ _ (out_first (not (is_some p.acts)) (last_passes (λ r. true) p.last)
     (p.wide || not (is_event_remote c.args.event.now))
-    (out_second (not (is_some p.acts)) (last_passes (λ r. true) p.last)
+    (and_false (not (is_some p.acts)) (last_passes (λ r. true) p.last)
     (passes_none (λ r. true) p.last c.in_default.is)))
 
 pub returns-then-not-is_own : goal.returns-then-not-is_own
