@@ -1,4 +1,5 @@
 pub mod Rooms
+pub mod ForCallers
 pub mod Texts
 pub mod Ends
 pub mod Lines

@@ -6,6 +6,7 @@ use Rattle.st_core.specs.declared.types.Pid.{Pid}
 use Rattle.st_core.specs.declared.types.Label.{Label}
 use Rattle.st_core.specs.Run.{Stream}
 use Rattle.st_text.specs.Spelling as spelled
+use Rattle.st_text.proofs.ForCallers.{front_some}
 use Rattle.st_audit.specs.declared.finding.Reason.{Reason}
 use Rattle.st_chart.specs.Words.{line, place_words}
 use Rattle.st_chart.specs.declared.charted.Charted.{Charted}
@@ -14,9 +15,6 @@ use Rattle.st_chart.specs.Report.{unfit_line, reason_words, event_line, evidence
 
 pub line_some : (words : List ℕ) → 0 < length (line words)
 line_some words = omega (arith, length-append words (10 ∷ []))
-
-pub front_some : (xs ys : List ℕ) → 0 < length xs → 0 < length (xs ++ ys)
-front_some xs ys some = omega (arith, length-append xs ys)
 
 pub unfit_some : (streams : List Stream) (p : Pid) (i : ℕ) (r : Reason) → 0 < length (unfit_text streams p i r)
 unfit_some streams p i r =

@@ -4,10 +4,9 @@ use Rattle.std.specs.List.{flat_map}
 use Rattle.std.proofs.lemmas.List.{length-append}
 use Rattle.st_core.specs.Verdict.{Verdict, Stuck, Differs, Left, Yes}
 use Rattle.st_text.specs.Spelling as spelled
-use Rattle.st_commands.specs.Output.{line, pair_line, verdict_text}
-
-pub line_some : (words : List ℕ) → 0 < length (line words)
-line_some words = omega (arith, length-append words (10 ∷ []))
+use Rattle.st_chart.specs.Words.{line}
+use Rattle.st_chart.proofs.ForCallers.{line_some}
+use Rattle.st_commands.specs.Output.{pair_line, verdict_text}
 
 pub verdict_some : (v : Verdict) → 0 < length (verdict_text v)
 verdict_some (Stuck n) = line_some (codes "no stuck " ++ decimal n)

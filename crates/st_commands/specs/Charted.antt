@@ -16,7 +16,8 @@ use Rattle.st_chart.specs.Chart.{chart_text}
 use Rattle.st_text.specs.declared.fault.ReadFault.{ReadFault}
 use Rattle.st_text.specs.Spelling as spelled
 use Rattle.st_text.specs.Fault.{fault}
-use Rattle.st_commands.specs.Output.{Output, line, refused}
+use Rattle.st_chart.specs.Words.{line}
+use Rattle.st_commands.specs.Output.{Output, refused}
 use Rattle.st_commands.specs.Checked.{Spells}
 use Rattle.st_commands.specs.Audited.{reported}
 

@@ -4,7 +4,8 @@ use Rattle.st_text.specs.Room.{pid_room, number_room}
 use Rattle.st_text.specs.Spelling as spelled
 use Rattle.st_commands.specs.declared.lines.OutputLine.{OutputLine}
 use Rattle.st_commands.specs.declared.lines.OutputLine.TheVariants as lines
-use Rattle.st_commands.specs.Output.{line, pair_words, fault_words, usage_words}
+use Rattle.st_chart.specs.Words.{line}
+use Rattle.st_commands.specs.Output.{pair_words, fault_words, usage_words}
 use Rattle.st_commands.specs.Recorded.{act_fault_words}
 
 abbrev pub words : OutputLine → List ℕ

@@ -16,7 +16,8 @@ use Rattle.st_audit.specs.Findings.{IsReason}
 use Rattle.st_chart.specs.Report.{report_text}
 use Rattle.st_text.specs.Text.{spelling}
 use Rattle.st_text.specs.Writing.{Writes}
-use Rattle.st_commands.specs.Output.{Output, line, pair_line, verdict_text}
+use Rattle.st_chart.specs.Words.{line}
+use Rattle.st_commands.specs.Output.{Output, pair_line, verdict_text}
 use Rattle.st_commands.specs.Checked.{top, Spells}
 use Rattle.st_commands.specs.Command.{ReadsAll}
 

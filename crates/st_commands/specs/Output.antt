@@ -7,16 +7,13 @@ use Rattle.st_core.specs.Verdict.{Verdict, Stuck, Differs, Left, Yes}
 use Rattle.st_text.specs.Spelling as spelled
 use Rattle.st_text.specs.declared.fault.ReadFault.{ReadFault}
 use Rattle.st_text.specs.declared.fault.ReadFault.TheVariants as faults
+use Rattle.st_chart.specs.Words.{line}
 use Rattle.st_commands.specs.declared.words.Refusal.{Refusal}
 use Rattle.st_commands.specs.declared.words.Refusal.TheVariants as refusals
 
 pub record Output : Type 0 where
   pub text : List ℕ
   pub status : ℕ
-
--- these bytes and a newline
-abbrev pub line : List ℕ → List ℕ
-line bytes = bytes ++ 10 ∷ []
 
 -- ---- verdicts
 

@@ -12,7 +12,8 @@ use Rattle.st_text.specs.declared.fault.ReadFault.{ReadFault}
 use Rattle.st_text.specs.Spelling as spelled
 use Rattle.st_text.specs.Text.{spelling}
 use Rattle.st_text.specs.Fault.{fault}
-use Rattle.st_commands.specs.Output.{Output, line, refused, no_acts}
+use Rattle.st_chart.specs.Words.{line}
+use Rattle.st_commands.specs.Output.{Output, refused, no_acts}
 use Rattle.st_commands.specs.Checked.{top, Spells, LacksActs}
 
 -- the greatest rank that an entry of a log of the program can have: the greatest u64

@@ -9,7 +9,8 @@ use Rattle.st_check.specs.Answers.{SticksAt, reported}
 use Rattle.st_text.specs.declared.fault.ReadFault.{ReadFault}
 use Rattle.st_text.specs.Text.{spelling}
 use Rattle.st_text.specs.Fault.{fault}
-use Rattle.st_commands.specs.Output.{Output, line, refused, no_acts}
+use Rattle.st_chart.specs.Words.{line}
+use Rattle.st_commands.specs.Output.{Output, refused, no_acts}
 use Rattle.st_commands.specs.Checked.{top, Spells, LacksActs}
 
 -- what the acts' run over the pids reports, as a bundle with the acts

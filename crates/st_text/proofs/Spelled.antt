@@ -9,8 +9,8 @@ use Rattle.st_text.specs.Spelling.{event}
 use Rattle.st_text.specs.declared.line.Line.TheVariants as lines
 use Rattle.st_text.specs.Text.{Contents, body, is_remote, ended, spelling}
 
-front : (xs ys : List ℕ) → 0 < length xs → 0 < length (xs ++ ys)
-front xs ys some = omega (arith, length-append xs ys)
+pub front_some : (xs ys : List ℕ) → 0 < length xs → 0 < length (xs ++ ys)
+front_some xs ys some = omega (arith, length-append xs ys)
 
 header_some : (b : Bool) → 0 < length (ended (lines.Header b))
 header_some true = lit< tt
@@ -18,11 +18,11 @@ header_some false = lit< tt
 
 pub text_some : (c : Contents) → 0 < length (spelling c)
 text_some c =
-    front (ended (lines.Header (list_any is_remote (body c)))) (flat_map ended (body c))
+    front_some (ended (lines.Header (list_any is_remote (body c)))) (flat_map ended (body c))
     (header_some (list_any is_remote (body c)))
 
 pub event_some : (e : Event) → 0 < length (event e)
 event_some e =
     let some : 0 < length (codes "{seq_trace," ++ event_rest e) =
-    front (codes "{seq_trace,") (event_rest e) (lit< tt) in
+    front_some (codes "{seq_trace,") (event_rest e) (lit< tt) in
     omega (arith, ap length (event_is e))

@@ -1,7 +1,7 @@
 -- All that waits in the buffer is flushed.
 use Rattle.st_commands.specs.Lines.{text_of}
 use Rattle.st_text.proofs.ForCallers.{finishes}
-use Rattle.st_commands.proofs.Texts.{line_some}
+use Rattle.st_chart.proofs.ForCallers.{line_some}
 use Rattle.st_commands.specs.Lines.{words}
 use Rattle.st_commands.proofs.lines.send_line.Goals as goal
 
