@@ -1,7 +1,7 @@
 //! Processes under their locks, and the acts that threads make of them. Locks are taken in rising
 //! order of their pids, and nothing is known of what a lock holds but what its type keeps.
 
-ghost use Rattle.std.specs.Prelude.{◌≡◌, ◌≢◌, ◌<◌, ◌≤◌, ◌↔◌, false, true, [], ◌∷◌, ◌++◌, length, map, is_some};
+ghost use Rattle.std.specs.Prelude.{◌≡◌, ◌≢◌, ◌<◌, ◌≤◌, ◌↔◌, ◌⊎◌, false, true, [], ◌∷◌, ◌++◌, length, map, is_some};
 ghost use Rattle.std.specs.Prelude.{slice_get, Some, None, Err, Ok, IfOk, IfErr, IfSome, OnOk};
 ghost use Rattle.std.specs.Prelude.{OnErr, vec_len};
 ghost use Rattle.st_core.specs.Pid.{IsRising};
@@ -341,6 +341,8 @@ fn sent<const TOP: u64, const RANKS: u64>(
     requires apart { receiver act.now ≢ actor act.now }
     ensures ok { IfOk result (λ y. IsStepped TOP act.now y (from.old ∷ to.old ∷ []) (from.new ∷ to.new ∷ [])) }
     ensures err { OnErr result (IsSame from.old from.new × IsSame to.old to.new) }
+    ensures stray { result ≡ Err ActFault.Stray
+        → (from.old.process.pid ≢ actor act.now) ⊎ (to.old.process.pid ≢ receiver act.now) }
     ensures known { IsLockFault result }
 {
     if from.pid() != act.actor() {
