@@ -21,10 +21,15 @@ use st_mail::actor::inner;
 use std::alloc::{AllocError, Global};
 use std::marker::Model;
 
+/// The words of a cache line, 64 bytes. So much stands between a lock and what it keeps, so that threads
+/// that try the lock don't take a line away from the thread that holds it.
+const LINE: usize = 8;
+
 /// A process control block: one process, with the log that gives its state. `TOP` is the greatest
 /// value of a clock, `RANKS` that of a rank.
 #[derive(Drop)]
 pub struct Pcb<const TOP: u64, const RANKS: u64> {
+    apart: [u64; LINE],
     pid: Pid,
     local: Local<TOP>,
     queue: Mailboxes,
@@ -68,6 +73,7 @@ impl<const TOP: u64, const RANKS: u64> Pcb<TOP, RANKS> {
         let queue = Mailboxes::new(alloc, 1)?;
         let log = Vec::with_capacity(alloc, room)?;
         Ok(Pcb {
+            apart: [0; LINE],
             pid,
             local: Local::new(),
             queue,
