@@ -10,7 +10,6 @@ pub mod Legal
 pub mod Members
 pub mod Runs
 pub mod Sorting
-pub mod Referring
 pub mod Shown
 pub mod Collecting
 pub mod Searching

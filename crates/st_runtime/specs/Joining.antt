@@ -2,10 +2,13 @@
 -- to which one report after the other is added.
 use Rattle.std.specs.Prelude.{◌≡◌, ℕ, List, map, filter, Option, Some, None, if◌then◌else◌, All, Contains, IfSome}
 use Rattle.std.specs.Prelude.{slice_get}
+use Rattle.std.specs.Borrow.{Bor}
 use Rattle.std.specs.Ordering.{is_lt}
 use Rattle.std.specs.List.{flat_map}
 use Rattle.st_core.specs.declared.types.Pid.{Pid}
+use Rattle.st_core.specs.declared.types.Act.{Act}
 use Rattle.st_core.specs.declared.types.Event.{Event}
+use Rattle.st_core.specs.declared.types.Reply.{Reply}
 use Rattle.st_core.specs.Pid.{pid_cmp, pid_eq, IsBelow}
 use Rattle.st_core.specs.Run.{Stream}
 use Rattle.st_core.specs.Step.{actor}
@@ -52,6 +55,10 @@ pub record IsLogged (top : ℕ) (xs : List Control) (r : Record) : Type 0 where
   pub streams : r.streams ≡ streams_of xs
   pub acts : r.acts ≡ map (λ e. e.act) entries
   pub replies : r.replies ≡ map (λ e. e.reply) entries
+
+-- the acts of entries that are referred to, and what they answered
+abbrev pub IsReadOut : List (Bor Entry) → List Act → List Reply → Type 0
+IsReadOut refs acts replies = (acts ≡ map (λ r. r.now.act) refs) × (replies ≡ map (λ r. r.now.reply) refs)
 
 -- a process's own entries
 abbrev pub own_of : Pid → List Entry → List Entry

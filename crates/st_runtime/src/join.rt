@@ -1,23 +1,25 @@
 //! The one run that pieces tell of.
 
 ghost use Rattle.std.specs.Prelude.{◌≡◌, All, IfOk, IfErr, OnOk};
+ghost use Rattle.std.specs.Thread.{IsSync};
 ghost use Rattle.st_core.specs.Pid.{IsRising};
-ghost use Rattle.st_runtime.specs.Joined.{IsJoined};
-ghost use Rattle.st_runtime.specs.Joining.{IsLogged};
+ghost use Rattle.st_core.specs.Streams.{IsStreams};
+ghost use Rattle.st_runtime.specs.Joined.{IsJoined, streams_of};
+ghost use Rattle.st_runtime.specs.Joining.{IsLogged, IsReadOut};
 ghost use Rattle.st_runtime.specs.Pieces.{pids_in, AreWhole, IsFit, IsJoinFault};
 
 use crate::collect::streams_of;
 use crate::fault::JoinFault;
 use crate::fitting::is_seen_fit;
-use crate::merge::{acts_and_replies, merged};
+use crate::merge::{acts_and_replies, acts_of, merged, replies_of};
 use crate::pcb::Pcb;
 use crate::pieces::Pieces;
 use crate::record::Record;
 use crate::seating::first_unseated;
 use crate::whole::first_missing;
-use st_core::Sequence;
+use st_core::{Act, Reply, Sequence, Streams};
 use std::alloc::{AllocError, Global};
-use std::thread::Threads;
+use std::thread::{Threads, join};
 
 /// The record of what the threads did, exactly where the pieces fit: each entry stands in the log of
 /// each process that its act touches, and each seat's calls are those of its process's log. The acts
@@ -35,10 +37,10 @@ pub fn join_pieces<const TOP: u64, const RANKS: u64>(
     Ok(run_of_logs(alloc, pieces.processes.as_slice())?)
 }
 
-/// The same of pieces that are given away. Several threads look whether they fit, and their seats, which
-/// hold each act once more, are let go before the logs are merged.
-pub(crate) fn join_given<const TOP: u64, const RANKS: u64>(
-    rt: &(impl Threads + Sync),
+/// The same of pieces that are given away, by several threads. Their seats, which hold each act once
+/// more, are let go before the logs are merged.
+pub(crate) fn join_given<const TOP: u64, const RANKS: u64, R: Threads + Sync>(
+    rt: &R,
     alloc: Global,
     pieces: Pieces<TOP, RANKS>,
 ) -> Result<Record, JoinFault>
@@ -47,7 +49,7 @@ pub(crate) fn join_given<const TOP: u64, const RANKS: u64>(
 {
     see_fit(rt, alloc, &pieces)?;
     let processes = pieces.into_processes();
-    Ok(run_of_logs(alloc, processes.as_slice())?)
+    Ok(run_by_threads(rt, alloc, processes.as_slice())?)
 }
 
 /// Refuses pieces that don't fit, where it isn't seen at once that they do.
@@ -97,13 +99,43 @@ fn run_of_logs<const TOP: u64, const RANKS: u64>(
     requires whole { AreWhole processes.now }
     ensures { IfOk result (IsLogged TOP processes.now) }
 {
-    let (acts, replies) = {
-        let entries = merged(alloc, processes)?;
-        acts_and_replies(alloc, entries.as_slice())?
-    };
+    let entries = merged(alloc, processes)?;
+    let acts = acts_of(alloc, entries.as_slice())?;
+    let replies = replies_of(alloc, entries.as_slice())?;
     let streams = streams_of(alloc, processes)?;
     Ok(Record {
         streams,
+        acts: Sequence::from_vec(acts),
+        replies: Sequence::from_vec(replies),
+    })
+}
+
+/// The same. The acts, the replies and the streams are read out by a thread each.
+fn run_by_threads<const TOP: u64, const RANKS: u64, R: Threads + Sync>(
+    rt: &R,
+    alloc: Global,
+    processes: &[Pcb<TOP, RANKS>],
+) -> Result<Record, AllocError>
+    requires rising { IsRising (pids_in processes.now) }
+    requires whole { AreWhole processes.now }
+    ensures { IfOk result (IsLogged TOP processes.now) }
+{
+    let merged = merged(alloc, processes)?;
+    let entries = merged.as_slice();
+    let (streams, calls) = join(
+        rt,
+        || -> Result<Streams, AllocError>
+            requires { IsStreams (streams_of processes.now) }
+            ensures { IfOk result (λ s. s ≡ streams_of processes.entry.now) }
+        { streams_of(alloc, processes) },
+        || -> Result<(Vec<Act>, Vec<Reply>), AllocError>
+            requires { IsSync R.row }
+            ensures { IfOk result (λ r. IsReadOut entries.entry.now r.0.items r.1.items) }
+        { acts_and_replies(rt, alloc, entries) },
+    );
+    let (acts, replies) = calls?;
+    Ok(Record {
+        streams: streams?,
         acts: Sequence::from_vec(acts),
         replies: Sequence::from_vec(replies),
     })

@@ -6,12 +6,52 @@ ghost use Rattle.st_core.specs.Pid.{IsRising};
 ghost use Rattle.st_runtime.specs.Pcb.{IsKept};
 ghost use Rattle.st_runtime.specs.Pieces.{pids_in, AreWhole};
 ghost use Rattle.st_runtime.specs.Joined.{IsMerged};
-ghost use Rattle.st_runtime.specs.Joining.{flat_of, own_of};
+ghost use Rattle.st_runtime.specs.Joining.{flat_of, own_of, IsReadOut};
 
 use crate::entry::Entry;
 use crate::pcb::Pcb;
 use st_core::{Act, Pid, Reply};
 use std::alloc::{AllocError, Global};
+use std::marker::Model;
+use std::thread::{Threads, join};
+
+/// An entry that stays in its log. Its rank stands beside the reference, so that the sort fetches no
+/// entry.
+#[derive(Drop)]
+struct Ranked<'a> {
+    rank: u64,
+    entry: &'a Entry,
+}
+
+impl<'a> Model for Ranked<'a> {
+    ghost use Rattle.std.specs.Prelude.{◌≡◌};
+    ghost use Rattle.st_runtime.specs.declared.entry.Entry.{Entry};
+
+    ghost Value = { Entry };
+
+    ghost view = { λ r. r.entry.now };
+
+    ghost invariant = { λ r. r.rank ≡ r.entry.now.rank };
+}
+
+impl<'a> Ranked<'a> {
+    /// This entry.
+    fn of(entry: &'a Entry) -> Ranked<'a>
+        ensures { result ≡ entry.now }
+    {
+        Ranked {
+            rank: entry.rank,
+            entry,
+        }
+    }
+
+    /// The entry's rank.
+    fn rank(&self) -> u64
+        ensures { result ≡ self.now.rank }
+    {
+        self.rank
+    }
+}
 
 /// The entries of all logs, each once, by rising rank and then actor.
 pub fn merged<const TOP: u64, const RANKS: u64>(
@@ -24,16 +64,29 @@ pub fn merged<const TOP: u64, const RANKS: u64>(
     ensures kept { OnOk result (All (λ x. IsKept TOP RANKS x.process x.log) processes.now) }
 {
     let mut all = own_entries(alloc, processes)?;
-    all.sort_by_key(|entry| entry.rank)?;
-    Ok(all)
+    all.sort_by_key(|own| own.rank())?;
+    unranked(alloc, all)
+}
+
+/// The same entries, without their ranks beside them.
+fn unranked<'a>(alloc: Global, all: Vec<Ranked<'a>>) -> Result<Vec<&'a Entry>, AllocError>
+    ensures { IfOk result (λ v. map (λ r. r.now) v.items ≡ all.entry.items) }
+{
+    let mut entries = Vec::with_capacity(alloc, all.len())?;
+    for own in all {
+        let Ok(()) = entries.push(own.entry) else {
+            return Err(AllocError);
+        };
+    }
+    Ok(entries)
 }
 
 /// Each process's own entries, one process after another.
 fn own_entries<const TOP: u64, const RANKS: u64>(
     alloc: Global,
     processes: &[Pcb<TOP, RANKS>],
-) -> Result<Vec<&Entry>, AllocError>
-    ensures items { IfOk result (λ v. map (λ r. r.now) v.items ≡ flat_of processes.now) }
+) -> Result<Vec<Ranked<'_>>, AllocError>
+    ensures items { IfOk result (λ v. v.items ≡ flat_of processes.now) }
     ensures kept { OnOk result (All (λ x. IsKept TOP RANKS x.process x.log) processes.now) }
 {
     let mut all = Vec::new(alloc);
@@ -44,13 +97,12 @@ fn own_entries<const TOP: u64, const RANKS: u64>(
 }
 
 /// Adds a process's own entries.
-fn push_own<'a>(all: &mut Vec<&'a Entry>, pid: Pid, log: &'a [Entry]) -> Result<(), AllocError>
-    ensures { OnOk result (map (λ r. r.now) all.new.items
-        ≡ map (λ r. r.now) all.old.items ++ own_of pid log.now) }
+fn push_own<'a>(all: &mut Vec<Ranked<'a>>, pid: Pid, log: &'a [Entry]) -> Result<(), AllocError>
+    ensures { OnOk result (all.new.items ≡ all.old.items ++ own_of pid log.now) }
 {
     for entry in log {
         if entry.act.actor() == pid {
-            let Ok(()) = all.push(entry) else {
+            let Ok(()) = all.push(Ranked::of(entry)) else {
                 return Err(AllocError);
             };
         }
@@ -58,23 +110,50 @@ fn push_own<'a>(all: &mut Vec<&'a Entry>, pid: Pid, log: &'a [Entry]) -> Result<
     Ok(())
 }
 
-/// The acts of entries, and what they answered.
-pub fn acts_and_replies(
-    alloc: Global,
-    entries: &[&Entry],
-) -> Result<(Vec<Act>, Vec<Reply>), AllocError>
-    ensures acts { IfOk result (λ r. r.0.items ≡ map (λ e. e.now.act) entries.now) }
-    ensures replies { IfOk result (λ r. r.1.items ≡ map (λ e. e.now.reply) entries.now) }
+/// The acts of entries.
+pub fn acts_of(alloc: Global, entries: &[&Entry]) -> Result<Vec<Act>, AllocError>
+    ensures { IfOk result (λ v. v.items ≡ map (λ e. e.now.act) entries.now) }
 {
     let mut acts = Vec::with_capacity(alloc, entries.len())?;
-    let mut replies = Vec::with_capacity(alloc, entries.len())?;
     for entry in entries {
         let Ok(()) = acts.push(entry.act) else {
             return Err(AllocError);
         };
+    }
+    Ok(acts)
+}
+
+/// What the acts of entries answered.
+pub fn replies_of(alloc: Global, entries: &[&Entry]) -> Result<Vec<Reply>, AllocError>
+    ensures { IfOk result (λ v. v.items ≡ map (λ e. e.now.reply) entries.now) }
+{
+    let mut replies = Vec::with_capacity(alloc, entries.len())?;
+    for entry in entries {
         let Ok(()) = replies.push(entry.reply) else {
             return Err(AllocError);
         };
     }
+    Ok(replies)
+}
+
+/// The acts of entries and what they answered, read out by a thread each.
+pub fn acts_and_replies<R: Threads + Sync>(
+    rt: &R,
+    alloc: Global,
+    entries: &[&Entry],
+) -> Result<(Vec<Act>, Vec<Reply>), AllocError>
+    ensures { IfOk result (λ r. IsReadOut entries.now r.0.items r.1.items) }
+{
+    let (acts, replies) = join(
+        rt,
+        || -> Result<Vec<Act>, AllocError>
+            ensures { IfOk result (λ v. v.items ≡ map (λ e. e.now.act) entries.entry.now) }
+        { acts_of(alloc, entries) },
+        || -> Result<Vec<Reply>, AllocError>
+            ensures { IfOk result (λ v. v.items ≡ map (λ e. e.now.reply) entries.entry.now) }
+        { replies_of(alloc, entries) },
+    );
+    let acts = acts?;
+    let replies = replies?;
     Ok((acts, replies))
 }

@@ -6,8 +6,8 @@ use Rattle.st_runtime.specs.Pieces.{pids_in, AreWhole}
 use Rattle.st_runtime.proofs.JoinLemmas.{joined}
 use Rattle.st_runtime.proofs.join.join_given.Goals as goal
 
-pub run_of_logs-requires : goal.run_of_logs-requires
-run_of_logs-requires g c =
+pub run_by_threads-requires-after_bounds : goal.run_by_threads-requires-after_bounds
+run_by_threads-requires-after_bounds g c κs within =
     let is = c.as_slice.ensures.value ∙ c.into_processes-processes.ensures.processes in
     let Rises : List Control → Type 0 = λ xs. IsRising (pids_in xs) in (
       omega arith,
@@ -20,7 +20,7 @@ run_of_logs-requires g c =
 pub returns-clause-ok : goal.returns-clause-ok
 returns-clause-ok g c =
     let top = g.row.TOP in
-    let r = c.in_ok-run_of_logs.field-0 in
+    let r = c.in_ok-run_by_threads.field-0 in
     let is = c.as_slice.ensures.value ∙ c.into_processes-processes.ensures.processes in
     joined top c.args.pieces r c.in_ok-see_fit.ensures.ok
-    (subst (λ (xs : List Control). IsLogged top xs r) is c.in_ok-run_of_logs.ensures)
+    (subst (λ (xs : List Control). IsLogged top xs r) is c.in_ok-run_by_threads.ensures)

@@ -1,8 +1,6 @@
-use Rattle.std.proofs.Common.{◌≡◌, ◌+◌, ◌++◌, ◌∷◌, [], map, sym, ap, ◌∙◌, take, subst}
+use Rattle.std.proofs.Common.{◌≡◌, ◌+◌, ◌++◌, ◌∷◌, [], sym, ap, ◌∙◌, take, subst}
 use Rattle.std.proofs.lemmas.List.{take_more, flat_map_more}
 use Rattle.std.proofs.lemmas.List.Elements.{All-more}
-use denote.Ref.{Bor}
-use Rattle.st_runtime.specs.declared.entry.Entry.{Entry}
 use Rattle.st_runtime.specs.Pcb.{Control, IsKept}
 use Rattle.st_runtime.specs.Joining.{flat_of, own_of}
 use Rattle.st_runtime.proofs.merge.own_entries.Goals as goal
@@ -13,7 +11,7 @@ loop-process-preserved g c =
     let i = c.loop-process.process-index in
     let p = c.process-item.result in
     let Fact : Control → Type 0 = λ x. IsKept g.row.TOP g.row.RANKS x.process x.log in
-    let pushed : map (λ (r : Bor Entry). r.now) c.push_own.new.all.items
+    let pushed : c.push_own.new.all.items
     ≡ flat_of (take i ps) ++ own_of p.process.pid p.log = c.in_ok-push_own.ensures
     ∙ (λ j. c.loop-process.invariant.0 j ++ own_of (c.pid.ensures j) (c.log.ensures.value j)) in
     let more : take (i + 1) ps ≡ take i ps ++ p ∷ [] = take_more ps i p c.loop-process-test.true

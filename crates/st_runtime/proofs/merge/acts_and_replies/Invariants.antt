@@ -1,8 +1,0 @@
-use Rattle.std.proofs.Common.{◌≡◌, map, take}
-use denote.Ref.{Bor}
-use Rattle.st_runtime.specs.declared.entry.Entry.{Entry}
-use Rattle.st_runtime.proofs.merge.acts_and_replies.Given as goal
-
-abbrev pub invariant-loop-entry : goal.invariant-loop-entry
-invariant-loop-entry l = (l.acts.items ≡ map (λ (r : Bor Entry). r.now.act) (take l.entry-index l.entries))
-    × (l.replies.items ≡ map (λ (r : Bor Entry). r.now.reply) (take l.entry-index l.entries))
