@@ -1,37 +1,71 @@
-"""Refused growths of library calls: the tests that promise to hold where a growth is refused, run as `rt try` refuses
-the Nth growth of each."""
+"""Refused growths of library calls: each test that promises to hold where a growth is refused, in a process of its own
+in which the Nth growth is refused, for N = 1, 2, .. until a run meets no refusal."""
 
+import os
 import re
 import shutil
 import subprocess
 from pathlib import Path
 
+from .growths import MOST_GROWTHS
 from .program import Check
+from .shim import SAID
 
 CRATES = Path(__file__).parents[2] / "crates"
 # A call answers want of memory or is right, and is right when it is asked again. The other tests want memory.
 HOLDS = re.compile(r"refused_growth|without_memory|machine::refused::|reads::|^(driver|join|pcb|system)::tests::")
-RESULT = re.compile(r"^test (\S+) \.\.\. (\w+)$", re.MULTILINE)
-# The first growths are those of making the input; the auditor asks for its own after some thirty.
-FEW, MANY = (5, 40), (1, 2, 3, 8, 13, 20, 30, 50, 80)
-
-
-def tested():
-    """The crates that have such tests."""
-    texts = ((path.relative_to(CRATES).parts[0], path.read_text()) for path in sorted(CRATES.glob("*/src/**/*.rt")))
-    return sorted({crate for crate, text in texts if "#[test]" in text and re.search(r"refused_growth", text)})
+# Twenty drives, of which another test makes one; counts of what a gate was told, to which an act adds when it is asked
+# again; and a sink that itself refuses.
+BUT = re.compile(r"four_busy_scripts|a_gate_is_told|a_sink_without_memory")
+ENDED = b"test result: ok"
 
 
 def has_toolchain():
     return shutil.which("rt") is not None
 
 
-def refused(crate, n):
-    """The Nth growth is refused in each of a crate's tests."""
-    ran = subprocess.run(["rt", "try", "--test", "--fail-alloc", str(n)], cwd=CRATES / crate, text=True,
-                         stdin=subprocess.DEVNULL, stdout=subprocess.PIPE, stderr=subprocess.STDOUT, timeout=900)
-    results = [(name, result) for name, result in RESULT.findall(ran.stdout) if HOLDS.search(name)]
-    if not results:
-        yield Check(f"calls: {crate}: growth {n}", f"no test was run\n{ran.stdout[-1000:]}")
-    for name, result in results:
-        yield Check(f"calls: {crate}: growth {n}: {name}", None if result == "ok" else f"the test's result is {result}")
+def tested():
+    """The crates that have tests."""
+    texts = ((path.relative_to(CRATES).parts[0], path.read_text()) for path in sorted(CRATES.glob("*/src/**/*.rt")))
+    return sorted({crate for crate, text in texts if "#[test]" in text})
+
+
+def build(crate):
+    """The crate's proved test program, which `rt` doesn't build again where it stands; and what `rt` said if it failed."""
+    program = CRATES / crate / "out" / f"{crate}_tests"
+    ran = subprocess.run(["rt", "test"], cwd=CRATES / crate, text=True, stdin=subprocess.DEVNULL,
+                         stdout=subprocess.PIPE, stderr=subprocess.STDOUT)
+    return program, None if ran.returncode == 0 else ran.stdout[-1000:]
+
+
+def names_of(program):
+    listed = subprocess.run([program, "--list"], text=True, stdout=subprocess.PIPE, check=True)
+    names = (line.strip().removesuffix(": test") for line in listed.stdout.splitlines())
+    return [name for name in names if HOLDS.search(name) and not BUT.search(name)]
+
+
+def run(program, library, name, n):
+    """Whether the test held where its Nth growth was refused, and whether one was."""
+    env = os.environ | {"LD_PRELOAD": library, "REFUSE_GROWTH": str(n)}
+    ran = subprocess.run([program, name], env=env, stdin=subprocess.DEVNULL, stdout=subprocess.PIPE,
+                         stderr=subprocess.PIPE, timeout=600)
+    return ran.returncode == 0 and ENDED in ran.stdout, SAID in ran.stderr
+
+
+def each_refused(library, crate):
+    """The Nth growth is refused in each test of this crate that promises to hold."""
+    program, complaint = build(crate)
+    yield Check(f"calls: {crate}: its tests hold without refusals", complaint)
+    names = [] if complaint else names_of(program)
+    for name in names:
+        refused = 0
+        for n in range(1, MOST_GROWTHS):
+            held, came = run(program, library, name, n)
+            yield Check(f"calls: {crate}: {name}: growth {n}", None if held else "the test failed")
+            if not came:
+                break
+            refused += 1
+        else:
+            yield Check(f"calls: {crate}: {name}: an end", f"growth {MOST_GROWTHS - 1} was refused too")
+        yield Check(f"calls: {crate}: {name}: some growth was refused", None if refused else "none was",
+                    note=f"{refused} growths were refused")

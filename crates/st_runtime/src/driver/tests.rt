@@ -14,7 +14,7 @@ use std::thread;
 use std::thread::Threads;
 use std::time::{Clock, Duration};
 
-/// Drives these scripts, which are as many as the pids; once more where there was no memory.
+/// Drives these scripts, which are as many as the pids; once more where memory or a thread was refused.
 fn driven<const TOP: u64, const RANKS: u64, R: Threads + Wait + Sync + Abort, G: Gate + Sync>(
     rt: &R,
     alloc: Global,
@@ -23,7 +23,9 @@ fn driven<const TOP: u64, const RANKS: u64, R: Threads + Wait + Sync + Abort, G:
     scripts: &[&[Act]],
 ) -> Result<Record, DriveFault> {
     match driven_once::<TOP, RANKS, R, G>(rt, alloc, gate, pids, scripts) {
-        Err(DriveFault::Memory) => driven_once::<TOP, RANKS, R, G>(rt, alloc, gate, pids, scripts),
+        Err(DriveFault::Memory | DriveFault::Thread) => {
+            driven_once::<TOP, RANKS, R, G>(rt, alloc, gate, pids, scripts)
+        }
         answer => answer,
     }
 }
@@ -152,7 +154,7 @@ fn two_met<R: Threads + Wait + Sync + Abort + Clock>(
 #[test]
 fn two_senders_at_once(rt: HostRuntime) -> Result<(), Fail> {
     let met = match two_met(&rt, rt.alloc()) {
-        Err(DriveFault::Memory) => two_met(&rt, rt.alloc())?,
+        Err(DriveFault::Memory | DriveFault::Thread) => two_met(&rt, rt.alloc())?,
         answer => answer?,
     };
     assert_eq!(rt; met, (2, 2));
@@ -204,11 +206,19 @@ fn four_busy<R: Threads + Wait + Sync + Abort>(rt: &R, alloc: Global) -> Result<
 #[test]
 fn four_busy_scripts(rt: HostRuntime) -> Result<(), Fail> {
     for _ in 0..20 {
-        let acts = match four_busy(&rt, rt.alloc()) {
-            Err(DriveFault::Memory) => four_busy(&rt, rt.alloc())?,
-            answer => answer?,
-        };
-        assert_eq!(rt; acts, 200);
+        assert_eq!(rt; four_busy(&rt, rt.alloc())?, 200);
     }
+    Ok(())
+}
+
+/// Where a growth or a thread is refused, the call answers that, or is right; and the same call is right
+/// afterwards.
+#[test]
+fn a_refused_growth_is_answered(rt: HostRuntime) -> Result<(), Fail> {
+    let acts = match four_busy(&rt, rt.alloc()) {
+        Err(DriveFault::Memory | DriveFault::Thread) => four_busy(&rt, rt.alloc())?,
+        answer => answer?,
+    };
+    assert_eq!(rt; acts, 200);
     Ok(())
 }

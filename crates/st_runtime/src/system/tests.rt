@@ -47,38 +47,52 @@ impl Gate for Counting {
     }
 }
 
-// Each refusal leaves the seat's acts and the process as they were, and the gate is told of those acts
-// that hold their lock.
+/// The acts of a process whose clock goes to 3, among them some that are refused.
+fn refused_among(me: Pid) -> [Played; 9] {
+    let foreign = Act::Look(Pid::new(31));
+    let unknown = Act::Send(me, Pid::new(99), 1);
+    let print = Act::Print(me, 0);
+    let started = Act::Set(me, Component::Label(Label(1)));
+    [
+        (foreign, Err(ActFault::NotYours)),
+        (Act::Look(me), Ok(Reply::Current(None))),
+        (unknown, Err(ActFault::Unknown)),
+        (Act::Look(me), Ok(Reply::Current(None))),
+        (started, Ok(Reply::Old(None))),
+        (print, Ok(Reply::Done)),
+        (print, Ok(Reply::Done)),
+        (print, Ok(Reply::Done)),
+        (print, Err(ActFault::ClockFull)),
+    ]
+}
+
+// The gate is told of those acts that hold their lock, refused ones too.
 #[test]
-fn refused_acts_change_nothing(rt: HostRuntime) -> Result<(), Fail> {
+fn a_gate_is_told_of_acts_under_their_lock(rt: HostRuntime) -> Result<(), Fail> {
     let me = Pid::new(30);
     let (system, seats) = opened::<3, 9>(rt.alloc(), &[me])?;
     for mut seat in seats {
-        let foreign = Act::Look(Pid::new(31));
-        let unknown = Act::Send(me, Pid::new(99), 1);
-        let print = Act::Print(me, 0);
-        let started = Act::Set(me, Component::Label(Label(1)));
-        let acts = [
-            (foreign, Err(ActFault::NotYours)),
-            (Act::Look(me), Ok(Reply::Current(None))),
-            (unknown, Err(ActFault::Unknown)),
-            (Act::Look(me), Ok(Reply::Current(None))),
-            (started, Ok(Reply::Old(None))),
-            (print, Ok(Reply::Done)),
-            (print, Ok(Reply::Done)),
-            (print, Ok(Reply::Done)),
-            (print, Err(ActFault::ClockFull)),
-        ];
         let gate = Counting {
             before: AtomicU64::new(0),
             after: AtomicU64::new(0),
             acts: AtomicU64::new(0),
         };
-        play(&rt, &gate, &system, &mut seat, &acts);
-        assert_eq!(rt; seat.mine().len(), 6);
+        play(&rt, &gate, &system, &mut seat, &refused_among(me));
         assert_eq!(rt; gate.before.load(Ordering::SeqCst), 7);
         assert_eq!(rt; gate.after.load(Ordering::SeqCst), 7);
         assert_eq!(rt; gate.acts.load(Ordering::SeqCst), 1 + 2 + 3 + 4 + 5 + 6);
+    }
+    Ok(())
+}
+
+// Each refusal leaves the seat's acts and the process as they were.
+#[test]
+fn refused_acts_change_nothing(rt: HostRuntime) -> Result<(), Fail> {
+    let me = Pid::new(30);
+    let (system, seats) = opened::<3, 9>(rt.alloc(), &[me])?;
+    for mut seat in seats {
+        play(&rt, &OpenGate, &system, &mut seat, &refused_among(me));
+        assert_eq!(rt; seat.mine().len(), 6);
         let looked = acted(&rt, &OpenGate, &system, &mut seat, &Act::Look(me));
         let Ok(Reply::Current(Some(token))) = looked else {
             panic!(rt; "no token");
