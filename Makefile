@@ -35,12 +35,13 @@ $(PROGRAM): crates.txt $(shell find crates -path '*/out' -prune -o -type f -prin
 demo: $(PROGRAM)
 	@examples/demo $(PROGRAM)
 
-# Runs the program on one input without proving it first, which takes about a minute.
+# Runs the program on one input without proving it first, which takes about a minute. What isn't the program's answer
+# goes to standard error.
 COMMAND ?= audit
 FILE ?= examples/collected.txt
 try:
-	@echo 'An unproved run: the program is built without its proofs. "make demo" proves it first.'
-	@cd crates/seqaudit && rt try -- $(COMMAND) < "$(abspath $(FILE))" || echo "exit status $$?"
+	@echo 'An unproved run: the program is built without its proofs. "make demo" proves it first.' >&2
+	@cd crates/seqaudit && rt try -- $(COMMAND) < "$(abspath $(FILE))" || echo "exit status $$?" >&2
 
 install: $(PROGRAM)
 	install -D $(PROGRAM) $(DESTDIR)$(PREFIX)/bin/seqaudit
