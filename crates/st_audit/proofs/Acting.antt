@@ -14,14 +14,14 @@ use Rattle.st_core.specs.State.{Process, State, process}
 use Rattle.st_core.specs.Step.{actor}
 use Rattle.st_core.specs.Run.{Stream, stream}
 use Rattle.st_core.proofs.ForCallers.{pid_eq-refl}
-use Rattle.st_mail.specs.Mail.{is_stamp}
+use Rattle.st_mail.specs.Mail.{bears_stamp}
 use Rattle.st_mail.specs.declared.outcome.Outcome.{Outcome as Told}
 use Rattle.st_world.specs.World.{outcome_to, place_in}
 use Rattle.st_order.specs.declared.item.Item.TheVariants as item
 use Rattle.st_plan.specs.Moves.{move_by}
 use Rattle.st_plan.specs.Build.{acts_of, flags_of, ready, start_of, GoesOn}
 use Rattle.st_plan.proofs.ForCallers.{stream_append}
-use Rattle.st_audit.specs.Progress.{is_uncaused, IsStamped, RanTo}
+use Rattle.st_audit.specs.Progress.{is_uncaused, StampsEvent, RanTo}
 use Rattle.st_audit.proofs.Running.{last_ran}
 use Rattle.st_audit.proofs.Silence.{ready_silent}
 
@@ -68,7 +68,7 @@ module _ (streams : List Stream) (p : Pid) (i : ℕ) (e : Event) (r : Process) (
 
   pub receive_acts : (s : State) → process s p ≡ Some r → e.kind ≡ kind.Receive → IsTakenAt s
   receive_acts s at is =
-      let lying = position (λ x. is_stamp e.from e.serial.this x.token) r.queue in
+      let lying = position (λ x. bears_stamp e.from e.serial.this x.token) r.queue in
       let lies : place_in s p e.from e.serial.this ≡ lying = rw at refl in
       let made : acts_of streams r (move_by (item.Reported p i) e) ≡ taking p lying = rw is refl in
       let taken = taken_at p lying acts (sym made ∙ are) in
@@ -117,7 +117,7 @@ last_reports top streams s p i e g acts a told new ran are who silent =
 -- so where p was brought to stand ready, its stamp reports the event
 pub stamp_reports : (top : ℕ) (streams : List Stream) (s : State) (p : Pid) (i : ℕ) (e : Event)
     (g : GoesOn top streams s (move_by (item.Reported p i) e)) (f : Flags) (a : Act) (told : Told) (new : State)
-    (skipped now : ℕ) → e.serial.prev < e.serial.this → IsStamped top s skipped p e f told new now
+    (skipped now : ℕ) → e.serial.prev < e.serial.this → StampsEvent top s skipped p e f told new now
     → RanTo top s (ready p (start_of g.before.local) e.label e.serial f) a told new
     → ready p (start_of g.before.local) e.label e.serial f ++ a ∷ [] ≡ g.acts → actor a ≡ p → told.report ≡ Some e
 stamp_reports top streams s p i e g f a told new skipped now rises x ran are who =

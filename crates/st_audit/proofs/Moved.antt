@@ -25,7 +25,7 @@ use Rattle.st_core.proofs.ForCallers.{mapped}
 use Rattle.st_mail.specs.declared.outcome.Outcome.{Outcome as Told}
 use Rattle.st_world.specs.World.{outcome_to}
 use Rattle.st_plan.specs.Build.{ready, start_of, state_after}
-use Rattle.st_audit.specs.Progress.{is_uncaused, IsStamped, IsStampOf, IsTaken}
+use Rattle.st_audit.specs.Progress.{is_uncaused, StampsEvent, IsStampOf, IsTaken}
 use Rattle.st_audit.proofs.Counts.{HasRisen, IsNoReset, IsTold, WasActor, WasSame, actor_same, all_risen}
 use Rattle.st_audit.proofs.Counts.{others_same}
 use Rattle.st_audit.proofs.Counts.{ready_alone, stamp_some, stamp_told, told_serial, was_same}
@@ -108,7 +108,7 @@ acted_some top p (act.Tracer q b) r done t h is some = absurd h
 -- WHERE THE STAMP IS REPORTED
 
 pub reported_moves : (top : ℕ) (old : State) (skipped : ℕ) (p : Pid) (e : Event) (f : Flags) (told : Told) (new : State)
-    (now : ℕ) → IsStamped top old skipped p e f told new now → told.report ≡ Some e
+    (now : ℕ) → StampsEvent top old skipped p e f told new now → told.report ≡ Some e
     → HasMoved p e.serial e.serial.prev old new
 reported_moves top old skipped p e f told new now x report =
     let risen = subst (HasRisen p old) (sym x.ran.after) (all_risen top p old
@@ -150,7 +150,7 @@ caused_by l s h =
     ] refl h
 
 pub hidden_moves : (top : ℕ) (old : State) (skipped : ℕ) (p : Pid) (e : Event) (f : Flags) (told : Told) (new : State)
-    (now : ℕ) (x : IsStamped top old skipped p e f told new now) → e.serial.prev < e.serial.this
+    (now : ℕ) (x : StampsEvent top old skipped p e f told new now) → e.serial.prev < e.serial.this
     → x.before.local.clock < e.serial.this → HasMoved p e.serial e.serial.prev old new
 hidden_moves top old skipped p e f told new now x rises below =
     let wide = max top e.serial.this in

@@ -12,7 +12,7 @@ use Rattle.st_world.specs.World.{outcome_to}
 use Rattle.st_plan.specs.Build.{state_after}
 use Rattle.st_plan.proofs.ForCallers.{run_append, state_append}
 use Rattle.st_audit.specs.declared.construction.Halt.{Halt}
-use Rattle.st_audit.specs.Progress.{Follows, IsNoStop, Makes, Ran, RanTo}
+use Rattle.st_audit.specs.Progress.{PutsActs, IsNoStop, Makes, Ran, RanTo}
 
 pub some_is : {A : Type 0} (o : Option A) (x : A) → o ≡ Some x → IsSome o
 some_is o x h = subst (λ (y : Option _). IsSome y) (sym h) refl
@@ -83,7 +83,7 @@ last_ran top old acts a told new plan os ran is runs =
 -- acts that are made go the way that they run
 pub follow : (top : ℕ) (acts : List Act) (a : Act) (old : State) (before : List Act) (r : Result Told Halt)
     (new : State) (now plan : List Act) (os : List Outcome) → Makes top acts a old before r new now
-    → acts ++ a ∷ [] ≡ plan → run_from top old plan ≡ Some os → Follows plan os old before r new now
+    → acts ++ a ∷ [] ≡ plan → run_from top old plan ≡ Some os → PutsActs plan os old before r new now
 follow top acts a old before (Ok told) new now plan os makes is runs = record {
   goes = tt;
   put = makes.put ∙ ap (λ xs. before ++ xs) is;

@@ -13,7 +13,7 @@ use Rattle.st_mail.specs.declared.outcome.Outcome.{Outcome as Told}
 use Rattle.st_world.specs.World.{outcome_to}
 use Rattle.st_plan.specs.declared.plan.Start.{Start}
 use Rattle.st_plan.specs.Build.{ready, start_of}
-use Rattle.st_audit.specs.Progress.{is_too_wide, is_uncaused, missing, IsStamped, IsStampOf, Ran}
+use Rattle.st_audit.specs.Progress.{is_too_wide, is_uncaused, missing, StampsEvent, IsStampOf, Ran}
 
 allowed : (b : Bool) (k now : ℕ) → Some now ≡ cond b None (Some k) → now ≡ k
 allowed true k now h = absurd (none-some now (sym h))
@@ -32,7 +32,7 @@ pub stamped : (top : ℕ) (old : State) (skipped : ℕ) (p : Pid) (e : Event) (f
     → is_uncaused start e.serial ≡ false
     → Some now ≡ cond (is_too_wide skipped (missing start e.serial)) None (Some (missing start e.serial + skipped))
     → Ran top old (ready p start e.label e.serial f) between → IsStampOf p a
-    → step top between a ≡ Some (outcome_to told new) → IsStamped top old skipped p e f told new now
+    → step top between a ≡ Some (outcome_to told new) → StampsEvent top old skipped p e f told new now
 stamped top old skipped p e f told new now start between a is caused within ran stamps steps =
     let parts = mapped (λ (r : Process). start_of r.local) (process old p) start is in
     record {

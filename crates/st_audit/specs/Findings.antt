@@ -56,6 +56,6 @@ fault_of (finding.Unfit p i (reason.Mismatch q j)) = Some (fault.Mismatch p i q 
 fault_of found = None
 
 -- what is found is a certificate
-abbrev pub IsFit : Finding → Type 0
-IsFit (finding.Fits acts pairs) = Unit {0}
-IsFit (finding.Unfit p i r) = ⊥
+abbrev pub IsCertificate : Finding → Type 0
+IsCertificate (finding.Fits acts pairs) = Unit {0}
+IsCertificate (finding.Unfit p i r) = ⊥

@@ -63,7 +63,7 @@ pub record Ran (top : ℕ) (old : State) (acts : List Act) (new : State) : Type 
   pub after : new ≡ state_after old outcomes
 
 -- p was brought to stand ready for the event's serial, and then stamped it
-pub record IsStamped (top : ℕ) (old : State) (skipped : ℕ) (p : Pid) (e : Event) (f : Flags) (told : Told)
+pub record StampsEvent (top : ℕ) (old : State) (skipped : ℕ) (p : Pid) (e : Event) (f : Flags) (told : Told)
     (new : State) (skipped_now : ℕ) : Type 0 where
   pub before : Process
   pub is_before : process old p ≡ Some before
@@ -87,12 +87,12 @@ pub record IsHiddenDone (top : ℕ) (streams : List Stream) (old : State) (skipp
   pub at : event_at streams p i ≡ Some event
   pub flags : Flags
   pub told : Told
-  pub stamped : IsStamped top old skipped event.from event flags told new skipped_now
+  pub stamped : StampsEvent top old skipped event.from event flags told new skipped_now
 
 -- an event's own act
 abbrev pub IsActed : Bool → ℕ → State → ℕ → Pid → Event → Told → State → ℕ → Type 0
 IsActed true top old skipped p e told new skipped_now =
-    (f : Flags) × IsStamped top old skipped p e f told new skipped_now
+    (f : Flags) × StampsEvent top old skipped p e f told new skipped_now
 IsActed false top old skipped p e told new skipped_now =
     IsTaken top old p told new × (skipped_now ≡ skipped)
 
@@ -166,7 +166,7 @@ pub record Makes (top : ℕ) (acts : List Act) (last : Act) (old : State) (befor
   pub goes : IsSome (run_from top old (acts ++ last ∷ [])) → IfErr r IsNoStop
 
 -- acts with these outcomes were put at the end, and nothing stopped them
-pub record Follows {T : Type 0} (plan : List Act) (os : List Outcome) (old : State) (before : List Act)
+pub record PutsActs {T : Type 0} (plan : List Act) (os : List Outcome) (old : State) (before : List Act)
     (r : Result T Halt) (new : State) (now : List Act) : Type 0 where
   pub goes : IfErr r IsNoStop
   pub put : OnOk r (now ≡ before ++ plan)

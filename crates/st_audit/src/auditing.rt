@@ -9,7 +9,7 @@ ghost use Rattle.st_pair.specs.Links.{IsPairing};
 ghost use Rattle.st_pair.specs.Pairing.{refusal, IsPairFault};
 ghost use Rattle.st_pair.specs.Places.{event_at};
 ghost use Rattle.st_pair.specs.Final.{IsPrevNotBefore, NeverShown, NeverShownInOneTrace};
-ghost use Rattle.st_audit.specs.Findings.{fault_of, unfit_by, HandsOn, IsFinding, IsFit};
+ghost use Rattle.st_audit.specs.Findings.{fault_of, unfit_by, HandsOn, IsFinding, IsCertificate};
 ghost use Rattle.st_plan.specs.Plain.{IsPlain};
 ghost use Rattle.st_full.specs.Full.{IsFullyShown};
 ghost use Rattle.st_plan.specs.Reasons.{item_place};
@@ -63,7 +63,7 @@ fn judged<const TOP: u64>(
     requires there { IsSome (event_at streams.now place.0 place.1) }
     requires accepted { refusal streams.now ≡ None }
     ensures found { IfOk result (IsFinding TOP streams.now) }
-    ensures shown { Shows TOP streams.now acts → IfOk result IsFit }
+    ensures shown { Shows TOP streams.now acts → IfOk result IsCertificate }
 {
     match check::<TOP>(alloc, streams, acts.as_slice()) {
         Err(_) => Err(AuditFault::Memory),
@@ -76,7 +76,7 @@ fn judged<const TOP: u64>(
 fn found_of_nothing<const TOP: u64>(alloc: Global, streams: &Streams) -> Result<Finding, AuditFault>
     requires { IsOrder streams.now [] }
     ensures found { IfOk result (IsFinding TOP streams.now) }
-    ensures fits { IfOk result IsFit }
+    ensures fits { IfOk result IsCertificate }
 {
     let acts = Sequence::new(alloc);
     match check::<TOP>(alloc, streams, acts.as_slice()) {
@@ -102,7 +102,7 @@ fn found<const TOP: u64>(
     requires order { IsOrder streams.now items.now }
     ensures found { IfOk result (IsFinding TOP streams.now) }
     ensures plain_fits { IsPairing streams.now pairing.now → pids.now ≡ pids_of streams.now →
-        IsPlain TOP streams.now → IfOk result IsFit }
+        IsPlain TOP streams.now → IfOk result IsCertificate }
 {
     if items.is_empty() {
         return found_of_nothing::<TOP>(alloc, streams);
@@ -139,8 +139,8 @@ fn audited<const TOP: u64>(
 ) -> Result<Finding, AuditFault>
     ensures found { IfOk result (IsFinding TOP streams.now) }
     ensures handed_on { IfOk result (HandsOn streams.now) }
-    ensures plain_fits { IfOk result (λ found. IsPlain TOP streams.now → IsFit found) }
-    ensures full_fits { IfOk result (λ found. IsFullyShown TOP streams.now → IsFit found) }
+    ensures plain_fits { IfOk result (λ found. IsPlain TOP streams.now → IsCertificate found) }
+    ensures full_fits { IfOk result (λ found. IsFullyShown TOP streams.now → IsCertificate found) }
 {
     let pids = streams.pids();
     let pairing = match pair(alloc, streams) {
@@ -177,8 +177,8 @@ pub fn audit<const TOP: u64>(
     ensures final_without_reset { IfOk result (λ found. IsSome (fault_of found) → NeverShownInOneTrace streams.now) }
 
     // And where the answer is never a refusal: nothing stands against the streams, or some run reported all of itself.
-    ensures plain_fits { IfOk result (λ found. IsPlain TOP streams.now → IsFit found) }
-    ensures full_fits { IfOk result (λ found. IsFullyShown TOP streams.now → IsFit found) }
+    ensures plain_fits { IfOk result (λ found. IsPlain TOP streams.now → IsCertificate found) }
+    ensures full_fits { IfOk result (λ found. IsFullyShown TOP streams.now → IsCertificate found) }
 {
     audited::<TOP>(rt, alloc, streams)
 }

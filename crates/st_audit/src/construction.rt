@@ -26,8 +26,8 @@ ghost use Rattle.st_plan.specs.Build.{flags_of, ready, start_of, tracers_after, 
 ghost use Rattle.st_plan.specs.Moves.{earlier_of, move_by};
 ghost use Rattle.st_audit.specs.Progress.{is_too_wide, is_uncaused, missing, AreCounted, IsHalt};
 ghost use Rattle.st_audit.specs.Progress.{IsActed, IsActHalt, IsHiddenDone, IsPlainHalt, IsReportedDone, IsSoFar};
-ghost use Rattle.st_audit.specs.Progress.{IsStamped, IsStampHalt, IsStampHaltAt, IsStampOf, IsTaken, Ran};
-ghost use Rattle.st_audit.specs.Progress.{AreTold, Follows, HasTold, IsNoStop, Makes, Serves, TellsOne};
+ghost use Rattle.st_audit.specs.Progress.{StampsEvent, IsStampHalt, IsStampHaltAt, IsStampOf, IsTaken, Ran};
+ghost use Rattle.st_audit.specs.Progress.{AreTold, PutsActs, HasTold, IsNoStop, Makes, Serves, TellsOne};
 
 use st_core::{Act, Event, Flags, Kind, Pid, Sequence, Serial, Streams, Want};
 use st_order::Item;
@@ -247,7 +247,7 @@ impl<const TOP: u64> Construction<TOP> {
         act: Act,
     ) -> Result<Outcome, Halt>
         requires { IsStampOf pid act }
-        ensures stamped { IfOk result (λ told. IsStamped TOP self.old.world self.old.skipped pid event.now flags told
+        ensures stamped { IfOk result (λ told. StampsEvent TOP self.old.world self.old.skipped pid event.now flags told
             self.new.world self.new.skipped) }
         ensures makes { (before : Process) → process self.old.world pid ≡ Some before →
             Makes TOP (ready pid (start_of before.local) event.now.label event.now.serial flags) act
@@ -301,7 +301,7 @@ impl<const TOP: u64> Construction<TOP> {
             self.new.world self.new.skipped) }
         ensures follows { (e : EventValue) → event_at streams.now pid index ≡ Some e →
             (g : GoesOn TOP streams.now self.old.world (move_by (item.Hidden pid index) e)) →
-            Follows g.acts g.outcomes self.old.world self.old.acts result self.new.world self.new.acts }
+            PutsActs g.acts g.outcomes self.old.world self.old.acts result self.new.world self.new.acts }
         ensures told { self.new.told ≡ self.old.told }
         ensures halt { IfErr result (IsStampHaltAt streams.now pid index (λ e. e.from) (λ e. true)
             self.old.world self.old.skipped) }
@@ -330,7 +330,7 @@ impl<const TOP: u64> Construction<TOP> {
             event.now told self.new.world self.new.skipped) }
         ensures follows { (streams : List Stream) → IsPairing streams pairing.now →
             (g : GoesOn TOP streams self.old.world (move_by (item.Reported pid index) event.now)) →
-            Follows g.acts g.outcomes self.old.world self.old.acts result self.new.world self.new.acts }
+            PutsActs g.acts g.outcomes self.old.world self.old.acts result self.new.world self.new.acts }
         ensures reports { (streams : List Stream) → IsPairing streams pairing.now →
             GoesOn TOP streams self.old.world (move_by (item.Reported pid index) event.now) →
             event.now.serial.prev < event.now.serial.this →
@@ -365,7 +365,7 @@ impl<const TOP: u64> Construction<TOP> {
             e.serial.prev < e.serial.this → IsPairing streams.now pairing.now →
             HasTold streams.now self.old.told.items pid index →
             (g : GoesOn TOP streams.now self.old.world (move_by (item.Reported pid index) e)) →
-            Follows g.acts g.outcomes self.old.world self.old.acts result self.new.world self.new.acts }
+            PutsActs g.acts g.outcomes self.old.world self.old.acts result self.new.world self.new.acts }
         ensures tells { OnOk result (TellsOne streams.now pid index self.old.told.items self.new.told.items) }
         ensures told { length self.new.told.items ≡ length self.old.told.items }
         ensures halt { IfErr result (IsStampHaltAt streams.now pid index (λ e. pid) is_stamp
@@ -409,7 +409,7 @@ impl<const TOP: u64> Construction<TOP> {
             IsPairing streams.now pairing.now →
             AreTold streams.now (earlier_of streams.now (take number items.now)) self.old.told.items →
             (m : Serves TOP streams.now (earlier_of streams.now (take number items.now)) x self.old.world) →
-            Follows m.goes.acts m.goes.outcomes self.old.world self.old.acts result
+            PutsActs m.goes.acts m.goes.outcomes self.old.world self.old.acts result
             self.new.world self.new.acts }
         ensures tells { AreTold streams.now (earlier_of streams.now (take number items.now)) self.old.told.items →
             OnOk result (AreTold streams.now (earlier_of streams.now (take (number + 1) items.now))

@@ -14,7 +14,7 @@ use Rattle.st_core.proofs.ForCallers.{pid_eq-true, pid_eq-same, pid_eq-swap, IsB
 use Rattle.st_pair.proofs.ForCallers.{is_at, at_get_or, events_in}
 use Rattle.st_chain.specs.declared.label_table.ChainKey.{ChainKey}
 use Rattle.st_chain.specs.Labels.{labelled}
-use Rattle.st_chain.specs.Tabled.{chain_of, part_from, parts}
+use Rattle.st_chain.specs.Tabled.{chain_of, part_from, listed_under}
 use Rattle.st_chain.proofs.Backs.{missing_events}
 
 -- the key of an event of p
@@ -88,16 +88,16 @@ part_end p i (suc k) (f ∷ es) key len = part_end p i k es key (omega arith)
 -- ONE PROCESS MORE
 
 parts_at : (k : ℕ) (streams : List Stream) (s : Stream) (key : ChainKey) → slice_get streams k ≡ Some s
-    → parts (drop k streams) key ≡ part_from s.pid 0 s.events key ++ parts (drop (suc k) streams) key
+    → listed_under (drop k streams) key ≡ part_from s.pid 0 s.events key ++ listed_under (drop (suc k) streams) key
 parts_at k [] s key at = absurd (cc)
 parts_at zero (x ∷ streams) s key at =
-    ap (λ (y : Stream). part_from y.pid 0 y.events key ++ parts streams key) (same_Some x s at)
+    ap (λ (y : Stream). part_from y.pid 0 y.events key ++ listed_under streams key) (same_Some x s at)
 parts_at (suc k) (x ∷ streams) s key at = parts_at k streams s key at
 
 -- in a loop over the pids
 pub parts_loop : (streams : List Stream) (pids : List Pid) (k : ℕ) (d : Pid) (es : List Event) (key : ChainKey)
     → IsRising (pids_of streams) → pids ≡ pids_of streams → k < length pids → es ≡ events_of streams (get_or pids k d)
-    → parts (drop k streams) key ≡ part_from (get_or pids k d) 0 es key ++ parts (drop (k + 1) streams) key
+    → listed_under (drop k streams) key ≡ part_from (get_or pids k d) 0 es key ++ listed_under (drop (k + 1) streams) key
 parts_loop streams pids k d es key rising are within events =
     let p = get_or pids k d in
     let at = at_get_or pids k d within in
@@ -105,30 +105,30 @@ parts_loop streams pids k d es key rising are within events =
     let same : s.stream.events ≡ es = sym (events ∙ ap events_in s.found) in
     let next : suc k ≡ k + 1 = omega arith in
     parts_at k streams s.stream key s.at
-    ∙ ap (λ (q : Pid). part_from q 0 s.stream.events key ++ parts (drop (suc k) streams) key) s.pid
-    ∙ ap (λ (l : List Event). part_from p 0 l key ++ parts (drop (suc k) streams) key) same
-    ∙ ap (λ (n : ℕ). part_from p 0 es key ++ parts (drop n streams) key) next
+    ∙ ap (λ (q : Pid). part_from q 0 s.stream.events key ++ listed_under (drop (suc k) streams) key) s.pid
+    ∙ ap (λ (l : List Event). part_from p 0 l key ++ listed_under (drop (suc k) streams) key) same
+    ∙ ap (λ (n : ℕ). part_from p 0 es key ++ listed_under (drop n streams) key) next
 
 module _ (streams : List Stream) (pids : List Pid) (k : ℕ) (d : Pid) (es : List Event) (key : ChainKey)
     (rising : IsRising (pids_of streams)) (are : pids ≡ pids_of streams) (within : k < length pids)
     (events : es ≡ events_of streams (get_or pids k d)) where
   -- a list that takes up what the process has
   pub list_passed : (before after total : List ℕ) → after ≡ before ++ part_from (get_or pids k d) 0 es key
-      → before ++ parts (drop k streams) key ≡ total → after ++ parts (drop (k + 1) streams) key ≡ total
+      → before ++ listed_under (drop k streams) key ≡ total → after ++ listed_under (drop (k + 1) streams) key ≡ total
   list_passed before after total is far =
-      ap (λ (l : List ℕ). l ++ parts (drop (k + 1) streams) key) is
-      ∙ append_assoc before (part_from (get_or pids k d) 0 es key) (parts (drop (k + 1) streams) key)
+      ap (λ (l : List ℕ). l ++ listed_under (drop (k + 1) streams) key) is
+      ∙ append_assoc before (part_from (get_or pids k d) 0 es key) (listed_under (drop (k + 1) streams) key)
       ∙ ap (λ (l : List ℕ). before ++ l) (sym (parts_loop streams pids k d es key rising are within events)) ∙ far
 
   -- a process that has nothing
   pub none_passed : (total : List ℕ) → part_from (get_or pids k d) 0 es key ≡ []
-      → parts (drop k streams) key ≡ total → parts (drop (k + 1) streams) key ≡ total
+      → listed_under (drop k streams) key ≡ total → listed_under (drop (k + 1) streams) key ≡ total
   none_passed total none far =
-      ap (λ (l : List ℕ). l ++ parts (drop (k + 1) streams) key) (sym none)
+      ap (λ (l : List ℕ). l ++ listed_under (drop (k + 1) streams) key) (sym none)
       ∙ sym (parts_loop streams pids k d es key rising are within events) ∙ far
 
 past_end : (k : ℕ) (streams : List Stream) (key : ChainKey) → length (pids_of streams) ≤ k
-    → parts (drop k streams) key ≡ []
+    → listed_under (drop k streams) key ≡ []
 past_end zero [] key past = refl
 past_end (suc k) [] key past = refl
 past_end zero (x ∷ streams) key past = absurd (omega arith)
@@ -136,7 +136,7 @@ past_end (suc k) (x ∷ streams) key past = past_end k streams key (omega arith)
 
 -- past the last process nothing is left
 pub parts_end : (streams : List Stream) (pids : List Pid) (k : ℕ) (key : ChainKey) → pids ≡ pids_of streams
-    → length pids ≤ k → parts (drop k streams) key ≡ []
+    → length pids ≤ k → listed_under (drop k streams) key ≡ []
 parts_end streams pids k key are past =
     past_end k streams key (subst (λ (ps : List Pid). length ps ≤ k) are past)
 
@@ -152,10 +152,10 @@ all_apart (r ∷ ps) q p same all = (
 
 -- only one process has events under a key, so its part is the chain
 pub parts_are : (streams : List Stream) (key : ChainKey) → IsRising (pids_of streams)
-    → parts streams key ≡ chain_of streams key
+    → listed_under streams key ≡ chain_of streams key
 parts_are [] key rising = refl
 parts_are (s ∷ rest) key rising = elim (pid_eq s.pid key.pid)
-    as (λ b. pid_eq s.pid key.pid ≡ b → cond b (labelled key.label 0 s.events) [] ++ parts rest key
+    as (λ b. pid_eq s.pid key.pid ≡ b → cond b (labelled key.label 0 s.events) [] ++ listed_under rest key
     ≡ labelled key.label 0 (events_in (cond b (Some s) (stream_of rest key.pid)))) [
       | true ↦ λ own.
           let same = pid_eq-true s.pid key.pid own in

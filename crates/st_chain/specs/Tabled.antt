@@ -23,9 +23,9 @@ abbrev pub part_from : Pid → ℕ → List Event → ChainKey → List ℕ
 part_from pid i events key = if pid_eq pid key.pid then labelled key.label i events else []
 
 -- what all processes have under the key
-abbrev pub parts : List Stream → ChainKey → List ℕ
-parts [] key = []
-parts (s ∷ rest) key = part_from s.pid 0 s.events key ++ parts rest key
+abbrev pub listed_under : List Stream → ChainKey → List ℕ
+listed_under [] key = []
+listed_under (s ∷ rest) key = part_from s.pid 0 s.events key ++ listed_under rest key
 
 -- a key has one number at most, below the count, and shares it with no other
 pub record AreNumbers (number : ChainKey → Option ℕ) (count : ℕ) : Type 0 where

@@ -105,7 +105,7 @@ impl<'a> Model for Chains<'a> {
     ghost use Rattle.std.specs.Prelude.{List};
     ghost use Rattle.std.specs.BTreeMap.{get};
     ghost use Rattle.st_core.specs.Run.{Stream};
-    ghost use Rattle.st_chain.specs.Kept.{IsKept};
+    ghost use Rattle.st_chain.specs.Kept.{AreChainsKept};
     ghost use Rattle.st_chain.specs.Tabled.{chain_key_cmp};
 
     ghost Value = { List Stream };
@@ -113,7 +113,7 @@ impl<'a> Model for Chains<'a> {
     ghost view = { λ a. a.streams.now };
 
     ghost invariant = { λ a.
-        IsKept a.streams.now a.pairing.now a.backs.items (get chain_key_cmp a.table.numbers) a.table.lists };
+        AreChainsKept a.streams.now a.pairing.now a.backs.items (get chain_key_cmp a.table.numbers) a.table.lists };
 }
 
 impl<'a> Chains<'a> {

@@ -5,7 +5,7 @@ use Rattle.std.specs.Result.{IsErr}
 use Rattle.std.specs.List.{flat_map}
 use Rattle.std.proofs.lemmas.List.{take-append-drop}
 use Rattle.std.proofs.lemmas.List.Concat.{flat_map-append}
-use Rattle.st_text.specs.Writing.{WritesPart, Goes, GoesOn}
+use Rattle.st_text.specs.Writing.{WritesPart, Goes, WritesOn}
 use Rattle.st_text.proofs.ForCallers.{part_longer, goes_then, goes_buffer, then_on, on_err}
 
 module _ {S : Type 0} (puts : S → List ℕ → S → Type 0) (failed : S → Bool) where
@@ -16,7 +16,7 @@ module _ {S : Type 0} (puts : S → List ℕ → S → Type 0) (failed : S → B
 
   -- no room could be made
   pub no_room : {T E : Type 0} (text : List ℕ) {a b : S} (x y : List ℕ) (r : Result T E) → IsErr r
-      → WritesPart puts failed (x ++ []) a b → GoesOn puts failed text a b x y r
+      → WritesPart puts failed (x ++ []) a b → WritesOn puts failed text a b x y r
   no_room text x y r is h = on_err text x y r is (part_longer puts failed [] text x h)
 
   -- the first text went, and the second failed

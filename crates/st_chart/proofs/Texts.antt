@@ -8,12 +8,12 @@ use Rattle.st_core.specs.Run.{Stream}
 use Rattle.st_text.specs.Spelling as spelled
 use Rattle.st_text.proofs.ForCallers.{front_some}
 use Rattle.st_audit.specs.declared.finding.Reason.{Reason}
-use Rattle.st_chart.specs.Words.{line, place_words}
+use Rattle.st_chart.specs.Words.{ended_line, place_words}
 use Rattle.st_chart.specs.declared.charted.Charted.{Charted}
 use Rattle.st_chart.specs.Chart.{label_line, lane_lines, item_line, chart_lines}
 use Rattle.st_chart.specs.Report.{unfit_line, reason_words, event_line, evidence, unfit_text}
 
-pub line_some : (words : List ℕ) → 0 < length (line words)
+pub line_some : (words : List ℕ) → 0 < length (ended_line words)
 line_some words = omega (arith, length-append words (10 ∷ []))
 
 pub unfit_some : (streams : List Stream) (p : Pid) (i : ℕ) (r : Reason) → 0 < length (unfit_text streams p i r)

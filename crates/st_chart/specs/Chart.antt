@@ -18,7 +18,7 @@ use Rattle.st_chain.specs.declared.cause.Cause.{Cause}
 use Rattle.st_chain.specs.declared.cause.Cause.TheVariants as cause
 use Rattle.st_chain.specs.Causes.{cause_at}
 use Rattle.st_chart.specs.declared.charted.Charted.{Charted}
-use Rattle.st_chart.specs.Words.{line, place_words}
+use Rattle.st_chart.specs.Words.{ended_line, place_words}
 
 -- ---- what is shown
 
@@ -44,7 +44,7 @@ abbrev pub lanes : List Stream → List Charted → List Pid
 lanes streams xs = filter (λ p. list_any (λ x. is_end x.event p) xs) (pids_of streams)
 
 abbrev pub lane_line : ℕ → Pid → List ℕ
-lane_line k p = line (codes "lane " ++ decimal k ++ codes " " ++ spelled.pid p)
+lane_line k p = ended_line (codes "lane " ++ decimal k ++ codes " " ++ spelled.pid p)
 
 -- a line for each lane, the first with number k
 abbrev pub lane_lines : ℕ → List Pid → List ℕ
@@ -106,10 +106,10 @@ item_words streams x =
 
 -- a mark in each lane, two spaces, and the words
 abbrev pub item_line : List Stream → List Pid → Charted → List ℕ
-item_line streams ps x = flat_map (mark x) ps ++ line (codes "  " ++ item_words streams x)
+item_line streams ps x = flat_map (mark x) ps ++ ended_line (codes "  " ++ item_words streams x)
 
 abbrev pub label_line : Label → List ℕ
-label_line label = line (codes "label " ++ spelled.label label)
+label_line label = ended_line (codes "label " ++ spelled.label label)
 
 -- the label, the lanes, and the items
 abbrev pub chart_lines : List Stream → Label → List Pid → List Charted → List ℕ

@@ -14,7 +14,7 @@ use Rattle.st_audit.specs.declared.finding.Reason.{Reason}
 use Rattle.st_audit.specs.declared.finding.Reason.TheVariants as reason
 use Rattle.st_audit.specs.declared.finding.Finding.{Finding}
 use Rattle.st_audit.specs.declared.finding.Finding.TheVariants as finding
-use Rattle.st_chart.specs.Words.{line, place_words}
+use Rattle.st_chart.specs.Words.{ended_line, place_words}
 
 -- what the tried acts come to; a yes is spelled too, but is never a reason
 abbrev pub verdict_words : Verdict → List ℕ
@@ -34,7 +34,7 @@ reason_words p reason.TooWide = codes "toowide"
 reason_words p (reason.NotReplayed acts v) = codes "notreplayed " ++ verdict_words v
 
 abbrev pub unfit_line : Pid → ℕ → Reason → List ℕ
-unfit_line p i r = line (codes "unfit " ++ place_words p i ++ codes " " ++ reason_words p r)
+unfit_line p i r = ended_line (codes "unfit " ++ place_words p i ++ codes " " ++ reason_words p r)
 
 -- an event; nothing where there is none, and then no finding names the place
 abbrev pub event_words : Option Event → List ℕ
@@ -46,17 +46,17 @@ abbrev pub event_front : Pid → ℕ → List ℕ
 event_front p i = codes "event " ++ place_words p i ++ codes " "
 
 abbrev pub event_line : List Stream → Pid → ℕ → List ℕ
-event_line streams p i = event_front p i ++ line (event_words (event_at streams p i))
+event_line streams p i = event_front p i ++ ended_line (event_words (event_at streams p i))
 
 abbrev pub act_line : Act → List ℕ
-act_line a = line (spelled.act a)
+act_line a = ended_line (spelled.act a)
 
 -- what the reason rests on: the event at the other place, or the acts that were tried
 abbrev pub evidence : List Stream → Pid → Reason → List ℕ
 evidence streams p (reason.NotRising j) = event_line streams p j
 evidence streams p (reason.Repeated q j) = event_line streams q j
 evidence streams p (reason.Mismatch q j) = event_line streams q j
-evidence streams p (reason.NotReplayed acts v) = line (codes "acts") ++ flat_map act_line acts
+evidence streams p (reason.NotReplayed acts v) = ended_line (codes "acts") ++ flat_map act_line acts
 evidence streams p r = []
 
 -- place and reason, the event there, and what the reason rests on

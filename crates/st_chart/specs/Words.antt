@@ -4,8 +4,8 @@ use Rattle.st_core.specs.declared.types.Pid.{Pid}
 use Rattle.st_text.specs.Spelling as spelled
 
 -- these bytes and a newline
-abbrev pub line : List ℕ → List ℕ
-line bytes = bytes ++ 10 ∷ []
+abbrev pub ended_line : List ℕ → List ℕ
+ended_line bytes = bytes ++ 10 ∷ []
 
 -- a place: a process, and an index in its stream, counted from 0
 abbrev pub place_words : Pid → ℕ → List ℕ

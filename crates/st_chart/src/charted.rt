@@ -4,7 +4,7 @@ ghost use Rattle.std.specs.Prelude.{◌≡◌, false};
 ghost use Rattle.std.specs.Option.{option_map_or};
 ghost use Rattle.st_core.specs.Pid.{pid_eq};
 ghost use Rattle.std.specs.List.{list_any};
-ghost use Rattle.st_order.specs.Labels.{has_label};
+ghost use Rattle.st_order.specs.Labels.{item_has_label};
 ghost use Rattle.st_chart.specs.Chart.{charted, is_at, is_end};
 
 use st_core::{Event, Kind, Label, Pid, Streams};
@@ -74,7 +74,7 @@ pub(crate) fn is_end(event: &Event, pid: Pid) -> bool
 
 /// Whether an item has the label.
 pub(crate) fn is_any_charted(streams: &Streams, label: Label, items: &[Item]) -> bool
-    ensures { result ≡ list_any (has_label streams.now label) items.now }
+    ensures { result ≡ list_any (item_has_label streams.now label) items.now }
 {
     items
         .iter()

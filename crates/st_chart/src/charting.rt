@@ -4,8 +4,8 @@ ghost use Rattle.std.specs.Prelude.{◌≡◌, ◌↔◌, ◌≤◌, ◌+◌, �
 ghost use Rattle.std.specs.List.{flat_map, list_any};
 ghost use Rattle.arrayvec.specs.ArrayVec.{array_vec_len};
 ghost use Rattle.st_text.specs.Room.{buffer_room, line_room};
-ghost use Rattle.st_text.specs.Writing.{GoesOn, WritesText};
-ghost use Rattle.st_order.specs.Labels.{has_label};
+ghost use Rattle.st_text.specs.Writing.{WritesOn, WritesText};
+ghost use Rattle.st_order.specs.Labels.{item_has_label};
 ghost use Rattle.st_chart.specs.Answer.{WritesChart};
 ghost use Rattle.st_chart.specs.Chart.{all_charted, lane_line, lane_lines, mark, item_line, label_line};
 ghost use Rattle.st_chart.specs.Chart.{chart_lines, chart_text};
@@ -45,7 +45,7 @@ fn put_lane_line(buffer: &mut Buffer, number: u64, pid: Pid)
 
 /// Writes the line that names the label.
 fn write_label<W: ByteSink>(writer: &mut W, buffer: &mut Buffer, label: Label) -> Result<(), Device>
-    ensures { GoesOn W.puts W.failed (label_line label)
+    ensures { WritesOn W.puts W.failed (label_line label)
         writer.old writer.new buffer.old.items buffer.new.items result }
 {
     make_room(writer, buffer)?;
@@ -59,7 +59,7 @@ fn write_lanes<W: ByteSink>(
     buffer: &mut Buffer,
     lanes: &[Pid],
 ) -> Result<(), Device>
-    ensures { GoesOn W.puts W.failed (lane_lines 1 lanes.now)
+    ensures { WritesOn W.puts W.failed (lane_lines 1 lanes.now)
         writer.old writer.new buffer.old.items buffer.new.items result }
 {
     for (i, pid) in lanes.iter().enumerate() {
@@ -77,7 +77,7 @@ fn write_marks<W: ByteSink>(
     lanes: &[Pid],
     charted: &Charted,
 ) -> Result<(), Device>
-    ensures { GoesOn W.puts W.failed (flat_map (mark charted.now) lanes.now)
+    ensures { WritesOn W.puts W.failed (flat_map (mark charted.now) lanes.now)
         writer.old writer.new buffer.old.items buffer.new.items result }
 {
     for lane in lanes {
@@ -95,7 +95,7 @@ fn write_item<W: ByteSink>(
     lanes: &[Pid],
     charted: &Charted,
 ) -> Result<(), Device>
-    ensures { GoesOn W.puts W.failed (item_line chains.now lanes.now charted.now)
+    ensures { WritesOn W.puts W.failed (item_line chains.now lanes.now charted.now)
         writer.old writer.new buffer.old.items buffer.new.items result }
 {
     write_marks(writer, buffer, lanes, charted)?;
@@ -114,7 +114,7 @@ fn write_if_charted<W: ByteSink>(
     item: Item,
     label: Label,
 ) -> Result<(), Device>
-    ensures { GoesOn W.puts W.failed (line_in streams.now label chains.now lanes.now item)
+    ensures { WritesOn W.puts W.failed (line_in streams.now label chains.now lanes.now item)
         writer.old writer.new buffer.old.items buffer.new.items result }
 {
     match Charted::of(streams, label, item) {
@@ -133,7 +133,7 @@ fn write_items<W: ByteSink>(
     items: &[Item],
     label: Label,
 ) -> Result<(), Device>
-    ensures { GoesOn W.puts W.failed (flat_map (line_in streams.now label chains.now lanes.now) items.now)
+    ensures { WritesOn W.puts W.failed (flat_map (line_in streams.now label chains.now lanes.now) items.now)
         writer.old writer.new buffer.old.items buffer.new.items result }
 {
     for item in items {
@@ -152,7 +152,7 @@ fn write_chart<W: ByteSink>(
     items: &[Item],
     label: Label,
 ) -> Result<(), Device>
-    ensures { GoesOn W.puts W.failed
+    ensures { WritesOn W.puts W.failed
         (chart_lines chains.now label lanes.now (all_charted streams.now items.now label))
         writer.old writer.new buffer.old.items buffer.new.items result }
 {
@@ -193,7 +193,7 @@ pub fn chart<W: ByteSink>(
     requires { chains.now ≡ streams.now }
     ensures written { WritesChart W.puts W.failed (chart_text streams.now items.now label)
         writer.old writer.new result }
-    ensures no_label { result ≡ Err ChartFault.NoLabel ↔ list_any (has_label streams.now label) items.now ≡ false }
+    ensures no_label { result ≡ Err ChartFault.NoLabel ↔ list_any (item_has_label streams.now label) items.now ≡ false }
 {
     if !is_any_charted(streams, label, items) {
         return Err(ChartFault::NoLabel);

@@ -4,8 +4,8 @@ ghost use Rattle.std.specs.Prelude.{◌≡◌, ◌≤◌, ◌+◌, ◌++◌, len
 ghost use Rattle.std.specs.List.{flat_map};
 ghost use Rattle.arrayvec.specs.ArrayVec.{array_vec_len};
 ghost use Rattle.st_text.specs.Room.{buffer_room, line_room, number_room, pid_room};
-ghost use Rattle.st_text.specs.Writing.{GoesOn, WritesText};
-ghost use Rattle.st_chart.specs.Words.{line, place_words};
+ghost use Rattle.st_text.specs.Writing.{WritesOn, WritesText};
+ghost use Rattle.st_chart.specs.Words.{ended_line, place_words};
 ghost use Rattle.st_chart.specs.Room.{place_room, verdict_room, reason_room};
 ghost use Rattle.st_chart.specs.Report.{verdict_words, reason_words, unfit_line, event_words, event_front, event_line};
 ghost use Rattle.st_chart.specs.Report.{act_line, evidence, unfit_text, report_text};
@@ -97,7 +97,7 @@ fn put_front(buffer: &mut Buffer, pid: Pid, index: u64)
 /// Appends the rest of an event's line.
 fn put_back(buffer: &mut Buffer, event: Option<Event>)
     requires { array_vec_len buffer.old + line_room ≤ buffer_room }
-    ensures { buffer.new.items ≡ buffer.old.items ++ line (event_words event) }
+    ensures { buffer.new.items ≡ buffer.old.items ++ ended_line (event_words event) }
 {
     if let Some(event) = event {
         put_event(buffer, &event);
@@ -122,7 +122,7 @@ fn write_unfit_line<W: ByteSink>(
     index: u64,
     reason: &Reason,
 ) -> Result<(), Device>
-    ensures { GoesOn W.puts W.failed (unfit_line pid index reason.now)
+    ensures { WritesOn W.puts W.failed (unfit_line pid index reason.now)
         writer.old writer.new buffer.old.items buffer.new.items result }
 {
     make_room(writer, buffer)?;
@@ -138,7 +138,7 @@ fn write_event<W: ByteSink>(
     pid: Pid,
     index: u64,
 ) -> Result<(), Device>
-    ensures { GoesOn W.puts W.failed (event_line streams.now pid index)
+    ensures { WritesOn W.puts W.failed (event_line streams.now pid index)
         writer.old writer.new buffer.old.items buffer.new.items result }
 {
     make_room(writer, buffer)?;
@@ -150,7 +150,7 @@ fn write_event<W: ByteSink>(
 
 /// Writes a line for each act.
 fn write_acts<W: ByteSink>(writer: &mut W, buffer: &mut Buffer, acts: &[Act]) -> Result<(), Device>
-    ensures { GoesOn W.puts W.failed (flat_map act_line acts.now)
+    ensures { WritesOn W.puts W.failed (flat_map act_line acts.now)
         writer.old writer.new buffer.old.items buffer.new.items result }
 {
     for act in acts {
@@ -162,7 +162,7 @@ fn write_acts<W: ByteSink>(writer: &mut W, buffer: &mut Buffer, acts: &[Act]) ->
 
 /// Writes the acts that were tried.
 fn write_tried<W: ByteSink>(writer: &mut W, buffer: &mut Buffer, acts: &[Act]) -> Result<(), Device>
-    ensures { GoesOn W.puts W.failed (line (codes "acts") ++ flat_map act_line acts.now)
+    ensures { WritesOn W.puts W.failed (ended_line (codes "acts") ++ flat_map act_line acts.now)
         writer.old writer.new buffer.old.items buffer.new.items result }
 {
     make_room(writer, buffer)?;
@@ -178,7 +178,7 @@ fn write_evidence<W: ByteSink>(
     pid: Pid,
     reason: &Reason,
 ) -> Result<(), Device>
-    ensures { GoesOn W.puts W.failed (evidence streams.now pid reason.now)
+    ensures { WritesOn W.puts W.failed (evidence streams.now pid reason.now)
         writer.old writer.new buffer.old.items buffer.new.items result }
 {
     match reason {
@@ -200,7 +200,7 @@ fn write_unfit<W: ByteSink>(
     index: u64,
     reason: &Reason,
 ) -> Result<(), Device>
-    ensures { GoesOn W.puts W.failed (unfit_text streams.now pid index reason.now)
+    ensures { WritesOn W.puts W.failed (unfit_text streams.now pid index reason.now)
         writer.old writer.new buffer.old.items buffer.new.items result }
 {
     write_unfit_line(writer, buffer, pid, index, reason)?;

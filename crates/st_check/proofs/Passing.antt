@@ -20,6 +20,7 @@ use Rattle.st_core.specs.Pairs.{tags_after, pairs}
 use Rattle.st_core.specs.Verdict.{Passes}
 use Rattle.st_core.proofs.ForCallers.{zero_pids, pid_eq-true, pid_eq-same, pid_eq-swap}
 use Rattle.st_core.proofs.ForCallers.{run_parts, leaves_others}
+use Rattle.st_world.proofs.ForCallers.{map_agree}
 use Rattle.st_check.specs.Progress.{state_from, tags_of, count_of, counted, IsPassed}
 use Rattle.st_check.proofs.Appended.{length-run, run-append, state_from-append, stream-append, tags_from-append}
 use Rattle.st_check.proofs.Appended.{pair_of, pairs_from-append}
@@ -96,10 +97,6 @@ run_more top streams acts s counts tags ps a o p h =
     run-append top (zero_state (pids_of streams)) acts a p.outcomes p.passing.runs
     ∙ ap (option_map (λ x. p.outcomes ++ x ∷ [])) (ap (λ x. step top x a) (sym p.is_state) ∙ h)
 
-map_same : {A B : Type 0} {f g : A → B} (xs : List A) → ((x : A) → f x ≡ g x) → map f xs ≡ map g xs
-map_same [] same = refl
-map_same {f = f} {g = g} (x ∷ xs) same = ap (λ y. y ∷ map f xs) (same x) ∙ ap (λ ys. g x ∷ ys) (map_same xs same)
-
 module _ (acts : List Act) (a : Act) (os : List Outcome) (o : Outcome) (even : length os ≡ length acts) where
   -- the streams of the others stay
   pub stream_other : (q : Pid) → pid_eq (actor a) q ≡ false
@@ -132,7 +129,9 @@ module _ (acts : List Act) (a : Act) (os : List Outcome) (o : Outcome) (even : l
   counts_more : (pids : List Pid) (i : ℕ) → IsRising pids → slice_get pids i ≡ Some (actor a)
       → (report : Option Event) → o.report ≡ report
       → counted (map (count_of acts os) pids) i report ≡ map (count_of (acts ++ a ∷ []) (os ++ o ∷ [])) pids
-  counts_more pids i rising at None silent = map_same pids (λ q. ap length (sym (stream_silent q silent)))
+  counts_more pids i rising at None silent =
+      map_agree (count_of acts os) (count_of (acts ++ a ∷ []) (os ++ o ∷ [])) pids
+      (λ q. ap length (sym (stream_silent q silent)))
   counts_more pids i rising at (Some e) is =
       let own : get_or (map (count_of acts os) pids) i 0 + 1 ≡ count_of (acts ++ a ∷ []) (os ++ o ∷ []) (actor a) =
       ap (λ n. n + 1) (entry_at (count_of acts os) pids i (actor a) 0 at)

@@ -25,7 +25,7 @@ use Rattle.st_check.specs.Answers.{reported, AllRise}
 use Rattle.st_check.proofs.Verdicts.{Rises, stream_rises}
 use Rattle.st_core.proofs.ForCallers.{run_sound}
 use Rattle.std.proofs.lemmas.List.Elements.{All-map}
-use Rattle.st_check.specs.Recorded.{IsRecorded, recorded}
+use Rattle.st_check.specs.Recorded.{IsReplayedTo, with_reported}
 use Rattle.st_check.proofs.Appended.{length-run, run-append, state_from-append}
 use Rattle.st_check.proofs.Passing.{state_pids, stream_other, stream_silent, stream_own}
 use Rattle.st_core.proofs.ForCallers.{zero_pids}
@@ -84,7 +84,7 @@ module _ (acts : List Act) (a : Act) (os : List Outcome) (o : Outcome) (even : l
       ] refl
 
   recorded_more : (pids : List Pid) (report : Option Event) → o.report ≡ report
-      → recorded (reported pids acts os) (actor a) report ≡ reported pids (acts ++ a ∷ []) (os ++ o ∷ [])
+      → with_reported (reported pids acts os) (actor a) report ≡ reported pids (acts ++ a ∷ []) (os ++ o ∷ [])
   recorded_more [] None is = refl
   recorded_more [] (Some e) is = refl
   recorded_more (q ∷ pids) None is =
@@ -104,12 +104,12 @@ replies_more (x ∷ os) o = ap (λ ys. x.reply ∷ ys) (replies_more os o)
 
 -- the start
 pub recorded_start : (top : ℕ) (pids : List Pid) (s : State) (streams : List Stream) (replies : List Reply)
-    → s ≡ zero_state pids → streams ≡ reported pids [] [] → replies ≡ [] → IsRecorded top pids [] s streams replies
+    → s ≡ zero_state pids → streams ≡ reported pids [] [] → replies ≡ [] → IsReplayedTo top pids [] s streams replies
 recorded_start top pids s streams replies at_zero no_events no_replies =
     record { outcomes = []; runs = refl; is_state = at_zero; are_streams = no_events; are_replies = no_replies }
 
 module _ (top : ℕ) (pids : List Pid) (acts : List Act) (n : ℕ) (d : Act) (s : State) (streams : List Stream)
-    (replies : List Reply) (within : n < length acts) (p : IsRecorded top pids (take n acts) s streams replies) where
+    (replies : List Reply) (within : n < length acts) (p : IsReplayedTo top pids (take n acts) s streams replies) where
   more : take n acts ++ get_or acts n d ∷ [] ≡ take (n + 1) acts
   more = sym (take_more acts n d within)
 
@@ -149,17 +149,17 @@ module _ (top : ℕ) (pids : List Pid) (acts : List Act) (n : ℕ) (d : Act) (s 
 
     -- the record with it
     pub recorded_at : (me : Pid) (streams' : List Stream) (replies' : List Reply) → me ≡ actor (get_or acts n d)
-        → streams' ≡ recorded streams me o.report → replies' ≡ replies ++ o.reply ∷ []
-        → IsRecorded top pids (take (n + 1) acts) o.after streams' replies'
+        → streams' ≡ with_reported streams me o.report → replies' ≡ replies ++ o.reply ∷ []
+        → IsReplayedTo top pids (take (n + 1) acts) o.after streams' replies'
     recorded_at me streams' replies' who recording replying =
         let a = get_or acts n d in
-        subst (λ xs. IsRecorded top pids xs o.after streams' replies') more (record {
+        subst (λ xs. IsReplayedTo top pids xs o.after streams' replies') more (record {
           outcomes = p.outcomes ++ o ∷ [];
           runs = whole;
           is_state = state_from-append (zero_state pids) p.outcomes o;
           are_streams = recording
-              ∙ ap (λ q. recorded streams q o.report) who
-              ∙ ap (λ xs. recorded xs (actor a) o.report) p.are_streams
+              ∙ ap (λ q. with_reported streams q o.report) who
+              ∙ ap (λ xs. with_reported xs (actor a) o.report) p.are_streams
               ∙ recorded_more (take n acts) a p.outcomes o even pids o.report refl;
           are_replies = replying ∙ ap (λ rs. rs ++ o.reply ∷ []) p.are_replies ∙ replies_more p.outcomes o;
         })
@@ -243,7 +243,7 @@ no_step_but (inr q) other = q
 
 -- the serials of recorded streams rise
 pub recorded_rises : (top : ℕ) (pids : List Pid) (acts : List Act) (s : State) (streams : List Stream)
-    (replies : List Reply) → IsRecorded top pids acts s streams replies → (told : List Stream) → told ≡ streams
+    (replies : List Reply) → IsReplayedTo top pids acts s streams replies → (told : List Stream) → told ≡ streams
     → AllRise told
 recorded_rises top pids acts s streams replies p told same =
     subst AllRise (sym (same ∙ p.are_streams))
@@ -252,7 +252,7 @@ recorded_rises top pids acts s streams replies p told same =
 
 -- recorded streams list the run's processes
 pub recorded_pids : (top : ℕ) (pids : List Pid) (acts : List Act) (s : State) (streams : List Stream)
-    (replies : List Reply) → IsRecorded top pids acts s streams replies → pids ≡ pids_of streams
+    (replies : List Reply) → IsReplayedTo top pids acts s streams replies → pids ≡ pids_of streams
 recorded_pids top pids acts s streams replies p = reported_pids pids acts p.outcomes ∙ ap pids_of (sym p.are_streams)
   where
     reported_pids : (ps : List Pid) (acts : List Act) (os : List Outcome) → ps ≡ pids_of (reported ps acts os)

@@ -12,12 +12,12 @@ use Rattle.st_check.specs.Progress.{state_from}
 use Rattle.st_check.specs.Answers.{reported}
 
 -- the streams with what p reported, if it did
-abbrev pub recorded : List Stream → Pid → Option Event → List Stream
-recorded streams p None = streams
-recorded streams p (Some e) = added streams p e
+abbrev pub with_reported : List Stream → Pid → Option Event → List Stream
+with_reported streams p None = streams
+with_reported streams p (Some e) = added streams p e
 
 -- acts that have a run, the state that it leads to, its streams and its replies
-pub record IsRecorded (top : ℕ) (pids : List Pid) (acts : List Act) (s : State) (streams : List Stream)
+pub record IsReplayedTo (top : ℕ) (pids : List Pid) (acts : List Act) (s : State) (streams : List Stream)
     (replies : List Reply) : Type 0 where
   pub outcomes : List Outcome
   pub runs : run top pids acts ≡ Some outcomes

@@ -3,7 +3,7 @@
 ghost use Rattle.std.specs.Prelude.{◌≡◌, ◌<◌, ◌+◌, [], length, take, IfOk, IfErr, OnOk, MatchBool, None, true};
 ghost use Rattle.std.specs.Option.{ForSome};
 ghost use Rattle.st_check.specs.Answers.{reported, IsReplay, IsReplayFault, RisesOnRun};
-ghost use Rattle.st_check.specs.Recorded.{recorded, IsRecorded};
+ghost use Rattle.st_check.specs.Recorded.{with_reported, IsReplayedTo};
 ghost use Rattle.st_core.specs.Pid.{IsRising};
 ghost use Rattle.st_core.specs.Run.{pids_of, run};
 ghost use Rattle.st_core.specs.Streams.{is_own, lists};
@@ -62,7 +62,7 @@ pub fn replay<const TOP: u64>(
 impl<const TOP: u64> Recording<TOP> {
     /// No acts yet.
     fn new(alloc: Global, pids: &[Pid]) -> Result<Recording<TOP>, ReplayFault>
-        ensures recorded { IfOk result (λ r. IsRecorded TOP pids.now [] r.world r.streams r.replies) }
+        ensures recorded { IfOk result (λ r. IsReplayedTo TOP pids.now [] r.world r.streams r.replies) }
         ensures rising { OnOk result (IsRising pids.now) }
         ensures fault { IfErr result (IsReplayFault pids.now) }
     {
@@ -84,10 +84,10 @@ impl<const TOP: u64> Recording<TOP> {
     /// Takes the act of this number, and answers whether it has a step.
     fn advance(&mut self, acts: &[Act], number: usize) -> Result<bool, AllocError>
         requires within { number < length acts.now }
-        requires recorded { IsRecorded TOP (pids_of self.old.streams) (take number acts.now)
+        requires recorded { IsReplayedTo TOP (pids_of self.old.streams) (take number acts.now)
             self.old.world self.old.streams self.old.replies }
         ensures { IfOk result (λ has_step. MatchBool has_step
-            (IsRecorded TOP (pids_of self.old.streams) (take (number + 1) acts.now)
+            (IsReplayedTo TOP (pids_of self.old.streams) (take (number + 1) acts.now)
             self.new.world self.new.streams self.new.replies)
             (run TOP (pids_of self.old.streams) (take (number + 1) acts.now) ≡ None)) }
     {
@@ -108,7 +108,7 @@ impl<const TOP: u64> Recording<TOP> {
 fn record(streams: &mut Draft, pid: Pid, report: Option<Event>) -> Result<(), AllocError>
     requires listed { lists streams.old pid ≡ true }
     requires own { ForSome report (λ e. is_own pid e ≡ true) }
-    ensures { OnOk result (streams.new ≡ recorded streams.old pid report) }
+    ensures { OnOk result (streams.new ≡ with_reported streams.old pid report) }
 {
     let Some(event) = report else {
         return Ok(());

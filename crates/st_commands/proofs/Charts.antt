@@ -11,7 +11,7 @@ use Rattle.st_audit.specs.Findings.{unfit_by}
 use Rattle.st_chart.specs.declared.fault.ChartFault.{ChartFault}
 use Rattle.st_chart.specs.declared.fault.ChartFault.TheVariants as chart_fault
 use Rattle.st_commands.specs.Output.{Output}
-use Rattle.st_commands.specs.Audited.{reported}
+use Rattle.st_commands.specs.Audited.{report_output}
 use Rattle.st_commands.specs.Command.{Delivers}
 use Rattle.st_commands.specs.Parts.{ChartsTo, OfReason}
 
@@ -29,7 +29,7 @@ from_there puts failed old there new out status same d =
 
 -- a reason that is no want of memory is reported
 pub unpaired : (streams : List Stream) (label : Label) (f : PairFault) (found : Finding) → IsPairFault streams f
-    → unfit_by f ≡ Some found → ChartsTo streams label (reported streams found)
+    → unfit_by f ≡ Some found → ChartsTo streams label (report_output streams found)
 unpaired streams label fault.Memory found is by = absurd (cc)
 unpaired streams label (fault.PrevNotBefore p i) found is by = OfReason (fault.PrevNotBefore p i) found is by
 unpaired streams label (fault.NotRising p i j) found is by = OfReason (fault.NotRising p i j) found is by

@@ -28,7 +28,7 @@ use Rattle.st_commands.specs.Command.{Owes, OfBytes, ForMemory, Tells}
 use Rattle.st_commands.specs.Parts.{DrivesTo, Records, Refuses, NoRoomToDrive, OfBundle, drive_refused}
 use Rattle.st_commands.specs.Meaning.{MeansDriven, Says}
 use Rattle.st_commands.specs.Laws.{DrivenMeans, RecordedIsYes}
-use Rattle.st_commands.specs.Recorded.{ranks, scripts_of, HasRecord, IsRecorded, recorded}
+use Rattle.st_commands.specs.Recorded.{ranks, scripts_of, HasRecord, IsRecorded, record_output}
 use Rattle.st_commands.specs.Recorded as records
 use Rattle.st_commands.proofs.Meanings.{fault_status_high, shown_is_yes}
 use Rattle.st_commands.proofs.Telling.{WasRead, owes_bundle, says}
@@ -136,7 +136,7 @@ same_scripts f g (p ∷ ps) e =
     let rest : map f ps ≡ map g ps = cc in
     All-cons (λ q. f q ≡ g q) p ps here (same_scripts f g ps rest)
 
-recorded_means : (bytes : List ℕ) (r : Record) → HasRecord bytes r → MeansDriven bytes (recorded r)
+recorded_means : (bytes : List ℕ) (r : Record) → HasRecord bytes r → MeansDriven bytes (record_output r)
 recorded_means bytes r h =
     let d = h.driven in
     record {
@@ -164,7 +164,7 @@ driven_means bytes out (records.Faulty b f is) e = let high = fault_status_high 
 
 pub recorded_is_yes : RecordedIsYes
 recorded_is_yes bytes r h spelled out is =
-    shown_is_yes (recorded r).text r.streams r.acts out spelled h.driven.shows is
+    shown_is_yes (record_output r).text r.streams r.acts out spelled h.driven.shows is
 
 -- ---- what is owed
 
@@ -188,7 +188,7 @@ module _ {R : Type 0} (gives : R → List ℕ → R → Type 0) (ended : R → T
   owes_driven : (acts : List Act) (out : Output) → Spells h.bytes c.streams (Some acts)
       → DrivesTo c.streams acts out → Owes gives ended failed old new IsRecorded out
   owes_driven acts out s (Records r is) =
-      OfBytes h.bytes (recorded r) h.all
+      OfBytes h.bytes (record_output r) h.all
       (records.Recorded h.bytes r (record { streams = c.streams; acts = acts; spelled = s; driven = is }))
   owes_driven acts out s (Refuses f is) = owes_refused acts s f is
   owes_driven acts out s NoRoomToDrive = ForMemory h.bytes h.all h.small

@@ -6,7 +6,7 @@ use Rattle.st_audit.specs.declared.finding.Finding.{Finding}
 use Rattle.st_audit.specs.declared.finding.Finding.TheVariants as finding
 use Rattle.st_commands.specs.Output.{judged}
 use Rattle.st_commands.specs.Checked.{Judged}
-use Rattle.st_commands.specs.Audited.{HasFinding, IsAudited, Found, Faulty, reported, finding_status}
+use Rattle.st_commands.specs.Audited.{HasFinding, IsAudited, Found, Faulty, report_output, finding_status}
 use Rattle.st_commands.specs.Command.{Owes, Tells}
 use Rattle.st_commands.specs.Meaning.{MeansFits, MeansUnfit, Says}
 use Rattle.st_commands.specs.Laws.{FitsMeans, UnfitMeans, CertificateIsYes, certificate}
@@ -18,7 +18,7 @@ use Rattle.st_commands.proofs.Telling.{says}
 -- ---- what is found
 
 found_fits : (bytes : List ℕ) (streams : List Stream) (found : Finding) → HasFinding bytes streams found
-    → finding_status found ≡ 0 → MeansFits bytes (reported streams found)
+    → finding_status found ≡ 0 → MeansFits bytes (report_output streams found)
 found_fits bytes streams (finding.Unfit p i r) h e = absurd (omega (arith, e))
 found_fits bytes streams (finding.Fits acts pairs) h e =
     let yes = h.finding in
@@ -34,7 +34,7 @@ found_fits bytes streams (finding.Fits acts pairs) h e =
     }
 
 found_unfit : (bytes : List ℕ) (streams : List Stream) (found : Finding) → HasFinding bytes streams found
-    → finding_status found ≡ 1 → MeansUnfit bytes (reported streams found)
+    → finding_status found ≡ 1 → MeansUnfit bytes (report_output streams found)
 found_unfit bytes streams (finding.Fits acts pairs) h e = absurd (omega (arith, e))
 found_unfit bytes streams (finding.Unfit p i r) h e =
     record {

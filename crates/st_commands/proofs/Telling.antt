@@ -24,7 +24,7 @@ use Rattle.st_commands.specs.Checked.{Spells, IsChecked, Judged}
 use Rattle.st_commands.specs.Checked as checked
 use Rattle.st_commands.specs.Replayed.{IsReplayed}
 use Rattle.st_commands.specs.Replayed as replays
-use Rattle.st_commands.specs.Audited.{IsAudited, reported}
+use Rattle.st_commands.specs.Audited.{IsAudited, report_output}
 use Rattle.st_commands.specs.Audited as audits
 use Rattle.st_commands.specs.Charted.{IsCharted, drawn, no_label}
 use Rattle.st_commands.specs.Charted as charts
@@ -136,7 +136,7 @@ module _ {R : Type 0} (gives : R → List ℕ → R → Type 0) (ended : R → T
 
     pub owes_audit : (out : Output) → AuditsTo c.streams out → Owes gives ended failed old new IsAudited out
     owes_audit out (parts.Finds found is on) =
-        OfBytes h.bytes (reported c.streams found) h.all
+        OfBytes h.bytes (report_output c.streams found) h.all
         (audits.Found h.bytes c.streams found
         (record { given = c.acts; spelled = h.spelled; finding = is; handed_on = on }))
     owes_audit out parts.NoRoomToAudit = ForMemory h.bytes h.all h.small
@@ -160,7 +160,7 @@ module _ {R : Type 0} (gives : R → List ℕ → R → Type 0) (ended : R → T
         → Owes gives ended failed old new (IsCharted label) out
     owes_chart label out (parts.OfOrder items o ok is draws) = owes_drawn label items o ok is draws
     owes_chart label out (parts.OfReason f found is by) =
-        OfBytes h.bytes (reported c.streams found) h.all
+        OfBytes h.bytes (report_output c.streams found) h.all
         (charts.Unpaired h.bytes c.streams found
         (record { given = c.acts; spelled = h.spelled; fault = f; refused = is; found_by = by }))
     owes_chart label out parts.NoRoomToOrder = ForMemory h.bytes h.all h.small

@@ -17,8 +17,8 @@ finding_status (finding.Fits acts pairs) = 0
 finding_status (finding.Unfit p i r) = 1
 
 -- the report of what was found of streams
-abbrev pub reported : List Stream → Finding → Output
-reported streams found = record { text = report_text streams found; status = finding_status found }
+abbrev pub report_output : List Stream → Finding → Output
+report_output streams found = record { text = report_text streams found; status = finding_status found }
 
 -- The bytes spell streams, of which this is found: acts that the checker accepts, or an event that is there and a
 -- reason that holds there. Where pairing refuses the streams, its reason is what is found.
@@ -31,5 +31,5 @@ pub record HasFinding (bytes : List ℕ) (streams : List Stream) (found : Findin
 -- the output of the bytes
 pub data IsAudited : List ℕ → Output → Type 0 where
   Found : (bytes : List ℕ) (streams : List Stream) (found : Finding) → HasFinding bytes streams found
-      → IsAudited bytes (reported streams found)
+      → IsAudited bytes (report_output streams found)
   Faulty : (bytes : List ℕ) (f : ReadFault) → fault bytes ≡ Some f → IsAudited bytes (refused f)

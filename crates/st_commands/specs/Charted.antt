@@ -9,17 +9,17 @@ use Rattle.st_pair.specs.declared.answer.PairFault.{PairFault}
 use Rattle.st_pair.specs.Pairing.{refusal}
 use Rattle.st_order.specs.declared.item.Item.{Item}
 use Rattle.st_order.specs.Order.{IsOrder}
-use Rattle.st_order.specs.Labels.{has_label}
+use Rattle.st_order.specs.Labels.{item_has_label}
 use Rattle.st_audit.specs.declared.finding.Finding.{Finding}
 use Rattle.st_audit.specs.Findings.{unfit_by}
 use Rattle.st_chart.specs.Chart.{chart_text}
 use Rattle.st_text.specs.declared.fault.ReadFault.{ReadFault}
 use Rattle.st_text.specs.Spelling as spelled
 use Rattle.st_text.specs.Fault.{fault}
-use Rattle.st_chart.specs.Words.{line}
+use Rattle.st_chart.specs.Words.{ended_line}
 use Rattle.st_commands.specs.Output.{Output, refused}
 use Rattle.st_commands.specs.Checked.{Spells}
-use Rattle.st_commands.specs.Audited.{reported}
+use Rattle.st_commands.specs.Audited.{report_output}
 
 -- the chart of the items that have the label
 abbrev pub drawn : List Stream → List Item → Label → Output
@@ -27,7 +27,7 @@ drawn streams items label = record { text = chart_text streams items label; stat
 
 -- no item has the label
 abbrev pub no_label : Label → Output
-no_label label = record { text = line (codes "no label " ++ spelled.label label); status = 1 }
+no_label label = record { text = ended_line (codes "no label " ++ spelled.label label); status = 1 }
 
 -- the bytes spell streams that pairing accepts, of which this is the order
 pub record HasOrder (bytes : List ℕ) (streams : List Stream) (items : List Item) : Type 0 where
@@ -47,9 +47,9 @@ pub record HasReason (bytes : List ℕ) (streams : List Stream) (found : Finding
 -- the output of the bytes
 pub data IsCharted (label : Label) : List ℕ → Output → Type 0 where
   Drawn : (bytes : List ℕ) (streams : List Stream) (items : List Item) → HasOrder bytes streams items
-      → list_any (has_label streams label) items ≡ true → IsCharted label bytes (drawn streams items label)
+      → list_any (item_has_label streams label) items ≡ true → IsCharted label bytes (drawn streams items label)
   Unlabelled : (bytes : List ℕ) (streams : List Stream) (items : List Item) → HasOrder bytes streams items
-      → list_any (has_label streams label) items ≡ false → IsCharted label bytes (no_label label)
+      → list_any (item_has_label streams label) items ≡ false → IsCharted label bytes (no_label label)
   Unpaired : (bytes : List ℕ) (streams : List Stream) (found : Finding) → HasReason bytes streams found
-      → IsCharted label bytes (reported streams found)
+      → IsCharted label bytes (report_output streams found)
   Faulty : (bytes : List ℕ) (f : ReadFault) → fault bytes ≡ Some f → IsCharted label bytes (refused f)

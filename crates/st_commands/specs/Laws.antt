@@ -9,7 +9,7 @@ use Rattle.st_commands.specs.Output.{Output, judged}
 use Rattle.st_commands.specs.Checked.{top, Spells, IsJudged, IsChecked}
 use Rattle.st_commands.specs.Replayed.{HasStuck}
 use Rattle.st_commands.specs.Audited.{IsAudited}
-use Rattle.st_commands.specs.Recorded.{HasRecord, IsRecorded, recorded}
+use Rattle.st_commands.specs.Recorded.{HasRecord, IsRecorded, record_output}
 use Rattle.st_commands.specs.Meaning.{MeansYes, MeansNo, MeansFits, MeansUnfit, MeansDriven}
 
 -- status 0 is a yes, and status 1 a no
@@ -51,8 +51,8 @@ DrivenMeans = (bytes : List ℕ) (out : Output) → IsRecorded bytes out → out
 -- where the text of a record is one within the reader's limits, `check` of it answers yes
 abbrev pub RecordedIsYes : Type 0
 RecordedIsYes =
-    (bytes : List ℕ) (r : Record) → HasRecord bytes r → Spells (recorded r).text r.streams (Some r.acts)
-    → (out : Output) → IsChecked (recorded r).text out → out.status ≡ 0
+    (bytes : List ℕ) (r : Record) → HasRecord bytes r → Spells (record_output r).text r.streams (Some r.acts)
+    → (out : Output) → IsChecked (record_output r).text out → out.status ≡ 0
 
 -- bytes have an output of the command, and one at most
 abbrev pub HasOutput : (List ℕ → Output → Type 0) → Type 0

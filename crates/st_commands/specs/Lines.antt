@@ -4,7 +4,7 @@ use Rattle.st_text.specs.Room.{pid_room, number_room}
 use Rattle.st_text.specs.Spelling as spelled
 use Rattle.st_commands.specs.declared.lines.OutputLine.{OutputLine}
 use Rattle.st_commands.specs.declared.lines.OutputLine.TheVariants as lines
-use Rattle.st_chart.specs.Words.{line}
+use Rattle.st_chart.specs.Words.{ended_line}
 use Rattle.st_commands.specs.Output.{pair_words, fault_words, usage_words}
 use Rattle.st_commands.specs.Recorded.{act_fault_words}
 
@@ -23,7 +23,7 @@ words lines.JoinFault = codes "fault join"
 words lines.Usage = usage_words
 
 abbrev pub text_of : OutputLine → List ℕ
-text_of l = line (words l)
+text_of l = ended_line (words l)
 
 -- how many bytes the words of a line take at most, each number given the room of the longest: an act that was refused
 abbrev pub words_room : ℕ

@@ -16,7 +16,7 @@ use Rattle.st_audit.specs.Findings.{IsReason}
 use Rattle.st_chart.specs.Report.{report_text}
 use Rattle.st_text.specs.Text.{spelling}
 use Rattle.st_text.specs.Writing.{Writes}
-use Rattle.st_chart.specs.Words.{line}
+use Rattle.st_chart.specs.Words.{ended_line}
 use Rattle.st_commands.specs.Output.{Output, pair_line, verdict_text}
 use Rattle.st_commands.specs.Checked.{top, Spells}
 use Rattle.st_commands.specs.Command.{ReadsAll}
@@ -37,7 +37,7 @@ pub record MeansYes (bytes : List ℕ) (out : Output) : Type 0 where
   -- in each pair the receive follows its send, with the same label and serial, and no send stands twice
   pub follows : Follows acts outcomes (pairs acts outcomes)
   -- the text is the line yes and a line for each of these pairs
-  pub text : out.text ≡ line (codes "yes") ++ flat_map pair_line (pairs acts outcomes)
+  pub text : out.text ≡ ended_line (codes "yes") ++ flat_map pair_line (pairs acts outcomes)
 
 -- a no: status 1
 pub record MeansNo (bytes : List ℕ) (out : Output) : Type 0 where

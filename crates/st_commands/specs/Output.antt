@@ -7,7 +7,7 @@ use Rattle.st_core.specs.Verdict.{Verdict, Stuck, Differs, Left, Yes}
 use Rattle.st_text.specs.Spelling as spelled
 use Rattle.st_text.specs.declared.fault.ReadFault.{ReadFault}
 use Rattle.st_text.specs.declared.fault.ReadFault.TheVariants as faults
-use Rattle.st_chart.specs.Words.{line}
+use Rattle.st_chart.specs.Words.{ended_line}
 use Rattle.st_commands.specs.declared.words.Refusal.{Refusal}
 use Rattle.st_commands.specs.declared.words.Refusal.TheVariants as refusals
 
@@ -22,13 +22,13 @@ abbrev pub pair_words : ℕ × ℕ → List ℕ
 pair_words p = codes "pair " ++ decimal p.0 ++ codes " " ++ decimal p.1
 
 abbrev pub pair_line : ℕ × ℕ → List ℕ
-pair_line p = line (pair_words p)
+pair_line p = ended_line (pair_words p)
 
 abbrev pub verdict_text : Verdict → List ℕ
-verdict_text (Yes ps) = line (codes "yes") ++ flat_map pair_line ps
-verdict_text (Stuck n) = line (codes "no stuck " ++ decimal n)
-verdict_text (Differs n) = line (codes "no differs " ++ decimal n)
-verdict_text (Left p) = line (codes "no left " ++ spelled.pid p)
+verdict_text (Yes ps) = ended_line (codes "yes") ++ flat_map pair_line ps
+verdict_text (Stuck n) = ended_line (codes "no stuck " ++ decimal n)
+verdict_text (Differs n) = ended_line (codes "no differs " ++ decimal n)
+verdict_text (Left p) = ended_line (codes "no left " ++ spelled.pid p)
 
 abbrev pub verdict_status : Verdict → ℕ
 verdict_status (Yes ps) = 0
@@ -64,11 +64,11 @@ fault_status (faults.TooMany n) = 2
 fault_status faults.Truncated = 2
 
 abbrev pub refused : ReadFault → Output
-refused f = record { text = line (fault_words f); status = fault_status f }
+refused f = record { text = ended_line (fault_words f); status = fault_status f }
 
 -- a bundle without acts, where acts are wanted
 abbrev pub no_acts : Output
-no_acts = record { text = line (codes "fault no acts"); status = 2 }
+no_acts = record { text = ended_line (codes "fault no acts"); status = 2 }
 
 -- want of memory, and a reader that failed
 abbrev pub no_memory : Output
@@ -83,7 +83,7 @@ abbrev pub usage_words : List ℕ
 usage_words = codes "usage: seqaudit check|audit|replay|drive|chart --label N"
 
 abbrev pub usage : Output
-usage = record { text = line usage_words; status = 3 }
+usage = record { text = ended_line usage_words; status = 3 }
 
 -- words that ask for no command
 abbrev pub refusal_output : Refusal → Output

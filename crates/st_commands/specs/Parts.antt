@@ -16,7 +16,7 @@ use Rattle.st_pair.specs.declared.answer.PairFault.{PairFault}
 use Rattle.st_pair.specs.Pairing.{refusal}
 use Rattle.st_order.specs.declared.item.Item.{Item}
 use Rattle.st_order.specs.Order.{IsOrder}
-use Rattle.st_order.specs.Labels.{has_label}
+use Rattle.st_order.specs.Labels.{item_has_label}
 use Rattle.st_runtime.specs.declared.fault.DriveFault.{DriveFault}
 use Rattle.st_runtime.specs.declared.fault.DriveFault.TheVariants as drive
 use Rattle.st_runtime.specs.declared.record.Record.{Record}
@@ -25,9 +25,9 @@ use Rattle.st_text.specs.Text.{Contents, spelling}
 use Rattle.st_commands.specs.Output.{Output, judged, no_acts, no_memory}
 use Rattle.st_commands.specs.Checked.{top}
 use Rattle.st_commands.specs.Replayed.{replayed, stuck}
-use Rattle.st_commands.specs.Audited.{reported}
+use Rattle.st_commands.specs.Audited.{report_output}
 use Rattle.st_commands.specs.Charted.{drawn, no_label}
-use Rattle.st_commands.specs.Recorded.{ranks, scripts_of, recorded, act_fault, thread_fault, join_fault}
+use Rattle.st_commands.specs.Recorded.{ranks, scripts_of, record_output, act_fault, thread_fault, join_fault}
 
 -- the verdict of streams and acts
 pub data ChecksTo (streams : List Stream) (acts : List Act) : Output → Type 0 where
@@ -38,13 +38,13 @@ pub data ChecksTo (streams : List Stream) (acts : List Act) : Output → Type 0 
 -- what is found of streams
 pub data AuditsTo (streams : List Stream) : Output → Type 0 where
   Finds : (found : Finding) → IsFinding top streams found → HandsOn streams found
-      → AuditsTo streams (reported streams found)
+      → AuditsTo streams (report_output streams found)
   NoRoomToAudit : AuditsTo streams no_memory
 
 -- the chart of an order's items
 pub data DrawsTo (streams : List Stream) (label : Label) (items : List Item) : Output → Type 0 where
-  Draws : list_any (has_label streams label) items ≡ true → DrawsTo streams label items (drawn streams items label)
-  LacksLabel : list_any (has_label streams label) items ≡ false → DrawsTo streams label items (no_label label)
+  Draws : list_any (item_has_label streams label) items ≡ true → DrawsTo streams label items (drawn streams items label)
+  LacksLabel : list_any (item_has_label streams label) items ≡ false → DrawsTo streams label items (no_label label)
   NoRoomToDraw : DrawsTo streams label items no_memory
 
 -- the chart of streams
@@ -52,7 +52,7 @@ pub data ChartsTo (streams : List Stream) (label : Label) : Output → Type 0 wh
   OfOrder : (items : List Item) (out : Output) → refusal streams ≡ None → IsOrder streams items
       → DrawsTo streams label items out → ChartsTo streams label out
   OfReason : (f : PairFault) (found : Finding) → refusal streams ≡ Some f → unfit_by f ≡ Some found
-      → ChartsTo streams label (reported streams found)
+      → ChartsTo streams label (report_output streams found)
   NoRoomToOrder : ChartsTo streams label no_memory
 
 -- why scripts of streams weren't driven; their pids rise, so that they don't is no answer
@@ -73,7 +73,7 @@ pub data ReplaysTo (streams : List Stream) (acts : List Act) : Output → Type 0
 -- what the acts come to as scripts of the streams' processes
 pub data DrivesTo (streams : List Stream) (acts : List Act) : Output → Type 0 where
   Records : (r : Record) → IsDriven top (pids_of streams) (scripts_of (pids_of streams) acts) r
-      → DrivesTo streams acts (recorded r)
+      → DrivesTo streams acts (record_output r)
   Refuses : (f : DriveFault) → IsDriveFault top ranks (pids_of streams) (scripts_of (pids_of streams) acts) f
       → DrivesTo streams acts (drive_refused f)
   NoRoomToDrive : DrivesTo streams acts no_memory

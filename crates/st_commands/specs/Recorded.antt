@@ -12,7 +12,7 @@ use Rattle.st_text.specs.declared.fault.ReadFault.{ReadFault}
 use Rattle.st_text.specs.Spelling as spelled
 use Rattle.st_text.specs.Text.{spelling}
 use Rattle.st_text.specs.Fault.{fault}
-use Rattle.st_chart.specs.Words.{line}
+use Rattle.st_chart.specs.Words.{ended_line}
 use Rattle.st_commands.specs.Output.{Output, refused, no_acts}
 use Rattle.st_commands.specs.Checked.{top, Spells, LacksActs}
 
@@ -25,8 +25,8 @@ abbrev pub scripts_of : List Pid → List Act → List (List Act)
 scripts_of pids acts = map (λ p. acts_by p acts) pids
 
 -- the record as a bundle
-abbrev pub recorded : Record → Output
-recorded r = record { text = spelling (record { streams = r.streams; acts = Some r.acts }); status = 0 }
+abbrev pub record_output : Record → Output
+record_output r = record { text = spelling (record { streams = r.streams; acts = Some r.acts }); status = 0 }
 
 -- the bytes spell streams and acts, and this is a record of the acts as scripts of the streams' processes
 pub record HasRecord (bytes : List ℕ) (r : Record) : Type 0 where
@@ -42,15 +42,15 @@ act_fault_words p n = codes "fault act " ++ spelled.pid p ++ codes " " ++ decima
 
 -- act n of p's script was refused
 abbrev pub act_fault : Pid → ℕ → Output
-act_fault p n = record { text = line (act_fault_words p n); status = 1 }
+act_fault p n = record { text = ended_line (act_fault_words p n); status = 1 }
 
 -- a thread couldn't be started
 abbrev pub thread_fault : Output
-thread_fault = record { text = line (codes "fault thread"); status = 4 }
+thread_fault = record { text = ended_line (codes "fault thread"); status = 4 }
 
 -- what the threads left is no run
 abbrev pub join_fault : Output
-join_fault = record { text = line (codes "fault join"); status = 4 }
+join_fault = record { text = ended_line (codes "fault join"); status = 4 }
 
 -- the bytes spell streams and acts
 pub record HasActs (bytes : List ℕ) : Type 0 where
@@ -68,7 +68,7 @@ pub record HasStray (bytes : List ℕ) (p : Pid) (n : ℕ) : Type 0 where
 
 -- the output of the bytes; an act is refused for no other cause
 pub data IsRecorded : List ℕ → Output → Type 0 where
-  Recorded : (bytes : List ℕ) (r : Record) → HasRecord bytes r → IsRecorded bytes (recorded r)
+  Recorded : (bytes : List ℕ) (r : Record) → HasRecord bytes r → IsRecorded bytes (record_output r)
   Strayed : (bytes : List ℕ) (p : Pid) (n : ℕ) → HasStray bytes p n → IsRecorded bytes (act_fault p n)
   Unstarted : (bytes : List ℕ) → HasActs bytes → IsRecorded bytes thread_fault
   Unjoined : (bytes : List ℕ) → HasActs bytes → IsRecorded bytes join_fault

@@ -9,7 +9,7 @@ use Rattle.st_check.specs.Answers.{SticksAt, reported}
 use Rattle.st_text.specs.declared.fault.ReadFault.{ReadFault}
 use Rattle.st_text.specs.Text.{spelling}
 use Rattle.st_text.specs.Fault.{fault}
-use Rattle.st_chart.specs.Words.{line}
+use Rattle.st_chart.specs.Words.{ended_line}
 use Rattle.st_commands.specs.Output.{Output, refused, no_acts}
 use Rattle.st_commands.specs.Checked.{top, Spells, LacksActs}
 
@@ -20,7 +20,7 @@ replayed pids acts os =
 
 -- act n has no step
 abbrev pub stuck : ℕ → Output
-stuck n = record { text = line (codes "no stuck " ++ decimal n); status = 1 }
+stuck n = record { text = ended_line (codes "no stuck " ++ decimal n); status = 1 }
 
 -- the bytes spell streams and acts that have this run over the streams' pids
 pub record HasRun (bytes : List ℕ) (pids : List Pid) (acts : List Act) (os : List Outcome) : Type 0 where

@@ -2,7 +2,7 @@
 
 ghost use Rattle.std.specs.Prelude.{◌≡◌, MatchResult};
 ghost use Rattle.st_check.specs.Answers.{verdict_of};
-ghost use Rattle.st_commands.specs.Audited.{finding_status, reported};
+ghost use Rattle.st_commands.specs.Audited.{finding_status, report_output};
 ghost use Rattle.st_commands.specs.Command.{Delivers};
 ghost use Rattle.st_commands.specs.Lines.{text_of};
 ghost use Rattle.st_commands.specs.Output.{verdict_status, fault_status, judged, refusal_output, refused};
@@ -80,7 +80,7 @@ pub(crate) fn tell_verdict<W: ByteSink>(writer: &mut W, verdict: &Verdict) -> u8
 
 /// Answers the report of what was found of streams.
 pub(crate) fn tell_finding<W: ByteSink>(writer: &mut W, streams: &Streams, finding: &Finding) -> u8
-    ensures { Delivers W.puts W.failed writer.old writer.new (reported streams.now finding.now) result }
+    ensures { Delivers W.puts W.failed writer.old writer.new (report_output streams.now finding.now) result }
 {
     let sent = report(writer, streams, finding);
     status_of(sent, finding_status(finding))

@@ -6,7 +6,7 @@ ghost use Rattle.std.specs.List.{flat_map};
 ghost use Rattle.arrayvec.specs.ArrayVec.{array_vec_len};
 ghost use Rattle.st_check.specs.Answers.{verdict_of};
 ghost use Rattle.st_text.specs.Room.{buffer_room, line_room, number_room};
-ghost use Rattle.st_text.specs.Writing.{GoesOn, WritesText};
+ghost use Rattle.st_text.specs.Writing.{WritesOn, WritesText};
 ghost use Rattle.st_commands.specs.Lines.{words, text_of, words_room};
 ghost use Rattle.st_commands.specs.Output.{fault_words, pair_words, pair_line, verdict_text};
 ghost use Rattle.st_commands.specs.Recorded.{act_fault_words};
@@ -137,7 +137,7 @@ fn write_line<W: ByteSink>(
     buffer: &mut Buffer,
     line: OutputLine,
 ) -> Result<(), Device>
-    ensures { GoesOn W.puts W.failed (text_of line)
+    ensures { WritesOn W.puts W.failed (text_of line)
         writer.old writer.new buffer.old.items buffer.new.items result }
 {
     make_room(writer, buffer)?;
@@ -151,7 +151,7 @@ fn write_pairs<W: ByteSink>(
     buffer: &mut Buffer,
     pairs: &[(u64, u64)],
 ) -> Result<(), Device>
-    ensures { GoesOn W.puts W.failed (flat_map pair_line pairs.now)
+    ensures { WritesOn W.puts W.failed (flat_map pair_line pairs.now)
         writer.old writer.new buffer.old.items buffer.new.items result }
 {
     for pair in pairs {
@@ -166,7 +166,7 @@ fn write_yes<W: ByteSink>(
     buffer: &mut Buffer,
     pairs: &[(u64, u64)],
 ) -> Result<(), Device>
-    ensures { GoesOn W.puts W.failed (text_of OutputLine.Yes ++ flat_map pair_line pairs.now)
+    ensures { WritesOn W.puts W.failed (text_of OutputLine.Yes ++ flat_map pair_line pairs.now)
         writer.old writer.new buffer.old.items buffer.new.items result }
 {
     write_line(writer, buffer, OutputLine::Yes)?;
@@ -179,7 +179,7 @@ fn write_verdict<W: ByteSink>(
     buffer: &mut Buffer,
     verdict: &Verdict,
 ) -> Result<(), Device>
-    ensures { GoesOn W.puts W.failed (verdict_text (verdict_of verdict.now))
+    ensures { WritesOn W.puts W.failed (verdict_text (verdict_of verdict.now))
         writer.old writer.new buffer.old.items buffer.new.items result }
 {
     match verdict {

@@ -3,7 +3,7 @@
 
 ghost use Rattle.std.specs.Prelude.{◌≡◌, [], ◌∷◌, codes, Some, None, IfOk, IfErr, map};
 ghost use Rattle.clap.specs.Words.{Text, app_of, found_of, kind_of, rows_of};
-ghost use Rattle.st_commands.specs.Words.{asked, chart_line, chart_of, chart_words, command_line, label};
+ghost use Rattle.st_commands.specs.Words.{asked, chart_line, chart_of, chart_words, command_line, label_numbered};
 ghost use Rattle.st_commands.specs.Words.{task_of, IsRefusal, IsRefusalOf};
 
 use clap::error::ErrorKind;
@@ -145,20 +145,20 @@ pub fn plain_words()
 /// the label may follow `=`, where a minus may stand before a zero. More than the greatest label, no
 /// digits at all, a word that begins with a minus, and the option twice ask for nothing.
 pub fn chart_labels()
-    ensures plain { (name : Text) → asked (chart_words name (codes "17")) ≡ Some (Task.Chart (label 17)) }
-    ensures plus { (name : Text) → asked (chart_words name (codes "+17")) ≡ Some (Task.Chart (label 17)) }
-    ensures zeros { (name : Text) → asked (chart_words name (codes "017")) ≡ Some (Task.Chart (label 17)) }
+    ensures plain { (name : Text) → asked (chart_words name (codes "17")) ≡ Some (Task.Chart (label_numbered 17)) }
+    ensures plus { (name : Text) → asked (chart_words name (codes "+17")) ≡ Some (Task.Chart (label_numbered 17)) }
+    ensures zeros { (name : Text) → asked (chart_words name (codes "017")) ≡ Some (Task.Chart (label_numbered 17)) }
     ensures greatest { (name : Text) → asked (chart_words name (codes "4294967295"))
-        ≡ Some (Task.Chart (label 4294967295)) }
+        ≡ Some (Task.Chart (label_numbered 4294967295)) }
     ensures too_great { (name : Text) → asked (chart_words name (codes "4294967296")) ≡ None }
     ensures negative { (name : Text) → asked (chart_words name (codes "-1")) ≡ None }
     ensures empty { (name : Text) → asked (chart_words name []) ≡ None }
     ensures word { (name : Text) → asked (chart_words name (codes "x")) ≡ None }
     ensures joined { (name : Text) → asked (name ∷ codes "chart" ∷ codes "--label=17" ∷ [])
-        ≡ Some (Task.Chart (label 17)) }
+        ≡ Some (Task.Chart (label_numbered 17)) }
     ensures joined_minus { (name : Text) → asked (name ∷ codes "chart" ∷ codes "--label=-1" ∷ []) ≡ None }
     ensures minus_zero { (name : Text) → asked (name ∷ codes "chart" ∷ codes "--label=-0" ∷ [])
-        ≡ Some (Task.Chart (label 0)) }
+        ≡ Some (Task.Chart (label_numbered 0)) }
     ensures unfinished { (name : Text) → asked (name ∷ codes "chart" ∷ codes "--label" ∷ []) ≡ None }
     ensures twice { (name : Text) →
         asked (name ∷ codes "chart" ∷ codes "--label=17" ∷ codes "--label=17" ∷ []) ≡ None }

@@ -25,6 +25,11 @@ is_inner (act.Reset p) = false
 is_inner (act.Tracer p b) = false
 is_inner a = true
 
+-- the act is a send, which takes memory for its message
+abbrev pub is_send_act : Act → Bool
+is_send_act (act.Send p q v) = true
+is_send_act a = false
+
 -- the actor's part of an act that tells this and leaves these parts
 abbrev pub part_of : Told → LocalState → List Message → Acted
 part_of told l queue = record {

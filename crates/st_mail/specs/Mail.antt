@@ -20,6 +20,6 @@ left_by None queue = queue
 left_by (Some found) queue = remove queue found.0
 
 -- the token has this from, and this as its own count
-abbrev pub is_stamp : Pid → ℕ → Option Token → Bool
-is_stamp from this None = false
-is_stamp from this (Some t) = pid_eq t.from from && t.serial.this == this
+abbrev pub bears_stamp : Pid → ℕ → Option Token → Bool
+bears_stamp from this None = false
+bears_stamp from this (Some t) = pid_eq t.from from && t.serial.this == this

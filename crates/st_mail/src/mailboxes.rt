@@ -6,7 +6,7 @@ ghost use Rattle.std.specs.Prelude.{slice_get, IfOk, IsOk, OnOk, OnErr};
 ghost use Rattle.st_core.specs.Pick.{pick};
 ghost use Rattle.st_core.specs.Pid.{pid_eq};
 ghost use Rattle.st_core.specs.Step.{untraced};
-ghost use Rattle.st_mail.specs.Mail.{queue_in, left_by, is_stamp};
+ghost use Rattle.st_mail.specs.Mail.{queue_in, left_by, bears_stamp};
 
 use st_arena::Lists;
 use st_core::{Message, Pid, Token, Want};
@@ -46,7 +46,7 @@ fn untraced(message: Message) -> Message
 
 /// Whether the token has this from, and this as its own count.
 fn is_stamp(from: Pid, this: u64, token: &Option<Token>) -> bool
-    ensures { result ≡ is_stamp from this token.now }
+    ensures { result ≡ bears_stamp from this token.now }
 {
     match token {
         None => false,
@@ -212,7 +212,7 @@ impl Mailboxes {
     /// count.
     pub fn place_of(&self, mailbox: usize, from: Pid, this: u64) -> Option<u64>
         requires { mailbox < length self.now.boxes }
-        ensures { result ≡ position (λ m. is_stamp from this m.token) (queue_in self.now.boxes mailbox) }
+        ensures { result ≡ position (λ m. bears_stamp from this m.token) (queue_in self.now.boxes mailbox) }
     {
         let wiped = self.wiped[mailbox];
         let mut kept = self.queues.walk(mailbox).skip(wiped as usize);

@@ -13,7 +13,7 @@ use Rattle.st_core.specs.Run.{Stream}
 use Rattle.st_order.specs.declared.item.Item.{Item}
 use Rattle.st_order.specs.declared.item.Item.TheVariants as item
 use Rattle.st_order.specs.declared.labels.Labelled.{Labelled}
-use Rattle.st_order.specs.Labels.{label_of, has_label, LabelsRise, IsByLabel}
+use Rattle.st_order.specs.Labels.{label_of, item_has_label, LabelsRise, IsByLabel}
 use Rattle.st_order.specs.Groups.{with_label, put_before, grouped}
 use Rattle.st_order.proofs.Lists.{all_mapped}
 
@@ -245,26 +245,26 @@ module _ (streams : List Stream) (label : Label) where
       ]
 
   labelled_filter : (xs : List Item)
-      → items_in (filter (is_with label) (filter_map (with_label streams) xs)) ≡ filter (has_label streams label) xs
+      → items_in (filter (is_with label) (filter_map (with_label streams) xs)) ≡ filter (item_has_label streams label) xs
   labelled_filter [] = refl
   labelled_filter (x ∷ xs) =
       ap (λ (l : List Labelled). items_in (filter (is_with label) l)) (mapped_by x xs)
       ∙ filtered_by x (label_of streams x) (filter_map (with_label streams) xs)
-      ∙ ap (λ (ys : List Item). cond (has_label streams label x) (x ∷ ys) ys) (labelled_filter xs)
+      ∙ ap (λ (ys : List Item). cond (item_has_label streams label x) (x ∷ ys) ys) (labelled_filter xs)
 
   labelled_any : (xs : List Item)
-      → list_any (is_with label) (filter_map (with_label streams) xs) ≡ list_any (has_label streams label) xs
+      → list_any (is_with label) (filter_map (with_label streams) xs) ≡ list_any (item_has_label streams label) xs
   labelled_any [] = refl
   labelled_any (x ∷ xs) =
       ap (list_any (is_with label)) (mapped_by x xs)
       ∙ any_by x (label_of streams x) (filter_map (with_label streams) xs)
-      ∙ ap (λ (b : Bool). has_label streams label x || b) (labelled_any xs)
+      ∙ ap (λ (b : Bool). item_has_label streams label x || b) (labelled_any xs)
 
 -- BY LABEL
 
 listed : (streams : List Stream) (xs : List Item) (ys : List Labelled) (gs : List Group)
     → IsStableByKey number_of nat_cmp (filter_map (with_label streams) xs) ys → AllByRecursion (Holds ys) gs
-    → AllByRecursion (λ g. g.1 ≡ filter (has_label streams g.0) xs) gs
+    → AllByRecursion (λ g. g.1 ≡ filter (item_has_label streams g.0) xs) gs
 listed streams xs ys [] stable all = tt
 listed streams xs ys (g ∷ gs) stable all = (
   all.0 ∙ ap items_in (kept_filter (filter_map (with_label streams) xs) ys g.0 stable)

@@ -11,8 +11,8 @@ abbrev pub label_of : List Stream → Item → Option Label
 label_of streams x = option_map (λ e. e.label) (event_of streams x)
 
 -- the item has this label
-abbrev pub has_label : List Stream → Label → Item → Bool
-has_label streams label x = elim (label_of streams x) [ None ↦ false | Some l ↦ l.0 == label.0 ]
+abbrev pub item_has_label : List Stream → Label → Item → Bool
+item_has_label streams label x = elim (label_of streams x) [ None ↦ false | Some l ↦ l.0 == label.0 ]
 
 -- the labels rise strictly: the first is below each of the others, and these rise
 abbrev pub LabelsRise : List (Label × List Item) → Type 0
@@ -23,5 +23,5 @@ LabelsRise (g ∷ gs) = AllByRecursion (λ h. g.0.0 < h.0.0) gs × LabelsRise gs
 -- and with each label stand the items that have it, in their order
 pub record IsByLabel (streams : List Stream) (xs : List Item) (groups : List (Label × List Item)) : Type 0 where
   pub rises : LabelsRise groups
-  pub labels : (label : Label) → list_any (λ g. g.0.0 == label.0) groups ≡ list_any (has_label streams label) xs
-  pub lists : AllByRecursion (λ g. g.1 ≡ filter (has_label streams g.0) xs) groups
+  pub labels : (label : Label) → list_any (λ g. g.0.0 == label.0) groups ≡ list_any (item_has_label streams label) xs
+  pub lists : AllByRecursion (λ g. g.1 ≡ filter (item_has_label streams g.0) xs) groups

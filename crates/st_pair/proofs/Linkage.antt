@@ -16,7 +16,7 @@ use Rattle.st_pair.specs.declared.answer.Source.{Source}
 use Rattle.st_pair.specs.declared.pairing.Link.{Link}
 use Rattle.st_pair.specs.Places.{event_at, is_stamp}
 use Rattle.st_pair.specs.Pairing.{receive_of, stamp_of, source_of, source_at, receiver_at, is_send}
-use Rattle.st_pair.specs.Links.{Linked, sent_link, received_link, link_of, links_in, linked, IsPairing, rows, link_at}
+use Rattle.st_pair.specs.Links.{Linked, sent_link, received_link, link_of, links_in, linked, IsPairing, link_rows, link_at}
 use Rattle.st_pair.specs.Links.{source_in, receiver_in}
 use Rattle.st_pair.proofs.Firsts.{is_at, at_get_or, events_in}
 use Rattle.st_core.proofs.ForCallers.{place_within}
@@ -24,13 +24,13 @@ use Rattle.st_core.proofs.ForCallers.{place_within}
 -- ROWS
 
 pub row_missing : (ps : List Pid) (ls : List (List Link)) (p : Pid) → AllByRecursion (λ q. pid_eq q p ≡ false) ps
-    → find (λ (x : Linked). pid_eq x.pid p) (rows ps ls) ≡ None
+    → find (λ (x : Linked). pid_eq x.pid p) (link_rows ps ls) ≡ None
 row_missing [] ls p all = refl
 row_missing (q ∷ ps) [] p all = refl
 row_missing (q ∷ ps) (l ∷ ls) p all = rw all.0 (row_missing ps ls p all.1)
 
 pub row_found : (ps : List Pid) (ls : List (List Link)) (p : Pid) (i : ℕ) → length ls ≡ length ps → IsRising ps
-    → slice_get ps i ≡ Some p → find (λ (x : Linked). pid_eq x.pid p) (rows ps ls)
+    → slice_get ps i ≡ Some p → find (λ (x : Linked). pid_eq x.pid p) (link_rows ps ls)
     ≡ Some (record { pid = p; links = get_or ls i [] })
 row_found [] ls p i even rising at = absurd (cc)
 row_found (q ∷ ps) [] p i even rising at = absurd (omega arith)
@@ -42,11 +42,11 @@ abbrev row_links : Option Linked → List Link
 row_links o = elim o [ None ↦ [] | Some x ↦ x.links ]
 
 pub row_none : (ps : List Pid) (ls : List (List Link)) (p : Pid) (i : ℕ)
-    → AllByRecursion (λ q. pid_eq q p ≡ false) ps → None ≡ link_at (rows ps ls) p i
+    → AllByRecursion (λ q. pid_eq q p ≡ false) ps → None ≡ link_at (link_rows ps ls) p i
 row_none ps ls p i all = sym (ap (λ (o : Option Linked). slice_get (row_links o) i) (row_missing ps ls p all))
 
 pub row_read : (ps : List Pid) (ls : List (List Link)) (p : Pid) (k i : ℕ) (read : List Link) → length ls ≡ length ps
-    → IsRising ps → slice_get ps k ≡ Some p → read ≡ get_or ls k read → slice_get read i ≡ link_at (rows ps ls) p i
+    → IsRising ps → slice_get ps k ≡ Some p → read ≡ get_or ls k read → slice_get read i ≡ link_at (link_rows ps ls) p i
 row_read ps ls p k i read even rising at is =
     let below = place_within ps k p at in
     let within : k < length ls = omega arith in
@@ -54,7 +54,7 @@ row_read ps ls p k i read even rising at is =
     ∙ sym (ap (λ (o : Option Linked). slice_get (row_links o) i) (row_found ps ls p k even rising at))
 
 pub rows_linked : (all streams : List Stream)
-    → rows (pids_of streams) (map (links_in all) streams) ≡ linked all streams
+    → link_rows (pids_of streams) (map (links_in all) streams) ≡ linked all streams
 rows_linked all [] = refl
 rows_linked all (s ∷ streams) = ap (λ (xs : List Linked). record { pid = s.pid; links = links_in all s } ∷ xs)
     (rows_linked all streams)

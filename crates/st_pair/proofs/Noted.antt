@@ -5,7 +5,7 @@ use Rattle.std.proofs.Common.{Result, Ok, Err, IfOk}
 use Rattle.st_core.specs.declared.types.Pid.{Pid}
 use Rattle.st_pair.specs.declared.tables.Key.{Key}
 use Rattle.st_pair.specs.declared.tables.Row.{Row}
-use Rattle.st_pair.specs.Tables.{key_eq, key_of, place_in, or_else, here}
+use Rattle.st_pair.specs.Tables.{key_eq, key_of, place_at_key, or_else, here}
 
 module _ {X : Type 0} where
   pub or_none : (o : Option X) → or_else o None ≡ o
@@ -21,8 +21,8 @@ abbrev pub row_place : Row → Pid × ℕ
 row_place r = (r.pid, r.index)
 
 module _ (row : Row) (k : Key) where
-  pub place_in-push : (rows : List Row) → place_in (rows ++ row ∷ []) k
-      ≡ or_else (place_in rows k) (here (key_of row) (row_place row) k)
+  pub place_in-push : (rows : List Row) → place_at_key (rows ++ row ∷ []) k
+      ≡ or_else (place_at_key rows k) (here (key_of row) (row_place row) k)
   place_in-push [] = elim (key_eq (key_of row) k) as (λ b. option_map row_place (cond b (Some row) None)
       ≡ cond b (Some (row_place row)) None) [ true ↦ refl | false ↦ refl ]
   place_in-push (r ∷ rows) = elim (key_eq (key_of r) k) as (λ b. option_map row_place

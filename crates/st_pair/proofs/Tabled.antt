@@ -17,7 +17,7 @@ use Rattle.st_core.specs.declared.types.Pid.{Pid}
 use Rattle.st_core.specs.Pid.{pid_eq, pid_cmp}
 use Rattle.st_pair.specs.declared.tables.Key.{Key}
 use Rattle.st_pair.specs.declared.tables.Row.{Row}
-use Rattle.st_pair.specs.Tables.{AreBelow, AreNotBelow, is_below, key_eq, key_cmp, key_of, place_in, place_under}
+use Rattle.st_pair.specs.Tables.{AreBelow, AreNotBelow, is_below, key_eq, row_key_cmp, key_of, place_at_key, place_under}
 use Rattle.st_pair.proofs.Noted.{row_place}
 
 -- KEYS
@@ -25,7 +25,7 @@ use Rattle.st_pair.proofs.Noted.{row_place}
 pub pid_total : IsTotalOrder pid_cmp
 pid_total = then_total (on_total (λ (p : Pid). p.node) nat_cmp_total) (on_total (λ (p : Pid). p.number) nat_cmp_total)
 
-pub key_total : IsTotalOrder key_cmp
+pub key_total : IsTotalOrder row_key_cmp
 key_total = then_total (on_total (λ (k : Key). k.this) nat_cmp_total) (on_total (λ (k : Key). k.from) pid_total)
 
 nat_eq-cmp : (m n : ℕ) → (m == n) ≡ is_eq (nat_cmp m n)
@@ -48,7 +48,7 @@ and_swap true false = refl
 and_swap false true = refl
 and_swap false false = refl
 
-key_eq-cmp : (k l : Key) → key_eq k l ≡ is_eq (key_cmp k l)
+key_eq-cmp : (k l : Key) → key_eq k l ≡ is_eq (row_key_cmp k l)
 key_eq-cmp k l =
     and_swap (pid_eq k.from l.from) (k.this == l.this)
     ∙ ap (λ (b : Bool). b && pid_eq k.from l.from) (nat_eq-cmp k.this l.this)
@@ -86,17 +86,17 @@ probe : Key → Row
 probe k = record { from = k.from; pid = k.from; this = k.this; index = 0 }
 
 abbrev row_lt : Row → Row → Bool
-row_lt r s = is_lt (key_cmp (key_of r) (key_of s))
+row_lt r s = is_lt (row_key_cmp (key_of r) (key_of s))
 
 key_ties : (k : Key) (r : Row) → key_eq (key_of r) k ≡ ties row_lt (probe k) r
 unfolding probe
 key_ties k r =
-    key_eq-cmp (key_of r) k ∙ equal_ties (key_cmp (key_of r) k)
-    ∙ ap (λ (o : Ordering). not (is_lt o) && not (is_lt (key_cmp (key_of r) k)))
+    key_eq-cmp (key_of r) k ∙ equal_ties (row_key_cmp (key_of r) k)
+    ∙ ap (λ (o : Ordering). not (is_lt o) && not (is_lt (row_key_cmp (key_of r) k)))
     (sym (key_total.antisymm k (key_of r)))
 
-pub place_in-sorted : (xs ys : List Row) → IsStableByKey key_of key_cmp xs ys → (k : Key)
-    → place_in ys k ≡ place_in xs k
+pub place_in-sorted : (xs ys : List Row) → IsStableByKey key_of row_key_cmp xs ys → (k : Key)
+    → place_at_key ys k ≡ place_at_key xs k
 place_in-sorted xs ys stable k =
     let test : Row → Bool = λ r. key_eq (key_of r) k in
     let tie : Row → Bool = ties row_lt (probe k) in
@@ -106,7 +106,7 @@ place_in-sorted xs ys stable k =
 -- THE SEARCH
 
 abbrev rank : Key → Row → ℕ
-rank k r = ordering_index (key_cmp (key_of r) k)
+rank k r = ordering_index (row_key_cmp (key_of r) k)
 
 less_apart : (o : Ordering) → is_lt o ≡ true → is_eq o ≡ false
 less_apart Less h = refl
@@ -122,7 +122,7 @@ above_apart Greater Equal h apart le = absurd (omega arith)
 above_apart Greater Greater h apart le = refl
 
 none_under : (k : Key) (rows : List Row)
-    → ((j : ℕ) (d : Row) → j < length rows → key_eq (key_of (get_or rows j d)) k ≡ false) → place_in rows k ≡ None
+    → ((j : ℕ) (d : Row) → j < length rows → key_eq (key_of (get_or rows j d)) k ≡ false) → place_at_key rows k ≡ None
 none_under k [] apart = refl
 none_under k (r ∷ rows) apart =
     ap (λ (b : Bool). option_map row_place (cond b (Some r) (find (λ s. key_eq (key_of s) k) rows)))
@@ -131,9 +131,9 @@ none_under k (r ∷ rows) apart =
 
 module _ (k : Key) where
   found_at : (rows : List Row) (i : ℕ) → IsNonDecreasingBy (rank k) rows
-      → AllWithin (λ r. is_lt (key_cmp (key_of r) k) ≡ true) rows 0 i
-      → AllWithin (λ r. is_lt (key_cmp (key_of r) k) ≡ false) rows i (length rows)
-      → i ≤ length rows → place_in rows k ≡ option_and_then (place_under k) (slice_get rows i)
+      → AllWithin (λ r. is_lt (row_key_cmp (key_of r) k) ≡ true) rows 0 i
+      → AllWithin (λ r. is_lt (row_key_cmp (key_of r) k) ≡ false) rows i (length rows)
+      → i ≤ length rows → place_at_key rows k ≡ option_and_then (place_under k) (slice_get rows i)
   found_at [] i rising front back within = refl
   found_at (r ∷ rows) zero rising front back within =
       elim (key_eq (key_of r) k) as (λ b. key_eq (key_of r) k ≡ b
@@ -143,25 +143,25 @@ module _ (k : Key) where
         | false ↦ λ e. none_under k rows (λ j d below.
             let next : suc j < length (r ∷ rows) = omega arith in
             key_eq-cmp (key_of (get_or rows j d)) k
-            ∙ above_apart (key_cmp (key_of r) k) (key_cmp (key_of (get_or rows j d)) k)
+            ∙ above_apart (row_key_cmp (key_of r) k) (row_key_cmp (key_of (get_or rows j d)) k)
             (back 0 r (omega arith) (omega arith))
             (sym (key_eq-cmp (key_of r) k) ∙ e) (rising 0 (suc j) d (omega arith) next))
       ] refl
   found_at (r ∷ rows) (suc i) rising front back within =
       let less = front 0 r (omega arith) (omega arith) in
-      let apart = key_eq-cmp (key_of r) k ∙ less_apart (key_cmp (key_of r) k) less in
+      let apart = key_eq-cmp (key_of r) k ∙ less_apart (row_key_cmp (key_of r) k) less in
       ap (λ (b : Bool). option_map row_place (cond b (Some r) (find (λ s. key_eq (key_of s) k) rows))) apart
       ∙ found_at rows i (λ a b d le below. rising (suc a) (suc b) d (omega arith) (omega arith))
       (λ j d low high. front (suc j) d (omega arith) (omega arith))
       (λ j d low high. back (suc j) d (omega arith) (omega arith)) (omega arith)
 
-  pub rank_rises : (rows : List Row) → IsSortedByKey key_of key_cmp rows → IsNonDecreasingBy (rank k) rows
+  pub rank_rises : (rows : List Row) → IsSortedByKey key_of row_key_cmp rows → IsNonDecreasingBy (rank k) rows
   rank_rises rows sorted = searchable_from_sorted key_total key_of rows k sorted
 
   -- what stands where the lesser keys end
-  pub found : (rows : List Row) (i : ℕ) → IsSortedByKey key_of key_cmp rows
-      → IsPartitionPoint (λ r. is_lt (key_cmp (key_of r) k) ≡ true) (λ r. is_lt (key_cmp (key_of r) k) ≡ false) rows i
-      → i ≤ length rows → place_in rows k ≡ option_and_then (place_under k) (slice_get rows i)
+  pub found : (rows : List Row) (i : ℕ) → IsSortedByKey key_of row_key_cmp rows
+      → IsPartitionPoint (λ r. is_lt (row_key_cmp (key_of r) k) ≡ true) (λ r. is_lt (row_key_cmp (key_of r) k) ≡ false) rows i
+      → i ≤ length rows → place_at_key rows k ≡ option_and_then (place_under k) (slice_get rows i)
   found rows i sorted point within = found_at rows i (rank_rises rows sorted) point.0 point.1 within
 
   less_first : (o u : Ordering) → ordering_index o ≤ ordering_index u → is_lt u ≡ true → is_lt o ≡ true
@@ -174,21 +174,21 @@ module _ (k : Key) where
   less_first Greater Greater le h = absurd (cc)
 
   -- the lesser keys come first
-  pub lesser_first : (rows : List Row) → IsSortedByKey key_of key_cmp rows
-      → IsPartitionedBy (λ r. is_lt (key_cmp (key_of r) k)) rows
+  pub lesser_first : (rows : List Row) → IsSortedByKey key_of row_key_cmp rows
+      → IsPartitionedBy (λ r. is_lt (row_key_cmp (key_of r) k)) rows
   lesser_first rows sorted i j d le within less =
-      less_first (key_cmp (key_of (get_or rows i d)) k) (key_cmp (key_of (get_or rows j d)) k)
+      less_first (row_key_cmp (key_of (get_or rows i d)) k) (row_key_cmp (key_of (get_or rows j d)) k)
       (rank_rises rows sorted i j d le within) less
 
   -- before a row with a lesser key stand only such
-  pub below : (rows : List Row) (i before : ℕ) (r : Row) → IsSortedByKey key_of key_cmp rows
+  pub below : (rows : List Row) (i before : ℕ) (r : Row) → IsSortedByKey key_of row_key_cmp rows
       → slice_get rows before ≡ Some r → before ≡ i - 1 → is_below k r ≡ true → AreBelow k rows i
   below rows i before r sorted at last less j d low high =
       lesser_first rows sorted j before d (omega arith) (slice_get_within rows before r at)
       (ap (is_below k) (get_or_from_slice_get rows before r d at) ∙ less)
 
   -- and after one without, none
-  pub not_below : (rows : List Row) (i : ℕ) (r : Row) → IsSortedByKey key_of key_cmp rows
+  pub not_below : (rows : List Row) (i : ℕ) (r : Row) → IsSortedByKey key_of row_key_cmp rows
       → slice_get rows i ≡ Some r → not (is_below k r) ≡ true → AreNotBelow k rows i
   not_below rows i r sorted at least j d low high =
       elim (is_below k (get_or rows j d)) as (λ b. is_below k (get_or rows j d) ≡ b → b ≡ false) [

@@ -48,13 +48,13 @@ pub record IsPairing (streams : List Stream) (pairing : List Linked) : Type 0 wh
   pub links : pairing ≡ linked streams streams
 
 -- each pid with its links
-abbrev pub rows : List Pid → List (List Link) → List Linked
-rows [] lists = []
-rows (p ∷ ps) [] = []
-rows (p ∷ ps) (links ∷ lists) = record { pid = p; links = links } ∷ rows ps lists
+abbrev pub link_rows : List Pid → List (List Link) → List Linked
+link_rows [] lists = []
+link_rows (p ∷ ps) [] = []
+link_rows (p ∷ ps) (links ∷ lists) = record { pid = p; links = links } ∷ link_rows ps lists
 
 -- as many lists as pids, which rise
-pub record AreRows (pids : List Pid) (lists : List (List Link)) : Type 0 where
+pub record AreLinkLists (pids : List Pid) (lists : List (List Link)) : Type 0 where
   pub even : length lists ≡ length pids
   pub rising : IsRising pids
 

@@ -20,8 +20,8 @@ abbrev pub key_eq : Key → Key → Bool
 key_eq k l = pid_eq k.from l.from && k.this == l.this
 
 -- by count, then sender
-abbrev pub key_cmp : Key → Key → Ordering
-key_cmp k l = ordering_then (nat_cmp k.this l.this) (pid_cmp k.from l.from)
+abbrev pub row_key_cmp : Key → Key → Ordering
+row_key_cmp k l = ordering_then (nat_cmp k.this l.this) (pid_cmp k.from l.from)
 
 -- the sender and count of a row
 abbrev pub key_of : Row → Key
@@ -29,7 +29,7 @@ key_of r = record { from = r.from; this = r.this }
 
 -- the key of the row is less than k
 abbrev pub is_below : Key → Row → Bool
-is_below k r = is_lt (key_cmp (key_of r) k)
+is_below k r = is_lt (row_key_cmp (key_of r) k)
 
 -- the rows before index i have lesser keys than k
 abbrev pub AreBelow : Key → List Row → ℕ → Type 0
@@ -40,8 +40,8 @@ abbrev pub AreNotBelow : Key → List Row → ℕ → Type 0
 AreNotBelow k rows i = AllWithin (λ r. is_below k r ≡ false) rows i (length rows)
 
 -- the place in the first row with this key
-abbrev pub place_in : List Row → Key → Option (Pid × ℕ)
-place_in rows k = option_map (λ r. (r.pid, r.index)) (find (λ r. key_eq (key_of r) k) rows)
+abbrev pub place_at_key : List Row → Key → Option (Pid × ℕ)
+place_at_key rows k = option_map (λ r. (r.pid, r.index)) (find (λ r. key_eq (key_of r) k) rows)
 
 -- the place of a row, if its key is this one
 abbrev pub place_under : Key → Row → Option (Pid × ℕ)

@@ -8,7 +8,7 @@ ghost use Rattle.st_core.specs.Run.{Stream};
 ghost use Rattle.st_pair.specs.Pairing.{source_at, receiver_at, refusal, IsPairFault};
 ghost use Rattle.st_pair.specs.Final.{IsPrevNotBefore, NeverShown, NeverShownInOneTrace};
 ghost use Rattle.st_pair.specs.Links.{IsPairing, link_at, link_of, linked, links_in, receiver_in, source_in};
-ghost use Rattle.st_pair.specs.Tables.{place_in, HasReceives, HasStamps};
+ghost use Rattle.st_pair.specs.Tables.{place_at_key, HasReceives, HasStamps};
 
 use crate::answer::{PairFault, Source};
 use crate::rules::{mismatch, not_rising, prev_not_before, repeated};
@@ -65,13 +65,13 @@ pub struct Pairing {
 
 impl Model for Pairing {
     ghost use Rattle.std.specs.Prelude.{List};
-    ghost use Rattle.st_pair.specs.Links.{Linked, rows, AreRows};
+    ghost use Rattle.st_pair.specs.Links.{Linked, link_rows, AreLinkLists};
 
     ghost Value = { List Linked };
 
-    ghost view = { λ a. rows a.pids.items a.links.items };
+    ghost view = { λ a. link_rows a.pids.items a.links.items };
 
-    ghost invariant = { λ a. AreRows a.pids.items a.links.items };
+    ghost invariant = { λ a. AreLinkLists a.pids.items a.links.items };
 }
 
 impl Pairing {
@@ -124,8 +124,8 @@ fn place_of(pids: &[Pid], pid: Pid) -> Option<usize>
 
 /// What an event is paired with.
 fn link_of(streams: &Streams, got: &Table, sent: &Table, pid: Pid, event: &Event) -> Link
-    requires got { HasReceives streams.now (place_in got.now) }
-    requires sent { HasStamps streams.now (place_in sent.now) }
+    requires got { HasReceives streams.now (place_at_key got.now) }
+    requires sent { HasStamps streams.now (place_at_key sent.now) }
     ensures { result ≡ link_of streams.now pid event.now }
 {
     match event.kind {
@@ -150,8 +150,8 @@ fn links_of(
     pid: Pid,
     events: &[Event],
 ) -> Result<Vec<Link>, AllocError>
-    requires got { HasReceives streams.now (place_in got.now) }
-    requires sent { HasStamps streams.now (place_in sent.now) }
+    requires got { HasReceives streams.now (place_at_key got.now) }
+    requires sent { HasStamps streams.now (place_at_key sent.now) }
     ensures { IfOk result (λ links. links.items ≡ map (link_of streams.now pid) events.now) }
 {
     let mut links = Vec::with_capacity(alloc, events.len())?;
@@ -168,8 +168,8 @@ fn all_links(
     got: &Table,
     sent: &Table,
 ) -> Result<Vec<Sequence<Link>>, AllocError>
-    requires got { HasReceives streams.now (place_in got.now) }
-    requires sent { HasStamps streams.now (place_in sent.now) }
+    requires got { HasReceives streams.now (place_at_key got.now) }
+    requires sent { HasStamps streams.now (place_at_key sent.now) }
     ensures { IfOk result (λ lists. lists.items ≡ map (links_in streams.now) streams.now) }
 {
     let mut lists = Vec::new(alloc);
@@ -187,8 +187,8 @@ fn linked(
     got: &Table,
     sent: &Table,
 ) -> Result<Pairing, AllocError>
-    requires got { HasReceives streams.now (place_in got.now) }
-    requires sent { HasStamps streams.now (place_in sent.now) }
+    requires got { HasReceives streams.now (place_at_key got.now) }
+    requires sent { HasStamps streams.now (place_at_key sent.now) }
     ensures { IfOk result (λ pairing. pairing ≡ linked streams.now streams.now) }
 {
     let links = all_links(alloc, streams, got, sent)?;
@@ -209,8 +209,8 @@ struct Tables {
 /// The tables of streams, or the first reason against them.
 fn tables_of(alloc: Global, streams: &Streams) -> Result<Tables, PairFault>
     ensures accepted { IfOk result (λ tables. refusal streams.now ≡ None) }
-    ensures got { IfOk result (λ tables. HasReceives streams.now (place_in tables.got)) }
-    ensures sent { IfOk result (λ tables. HasStamps streams.now (place_in tables.sent)) }
+    ensures got { IfOk result (λ tables. HasReceives streams.now (place_at_key tables.got)) }
+    ensures sent { IfOk result (λ tables. HasStamps streams.now (place_at_key tables.sent)) }
     ensures err { IfErr result (IsPairFault streams.now) }
 {
     if let Some(fault) = prev_not_before(streams) {

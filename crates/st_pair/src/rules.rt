@@ -6,7 +6,7 @@ ghost use Rattle.st_core.specs.Streams.{events_of};
 ghost use Rattle.st_pair.specs.declared.tables.Key.{Key as KeyValue};
 ghost use Rattle.st_pair.specs.Pairing.{agrees, mismatch, not_rising, prev_not_before, repeated, to_eq};
 ghost use Rattle.st_pair.specs.Places.{first, first_from};
-ghost use Rattle.st_pair.specs.Tables.{place_in, HasReceives, HasStamps, not_rising_in};
+ghost use Rattle.st_pair.specs.Tables.{place_at_key, HasReceives, HasStamps, not_rising_in};
 
 use crate::answer::PairFault;
 use crate::tables::Table;
@@ -85,7 +85,7 @@ fn repeated_at(
     index: u64,
     event: &Event,
 ) -> Option<PairFault>
-    requires { HasReceives streams.now (place_in table.now) }
+    requires { HasReceives streams.now (place_at_key table.now) }
     ensures { result ≡ repeated streams.now pid index event.now }
 {
     match event.kind {
@@ -105,7 +105,7 @@ fn repeated_at(
 
 /// Rule 4 in one stream.
 fn repeated_in(streams: &Streams, table: &Table, pid: Pid, events: &[Event]) -> Option<PairFault>
-    requires { HasReceives streams.now (place_in table.now) }
+    requires { HasReceives streams.now (place_at_key table.now) }
     ensures { result ≡ first_from (repeated streams.now) pid 0 events.now }
 {
     for (i, event) in events.iter().enumerate() {
@@ -118,7 +118,7 @@ fn repeated_in(streams: &Streams, table: &Table, pid: Pid, events: &[Event]) -> 
 
 /// Rule 4: the least place of a receive that isn't the first from its sender with its count.
 pub fn repeated(streams: &Streams, table: &Table) -> Option<PairFault>
-    requires { HasReceives streams.now (place_in table.now) }
+    requires { HasReceives streams.now (place_at_key table.now) }
     ensures { result ≡ first (repeated streams.now) streams.now }
 {
     for &pid in streams.pids() {
@@ -164,7 +164,7 @@ fn mismatch_at(
     index: u64,
     event: &Event,
 ) -> Option<PairFault>
-    requires { HasStamps streams.now (place_in table.now) }
+    requires { HasStamps streams.now (place_at_key table.now) }
     ensures { result ≡ mismatch streams.now pid index event.now }
 {
     match event.kind {
@@ -187,7 +187,7 @@ fn mismatch_at(
 
 /// Rule 5 in one stream.
 fn mismatch_in(streams: &Streams, table: &Table, pid: Pid, events: &[Event]) -> Option<PairFault>
-    requires { HasStamps streams.now (place_in table.now) }
+    requires { HasStamps streams.now (place_at_key table.now) }
     ensures { result ≡ first_from (mismatch streams.now) pid 0 events.now }
 {
     for (i, event) in events.iter().enumerate() {
@@ -200,7 +200,7 @@ fn mismatch_in(streams: &Streams, table: &Table, pid: Pid, events: &[Event]) -> 
 
 /// Rule 5: the least place of a receive whose sender has its count on an event that isn't its send.
 pub fn mismatch(streams: &Streams, table: &Table) -> Option<PairFault>
-    requires { HasStamps streams.now (place_in table.now) }
+    requires { HasStamps streams.now (place_at_key table.now) }
     ensures { result ≡ first (mismatch streams.now) streams.now }
 {
     for &pid in streams.pids() {

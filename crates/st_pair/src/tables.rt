@@ -8,8 +8,8 @@ ghost use Rattle.std.specs.List.Sorted.{IsSortedByKey};
 ghost use Rattle.st_core.specs.Run.{Stream};
 ghost use Rattle.st_pair.specs.declared.tables.Key.{Key as KeyValue};
 ghost use Rattle.st_pair.specs.Places.{first_from};
-ghost use Rattle.st_pair.specs.Tables.{AreBelow, AreNotBelow, HasReceives, HasStamps, here, is_below, key_cmp, key_of};
-ghost use Rattle.st_pair.specs.Tables.{or_else, place_in, place_under, receive_rule, stamp_rule};
+ghost use Rattle.st_pair.specs.Tables.{AreBelow, AreNotBelow, HasReceives, HasStamps, here, is_below, row_key_cmp, key_of};
+ghost use Rattle.st_pair.specs.Tables.{or_else, place_at_key, place_under, receive_rule, stamp_rule};
 
 use crate::guesses::Guesses;
 use st_core::{Event, Kind, Pid, Streams};
@@ -80,19 +80,19 @@ impl Model for Table {
     ghost use Rattle.std.specs.Prelude.{List};
     ghost use Rattle.std.specs.List.Sorted.{IsSortedByKey};
     ghost use Rattle.st_pair.specs.declared.tables.Row.{Row};
-    ghost use Rattle.st_pair.specs.Tables.{key_cmp, key_of};
+    ghost use Rattle.st_pair.specs.Tables.{row_key_cmp, key_of};
 
     ghost Value = { List Row };
 
     ghost view = { λ a. a.rows.items };
 
-    ghost invariant = { λ a. IsSortedByKey key_of key_cmp a.rows.items };
+    ghost invariant = { λ a. IsSortedByKey key_of row_key_cmp a.rows.items };
 }
 
 impl Table {
     /// The rows in the order of their keys; those of one key stay as they stand.
     fn sorted(mut rows: Vec<Row>) -> Result<Table, AllocError>
-        ensures { IfOk result (λ table. (k : KeyValue) → place_in table k ≡ place_in rows.items k) }
+        ensures { IfOk result (λ table. (k : KeyValue) → place_at_key table k ≡ place_at_key rows.items k) }
     {
         rows.sort_by_key(|row| row.key())?;
         let guesses = Guesses::new(*rows.allocator(), &rows)?;
@@ -101,7 +101,7 @@ impl Table {
 
     /// The place of the first event with this sender and count, if there is one.
     pub fn find(&self, from: Pid, this: u64) -> Option<(Pid, u64)>
-        ensures { result ≡ place_in self.now (record { from = from; this = this }) }
+        ensures { result ≡ place_at_key self.now (record { from = from; this = this }) }
     {
         let key = Key { from, this };
         let start = start_of(&self.rows, &self.guesses, key);
@@ -117,8 +117,8 @@ const TRIES: usize = 4;
 
 /// Where the rows with this key begin, or would: by a guess, else a search by halves.
 fn start_of(rows: &[Row], guesses: &Guesses, key: Key) -> usize
-    requires { IsSortedByKey key_of key_cmp rows.now }
-    ensures { place_in rows.now key ≡ option_and_then (place_under key) (slice_get rows.now result) }
+    requires { IsSortedByKey key_of row_key_cmp rows.now }
+    ensures { place_at_key rows.now key ≡ option_and_then (place_under key) (slice_get rows.now result) }
 {
     let guess = guesses.start_of(key).min(rows.len());
     for start in guess..guess.saturating_add(TRIES) {
@@ -131,7 +131,7 @@ fn start_of(rows: &[Row], guesses: &Guesses, key: Key) -> usize
 
 /// Whether the row before this index has a lesser key, if there is one.
 fn ends_below(rows: &[Row], key: Key, start: usize) -> bool
-    requires { IsSortedByKey key_of key_cmp rows.now }
+    requires { IsSortedByKey key_of row_key_cmp rows.now }
     ensures below { IsTrue result → AreBelow key rows.now start }
     ensures within { IsTrue result → start ≤ length rows.now }
 {
@@ -146,7 +146,7 @@ fn ends_below(rows: &[Row], key: Key, start: usize) -> bool
 
 /// Whether the row at this index has no lesser key, if there is one.
 fn begins_above(rows: &[Row], key: Key, start: usize) -> bool
-    requires { IsSortedByKey key_of key_cmp rows.now }
+    requires { IsSortedByKey key_of row_key_cmp rows.now }
     ensures { IsTrue result → AreNotBelow key rows.now start }
 {
     match row_at(rows, start) {
@@ -165,7 +165,7 @@ fn row_at(rows: &[Row], index: usize) -> Option<Row>
 /// Notes the place of an event under its key.
 fn note(rows: &mut Vec<Row>, key: Key, place: (Pid, u64)) -> Result<(), AllocError>
     ensures { OnOk result ((k : KeyValue) →
-        place_in rows.new.items k ≡ or_else (place_in rows.old.items k) (here key place k)) }
+        place_at_key rows.new.items k ≡ or_else (place_at_key rows.old.items k) (here key place k)) }
 {
     let (pid, index) = place;
     rows.push(Row {
@@ -190,8 +190,8 @@ pub fn receive_count(streams: &Streams) -> usize {
 /// Notes the receives of one process.
 fn note_receives(rows: &mut Vec<Row>, pid: Pid, events: &[Event]) -> Result<(), AllocError>
     ensures { OnOk result ((k : KeyValue) →
-        place_in rows.new.items k
-        ≡ or_else (place_in rows.old.items k) (first_from (receive_rule k) pid 0 events.now)) }
+        place_at_key rows.new.items k
+        ≡ or_else (place_at_key rows.old.items k) (first_from (receive_rule k) pid 0 events.now)) }
 {
     for (i, event) in events.iter().enumerate() {
         match event.kind {
@@ -210,7 +210,7 @@ fn note_receives(rows: &mut Vec<Row>, pid: Pid, events: &[Event]) -> Result<(), 
 
 /// The place of the first receive from each sender with each count.
 pub fn receives(alloc: Global, streams: &Streams, count: usize) -> Result<Table, AllocError>
-    ensures { IfOk result (λ table. HasReceives streams.now (place_in table)) }
+    ensures { IfOk result (λ table. HasReceives streams.now (place_at_key table)) }
 {
     let rows = receive_rows(alloc, streams, count)?;
     Table::sorted(rows)
@@ -218,7 +218,7 @@ pub fn receives(alloc: Global, streams: &Streams, count: usize) -> Result<Table,
 
 /// The places of all receives, in their order.
 fn receive_rows(alloc: Global, streams: &Streams, count: usize) -> Result<Vec<Row>, AllocError>
-    ensures { IfOk result (λ rows. HasReceives streams.now (place_in rows.items)) }
+    ensures { IfOk result (λ rows. HasReceives streams.now (place_at_key rows.items)) }
 {
     let mut rows = Vec::with_capacity(alloc, count)?;
     for &pid in streams.pids() {
@@ -230,8 +230,8 @@ fn receive_rows(alloc: Global, streams: &Streams, count: usize) -> Result<Vec<Ro
 /// Notes the sends and prints of one process.
 fn note_stamps(rows: &mut Vec<Row>, pid: Pid, events: &[Event]) -> Result<(), AllocError>
     ensures { OnOk result ((k : KeyValue) →
-        place_in rows.new.items k
-        ≡ or_else (place_in rows.old.items k) (first_from (stamp_rule k) pid 0 events.now)) }
+        place_at_key rows.new.items k
+        ≡ or_else (place_at_key rows.old.items k) (first_from (stamp_rule k) pid 0 events.now)) }
 {
     for (i, event) in events.iter().enumerate() {
         match event.kind {
@@ -250,7 +250,7 @@ fn note_stamps(rows: &mut Vec<Row>, pid: Pid, events: &[Event]) -> Result<(), Al
 
 /// The place of the first send or print of each process with each count.
 pub fn stamps(alloc: Global, streams: &Streams, count: usize) -> Result<Table, AllocError>
-    ensures { IfOk result (λ table. HasStamps streams.now (place_in table)) }
+    ensures { IfOk result (λ table. HasStamps streams.now (place_at_key table)) }
 {
     let rows = stamp_rows(alloc, streams, count)?;
     Table::sorted(rows)
@@ -258,7 +258,7 @@ pub fn stamps(alloc: Global, streams: &Streams, count: usize) -> Result<Table, A
 
 /// The places of all sends and prints, in their order.
 fn stamp_rows(alloc: Global, streams: &Streams, count: usize) -> Result<Vec<Row>, AllocError>
-    ensures { IfOk result (λ rows. HasStamps streams.now (place_in rows.items)) }
+    ensures { IfOk result (λ rows. HasStamps streams.now (place_at_key rows.items)) }
 {
     let mut rows = Vec::with_capacity(alloc, count)?;
     for &pid in streams.pids() {

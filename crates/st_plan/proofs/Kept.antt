@@ -20,7 +20,7 @@ use Rattle.st_core.specs.Step.{actor, changed, outcome_of, reached, Acted, Outco
 use Rattle.st_core.specs.Run.{Stream, run_from, stream}
 use Rattle.st_core.specs.Streams.{lists}
 use Rattle.st_core.proofs.ForCallers.{mapped, pid_same, pid_eq-refl, process_pid, run_parts, pid_eq-swap}
-use Rattle.st_mail.specs.Mail.{is_stamp}
+use Rattle.st_mail.specs.Mail.{bears_stamp}
 use Rattle.st_order.specs.declared.item.Item.{Item}
 use Rattle.st_order.specs.declared.item.Item.TheVariants as item
 use Rattle.st_plan.specs.Moves.{Move, is_taking, clock, last, move_by}
@@ -51,7 +51,7 @@ sends_to q m = elim m.item [
 
 -- without the first message whose token has this from and this count
 abbrev pub without : Pid → ℕ → List Message → List Message
-without from this queue = elim (position (λ x. is_stamp from this x.token) queue) [
+without from this queue = elim (position (λ x. bears_stamp from this x.token) queue) [
   | None ↦ queue
   | Some k ↦ remove queue k
 ]

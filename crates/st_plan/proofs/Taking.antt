@@ -22,7 +22,7 @@ use Rattle.st_core.specs.Step.{acted, receives, changed, outcome_of, step}
 use Rattle.st_core.specs.Run.{Stream}
 use Rattle.st_core.specs.Streams.{lists}
 use Rattle.st_core.proofs.ForCallers.{pid_eq-refl, process_pid, step_done, run_from-one}
-use Rattle.st_mail.specs.Mail.{is_stamp}
+use Rattle.st_mail.specs.Mail.{bears_stamp}
 use Rattle.st_plan.specs.Moves.{Move, is_taking, clock, last, move_by}
 use Rattle.st_plan.specs.Build.{act_of}
 use Rattle.st_plan.proofs.Lift.{changed_own}
@@ -59,7 +59,7 @@ pub record IsWaiting (streams : List Stream) (earlier : List Move) (m : Move) : 
   pub place : ℕ
   pub message : Message
   pub token : Token
-  pub is : position (λ x. is_stamp m.event.from m.event.serial.this x.token) (queue_of streams m.who earlier)
+  pub is : position (λ x. bears_stamp m.event.from m.event.serial.this x.token) (queue_of streams m.who earlier)
       ≡ Some place
   pub at : slice_get (queue_of streams m.who earlier) place ≡ Some message
   pub has : message.token ≡ Some token
@@ -69,7 +69,7 @@ pub record IsWaiting (streams : List Stream) (earlier : List Move) (m : Move) : 
 -- the act of a receive's move
 abbrev taken_by : Process → Move → Option Act
 taken_by r m = option_map (λ k. act.Receive m.who (want.Place k))
-    (position (λ x. is_stamp m.event.from m.event.serial.this x.token) r.queue)
+    (position (λ x. bears_stamp m.event.from m.event.serial.this x.token) r.queue)
 
 pub taking : (top : ℕ) (streams : List Stream) (earlier : List Move) (s : State) (m : Move) → IsKept streams earlier s
     → lists streams m.who ≡ true → is_taking m ≡ true → ((r : Process) → act_of r m ≡ taken_by r m)
@@ -82,7 +82,7 @@ taking top streams earlier s m kept listed takes is_act is_told is w =
     let who : r.pid ≡ m.who = process_pid s m.who r at.1 in
     let k = w.place in
     let a = act.Receive m.who (want.Place k) in
-    let test = λ (x : Message). is_stamp m.event.from m.event.serial.this x.token in
+    let test = λ (x : Message). bears_stamp m.event.from m.event.serial.this x.token in
     let zero_sum : 0 + k ≡ k = omega arith in
     let picked : pick (want.Place k) r.queue ≡ Some (k, w.message) =
     ap (λ j. pick_from 0 (want.Place j) r.queue) (sym zero_sum)

@@ -22,7 +22,7 @@ use Rattle.st_plan.proofs.Taking.{got_of, IsWaiting}
 
 -- the message's token has this from and this count
 abbrev pub has_stamp : Pid → ℕ → Message → Bool
-has_stamp from this x = mail.is_stamp from this x.token
+has_stamp from this x = mail.bears_stamp from this x.token
 
 -- A MESSAGE IN A LIST
 
@@ -113,7 +113,7 @@ first_in test xs i =
 
 -- without another key's message it stays
 other_key : (from q : Pid) (this that : ℕ) (token : Option Token) → (pid_eq from q && this == that) ≡ false
-    → mail.is_stamp q that token ≡ true → mail.is_stamp from this token ≡ false
+    → mail.bears_stamp q that token ≡ true → mail.bears_stamp from this token ≡ false
 other_key from q this that None apart pass = refl
 other_key from q this that (Some t) apart pass =
     let theirs = and_parts (pid_eq t.from q) (t.serial.this == that) pass in

@@ -16,7 +16,7 @@ use Rattle.st_core.specs.declared.types.Act.TheVariants as act
 use Rattle.st_core.specs.State.{LocalState, Process, State, process, zero_state}
 use Rattle.st_core.specs.Step.{Outcome}
 use Rattle.st_core.specs.Run.{Stream, pids_of, run_from, stream}
-use Rattle.st_mail.specs.Mail.{is_stamp}
+use Rattle.st_mail.specs.Mail.{bears_stamp}
 use Rattle.st_pair.specs.Pairing.{receiver_at}
 use Rattle.st_order.specs.declared.item.Item.TheVariants as item
 use Rattle.st_plan.specs.declared.plan.Start.{Start}
@@ -98,7 +98,7 @@ act_of r m = elim m.item [
       elim m.event.kind [
         | kind.Send ↦ option_map (λ to. act.Send m.who to m.event.value) m.event.to
         | kind.Receive ↦ option_map (λ k. act.Receive m.who (want.Place k))
-            (position (λ x. is_stamp m.event.from m.event.serial.this x.token) r.queue)
+            (position (λ x. bears_stamp m.event.from m.event.serial.this x.token) r.queue)
         | kind.Print ↦ Some (act.Print m.who m.event.value)
       ]
 ]

@@ -22,7 +22,7 @@ use Rattle.st_runtime.specs.Driven.{acts_by, acts_in, stamps_in, IsDriven, IsRef
 use Rattle.st_runtime.specs.Joined.{IsJoined}
 use Rattle.st_runtime.specs.Pieces.{Parts, pids_in, calls_of}
 use Rattle.st_runtime.specs.Seat.{Calls, no_calls}
-use Rattle.st_runtime.specs.Working.{acts_of, IsWorked, IsEnding}
+use Rattle.st_runtime.specs.Working.{called_acts, IsWorked, IsEnding}
 use Rattle.st_runtime.proofs.Members.{In, In-Contains, Contains-In}
 use Rattle.st_runtime.proofs.Runs.{pids_streams}
 use Rattle.st_runtime.proofs.Shown.{are_streams}
@@ -63,13 +63,13 @@ pids_worked pids (t ∷ ts) [] worked = absurd worked
 pids_worked pids (t ∷ ts) (e ∷ es) worked = λ i. worked.0.pid i ∷ pids_worked pids ts es worked.1 i
 
 acts_done : (pids : List Pid) (t : Task) (e : Ending) → IsWorked pids t e → e.fault ≡ None
-    → acts_of e.seat.mine ≡ t.1
+    → called_acts e.seat.mine ≡ t.1
 acts_done pids t e worked none =
     let refused : ActFault → Type 0 = IsRefused pids t.0 t.1 (length e.seat.mine) in
-    subst (λ o. MatchOption o (acts_of e.seat.mine ≡ t.1) refused) none worked.acts
+    subst (λ o. MatchOption o (called_acts e.seat.mine ≡ t.1) refused) none worked.acts
 
 acts_worked : (pids : List Pid) (ts : List Task) (es : List Ending) → AllZip (IsWorked pids) ts es
-    → All (λ (e : Ending). e.fault ≡ None) es → map (λ e. acts_of e.seat.mine) es ≡ map (λ t. t.1) ts
+    → All (λ (e : Ending). e.fault ≡ None) es → map (λ e. called_acts e.seat.mine) es ≡ map (λ t. t.1) ts
 acts_worked pids [] [] worked none = refl
 acts_worked pids [] (e ∷ es) worked none = absurd worked
 acts_worked pids (t ∷ ts) [] worked none = absurd worked
@@ -81,22 +81,22 @@ acts_worked pids (t ∷ ts) (e ∷ es) worked none =
 -- ---- the run
 
 own_act : (b : Bool) (a : Act) (y : Reply) (rest : List Act) (cs : List (Act × Reply))
-    → rest ≡ acts_of cs → cond b (a ∷ rest) rest ≡ acts_of (cond b ((a, y) ∷ []) [] ++ cs)
+    → rest ≡ called_acts cs → cond b (a ∷ rest) rest ≡ called_acts (cond b ((a, y) ∷ []) [] ++ cs)
 own_act true a y rest cs same = ap (λ more. a ∷ more) same
 own_act false a y rest cs same = same
 
 -- a process's acts among entries are those of its calls there
-own_acts : (p : Pid) (es : List Entry) → acts_by p (map (λ e. e.act) es) ≡ acts_of (calls_of p es)
+own_acts : (p : Pid) (es : List Entry) → acts_by p (map (λ e. e.act) es) ≡ called_acts (calls_of p es)
 own_acts p [] = refl
 own_acts p (e ∷ es) =
     own_act (pid_eq (actor e.act) p) e.act e.reply (acts_by p (map (λ d. d.act) es)) (calls_of p es) (own_acts p es)
 
 seat_acts : (es : List Entry) (ends : List Ending)
     → All (λ (s : Calls). calls_of s.pid es ≡ s.mine) (map (λ e. e.seat) ends)
-    → map (λ p. acts_by p (map (λ e. e.act) es)) (map (λ e. e.seat.pid) ends) ≡ map (λ e. acts_of e.seat.mine) ends
+    → map (λ p. acts_by p (map (λ e. e.act) es)) (map (λ e. e.seat.pid) ends) ≡ map (λ e. called_acts e.seat.mine) ends
 seat_acts es [] calls = refl
 seat_acts es (d ∷ ds) calls =
-    let here = own_acts d.seat.pid es ∙ ap acts_of (calls 0 d.seat (omega arith)) in
+    let here = own_acts d.seat.pid es ∙ ap called_acts (calls 0 d.seat (omega arith)) in
     let rest = seat_acts es ds (λ k x below. calls (suc k) x (omega arith)) in
     λ i. here i ∷ rest i
 
@@ -164,7 +164,7 @@ worker_fault top ranks pids scripts ends p n f g worked ending told possible =
     let whose : t.0 ≡ p = sym found.1.1.pid ∙ ending.pid in
     let script = t.1 in
     let refused : IsRefused pids t.0 script (length e.seat.mine) f =
-    subst (λ o. MatchOption o (acts_of e.seat.mine ≡ script) (IsRefused pids t.0 script (length e.seat.mine)))
+    subst (λ o. MatchOption o (called_acts e.seat.mine ≡ script) (IsRefused pids t.0 script (length e.seat.mine)))
     ending.refused found.1.1.acts in
     let at_n : IsRefused pids t.0 script n f = subst (λ m. IsRefused pids t.0 script m f) ending.place refused in
     record {

@@ -15,7 +15,7 @@ use Rattle.st_runtime.specs.declared.entry.Entry.{Entry}
 use Rattle.st_runtime.specs.declared.fault.PcbFault.{PcbFault}
 use Rattle.st_runtime.specs.Inside.{IsAppended}
 use Rattle.st_runtime.specs.Logs.{carried_by, IsOwnPart, IsOtherPart, last_rank}
-use Rattle.st_runtime.specs.Pcb.{Control, IsStepped, is_alone, outcome_to}
+use Rattle.st_runtime.specs.Pcb.{Control, IsStepped, is_alone, entry_outcome}
 
 -- A STEP WHOSE PROCESSES ARE KNOWN
 
@@ -48,7 +48,7 @@ stepped_alone top a y x z alone mine is =
     let acts : acted top x.process a ≡ Some own.done = ap (acted top x.process) (sym is.act) ∙ own.acts in
     let after : changed a own.done x.process ≡ z.process =
     ap (λ b. changed b own.done x.process) (sym is.act) ∙ own.after in
-    let outcome : outcome_of s a own.done ≡ outcome_to e own.done.place (z ∷ []) = λ i. record {
+    let outcome : outcome_of s a own.done ≡ entry_outcome e own.done.place (z ∷ []) = λ i. record {
       reply = own.reply i;
       report = own.report i;
       place = own.done.place;
@@ -112,7 +112,7 @@ stepped_between top v x y z w e apart is own other logged =
     ap (λ b. reached a own.done.local.token (cond b mine y.process)) away
     ∙ ap (λ t. reached a t y.process) carried
     ∙ ap (λ b. reached b e.carried y.process) (sym is) ∙ other.after in
-    let outcome : outcome_of s a own.done ≡ outcome_to e own.done.place (z ∷ w ∷ []) = λ i. record {
+    let outcome : outcome_of s a own.done ≡ entry_outcome e own.done.place (z ∷ w ∷ []) = λ i. record {
       reply = own.reply i;
       report = own.report i;
       place = own.done.place;

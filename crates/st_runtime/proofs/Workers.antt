@@ -13,7 +13,7 @@ use Rattle.st_runtime.specs.declared.fault.ActFault.TheVariants as fault
 use Rattle.st_runtime.specs.declared.worker.Ending.{Ending}
 use Rattle.st_runtime.specs.Driven.{IsOwn}
 use Rattle.st_runtime.specs.System.{knows}
-use Rattle.st_runtime.specs.Working.{acts_of, IsWorked}
+use Rattle.st_runtime.specs.Working.{called_acts, IsWorked}
 
 abbrev pub Task : Type 0
 Task = Pid × List Act
@@ -67,6 +67,6 @@ own_act pids p a r not_yours unknown done =
       known = known_unless (knows pids a) (λ not. done fault.Unknown (unknown.1 (mine, not)));
     }
 
-pub acts_push : (cs : List (Act × Reply)) (a : Act) (y : Reply) → acts_of (cs ++ (a, y) ∷ []) ≡ acts_of cs ++ a ∷ []
+pub acts_push : (cs : List (Act × Reply)) (a : Act) (y : Reply) → called_acts (cs ++ (a, y) ∷ []) ≡ called_acts cs ++ a ∷ []
 acts_push [] a y = refl
 acts_push (c ∷ cs) a y = ap (λ rest. c.0 ∷ rest) (acts_push cs a y)

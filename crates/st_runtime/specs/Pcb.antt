@@ -29,8 +29,8 @@ pub record IsSame (x y : Control) : Type 0 where
   pub log : y.log ≡ x.log
 
 -- the lent processes as a state of the machine
-abbrev pub state_of : List Control → State
-state_of xs = map (λ x. x.process) xs
+abbrev pub lent_state : List Control → State
+lent_state xs = map (λ x. x.process) xs
 
 -- the greatest rank in their logs, 0 where these are empty
 abbrev pub greatest_rank : List Control → ℕ
@@ -38,14 +38,14 @@ greatest_rank [] = 0
 greatest_rank (x ∷ xs) = max (last_rank 0 x.log) (greatest_rank xs)
 
 -- what comes of a step that leaves this entry and these processes
-abbrev pub outcome_to : Entry → Option ℕ → List Control → Outcome
-outcome_to e place after = record { reply = e.reply; report = e.report; place = place; after = state_of after }
+abbrev pub entry_outcome : Entry → Option ℕ → List Control → Outcome
+entry_outcome e place after = record { reply = e.reply; report = e.report; place = place; after = lent_state after }
 
 -- the machine's step on the lent processes alone, and the same entry at the end of each of their logs
 pub record IsStepped (top : ℕ) (a : Act) (y : Reply) (before after : List Control) : Type 0 where
   pub entry : Entry
   pub place : Option ℕ
-  pub step : step top (state_of before) a ≡ Some (outcome_to entry place after)
+  pub step : step top (lent_state before) a ≡ Some (entry_outcome entry place after)
   pub act : entry.act ≡ a
   pub reply : entry.reply ≡ y
   pub rank : entry.rank ≡ greatest_rank before + 1
@@ -57,11 +57,6 @@ is_alone (act.Send p q v) = pid_eq p q
 is_alone (act.Reset p) = false
 is_alone (act.Tracer p b) = false
 is_alone a = true
-
--- a send takes memory for its message; no other act takes any but for its entry
-abbrev pub is_send : Act → Bool
-is_send (act.Send p q v) = true
-is_send a = false
 
 -- an act of a whole node
 abbrev pub is_wide : Act → Bool

@@ -15,15 +15,15 @@ use Rattle.st_runtime.specs.declared.worker.Ending.{Ending}
 use Rattle.st_runtime.specs.Driven.{IsRefused}
 
 -- the acts of calls
-abbrev pub acts_of : List (Act × Reply) → List Act
-acts_of calls = map (λ c. c.0) calls
+abbrev pub called_acts : List (Act × Reply) → List Act
+called_acts calls = map (λ c. c.0) calls
 
 -- what became of a process's script in a system of these pids: its accepted acts are the script, or it was refused the
 -- act that comes next in it
 pub record IsWorked (pids : List Pid) (task : Pid × List Act) (end : Ending) : Type 0 where
   pub pid : end.seat.pid ≡ task.0
   pub acts : MatchOption end.fault
-      (acts_of end.seat.mine ≡ task.1)
+      (called_acts end.seat.mine ≡ task.1)
       (IsRefused pids task.0 task.1 (length end.seat.mine))
 
 -- what became of each script

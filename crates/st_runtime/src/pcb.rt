@@ -5,10 +5,10 @@ ghost use Rattle.std.specs.Prelude.{◌≡◌, ◌≢◌, ◌+◌, ◌<◌, ◌�
 ghost use Rattle.std.specs.Prelude.{None, Err, IfOk, OnErr, OnOk, IsOk, IsSome};
 ghost use Rattle.st_core.specs.Pid.{node_eq};
 ghost use Rattle.st_core.specs.Step.{acted, actor, reached, step};
-ghost use Rattle.st_mail.specs.Actor.{is_inner};
+ghost use Rattle.st_mail.specs.Actor.{is_inner, is_send_act};
 ghost use Rattle.st_runtime.specs.Inside.{IsAppended};
 ghost use Rattle.st_runtime.specs.Logs.{zero_process, last_rank};
-ghost use Rattle.st_runtime.specs.Pcb.{IsKept, IsSame, IsStepped, IsBetween, state_of, is_alone, is_send};
+ghost use Rattle.st_runtime.specs.Pcb.{IsKept, IsSame, IsStepped, IsBetween, lent_state, is_alone};
 ghost use Rattle.st_runtime.specs.Pcb.{is_wide, greatest_rank};
 
 use crate::entry::Entry;
@@ -23,13 +23,13 @@ use std::marker::Model;
 
 /// The words of a cache line, 64 bytes. So much stands between a lock and what it keeps, so that threads
 /// that try the lock don't take a line away from the thread that holds it.
-const LINE: usize = 8;
+const CACHE_LINE: usize = 8;
 
 /// A process control block: one process, with the log that gives its state. `TOP` is the greatest
 /// value of a clock, `RANKS` that of a rank.
 #[derive(Drop)]
 pub struct Pcb<const TOP: u64, const RANKS: u64> {
-    apart: [u64; LINE],
+    apart: [u64; CACHE_LINE],
     pid: Pid,
     local: Local<TOP>,
     queue: Mailboxes,
@@ -73,7 +73,7 @@ impl<const TOP: u64, const RANKS: u64> Pcb<TOP, RANKS> {
         let queue = Mailboxes::new(alloc, 1)?;
         let log = Vec::with_capacity(alloc, room)?;
         Ok(Pcb {
-            apart: [0; LINE],
+            apart: [0; CACHE_LINE],
             pid,
             local: Local::new(),
             queue,
@@ -126,10 +126,10 @@ impl<const TOP: u64, const RANKS: u64> Pcb<TOP, RANKS> {
         requires me { actor act.now ≡ self.old.process.pid }
         ensures ok { IfOk result (λ y. IsStepped TOP act.now y (self.old ∷ []) (self.new ∷ [])) }
         ensures pid { self.new.process.pid ≡ self.old.process.pid }
-        ensures clock { (result ≡ Err PcbFault.ClockFull) ↔ (step TOP (state_of (self.old ∷ [])) act.now ≡ None) }
+        ensures clock { (result ≡ Err PcbFault.ClockFull) ↔ (step TOP (lent_state (self.old ∷ [])) act.now ≡ None) }
         ensures rank { (result ≡ Err PcbFault.RankFull)
-            ↔ (IsSome (step TOP (state_of (self.old ∷ [])) act.now) × (greatest_rank (self.old ∷ []) ≡ RANKS)) }
-        ensures memory { 0 < self.old.spare → is_send act.now ≡ false → result ≢ Err PcbFault.Memory }
+            ↔ (IsSome (step TOP (lent_state (self.old ∷ [])) act.now) × (greatest_rank (self.old ∷ []) ≡ RANKS)) }
+        ensures memory { 0 < self.old.spare → is_send_act act.now ≡ false → result ≢ Err PcbFault.Memory }
         ensures err { OnErr result (IsSame self.old self.new) }
     {
         match *act {
@@ -153,9 +153,9 @@ impl<const TOP: u64, const RANKS: u64> Pcb<TOP, RANKS> {
         ensures from_pid { from.new.process.pid ≡ from.old.process.pid }
         ensures to_pid { to.new.process.pid ≡ to.old.process.pid }
         ensures clock { (result ≡ Err PcbFault.ClockFull)
-            ↔ (step TOP (state_of (from.old ∷ to.old ∷ [])) act.now ≡ None) }
+            ↔ (step TOP (lent_state (from.old ∷ to.old ∷ [])) act.now ≡ None) }
         ensures rank { (result ≡ Err PcbFault.RankFull)
-            ↔ (IsSome (step TOP (state_of (from.old ∷ to.old ∷ [])) act.now)
+            ↔ (IsSome (step TOP (lent_state (from.old ∷ to.old ∷ [])) act.now)
             × (greatest_rank (from.old ∷ to.old ∷ []) ≡ RANKS)) }
         ensures err { OnErr result (IsSame from.old from.new × IsSame to.old to.new) }
     {

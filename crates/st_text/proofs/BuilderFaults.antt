@@ -19,7 +19,7 @@ use Rattle.st_text.specs.Parts.Remote.{is_event_remote, is_act_remote}
 use Rattle.st_text.specs.Text.{is_away, is_remote}
 use Rattle.st_text.specs.Growth.{is_kept}
 use Rattle.st_text.specs.Parts.Builder.{IsBuilt, NeedsRoom}
-use Rattle.st_text.specs.Fault.{pids, last, last_passes, has_acts, may_follow, may_stand, is_out_of_order, is_foreign}
+use Rattle.st_text.specs.Fault.{pids, last_of, last_passes, has_acts, may_follow, may_stand, is_out_of_order, is_foreign}
 use Rattle.st_text.specs.Fault.{is_one_too_many, line_fault}
 use Rattle.st_core.proofs.ForCallers.{or_false}
 use Rattle.st_core.proofs.ForCallers.{both_true}
@@ -32,10 +32,10 @@ fault_by n stands out foreign many =
     (cond many (Some (faults.TooMany n)) None)))
 
 pub stands_is : (ls b : List Line) (w begun : Bool) (o : Option Pid) (l : Line) → ls ≡ lines.Header w ∷ b
-    → has_acts ls ≡ begun → last (pids ls) ≡ o → may_stand ls l ≡ (may_follow begun o l && (w || not (is_remote l)))
+    → has_acts ls ≡ begun → last_of (pids ls) ≡ o → may_stand ls l ≡ (may_follow begun o l && (w || not (is_remote l)))
 stands_is ls b w begun o l e h p =
     ap (λ (x : List Line). may_stand x l) e
-    ∙ rw (sym (ap has_acts e) ∙ h, sym (ap (λ (x : List Line). last (pids x)) e) ∙ p) refl
+    ∙ rw (sym (ap has_acts e) ∙ h, sym (ap (λ (x : List Line). last_of (pids x)) e) ∙ p) refl
 
 pub fault_is : (p : BundleBuilder) (ls : List Line) (l : Line) → IsBuilt p ls
     → line_fault ls (Some l) ≡ fault_by (p.lines + 1)

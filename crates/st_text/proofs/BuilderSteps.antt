@@ -21,7 +21,7 @@ use Rattle.st_text.specs.Parts.Counts.{acts_len}
 use Rattle.st_text.specs.Parts.Remote.{is_event_remote, is_act_remote}
 use Rattle.st_text.specs.Text.{is_away, is_remote, process_lines}
 use Rattle.st_text.specs.Parts.Builder.{so_far, IsBuilt}
-use Rattle.st_text.specs.Fault.{pids, pid_of, last, has_acts, is_acts, is_event, is_act, is_wide}
+use Rattle.st_text.specs.Fault.{pids, pid_of, last_of, has_acts, is_acts, is_event, is_act, is_wide_header}
 use Rattle.st_core.proofs.ForCallers.{or_false}
 use Rattle.st_core.proofs.ForCallers.{or_true}
 
@@ -29,7 +29,7 @@ get_end : {A : Type 0} (xs : List A) (x : A) → slice_get (xs ++ x ∷ []) (len
 get_end [] x = refl
 get_end (y ∷ xs) x = get_end xs x
 
-pub last_push : {A : Type 0} (xs : List A) (x : A) → last (xs ++ x ∷ []) ≡ Some x
+pub last_push : {A : Type 0} (xs : List A) (x : A) → last_of (xs ++ x ∷ []) ≡ Some x
 last_push xs x =
     let n : length (xs ++ x ∷ []) - 1 ≡ length xs = omega (arith, length_push xs x) in
     rw n (get_end xs x)
@@ -71,7 +71,7 @@ so_far_act wide ss list a =
 
 -- ---- one more event
 
-pub last_cons : (p q : Pid) (ps : List Pid) → last (p ∷ q ∷ ps) ≡ last (q ∷ ps)
+pub last_cons : (p q : Pid) (ps : List Pid) → last_of (p ∷ q ∷ ps) ≡ last_of (q ∷ ps)
 last_cons p q ps =
     let n : length (p ∷ q ∷ ps) - 1 ≡ length (q ∷ ps) - 1 + 1 = omega arith in
     rw n (at (length (q ∷ ps) - 1))
@@ -86,7 +86,7 @@ here p e x t = rw t refl
 there : (p : Pid) (e : Event) (x : Stream) → pid_eq x.pid p ≡ false → with_event p e x ≡ x
 there p e x t = rw t refl
 
-added_lines : (ss : List Stream) (p : Pid) (e : Event) → IsRising (pids_of ss) → last (pids_of ss) ≡ Some p
+added_lines : (ss : List Stream) (p : Pid) (e : Event) → IsRising (pids_of ss) → last_of (pids_of ss) ≡ Some p
     → flat_map process_lines (added ss p e) ≡ flat_map process_lines ss ++ lines.Event e ∷ []
 added_lines [] p e rising at = absurd cc
 added_lines (x ∷ []) p e rising at =
@@ -97,7 +97,7 @@ added_lines (x ∷ []) p e rising at =
     ∙ ap (λ (y : List Line). lines.Process x.pid ∷ y) (map-append lines.Event x.events (e ∷ []))
     ∙ ap (λ (y : List Line). y ++ lines.Event e ∷ []) (sym (append-nil (process_lines x)))
 added_lines (x ∷ y ∷ ss) p e rising at =
-    let later : last (pids_of (y ∷ ss)) ≡ Some p = sym (last_cons x.pid y.pid (pids_of ss)) ∙ at in
+    let later : last_of (pids_of (y ∷ ss)) ≡ Some p = sym (last_cons x.pid y.pid (pids_of ss)) ∙ at in
     let below : IsBelow x.pid p = all_at (IsBelow x.pid) (pids_of (y ∷ ss)) _ p rising.0 later in
     ap (λ (z : Stream). process_lines z ++ flat_map process_lines (added (y ∷ ss) p e))
     (there p e x (IsBelow-apart x.pid p below))
@@ -111,7 +111,7 @@ added_pids (x ∷ ss) p e =
     ∙ ap (λ (ps : List Pid). x.pid ∷ ps) (added_pids ss p e)
 
 pub so_far_event : (wide : Bool) (ss : List Stream) (p : Pid) (e : Event) → IsRising (pids_of ss)
-    → last (pids_of ss) ≡ Some p → so_far wide (added ss p e) None ≡ so_far wide ss None ++ lines.Event e ∷ []
+    → last_of (pids_of ss) ≡ Some p → so_far wide (added ss p e) None ≡ so_far wide ss None ++ lines.Event e ∷ []
 so_far_event wide ss p e rising at =
     ap (λ (x : List Line). lines.Header wide ∷ x)
     (append-nil (flat_map process_lines (added ss p e)) ∙ added_lines ss p e rising at
@@ -140,7 +140,7 @@ sound_open p n ls q s none wide acts draft at count processes events remote abov
           ∙ sym (so_far_open p.wide p.draft q) ∙ sym (rw (wide, draft, acts, none) refl);
       count = omega (arith, count, s.count, length_push ls (lines.Process q));
       pids_are = pids_are ∙ sym new_pids;
-      last_is = at ∙ sym (ap last pids_are ∙ last_push (pids_of p.draft) q);
+      last_is = at ∙ sym (ap last_of pids_are ∙ last_push (pids_of p.draft) q);
       processes_are =
           omega (
             arith,
@@ -157,7 +157,7 @@ sound_open p n ls q s none wide acts draft at count processes events remote abov
           remote ∙ ap (λ b. b || is_away q) s.remote_is
           ∙ ap (λ b. list_any is_remote ls || b) (sym (or_false (is_away q)))
           ∙ sym (any_push is_remote ls (lines.Process q));
-      wide_is = wide ∙ s.wide_is ∙ sym (any_push is_wide ls (lines.Process q) ∙ or_false (list_any is_wide ls));
+      wide_is = wide ∙ s.wide_is ∙ sym (any_push is_wide_header ls (lines.Process q) ∙ or_false (list_any is_wide_header ls));
       rising = subst IsRising (sym new_pids) (IsRising-push (pids_of p.draft) q s.rising (below_all p.draft q above));
     }
 
@@ -167,7 +167,7 @@ pub sound_event : (p n : BundleBuilder) (ls : List Line) (q : Pid) (e : Event) �
     → n.remote ≡ (p.remote || is_event_remote e)
     → IsBuilt n (ls ++ lines.Event e ∷ [])
 sound_event p n ls q e s none last_pid wide acts draft at count processes events remote =
-    let last_at : last (pids_of p.draft) ≡ Some q = sym (s.last_is ∙ ap last s.pids_are) ∙ last_pid in
+    let last_at : last_of (pids_of p.draft) ≡ Some q = sym (s.last_is ∙ ap last_of s.pids_are) ∙ last_pid in
     let same : pids (ls ++ lines.Event e ∷ []) ≡ pids ls = pids_push ls (lines.Event e) ∙ append-nil (pids ls) in
     let new_pids : pids_of n.draft ≡ pids_of p.draft = ap pids_of draft ∙ added_pids p.draft q e in
     record {
@@ -176,13 +176,13 @@ sound_event p n ls q e s none last_pid wide acts draft at count processes events
           ∙ sym (so_far_event p.wide p.draft q e s.rising last_at) ∙ sym (rw (wide, draft, acts, none) refl);
       count = omega (arith, count, s.count, length_push ls (lines.Event e));
       pids_are = same ∙ s.pids_are ∙ sym new_pids;
-      last_is = at ∙ s.last_is ∙ ap last (sym same);
+      last_is = at ∙ s.last_is ∙ ap last_of (sym same);
       processes_are = processes ∙ s.processes_are ∙ ap length (sym same);
       events_are = omega (arith, events, s.events_are, count_push is_event ls (lines.Event e));
       acts_are = omega (arith, ap acts_len acts, s.acts_are, count_push is_act ls (lines.Event e));
       begun_is = ap is_some acts ∙ s.begun_is ∙ sym (any_push is_acts ls (lines.Event e) ∙ or_false (has_acts ls));
       remote_is = remote ∙ ap (λ b. b || is_event_remote e) s.remote_is ∙ sym (any_push is_remote ls (lines.Event e));
-      wide_is = wide ∙ s.wide_is ∙ sym (any_push is_wide ls (lines.Event e) ∙ or_false (list_any is_wide ls));
+      wide_is = wide ∙ s.wide_is ∙ sym (any_push is_wide_header ls (lines.Event e) ∙ or_false (list_any is_wide_header ls));
       rising = subst IsRising (sym new_pids) s.rising;
     }
 
@@ -198,13 +198,13 @@ sound_begin p n ls s none wide acts draft at count processes events remote =
           ∙ sym (so_far_begin p.wide p.draft) ∙ sym (rw (wide, draft, acts) refl);
       count = omega (arith, count, s.count, length_push ls lines.Acts);
       pids_are = same ∙ s.pids_are ∙ ap pids_of (sym draft);
-      last_is = at ∙ s.last_is ∙ ap last (sym same);
+      last_is = at ∙ s.last_is ∙ ap last_of (sym same);
       processes_are = processes ∙ s.processes_are ∙ ap length (sym same);
       events_are = omega (arith, events, s.events_are, count_push is_event ls lines.Acts);
       acts_are = omega (arith, ap acts_len acts, ap acts_len none, s.acts_are, count_push is_act ls lines.Acts);
       begun_is = ap is_some acts ∙ sym (any_push is_acts ls lines.Acts ∙ or_true (has_acts ls));
       remote_is = remote ∙ s.remote_is ∙ sym (any_push is_remote ls lines.Acts ∙ or_false (list_any is_remote ls));
-      wide_is = wide ∙ s.wide_is ∙ sym (any_push is_wide ls lines.Acts ∙ or_false (list_any is_wide ls));
+      wide_is = wide ∙ s.wide_is ∙ sym (any_push is_wide_header ls lines.Acts ∙ or_false (list_any is_wide_header ls));
       rising = subst (λ (x : List Stream). IsRising (pids_of x)) (sym draft) s.rising;
     }
 
@@ -220,7 +220,7 @@ sound_act p n ls list a s some wide acts draft at count processes events remote 
           ∙ sym (so_far_act p.wide p.draft list a) ∙ sym (rw (wide, draft, acts) refl);
       count = omega (arith, count, s.count, length_push ls (lines.Act a));
       pids_are = same ∙ s.pids_are ∙ ap pids_of (sym draft);
-      last_is = at ∙ s.last_is ∙ ap last (sym same);
+      last_is = at ∙ s.last_is ∙ ap last_of (sym same);
       processes_are = processes ∙ s.processes_are ∙ ap length (sym same);
       events_are = omega (arith, events, s.events_are, count_push is_event ls (lines.Act a));
       acts_are =
@@ -237,6 +237,6 @@ sound_act p n ls list a s some wide acts draft at count processes events remote 
           ap is_some acts ∙ sym (ap is_some some) ∙ s.begun_is
           ∙ sym (any_push is_acts ls (lines.Act a) ∙ or_false (has_acts ls));
       remote_is = remote ∙ ap (λ b. b || is_act_remote a) s.remote_is ∙ sym (any_push is_remote ls (lines.Act a));
-      wide_is = wide ∙ s.wide_is ∙ sym (any_push is_wide ls (lines.Act a) ∙ or_false (list_any is_wide ls));
+      wide_is = wide ∙ s.wide_is ∙ sym (any_push is_wide_header ls (lines.Act a) ∙ or_false (list_any is_wide_header ls));
       rising = subst (λ (x : List Stream). IsRising (pids_of x)) (sym draft) s.rising;
     }

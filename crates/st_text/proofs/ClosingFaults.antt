@@ -13,7 +13,7 @@ use Rattle.st_core.specs.declared.types.Act.{Act}
 use Rattle.st_core.specs.Pid.{pid_eq, IsBelow, IsRising}
 use Rattle.st_core.specs.Step.{actor, receiver}
 use Rattle.st_core.specs.Run.{Stream, pids_of}
-use Rattle.st_core.specs.Streams.{lists, events_of, names_listed, unlisted_among, unlisted}
+use Rattle.st_core.specs.Streams.{is_among, lists, events_of, names_listed, unlisted_among, unlisted}
 use Rattle.std.proofs.lemmas.List.Quantifiers.{position-Some}
 use Rattle.st_core.proofs.ForCallers.{pid_eq-same, pid_eq-true, IsBelow-apart}
 use Rattle.st_text.specs.declared.line.Line.{Line}
@@ -22,10 +22,10 @@ use Rattle.st_text.specs.declared.fault.ReadFault.{ReadFault}
 use Rattle.st_text.specs.declared.fault.ReadFault.TheVariants as faults
 use Rattle.st_text.specs.declared.builder.BundleBuilder.{BundleBuilder}
 use Rattle.st_text.specs.Parts.Counts.{acts_len, acts_lines}
-use Rattle.st_text.specs.Text.{process_lines, act_lines, is_among, is_listed, acts_of, unlisted_act, Contents}
+use Rattle.st_text.specs.Text.{process_lines, act_lines, is_listed, acts_or_none, unlisted_act, Contents}
 use Rattle.st_text.specs.Text.{lines_of, IsBundle}
 use Rattle.st_text.specs.Parts.Builder.{IsBuilt}
-use Rattle.st_text.specs.Parts.Finish.{line_at_place, event_line}
+use Rattle.st_text.specs.Parts.Finish.{line_at_place, event_line_number}
 use Rattle.st_text.specs.Fault.{is_unknown, unknown_from, closing_fault}
 use Rattle.st_text.proofs.Listed.{own_events}
 use Rattle.st_core.proofs.ForCallers.{or_true}
@@ -281,7 +281,7 @@ from_body p ls s e = closing_skips p ls s e ∙ ap (unknown_from (pids_of p.draf
 
 pub closing_event : (p : BundleBuilder) (ls : List Line) (q : Pid) (i : ℕ) → IsBuilt p ls
     → (p.wide && not p.remote) ≡ false → unlisted p.draft ≡ Some (q, i)
-    → (closing_fault ls ≡ Some (faults.Unknown (event_line p.draft q i))) × (event_line p.draft q i < length ls + 1)
+    → (closing_fault ls ≡ Some (faults.Unknown (event_line_number p.draft q i))) × (event_line_number p.draft q i < length ls + 1)
 closing_event p ls q i s e at =
     let all = streams_place p.draft p.draft 2 (act_lines p.acts) (own_events p.draft s.rising) s.rising in
     let place =
@@ -323,7 +323,7 @@ all_known c h =
     let P : Option (Pid × ℕ) → Type 0 =
     place_of c.streams 2 c.streams (act_lines c.acts) in subst P h.streams.listed all in
     let none : unlisted_act c.streams c.acts ≡ None =
-    position_from-zero (λ a. not (is_listed (pids_of c.streams) a)) (acts_of c.acts)
-    ∙ none_unlisted_act (pids_of c.streams) (acts_of c.acts) 0 h.listed in
+    position_from-zero (λ a. not (is_listed (pids_of c.streams) a)) (acts_or_none c.acts)
+    ∙ none_unlisted_act (pids_of c.streams) (acts_or_none c.acts) 0 h.listed in
     place ∙ acts_place c.streams c.acts (2 + length (flat_map process_lines c.streams))
     ∙ ap (λ o. place_or o (2 + length (flat_map process_lines c.streams) + 1) None) none

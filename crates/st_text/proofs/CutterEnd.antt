@@ -16,7 +16,7 @@ use Rattle.st_text.specs.declared.fault.ReadFault.TheVariants as faults
 use Rattle.st_text.specs.declared.builder.BundleBuilder.{BundleBuilder}
 use Rattle.st_text.specs.Parsing.{line_of}
 use Rattle.st_text.specs.Parts.Counts.{acts_len}
-use Rattle.st_text.specs.Text.{process_lines, act_lines, acts_of, body, ended, spelling}
+use Rattle.st_text.specs.Text.{process_lines, act_lines, acts_or_none, body, ended, spelling}
 use Rattle.st_text.specs.Contents.{contents}
 use Rattle.st_text.specs.Fault.{cut, onto_first, sayings, fault, closing_fault, first_fault, is_event}
 use Rattle.st_text.specs.Parts.Builder.{so_far, IsBuilt}
@@ -118,7 +118,7 @@ all_events wide ss o =
     let split = count-append is_event (flat_map process_lines ss) (act_lines o) in
     omega (arith, header, split, acts_events o, stream_events ss)
 
-acts_are : (o : Option (List Act)) → length (acts_of o) ≡ acts_len o
+acts_are : (o : Option (List Act)) → length (acts_or_none o) ≡ acts_len o
 acts_are None = refl
 acts_are (Some list) = refl
 

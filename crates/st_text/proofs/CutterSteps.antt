@@ -17,7 +17,7 @@ use Rattle.st_text.specs.Parsing.{line_of}
 use Rattle.st_text.specs.Fault.{cut, sayings, first_fault, line_fault}
 use Rattle.st_text.specs.Parts.Builder.{IsBuilt, TakesLine}
 use Rattle.st_text.specs.Parts.Cutter.{IsStateAfter, TakesSaid, header_of}
-use Rattle.st_text.specs.Parts.Cutter.{IsPlain, IsTail}
+use Rattle.st_text.specs.Parts.Cutter.{HasNoNewline, IsTail}
 use Rattle.st_text.specs.Growth.{EndsKept, EndsWithin, Grows, KeepsLine, EndsLine, LeavesBytes}
 use Rattle.st_text.specs.declared.cutter.Cutter.{Cutter}
 use Rattle.st_text.specs.Parts.CutterState.{HasTaken, HasTakenAs, Comes, AddsBytes, EndsOne}
@@ -31,7 +31,7 @@ one_by_one : (bytes xs : List ℕ) (x : ℕ) → bytes ++ (x ∷ xs) ≡ (bytes 
 one_by_one bytes xs x = sym (append_assoc bytes (x ∷ []) xs)
 
 -- bytes without a newline join the unfinished line
-cut_plain : (bytes xs : List ℕ) → IsPlain xs → cut (bytes ++ xs) ≡ ((cut bytes).0, (cut bytes).1 ++ xs)
+cut_plain : (bytes xs : List ℕ) → HasNoNewline xs → cut (bytes ++ xs) ≡ ((cut bytes).0, (cut bytes).1 ++ xs)
 cut_plain bytes [] plain =
     ap cut (append-nil bytes) ∙ ap (λ (t : List ℕ). ((cut bytes).0, t)) (sym (append-nil (cut bytes).1))
 cut_plain bytes (x ∷ xs) plain =
@@ -39,10 +39,10 @@ cut_plain bytes (x ∷ xs) plain =
     ∙ ap (λ (c : Cut). (c.0, c.1 ++ xs)) (cut_byte bytes x plain.0)
     ∙ ap (λ (t : List ℕ). ((cut bytes).0, t)) (append_assoc (cut bytes).1 (x ∷ []) xs)
 
-pub tail_plain : (bytes xs : List ℕ) → IsPlain xs → (cut (bytes ++ xs)).1 ≡ (cut bytes).1 ++ xs
+pub tail_plain : (bytes xs : List ℕ) → HasNoNewline xs → (cut (bytes ++ xs)).1 ≡ (cut bytes).1 ++ xs
 tail_plain bytes xs plain = ap (λ (c : Cut). c.1) (cut_plain bytes xs plain)
 
-pub sayings_plain : (bytes xs : List ℕ) → IsPlain xs → sayings (bytes ++ xs) ≡ sayings bytes
+pub sayings_plain : (bytes xs : List ℕ) → HasNoNewline xs → sayings (bytes ++ xs) ≡ sayings bytes
 sayings_plain bytes xs plain = ap (λ (c : Cut). map line_of c.0) (cut_plain bytes xs plain)
 
 -- the rest of the unfinished line, and a newline
@@ -51,7 +51,7 @@ tail_line bytes xs =
     ap (λ (b : List ℕ). (cut b).1) (sym (append_assoc bytes xs (10 ∷ [])))
     ∙ ap (λ (c : Cut). c.1) (cut_newline (bytes ++ xs))
 
-pub sayings_line : (bytes xs : List ℕ) → IsPlain xs
+pub sayings_line : (bytes xs : List ℕ) → HasNoNewline xs
     → sayings (bytes ++ (xs ++ 10 ∷ [])) ≡ sayings bytes ++ line_of ((cut bytes).1 ++ xs) ∷ []
 sayings_line bytes xs plain =
     ap sayings (sym (append_assoc bytes xs (10 ∷ []))) ∙ sayings_newline (bytes ++ xs)
@@ -84,7 +84,7 @@ holds_nothing kept e = ([], record { tail_is = e; held = refl; said = refl; good
 
 pub holds_kept : (out : Bool) (fault : Option ReadFault) (bytes xs : List ℕ) (long long' : Bool) (kept kept' : List ℕ)
     (p : Option BundleBuilder)
-    → out ≡ false → fault ≡ None → IsPlain xs
+    → out ≡ false → fault ≡ None → HasNoNewline xs
     → (IsTail long kept (cut bytes).1 → IsTail long' kept' ((cut bytes).1 ++ xs))
     → HasTakenAs out fault bytes long kept p → HasTakenAs out fault (bytes ++ xs) long' kept' p
 holds_kept true fault bytes xs long long' kept kept' p eo ef plain tail h = absurd cc
@@ -197,7 +197,7 @@ said_none old ls said e is h = rw (none_held old ls e h) (header_none said is)
 -- a good line
 pub line_goes : (out : Bool) (fault : Option ReadFault) (bytes xs : List ℕ) (long long' : Bool) (kept kept' : List ℕ)
     (p new : Option BundleBuilder) (said : Option Line)
-    → out ≡ false → fault ≡ None → long' ≡ false → IsPlain xs → kept' ≡ []
+    → out ≡ false → fault ≡ None → long' ≡ false → HasNoNewline xs → kept' ≡ []
     → (IsTail long kept (cut bytes).1 → said ≡ line_of ((cut bytes).1 ++ xs))
     → ((ls : List Line) → IsStateAfter p ls → TakesSaid ls said new Goes)
     → HasTakenAs out fault bytes long kept p → HasTakenAs out fault (bytes ++ (xs ++ 10 ∷ [])) long' kept' new
@@ -223,7 +223,7 @@ line_goes false None bytes xs long false kept kept' p new said eo ef el plain em
 -- a faulty line
 pub line_stops : (out : Bool) (fault : Option ReadFault) (bytes xs : List ℕ) (long long' : Bool) (kept kept' : List ℕ)
     (p new : Option BundleBuilder) (said : Option Line) (f : ReadFault)
-    → out ≡ false → fault ≡ None → IsPlain xs
+    → out ≡ false → fault ≡ None → HasNoNewline xs
     → (IsTail long kept (cut bytes).1 → said ≡ line_of ((cut bytes).1 ++ xs))
     → ((ls : List Line) → IsStateAfter p ls → TakesSaid ls said new (Stops f))
     → HasTakenAs out fault bytes long kept p → HasTakenAs out (Some f) (bytes ++ (xs ++ 10 ∷ [])) long' kept' new
@@ -240,7 +240,7 @@ line_stops false None bytes xs long long' kept kept' p new said f eo ef plain sa
 -- a good line for which there was no room
 pub line_halts : (out : Bool) (fault : Option ReadFault) (bytes xs : List ℕ) (long : Bool) (kept : List ℕ)
     (p new : Option BundleBuilder) (said : Option Line)
-    → out ≡ false → fault ≡ None → IsPlain xs
+    → out ≡ false → fault ≡ None → HasNoNewline xs
     → (IsTail long kept (cut bytes).1 → said ≡ line_of ((cut bytes).1 ++ xs))
     → ((ls : List Line) → IsStateAfter p ls → TakesSaid ls said new Halts)
     → HasTakenAs out fault bytes long kept p → EndsKept (bytes ++ (xs ++ 10 ∷ []))
@@ -264,7 +264,7 @@ line_halts false None bytes xs long kept p new said eo ef plain says takes h =
 -- bytes join the unfinished line
 pub adds_bytes : (out : Bool) (fault : Option ReadFault) (bytes xs : List ℕ) (long : Bool) (kept : List ℕ)
     (p : Option BundleBuilder)
-    → out ≡ false → fault ≡ None → IsPlain xs → 0 < length xs
+    → out ≡ false → fault ≡ None → HasNoNewline xs → 0 < length xs
     → HasTakenAs out fault bytes long kept p → AddsBytes bytes xs
 adds_bytes true fault bytes xs long kept p eo ef plain some h = absurd cc
 adds_bytes false (Some f) bytes xs long kept p eo ef plain some h = absurd cc
@@ -317,7 +317,7 @@ other_byte x not = by (eqb x 10) refl
     by false e = refl
 
 pub plain_front : (xs : List ℕ) (k : ℕ) → ((j : ℕ) → 0 ≤ j → j < k → ¬ (eqb (get_or xs j 0) 10 ≡ true))
-    → IsPlain (take k xs)
+    → HasNoNewline (take k xs)
 plain_front [] zero none = tt
 plain_front [] (suc k) none = tt
 plain_front (x ∷ xs) zero none = tt
@@ -327,8 +327,8 @@ plain_front (x ∷ xs) (suc k) none = (
       (λ j low high. none (suc j) (omega arith) (omega arith)),
 )
 
-pub plain_all : (xs : List ℕ) → ((j : ℕ) → 0 ≤ j → j < length xs → ¬ (eqb (get_or xs j 0) 10 ≡ true)) → IsPlain xs
-plain_all xs none = subst IsPlain (take_all (length xs) xs (omega arith)) (plain_front xs (length xs) none)
+pub plain_all : (xs : List ℕ) → ((j : ℕ) → 0 ≤ j → j < length xs → ¬ (eqb (get_or xs j 0) 10 ≡ true)) → HasNoNewline xs
+plain_all xs none = subst HasNoNewline (take_all (length xs) xs (omega arith)) (plain_front xs (length xs) none)
 
 -- a piece is its first line, the newline and the rest
 pub at_newline : (xs : List ℕ) (k : ℕ) → k < length xs → eqb (get_or xs k 0) 10 ≡ true

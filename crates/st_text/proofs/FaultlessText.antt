@@ -24,11 +24,11 @@ use Rattle.st_text.specs.declared.line.Line.{Line}
 use Rattle.st_text.specs.declared.line.Line.TheVariants as lines
 use Rattle.st_text.specs.declared.fault.ReadFault.{ReadFault}
 use Rattle.st_text.specs.declared.fault.ReadFault.TheVariants as faults
-use Rattle.st_text.specs.Text.{Contents, process_lines, act_lines, acts_of, body, ended, spelling, is_listed}
+use Rattle.st_text.specs.Text.{Contents, process_lines, act_lines, acts_or_none, body, ended, spelling, is_listed}
 use Rattle.st_text.specs.Text.{is_remote}
 use Rattle.st_text.specs.Text.{unlisted_act}
 use Rattle.st_text.specs.Parsing.{line_of}
-use Rattle.st_text.specs.Fault.{cut, sayings, said, pids, pid_of, last, last_passes, has_acts, is_event, is_act}
+use Rattle.st_text.specs.Fault.{cut, sayings, said, pids, pid_of, last_of, last_passes, has_acts, is_event, is_act}
 use Rattle.st_text.specs.Fault.{is_acts}
 use Rattle.st_text.specs.Fault.{may_stand, may_follow, is_out_of_order, is_foreign, is_one_too_many}
 use Rattle.st_text.specs.Fault.{line_fault, first_fault, first_of, truncated, needless, unknown_from, closing_fault}
@@ -64,8 +64,8 @@ pub record Gathered (ls : List Line) : Type 0 where
 
 record Passes (ls : List Line) (l : Line) : Type 0 where
   stands : may_stand ls l ≡ true
-  order : is_out_of_order (last (pids ls)) l ≡ false
-  own : is_foreign (last (pids ls)) l ≡ false
+  order : is_out_of_order (last_of (pids ls)) l ≡ false
+  own : is_foreign (last_of (pids ls)) l ≡ false
   few : is_one_too_many (length (pids ls)) (count_by is_event ls) (count_by is_act ls) l ≡ false
 
 passes : (ls : List Line) (l : Line) → line_fault ls (Some l) ≡ None → Passes ls l
@@ -73,7 +73,7 @@ unfolding line_fault
 passes ls l e =
     let many = is_one_too_many (length (pids ls)) (count_by is_event ls) (count_by is_act ls) l in
     let p =
-    by (length ls + 1) (may_stand ls l) (is_out_of_order (last (pids ls)) l) (is_foreign (last (pids ls)) l) many
+    by (length ls + 1) (may_stand ls l) (is_out_of_order (last_of (pids ls)) l) (is_foreign (last_of (pids ls)) l) many
     e in
     record { stands = p.0; order = p.1; own = p.2; few = p.3 }
   where
@@ -122,13 +122,13 @@ left_of true b e = refl
 left_of false b e = absurd cc
 
 follows : (ls : List Line) (l : Line) (g : Gathered ls) → Passes ls l
-    → may_follow (is_some g.acts) (last (pids_of g.streams)) l ≡ true
+    → may_follow (is_some g.acts) (last_of (pids_of g.streams)) l ≡ true
 follows ls l g p =
     let open_to = g.wide || not (is_remote l) in
     let stands =
-    stands_is ls _ g.wide (is_some g.acts) (last (pids_of g.streams)) l g.lines (begun_is ls g)
-    (ap last (pids_are ls g)) in
-    left_of (may_follow (is_some g.acts) (last (pids_of g.streams)) l) open_to (sym stands ∙ p.stands)
+    stands_is ls _ g.wide (is_some g.acts) (last_of (pids_of g.streams)) l g.lines (begun_is ls g)
+    (ap last_of (pids_are ls g)) in
+    left_of (may_follow (is_some g.acts) (last_of (pids_of g.streams)) l) open_to (sym stands ∙ p.stands)
 
 none_begun : (o : Option (List Act)) → not (is_some o) ≡ true → o ≡ None
 none_begun None e = refl
@@ -153,7 +153,7 @@ is_less Equal e = absurd cc
 is_less Greater e = absurd cc
 
 -- where the last of rising pids is below q, each is
-all_below : (ps : List Pid) (q : Pid) → IsRising ps → last_passes (λ r. not (is_lt (pid_cmp r q))) (last ps) ≡ false
+all_below : (ps : List Pid) (q : Pid) → IsRising ps → last_passes (λ r. not (is_lt (pid_cmp r q))) (last_of ps) ≡ false
     → AllByRecursion (λ r. IsBelow r q) ps
 all_below [] q rising e = tt
 all_below (p ∷ []) q rising e = (is_less (pid_cmp p q) e, tt)
@@ -168,7 +168,7 @@ add_process : (ls : List Line) (g : Gathered ls) (q : Pid) → Passes ls (lines.
 add_process ls g q p =
     let none : g.acts ≡ None = none_begun g.acts (follows ls (lines.Process q) g p) in
     let order =
-    sym (ap (λ (o : Option Pid). last_passes (λ r. not (is_lt (pid_cmp r q))) o) (ap last (pids_are ls g)))
+    sym (ap (λ (o : Option Pid). last_passes (λ r. not (is_lt (pid_cmp r q))) o) (ap last_of (pids_are ls g)))
     ∙ p.order in
     let above = all_below (pids_of g.streams) q g.draft.rising order in
     let new : List Stream = g.streams ++ record { pid = q; events = [] } ∷ [] in
@@ -230,9 +230,9 @@ add_event : (ls : List Line) (g : Gathered ls) (e : Event) → Passes ls (lines.
     → Gathered (ls ++ lines.Event e ∷ [])
 add_event ls g e p =
     let f = follows ls (lines.Event e) g p in
-    let none : g.acts ≡ None = none_begun g.acts (left_of _ (last_passes (λ q. true) (last (pids_of g.streams))) f) in
-    let at = some_last (last (pids_of g.streams)) (right_of (not (is_some g.acts)) _ f) in
-    let mine : is_own at.0 e ≡ true = is_mine (last (pids ls)) at.0 e (ap last (pids_are ls g) ∙ at.1) p.own in
+    let none : g.acts ≡ None = none_begun g.acts (left_of _ (last_passes (λ q. true) (last_of (pids_of g.streams))) f) in
+    let at = some_last (last_of (pids_of g.streams)) (right_of (not (is_some g.acts)) _ f) in
+    let mine : is_own at.0 e ≡ true = is_mine (last_of (pids ls)) at.0 e (ap last_of (pids_are ls g) ∙ at.1) p.own in
     let same : pids (ls ++ lines.Event e ∷ []) ≡ pids ls = pids_push ls (lines.Event e) ∙ append-nil (pids ls) in
     record {
       wide = g.wide;
@@ -363,7 +363,7 @@ none_place (Some i) n e = absurd cc
 
 record AreListed (ss : List Stream) (o : Option (List Act)) : Type 0 where
   events : unlisted ss ≡ None
-  acts : list_all (is_listed (pids_of ss)) (acts_of o) ≡ true
+  acts : list_all (is_listed (pids_of ss)) (acts_or_none o) ≡ true
 
 are_listed : (wide : Bool) (ss : List Stream) (o : Option (List Act)) → IsRising (pids_of ss)
     → unknown_from (pids_of ss) 1 (so_far wide ss o) ≡ None → AreListed ss o
@@ -373,7 +373,7 @@ are_listed wide ss o rising e =
     let p = none_at ss 2 ss (act_lines o) (unlisted ss) place e in
     let at = 2 + length (flat_map process_lines ss) in
     let none : unlisted_act ss o ≡ None = none_place (unlisted_act ss o) (at + 1) (sym (acts_place ss o at) ∙ p.1) in
-    record { events = p.0; acts = none_unlisted (is_listed (pids_of ss)) (acts_of o) none }
+    record { events = p.0; acts = none_unlisted (is_listed (pids_of ss)) (acts_or_none o) none }
 
 -- ---- the whole
 
@@ -381,7 +381,7 @@ act_count : (list : List Act) → count_by is_act (map lines.Act list) ≡ lengt
 act_count [] = refl
 act_count (a ∷ list) = omega (arith, count-cons is_act (lines.Act a) (map lines.Act list), act_count list)
 
-word_count : (o : Option (List Act)) → count_by is_act (act_lines o) ≡ length (acts_of o)
+word_count : (o : Option (List Act)) → count_by is_act (act_lines o) ≡ length (acts_or_none o)
 word_count None = refl
 word_count (Some list) = omega (arith, count-cons is_act lines.Acts (map lines.Act list), act_count list)
 
@@ -397,7 +397,7 @@ stream_count (s ∷ ss) =
     omega (arith, split, first, event_count s.events, stream_count ss)
 
 all_acts : (wide : Bool) (ss : List Stream) (o : Option (List Act))
-    → count_by is_act (so_far wide ss o) ≡ length (acts_of o)
+    → count_by is_act (so_far wide ss o) ≡ length (acts_or_none o)
 all_acts wide ss o =
     let header = count-cons is_act (lines.Header wide) (flat_map process_lines ss ++ act_lines o) in
     let split = count-append is_act (flat_map process_lines ss) (act_lines o) in
@@ -441,7 +441,7 @@ bundle_of bytes ls small whole says clean closed g =
     omega (arith, ap length (pids_are ls g), length-map g.streams (λ (x : Stream). x.pid)) in
     let events : count_by is_event ls ≡ length (all_of g.streams) =
     ap (count_by is_event) g.lines ∙ all_events g.wide g.streams g.acts in
-    let acts : count_by is_act ls ≡ length (acts_of g.acts) =
+    let acts : count_by is_act ls ≡ length (acts_or_none g.acts) =
     ap (count_by is_act) g.lines ∙ all_acts g.wide g.streams g.acts in (
       c,
       record {

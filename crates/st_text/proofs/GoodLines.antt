@@ -17,13 +17,13 @@ use Rattle.st_core.specs.Pid.{pid_cmp, IsRising}
 use Rattle.st_core.specs.Run.{Stream}
 use Rattle.st_core.specs.Streams.{is_own}
 use Rattle.st_text.specs.Text.{is_remote, process_lines}
-use Rattle.st_text.specs.Fault.{first_fault, line_fault, fault_at, may_stand, may_follow, has_acts, last, last_passes}
-use Rattle.st_text.specs.Fault.{pids, pid_of, is_wide, is_acts, is_out_of_order, is_foreign, is_one_too_many, is_event}
+use Rattle.st_text.specs.Fault.{first_fault, line_fault, fault_at, may_stand, may_follow, has_acts, last_of, last_passes}
+use Rattle.st_text.specs.Fault.{pids, pid_of, is_wide_header, is_acts, is_out_of_order, is_foreign, is_one_too_many, is_event}
 use Rattle.st_text.specs.Fault.{is_act}
 
 -- what good lines came to: wide, the pids, how many events and acts, whether acts have begun
 pub record Came (ls : List Line) (wide : Bool) (ps : List Pid) (events acts : ℕ) (begun : Bool) : Type 0 where
-  pub header : (first : Line) × (more : List Line) × (ls ≡ first ∷ more) × (is_wide first ≡ wide)
+  pub header : (first : Line) × (more : List Line) × (ls ≡ first ∷ more) × (is_wide_header first ≡ wide)
   pub pids_are : pids ls ≡ ps
   pub event_count : count_by is_event ls ≡ events
   pub act_count : count_by is_act ls ≡ acts
@@ -51,8 +51,8 @@ came_more ls wide ps events acts begun l c =
 -- a line that passes each test has no fault
 pub line_passes : (ls : List Line) (wide : Bool) (ps : List Pid) (events acts : ℕ) (begun : Bool) (l : Line)
     → Came ls wide ps events acts begun
-    → may_follow begun (last ps) l ≡ true → (wide || not (is_remote l)) ≡ true → is_out_of_order (last ps) l ≡ false
-    → is_foreign (last ps) l ≡ false → is_one_too_many (length ps) events acts l ≡ false
+    → may_follow begun (last_of ps) l ≡ true → (wide || not (is_remote l)) ≡ true → is_out_of_order (last_of ps) l ≡ false
+    → is_foreign (last_of ps) l ≡ false → is_one_too_many (length ps) events acts l ≡ false
     → line_fault ls (Some l) ≡ None
 unfolding line_fault
 line_passes ls wide ps events acts begun l c follows open_to order own few =
@@ -77,7 +77,7 @@ get_end : (ps : List Pid) (p : Pid) → slice_get (ps ++ p ∷ []) (length ps) �
 get_end [] p = refl
 get_end (q ∷ ps) p = get_end ps p
 
-last_push : (ps : List Pid) (p : Pid) → last (ps ++ p ∷ []) ≡ Some p
+last_push : (ps : List Pid) (p : Pid) → last_of (ps ++ p ∷ []) ≡ Some p
 last_push ps p =
     let n : length (ps ++ p ∷ []) - 1 ≡ length ps = omega (arith, length_push ps p) in
     rw n (get_end ps p)
@@ -115,7 +115,7 @@ under false false b e = (refl, e)
 
 -- the events of the last process
 pub events_pass : (es : List Event) (ls more : List Line) (wide : Bool) (ps : List Pid) (m k : ℕ) (p : Pid)
-    → Came ls wide ps m k false → last ps ≡ Some p → AllByRecursion (λ e. is_own p e ≡ true) es
+    → Came ls wide ps m k false → last_of ps ≡ Some p → AllByRecursion (λ e. is_own p e ≡ true) es
     → (wide || not (list_any is_remote (map lines.Event es))) ≡ true → m + length es ≤ 1000000
     → (first_fault ls (map Some (map lines.Event es ++ more)) ≡ first_fault (ls ++ map lines.Event es) (map Some more))
     × Came (ls ++ map lines.Event es) wide ps (m + length es) k false
@@ -165,7 +165,7 @@ abbrev pub events_of : List Stream → List Event
 events_of ps = flat_map (λ p. p.events) ps
 
 pub processes_pass : (procs : List Stream) (ls more : List Line) (wide : Bool) (ps : List Pid) (m : ℕ)
-    → Came ls wide ps m 0 false → After (last ps) procs
+    → Came ls wide ps m 0 false → After (last_of ps) procs
     → AllByRecursion (λ p. AllByRecursion (λ e. is_own p.pid e ≡ true) p.events) procs
     → (wide || not (list_any is_remote (flat_map process_lines procs))) ≡ true
     → length ps + length procs ≤ 1024 → m + length (events_of procs) ≤ 1000000
@@ -187,7 +187,7 @@ processes_pass (p ∷ procs) ls more wide ps m c rising own remote few many =
     let r2 =
     under wide (list_any is_remote es) (list_any is_remote others)
     (ap (λ (b : Bool). wide || not b) (sym (list_any-append is_remote es others)) ∙ r.1) in
-    let order = in_order (last ps) p procs rising in
+    let order = in_order (last_of ps) p procs rising in
     let room : leb 1024 (length ps) ≡ false = grind (arith, nat_tests) in
     let good = line_passes ls wide ps m 0 false line c refl r.0 order.0 refl room in
     let total : length (events_of (p ∷ procs)) ≡ length p.events + length (events_of procs) =
@@ -195,7 +195,7 @@ processes_pass (p ∷ procs) ls more wide ps m c rising own remote few many =
     let one =
     events_pass p.events (ls ++ line ∷ []) (others ++ more) wide (ps ++ p.pid ∷ []) m 0 p.pid
     (came_process ls wide ps m 0 p.pid c) (last_push ps p.pid) own.0 r2.0 (omega arith) in
-    let after : After (last (ps ++ p.pid ∷ [])) procs =
+    let after : After (last_of (ps ++ p.pid ∷ [])) procs =
     subst (λ (o : Option Pid). After o procs) (sym (last_push ps p.pid)) order.1 in
     let two =
     processes_pass procs ((ls ++ line ∷ []) ++ es) more wide (ps ++ p.pid ∷ []) (m + length p.events) one.1 after

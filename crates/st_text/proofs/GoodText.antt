@@ -26,9 +26,9 @@ use Rattle.st_text.specs.Range.{FitsPid, FitsSerial, FitsPlace, FitsEvent, FitsC
 use Rattle.st_text.specs.Range.{Fits, most_label, most_number}
 use Rattle.st_text.specs.Text.{Contents, process_lines, act_lines, is_remote, body, lines_of, ended, IsBundle}
 use Rattle.st_text.specs.Text.{IsWithin}
-use Rattle.st_text.specs.Parts.Cutter.{IsPlain}
+use Rattle.st_text.specs.Parts.Cutter.{HasNoNewline}
 use Rattle.st_text.specs.Answer.{Reads}
-use Rattle.st_text.specs.Fault.{cut, onto_first, sayings, first_fault, pids, pid_of, is_wide, unknown_from, needless}
+use Rattle.st_text.specs.Fault.{cut, onto_first, sayings, first_fault, pids, pid_of, is_wide_header, unknown_from, needless}
 use Rattle.st_text.specs.Fault.{closing_fault, fault}
 use Rattle.st_text.proofs.LineLemmas.{line_is}
 use Rattle.st_text.proofs.Newlines.{fault_at_end, truncated_none}
@@ -51,31 +51,31 @@ use Rattle.st_text.specs.Limits.{most_bytes}
 
 -- ---- no line has a newline in it
 
-plain-append : (a b : List ℕ) → IsPlain a → IsPlain b → IsPlain (a ++ b)
+plain-append : (a b : List ℕ) → HasNoNewline a → HasNoNewline b → HasNoNewline (a ++ b)
 plain-append [] b p q = q
 plain-append (x ∷ a) b p q = (p.0, plain-append a b p.1 q)
 
 -- a word, by a test that computes
-plain_word : (bytes : List ℕ) → list_all (λ b. not (eqb b 10)) bytes ≡ true → IsPlain bytes
+plain_word : (bytes : List ℕ) → list_all (λ b. not (eqb b 10)) bytes ≡ true → HasNoNewline bytes
 plain_word [] e = tt
 plain_word (b ∷ bytes) e = by (eqb b 10) refl e (plain_word bytes)
   where
     by : (t : Bool) → eqb b 10 ≡ t → (not t && list_all (λ b. not (eqb b 10)) bytes) ≡ true
-        → (list_all (λ b. not (eqb b 10)) bytes ≡ true → IsPlain bytes) → (eqb b 10 ≡ false) × IsPlain bytes
+        → (list_all (λ b. not (eqb b 10)) bytes ≡ true → HasNoNewline bytes) → (eqb b 10 ≡ false) × HasNoNewline bytes
     by true is e more = absurd cc
     by false is e more = (is, more e)
 
-plain_digits : (ds : List ℕ) → AllDigits 10 ds → IsPlain ds
+plain_digits : (ds : List ℕ) → AllDigits 10 ds → HasNoNewline ds
 plain_digits [] h = tt
 plain_digits (d ∷ ds) h =
     let r = digit_from_value d h.0 in
     let t : eqb d 10 ≡ false = grind (arith, nat_tests) in
     (t, plain_digits ds h.1)
 
-plain_decimal : (n : ℕ) → n ≤ most_number → IsPlain (decimal n)
+plain_decimal : (n : ℕ) → n ≤ most_number → HasNoNewline (decimal n)
 plain_decimal n small = plain_digits (decimal n) (decimal_is_IsNumeral n (omega arith)).0.1
 
-plain_pid : (p : Pid) → FitsPid p → IsPlain (pid p)
+plain_pid : (p : Pid) → FitsPid p → HasNoNewline (pid p)
 plain_pid p f =
     plain-append (codes "<" ++ decimal p.node ++ codes "." ++ decimal p.number) (codes ".0>")
     (plain-append (codes "<" ++ decimal p.node ++ codes ".") (decimal p.number)
@@ -84,14 +84,14 @@ plain_pid p f =
     (plain_decimal p.node (omega (arith, f.node)))) (plain_word (codes ".") refl))
     (plain_decimal p.number (omega (arith, f.number)))) (plain_word (codes ".0>") refl)
 
-plain_bool : (b : Bool) → IsPlain (bool b)
+plain_bool : (b : Bool) → HasNoNewline (bool b)
 plain_bool true = plain_word (codes "true") refl
 plain_bool false = plain_word (codes "false") refl
 
-plain_label : (l : Label) → l.0 ≤ most_label → IsPlain (label l)
+plain_label : (l : Label) → l.0 ≤ most_label → HasNoNewline (label l)
 plain_label l le = plain_decimal l.0 (omega arith)
 
-plain_serial : (s : Serial) → FitsSerial s → IsPlain (serial s)
+plain_serial : (s : Serial) → FitsSerial s → HasNoNewline (serial s)
 plain_serial s f =
     plain-append (codes "{" ++ decimal s.prev ++ codes "," ++ decimal s.this) (codes "}")
     (plain-append (codes "{" ++ decimal s.prev ++ codes ",") (decimal s.this)
@@ -100,12 +100,12 @@ plain_serial s f =
     (plain_word (codes ",") refl))
     (plain_decimal s.this f.this)) (plain_word (codes "}") refl)
 
-plain_kind : (k : Kind) → IsPlain (kind k)
+plain_kind : (k : Kind) → HasNoNewline (kind k)
 plain_kind kinds.Send = plain_word (codes "send") refl
 plain_kind kinds.Receive = plain_word (codes "'receive'") refl
 plain_kind kinds.Print = plain_word (codes "print") refl
 
-plain_place : (k : Kind) (o : Option Pid) → FitsPlace k o → IsPlain (place o)
+plain_place : (k : Kind) (o : Option Pid) → FitsPlace k o → HasNoNewline (place o)
 plain_place kinds.Send (Some p) f = plain_pid p f
 plain_place kinds.Send None f = absurd f
 plain_place kinds.Receive (Some p) f = plain_pid p f
@@ -113,7 +113,7 @@ plain_place kinds.Receive None f = absurd f
 plain_place kinds.Print (Some p) f = absurd f
 plain_place kinds.Print None f = plain_word (codes "[]") refl
 
-plain_event : (e : Event) → FitsEvent e → IsPlain (event e)
+plain_event : (e : Event) → FitsEvent e → HasNoNewline (event e)
 plain_event e f =
     plain-append (codes "{seq_trace," ++ head e ++ serial e.serial ++ codes "," ++ ends e ++ codes ","
     ++ decimal e.value) (codes "}}")
@@ -134,7 +134,7 @@ plain_event e f =
     (plain_place e.kind e.to f.to))) (plain_word (codes ",") refl))
     (plain_decimal e.value f.value)) (plain_word (codes "}}") refl)
 
-plain_component : (c : Component) → FitsComponent c → IsPlain (component c)
+plain_component : (c : Component) → FitsComponent c → HasNoNewline (component c)
 plain_component (components.Label l) f =
     plain-append (codes "label ") (label l) (plain_word (codes "label ") refl) (plain_label l f)
 plain_component (components.Send b) f =
@@ -144,10 +144,10 @@ plain_component (components.Receive b) f =
 plain_component (components.Print b) f =
     plain-append (codes "print ") (bool b) (plain_word (codes "print ") refl) (plain_bool b)
 
-space : (a b : List ℕ) → IsPlain a → IsPlain b → IsPlain (a ++ codes " " ++ b)
+space : (a b : List ℕ) → HasNoNewline a → HasNoNewline b → HasNoNewline (a ++ codes " " ++ b)
 space a b p q = plain-append (a ++ codes " ") b (plain-append a (codes " ") p (plain_word (codes " ") refl)) q
 
-plain_want : (w : Want) → FitsWant w → IsPlain (want w)
+plain_want : (w : Want) → FitsWant w → HasNoNewline (want w)
 plain_want wants.First f = plain_word (codes "first") refl
 plain_want (wants.From p) f = plain-append (codes "from ") (pid p) (plain_word (codes "from ") refl) (plain_pid p f)
 plain_want (wants.Value v) f =
@@ -158,12 +158,12 @@ plain_want (wants.Both p v) f =
 plain_want (wants.Place k) f =
     plain-append (codes "place ") (decimal k) (plain_word (codes "place ") refl) (plain_decimal k f)
 
-plain_flags : (f : Flags) → IsPlain (flags f)
+plain_flags : (f : Flags) → HasNoNewline (flags f)
 plain_flags f =
     space (bool f.send ++ codes " " ++ bool f.receive) (bool f.print)
     (space (bool f.send) (bool f.receive) (plain_bool f.send) (plain_bool f.receive)) (plain_bool f.print)
 
-plain_token : (t : Token) → FitsToken t → IsPlain (token t)
+plain_token : (t : Token) → FitsToken t → HasNoNewline (token t)
 plain_token t f =
     space (label t.label ++ codes " " ++ flags t.flags ++ codes " " ++ decimal t.serial.prev ++ codes " "
     ++ decimal t.serial.this) (pid t.from)
@@ -174,10 +174,10 @@ plain_token t f =
     (plain_pid t.from f.from)
 
 -- a word and a pid
-named_by : (word : List ℕ) (p : Pid) → list_all (λ b. not (eqb b 10)) word ≡ true → FitsPid p → IsPlain (word ++ pid p)
+named_by : (word : List ℕ) (p : Pid) → list_all (λ b. not (eqb b 10)) word ≡ true → FitsPid p → HasNoNewline (word ++ pid p)
 named_by word p e f = plain-append word (pid p) (plain_word word e) (plain_pid p f)
 
-plain_act : (a : Act) → FitsAct a → IsPlain (act a)
+plain_act : (a : Act) → FitsAct a → HasNoNewline (act a)
 plain_act (acts.Send p q v) f =
     space (codes "send " ++ pid p ++ codes " " ++ pid q) (decimal v)
     (space (codes "send " ++ pid p) (pid q) (named_by (codes "send ") p refl f.0) (plain_pid q f.1))
@@ -200,7 +200,7 @@ plain_act (acts.Reset p) f = named_by (codes "reset ") p refl f
 plain_act (acts.Tracer p b) f =
     space (codes "tracer " ++ pid p) (bool b) (named_by (codes "tracer ") p refl f) (plain_bool b)
 
-plain_line : (l : Line) → Fits l → IsPlain (line l)
+plain_line : (l : Line) → Fits l → HasNoNewline (line l)
 plain_line (lines.Header false) f = plain_word (codes "seqtrace 1") refl
 plain_line (lines.Header true) f = plain_word (codes "seqtrace 2") refl
 plain_line (lines.Process p) f = named_by (codes "process ") p refl f
@@ -210,7 +210,7 @@ plain_line (lines.Act a) f = plain_act a f
 
 -- ---- the lines of a spelling
 
-cut_plain : (bs rest : List ℕ) → IsPlain bs → cut (bs ++ 10 ∷ rest) ≡ (bs ∷ (cut rest).0, (cut rest).1)
+cut_plain : (bs rest : List ℕ) → HasNoNewline bs → cut (bs ++ 10 ∷ rest) ≡ (bs ∷ (cut rest).0, (cut rest).1)
 cut_plain [] rest p = refl
 cut_plain (b ∷ bs) rest p = rw p.0 (ap (λ (x : List (List ℕ) × List ℕ). onto_first b x.0 x.1) (cut_plain bs rest p.1))
 
@@ -281,7 +281,7 @@ lines_sound c h w =
 
 -- ---- the closing faults
 
-body_wide : (list : List Line) → AllByRecursion (λ l. is_wide l ≡ false) list → list_any is_wide list ≡ false
+body_wide : (list : List Line) → AllByRecursion (λ l. is_wide_header l ≡ false) list → list_any is_wide_header list ≡ false
 body_wide [] h = refl
 body_wide (l ∷ ls) h = rw h.0 (body_wide ls h.1)
 
@@ -290,28 +290,28 @@ all-append : (P : Line → Type 0) (a b : List Line) → AllByRecursion P a → 
 all-append P [] b p q = q
 all-append P (x ∷ a) b p q = (p.0, all-append P a b p.1 q)
 
-narrow_body : (c : Contents) → AllByRecursion (λ l. is_wide l ≡ false) (body c)
+narrow_body : (c : Contents) → AllByRecursion (λ l. is_wide_header l ≡ false) (body c)
 narrow_body c =
-    all-append (λ l. is_wide l ≡ false) (flat_map process_lines c.streams) (act_lines c.acts) (streams c.streams)
+    all-append (λ l. is_wide_header l ≡ false) (flat_map process_lines c.streams) (act_lines c.acts) (streams c.streams)
     (acts_all c.acts)
   where
-    events : (es : List Event) → AllByRecursion (λ l. is_wide l ≡ false) (map lines.Event es)
+    events : (es : List Event) → AllByRecursion (λ l. is_wide_header l ≡ false) (map lines.Event es)
     events [] = tt
     events (e ∷ es) = (refl, events es)
 
-    streams : (ss : List Stream) → AllByRecursion (λ l. is_wide l ≡ false) (flat_map process_lines ss)
+    streams : (ss : List Stream) → AllByRecursion (λ l. is_wide_header l ≡ false) (flat_map process_lines ss)
     streams [] = tt
     streams (s ∷ ss) = (
       refl,
-      all-append (λ l. is_wide l ≡ false) (map lines.Event s.events) (flat_map process_lines ss)
+      all-append (λ l. is_wide_header l ≡ false) (map lines.Event s.events) (flat_map process_lines ss)
           (events s.events) (streams ss),
     )
 
-    list_acts : (list : List Act) → AllByRecursion (λ l. is_wide l ≡ false) (map lines.Act list)
+    list_acts : (list : List Act) → AllByRecursion (λ l. is_wide_header l ≡ false) (map lines.Act list)
     list_acts [] = tt
     list_acts (a ∷ list) = (refl, list_acts list)
 
-    acts_all : (o : Option (List Act)) → AllByRecursion (λ l. is_wide l ≡ false) (act_lines o)
+    acts_all : (o : Option (List Act)) → AllByRecursion (λ l. is_wide_header l ≡ false) (act_lines o)
     acts_all None = tt
     acts_all (Some list) = (refl, list_acts list)
 
@@ -342,7 +342,7 @@ pids_lines c =
 pub closing_sound : (c : Contents) → IsBundle c → closing_fault (lines_of c) ≡ None
 closing_sound c h =
     let wide : Bool = list_any is_remote (body c) in
-    let none_wide : list_any is_wide (body c) ≡ false = body_wide (body c) (narrow_body c) in
+    let none_wide : list_any is_wide_header (body c) ≡ false = body_wide (body c) (narrow_body c) in
     let known : unknown_from (pids (lines_of c)) 1 (lines_of c) ≡ None =
     ap (λ (ps : List Pid). unknown_from ps 1 (lines_of c)) (pids_lines c) ∙ all_known c h in
     let needs : needless (lines_of c) ≡ None = rw none_wide (by wide) in

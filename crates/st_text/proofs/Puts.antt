@@ -8,7 +8,7 @@ use Rattle.std.proofs.lemmas.List.{append-nil, length-append, take-append-drop, 
 use Rattle.std.proofs.lemmas.List.Concat.{flat_map-append}
 use Rattle.std.specs.Result.{IsErr}
 use Rattle.st_core.specs.Device.{InARow, NoCall, OneMore}
-use Rattle.st_text.specs.Writing.{WritesPart, WritesText, Goes, GoesOn}
+use Rattle.st_text.specs.Writing.{WritesPart, WritesText, Goes, WritesOn}
 
 -- calls in a row, and then more
 pub in_a_row : {S : Type 0} (puts : S → List ℕ → S → Type 0) {a b c : S} {xs ys : List ℕ} → InARow puts b ys c
@@ -103,7 +103,7 @@ part_longer puts failed t u x h =
 -- the same of what a call answered
 pub then_on : {S T E : Type 0} (puts : S → List ℕ → S → Type 0) (failed : S → Bool) (t u : List ℕ) {a b : S}
     (c : S) {x y : List ℕ} (z : List ℕ) (r : Result T E)
-    → Goes puts failed t a b x y → GoesOn puts failed u b c y z r → GoesOn puts failed (t ++ u) a c x z r
+    → Goes puts failed t a b x y → WritesOn puts failed u b c y z r → WritesOn puts failed (t ++ u) a c x z r
 then_on puts failed t u c z (Ok v) g h = goes_then puts failed t u g h
 then_on puts failed t u c z (Err e) g h = part_then puts failed t u g h
 
@@ -112,7 +112,7 @@ then_on puts failed t u c z (Err e) g h = part_then puts failed t u g h
 -- a refusal, where a call failed
 pub on_err : {S T E : Type 0} {puts : S → List ℕ → S → Type 0} {failed : S → Bool} (t : List ℕ) {a b : S}
     (x y : List ℕ) (r : Result T E)
-    → IsErr r → WritesPart puts failed (x ++ t) a b → GoesOn puts failed t a b x y r
+    → IsErr r → WritesPart puts failed (x ++ t) a b → WritesOn puts failed t a b x y r
 on_err t x y (Ok v) is h = absurd cc
 on_err t x y (Err e) is h = h
 
@@ -181,7 +181,7 @@ all_done puts failed f xs i {a} {b} {x} {y} e le g =
 -- what waited last went too
 pub finishes : {S T E : Type 0} (puts : S → List ℕ → S → Type 0) (failed : S → Bool) (text : List ℕ) {a b : S}
     (c : S) {x : List ℕ} (y : List ℕ) (r : Result T E)
-    → 0 < length text → Goes puts failed text a b [] x → GoesOn puts failed [] b c x y r → OnOk r (y ≡ [])
+    → 0 < length text → Goes puts failed text a b [] x → WritesOn puts failed [] b c x y r → OnOk r (y ≡ [])
     → WritesText puts failed text a c r
 finishes puts failed text {a} c y (Ok v) some g h over =
     let all = goes_then puts failed text [] g h in

@@ -12,7 +12,7 @@ use Rattle.st_text.specs.declared.fault.ReadFault.TheVariants as faults
 use Rattle.st_text.specs.declared.feed.Feed.{Feed}
 use Rattle.st_text.specs.Answer.{IsAnswer}
 use Rattle.st_text.specs.Growth.{Grows}
-use Rattle.st_text.specs.Fed.{IsFed, refusal}
+use Rattle.st_text.specs.Fed.{IsFed, fed_refusal}
 use Rattle.st_text.specs.Reads.{HadGrowth}
 use Rattle.st_text.proofs.TextFaults.{no_memory}
 use Rattle.st_text.specs.Limits.{most_bytes}
@@ -27,7 +27,7 @@ pub record IsReading {S : Type 0} (gives : S → List ℕ → S → Type 0) (fai
   pub size : length buffer ≡ 65536
   pub mark : failed now ≡ failed old
   pub sound : 0 < count → failed old ≡ false
-  pub memory : refusal feed ≡ Some faults.Memory → HadGrowth gives bytes old
+  pub memory : fed_refusal feed ≡ Some faults.Memory → HadGrowth gives bytes old
 
 -- a new feed has refused nothing
 pub never_fresh : (o : Option ReadFault) (f : ReadFault) → o ≡ None → o ≡ Some f → ⊥

@@ -9,8 +9,8 @@ use Rattle.st_core.specs.declared.types.Pid.{Pid}
 use Rattle.st_text.specs.declared.line.Line.{Line}
 use Rattle.st_text.specs.declared.fault.ReadFault.{ReadFault}
 use Rattle.st_text.specs.declared.fault.ReadFault.TheVariants as faults
-use Rattle.st_text.specs.Fault.{cut, pids, last, is_event, is_act, may_stand, is_out_of_order, is_foreign}
-use Rattle.st_text.specs.Fault.{is_one_too_many, line_fault, first_fault, first_of, truncated, needless, is_wide}
+use Rattle.st_text.specs.Fault.{cut, pids, last_of, is_event, is_act, may_stand, is_out_of_order, is_foreign}
+use Rattle.st_text.specs.Fault.{is_one_too_many, line_fault, first_fault, first_of, truncated, needless, is_wide_header}
 use Rattle.st_text.specs.Fault.{is_unknown, unknown_from, closing_fault, fault, sayings, said}
 use Rattle.st_text.specs.Text.{is_remote}
 use Rattle.st_text.specs.Answer.{IsAnswer}
@@ -45,8 +45,8 @@ unfolding line_fault
 line_of_text ls None = tt
 line_of_text ls (Some l) =
     test_of (not (may_stand ls l)) _ _ tt
-    (test_of (is_out_of_order (last (pids ls)) l) _ _ tt
-    (test_of (is_foreign (last (pids ls)) l) _ _ tt
+    (test_of (is_out_of_order (last_of (pids ls)) l) _ _ tt
+    (test_of (is_foreign (last_of (pids ls)) l) _ _ tt
     (test_of (is_one_too_many (length (pids ls)) (count_by is_event ls) (count_by is_act ls) l) _ _ tt tt)))
 
 first_of_text : (ls : List Line) (rs : List (Option Line)) → AllOfText (first_fault ls rs)
@@ -71,7 +71,7 @@ whole_of_text bytes small =
     (either_of (truncated bytes) (closing_fault (said (sayings bytes)))
     (test_of (eqb (length (cut bytes).1) 0 && not (eqb (length (cut bytes).0) 0)) _ _ tt tt)
     (either_of (needless (said (sayings bytes))) _
-    (test_of (list_any is_wide (said (sayings bytes)) && not (list_any is_remote (said (sayings bytes)))) _ _ tt
+    (test_of (list_any is_wide_header (said (sayings bytes)) && not (list_any is_remote (said (sayings bytes)))) _ _ tt
     tt) (unknown_of_text (pids (said (sayings bytes))) 1 (said (sayings bytes))))))
 
 of_text : (bytes : List ℕ) (f : ReadFault) → length bytes ≤ most_bytes → fault bytes ≡ Some f → OfText f

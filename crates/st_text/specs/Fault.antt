@@ -8,14 +8,14 @@ use Rattle.std.specs.Ordering.{is_lt}
 use Rattle.st_core.specs.declared.types.Pid.{Pid}
 use Rattle.st_core.specs.Pid.{pid_cmp}
 use Rattle.st_core.specs.Step.{actor, receiver}
-use Rattle.st_core.specs.Streams.{is_own}
+use Rattle.st_core.specs.Streams.{is_among, is_own}
 use Rattle.st_text.specs.declared.line.Line.{Line}
 use Rattle.st_text.specs.declared.line.Line.TheVariants as lines
 use Rattle.st_text.specs.declared.fault.ReadFault.{ReadFault}
 use Rattle.st_text.specs.declared.fault.ReadFault.TheVariants as faults
 use Rattle.st_text.specs.Limits.{most_bytes, most_processes, most_events, most_acts}
 use Rattle.st_text.specs.Parsing.{line_of}
-use Rattle.st_text.specs.Text.{is_remote, is_among}
+use Rattle.st_text.specs.Text.{is_remote}
 
 -- ---- the lines of bytes
 
@@ -57,8 +57,8 @@ pids ls = flat_map pid_of ls
 abbrev pub has_acts : List Line → Bool
 has_acts ls = list_any is_acts ls
 
-abbrev pub last : {A : Type 0} → List A → Option A
-last xs = slice_get xs (length xs - 1)
+abbrev pub last_of : {A : Type 0} → List A → Option A
+last_of xs = slice_get xs (length xs - 1)
 
 -- ---- the faults of one line behind good ones
 
@@ -75,9 +75,9 @@ may_follow begun last (lines.Event e) = not begun && last_passes (λ q. true) la
 may_follow begun last lines.Acts = not begun
 may_follow begun last (lines.Act a) = begun
 
-abbrev pub is_wide : Line → Bool
-is_wide (lines.Header b) = b
-is_wide l = false
+abbrev pub is_wide_header : Line → Bool
+is_wide_header (lines.Header b) = b
+is_wide_header l = false
 
 abbrev pub is_header : Line → Bool
 is_header (lines.Header b) = true
@@ -87,7 +87,7 @@ is_header l = false
 abbrev pub may_stand : List Line → Line → Bool
 may_stand [] l = is_header l
 may_stand (first ∷ ls) l =
-    may_follow (has_acts (first ∷ ls)) (last (pids (first ∷ ls))) l && (is_wide first || not (is_remote l))
+    may_follow (has_acts (first ∷ ls)) (last_of (pids (first ∷ ls))) l && (is_wide_header first || not (is_remote l))
 
 -- a process whose pid isn't greater than the last one
 abbrev pub is_out_of_order : Option Pid → Line → Bool
@@ -110,8 +110,8 @@ is_one_too_many processes events acts l = false
 abbrev pub fault_at : ℕ → List Line → Line → Option ReadFault
 fault_at n ls l =
     if not (may_stand ls l) then Some (faults.Line n)
-    else (if is_out_of_order (last (pids ls)) l then Some (faults.Order n)
-    else (if is_foreign (last (pids ls)) l then Some (faults.Foreign n)
+    else (if is_out_of_order (last_of (pids ls)) l then Some (faults.Order n)
+    else (if is_foreign (last_of (pids ls)) l then Some (faults.Foreign n)
     else (if is_one_too_many (length (pids ls)) (count_by is_event ls) (count_by is_act ls) l
     then Some (faults.TooMany n) else None)))
 
@@ -144,7 +144,7 @@ truncated bytes = if length (cut bytes).1 == 0 && not (length (cut bytes).0 == 0
 
 -- header 2 where no line names a pid of another node
 abbrev pub needless : List Line → Option ReadFault
-needless ls = if list_any is_wide ls && not (list_any is_remote ls) then Some (faults.Line 1) else None
+needless ls = if list_any is_wide_header ls && not (list_any is_remote ls) then Some (faults.Line 1) else None
 
 -- the pids that have to be listed: an event's ends, an actor, a send's receiver
 abbrev pub must_be_listed : Line → List Pid

@@ -14,11 +14,11 @@ refusal_by false true = Some faults.Memory
 refusal_by false false = None
 
 -- the refusal that each call answers from now on, if there is one
-abbrev pub refusal : Feed → Option ReadFault
-refusal f = refusal_by f.large f.cutter.out
+abbrev pub fed_refusal : Feed → Option ReadFault
+fed_refusal f = refusal_by f.large f.cutter.out
 
 -- all bytes are counted, and their lines taken
-pub record IsCounted (bytes : List ℕ) (count : ℕ) (cutter : Cutter) : Type 0 where
+pub record AreBytesCounted (bytes : List ℕ) (count : ℕ) (cutter : Cutter) : Type 0 where
   pub count_is : count ≡ length bytes
   pub small : length bytes ≤ most_bytes
   pub holds : HasTaken bytes cutter
@@ -26,7 +26,7 @@ pub record IsCounted (bytes : List ℕ) (count : ℕ) (cutter : Cutter) : Type 0
 abbrev pub FedAs : Bool → Bool → List ℕ → ℕ → Cutter → Type 0
 FedAs true out bytes count cutter = most_bytes < length bytes
 FedAs false true bytes count cutter = Unit {0}
-FedAs false false bytes count cutter = IsCounted bytes count cutter
+FedAs false false bytes count cutter = AreBytesCounted bytes count cutter
 
 -- the feed was fed these bytes
 abbrev pub IsFed : List ℕ → Feed → Type 0

@@ -12,7 +12,7 @@ use Rattle.st_core.specs.declared.types.Act.TheVariants as acts
 use Rattle.st_core.specs.Pid.{pid_eq, node_of}
 use Rattle.st_core.specs.Step.{actor, receiver}
 use Rattle.st_core.specs.Run.{Stream, pids_of}
-use Rattle.st_core.specs.Streams.{IsStreams}
+use Rattle.st_core.specs.Streams.{IsStreams, is_among}
 use Rattle.st_text.specs.declared.line.Line.{Line}
 use Rattle.st_text.specs.declared.line.Line.TheVariants as lines
 use Rattle.st_text.specs.Spelling.{line}
@@ -88,26 +88,22 @@ spelling c = flat_map ended (lines_of c)
 
 -- ---- bundles
 
--- a pid is among these
-abbrev pub is_among : List Pid → Pid → Bool
-is_among ps q = list_any (λ p. pid_eq p q) ps
-
 -- the actor, and a send's receiver, are listed
 abbrev pub is_listed : List Pid → Act → Bool
 is_listed ps a = is_among ps (actor a) && is_among ps (receiver a)
 
-abbrev pub acts_of : Option (List Act) → List Act
-acts_of None = []
-acts_of (Some list) = list
+abbrev pub acts_or_none : Option (List Act) → List Act
+acts_or_none None = []
+acts_or_none (Some list) = list
 
 -- the number of the first act whose actor or receiver isn't listed
 abbrev pub unlisted_act : List Stream → Option (List Act) → Option ℕ
-unlisted_act streams acts = position (λ a. not (is_listed (pids_of streams) a)) (acts_of acts)
+unlisted_act streams acts = position (λ a. not (is_listed (pids_of streams) a)) (acts_or_none acts)
 
 -- a bundle: streams, acts of listed processes, and each line a value that has a spelling
 pub record IsBundle (c : Contents) : Type 0 where
   pub streams : IsStreams c.streams
-  pub listed : list_all (is_listed (pids_of c.streams)) (acts_of c.acts) ≡ true
+  pub listed : list_all (is_listed (pids_of c.streams)) (acts_or_none c.acts) ≡ true
   pub fits : AllByRecursion Fits (body c)
 
 -- the bytes are the text of the bundle
@@ -120,4 +116,4 @@ pub record IsWithin (c : Contents) : Type 0 where
   pub bytes : length (spelling c) ≤ most_bytes
   pub processes : length c.streams ≤ most_processes
   pub events : length (flat_map (λ s. s.events) c.streams) ≤ most_events
-  pub acts : length (acts_of c.acts) ≤ most_acts
+  pub acts : length (acts_or_none c.acts) ≤ most_acts

@@ -35,7 +35,7 @@ pub record Goes {S : Type 0} (puts : S → List ℕ → S → Type 0) (failed : 
   pub mark : failed new ≡ failed old
   pub alive : 0 < length written → failed old ≡ false
 
-abbrev pub GoesOn : {S T E : Type 0} → (S → List ℕ → S → Type 0) → (S → Bool) → List ℕ → S → S → List ℕ → List ℕ
+abbrev pub WritesOn : {S T E : Type 0} → (S → List ℕ → S → Type 0) → (S → Bool) → List ℕ → S → S → List ℕ → List ℕ
     → Result T E → Type 0
-GoesOn puts failed text old new waited waits r = MatchResult r (λ _. Goes puts failed text old new waited waits)
+WritesOn puts failed text old new waited waits r = MatchResult r (λ _. Goes puts failed text old new waited waits)
     (λ _. WritesPart puts failed (waited ++ text) old new)

@@ -4,7 +4,8 @@ ghost use Rattle.std.specs.Prelude.{◌≡◌, IsTrue, IfOk, IfErr, OnOk, Some, 
 ghost use Rattle.std.specs.List.{list_all};
 ghost use Rattle.st_core.specs.Run.{pids_of};
 ghost use Rattle.st_core.specs.Step.{receiver};
-ghost use Rattle.st_text.specs.Text.{is_among, is_listed, acts_of, unlisted_act};
+ghost use Rattle.st_core.specs.Streams.{is_among};
+ghost use Rattle.st_text.specs.Text.{is_listed, acts_or_none, unlisted_act};
 
 use st_core::{Act, Pid, Sequence, Streams};
 
@@ -13,7 +14,7 @@ use st_core::{Act, Pid, Sequence, Streams};
 pub struct Bundle {
     pub streams: Streams,
     pub acts: Option<Sequence<Act>>,
-    ghost listed: { IsTrue (list_all (is_listed (pids_of streams)) (acts_of acts)) },
+    ghost listed: { IsTrue (list_all (is_listed (pids_of streams)) (acts_or_none acts)) },
 }
 
 /// Why streams and acts make no bundle; both come back. Refusal 1, the only one.

@@ -7,7 +7,7 @@ ghost use Rattle.st_text.specs.declared.line.Line.{Line};
 ghost use Rattle.st_text.specs.Parts.Cutter.{IsStateAfter, TakesSaid, header_of};
 ghost use Rattle.st_text.specs.Fault.{cut};
 ghost use Rattle.st_text.specs.Parsing.{line_of};
-ghost use Rattle.st_text.specs.Parts.Cutter.{IsTail, IsPlain, longest};
+ghost use Rattle.st_text.specs.Parts.Cutter.{IsTail, HasNoNewline, longest};
 ghost use Rattle.st_text.specs.Limits.{most_bytes};
 ghost use Rattle.st_text.specs.Growth.{EndsKept, Grows};
 
@@ -114,7 +114,7 @@ impl Cutter {
         requires going { self.old.out ≡ false }
         requires good { self.old.fault ≡ None }
         ensures fault { self.new.fault ≡ None }
-        ensures holds { (bytes : List ℕ) → IsPlain rest.now → HasTaken bytes self.old
+        ensures holds { (bytes : List ℕ) → HasNoNewline rest.now → HasTaken bytes self.old
             → Comes (bytes ++ rest.now) self.new (AddsBytes bytes rest.now) }
     {
         if self.long {
@@ -137,7 +137,7 @@ impl Cutter {
         requires good { self.old.fault ≡ None }
         requires short { self.old.long ≡ false }
         requires empty { self.old.tail.items ≡ [] }
-        ensures { (bytes rest : List ℕ) (long : Bool) (kept : List ℕ) → IsPlain rest
+        ensures { (bytes rest : List ℕ) (long : Bool) (kept : List ℕ) → HasNoNewline rest
             → (IsTail long kept (cut bytes).1 → said.now ≡ line_of ((cut bytes).1 ++ rest))
             → HasTakenAs self.old.out self.old.fault bytes long kept self.old.builder
             → Comes (bytes ++ (rest ++ 10 ∷ [])) self.new (EndsKept (bytes ++ (rest ++ 10 ∷ []))) }
@@ -154,7 +154,7 @@ impl Cutter {
         requires going { self.old.out ≡ false }
         requires good { self.old.fault ≡ None }
         requires begun { self.old.long ≡ false → 0 < length self.old.tail.items }
-        ensures { (bytes : List ℕ) → IsPlain rest.now → HasTaken bytes self.old
+        ensures { (bytes : List ℕ) → HasNoNewline rest.now → HasTaken bytes self.old
             → Comes (bytes ++ (rest.now ++ 10 ∷ [])) self.new (EndsOne bytes rest.now) }
     {
         let Ok(said) = whole_line(self.long, &mut self.tail, rest) else {
@@ -171,7 +171,7 @@ impl Cutter {
     fn end_line(&mut self, rest: &[u8])
         requires going { self.old.out ≡ false }
         requires good { self.old.fault ≡ None }
-        ensures { (bytes : List ℕ) → IsPlain rest.now → HasTaken bytes self.old
+        ensures { (bytes : List ℕ) → HasNoNewline rest.now → HasTaken bytes self.old
             → Comes (bytes ++ (rest.now ++ 10 ∷ [])) self.new (EndsOne bytes rest.now) }
     {
         if self.long || !self.tail.is_empty() {

@@ -26,14 +26,14 @@ pub struct Feed {
 
 impl Feed {
     ghost use Rattle.st_text.specs.declared.fault.ReadFault.{ReadFault};
-    ghost use Rattle.st_text.specs.Fed.{IsFed, refusal, answer_of};
+    ghost use Rattle.st_text.specs.Fed.{IsFed, fed_refusal, answer_of};
     ghost use Rattle.st_text.specs.Answer.{Answers, IsAnswer};
     ghost use Rattle.st_text.specs.declared.fault.ReadFault.TheVariants as faults;
 
     /// No bytes yet. Takes no memory.
     pub fn new(alloc: Global) -> Feed
         ensures fed { IsFed [] result }
-        ensures fresh { refusal result ≡ None }
+        ensures fresh { fed_refusal result ≡ None }
     {
         Feed {
             count: 0,
@@ -47,10 +47,10 @@ impl Feed {
     pub fn piece(&mut self, piece: &[u8]) -> Result<(), ReadFault>
         // However the text is cut into pieces.
         ensures fed { (bytes : List ℕ) → IsFed bytes self.old → IsFed (bytes ++ piece.now) self.new }
-        ensures answer { result ≡ answer_of (refusal self.new) }
-        ensures again { (f : ReadFault) → refusal self.old ≡ Some f → refusal self.new ≡ Some f }
-        ensures memory { (bytes : List ℕ) → IsFed bytes self.old → refusal self.old ≡ None
-            → refusal self.new ≡ Some faults.Memory → Grows bytes piece.now }
+        ensures answer { result ≡ answer_of (fed_refusal self.new) }
+        ensures again { (f : ReadFault) → fed_refusal self.old ≡ Some f → fed_refusal self.new ≡ Some f }
+        ensures memory { (bytes : List ℕ) → IsFed bytes self.old → fed_refusal self.old ≡ None
+            → fed_refusal self.new ≡ Some faults.Memory → Grows bytes piece.now }
     {
         if self.large {
             return Err(ReadFault::TooLarge);
@@ -74,8 +74,8 @@ impl Feed {
     /// The bundle whose text the pieces were, or their refusal. Takes no memory.
     pub fn end(self) -> Result<Bundle, ReadFault>
         ensures answers { (bytes : List ℕ) → IsFed bytes self → Answers bytes result }
-        ensures exact { (bytes : List ℕ) → IsFed bytes self → refusal self ≡ None → IsAnswer bytes result }
-        ensures again { (f : ReadFault) → refusal self ≡ Some f → result ≡ Err f }
+        ensures exact { (bytes : List ℕ) → IsFed bytes self → fed_refusal self ≡ None → IsAnswer bytes result }
+        ensures again { (f : ReadFault) → fed_refusal self ≡ Some f → result ≡ Err f }
     {
         let Feed {
             count: _,

@@ -2,7 +2,7 @@
 
 ghost use Rattle.std.specs.Prelude.{◌≡◌, ◌<◌, ◌^◌, ◌&&◌, not, List, length};
 ghost use Rattle.st_text.specs.declared.line.Line.{Line};
-ghost use Rattle.st_text.specs.Parts.Finish.{event_line, Finishes};
+ghost use Rattle.st_text.specs.Parts.Finish.{event_line_number, Finishes};
 ghost use Rattle.st_text.specs.Parts.Builder.{IsBuilt};
 
 use crate::builder::BundleBuilder;
@@ -12,7 +12,7 @@ use st_core::{Draft, Pid};
 
 /// The line of an event, where it is one that a text can have.
 fn event_line(draft: &Draft, pid: Pid, index: u64) -> u64
-    ensures { event_line draft.now pid index < 2 ^ 64 → result ≡ event_line draft.now pid index }
+    ensures { event_line_number draft.now pid index < 2 ^ 64 → result ≡ event_line_number draft.now pid index }
 {
     let mut n: u64 = 2;
     for p in draft.pids() {

@@ -3,7 +3,7 @@
 ghost use Rattle.std.specs.Prelude.{◌≡◌, ◌≤◌, ◌+◌, [], OnOk, OnErr};
 ghost use Rattle.arrayvec.specs.ArrayVec.{array_vec_len};
 ghost use Rattle.st_text.specs.Room.{line_room, buffer_room};
-ghost use Rattle.st_text.specs.Writing.{GoesOn};
+ghost use Rattle.st_text.specs.Writing.{WritesOn};
 
 use crate::spell::Buffer;
 use st_core::ByteSink;
@@ -19,7 +19,7 @@ pub(crate) const LINE: usize = 256;
 
 /// Writes all the bytes, in as many calls as the sink needs.
 pub(crate) fn put_all<S: ByteSink>(sink: &mut S, bytes: &[u8]) -> Result<(), Device>
-    ensures { GoesOn S.puts S.failed bytes.now sink.old sink.new [] [] result }
+    ensures { WritesOn S.puts S.failed bytes.now sink.old sink.new [] [] result }
 {
     let mut rest = bytes;
     while !rest.is_empty() {
@@ -33,7 +33,7 @@ pub(crate) fn put_all<S: ByteSink>(sink: &mut S, bytes: &[u8]) -> Result<(), Dev
 
 /// Writes what waits. After a failure it waits still, though the sink may have taken a part of it.
 pub fn flush<S: ByteSink>(sink: &mut S, buffer: &mut Buffer) -> Result<(), Device>
-    ensures goes { GoesOn S.puts S.failed [] sink.old sink.new buffer.old.items buffer.new.items result }
+    ensures goes { WritesOn S.puts S.failed [] sink.old sink.new buffer.old.items buffer.new.items result }
     ensures empty { OnOk result (buffer.new.items ≡ []) }
     ensures len { OnOk result (array_vec_len buffer.new ≡ 0) }
     ensures err { OnErr result (buffer.new.items ≡ buffer.old.items) }
@@ -45,7 +45,7 @@ pub fn flush<S: ByteSink>(sink: &mut S, buffer: &mut Buffer) -> Result<(), Devic
 
 /// Makes room for a line: where less is left, what waits is written.
 pub fn make_room<S: ByteSink>(sink: &mut S, buffer: &mut Buffer) -> Result<(), Device>
-    ensures goes { GoesOn S.puts S.failed [] sink.old sink.new buffer.old.items buffer.new.items result }
+    ensures goes { WritesOn S.puts S.failed [] sink.old sink.new buffer.old.items buffer.new.items result }
     ensures room { OnOk result (array_vec_len buffer.new + line_room ≤ buffer_room) }
     ensures err { OnErr result (buffer.new.items ≡ buffer.old.items) }
 {

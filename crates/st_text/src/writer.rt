@@ -7,7 +7,7 @@ ghost use Rattle.st_text.specs.declared.line.Line.TheVariants as lines;
 ghost use Rattle.st_text.specs.Spelling as spelled;
 ghost use Rattle.st_text.specs.Text.{ended, process_lines, body, parts, spelling};
 ghost use Rattle.st_text.specs.Contents.{contents};
-ghost use Rattle.st_text.specs.Writing.{GoesOn, WritesText};
+ghost use Rattle.st_text.specs.Writing.{WritesOn, WritesText};
 
 use crate::bundle::Bundle;
 use crate::line::Line;
@@ -18,7 +18,7 @@ use st_core::{Act, ByteSink, Event, Pid, Streams};
 
 /// Writes a line and its newline.
 fn write_line<S: ByteSink>(sink: &mut S, buffer: &mut Buffer, line: &Line) -> Result<(), Device>
-    ensures { GoesOn S.puts S.failed (ended line.now) sink.old sink.new buffer.old.items buffer.new.items result }
+    ensures { WritesOn S.puts S.failed (ended line.now) sink.old sink.new buffer.old.items buffer.new.items result }
 {
     make_room(sink, buffer)?;
     put_line(buffer, line);
@@ -30,7 +30,7 @@ fn write_events<S: ByteSink>(
     buffer: &mut Buffer,
     events: &[Event],
 ) -> Result<(), Device>
-    ensures { GoesOn S.puts S.failed (flat_map ended (map lines.Event events.now))
+    ensures { WritesOn S.puts S.failed (flat_map ended (map lines.Event events.now))
         sink.old sink.new buffer.old.items buffer.new.items result }
 {
     for event in events {
@@ -46,7 +46,7 @@ fn write_process<S: ByteSink>(
     streams: &Streams,
     pid: Pid,
 ) -> Result<(), Device>
-    ensures { GoesOn S.puts S.failed
+    ensures { WritesOn S.puts S.failed
         (flat_map ended (process_lines (record { pid = pid; events = events_of streams.now pid })))
         sink.old sink.new buffer.old.items buffer.new.items result }
 {
@@ -59,7 +59,7 @@ fn write_streams<S: ByteSink>(
     buffer: &mut Buffer,
     streams: &Streams,
 ) -> Result<(), Device>
-    ensures { GoesOn S.puts S.failed (flat_map ended (flat_map process_lines streams.now))
+    ensures { WritesOn S.puts S.failed (flat_map ended (flat_map process_lines streams.now))
         sink.old sink.new buffer.old.items buffer.new.items result }
 {
     for pid in streams.pids() {
@@ -73,7 +73,7 @@ fn write_act_list<S: ByteSink>(
     buffer: &mut Buffer,
     acts: &[Act],
 ) -> Result<(), Device>
-    ensures { GoesOn S.puts S.failed (flat_map ended (map lines.Act acts.now))
+    ensures { WritesOn S.puts S.failed (flat_map ended (map lines.Act acts.now))
         sink.old sink.new buffer.old.items buffer.new.items result }
 {
     for act in acts {
@@ -84,7 +84,7 @@ fn write_act_list<S: ByteSink>(
 
 /// Writes the word and the acts.
 fn write_acts<S: ByteSink>(sink: &mut S, buffer: &mut Buffer, acts: &[Act]) -> Result<(), Device>
-    ensures { GoesOn S.puts S.failed (flat_map ended (lines.Acts ∷ map lines.Act acts.now))
+    ensures { WritesOn S.puts S.failed (flat_map ended (lines.Acts ∷ map lines.Act acts.now))
         sink.old sink.new buffer.old.items buffer.new.items result }
 {
     write_line(sink, buffer, &Line::Acts)?;
@@ -98,7 +98,7 @@ fn write_body<S: ByteSink>(
     streams: &Streams,
     acts: Option<&[Act]>,
 ) -> Result<(), Device>
-    ensures { GoesOn S.puts S.failed (flat_map ended (body (parts streams.now acts.entry)))
+    ensures { WritesOn S.puts S.failed (flat_map ended (body (parts streams.now acts.entry)))
         sink.old sink.new buffer.old.items buffer.new.items result }
 {
     write_streams(sink, buffer, streams)?;
@@ -115,7 +115,7 @@ fn write_lines<S: ByteSink>(
     streams: &Streams,
     acts: Option<&[Act]>,
 ) -> Result<(), Device>
-    ensures { GoesOn S.puts S.failed (spelling (parts streams.now acts.entry))
+    ensures { WritesOn S.puts S.failed (spelling (parts streams.now acts.entry))
         sink.old sink.new buffer.old.items buffer.new.items result }
 {
     write_line(sink, buffer, &Line::Header(are_parts_remote(streams, acts)))?;

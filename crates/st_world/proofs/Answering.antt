@@ -13,11 +13,11 @@ use Rattle.st_core.specs.Pid.{pid_eq}
 use Rattle.st_core.specs.State.{LocalState, Process, State, process}
 use Rattle.st_core.specs.Step.{actor, receiver, step}
 use Rattle.st_core.proofs.ForCallers.{process_holds, step_sound, step_no_actor, step_no_receiver}
-use Rattle.st_mail.specs.Actor.{is_inner, ActsOutside}
+use Rattle.st_mail.specs.Actor.{is_inner, is_send_act, ActsOutside}
 use Rattle.st_mail.specs.declared.outcome.Outcome.{Outcome as Told}
 use Rattle.st_world.specs.declared.outcome.StepFault.TheVariants as fault
 use Rattle.st_world.specs.Rows.{state_of, AreRows}
-use Rattle.st_world.specs.World.{outcome_to, is_send, AreOrdered, AreStamped, IsStep, Rises}
+use Rattle.st_world.specs.World.{outcome_to, AreOrdered, AreStamped, IsStep, Rises}
 use Rattle.st_world.proofs.Steps.{step_inner}
 
 -- the counts of a sound process
@@ -71,7 +71,7 @@ module _ (top : ℕ) (s : State) (a : Act) where
   }
 
   -- a send for whose message there is no memory
-  pub refused_memory : (new : State) → new ≡ s → is_send a ≡ true → IsSome (step top s a)
+  pub refused_memory : (new : State) → new ≡ s → is_send_act a ≡ true → IsSome (step top s a)
       → IsStep top s a (Err fault.Memory) new
   refused_memory new same send some = record {
     steps = tt;

@@ -1,5 +1,6 @@
 mod Pids
 mod States
+pub mod ForCallers
 mod RowLemmas
 mod Nodes
 mod Steps

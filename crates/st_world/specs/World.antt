@@ -7,12 +7,12 @@ use Rattle.st_core.specs.declared.types.Token.{Token}
 use Rattle.st_core.specs.declared.types.Message.{Message}
 use Rattle.st_core.specs.declared.types.Event.{Event}
 use Rattle.st_core.specs.declared.types.Act.{Act}
-use Rattle.st_core.specs.declared.types.Act.TheVariants as act
 use Rattle.st_core.specs.Laws.{IsStamped}
 use Rattle.st_core.specs.Pid.{IsRising}
 use Rattle.st_core.specs.State.{LocalState, State, process}
 use Rattle.st_core.specs.Step.{Outcome, actor, receiver, step}
-use Rattle.st_mail.specs.Mail.{is_stamp}
+use Rattle.st_mail.specs.Actor.{is_send_act}
+use Rattle.st_mail.specs.Mail.{bears_stamp}
 use Rattle.st_mail.specs.declared.outcome.Outcome.{Outcome as Told}
 use Rattle.st_world.specs.declared.outcome.NewFault.{NewFault}
 use Rattle.st_world.specs.declared.outcome.NewFault.TheVariants as new_fault
@@ -36,11 +36,6 @@ IsFault top s a fault.Unknown = (process s (actor a) ≡ None) ⊎ (process s (r
 IsFault top s a fault.ClockFull =
     IsSome (process s (actor a)) × IsSome (process s (receiver a)) × (step top s a ≡ None)
 
--- the act is a send
-abbrev pub is_send : Act → Bool
-is_send (act.Send p q v) = true
-is_send a = false
-
 -- the token of p, if it is there and has one
 abbrev pub token_of : State → Pid → Option Token
 token_of s p = option_and_then (λ r. r.local.token) (process s p)
@@ -48,7 +43,7 @@ token_of s p = option_and_then (λ r. r.local.token) (process s p)
 -- in the queue of p the least place whose message has a token with this from and this own count
 abbrev pub place_in : State → Pid → Pid → ℕ → Option ℕ
 place_in s p from this =
-    option_and_then (λ r. position (λ m. is_stamp from this m.token) r.queue) (process s p)
+    option_and_then (λ r. position (λ m. bears_stamp from this m.token) r.queue) (process s p)
 
 -- the last count is at most the clock, and the clock at most TOP
 pub record AreOrdered (top : ℕ) (l : LocalState) : Type 0 where
@@ -71,4 +66,4 @@ pub record IsStep (top : ℕ) (old : State) (a : Act) (r : Result Told StepFault
   pub stays : OnErr r (new ≡ old)
   pub refused : IfErr r (IsFault top old a)
   pub stepless : IfErr r (λ f. (f ≡ fault.Memory) ⊎ (step top old a ≡ None))
-  pub memory : r ≡ Err fault.Memory → is_send a ≡ true
+  pub memory : r ≡ Err fault.Memory → is_send_act a ≡ true

@@ -5,8 +5,8 @@ ghost use Rattle.std.specs.Prelude.{◌≡◌, ◌⊎◌, true, option_map, IfEr
 ghost use Rattle.st_core.specs.Pid.{IsRising};
 ghost use Rattle.st_core.specs.State.{process, zero_state};
 ghost use Rattle.st_core.specs.Step.{actor, step};
-ghost use Rattle.st_mail.specs.Actor.{is_inner};
-ghost use Rattle.st_world.specs.World.{is_send, outcome_to, place_in, token_of, AreOrdered, AreStamped};
+ghost use Rattle.st_mail.specs.Actor.{is_inner, is_send_act};
+ghost use Rattle.st_world.specs.World.{outcome_to, place_in, token_of, AreOrdered, AreStamped};
 ghost use Rattle.st_world.specs.World.{IsFault, IsNewFault, IsStep, Rises};
 
 use crate::node::{reset, trace};
@@ -129,7 +129,7 @@ impl<const TOP: u64> World<TOP> {
         ensures fault { IfErr result (IsFault TOP self.old act.now) }
         ensures no_step { IfErr result (λ fault.
             (fault ≡ StepFault.Memory) ⊎ (step TOP self.old act.now ≡ None)) }
-        ensures memory { result ≡ Err StepFault.Memory → is_send act.now ≡ true }
+        ensures memory { result ≡ Err StepFault.Memory → is_send_act act.now ≡ true }
     {
         match *act {
             Act::Send(me, to, value) => self.send(me, to, value),

@@ -10,7 +10,7 @@ use Rattle.st_text.specs.declared.builder.BundleBuilder.{BundleBuilder}
 use Rattle.st_text.specs.declared.step.Step.{Step}
 use Rattle.st_text.specs.declared.step.Step.TheVariants.{Goes, Stops, Halts}
 use Rattle.st_text.specs.Text.{body, is_remote}
-use Rattle.st_text.specs.Fault.{pids, last, has_acts, is_event, is_act, is_wide, line_fault}
+use Rattle.st_text.specs.Fault.{pids, last_of, has_acts, is_event, is_act, is_wide_header, line_fault}
 use Rattle.st_text.specs.Growth.{is_kept}
 use Rattle.st_text.specs.Parts.Counts.{acts_len}
 
@@ -23,13 +23,13 @@ pub record IsBuilt (p : BundleBuilder) (ls : List Line) : Type 0 where
   pub lines : ls ≡ so_far p.wide p.draft p.acts
   pub count : p.lines ≡ length ls
   pub pids_are : pids ls ≡ pids_of p.draft
-  pub last_is : p.last ≡ last (pids ls)
+  pub last_is : p.last ≡ last_of (pids ls)
   pub processes_are : p.processes ≡ length (pids ls)
   pub events_are : p.events ≡ count_by is_event ls
   pub acts_are : acts_len p.acts ≡ count_by is_act ls
   pub begun_is : is_some p.acts ≡ has_acts ls
   pub remote_is : p.remote ≡ list_any is_remote ls
-  pub wide_is : p.wide ≡ list_any is_wide ls
+  pub wide_is : p.wide ≡ list_any is_wide_header ls
   pub rising : IsRising (pids_of p.draft)
 
 -- the line says l, which has no fault, and is one that has to be kept

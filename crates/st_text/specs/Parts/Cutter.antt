@@ -42,8 +42,8 @@ abbrev pub longest : ℕ
 longest = 131
 
 -- no byte is a newline
-abbrev pub IsPlain : List ℕ → Type 0
-IsPlain bytes = AllByRecursion (λ b. (b == 10) ≡ false) bytes
+abbrev pub HasNoNewline : List ℕ → Type 0
+HasNoNewline bytes = AllByRecursion (λ b. (b == 10) ≡ false) bytes
 
 -- the unfinished line is kept, or is known to be longer than any line
 abbrev pub IsTail : Bool → List ℕ → List ℕ → Type 0

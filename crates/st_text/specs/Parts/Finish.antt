@@ -16,8 +16,8 @@ abbrev pub line_at_place : (Pid → ℕ) → ℕ → List Pid → Pid → ℕ �
 line_at_place count n [] p i = n
 line_at_place count n (q ∷ ps) p i = if pid_eq q p then n + 1 + i else line_at_place count (n + 1 + count q) ps p i
 
-abbrev pub event_line : List Stream → Pid → ℕ → ℕ
-event_line streams p i = line_at_place (λ q. length (events_of streams q)) 2 (pids_of streams) p i
+abbrev pub event_line_number : List Stream → Pid → ℕ → ℕ
+event_line_number streams p i = line_at_place (λ q. length (events_of streams q)) 2 (pids_of streams) p i
 
 -- the lines are those of the bundle, and have no fault
 pub record IsFinished (ls : List Line) (p : BundleBuilder) (b : Bundle) : Type 0 where

@@ -1,7 +1,7 @@
 -- Room is made for the front of the line, and then for the rest.
 use Rattle.st_pair.specs.Places.{event_at}
 use Rattle.st_text.proofs.ForCallers.{goes_then, then_on}
-use Rattle.st_chart.specs.Words.{line}
+use Rattle.st_chart.specs.Words.{ended_line}
 use Rattle.st_chart.specs.Report.{event_front, event_line, event_words}
 use Rattle.st_chart.proofs.Rooms.{room_then, no_room}
 use Rattle.st_chart.proofs.reporting.write_event.Goals as goal
@@ -14,7 +14,7 @@ returns-in_err-make_room g c =
 pub returns-in_err-make_room-2 : goal.returns-in_err-make_room-2
 returns-in_err-make_room-2 g c =
     let front = event_front c.args.pid c.args.index in
-    let rest = line (event_words (event_at c.args.streams.now c.args.pid c.args.index)) in
+    let rest = ended_line (event_words (event_at c.args.streams.now c.args.pid c.args.index)) in
     let begun =
     room_then g.W.ByteSink.puts g.W.ByteSink.failed front c.in_ok-make_room.ensures.goes c.put_front.ensures in
     let is = c.from_residual-in_err-make_room-2.ensures.0 in
@@ -24,7 +24,7 @@ returns-in_err-make_room-2 g c =
 pub returns : goal.returns
 returns g c =
     let front = event_front c.args.pid c.args.index in
-    let rest = line (event_words (event_at c.args.streams.now c.args.pid c.args.index)) in
+    let rest = ended_line (event_words (event_at c.args.streams.now c.args.pid c.args.index)) in
     let begun =
     room_then g.W.ByteSink.puts g.W.ByteSink.failed front c.in_ok-make_room.ensures.goes c.put_front.ensures in
     let ended =

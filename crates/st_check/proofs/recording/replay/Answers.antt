@@ -4,7 +4,7 @@ use Rattle.std.proofs.lemmas.Bool.{MatchBool-at_true, MatchBool-at_false}
 use Rattle.std.proofs.lemmas.Option.{none-some}
 use Rattle.st_core.specs.Run.{run}
 use Rattle.st_core.specs.Streams.{unlisted}
-use Rattle.st_check.specs.Recorded.{IsRecorded}
+use Rattle.st_check.specs.Recorded.{IsReplayedTo}
 use Rattle.st_check.proofs.Records.{recorded_pids, recorded_rises, run_listed}
 use Rattle.st_check.proofs.recording.replay.Goals as goal
 
@@ -16,7 +16,7 @@ advance-requires g c =
       (
         c.loop-number-test.true,
         subst
-            (λ ps. IsRecorded g.row.TOP ps (take c.loop-number.number c.args.acts.now) r.world r.streams r.replies) same
+            (λ ps. IsReplayedTo g.row.TOP ps (take c.loop-number.number c.args.acts.now) r.world r.streams r.replies) same
             c.loop-number.invariant,
       ),
     )
@@ -37,7 +37,7 @@ loop-number-preserved g c =
     let r = c.loop-number.recording in
     let new = c.advance.new.self in
     let same = recorded_pids g.row.TOP c.args.pids.now _ r.world r.streams r.replies c.loop-number.invariant in
-    subst (λ ps. IsRecorded g.row.TOP ps (take (c.loop-number.number + 1) c.args.acts.now) new.world new.streams
+    subst (λ ps. IsReplayedTo g.row.TOP ps (take (c.loop-number.number + 1) c.args.acts.now) new.world new.streams
     new.replies) (sym same) (MatchBool-at_true _ _ c.if-not-has_step.false c.in-Ok.ensures)
 
 pub unreachable-requires : goal.unreachable-requires

@@ -1,13 +1,13 @@
 -- What the auditor found is reported, and want of memory is an answer of its own.
 use Rattle.st_commands.specs.Output.{no_memory}
-use Rattle.st_commands.specs.Audited.{reported}
+use Rattle.st_commands.specs.Audited.{report_output}
 use Rattle.st_commands.specs.Parts.{Finds, NoRoomToAudit}
 use Rattle.st_commands.proofs.audit.audit_streams.Goals as goal
 
 pub returns-in-Ok : goal.returns-in-Ok
 returns-in-Ok g c =
     record {
-      output = reported c.args.streams.now c.in-Ok.finding;
+      output = report_output c.args.streams.now c.in-Ok.finding;
       owed = Finds c.in-Ok.finding c.in-Ok.ensures.found c.in-Ok.ensures.handed_on;
       delivered = c.tell_finding.ensures;
     }

@@ -1,7 +1,7 @@
 -- A reason of pairing is reported, and want of memory is an answer of its own.
 use Rattle.std.proofs.Common.{sym, ◌∙◌}
 use Rattle.st_commands.specs.Output.{no_memory}
-use Rattle.st_commands.specs.Audited.{reported}
+use Rattle.st_commands.specs.Audited.{report_output}
 use Rattle.st_commands.specs.Parts.{NoRoomToOrder}
 use Rattle.st_commands.proofs.Charts.{unpaired}
 use Rattle.st_commands.proofs.chart.tell_unpaired.Goals as goal
@@ -9,7 +9,7 @@ use Rattle.st_commands.proofs.chart.tell_unpaired.Goals as goal
 pub returns-in-Some : goal.returns-in-Some
 returns-in-Some g c =
     record {
-      output = reported c.args.streams.now c.in-Some.finding;
+      output = report_output c.args.streams.now c.in-Some.finding;
       owed = unpaired c.args.streams.now c.args.label c.args.fault c.in-Some.finding c.requires
           (sym c.unfit_by.ensures ∙ c.in-Some.is);
       delivered = c.tell_finding.ensures;

@@ -1,6 +1,6 @@
 -- What `drive` answers is told, and want of memory for the scripts is an answer of its own.
 use Rattle.st_commands.specs.Output.{no_memory}
-use Rattle.st_commands.specs.Recorded.{recorded}
+use Rattle.st_commands.specs.Recorded.{record_output}
 use Rattle.st_commands.specs.Parts.{Records, Refuses, NoRoomToDrive, drive_refused}
 use Rattle.st_commands.proofs.drive.drive_acts.Goals as goal
 
@@ -10,7 +10,7 @@ returns-in_default g c = record { output = no_memory; owed = NoRoomToDrive; deli
 pub returns-in-Ok-drive : goal.returns-in-Ok-drive
 returns-in-Ok-drive g c =
     record {
-      output = recorded c.in-Ok-drive.record;
+      output = record_output c.in-Ok-drive.record;
       owed = Records c.in-Ok-drive.record (rw (c.pids.ensures.value, c.in-Ok.ensures) at c.in-Ok-drive.ensures.ok);
       delivered = rw c.as_slice.ensures at c.tell_bundle.ensures;
     }

@@ -1,7 +1,7 @@
 use Rattle.std.proofs.Common.{◌≡◌, length, arith, sym, ◌∙◌, ap}
 use Rattle.st_core.specs.Run.{pids_of}
 use Rattle.st_pair.specs.declared.tables.Key.{Key}
-use Rattle.st_pair.specs.Tables.{place_in, or_else, stamp_rule}
+use Rattle.st_pair.specs.Tables.{place_at_key, or_else, stamp_rule}
 use Rattle.st_pair.proofs.Noted.{or_none}
 use Rattle.st_pair.proofs.Firsts.{first-end, table-passed}
 use Rattle.st_pair.proofs.Owned.{stamp_own}
@@ -17,7 +17,7 @@ pub returns : goal.returns
 returns c = λ (k : Key).
     let same = ap length c.pids-pid-items.ensures.value in
     let len : length (pids_of c.args.streams.now) ≡ c.loop-pid.pid-index = omega arith in
-    sym (or_none (place_in c.loop-pid.rows.items k))
-    ∙ ap (or_else (place_in c.loop-pid.rows.items k))
+    sym (or_none (place_at_key c.loop-pid.rows.items k))
+    ∙ ap (or_else (place_at_key c.loop-pid.rows.items k))
     (sym (first-end (stamp_rule k) c.loop-pid.pid-index c.args.streams.now len)) ∙ c.loop-pid.invariant k
     ∙ stamp_own k c.args.streams.now c.pids-pid-items.ensures.streams.draft.rising

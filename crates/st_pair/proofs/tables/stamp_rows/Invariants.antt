@@ -1,11 +1,11 @@
 use Rattle.std.proofs.Common.{◌≡◌, drop}
 use Rattle.st_pair.specs.declared.tables.Key.{Key}
 use Rattle.st_pair.specs.Places.{first}
-use Rattle.st_pair.specs.Tables.{place_in, or_else, stamp_rule}
+use Rattle.st_pair.specs.Tables.{place_at_key, or_else, stamp_rule}
 use Rattle.st_pair.proofs.tables.stamp_rows.Given as goal
 
 -- the table with what is left comes to all
 abbrev pub invariant-loop-pid : goal.invariant-loop-pid
 invariant-loop-pid l = (k : Key)
-    → or_else (place_in l.rows.items k) (first (stamp_rule k) (drop l.pid-index l.streams))
+    → or_else (place_at_key l.rows.items k) (first (stamp_rule k) (drop l.pid-index l.streams))
     ≡ first (stamp_rule k) l.streams

@@ -5,7 +5,7 @@ use Rattle.st_core.specs.Run.{Stream}
 use Rattle.st_core.specs.Streams.{IsStreams}
 use Rattle.st_text.specs.Text.{unlisted_act}
 use Rattle.st_text.specs.Parts.Builder.{so_far}
-use Rattle.st_text.specs.Parts.Finish.{event_line}
+use Rattle.st_text.specs.Parts.Finish.{event_line_number}
 use Rattle.st_text.specs.declared.fault.ReadFault.TheVariants as faults
 use Rattle.st_text.proofs.ClosingFaults.{closing_needless, closing_event, closing_act, act_within}
 use Rattle.st_text.proofs.finish.finish.Goals as goal
@@ -21,8 +21,8 @@ returns-in-Err c = λ ls s few.
     let at =
     closing_event p ls u.pid u.index s (sym c.is_needless.ensures ∙ c.if-is_needless.false)
     c.in-Err.ensures.place in
-    let same : event_line u.draft u.pid u.index ≡ event_line p.draft u.pid u.index =
-    ap (λ (d : List Stream). event_line d u.pid u.index) c.in-Err.ensures.err in
+    let same : event_line_number u.draft u.pid u.index ≡ event_line_number p.draft u.pid u.index =
+    ap (λ (d : List Stream). event_line_number d u.pid u.index) c.in-Err.ensures.err in
     let exact = c.event_line-n.ensures (omega (arith, same, at.1, few)) in
     at.0 ∙ ap (λ n. Some (faults.Unknown n)) (sym (exact ∙ same))
 

@@ -5,7 +5,7 @@ use Rattle.std.proofs.lemmas.List.{length-append, length-take, length-drop, take
 use Rattle.st_core.specs.Device.{NoCall, OneMore}
 use Rattle.st_text.specs.declared.fault.ReadFault.TheVariants as faults
 use Rattle.st_text.specs.Growth.{Grows}
-use Rattle.st_text.specs.Fed.{IsFed, refusal}
+use Rattle.st_text.specs.Fed.{IsFed, fed_refusal}
 use Rattle.st_text.proofs.Puts.{put_none}
 use Rattle.st_text.proofs.TextFaults.{reads_end}
 use Rattle.st_text.proofs.ReaderSteps.{growth_after, growth_at_end, never_fresh}
@@ -41,7 +41,7 @@ loop-count-preserved g c =
     let back = drop c.min-room.result c.loop-count.buffer in
     let same : take c.in-Ok.n (piece ++ back) ≡ given = take-append-le c.in-Ok.n piece back within in
     let feed = c.piece-answer.new.self in
-    let memory = subst (λ (x : List ℕ). refusal feed ≡ Some faults.Memory → Grows i.bytes x) same in
+    let memory = subst (λ (x : List ℕ). fed_refusal feed ≡ Some faults.Memory → Grows i.bytes x) same in
     record {
       bytes = i.bytes ++ given;
       given = OneMore _ _ _ i.bytes given i.given c.in-Ok.ensures.given;
@@ -52,7 +52,7 @@ loop-count-preserved g c =
       mark = c.in-Ok.ensures.mark.1 ∙ sym c.in-Ok.ensures.mark.0 ∙ i.mark;
       sound = λ _. sym i.mark ∙ c.in-Ok.ensures.mark.0;
       memory =
-          growth_after gives _ _ _ i.bytes given (refusal c.loop-count.feed) (refusal feed) i.given
+          growth_after gives _ _ _ i.bytes given (fed_refusal c.loop-count.feed) (fed_refusal feed) i.given
           c.in-Ok.ensures.given i.memory
           (λ fresh. memory (c.piece-answer.ensures.memory i.bytes i.fed fresh)) c.piece-answer.ensures.again;
     }
@@ -89,7 +89,7 @@ returns-in-Ok-eq0 g c =
         after = e.mark.1;
         answer = c.end.ensures.answers i.bytes i.fed;
       });
-      memory = growth_at_end gives _ i.bytes (refusal c.loop-count.feed) c.end.result small i.memory
+      memory = growth_at_end gives _ i.bytes (fed_refusal c.loop-count.feed) c.end.result small i.memory
           (c.end.ensures.exact i.bytes i.fed) c.end.ensures.again;
     }
 

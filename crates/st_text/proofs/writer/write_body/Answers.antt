@@ -9,7 +9,7 @@ use Rattle.st_core.specs.declared.types.Act.{Act}
 use Rattle.st_core.specs.Run.{Stream}
 use Rattle.st_text.specs.declared.line.Line.TheVariants as lines
 use Rattle.st_text.specs.Text.{ended, process_lines, act_lines, body, parts}
-use Rattle.st_text.specs.Writing.{Goes, GoesOn, WritesPart}
+use Rattle.st_text.specs.Writing.{Goes, WritesOn, WritesPart}
 use Rattle.st_text.proofs.Puts.{part_longer, then_on, on_err}
 use Rattle.st_text.proofs.writer.write_body.Goals as goal
 
@@ -53,6 +53,6 @@ returns-in-Some g c =
     then_on g.S.ByteSink.puts g.S.ByteSink.failed (streams_text c.args.streams.now)
     (flat_map ended (lines.Acts ∷ map lines.Act c.in-Some.acts.now)) _ _ c.write_acts.result
     c.in_ok-write_streams.ensures c.write_acts.ensures in
-    subst (λ (t : List ℕ). GoesOn g.S.ByteSink.puts g.S.ByteSink.failed t c.args.sink.now c.write_acts.new.sink
+    subst (λ (t : List ℕ). WritesOn g.S.ByteSink.puts g.S.ByteSink.failed t c.args.sink.now c.write_acts.new.sink
     c.args.buffer.now.items c.write_acts.new.buffer.items c.write_acts.result)
     (sym (some_parts c.args.streams.now c.args.acts c.in-Some.acts c.in-Some.is)) all

@@ -6,7 +6,7 @@ use Rattle.st_core.specs.declared.types.Flags.{Flags}
 use Rattle.st_core.specs.declared.types.Want.TheVariants as want
 use Rattle.st_mail.specs.declared.outcome.Outcome.{Outcome as Told}
 use Rattle.st_plan.specs.Build.{ready, start_of}
-use Rattle.st_audit.specs.Progress.{IsStamped, RanTo}
+use Rattle.st_audit.specs.Progress.{StampsEvent, RanTo}
 use Rattle.st_audit.proofs.Running.{follow}
 use Rattle.st_audit.proofs.Acting.{last_reports, ok_both, print_acts, receive_acts, send_acts, stamp_reports}
 use Rattle.st_audit.proofs.construction.Construction.act.Goals as goal
@@ -59,7 +59,7 @@ returns-in-Print-clause-reports g c = λ streams pairs go rises.
     let is : plan f ++ a ∷ [] ≡ go.acts = ap (λ f. plan f ++ a ∷ []) (c.flags_of-flags.ensures streams pairs)
     ∙ print_acts streams p c.args.index e go.before go.acts go.are c.in-Print.is in
     ok_both c.stamp.result
-    (λ told. IsStamped g.row.TOP old.world old.skipped p e f told now.world now.skipped)
+    (λ told. StampsEvent g.row.TOP old.world old.skipped p e f told now.world now.skipped)
     (λ told. RanTo g.row.TOP old.world (plan f) a told now.world) (λ (t : Told). t.report ≡ Some e)
     (λ told stamped ran. stamp_reports g.row.TOP streams old.world p c.args.index e go f a told now.world old.skipped
     now.skipped rises stamped ran is refl)
@@ -93,7 +93,7 @@ returns-in-Some-clause-reports g c = λ streams pairs go rises.
     let is : plan f ++ a ∷ [] ≡ go.acts = ap (λ f. plan f ++ a ∷ []) (c.flags_of-flags.ensures streams pairs)
     ∙ send_acts streams p c.args.index e go.before go.acts go.are to c.in-Send.is c.in-Some.is in
     ok_both c.stamp-in-Some.result
-    (λ told. IsStamped g.row.TOP old.world old.skipped p e f told now.world now.skipped)
+    (λ told. StampsEvent g.row.TOP old.world old.skipped p e f told now.world now.skipped)
     (λ told. RanTo g.row.TOP old.world (plan f) a told now.world) (λ (t : Told). t.report ≡ Some e)
     (λ told stamped ran. stamp_reports g.row.TOP streams old.world p c.args.index e go f a told now.world old.skipped
     now.skipped rises stamped ran is refl)

@@ -8,7 +8,7 @@ use Rattle.st_order.specs.declared.item.Item.TheVariants as item
 use Rattle.st_pair.proofs.ForCallers.{paired, serial_rises}
 use Rattle.st_plan.specs.Moves.{earlier_of}
 use Rattle.st_plan.proofs.ForCallers.{earlier_more}
-use Rattle.st_audit.specs.Progress.{AreTold, Follows, IsHalt, Serves}
+use Rattle.st_audit.specs.Progress.{AreTold, PutsActs, IsHalt, Serves}
 use Rattle.st_audit.proofs.Acting.{ok_both}
 use Rattle.st_audit.proofs.Ending.{if_err}
 use Rattle.st_audit.proofs.Next.{hidden_halt, hidden_next, reported_halt, reported_next}
@@ -73,7 +73,7 @@ returns-in-Reported-clause-follows g c = λ x at pairs are.
     let here = slice_get-get_or xs n _ c.requires.within ∙ ap (λ (x : Item). Some x) c.in-Reported.is in
     let same : item.Reported p i ≡ x = same_Some (item.Reported p i) x (sym here ∙ at) in
     subst (λ (y : Item). (m : Serves g.row.TOP streams earlier y old.world)
-    → Follows m.goes.acts m.goes.outcomes old.world old.acts c.report.result now.world now.acts) same
+    → PutsActs m.goes.acts m.goes.outcomes old.world old.acts c.report.result now.world now.acts) same
     (λ m.
     let rises = serial_rises streams (paired streams c.requires.accepted) p i m.event m.there in
     let turn = in_turn streams earlier old.told.items p i m.event are m.in_turn in
@@ -110,7 +110,7 @@ returns-in-Hidden-clause-follows g c = λ x at pairs are.
     let here = slice_get-get_or xs n _ c.requires.within ∙ ap (λ (x : Item). Some x) c.in-Hidden.is in
     let same : item.Hidden p i ≡ x = same_Some (item.Hidden p i) x (sym here ∙ at) in
     subst (λ (y : Item). (m : Serves g.row.TOP streams earlier y old.world)
-    → Follows m.goes.acts m.goes.outcomes old.world old.acts c.send_hidden.result now.world now.acts) same
+    → PutsActs m.goes.acts m.goes.outcomes old.world old.acts c.send_hidden.result now.world now.acts) same
     (λ m. c.send_hidden.ensures.follows m.event m.there m.goes)
 
 pub returns-in-Hidden-clause-tells : goal.returns-in-Hidden-clause-tells

@@ -6,7 +6,7 @@ use Rattle.st_core.specs.declared.types.Event.{Event}
 use Rattle.st_order.specs.declared.item.Item.TheVariants as item
 use Rattle.st_plan.specs.Build.{GoesOn}
 use Rattle.st_plan.specs.Moves.{move_by}
-use Rattle.st_audit.specs.Progress.{Follows, TellsOne}
+use Rattle.st_audit.specs.Progress.{PutsActs, TellsOne}
 use Rattle.st_audit.proofs.Telling.{not_missing, place_below, tells_one}
 use Rattle.st_audit.proofs.construction.Construction.report.Goals as goal
 
@@ -36,7 +36,7 @@ returns-in_err-told-clause-follows g c = λ e at rises pairs told.
     let x = c.in-Some-event.event in
     let same : x ≡ e = same_Some x e (sym c.in-Some-event.is ∙ c.event.ensures ∙ at) in
     subst (λ (e : Event). (go : GoesOn g.row.TOP streams old.world (move_by (item.Reported p i) e))
-    → Follows go.acts go.outcomes old.world old.acts c.from_residual.result now.world now.acts) same
+    → PutsActs go.acts go.outcomes old.world old.acts c.from_residual.result now.world now.acts) same
     (λ go.
     let done = c.in_err-told.ensures.follows streams pairs go in
     let goes = done.goes in
@@ -59,7 +59,7 @@ returns-clause-follows g c = λ e at rises pairs told.
     let x = c.in-Some-event.event in
     let same : x ≡ e = same_Some x e (sym c.in-Some-event.is ∙ c.event.ensures ∙ at) in
     subst (λ (e : Event). (go : GoesOn g.row.TOP streams old.world (move_by (item.Reported p i) e))
-    → Follows go.acts go.outcomes old.world old.acts (Ok tt) now.world now.acts) same
+    → PutsActs go.acts go.outcomes old.world old.acts (Ok tt) now.world now.acts) same
     (λ go.
     let done = c.in_ok-told.ensures.follows streams pairs go in
     record { goes = tt; put = done.put; after = done.after })

@@ -7,7 +7,7 @@ use Rattle.st_core.specs.declared.types.Flags.{Flags}
 use Rattle.st_order.specs.declared.item.Item.TheVariants as item
 use Rattle.st_plan.specs.Build.{ready, start_of, GoesOn}
 use Rattle.st_plan.specs.Moves.{move_by}
-use Rattle.st_audit.specs.Progress.{Follows}
+use Rattle.st_audit.specs.Progress.{PutsActs}
 use Rattle.st_audit.proofs.Running.{follow}
 use Rattle.st_audit.proofs.Acting.{hidden_acts}
 use Rattle.st_audit.proofs.construction.Construction.send_hidden.Goals as goal
@@ -25,7 +25,7 @@ returns-clause-follows g c = λ e at.
     let a = act.Send x.from c.in-Some-to.to x.value in
     let same : x ≡ e = same_Some x e (sym c.in-Some.is ∙ c.event.ensures ∙ at) in
     subst (λ (e : Event). (go : GoesOn top streams old.world (move_by (item.Hidden p i) e))
-    → Follows go.acts go.outcomes old.world old.acts (Ok tt) now.world now.acts) same
+    → PutsActs go.acts go.outcomes old.world old.acts (Ok tt) now.world now.acts) same
     (λ go.
     let acts = ready x.from (start_of go.before.local) x.label x.serial f in
     let is = hidden_acts streams p i x go.before go.acts c.in-Some-to.to go.are c.in-Some-to.is in

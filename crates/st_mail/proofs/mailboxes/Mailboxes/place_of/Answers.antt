@@ -4,7 +4,7 @@ use Rattle.std.proofs.lemmas.Iterator.Adapters.{YieldsList-from_skip}
 use Rattle.std.proofs.lemmas.Iterator.Consumers.{YieldsList-from_first}
 use Rattle.std.proofs.lemmas.Iterator.Search.{position_from_yields_List}
 use Rattle.st_core.specs.declared.types.Message.{Message}
-use Rattle.st_mail.specs.Mail.{queue_in, is_stamp}
+use Rattle.st_mail.specs.Mail.{queue_in, bears_stamp}
 use Rattle.st_mail.proofs.Boxes.{in_stored, in_counts, read_count, found_behind}
 use Rattle.st_mail.proofs.mailboxes.Mailboxes.place_of.Goals as goal
 
@@ -18,7 +18,7 @@ walk-requires c = in_stored _ _ c.self.invariant _ (ap (λ m. m.boxes) c.self.vi
 
 pub returns-in_err-place : goal.returns-in_err-place
 returns-in_err-place c =
-    let stamp = λ (m : Message). is_stamp c.args.from c.args.this m.token in
+    let stamp = λ (m : Message). bears_stamp c.args.from c.args.this m.token in
     let wiped = c.index-wiped.result.now in
     let list = queue_in c.self.inside.queues.lists c.args.mailbox in
     let walked = YieldsList-from_first (λ m. m.now) (λ ms. ms) list (c.skip-kept.ensures.source ∙ c.walk.ensures) in
@@ -31,11 +31,11 @@ returns-in_err-place c =
     c.from_residual.ensures
     ∙ ap (option_map (λ k. wiped + k)) (sym (c.in_err-place.was) ∙ found)
     ∙ sym (found_behind _ _ c.self.invariant _ (ap (λ m. m.boxes) c.self.view_is) c.args.mailbox c.requires _ count
-    (is_stamp c.args.from c.args.this) refl)
+    (bears_stamp c.args.from c.args.this) refl)
 
 pub returns : goal.returns
 returns c =
-    let stamp = λ (m : Message). is_stamp c.args.from c.args.this m.token in
+    let stamp = λ (m : Message). bears_stamp c.args.from c.args.this m.token in
     let wiped = c.index-wiped.result.now in
     let list = queue_in c.self.inside.queues.lists c.args.mailbox in
     let walked = YieldsList-from_first (λ m. m.now) (λ ms. ms) list (c.skip-kept.ensures.source ∙ c.walk.ensures) in
@@ -47,4 +47,4 @@ returns c =
     (YieldsList-from_skip wiped walked c.skip-kept.ensures.count) (λ m b q k. search (rules, tests)) in
     ap (option_map (λ k. wiped + k)) (sym (c.in_ok-place.was) ∙ found)
     ∙ sym (found_behind _ _ c.self.invariant _ (ap (λ m. m.boxes) c.self.view_is) c.args.mailbox c.requires _ count
-    (is_stamp c.args.from c.args.this) refl)
+    (bears_stamp c.args.from c.args.this) refl)

@@ -1,12 +1,12 @@
 -- Where no act is unlisted each is listed.
 use Rattle.std.proofs.Common.{sym}
 use Rattle.st_core.specs.Run.{pids_of}
-use Rattle.st_text.specs.Text.{acts_of, is_listed}
+use Rattle.st_text.specs.Text.{acts_or_none, is_listed}
 use Rattle.st_text.proofs.Listed.{none_unlisted}
 use Rattle.st_text.proofs.bundle.Bundle.new.Goals as goal
 
 pub invariant_of-result : goal.invariant_of-result
 invariant_of-result c =
     record {
-      listed = none_unlisted (is_listed (pids_of c.args.streams)) (acts_of c.args.acts) (sym c.in-None.ensures);
+      listed = none_unlisted (is_listed (pids_of c.args.streams)) (acts_or_none c.args.acts) (sym c.in-None.ensures);
     }

@@ -1,7 +1,7 @@
 -- Each newline ends one line, and what is behind the last joins the unfinished one.
 use Rattle.std.proofs.Common.{◌≡◌, ◌∙◌, ◌++◌, ◌∷◌, [], List, ℕ, refl, sym, ap, subst, append_assoc}
 use Rattle.std.proofs.lemmas.List.{append-nil}
-use Rattle.st_text.specs.Parts.Cutter.{IsPlain}
+use Rattle.st_text.specs.Parts.Cutter.{HasNoNewline}
 use Rattle.st_text.specs.Parts.CutterState.{HasTaken}
 use Rattle.st_text.proofs.CutterSteps.{holds_over, not_out, plain_front, plain_all, at_newline, grows_by, grows_at_end}
 use Rattle.st_text.proofs.CutterSteps.{line_whole}
@@ -47,7 +47,7 @@ loop-rest-preserved c =
     let at = at_newline rest c.in-Some.i c.in-Some.ensures.0.high c.in-Some.ensures.1 in
     let parts : rest ≡ (line ++ 10 ∷ []) ++ more =
     rw (c.split_at-in-loop-rest.ensures.back, c.split_at.ensures.back, front) at in
-    let plain : IsPlain line = subst IsPlain (sym front) (plain_front rest c.in-Some.i c.in-Some.ensures.0.before) in
+    let plain : HasNoNewline line = subst HasNoNewline (sym front) (plain_front rest c.in-Some.i c.in-Some.ensures.0.before) in
     let all : piece ≡ i.done ++ ((line ++ 10 ∷ []) ++ more) = i.parts ∙ ap (λ (x : List ℕ). i.done ++ x) parts in
     record {
       done = i.done ++ (line ++ 10 ∷ []);

@@ -1,11 +1,11 @@
 -- Where memory ran out in this piece, the cutter tells the growth that was refused.
 use Rattle.std.proofs.Common.{◌≡◌, ℕ, Bool, true, false, List}
 use Rattle.st_text.specs.declared.cutter.Cutter.{Cutter}
-use Rattle.st_text.specs.Fed.{FedAs, IsCounted}
+use Rattle.st_text.specs.Fed.{FedAs, AreBytesCounted}
 use Rattle.st_text.proofs.feed.Feed.piece.Goals as goal
 
 counted : (large out : Bool) (bytes : List ℕ) (count : ℕ) (cutter : Cutter) → large ≡ false → out ≡ false
-    → FedAs large out bytes count cutter → IsCounted bytes count cutter
+    → FedAs large out bytes count cutter → AreBytesCounted bytes count cutter
 counted true out bytes count cutter el eo fed = absurd cc
 counted false true bytes count cutter el eo fed = absurd cc
 counted false false bytes count cutter el eo fed = fed

@@ -5,7 +5,7 @@ use Rattle.std.proofs.lemmas.List.{get_or_default}
 use Rattle.st_core.specs.Pid.{pid_eq}
 use Rattle.st_core.specs.State.{LocalState, Process, zero_local}
 use Rattle.st_mail.specs.Actor.{process_of}
-use Rattle.st_mail.specs.Mail.{is_stamp}
+use Rattle.st_mail.specs.Mail.{bears_stamp}
 use Rattle.st_world.specs.Rows.{state_of}
 use Rattle.st_world.proofs.Answering.{stamped, reads}
 use Rattle.st_world.proofs.RowLemmas.{unknown, stands, number_within}
@@ -20,7 +20,7 @@ returns-in_default-clause-value g c =
     sym c.number_of.ensures ∙ c.in_default.is in
     let gone = unknown ps ls bs c.self.invariant.aligned c.args.pid at in
     let place = λ (o : Option Process).
-    option_and_then (λ r. position (λ m. is_stamp c.args.from c.args.this m.token) r.queue) o in
+    option_and_then (λ r. position (λ m. bears_stamp c.args.from c.args.this m.token) r.queue) o in
     reads place (state_of ps ls bs) c.args.self.now c.args.pid None c.self.view_is gone
 
 pub returns-clause-value : goal.returns-clause-value
@@ -36,7 +36,7 @@ returns-clause-value g c =
     omega (arith, number_within ps c.args.pid i at, c.self.invariant.aligned.locals_len) in
     let here = stands ps ls bs c.self.invariant.aligned c.args.pid i at l (get_or_default ls i zero_local l within) in
     let place = λ (o : Option Process).
-    option_and_then (λ r. position (λ m. is_stamp c.args.from c.args.this m.token) r.queue) o in
+    option_and_then (λ r. position (λ m. bears_stamp c.args.from c.args.this m.token) r.queue) o in
     let own : Process = process_of c.args.pid l (get_or c.self.inside.queues.boxes c.in-Some.number []) in
     c.place_of.ensures ∙ reads place (state_of ps ls bs) c.args.self.now c.args.pid (Some own) c.self.view_is here.found
 
