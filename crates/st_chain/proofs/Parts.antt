@@ -97,7 +97,8 @@ parts_at (suc k) (x ∷ streams) s key at = parts_at k streams s key at
 -- in a loop over the pids
 pub parts_loop : (streams : List Stream) (pids : List Pid) (k : ℕ) (d : Pid) (es : List Event) (key : ChainKey)
     → IsRising (pids_of streams) → pids ≡ pids_of streams → k < length pids → es ≡ events_of streams (get_or pids k d)
-    → listed_under (drop k streams) key ≡ part_from (get_or pids k d) 0 es key ++ listed_under (drop (k + 1) streams) key
+    → listed_under (drop k streams) key
+    ≡ part_from (get_or pids k d) 0 es key ++ listed_under (drop (k + 1) streams) key
 parts_loop streams pids k d es key rising are within events =
     let p = get_or pids k d in
     let at = at_get_or pids k d within in

@@ -43,7 +43,8 @@ module _ (E : Type 0) (Gives : List ℕ → Result ℕ E → Type 0)
   read_label t None h = sym (no_label E t h.0 (reads t (Err h.0) h.1))
 
   found_label : (found : Option Text) (r : Option ℕ) → (found ≡ None → r ≡ None)
-      → ((t : Text) → found ≡ Some t → ReadsOne Gives t r) → option_map label_numbered r ≡ option_and_then label_in found
+      → ((t : Text) → found ≡ Some t → ReadsOne Gives t r)
+      → option_map label_numbered r ≡ option_and_then label_in found
   found_label None r none value = ap (option_map label_numbered) (none refl)
   found_label (Some t) r none value = read_label t r (value t refl)
 

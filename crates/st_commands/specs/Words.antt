@@ -47,7 +47,8 @@ label_numbered n = record { 0 = n }
 -- the label that a text writes: its number, where it is one from 0 to the greatest
 abbrev pub label_in : Text → Option Label
 label_in text =
-    if is_unsigned_in 0 greatest_label text then Some (label_numbered (digits_value 10 (without_leading_plus text))) else None
+    if is_unsigned_in 0 greatest_label text then Some (label_numbered (digits_value 10 (without_leading_plus text)))
+    else None
 
 -- the chart that the words of `chart` ask for, by what `clap` found in them; of a number it leaves a first minus out
 abbrev pub chart_of : List Row → Option Task

@@ -245,7 +245,8 @@ module _ (streams : List Stream) (label : Label) where
       ]
 
   labelled_filter : (xs : List Item)
-      → items_in (filter (is_with label) (filter_map (with_label streams) xs)) ≡ filter (item_has_label streams label) xs
+      → items_in (filter (is_with label) (filter_map (with_label streams) xs))
+      ≡ filter (item_has_label streams label) xs
   labelled_filter [] = refl
   labelled_filter (x ∷ xs) =
       ap (λ (l : List Labelled). items_in (filter (is_with label) l)) (mapped_by x xs)

@@ -17,7 +17,8 @@ use Rattle.st_core.specs.declared.types.Pid.{Pid}
 use Rattle.st_core.specs.Pid.{pid_eq, pid_cmp}
 use Rattle.st_pair.specs.declared.tables.Key.{Key}
 use Rattle.st_pair.specs.declared.tables.Row.{Row}
-use Rattle.st_pair.specs.Tables.{AreBelow, AreNotBelow, is_below, key_eq, row_key_cmp, key_of, place_at_key, place_under}
+use Rattle.st_pair.specs.Tables.{AreBelow, AreNotBelow, is_below, key_eq, row_key_cmp, key_of, place_at_key}
+use Rattle.st_pair.specs.Tables.{place_under}
 use Rattle.st_pair.proofs.Noted.{row_place}
 
 -- KEYS
@@ -160,7 +161,8 @@ module _ (k : Key) where
 
   -- what stands where the lesser keys end
   pub found : (rows : List Row) (i : ℕ) → IsSortedByKey key_of row_key_cmp rows
-      → IsPartitionPoint (λ r. is_lt (row_key_cmp (key_of r) k) ≡ true) (λ r. is_lt (row_key_cmp (key_of r) k) ≡ false) rows i
+      → IsPartitionPoint (λ r. is_lt (row_key_cmp (key_of r) k) ≡ true)
+      (λ r. is_lt (row_key_cmp (key_of r) k) ≡ false) rows i
       → i ≤ length rows → place_at_key rows k ≡ option_and_then (place_under k) (slice_get rows i)
   found rows i sorted point within = found_at rows i (rank_rises rows sorted) point.0 point.1 within
 

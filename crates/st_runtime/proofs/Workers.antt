@@ -67,6 +67,7 @@ own_act pids p a r not_yours unknown done =
       known = known_unless (knows pids a) (λ not. done fault.Unknown (unknown.1 (mine, not)));
     }
 
-pub acts_push : (cs : List (Act × Reply)) (a : Act) (y : Reply) → called_acts (cs ++ (a, y) ∷ []) ≡ called_acts cs ++ a ∷ []
+pub acts_push : (cs : List (Act × Reply)) (a : Act) (y : Reply)
+    → called_acts (cs ++ (a, y) ∷ []) ≡ called_acts cs ++ a ∷ []
 acts_push [] a y = refl
 acts_push (c ∷ cs) a y = ap (λ rest. c.0 ∷ rest) (acts_push cs a y)

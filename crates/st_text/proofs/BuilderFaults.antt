@@ -19,7 +19,8 @@ use Rattle.st_text.specs.Parts.Remote.{is_event_remote, is_act_remote}
 use Rattle.st_text.specs.Text.{is_away, is_remote}
 use Rattle.st_text.specs.Growth.{is_kept}
 use Rattle.st_text.specs.Parts.Builder.{IsBuilt, NeedsRoom}
-use Rattle.st_text.specs.Fault.{pids, last_of, last_passes, has_acts, may_follow, may_stand, is_out_of_order, is_foreign}
+use Rattle.st_text.specs.Fault.{pids, last_of, last_passes, has_acts, may_follow, may_stand, is_out_of_order}
+use Rattle.st_text.specs.Fault.{is_foreign}
 use Rattle.st_text.specs.Fault.{is_one_too_many, line_fault}
 use Rattle.st_core.proofs.ForCallers.{or_false}
 use Rattle.st_core.proofs.ForCallers.{both_true}

@@ -157,7 +157,8 @@ sound_open p n ls q s none wide acts draft at count processes events remote abov
           remote ∙ ap (λ b. b || is_away q) s.remote_is
           ∙ ap (λ b. list_any is_remote ls || b) (sym (or_false (is_away q)))
           ∙ sym (any_push is_remote ls (lines.Process q));
-      wide_is = wide ∙ s.wide_is ∙ sym (any_push is_wide_header ls (lines.Process q) ∙ or_false (list_any is_wide_header ls));
+      wide_is = wide ∙ s.wide_is
+          ∙ sym (any_push is_wide_header ls (lines.Process q) ∙ or_false (list_any is_wide_header ls));
       rising = subst IsRising (sym new_pids) (IsRising-push (pids_of p.draft) q s.rising (below_all p.draft q above));
     }
 
@@ -182,7 +183,8 @@ sound_event p n ls q e s none last_pid wide acts draft at count processes events
       acts_are = omega (arith, ap acts_len acts, s.acts_are, count_push is_act ls (lines.Event e));
       begun_is = ap is_some acts ∙ s.begun_is ∙ sym (any_push is_acts ls (lines.Event e) ∙ or_false (has_acts ls));
       remote_is = remote ∙ ap (λ b. b || is_event_remote e) s.remote_is ∙ sym (any_push is_remote ls (lines.Event e));
-      wide_is = wide ∙ s.wide_is ∙ sym (any_push is_wide_header ls (lines.Event e) ∙ or_false (list_any is_wide_header ls));
+      wide_is = wide ∙ s.wide_is
+          ∙ sym (any_push is_wide_header ls (lines.Event e) ∙ or_false (list_any is_wide_header ls));
       rising = subst IsRising (sym new_pids) s.rising;
     }
 
@@ -237,6 +239,7 @@ sound_act p n ls list a s some wide acts draft at count processes events remote 
           ap is_some acts ∙ sym (ap is_some some) ∙ s.begun_is
           ∙ sym (any_push is_acts ls (lines.Act a) ∙ or_false (has_acts ls));
       remote_is = remote ∙ ap (λ b. b || is_act_remote a) s.remote_is ∙ sym (any_push is_remote ls (lines.Act a));
-      wide_is = wide ∙ s.wide_is ∙ sym (any_push is_wide_header ls (lines.Act a) ∙ or_false (list_any is_wide_header ls));
+      wide_is = wide ∙ s.wide_is
+          ∙ sym (any_push is_wide_header ls (lines.Act a) ∙ or_false (list_any is_wide_header ls));
       rising = subst (λ (x : List Stream). IsRising (pids_of x)) (sym draft) s.rising;
     }

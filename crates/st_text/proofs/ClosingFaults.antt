@@ -281,7 +281,8 @@ from_body p ls s e = closing_skips p ls s e ∙ ap (unknown_from (pids_of p.draf
 
 pub closing_event : (p : BundleBuilder) (ls : List Line) (q : Pid) (i : ℕ) → IsBuilt p ls
     → (p.wide && not p.remote) ≡ false → unlisted p.draft ≡ Some (q, i)
-    → (closing_fault ls ≡ Some (faults.Unknown (event_line_number p.draft q i))) × (event_line_number p.draft q i < length ls + 1)
+    → (closing_fault ls ≡ Some (faults.Unknown (event_line_number p.draft q i)))
+    × (event_line_number p.draft q i < length ls + 1)
 closing_event p ls q i s e at =
     let all = streams_place p.draft p.draft 2 (act_lines p.acts) (own_events p.draft s.rising) s.rising in
     let place =

@@ -230,7 +230,8 @@ add_event : (ls : List Line) (g : Gathered ls) (e : Event) → Passes ls (lines.
     → Gathered (ls ++ lines.Event e ∷ [])
 add_event ls g e p =
     let f = follows ls (lines.Event e) g p in
-    let none : g.acts ≡ None = none_begun g.acts (left_of _ (last_passes (λ q. true) (last_of (pids_of g.streams))) f) in
+    let none : g.acts ≡ None =
+    none_begun g.acts (left_of _ (last_passes (λ q. true) (last_of (pids_of g.streams))) f) in
     let at = some_last (last_of (pids_of g.streams)) (right_of (not (is_some g.acts)) _ f) in
     let mine : is_own at.0 e ≡ true = is_mine (last_of (pids ls)) at.0 e (ap last_of (pids_are ls g) ∙ at.1) p.own in
     let same : pids (ls ++ lines.Event e ∷ []) ≡ pids ls = pids_push ls (lines.Event e) ∙ append-nil (pids ls) in

@@ -17,8 +17,10 @@ use Rattle.st_core.specs.Pid.{pid_cmp, IsRising}
 use Rattle.st_core.specs.Run.{Stream}
 use Rattle.st_core.specs.Streams.{is_own}
 use Rattle.st_text.specs.Text.{is_remote, process_lines}
-use Rattle.st_text.specs.Fault.{first_fault, line_fault, fault_at, may_stand, may_follow, has_acts, last_of, last_passes}
-use Rattle.st_text.specs.Fault.{pids, pid_of, is_wide_header, is_acts, is_out_of_order, is_foreign, is_one_too_many, is_event}
+use Rattle.st_text.specs.Fault.{first_fault, line_fault, fault_at, may_stand, may_follow, has_acts, last_of}
+use Rattle.st_text.specs.Fault.{last_passes}
+use Rattle.st_text.specs.Fault.{pids, pid_of, is_wide_header, is_acts, is_out_of_order, is_foreign, is_one_too_many}
+use Rattle.st_text.specs.Fault.{is_event}
 use Rattle.st_text.specs.Fault.{is_act}
 
 -- what good lines came to: wide, the pids, how many events and acts, whether acts have begun
@@ -51,7 +53,8 @@ came_more ls wide ps events acts begun l c =
 -- a line that passes each test has no fault
 pub line_passes : (ls : List Line) (wide : Bool) (ps : List Pid) (events acts : ℕ) (begun : Bool) (l : Line)
     → Came ls wide ps events acts begun
-    → may_follow begun (last_of ps) l ≡ true → (wide || not (is_remote l)) ≡ true → is_out_of_order (last_of ps) l ≡ false
+    → may_follow begun (last_of ps) l ≡ true → (wide || not (is_remote l)) ≡ true
+    → is_out_of_order (last_of ps) l ≡ false
     → is_foreign (last_of ps) l ≡ false → is_one_too_many (length ps) events acts l ≡ false
     → line_fault ls (Some l) ≡ None
 unfolding line_fault

@@ -28,7 +28,8 @@ use Rattle.st_text.specs.Text.{Contents, process_lines, act_lines, is_remote, bo
 use Rattle.st_text.specs.Text.{IsWithin}
 use Rattle.st_text.specs.Parts.Cutter.{HasNoNewline}
 use Rattle.st_text.specs.Answer.{Reads}
-use Rattle.st_text.specs.Fault.{cut, onto_first, sayings, first_fault, pids, pid_of, is_wide_header, unknown_from, needless}
+use Rattle.st_text.specs.Fault.{cut, onto_first, sayings, first_fault, pids, pid_of, is_wide_header, unknown_from}
+use Rattle.st_text.specs.Fault.{needless}
 use Rattle.st_text.specs.Fault.{closing_fault, fault}
 use Rattle.st_text.proofs.LineLemmas.{line_is}
 use Rattle.st_text.proofs.Newlines.{fault_at_end, truncated_none}
@@ -174,7 +175,8 @@ plain_token t f =
     (plain_pid t.from f.from)
 
 -- a word and a pid
-named_by : (word : List ℕ) (p : Pid) → list_all (λ b. not (eqb b 10)) word ≡ true → FitsPid p → HasNoNewline (word ++ pid p)
+named_by : (word : List ℕ) (p : Pid) → list_all (λ b. not (eqb b 10)) word ≡ true → FitsPid p
+    → HasNoNewline (word ++ pid p)
 named_by word p e f = plain-append word (pid p) (plain_word word e) (plain_pid p f)
 
 plain_act : (a : Act) → FitsAct a → HasNoNewline (act a)
@@ -281,7 +283,8 @@ lines_sound c h w =
 
 -- ---- the closing faults
 
-body_wide : (list : List Line) → AllByRecursion (λ l. is_wide_header l ≡ false) list → list_any is_wide_header list ≡ false
+body_wide : (list : List Line) → AllByRecursion (λ l. is_wide_header l ≡ false) list
+    → list_any is_wide_header list ≡ false
 body_wide [] h = refl
 body_wide (l ∷ ls) h = rw h.0 (body_wide ls h.1)
 

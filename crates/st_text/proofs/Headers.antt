@@ -9,7 +9,8 @@ use Rattle.st_text.specs.declared.fault.ReadFault.TheVariants as faults
 use Rattle.st_text.specs.Parsing.{line_of}
 use Rattle.st_text.specs.Range.{Fits}
 use Rattle.st_text.specs.Text.{is_remote, Contents, body, ended, spelling}
-use Rattle.st_text.specs.Fault.{cut, sayings, first_fault, line_fault, first_of, may_stand, may_follow, has_acts, last_of}
+use Rattle.st_text.specs.Fault.{cut, sayings, first_fault, line_fault, first_of, may_stand, may_follow, has_acts}
+use Rattle.st_text.specs.Fault.{last_of}
 use Rattle.st_text.specs.Fault.{pids, is_wide_header, closing_fault, unknown_from}
 use Rattle.st_text.proofs.Newlines.{none_of}
 use Rattle.st_text.proofs.LineLemmas.{line_takes}
@@ -32,8 +33,8 @@ no_remote first ls (l ∷ more) narrow good =
     let p = none_of (line_fault (first ∷ ls) (Some l)) (first_fault ((first ∷ ls) ++ l ∷ []) (map Some more)) good in
     let at : may_stand (first ∷ ls) l ≡ true = stands (first ∷ ls) l p.0 in
     let allowed : (is_wide_header first || not (is_remote l)) ≡ true =
-    right_of (may_follow (has_acts (first ∷ ls)) (last_of (pids (first ∷ ls))) l) (is_wide_header first || not (is_remote l))
-    at in
+    right_of (may_follow (has_acts (first ∷ ls)) (last_of (pids (first ∷ ls))) l)
+    (is_wide_header first || not (is_remote l)) at in
     let here : is_remote l ≡ false =
     not_true (is_remote l) (sym (ap (λ (b : Bool). b || not (is_remote l)) narrow) ∙ allowed) in
     rw here (no_remote first (ls ++ l ∷ []) more narrow p.1)

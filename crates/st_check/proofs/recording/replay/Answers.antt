@@ -16,7 +16,8 @@ advance-requires g c =
       (
         c.loop-number-test.true,
         subst
-            (λ ps. IsReplayedTo g.row.TOP ps (take c.loop-number.number c.args.acts.now) r.world r.streams r.replies) same
+            (λ ps. IsReplayedTo g.row.TOP ps (take c.loop-number.number c.args.acts.now) r.world r.streams r.replies)
+            same
             c.loop-number.invariant,
       ),
     )

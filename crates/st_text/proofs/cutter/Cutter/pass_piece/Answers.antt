@@ -47,7 +47,8 @@ loop-rest-preserved c =
     let at = at_newline rest c.in-Some.i c.in-Some.ensures.0.high c.in-Some.ensures.1 in
     let parts : rest ≡ (line ++ 10 ∷ []) ++ more =
     rw (c.split_at-in-loop-rest.ensures.back, c.split_at.ensures.back, front) at in
-    let plain : HasNoNewline line = subst HasNoNewline (sym front) (plain_front rest c.in-Some.i c.in-Some.ensures.0.before) in
+    let plain : HasNoNewline line =
+    subst HasNoNewline (sym front) (plain_front rest c.in-Some.i c.in-Some.ensures.0.before) in
     let all : piece ≡ i.done ++ ((line ++ 10 ∷ []) ++ more) = i.parts ∙ ap (λ (x : List ℕ). i.done ++ x) parts in
     record {
       done = i.done ++ (line ++ 10 ∷ []);
