@@ -30,9 +30,17 @@ def tested():
     return sorted({crate for crate, text in texts if "#[test]" in text})
 
 
+def is_current(program):
+    """Whether the gate, or an earlier run, built the program from the sources as they are."""
+    sources = (path for kind in ("src", "specs", "proofs") for path in CRATES.glob(f"*/{kind}/**/*.*"))
+    return program.exists() and all(path.stat().st_mtime < program.stat().st_mtime for path in sources)
+
+
 def build(crate):
-    """The crate's proved test program, which `rt` doesn't build again where it stands; and what `rt` said if it failed."""
+    """The crate's proved test program, and what `rt` said if it couldn't build it."""
     program = CRATES / crate / "out" / f"{crate}_tests"
+    if is_current(program):
+        return program, None
     ran = subprocess.run(["rt", "test"], cwd=CRATES / crate, text=True, stdin=subprocess.DEVNULL,
                          stdout=subprocess.PIPE, stderr=subprocess.STDOUT)
     return program, None if ran.returncode == 0 else ran.stdout[-1000:]
