@@ -1,3 +1,4 @@
+-- The lemmas.
 mod Counts
 mod Widening
 mod Moved

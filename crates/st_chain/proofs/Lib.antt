@@ -1,3 +1,4 @@
+-- The lemmas.
 pub mod Backs
 pub mod Weights
 pub mod Numbers

@@ -1,3 +1,4 @@
+-- The lemmas; what upper crates may cite is in `ForCallers`.
 pub mod Rooms
 pub mod ForCallers
 pub mod Texts

@@ -1,3 +1,4 @@
+-- The lemmas.
 pub mod Texts
 pub mod Telling
 pub mod Charts

@@ -1,3 +1,4 @@
+-- The lemmas; what upper crates may cite is in `ForCallers`.
 pub mod Noted
 pub mod Tabled
 pub mod Firsts

@@ -1,3 +1,4 @@
+-- The lemmas; what upper crates may cite is in `ForCallers`.
 mod Cases
 pub mod Silent
 pub mod Readiness

@@ -1,3 +1,4 @@
+-- Each stream adds its own backs behind those of the streams before it.
 use Rattle.std.proofs.Common.{◌∙◌}
 use Rattle.st_chain.proofs.Backs.{process_passed}
 use Rattle.st_chain.proofs.chains.all_backs.Goals as goal

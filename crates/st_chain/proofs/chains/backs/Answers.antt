@@ -1,3 +1,4 @@
+-- An event's back is what the table knows of its prev; a receive then replaces what is known of its own count.
 use Rattle.std.proofs.Common.{◌∙◌, get_or}
 use Rattle.st_chain.specs.Causes.{backs_from}
 use Rattle.st_pair.proofs.ForCallers.{at_get_or}

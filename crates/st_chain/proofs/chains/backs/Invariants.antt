@@ -1,3 +1,4 @@
+-- So far each event has its back, and the table knows for each count the last receive with it.
 use Rattle.std.proofs.Common.{◌≡◌, ℕ, ◌++◌, drop, nat_eq}
 use Rattle.indexmap.specs.IndexMap.{get}
 use Rattle.st_chain.specs.Causes.{backs_from, received_before}

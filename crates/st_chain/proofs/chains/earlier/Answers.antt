@@ -1,3 +1,4 @@
+-- The backs at a process's place are those of its stream, so the one at the event's index is the event's.
 use Rattle.std.proofs.Common.{sym, ◌∙◌, ap, slice_get, List}
 use Rattle.std.proofs.lemmas.Option.{none-some}
 use Rattle.st_core.specs.declared.types.Event.{Event}

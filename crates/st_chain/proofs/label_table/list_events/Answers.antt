@@ -1,3 +1,4 @@
+-- An event's index goes to the list of its key's number alone, since no two keys share a number.
 use Rattle.std.proofs.Common.{ℕ, List, sym, ◌∙◌, ap, get_or, length}
 use Rattle.std.proofs.lemmas.List.{length-set}
 use Rattle.std.specs.BTreeMap.{get}

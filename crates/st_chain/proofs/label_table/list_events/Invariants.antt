@@ -1,3 +1,4 @@
+-- So far each number's list has grown by the indexes of the taken events with its key.
 use Rattle.std.proofs.Common.{◌≡◌, ℕ, Some, ◌++◌, drop, length}
 use Rattle.std.specs.BTreeMap.{get}
 use Rattle.st_arena.specs.Arena.{list_at}

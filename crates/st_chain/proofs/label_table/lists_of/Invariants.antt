@@ -1,3 +1,4 @@
+-- So far each number's list has what the taken streams have under its key, and what is still to come completes it.
 use Rattle.std.proofs.Common.{◌≡◌, ℕ, Some, ◌++◌, drop, length}
 use Rattle.std.specs.BTreeMap.{btree_map_len, get}
 use Rattle.st_arena.specs.Arena.{list_at}

@@ -1,3 +1,4 @@
+-- The next number is the count, which no key has yet, so that numbers stay apart.
 use Rattle.std.proofs.Common.{is_some, sym, ◌∙◌, ap}
 use Rattle.st_chain.proofs.Numbers.{numbers_more, missing_more}
 use Rattle.st_chain.proofs.label_table.number.Goals as goal

@@ -1,3 +1,4 @@
+-- A key that has no number after all streams has none of their events, so its chain is empty.
 use Rattle.std.proofs.Common.{sym, ◌∙◌}
 use Rattle.st_chain.proofs.Parts.{none_passed, parts_are, parts_end}
 use Rattle.st_chain.proofs.label_table.numbers_of.Goals as goal

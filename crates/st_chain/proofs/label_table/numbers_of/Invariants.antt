@@ -1,3 +1,4 @@
+-- Numbers stay apart and below the count, and the labels of the streams that were taken have one.
 use Rattle.std.proofs.Common.{◌≡◌, None, drop}
 use Rattle.std.specs.BTreeMap.{btree_map_len, get}
 use Rattle.st_chain.specs.declared.label_table.ChainKey.{ChainKey}

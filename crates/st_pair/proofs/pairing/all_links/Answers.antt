@@ -1,3 +1,4 @@
+-- Each stream adds its own links behind those of the streams before it.
 use Rattle.std.proofs.Common.{◌∙◌}
 use Rattle.st_pair.proofs.Linkage.{linked_more}
 use Rattle.st_pair.proofs.pairing.all_links.Goals as goal

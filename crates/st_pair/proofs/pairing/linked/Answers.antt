@@ -1,3 +1,4 @@
+-- The links are made stream by stream, so that the pids' rows are the pairing.
 use Rattle.st_pair.proofs.Linkage.{rows_linked}
 use Rattle.st_pair.proofs.pairing.linked.Goals as goal
 

@@ -1,3 +1,4 @@
+-- No receive that was taken has another event in place of its send.
 use Rattle.std.proofs.Common.{◌≡◌, drop}
 use Rattle.st_pair.specs.Pairing.{mismatch}
 use Rattle.st_pair.specs.Places.{first_from}

@@ -1,3 +1,4 @@
+-- A stream's first such place is the first of all if no stream before it has one.
 use Rattle.std.proofs.Common.{◌∙◌}
 use Rattle.st_pair.specs.Pairing.{not_rising}
 use Rattle.st_pair.proofs.Firsts.{first-given, first-passed}

@@ -1,3 +1,4 @@
+-- In each stream that was taken the counts of stamps rise.
 use Rattle.std.proofs.Common.{◌≡◌, drop}
 use Rattle.st_pair.specs.Pairing.{not_rising}
 use Rattle.st_pair.specs.Places.{first}

@@ -1,3 +1,4 @@
+-- A stamp is compared with the last one before it, which is kept on the way.
 use Rattle.std.proofs.Common.{sym, ◌∙◌, ap, get_or}
 use Rattle.st_pair.proofs.Firsts.{at_get_or}
 use Rattle.st_pair.proofs.Ruled.{blank, receive_unstamped, either_stamped, counted, rising_receive, rising_first}

@@ -1,3 +1,4 @@
+-- The counts of the taken stamps rise, and the last of them is known.
 use Rattle.std.proofs.Common.{◌≡◌, drop, option_map}
 use Rattle.st_pair.specs.Pairing.{stamp_before}
 use Rattle.st_pair.specs.Places.{first_from}

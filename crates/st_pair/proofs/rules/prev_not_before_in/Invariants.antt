@@ -1,3 +1,4 @@
+-- Each event that was taken has a prev below its this.
 use Rattle.std.proofs.Common.{◌≡◌, drop}
 use Rattle.st_pair.specs.Pairing.{prev_not_before}
 use Rattle.st_pair.specs.Places.{first_from}

@@ -1,3 +1,4 @@
+-- A stream's first such place is the first of all if no stream before it has one.
 use Rattle.st_pair.specs.Pairing.{repeated}
 use Rattle.st_pair.proofs.Firsts.{first-given, first-passed}
 use Rattle.st_pair.proofs.rules.repeated.Goals as goal

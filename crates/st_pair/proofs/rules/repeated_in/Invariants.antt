@@ -1,3 +1,4 @@
+-- Each receive that was taken is the first with its sender and count.
 use Rattle.std.proofs.Common.{◌≡◌, drop}
 use Rattle.st_pair.specs.Pairing.{repeated}
 use Rattle.st_pair.specs.Places.{first_from}

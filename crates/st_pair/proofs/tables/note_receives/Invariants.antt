@@ -1,3 +1,4 @@
+-- So far a key's place is that from before, or else that of the first such receive of the taken events.
 use Rattle.std.proofs.Common.{◌≡◌, drop}
 use Rattle.st_pair.specs.declared.tables.Key.{Key}
 use Rattle.st_pair.specs.Places.{first_from}

@@ -1,3 +1,4 @@
+-- A stream's receives go behind those of the streams before it, so the first with a key stays first.
 use Rattle.st_pair.specs.declared.tables.Key.{Key}
 use Rattle.st_pair.specs.Tables.{receive_rule}
 use Rattle.st_pair.proofs.Firsts.{table-passed}

@@ -1,3 +1,4 @@
+-- A stamp's key has its own pid, so a key's first row comes from the stream of its sender alone.
 use Rattle.std.proofs.Common.{◌≡◌, length, arith, sym, ◌∙◌, ap}
 use Rattle.st_core.specs.Run.{pids_of}
 use Rattle.st_pair.specs.declared.tables.Key.{Key}

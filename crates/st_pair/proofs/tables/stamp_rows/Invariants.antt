@@ -1,3 +1,4 @@
+-- So far a key's place among the rows is that of the first such stamp of the streams that were taken.
 use Rattle.std.proofs.Common.{◌≡◌, drop}
 use Rattle.st_pair.specs.declared.tables.Key.{Key}
 use Rattle.st_pair.specs.Places.{first}

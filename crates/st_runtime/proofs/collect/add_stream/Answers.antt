@@ -1,3 +1,4 @@
+-- The opened stream is empty and last, and is then filled.
 use Rattle.std.proofs.Common.{◌∙◌, ap, []}
 use Rattle.st_core.specs.Streams.{lists}
 use Rattle.st_runtime.proofs.Collecting.{lists_last}

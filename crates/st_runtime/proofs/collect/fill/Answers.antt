@@ -1,3 +1,4 @@
+-- Each entry adds its report to the end of the last stream, if it is the process's own and has one.
 use Rattle.std.proofs.Common.{◌∙◌, ap}
 use Rattle.std.proofs.lemmas.List.{get_or_default}
 use Rattle.st_core.specs.Streams.{lists}

@@ -1,3 +1,4 @@
+-- So far the last stream has the process's reports of the entries that were taken.
 use Rattle.std.proofs.Common.{◌≡◌, List, [], ◌∷◌, ◌++◌, take, true}
 use Rattle.st_core.specs.Run.{Stream}
 use Rattle.st_core.specs.Streams.{ComesLast, lists}

@@ -1,3 +1,4 @@
+-- So far these are the streams of the processes that were taken.
 use Rattle.std.proofs.Common.{◌≡◌, take}
 use Rattle.st_runtime.specs.Joined.{streams_of}
 use Rattle.st_runtime.proofs.collect.streams_of.Given as goal

@@ -1,3 +1,4 @@
+-- Each seat that was taken is that of a process.
 use Rattle.std.proofs.Common.{◌≡◌, true, take}
 use Rattle.std.specs.Prelude.{All}
 use Rattle.st_core.specs.Streams.{is_among}

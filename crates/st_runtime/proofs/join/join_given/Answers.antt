@@ -1,3 +1,4 @@
+-- The processes that are left are those of the pieces, and the pieces were seen to fit.
 use Rattle.std.proofs.Common.{◌∙◌, arith, sym, subst, List}
 use Rattle.st_core.specs.Pid.{IsRising}
 use Rattle.st_runtime.specs.Joining.{IsLogged}

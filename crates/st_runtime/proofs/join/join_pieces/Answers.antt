@@ -1,3 +1,4 @@
+-- The pieces fit, so their logs' run is theirs.
 use Rattle.std.proofs.Common.{◌∙◌, arith, sym, ap, subst, List}
 use Rattle.st_core.specs.Pid.{IsRising}
 use Rattle.st_runtime.specs.Joining.{IsLogged}

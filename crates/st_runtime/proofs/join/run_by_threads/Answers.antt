@@ -1,3 +1,4 @@
+-- The merged entries of whole logs are one run, and each thread reads its part out of them.
 use Rattle.std.proofs.Common.{arith, rules, ◌≡◌, ◌∙◌, sym, ap, map, List}
 use Rattle.std.proofs.lemmas.Simd.{map-map}
 use denote.Ref.{Bor}

@@ -1,3 +1,4 @@
+-- So far these are the own entries of the processes that were taken, each of which its lock kept.
 use Rattle.std.proofs.Common.{◌≡◌, take}
 use Rattle.std.specs.Prelude.{All}
 use Rattle.st_runtime.specs.Pcb.{Control, IsKept}

@@ -1,3 +1,4 @@
+-- So far these are the replies of the entries that were taken.
 use Rattle.std.proofs.Common.{◌≡◌, map, take}
 use denote.Ref.{Bor}
 use Rattle.st_runtime.specs.declared.entry.Entry.{Entry}

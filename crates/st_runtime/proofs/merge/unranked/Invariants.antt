@@ -1,3 +1,4 @@
+-- So far the references show the entries that were taken.
 use Rattle.std.proofs.Common.{◌≡◌, map}
 use denote.Ref.{Bor}
 use Rattle.st_runtime.specs.declared.entry.Entry.{Entry}

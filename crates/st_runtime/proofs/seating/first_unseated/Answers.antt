@@ -1,3 +1,4 @@
+-- A pid without a log and without a seat is seated, so only the pids of these are asked.
 use Rattle.st_runtime.proofs.Seated.{first_of_both}
 use Rattle.st_runtime.proofs.seating.first_unseated.Goals as goal
 

@@ -1,3 +1,4 @@
+-- No seat that was taken is of the pid.
 use Rattle.std.proofs.Common.{◌≡◌, drop}
 use Rattle.st_runtime.specs.Pieces.{seats_at}
 use Rattle.st_runtime.proofs.seating.has_only_seat.Given as goal

@@ -1,3 +1,4 @@
+-- The calls run out together with the log's own entries, or they differ.
 use Rattle.std.proofs.Common.{arith}
 use Rattle.st_runtime.proofs.Seated.{calls_end}
 use Rattle.st_runtime.proofs.seating.holds_calls.Goals as goal

@@ -1,3 +1,4 @@
+-- The calls are the log's exactly where those that are left are the calls of the entries that are left.
 use Rattle.std.proofs.Common.{◌≡◌, ◌≤◌, ◌↔◌, drop, length}
 use Rattle.st_runtime.specs.Pieces.{calls_of}
 use Rattle.st_runtime.proofs.seating.holds_calls.Given as goal

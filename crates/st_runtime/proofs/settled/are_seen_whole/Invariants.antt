@@ -1,3 +1,4 @@
+-- The entries of the logs that were taken are settled.
 use Rattle.std.proofs.Common.{take}
 use Rattle.std.specs.Prelude.{All}
 use Rattle.st_runtime.specs.Joining.{IsSettled}

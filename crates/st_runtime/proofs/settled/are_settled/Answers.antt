@@ -1,3 +1,4 @@
+-- Each entry is looked for by itself; the places of the ones before it are only where the search begins.
 use Rattle.std.proofs.lemmas.List.Elements.{All-more}
 use Rattle.std.proofs.Common.{arith}
 use Rattle.st_runtime.specs.Joining.{IsSettled}

@@ -1,3 +1,4 @@
+-- Each entry that was taken is settled.
 use Rattle.std.proofs.Common.{take}
 use Rattle.std.specs.Prelude.{All}
 use Rattle.st_runtime.specs.Joining.{IsSettled}

@@ -1,3 +1,4 @@
+-- So far there is a process of each pid that was taken.
 use Rattle.std.proofs.Common.{◌≡◌, take}
 use Rattle.st_runtime.specs.Pieces.{pids_in}
 use Rattle.st_runtime.proofs.system.fresh_processes.Given as goal

@@ -1,3 +1,4 @@
+-- A process is put only in place of one with its pid, so the pids stay.
 use Rattle.std.proofs.Common.{◌∙◌, sym}
 use Rattle.st_core.proofs.ForCallers.{pid_eq-true}
 use Rattle.st_runtime.specs.Pcb.{Control}

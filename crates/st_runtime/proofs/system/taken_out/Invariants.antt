@@ -1,3 +1,4 @@
+-- The processes have the pids that the fresh ones had.
 use Rattle.std.proofs.Common.{◌≡◌}
 use Rattle.st_runtime.specs.Pieces.{pids_in}
 use Rattle.st_runtime.proofs.system.taken_out.Given as goal

@@ -1,3 +1,4 @@
+-- Each process that was taken has the entry, if it is on the actor's node.
 use Rattle.std.proofs.Common.{take}
 use Rattle.std.specs.Prelude.{All}
 use Rattle.st_runtime.specs.Pieces.{HasIfTouched}

@@ -1,3 +1,4 @@
+-- The first entry that isn't whole has the least place, since those before it are.
 use Rattle.std.proofs.lemmas.List.Elements.{All-more}
 use Rattle.std.proofs.Common.{arith}
 use Rattle.st_runtime.proofs.Members.{All-past}

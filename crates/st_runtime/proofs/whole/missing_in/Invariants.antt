@@ -1,3 +1,4 @@
+-- Each entry of the log that was taken is whole.
 use Rattle.std.proofs.Common.{take}
 use Rattle.std.specs.Prelude.{All}
 use Rattle.st_runtime.specs.Pieces.{IsWhole}

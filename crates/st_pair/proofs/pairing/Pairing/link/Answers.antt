@@ -1,3 +1,4 @@
+-- The row at a pid's place is that pid's, and its links are those of the pid's events.
 use Rattle.std.proofs.Common.{◌∙◌}
 use Rattle.st_pair.proofs.Linkage.{row_none, row_read}
 use Rattle.st_pair.proofs.pairing.Pairing.link.Goals as goal

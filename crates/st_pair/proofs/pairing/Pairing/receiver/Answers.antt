@@ -1,3 +1,4 @@
+-- The link at an event's place is what the definition says of the event there.
 use Rattle.std.proofs.Common.{◌∙◌, ap, option_and_then}
 use Rattle.st_pair.specs.Links.{receiver_in}
 use Rattle.st_pair.proofs.Linkage.{receiver_read}

@@ -1,3 +1,4 @@
+-- In sorted rows a key's first row stands at the partition point, if the key is there at all.
 use Rattle.std.proofs.Common.{sym, ◌∙◌, ap, option_and_then}
 use Rattle.st_pair.specs.Tables.{place_under}
 use Rattle.st_pair.proofs.tables.Table.find.Goals as goal

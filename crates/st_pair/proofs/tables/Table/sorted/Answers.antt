@@ -1,3 +1,4 @@
+-- A stable sort moves no row before another of its key, so each key is found where it was first.
 use Rattle.std.proofs.Common.{rules}
 use Rattle.std.proofs.lemmas.List.Sorted.{answers_always}
 use Rattle.st_pair.specs.Tables.{key_of}
