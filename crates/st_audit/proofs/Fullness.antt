@@ -32,7 +32,7 @@ pub refused_full : (top : ℕ) (streams : List Stream) (f : PairFault) (found : 
 refused_full top streams f found rising why is full = refused f found why is
   where
     accepted : refusal streams ≡ None
-    accepted = (full_is_plain top streams rising full).accepted
+    accepted = (full_is_plain top streams rising full).settled.accepted
 
     refused : (f : PairFault) (found : Finding) → IsPairFault streams f → unfit_by f ≡ Some found → IsCertificate found
     refused fault.Memory found why is = absurd (none-some found is)

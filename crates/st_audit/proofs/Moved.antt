@@ -1,9 +1,11 @@
 -- What an item's acts do to the counts: those of its own process become what its move makes of them, and no others
--- move. For a reported item its report says so, for a hidden send the acts before it do.
+-- move. For a stamp that is told its report says so, for another the clock before it, for a receive its message.
 use Rattle.std.proofs.Common.{◌≡◌, ℕ, ◌+◌, ◌<◌, ◌≤◌, ◌⊎◌, inl, inr, max, true, false, not, ◌&&◌}
-use Rattle.std.proofs.Common.{◌==◌, Option, Some, None, nat_lt, refl, sym, ◌∙◌, ap, subst, arith}
-use Rattle.std.proofs.lemmas.Bool.{eqb-true, ltb-false}
-use Rattle.std.proofs.lemmas.Option.{same_Some, none-some}
+use Rattle.std.proofs.Common.{◌==◌, Option, Some, None, nat_lt, refl, sym, ◌∙◌, ap, subst, arith, get_or, position}
+use Rattle.std.proofs.Common.{option_and_then}
+use Rattle.std.proofs.lemmas.Bool.{and_parts, eqb-true, false≢true, ltb-false}
+use Rattle.std.proofs.lemmas.List.Quantifiers.{position-Some}
+use Rattle.std.proofs.lemmas.Option.{same_Some, slice_get-get_or}
 use Rattle.st_core.specs.declared.types.Pid.{Pid}
 use Rattle.st_core.specs.declared.types.Token.{Token}
 use Rattle.st_core.specs.declared.types.Event.{Event}
@@ -19,18 +21,18 @@ use Rattle.st_core.specs.State.{LocalState, Process, State, process}
 use Rattle.st_core.specs.Stamp.{stamp_any}
 use Rattle.st_core.specs.Local.{received}
 use Rattle.st_core.specs.Pick.{pick}
-use Rattle.st_core.specs.Report.{report}
 use Rattle.st_core.specs.Step.{Acted, acted, actor, prints, receives, sends}
 use Rattle.st_core.proofs.ForCallers.{mapped}
+use Rattle.st_mail.specs.Mail.{bears_stamp}
 use Rattle.st_mail.specs.declared.outcome.Outcome.{Outcome as Told}
 use Rattle.st_world.specs.World.{outcome_to}
 use Rattle.st_plan.specs.Build.{ready, start_of, state_after}
 use Rattle.st_audit.specs.Progress.{is_uncaused, StampsEvent, IsStampOf, IsTaken}
 use Rattle.st_audit.proofs.Counts.{HasRisen, IsNoReset, IsTold, WasActor, WasSame, actor_same, all_risen}
 use Rattle.st_audit.proofs.Counts.{others_same}
-use Rattle.st_audit.proofs.Counts.{ready_alone, stamp_some, stamp_told, told_serial, was_same}
+use Rattle.st_audit.proofs.Counts.{ready_alone, stamp_some, stamp_told, was_same}
 use Rattle.st_plan.proofs.ForCallers.{lifted}
-use Rattle.st_plan.proofs.ForCallers.{is_ready}
+use Rattle.st_plan.proofs.ForCallers.{is_ready, pick_at}
 use Rattle.st_audit.proofs.Widening.{run_wider}
 
 -- between these states q's counts became those of this serial, and no others moved
@@ -194,39 +196,48 @@ hidden_moves top old skipped p e f told new now x rises below =
 
 -- A RECEIVE
 
-taken_by : (r : Process) (found : Option (ℕ × Message)) (done : Acted) (e : Event) → receives r found ≡ done
-    → done.report ≡ Some e
-    → (done.local.clock ≡ max r.local.clock e.serial.this) × (done.local.last ≡ e.serial.this)
-taken_by r None done e is told = absurd (none-some e (ap (λ (d : Acted). d.report) is ∙ told))
-taken_by r (Some found) done e is told =
-    let m = found.1 in
-    let report_is : report r.local.traced kind.Receive m.token (Some r.pid) m.value ≡ Some e =
-    ap (λ (d : Acted). d.report) is ∙ told in
-    let local : received r.local m.token ≡ done.local = ap (λ (d : Acted). d.local) is in
-    elim m.token as (λ token. report r.local.traced kind.Receive token (Some r.pid) m.value ≡ Some e
-    → received r.local token ≡ done.local
-    → (done.local.clock ≡ max r.local.clock e.serial.this) × (done.local.last ≡ e.serial.this)) [
-      | None ↦ λ h g. absurd (none-some e h)
-      | Some t ↦ λ h g.
-          let serial = told_serial r.local.traced kind.Receive t (Some r.pid) m.value e h in
-          let this = ap (λ (s : Serial). s.this) serial in
-          let clock = ap (λ (l : LocalState). l.clock) g in
-          let count = ap (λ (l : LocalState). l.last) g in
-          (omega arith, omega arith)
-    ] report_is local
+-- a token that bears a stamp is there, with its count
+borne : (from : Pid) (this : ℕ) (token : Option Token) → bears_stamp from this token ≡ true
+    → (t : Token) × (token ≡ Some t) × (t.serial.this ≡ this)
+borne from this None h = absurd (false≢true h)
+borne from this (Some t) h =
+    (t, refl, eqb-true t.serial.this this (and_parts (pid_eq t.from from) (t.serial.this == this) h).1)
+
+taken_by : (r : Process) (k : ℕ) (m : Message) (done : Acted) (from : Pid) (this : ℕ)
+    → bears_stamp from this m.token ≡ true → receives r (Some (k, m)) ≡ done
+    → (done.local.clock ≡ max r.local.clock this) × (done.local.last ≡ this)
+taken_by r k m done from this bears is =
+    let t = borne from this m.token bears in
+    let local : received r.local (Some t.0) ≡ done.local =
+    ap (received r.local) (sym t.1) ∙ ap (λ (d : Acted). d.local) is in
+    let clock = ap (λ (l : LocalState). l.clock) local in
+    let count = ap (λ (l : LocalState). l.last) local in
+    let same = t.2 in
+    (omega arith, omega arith)
 
 pub taken_moves : (top : ℕ) (old : State) (p : Pid) (e : Event) (told : Told) (new : State)
-    → IsTaken top old p told new → told.report ≡ Some e → HasMoved p e.serial e.serial.this old new
-taken_moves top old p e told new x report =
+    → IsTaken top old p e told new → HasMoved p e.serial e.serial.this old new
+taken_moves top old p e told new x =
     let a = act.Receive p (want.Place x.place) in
     let o = outcome_to told new in
+    let this = e.serial.this in
+    let test = λ (m : Message). bears_stamp e.from this m.token in
+    let any : Message = record { from = p; value = 0; token = None } in
     let was : (r : Process) → process new p ≡ Some r → WasActor top old a o r.local =
     λ r h. actor_same top old a o x.steps tt r h in
     let counts : (r : Process) (h : process new p ≡ Some r)
-    → ((was r h).done.local.clock ≡ max (was r h).before.local.clock e.serial.this)
-    × ((was r h).done.local.last ≡ e.serial.this) = λ r h.
-    taken_by (was r h).before (pick (want.Place x.place) (was r h).before.queue) (was r h).done e
-    (same_Some _ (was r h).done (was r h).is_done) (sym (was r h).told ∙ report) in
+    → ((was r h).done.local.clock ≡ max (was r h).before.local.clock this)
+    × ((was r h).done.local.last ≡ this) = λ r h.
+    let b = (was r h).before in
+    let found : position test b.queue ≡ Some x.place =
+    sym (ap (option_and_then (λ (q : Process). position test q.queue)) (was r h).is_before) ∙ x.found in
+    let at = position-Some test b.queue x.place any found in
+    let m = get_or b.queue x.place any in
+    let picked : pick (want.Place x.place) b.queue ≡ Some (x.place, m) =
+    pick_at x.place b.queue m (slice_get-get_or b.queue x.place any at.0) in
+    taken_by b x.place m (was r h).done e.from this at.1
+    (ap (receives b) (sym picked) ∙ same_Some (receives b (pick (want.Place x.place) b.queue)) (was r h).done
+    (was r h).is_done) in
     record {
       others = λ y r apart h. others_same top old a o x.steps tt y r apart h;
       before = λ r h. (was r h).before;

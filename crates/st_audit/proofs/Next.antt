@@ -17,10 +17,11 @@ use Rattle.st_order.specs.Order.{IsOrder}
 use Rattle.st_order.specs.Items.{event_of}
 use Rattle.st_audit.specs.declared.construction.Halt.{Halt}
 use Rattle.st_audit.specs.declared.construction.Halt.TheVariants as halt
+use Rattle.st_plan.specs.Marks.{Marks}
 use Rattle.st_plan.specs.Moves.{Move, clock, is_taking, last, move_by, skip, skips, earlier_of}
 use Rattle.st_plan.specs.Reasons.{most_skipped, most_skipped_in_all, too_wide, uncaused}
 use Rattle.st_plan.specs.Build.{start_of}
-use Rattle.st_audit.specs.Progress.{is_too_wide, is_uncaused, missing, AreCounted, HaltsAt}
+use Rattle.st_audit.specs.Progress.{if_told, is_too_wide, is_uncaused, missing, AreCounted, HaltsAt}
 use Rattle.st_audit.specs.Progress.{IsActed, IsCounted, IsHalt, IsHiddenDone, IsReportedDone, IsSoFar, IsStampHaltAt}
 use Rattle.st_plan.proofs.ForCallers.{earlier_more, hidden_clock}
 use Rattle.st_audit.proofs.Moved.{HasMoved, hidden_moves, reported_moves, taken_moves}
@@ -102,21 +103,31 @@ module _ (top : ℕ) (streams : List Stream) (xs : List Item) (n : ℕ) (old new
       (hidden_moves top old skipped e.from e done.flags done.told new now x rises (omega arith))
       (x.missed ∙ ap (λ k. k + skipped) (start_skips earlier m x.before.local refl was))
 
-  acted_next : (p : Pid) (i : ℕ) (done : IsReportedDone top streams old skipped p i new now) (b : Bool)
-      → is_stamp done.event ≡ b → slice_get xs n ≡ Some (item.Reported p i)
+  acted_next : (marks : Marks) (p : Pid) (i : ℕ) (done : IsReportedDone top streams marks old skipped p i new now)
+      (b : Bool)
+      → refusal streams ≡ None → is_stamp done.event ≡ b → slice_get xs n ≡ Some (item.Reported p i)
       → IsActed b top old skipped p done.event done.told new now → IsSoFar streams (take (n + 1) xs) new now
-  acted_next p i done true stamps at acted =
+  acted_next marks p i done true accepted stamps at acted =
       let e = done.event in
       let x = acted.1 in
       let m = move_by (item.Reported p i) e in
       let taking : is_taking m ≡ false = ap not stamps in
       let earlier = earlier_of streams (take n xs) in
+      let rises = serial_rises streams (paired streams accepted) p i e done.at in
+      let moved : HasMoved p e.serial e.serial.prev old new =
+      elim (marks p i) as (λ b. marks p i ≡ b → done.told.report ≡ if_told b e
+      → HasMoved p e.serial e.serial.prev old new) [
+        | true ↦ λ told report. reported_moves top old skipped p e acted.0 done.told new now x report
+        | false ↦ λ untold report.
+            hidden_moves top old skipped p e acted.0 done.told new now x rises
+            (done.below untold stamps x.before x.is_before)
+      ] refl done.report in
       from_move (item.Reported p i) e at done.at
       (subst (λ b. HasMoved p e.serial (cond b e.serial.this e.serial.prev) old new) (sym taking)
-      (reported_moves top old skipped p e acted.0 done.told new now x done.report))
+      moved)
       (x.missed ∙ ap (λ k. k + skipped)
       (start_skips earlier m x.before.local taking (so.counted p x.before x.is_before)))
-  acted_next p i done false stamps at acted =
+  acted_next marks p i done false accepted stamps at acted =
       let e = done.event in
       let m = move_by (item.Reported p i) e in
       let taking : is_taking m ≡ true = ap not stamps in
@@ -124,12 +135,13 @@ module _ (top : ℕ) (streams : List Stream) (xs : List Item) (n : ℕ) (old new
       let earlier = earlier_of streams (take n xs) in
       from_move (item.Reported p i) e at done.at
       (subst (λ b. HasMoved p e.serial (cond b e.serial.this e.serial.prev) old new) (sym taking)
-      (taken_moves top old p e done.told new acted.0 done.report))
+      (taken_moves top old p e done.told new acted.0))
       (acted.1 ∙ nothing ∙ ap (λ b. cond b 0 (e.serial.this - 1 - clock p earlier) + skipped) (sym taking))
 
-  pub reported_next : (p : Pid) (i : ℕ) → slice_get xs n ≡ Some (item.Reported p i)
-      → IsReportedDone top streams old skipped p i new now → IsSoFar streams (take (n + 1) xs) new now
-  reported_next p i at done = acted_next p i done (is_stamp done.event) refl at done.acted
+  pub reported_next : (marks : Marks) (p : Pid) (i : ℕ) → refusal streams ≡ None → slice_get xs n ≡ Some (item.Reported p i)
+      → IsReportedDone top streams marks old skipped p i new now → IsSoFar streams (take (n + 1) xs) new now
+  reported_next marks p i accepted at done =
+      acted_next marks p i done (is_stamp done.event) accepted refl at done.acted
 
 -- WHERE IT HALTS
 

@@ -1,31 +1,32 @@
--- In plain streams the construction goes on from item to item: its acts run, its world is as the moves say, and its
--- acts
--- tell what the moves tell. So at the end they show the streams.
+-- In settled streams the construction goes on from item to item: its acts run, its world is as the moves say, and its
+-- acts tell what the moves tell. So at the end they show the told events.
 use Rattle.std.proofs.Common.{◌≡◌, ℕ, ◌+◌, ◌≤◌, suc, false, not, List, [], ◌∷◌, ◌++◌, take, drop, length, get_or}
 use Rattle.std.proofs.Common.{Some, None, IsSome, append_assoc, slice_get, refl, sym, ◌∙◌, ap, subst}
 use Rattle.std.proofs.lemmas.Bool.{eq-eqb}
 use Rattle.std.proofs.lemmas.List.{append-nil, take_all, take_more}
-use Rattle.std.proofs.lemmas.Option.{same_Some, get_or_from_slice_get, slice_get-get_or, slice_get_within}
+use Rattle.std.proofs.lemmas.Option.{same_Some, get_or_from_slice_get, slice_get_within}
 use Rattle.st_core.specs.declared.types.Pid.{Pid}
 use Rattle.st_core.specs.declared.types.Event.{Event}
 use Rattle.st_core.specs.declared.types.Act.{Act}
+use Rattle.st_core.specs.Laws.{NoReset}
 use Rattle.st_core.specs.State.{State, zero_state}
 use Rattle.st_core.specs.Step.{Outcome}
 use Rattle.st_core.specs.Run.{Stream, Shows, pids_of, run, run_from, stream}
 use Rattle.st_core.specs.Pairs.{pairs}
-use Rattle.st_core.specs.Streams.{events_of, IsStreams}
+use Rattle.st_core.specs.Streams.{IsStreams}
 use Rattle.st_core.specs.Verdict as verdicts
 use Rattle.st_core.proofs.ForCallers.{all_at, one_verdict}
 use Rattle.st_order.specs.declared.item.Item.{Item}
 use Rattle.st_order.specs.declared.item.Item.TheVariants as item
 use Rattle.st_order.specs.Items.{event_of}
 use Rattle.st_order.specs.Order.{IsOrder}
-use Rattle.st_order.proofs.ForCallers.{all_found}
+use Rattle.st_plan.specs.Marks.{all_told, told_only, Marks}
 use Rattle.st_plan.specs.Moves.{Move, earlier_of, move_by, moves}
 use Rattle.st_plan.specs.Build.{state_after, tracers_after}
-use Rattle.st_plan.specs.Plain.{out_of_turn, told, told_all, told_by, IsPlain}
-use Rattle.st_plan.proofs.ForCallers.{earlier_more, goes_on, in_turn_at, moves_append, one_move, opens, order_there}
-use Rattle.st_plan.proofs.ForCallers.{run_append, state_append, stream_append, stream_silent, tells_all_events}
+use Rattle.st_plan.specs.Plain.{out_of_turn, told, told_all, told_by, IsSettled}
+use Rattle.st_plan.proofs.ForCallers.{clock_at, earlier_more, goes_on, in_turn_at, moves_append, one_move, opens}
+use Rattle.st_plan.proofs.ForCallers.{order_there, run_append, state_append, stream_append, stream_silent}
+use Rattle.st_plan.proofs.ForCallers.{acts_none, append_none, tells_only, tells_told_events, told_pids, tracers_none}
 use Rattle.st_plan.proofs.ForCallers.{IsKept, IsThere}
 use Rattle.st_audit.specs.declared.construction.Halt.{Halt}
 use Rattle.st_audit.specs.declared.construction.Halt.TheVariants as halt
@@ -61,44 +62,48 @@ only_memory halt.TooWide plain stays = absurd plain
 -- ON THE WAY
 
 -- the acts for these items, and where they led
-pub record IsOnTrack (top : ℕ) (streams : List Stream) (xs : List Item) (s : State) (acts : List Act) : Type 0 where
+pub record IsOnTrack (top : ℕ) (streams : List Stream) (marks : Marks) (xs : List Item) (s : State) (acts : List Act)
+    : Type 0 where
   pub outcomes : List Outcome
   pub runs : run top (pids_of streams) acts ≡ Some outcomes
   pub after : s ≡ state_after (zero_state (pids_of streams)) outcomes
-  pub kept : IsKept streams (earlier_of streams xs) s
-  pub tells : (p : Pid) → stream acts outcomes p ≡ told_all p (moves streams xs)
+  pub kept : IsKept streams marks (earlier_of streams xs) s
+  pub tells : (p : Pid) → stream acts outcomes p ≡ told_all marks p (moves streams xs)
+  pub one_trace : NoReset acts
 
 -- the tracers lead to where no item was
-pub on_track : (top : ℕ) (streams : List Stream) (s : State) (acts : List Act)
+pub on_track : (top : ℕ) (streams : List Stream) (marks : Marks) (s : State) (acts : List Act)
     → Ran top (zero_state (pids_of streams)) (tracers_after None (pids_of streams)) s
-    → acts ≡ tracers_after None (pids_of streams) → IsOnTrack top streams [] s acts
-on_track top streams s acts ran are =
+    → acts ≡ tracers_after None (pids_of streams) → IsOnTrack top streams marks [] s acts
+on_track top streams marks s acts ran are =
     let pids = pids_of streams in
     let tracers = tracers_after None pids in
-    let opening = opens top streams in
+    let opening = opens top streams marks in
     let o = opening.0 in
     let same : o.os ≡ ran.outcomes = same_Some o.os ran.outcomes (sym o.runs ∙ ran.runs) in
     record {
       outcomes = ran.outcomes;
       runs = ap (run_from top (zero_state pids)) are ∙ ran.runs;
       after = ran.after;
-      kept = subst (IsKept streams []) (ap (state_after (zero_state pids)) same ∙ sym ran.after) opening.1;
+      kept = subst (IsKept streams marks []) (ap (state_after (zero_state pids)) same ∙ sym ran.after) opening.1;
       tells = λ p. ap (λ xs. stream xs ran.outcomes p) are ∙ ap (λ os. stream tracers os p) (sym same)
           ∙ stream_silent tracers o.os p o.silent;
+      one_trace = subst NoReset (sym are) (tracers_none None pids);
     }
 
 -- and they run, whatever comes of it
 pub tracers_run : (top : ℕ) (streams : List Stream)
     → IsSome (run_from top (zero_state (pids_of streams)) (tracers_after None (pids_of streams)))
 tracers_run top streams =
-    let o = (opens top streams).0 in
+    let o = (opens top streams all_told).0 in
     some_is (run_from top (zero_state (pids_of streams)) (tracers_after None (pids_of streams))) o.os o.runs
 
-told_append : (p : Pid) (ms ns : List Move) → told_all p (ms ++ ns) ≡ told_all p ms ++ told_all p ns
-told_append p [] ns = refl
-told_append p (m ∷ ms) ns =
-    ap (λ es. told_by p m ++ es) (told_append p ms ns)
-    ∙ sym (append_assoc (told_by p m) (told_all p ms) (told_all p ns))
+told_append : (marks : Marks) (p : Pid) (ms ns : List Move) → told_all marks p (ms ++ ns)
+    ≡ told_all marks p ms ++ told_all marks p ns
+told_append marks p [] ns = refl
+told_append marks p (m ∷ ms) ns =
+    ap (λ es. told_by marks p m ++ es) (told_append marks p ms ns)
+    ∙ sym (append_assoc (told_by marks p m) (told_all marks p ms) (told_all marks p ns))
 
 event_there : (streams : List Stream) (x : Item) → IsThere streams x → (e : Event) × (event_of streams x ≡ Some e)
 event_there streams (item.Reported p i) there = there
@@ -120,15 +125,16 @@ abbrev pub none : Item
 none = item.Reported (record { node = 0; number = 0 }) 0
 
 -- the item's move goes on, and keeps what the moves say
-pub record GoesNext (top : ℕ) (streams : List Stream) (earlier : List Move) (x : Item) (s : State) : Type 0 where
-  pub serves : Serves top streams earlier x s
-  pub kept : IsKept streams (move_by x serves.event ∷ earlier) (state_after s serves.goes.outcomes)
+pub record GoesNext (top : ℕ) (streams : List Stream) (marks : Marks) (earlier : List Move) (x : Item) (s : State)
+    : Type 0 where
+  pub serves : Serves top streams marks earlier x s
+  pub kept : IsKept streams marks (move_by x serves.event ∷ earlier) (state_after s serves.goes.outcomes)
 
-module _ (top : ℕ) (streams : List Stream) (sound : IsStreams streams) (plain : IsPlain top streams) (xs : List Item)
-    (order : IsOrder streams xs) where
+module _ (top : ℕ) (streams : List Stream) (marks : Marks) (sound : IsStreams streams)
+    (settled : IsSettled top streams) (xs : List Item) (order : IsOrder streams xs) where
   module _ (n : ℕ) (x : Item) (at : slice_get xs n ≡ Some x) (s : State) (acts : List Act)
-      (track : IsOnTrack top streams (take n xs) s acts) where
-    pub goes_next : GoesNext top streams (earlier_of streams (take n xs)) x s
+      (track : IsOnTrack top streams marks (take n xs) s acts) where
+    pub goes_next : GoesNext top streams marks (earlier_of streams (take n xs)) x s
     goes_next =
         let there = all_at (IsThere streams) xs n x (order_there streams sound.draft.rising xs order) at in
         let found = event_there streams x there in
@@ -136,21 +142,23 @@ module _ (top : ℕ) (streams : List Stream) (sound : IsStreams streams) (plain 
         let later = moves streams (drop (suc n) xs) in
         let m = move_by x found.0 in
         let split = split_at streams xs n x found.0 at found.1 in
-        let on = goes_on top streams sound plain xs order earlier later m split s track.kept in
+        let on = goes_on top streams marks sound settled xs order earlier later m split s track.kept in
         record {
           serves = record {
             event = found.0;
             there = found.1;
-            in_turn = turn_by earlier x found.0 (in_turn_at top streams sound plain xs order earlier later m split);
+            in_turn = turn_by earlier x found.0 (in_turn_at top streams marks sound settled xs order earlier
+                later m split);
+            below = clock_at top streams marks sound settled xs order earlier later m split;
             goes = on.0;
           };
           kept = on.1;
         }
 
     -- with its acts
-    pub track_next : (m : GoesNext top streams (earlier_of streams (take n xs)) x s) (new : State) (now : List Act)
+    pub track_next : (m : GoesNext top streams marks (earlier_of streams (take n xs)) x s) (new : State) (now : List Act)
         → now ≡ acts ++ m.serves.goes.acts → new ≡ state_after s m.serves.goes.outcomes
-        → IsOnTrack top streams (take (n + 1) xs) new now
+        → IsOnTrack top streams marks (take (n + 1) xs) new now
     track_next m new now put after =
         let g = m.serves.goes in
         let e = m.serves.event in
@@ -171,28 +179,28 @@ module _ (top : ℕ) (streams : List Stream) (sound : IsStreams streams) (plain 
           outcomes = both;
           runs = ap (run_from top zero) put ∙ runs;
           after = state;
-          kept = subst (λ ms. IsKept streams ms new) (sym (earlier_more streams xs n x e at there))
-              (subst (IsKept streams (move ∷ earlier_of streams (take n xs))) (sym after) m.kept);
+          kept = subst (λ ms. IsKept streams marks ms new) (sym (earlier_more streams xs n x e at there))
+              (subst (IsKept streams marks (move ∷ earlier_of streams (take n xs))) (sym after) m.kept);
           tells = λ p. ap (λ ys. stream ys both p) put
               ∙ stream_append top zero acts g.acts os g.outcomes p track.runs
               ∙ ap (λ es. es ++ stream g.acts g.outcomes p) (track.tells p)
-              ∙ ap (λ es. told_all p before ++ es) (g.tells p ∙ sym (append-nil (told_by p move)))
-              ∙ sym (told_append p before (move ∷ []))
-              ∙ ap (told_all p) (sym more);
+              ∙ ap (λ es. told_all marks p before ++ es) (g.tells p ∙ sym (append-nil (told_by marks p move)))
+              ∙ sym (told_append marks p before (move ∷ []))
+              ∙ ap (told_all marks p) (sym more);
+          one_trace = subst NoReset (sym put) (append_none acts g.acts track.one_trace
+              (acts_none streams marks g.before move g.acts g.are));
         }
 
-  -- and at the end all is shown
-  pub track_shows : (n : ℕ) (s : State) (acts : List Act) → length xs ≤ n → IsOnTrack top streams (take n xs) s acts
-      → Shows top streams acts
+  -- and at the end all that is told is shown
+  pub track_shows : (n : ℕ) (s : State) (acts : List Act) → length xs ≤ n
+      → IsOnTrack top streams marks (take n xs) s acts → Shows top (told_only marks streams) acts
   track_shows n s acts past track =
       let all : take n xs ≡ xs = take_all n xs past in
-      let found = all_found streams sound.draft.rising in (
+      let told = tells_told_events top streams marks sound settled xs order in
+      let shown = tells_only streams marks (moves streams xs) sound told in (
         track.outcomes,
-        track.runs,
+        subst (λ ps. run top ps acts ≡ Some track.outcomes) (told_pids marks streams) track.runs,
         λ k d within.
-            let x = get_or streams k d in
-            track.tells x.pid ∙ ap (λ ys. told_all x.pid (moves streams ys)) all
-            ∙ tells_all_events top streams sound plain xs order x.pid
-            ∙ all_at (λ (y : Stream). events_of streams y.pid ≡ y.events) streams k x found
-            (slice_get-get_or streams k d within),
+            let x = get_or (told_only marks streams) k d in
+            track.tells x.pid ∙ ap (λ ys. told_all marks x.pid (moves streams ys)) all ∙ shown k d within,
       )

@@ -1,7 +1,9 @@
 -- What the auditor's findings mean.
 use Rattle.std.specs.Prelude.{◌≡◌, ℕ, List, Option, Some, None, IsSome}
+use Rattle.st_core.specs.declared.types.Act.{Act}
+use Rattle.st_core.specs.Laws.{NoReset}
 use Rattle.st_core.specs.declared.types.Pid.{Pid}
-use Rattle.st_core.specs.Run.{Stream}
+use Rattle.st_core.specs.Run.{Shows, Stream}
 use Rattle.st_core.specs.Verdict as verdicts
 use Rattle.st_check.specs.Answers.{verdict_of}
 use Rattle.st_pair.specs.declared.answer.PairFault.{PairFault}
@@ -12,6 +14,7 @@ use Rattle.st_audit.specs.declared.finding.Reason.{Reason}
 use Rattle.st_audit.specs.declared.finding.Reason.TheVariants as reason
 use Rattle.st_audit.specs.declared.finding.Finding.{Finding}
 use Rattle.st_audit.specs.declared.finding.Finding.TheVariants as finding
+use Rattle.st_plan.specs.Marks.{told_only, Marks}
 use Rattle.st_plan.specs.Reasons.{HoldsAt, uncaused, too_wide}
 
 -- the verdict is no yes
@@ -59,3 +62,8 @@ fault_of found = None
 abbrev pub IsCertificate : Finding → Type 0
 IsCertificate (finding.Fits acts pairs) = Unit {0}
 IsCertificate (finding.Unfit p i r) = ⊥
+
+-- there are acts, none of them is a reset, and they show those events that are told
+abbrev pub ShowTold : ℕ → List Stream → Marks → Option (List Act) → Type 0
+ShowTold top streams marks None = ⊥
+ShowTold top streams marks (Some acts) = Shows top (told_only marks streams) acts × NoReset acts

@@ -1,6 +1,7 @@
 -- For the parts alone: what the construction keeps along the items, and what it did for one of them.
 use Rattle.std.specs.Prelude.{◌≡◌, ℕ, ◌+◌, ◌-◌, ◌==◌, ◌&&◌, ◌||◌, nat_lt, Bool, true, false, not, List}
-use Rattle.std.specs.Prelude.{[], ◌∷◌, ◌++◌, ◌<◌, ◌^◌, ◌≢◌, slice_get, Some, IfErr, IfOk, IsSome, OnOk, Result}
+use Rattle.std.specs.Prelude.{[], ◌∷◌, ◌++◌, ◌<◌, ◌^◌, ◌≢◌, slice_get, Option, Some, None, if◌then◌else◌, IfErr}
+use Rattle.std.specs.Prelude.{IfOk, IsSome, OnOk, Result}
 use Rattle.st_core.specs.declared.types.Pid.{Pid}
 use Rattle.st_core.specs.declared.types.Event.{Event}
 use Rattle.st_core.specs.declared.types.Flags.{Flags}
@@ -12,14 +13,15 @@ use Rattle.st_core.specs.State.{LocalState, Process, State, process}
 use Rattle.st_core.specs.Step.{Outcome, step}
 use Rattle.st_core.specs.Run.{Stream, pids_of, run_from}
 use Rattle.st_mail.specs.declared.outcome.Outcome.{Outcome as Told}
-use Rattle.st_world.specs.World.{outcome_to}
+use Rattle.st_world.specs.World.{outcome_to, place_in}
 use Rattle.st_pair.specs.Places.{event_at, is_stamp}
 use Rattle.st_order.specs.declared.item.Item.{Item}
 use Rattle.st_order.specs.Items.{event_of}
 use Rattle.st_plan.specs.declared.plan.Start.{Start}
 use Rattle.st_audit.specs.declared.construction.Halt.{Halt}
 use Rattle.st_audit.specs.declared.construction.Halt.TheVariants as halt
-use Rattle.st_plan.specs.Moves.{Move, move_by, clock, earlier_of, last, skips}
+use Rattle.st_plan.specs.Marks.{Marks}
+use Rattle.st_plan.specs.Moves.{Move, move_by, clock, earlier_of, is_taking, last, skips}
 use Rattle.st_plan.specs.Reasons.{most_skipped, most_skipped_in_all, uncaused, too_wide}
 use Rattle.st_plan.specs.Build.{start_of, ready, state_after, GoesOn}
 use Rattle.st_plan.specs.Plain.{told, out_of_turn}
@@ -75,9 +77,10 @@ pub record StampsEvent (top : ℕ) (old : State) (skipped : ℕ) (p : Pid) (e : 
   pub steps : step top between stamp ≡ Some (outcome_to told new)
   pub missed : skipped_now ≡ missing (start_of before.local) e.serial + skipped
 
--- p took a message from its queue
-pub record IsTaken (top : ℕ) (old : State) (p : Pid) (told : Told) (new : State) : Type 0 where
+-- p took the event's message from its queue
+pub record IsTaken (top : ℕ) (old : State) (p : Pid) (e : Event) (told : Told) (new : State) : Type 0 where
   pub place : ℕ
+  pub found : place_in old p e.from e.serial.this ≡ Some place
   pub steps : step top old (act.Receive p (want.Place place)) ≡ Some (outcome_to told new)
 
 -- the hidden send of the receive at (p, i) was stamped
@@ -94,15 +97,24 @@ abbrev pub IsActed : Bool → ℕ → State → ℕ → Pid → Event → Told �
 IsActed true top old skipped p e told new skipped_now =
     (f : Flags) × StampsEvent top old skipped p e f told new skipped_now
 IsActed false top old skipped p e told new skipped_now =
-    IsTaken top old p told new × (skipped_now ≡ skipped)
+    IsTaken top old p e told new × (skipped_now ≡ skipped)
 
--- the act of the event at (p, i) reported it
-pub record IsReportedDone (top : ℕ) (streams : List Stream) (old : State) (skipped : ℕ) (p : Pid) (i : ℕ) (new : State)
-    (skipped_now : ℕ) : Type 0 where
+-- p's clock is below the event's count
+abbrev pub IsClockBelow : State → Pid → Event → Type 0
+IsClockBelow old p e = (r : Process) → process old p ≡ Some r → r.local.clock < e.serial.this
+
+-- the event, where it is told
+abbrev pub if_told : Bool → Event → Option Event
+if_told b e = if b then Some e else None
+
+-- the act of the event at (p, i) reported it where it is told, and elsewhere could stamp its serial
+pub record IsReportedDone (top : ℕ) (streams : List Stream) (marks : Marks) (old : State) (skipped : ℕ) (p : Pid) (i : ℕ)
+    (new : State) (skipped_now : ℕ) : Type 0 where
   pub event : Event
   pub at : event_at streams p i ≡ Some event
   pub told : Told
-  pub report : told.report ≡ Some event
+  pub report : told.report ≡ if_told (marks p i) event
+  pub below : marks p i ≡ false → is_stamp event ≡ true → IsClockBelow old p event
   pub acted : IsActed (is_stamp event) top old skipped p event told new skipped_now
 
 -- the start of p, for whose event the construction halted
@@ -190,9 +202,12 @@ pub record TellsOne (streams : List Stream) (p : Pid) (i : ℕ) (old new : List 
   pub now : i + 1 < 2 ^ 64 → slice_get new place ≡ Some (i + 1)
   pub others : (k : ℕ) → k ≢ place → slice_get new k ≡ slice_get old k
 
--- the item's move is in its turn, and goes on from this state
-pub record Serves (top : ℕ) (streams : List Stream) (earlier : List Move) (x : Item) (s : State) : Type 0 where
+-- the item's move is in its turn, its clock below its stamp, and goes on from this state
+pub record Serves (top : ℕ) (streams : List Stream) (marks : Marks) (earlier : List Move) (x : Item) (s : State)
+    : Type 0 where
   pub event : Event
   pub there : event_of streams x ≡ Some event
   pub in_turn : out_of_turn earlier (move_by x event) ≡ false
-  pub goes : GoesOn top streams s (move_by x event)
+  pub below : is_taking (move_by x event) ≡ false
+      → clock (move_by x event).who earlier < (move_by x event).event.serial.this
+  pub goes : GoesOn top streams marks s (move_by x event)

@@ -20,6 +20,7 @@ use st_check::{Verdict, check};
 use st_core::{Act, Pid, Sequence, Streams};
 use st_order::{Item, order};
 use st_pair::{PairFault, Pairing, pair};
+use st_plan::Everything;
 use std::alloc::Global;
 use std::thread::Threads;
 
@@ -118,7 +119,7 @@ fn found<const TOP: u64>(
     }
     for number in 0..items.len() {
         let (pid, index) = place_of(items[number]);
-        match construction.append(alloc, streams, pairing, items, number) {
+        match construction.append(alloc, streams, pairing, &Everything, items, number) {
             Ok(()) => {}
             Err(Halt::Memory) => return Err(AuditFault::Memory),
             Err(Halt::Uncaused) => return Ok(Finding::Unfit(pid, index, Reason::Uncaused)),

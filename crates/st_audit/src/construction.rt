@@ -5,7 +5,7 @@
 //! them. It stops where a reason of the auditor's own holds against an item, and where the world
 //! doesn't go the way of the streams; what the acts are then worth is the checker's to say.
 
-ghost use Rattle.std.specs.Prelude.{◌≡◌, ◌+◌, ◌++◌, ◌<◌, ◌↔◌, [], ◌∷◌, length, option_map};
+ghost use Rattle.std.specs.Prelude.{◌≡◌, ◌+◌, ◌++◌, ◌<◌, ◌↔◌, [], ◌∷◌, length, option_map, Bool};
 ghost use Rattle.std.specs.Prelude.{IfErr, IfOk, IsSome, IsTrue, None, List, OnOk, Some, true, take, slice_get};
 ghost use Rattle.std.specs.Prelude.{if◌then◌else◌, ℕ};
 ghost use Rattle.st_core.specs.Run.{pids_of, run_from, Stream};
@@ -24,7 +24,7 @@ ghost use Rattle.st_order.specs.Order.{IsOrder};
 ghost use Rattle.st_world.specs.World.{outcome_to, place_in};
 ghost use Rattle.st_plan.specs.Build.{flags_of, ready, start_of, tracers_after, GoesOn};
 ghost use Rattle.st_plan.specs.Moves.{earlier_of, move_by};
-ghost use Rattle.st_audit.specs.Progress.{is_too_wide, is_uncaused, missing, AreCounted, IsHalt};
+ghost use Rattle.st_audit.specs.Progress.{if_told, is_too_wide, is_uncaused, missing, AreCounted, IsClockBelow, IsHalt};
 ghost use Rattle.st_audit.specs.Progress.{IsActed, IsActHalt, IsHiddenDone, IsPlainHalt, IsReportedDone, IsSoFar};
 ghost use Rattle.st_audit.specs.Progress.{StampsEvent, IsStampHalt, IsStampHaltAt, IsStampOf, IsTaken, Ran};
 ghost use Rattle.st_audit.specs.Progress.{AreTold, PutsActs, HasTold, IsNoStop, Makes, Serves, TellsOne};
@@ -32,7 +32,7 @@ ghost use Rattle.st_audit.specs.Progress.{AreTold, PutsActs, HasTold, IsNoStop, 
 use st_core::{Act, Event, Flags, Kind, Pid, Sequence, Serial, Streams, Want};
 use st_order::Item;
 use st_pair::Pairing;
-use st_plan::{QUIET, Start, ready};
+use st_plan::{QUIET, Start, Tells, ready};
 use st_world::{Outcome, StepFault, World};
 use std::alloc::{AllocError, Global};
 
@@ -42,13 +42,6 @@ const MOST_SKIPPED: u64 = 1_000;
 
 /// The most that may be missing before all items, by the same reason.
 const MOST_SKIPPED_IN_ALL: u64 = 1_000_000;
-
-/// A hidden send isn't reported, but its receive is.
-const HIDDEN: Flags = Flags {
-    send: false,
-    receive: true,
-    print: false,
-};
 
 /// Why the construction goes no further.
 #[derive(Clone, Copy, Debug, PartialEq, Eq)]
@@ -102,34 +95,47 @@ fn with_skipped(skipped: u64, more: u64) -> Option<u64>
     Some(total)
 }
 
-/// The flags under which an event's stamp reports it: a send's message is received under a flag
-/// exactly where a receive is paired with it.
-fn flags_of(pairing: &Pairing, pid: Pid, index: u64, event: &Event) -> Flags
+/// The flags under which an event is stamped: its own where it is told, and a send's message is
+/// received under a flag exactly where a receive that is told is paired with it.
+fn flags_of<M: Tells>(marks: &M, pairing: &Pairing, pid: Pid, index: u64, event: &Event) -> Flags
     ensures { (streams : List Stream) → IsPairing streams pairing.now →
-        result ≡ flags_of streams (move_by (item.Reported pid index) event.now) }
+        result ≡ flags_of streams (M.marks marks.now) (move_by (item.Reported pid index) event.now) }
 {
     match event.kind {
         Kind::Send => Flags {
-            send: true,
-            receive: pairing.receiver(pid, index).is_some(),
+            send: marks.is_told(pid, index),
+            receive: match pairing.receiver(pid, index) {
+                None => false,
+                Some((receiver, place)) => marks.is_told(receiver, place),
+            },
             print: false,
         },
         Kind::Receive => QUIET,
         Kind::Print => Flags {
             send: false,
             receive: false,
-            print: true,
+            print: marks.is_told(pid, index),
         },
     }
 }
 
-/// Whether the report is this event.
-fn is_report(report: Option<Event>, event: &Event) -> bool
-    ensures { IsTrue result ↔ (report ≡ Some event.now) }
+/// Whether the event is a send or a print.
+fn is_stamp(event: &Event) -> bool
+    ensures { result ≡ is_stamp event.now }
+{
+    match event.kind {
+        Kind::Send | Kind::Print => true,
+        Kind::Receive => false,
+    }
+}
+
+/// Whether the report is this event, if it is told, and else none.
+fn is_report(report: Option<Event>, event: &Event, is_told: bool) -> bool
+    ensures { IsTrue result ↔ (report ≡ if_told is_told event.now) }
 {
     match report {
-        None => false,
-        Some(found) => found == *event,
+        None => !is_told,
+        Some(found) => is_told && found == *event,
     }
 }
 
@@ -275,7 +281,7 @@ impl<const TOP: u64> Construction<TOP> {
 
     /// Lets the process take the message whose token has the event's from and count.
     fn receive(&mut self, pid: Pid, event: &Event) -> Result<Outcome, Halt>
-        ensures taken { IfOk result (λ told. IsTaken TOP self.old.world pid told self.new.world) }
+        ensures taken { IfOk result (λ told. IsTaken TOP self.old.world pid event.now told self.new.world) }
         ensures makes { (place : ℕ) → place_in self.old.world pid event.now.from event.now.serial.this ≡ Some place →
             Makes TOP [] (act.Receive pid (want.Place place)) self.old.world self.old.acts result
             self.new.world self.new.acts }
@@ -289,18 +295,19 @@ impl<const TOP: u64> Construction<TOP> {
         }
     }
 
-    /// The send of the receive at this place.
-    fn send_hidden(
+    /// The send of the receive at this place: it isn't told, but its receive may be.
+    fn send_hidden<M: Tells>(
         &mut self,
         alloc: Global,
         streams: &Streams,
+        marks: &M,
         pid: Pid,
         index: u64,
     ) -> Result<(), Halt>
         ensures done { OnOk result (IsHiddenDone TOP streams.now self.old.world self.old.skipped pid index
             self.new.world self.new.skipped) }
         ensures follows { (e : EventValue) → event_at streams.now pid index ≡ Some e →
-            (g : GoesOn TOP streams.now self.old.world (move_by (item.Hidden pid index) e)) →
+            (g : GoesOn TOP streams.now (M.marks marks.now) self.old.world (move_by (item.Hidden pid index) e)) →
             PutsActs g.acts g.outcomes self.old.world self.old.acts result self.new.world self.new.acts }
         ensures told { self.new.told ≡ self.old.told }
         ensures halt { IfErr result (IsStampHaltAt streams.now pid index (λ e. e.from) (λ e. true)
@@ -312,16 +319,22 @@ impl<const TOP: u64> Construction<TOP> {
         let Some(to) = event.to else {
             return Err(Halt::Stopped);
         };
+        let flags = Flags {
+            send: false,
+            receive: marks.is_told(pid, index),
+            print: false,
+        };
         let act = Act::Send(event.from, to, event.value);
-        self.stamp(alloc, event.from, &event, HIDDEN, act)?;
+        self.stamp(alloc, event.from, &event, flags, act)?;
         Ok(())
     }
 
     /// The act of this event.
-    fn act(
+    fn act<M: Tells>(
         &mut self,
         alloc: Global,
         pairing: &Pairing,
+        marks: &M,
         pid: Pid,
         index: u64,
         event: &Event,
@@ -329,16 +342,16 @@ impl<const TOP: u64> Construction<TOP> {
         ensures acted { IfOk result (λ told. IsActed (is_stamp event.now) TOP self.old.world self.old.skipped pid
             event.now told self.new.world self.new.skipped) }
         ensures follows { (streams : List Stream) → IsPairing streams pairing.now →
-            (g : GoesOn TOP streams self.old.world (move_by (item.Reported pid index) event.now)) →
+            (g : GoesOn TOP streams (M.marks marks.now) self.old.world (move_by (item.Reported pid index) event.now)) →
             PutsActs g.acts g.outcomes self.old.world self.old.acts result self.new.world self.new.acts }
         ensures reports { (streams : List Stream) → IsPairing streams pairing.now →
-            GoesOn TOP streams self.old.world (move_by (item.Reported pid index) event.now) →
+            GoesOn TOP streams (M.marks marks.now) self.old.world (move_by (item.Reported pid index) event.now) →
             event.now.serial.prev < event.now.serial.this →
-            IfOk result (λ told. told.report ≡ Some event.now) }
+            IfOk result (λ told. told.report ≡ if_told (M.marks marks.now pid index) event.now) }
         ensures told { self.new.told ≡ self.old.told }
         ensures halt { IfErr result (IsActHalt (is_stamp event.now) self.old.world self.old.skipped pid event.now) }
     {
-        let flags = flags_of(pairing, pid, index, event);
+        let flags = flags_of(marks, pairing, pid, index, event);
         match event.kind {
             Kind::Receive => self.receive(pid, event),
             Kind::Print => self.stamp(alloc, pid, event, flags, Act::Print(pid, event.value)),
@@ -349,22 +362,35 @@ impl<const TOP: u64> Construction<TOP> {
         }
     }
 
-    /// The event at this place, where it is the next of its process, by an act that reports it.
-    fn report(
+    /// Whether the process's clock is below the event's count.
+    fn is_below(&self, pid: Pid, event: &Event) -> bool
+        ensures { IsTrue result ↔ IsClockBelow self.now.world pid event.now }
+    {
+        match self.world.clock(pid) {
+            None => true,
+            Some(clock) => clock < event.serial.this,
+        }
+    }
+
+    /// The event at this place, where it is the next of its process, by an act that reports it
+    /// exactly where it is told. Where it isn't, the clock says that its serial is the one stamped.
+    fn report<M: Tells>(
         &mut self,
         alloc: Global,
         streams: &Streams,
         pairing: &Pairing,
+        marks: &M,
         pid: Pid,
         index: u64,
     ) -> Result<(), Halt>
         requires { length self.old.told.items ≡ length streams.now }
-        ensures done { OnOk result (IsReportedDone TOP streams.now self.old.world self.old.skipped pid index
-            self.new.world self.new.skipped) }
+        ensures done { OnOk result (IsReportedDone TOP streams.now (M.marks marks.now) self.old.world self.old.skipped
+            pid index self.new.world self.new.skipped) }
         ensures follows { (e : EventValue) → event_at streams.now pid index ≡ Some e →
             e.serial.prev < e.serial.this → IsPairing streams.now pairing.now →
             HasTold streams.now self.old.told.items pid index →
-            (g : GoesOn TOP streams.now self.old.world (move_by (item.Reported pid index) e)) →
+            (is_stamp e ≡ true → IsClockBelow self.old.world pid e) →
+            (g : GoesOn TOP streams.now (M.marks marks.now) self.old.world (move_by (item.Reported pid index) e)) →
             PutsActs g.acts g.outcomes self.old.world self.old.acts result self.new.world self.new.acts }
         ensures tells { OnOk result (TellsOne streams.now pid index self.old.told.items self.new.told.items) }
         ensures told { length self.new.told.items ≡ length self.old.told.items }
@@ -380,8 +406,12 @@ impl<const TOP: u64> Construction<TOP> {
         let Some(event) = streams.event(pid, index) else {
             return Err(Halt::Stopped);
         };
-        let told = self.act(alloc, pairing, pid, index, &event)?;
-        if !is_report(told.report, &event) {
+        let is_told = marks.is_told(pid, index);
+        if !is_told && is_stamp(&event) && !self.is_below(pid, &event) {
+            return Err(Halt::Stopped);
+        }
+        let told = self.act(alloc, pairing, marks, pid, index, &event)?;
+        if !is_report(told.report, &event, is_told) {
             return Err(Halt::Stopped);
         }
         self.told[place] = index.saturating_add(1);
@@ -389,11 +419,12 @@ impl<const TOP: u64> Construction<TOP> {
     }
 
     /// The acts of the item at this number.
-    pub(crate) fn append(
+    pub(crate) fn append<M: Tells>(
         &mut self,
         alloc: Global,
         streams: &Streams,
         pairing: &Pairing,
+        marks: &M,
         items: &[Item],
         number: usize,
     ) -> Result<(), Halt>
@@ -408,7 +439,8 @@ impl<const TOP: u64> Construction<TOP> {
         ensures follows { (x : ItemValue) → slice_get items.now number ≡ Some x →
             IsPairing streams.now pairing.now →
             AreTold streams.now (earlier_of streams.now (take number items.now)) self.old.told.items →
-            (m : Serves TOP streams.now (earlier_of streams.now (take number items.now)) x self.old.world) →
+            (m : Serves TOP streams.now (M.marks marks.now) (earlier_of streams.now (take number items.now)) x
+            self.old.world) →
             PutsActs m.goes.acts m.goes.outcomes self.old.world self.old.acts result
             self.new.world self.new.acts }
         ensures tells { AreTold streams.now (earlier_of streams.now (take number items.now)) self.old.told.items →
@@ -419,8 +451,8 @@ impl<const TOP: u64> Construction<TOP> {
             IfErr result (IsHalt streams.now (take number items.now) x) }
     {
         match items[number] {
-            Item::Reported(pid, index) => self.report(alloc, streams, pairing, pid, index),
-            Item::Hidden(pid, index) => self.send_hidden(alloc, streams, pid, index),
+            Item::Reported(pid, index) => self.report(alloc, streams, pairing, marks, pid, index),
+            Item::Hidden(pid, index) => self.send_hidden(alloc, streams, marks, pid, index),
         }
     }
 }

@@ -5,8 +5,10 @@
 #![tactic(auto)]
 
 mod auditing;
+mod building;
 mod construction;
 mod finding;
 
 pub use auditing::audit;
+pub use building::told_acts;
 pub use finding::{AuditFault, Finding, Reason};

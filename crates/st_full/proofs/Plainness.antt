@@ -126,14 +126,16 @@ module _ (top : ℕ) (streams : List Stream) (rising : IsRising (pids_of streams
 pub full_streams_plain : (top : ℕ) (streams : List Stream) → IsRising (pids_of streams) → IsFull top streams
     → IsPlain top streams
 full_streams_plain top streams rising full = record {
-  accepted = full.accepted;
-  in_turn = λ p i h. false≢true
-      (sym (along top streams rising full h.order h.is_order h.earlier h.move h.later h.split).turn ∙ h.holds);
-  caused = λ p i h. false≢true
-      (sym (along top streams rising full h.order h.is_order h.earlier h.move h.later h.split).caused ∙ h.holds);
+  settled = record {
+    accepted = full.accepted;
+    in_turn = λ p i h. false≢true
+        (sym (along top streams rising full h.order h.is_order h.earlier h.move h.later h.split).turn ∙ h.holds);
+    caused = λ p i h. false≢true
+        (sym (along top streams rising full h.order h.is_order h.earlier h.move h.later h.split).caused ∙ h.holds);
+    within = full.within;
+  };
   narrow = λ p i h. false≢true
       (sym (narrow top streams rising full h.order h.is_order h.earlier h.move h.later h.split) ∙ h.holds);
-  within = full.within;
 }
 
 pub full_plain : (top : ℕ) (streams : List Stream) (acts : List Act) (shows : Shows top streams acts)

@@ -10,6 +10,7 @@ use Rattle.st_core.specs.declared.types.Want.TheVariants as want
 use Rattle.st_core.specs.Pid.{pid_on}
 use Rattle.st_core.specs.Run.{Stream}
 use Rattle.st_order.specs.Order.{order}
+use Rattle.st_plan.specs.Marks.{all_streams, all_told, marks_of, told_streams, Marked, Whole}
 use Rattle.st_plan.specs.Moves.{clock, last, moves, Move}
 use Rattle.st_plan.specs.Reasons.{too_wide, uncaused}
 use Rattle.st_plan.specs.Plain.{out_of_turn, told_all}
@@ -76,11 +77,11 @@ hidden_too_wide : along too_wide [] hidden ≡ false ∷ false ∷ false ∷ fal
 hidden_too_wide = refl
 
 -- what a process tells: its own events and no hidden send
-hidden_told : told_all b hidden ≡ got 17 0 2 a b 5 ∷ printed 17 2 3 b 8 ∷ []
+hidden_told : told_all all_told b hidden ≡ got 17 0 2 a b 5 ∷ printed 17 2 3 b 8 ∷ []
 hidden_told = refl
 
 -- their certificate
-hidden_acts : construction top hidden_sends hidden ≡ Some (
+hidden_acts : construction top hidden_sends all_told hidden ≡ Some (
     act.Tracer a true ∷ restored a 17 false false true ∷ act.Print a 7
     ∷ restored a 17 false true false ∷ act.Send a b 5 ∷ act.Receive b (want.Place 0)
     ∷ restored b 17 false false true ∷ act.Print b 8
@@ -105,7 +106,7 @@ too_wide_by_one : along too_wide [] (moves (wide 1002) (order (wide 1002))) ≡ 
 too_wide_by_one = refl
 
 -- a prev above the clock begins a new trace there
-new_trace : construction top (of a (printed 17 2 3 a 5 ∷ []) ∷ []) (moves (of a (printed 17 2 3 a 5 ∷ []) ∷ [])
+new_trace : construction top (of a (printed 17 2 3 a 5 ∷ []) ∷ []) all_told (moves (of a (printed 17 2 3 a 5 ∷ []) ∷ [])
     (order (of a (printed 17 2 3 a 5 ∷ []) ∷ [])))
     ≡ Some (act.Tracer a true ∷ restored a 17 false false false ∷ act.Print a 0 ∷ act.Print a 0
     ∷ act.Clear a ∷ act.Set a (component.Label (record { 0 = 17 }))
@@ -125,3 +126,55 @@ one_height_free = refl
 one_height_late : along out_of_turn [] (moves one_height (order one_height))
     ≡ false ∷ false ∷ true ∷ true ∷ true ∷ []
 one_height_late = refl
+
+-- COMPLETIONS
+
+abbrev told : Event → Marked
+told e = record { event = e; told = true }
+
+abbrev untold : Event → Marked
+untold e = record { event = e; told = false }
+
+abbrev all : Pid → List Marked → Whole
+all p ms = record { pid = p; marked = ms }
+
+abbrev whole_moves : List Whole → List Move
+whole_moves wholes = moves (all_streams wholes) (order (all_streams wholes))
+
+-- what the crossing lacks: each sent before it received
+abbrev crossed : List Whole
+crossed = all a (untold (sent 1 0 2 a b 5) ∷ told (got 1 0 1 b a 4) ∷ [])
+    ∷ all b (untold (sent 1 0 1 b a 4) ∷ told (got 1 0 2 a b 5) ∷ []) ∷ []
+
+crossed_told : told_streams crossed ≡ crossing
+crossed_told = refl
+
+crossed_free : along uncaused [] (whole_moves crossed) ++ along out_of_turn [] (whole_moves crossed)
+    ≡ false ∷ false ∷ false ∷ false ∷ false ∷ false ∷ false ∷ false ∷ []
+crossed_free = refl
+
+crossed_acts : construction top (all_streams crossed) (marks_of crossed) (whole_moves crossed) ≡ Some (
+    act.Tracer a true ∷ restored b 1 false true false ∷ act.Send b a 4
+    ∷ restored a 1 false false false ∷ act.Print a 0 ∷ restored a 1 false true false ∷ act.Send a b 5
+    ∷ act.Receive a (want.Place 0) ∷ act.Receive b (want.Place 0) ∷ [])
+crossed_acts = refl
+
+-- a prev below the clock: a message came between, which nobody told of
+abbrev fallen : List Stream
+fallen = of a (printed 1 0 2 a 7 ∷ printed 1 1 3 a 8 ∷ []) ∷ of b [] ∷ []
+
+fallen_uncaused : along uncaused [] (moves fallen (order fallen)) ≡ false ∷ true ∷ []
+fallen_uncaused = refl
+
+abbrev completed : List Whole
+completed = all a (told (printed 1 0 2 a 7) ∷ untold (got 1 0 1 b a 0) ∷ told (printed 1 1 3 a 8) ∷ [])
+    ∷ all b (untold (sent 1 0 1 b a 0) ∷ []) ∷ []
+
+completed_told : told_streams completed ≡ fallen
+completed_told = refl
+
+completed_acts : construction top (all_streams completed) (marks_of completed) (whole_moves completed) ≡ Some (
+    act.Tracer a true ∷ restored b 1 false false false ∷ act.Send b a 0
+    ∷ restored a 1 false false false ∷ act.Print a 0 ∷ restored a 1 false false true ∷ act.Print a 7
+    ∷ act.Receive a (want.Place 0) ∷ restored a 1 false false true ∷ act.Print a 8 ∷ [])
+completed_acts = refl

@@ -1,4 +1,4 @@
--- Nothing stands against any move of the order of plain streams: each move splits the order, and of no split a reason
+-- Nothing stands against any move of the order of settled streams: each move splits the order, and of no split a reason
 -- holds.
 use Rattle.std.proofs.Common.{◌≡◌, ℕ, ◌==◌, Bool, true, false, not, List, [], ◌∷◌, ◌++◌, reverse, refl, sym, ◌∙◌, ap}
 use Rattle.std.proofs.Common.{subst, append_assoc}
@@ -9,8 +9,8 @@ use Rattle.st_order.specs.declared.item.Item.{Item}
 use Rattle.st_order.specs.declared.item.Item.TheVariants as item
 use Rattle.st_order.specs.Order.{IsOrder}
 use Rattle.st_plan.specs.Moves.{Move, moves}
-use Rattle.st_plan.specs.Reasons.{item_place, too_wide, uncaused}
-use Rattle.st_plan.specs.Plain.{out_of_turn, told, HoldsNowhere, IsPlain}
+use Rattle.st_plan.specs.Reasons.{item_place, uncaused}
+use Rattle.st_plan.specs.Plain.{out_of_turn, told, HoldsNowhere, IsSettled}
 
 -- ALONG THE MOVES
 
@@ -82,26 +82,23 @@ turn_by earlier (item.Hidden p i) h = tt
 pub turn_of : (earlier : List Move) (m : Move) → out_of_turn earlier m ≡ false → IsInTurn earlier m.item
 turn_of earlier m h = turn_by earlier m.item h
 
--- PLAIN STREAMS
+-- SETTLED STREAMS
 
 -- nothing stands against the move
 pub record IsFree (earlier : List Move) (m : Move) : Type 0 where
   pub caused : uncaused earlier m ≡ false
-  pub narrow : too_wide earlier m ≡ false
   pub turn : IsInTurn earlier m.item
 
 free_from : (earlier ms : List Move) → AllAlong (λ before m. uncaused before m ≡ false) earlier ms
-    → AllAlong (λ before m. too_wide before m ≡ false) earlier ms
     → AllAlong (λ before m. out_of_turn before m ≡ false) earlier ms → AllAlong IsFree earlier ms
-free_from earlier [] caused narrow turn = tt
-free_from earlier (m ∷ ms) caused narrow turn = (
-  record { caused = caused.0; narrow = narrow.0; turn = turn_of earlier m turn.0 },
-  free_from (m ∷ earlier) ms caused.1 narrow.1 turn.1,
+free_from earlier [] caused turn = tt
+free_from earlier (m ∷ ms) caused turn = (
+  record { caused = caused.0; turn = turn_of earlier m turn.0 },
+  free_from (m ∷ earlier) ms caused.1 turn.1,
 )
 
-pub plain_free : (top : ℕ) (streams : List Stream) → IsPlain top streams → (xs : List Item) → IsOrder streams xs
+pub settled_free : (top : ℕ) (streams : List Stream) → IsSettled top streams → (xs : List Item) → IsOrder streams xs
     → AllAlong IsFree [] (moves streams xs)
-plain_free top streams plain xs order = free_from [] (moves streams xs)
-    (false_along streams xs order uncaused plain.caused [] (moves streams xs) refl)
-    (false_along streams xs order too_wide plain.narrow [] (moves streams xs) refl)
-    (false_along streams xs order out_of_turn plain.in_turn [] (moves streams xs) refl)
+settled_free top streams settled xs order = free_from [] (moves streams xs)
+    (false_along streams xs order uncaused settled.caused [] (moves streams xs) refl)
+    (false_along streams xs order out_of_turn settled.in_turn [] (moves streams xs) refl)

@@ -23,6 +23,7 @@ use Rattle.st_core.proofs.ForCallers.{mapped, pid_same, pid_eq-refl, process_pid
 use Rattle.st_mail.specs.Mail.{bears_stamp}
 use Rattle.st_order.specs.declared.item.Item.{Item}
 use Rattle.st_order.specs.declared.item.Item.TheVariants as item
+use Rattle.st_plan.specs.Marks.{Marks}
 use Rattle.st_plan.specs.Moves.{Move, is_taking, clock, last, move_by}
 use Rattle.st_plan.specs.Reasons.{uncaused}
 use Rattle.st_plan.specs.Build.{flags_of, state_after, GoesOn}
@@ -32,11 +33,17 @@ use Rattle.st_plan.proofs.Lift.{process_then, Lifted, Silent}
 -- THE INVARIANT
 
 -- the token that a stamping move leaves, and the message of a send
-abbrev pub token_of : List Stream → Move → Token
-token_of streams m = record { label = m.event.label; flags = flags_of streams m; serial = m.event.serial; from = m.who }
+abbrev pub token_of : List Stream → Marks → Move → Token
+token_of streams marks m = record {
+  label = m.event.label;
+  flags = flags_of streams marks m;
+  serial = m.event.serial;
+  from = m.who;
+}
 
-abbrev pub message_of : List Stream → Move → Message
-message_of streams m = record { from = m.who; value = m.event.value; token = Some (token_of streams m) }
+abbrev pub message_of : List Stream → Marks → Move → Message
+message_of streams marks m =
+    record { from = m.who; value = m.event.value; token = Some (token_of streams marks m) }
 
 -- the move sends to q, reported or hidden
 abbrev pub sends_to : Pid → Move → Bool
@@ -57,33 +64,37 @@ without from this queue = elim (position (λ x. bears_stamp from this x.token) q
 ]
 
 -- the messages that were sent to q by these moves and not yet taken, the oldest first
-abbrev pub queue_of : List Stream → Pid → List Move → List Message
-queue_of streams q [] = []
-queue_of streams q (m ∷ earlier) =
-    let old = queue_of streams q earlier in
+abbrev pub queue_of : List Stream → Marks → Pid → List Move → List Message
+queue_of streams marks q [] = []
+queue_of streams marks q (m ∷ earlier) =
+    let old = queue_of streams marks q earlier in
     if is_taking m
     then (if pid_eq m.who q then without m.event.from m.event.serial.this old else old)
-    else (if sends_to q m then old ++ message_of streams m ∷ [] else old)
+    else (if sends_to q m then old ++ message_of streams marks m ∷ [] else old)
 
 -- p's record is what the moves say
-pub record IsSo (streams : List Stream) (earlier : List Move) (p : Pid) (r : Process) : Type 0 where
+pub record IsSo (streams : List Stream) (marks : Marks) (earlier : List Move) (p : Pid) (r : Process) : Type 0 where
   pub clocked : r.local.clock ≡ clock p earlier
   pub lasted : r.local.last ≡ last p earlier
   pub traced : r.local.traced ≡ true
-  pub queued : r.queue ≡ queue_of streams p earlier
+  pub queued : r.queue ≡ queue_of streams marks p earlier
 
-pub record IsKept (streams : List Stream) (earlier : List Move) (s : State) : Type 0 where
+pub record IsKept (streams : List Stream) (marks : Marks) (earlier : List Move) (s : State) : Type 0 where
   pub there : (p : Pid) → lists streams p ≡ true → is_some (process s p) ≡ true
-  pub each : (p : Pid) (r : Process) → process s p ≡ Some r → IsSo streams earlier p r
+  pub each : (p : Pid) (r : Process) → process s p ≡ Some r → IsSo streams marks earlier p r
 
--- the event that a move reports
-abbrev pub told_event : Move → Option Event
-told_event m = elim m.item [ item.Reported q i ↦ Some m.event | item.Hidden q i ↦ None ]
+-- the move is an event that is told
+abbrev pub is_told : Marks → Move → Bool
+is_told marks m = elim m.item [ item.Reported q i ↦ marks q i | item.Hidden q i ↦ false ]
 
--- the acts of a move run from s, report what the streams tell of it, and keep the invariant
-abbrev pub Continues : ℕ → List Stream → List Move → State → Move → Type 0
-Continues top streams earlier s m =
-    (g : GoesOn top streams s m) × IsKept streams (m ∷ earlier) (state_after s g.outcomes)
+-- the event that a move tells
+abbrev pub told_event : Marks → Move → Option Event
+told_event marks m = if is_told marks m then Some m.event else None
+
+-- the acts of a move run from s, report what its process tells of it, and keep the invariant
+abbrev pub Continues : ℕ → List Stream → Marks → List Move → State → Move → Type 0
+Continues top streams marks earlier s m =
+    (g : GoesOn top streams marks s m) × IsKept streams marks (m ∷ earlier) (state_after s g.outcomes)
 
 -- SMALL FACTS
 
@@ -152,57 +163,60 @@ other_last m earlier x h = ap (λ b. cond b (cond (is_taking m) m.event.serial.t
     (last x earlier)) (apart_from x m.who h)
 
 -- the queue of x after a move that stamps
-pub stamp_queue : (streams : List Stream) (m : Move) (earlier : List Move) (x : Pid) (b : Bool) → is_taking m ≡ false
-    → sends_to x m ≡ b
-    → queue_of streams x (m ∷ earlier)
-    ≡ cond b (queue_of streams x earlier ++ message_of streams m ∷ []) (queue_of streams x earlier)
-stamp_queue streams m earlier x b stamps sends =
-    let old = queue_of streams x earlier in
+pub stamp_queue : (streams : List Stream) (marks : Marks) (m : Move) (earlier : List Move) (x : Pid) (b : Bool)
+    → is_taking m ≡ false → sends_to x m ≡ b
+    → queue_of streams marks x (m ∷ earlier)
+    ≡ cond b (queue_of streams marks x earlier ++ message_of streams marks m ∷ [])
+    (queue_of streams marks x earlier)
+stamp_queue streams marks m earlier x b stamps sends =
+    let old = queue_of streams marks x earlier in
     let took = cond (pid_eq m.who x) (without m.event.from m.event.serial.this old) old in
-    ap (λ t. cond t took (cond (sends_to x m) (old ++ message_of streams m ∷ []) old)) stamps
-    ∙ ap (λ t. cond t (old ++ message_of streams m ∷ []) old) sends
+    ap (λ t. cond t took (cond (sends_to x m) (old ++ message_of streams marks m ∷ []) old)) stamps
+    ∙ ap (λ t. cond t (old ++ message_of streams marks m ∷ []) old) sends
 
 -- and after one that takes
-pub taken_queue : (streams : List Stream) (m : Move) (earlier : List Move) (x : Pid) (b : Bool) → is_taking m ≡ true
-    → pid_eq m.who x ≡ b
-    → queue_of streams x (m ∷ earlier)
-    ≡ cond b (without m.event.from m.event.serial.this (queue_of streams x earlier)) (queue_of streams x earlier)
-taken_queue streams m earlier x b takes who =
-    let old = queue_of streams x earlier in
+pub taken_queue : (streams : List Stream) (marks : Marks) (m : Move) (earlier : List Move) (x : Pid) (b : Bool)
+    → is_taking m ≡ true → pid_eq m.who x ≡ b
+    → queue_of streams marks x (m ∷ earlier)
+    ≡ cond b (without m.event.from m.event.serial.this (queue_of streams marks x earlier))
+    (queue_of streams marks x earlier)
+taken_queue streams marks m earlier x b takes who =
+    let old = queue_of streams marks x earlier in
     let took = without m.event.from m.event.serial.this old in
-    ap (λ t. cond t (cond (pid_eq m.who x) took old) (cond (sends_to x m) (old ++ message_of streams m ∷ []) old)) takes
+    ap (λ t. cond t (cond (pid_eq m.who x) took old)
+    (cond (sends_to x m) (old ++ message_of streams marks m ∷ []) old)) takes
     ∙ ap (λ t. cond t took old) who
 
 -- A STEP
 
 -- a step keeps the invariant, where its actor's record and each other one are afterwards what the moves say
-pub step_keeps : (streams : List Stream) (earlier : List Move) (m : Move) (s : State) (a : Act) (done : Acted)
-    (r : Process) → ((x : Pid) → lists streams x ≡ true → is_some (process s x) ≡ true) → process s m.who ≡ Some r
-    → actor a ≡ m.who → IsSo streams (m ∷ earlier) m.who (changed a done r)
+pub step_keeps : (streams : List Stream) (marks : Marks) (earlier : List Move) (m : Move) (s : State) (a : Act)
+    (done : Acted) (r : Process) → ((x : Pid) → lists streams x ≡ true → is_some (process s x) ≡ true)
+    → process s m.who ≡ Some r → actor a ≡ m.who → IsSo streams marks (m ∷ earlier) m.who (changed a done r)
     → ((x : Pid) (z : Process) → pid_eq x m.who ≡ false → process s x ≡ Some z
-    → IsSo streams (m ∷ earlier) x (reached a done.local.token z))
-    → IsKept streams (m ∷ earlier) (outcome_of s a done).after
-step_keeps streams earlier m s a done r there is by own others = record {
+    → IsSo streams marks (m ∷ earlier) x (reached a done.local.token z))
+    → IsKept streams marks (m ∷ earlier) (outcome_of s a done).after
+step_keeps streams marks earlier m s a done r there is by own others = record {
   there = λ x h. ap (λ (p : Option Process). is_some p) (process_then s a done x)
       ∙ there_mapped (changed a done) (process s x)
       ∙ there x h;
   each = λ x after h.
       let parts = mapped (changed a done) (process s x) after (sym (process_then s a done x) ∙ h) in
       let z = parts.0 in
-      subst (IsSo streams (m ∷ earlier) x) parts.2
-      (elim (pid_eq x m.who) as (λ b. pid_eq x m.who ≡ b → IsSo streams (m ∷ earlier) x (changed a done z)) [
+      subst (IsSo streams marks (m ∷ earlier) x) parts.2
+      (elim (pid_eq x m.who) as (λ b. pid_eq x m.who ≡ b → IsSo streams marks (m ∷ earlier) x (changed a done z)) [
         | true ↦ λ e.
             let same = pid_same x m.who e in
             let is_r : r ≡ z = same_Some r z (sym is ∙ ap (process s) (sym same) ∙ parts.1) in
-            subst (λ p. IsSo streams (m ∷ earlier) p (changed a done z)) (sym same)
-            (subst (λ q. IsSo streams (m ∷ earlier) m.who (changed a done q)) is_r own)
+            subst (λ p. IsSo streams marks (m ∷ earlier) p (changed a done z)) (sym same)
+            (subst (λ q. IsSo streams marks (m ∷ earlier) m.who (changed a done q)) is_r own)
         | false ↦ λ e.
             let pid : z.pid ≡ x = process_pid s x z parts.1 in
             let mine : Process = record z { local = done.local; queue = done.queue } in
             let apart : pid_eq z.pid (actor a) ≡ false = ap (λ p. pid_eq p (actor a)) pid ∙ ap (pid_eq x) by ∙ e in
             let not_own : changed a done z ≡ reached a done.local.token z =
             ap (λ b. reached a done.local.token (cond b mine z)) apart in
-            subst (IsSo streams (m ∷ earlier) x) (sym not_own) (others x z e parts.1)
+            subst (IsSo streams marks (m ∷ earlier) x) (sym not_own) (others x z e parts.1)
       ] refl);
 }
 
@@ -229,21 +243,26 @@ stream_last (b ∷ acts) a os o p top s runs silent =
 abbrev pub shown_to : Pid → Move → Option Event → List Event
 shown_to p m report = (if pid_eq m.who p then option_to_list report else []) ++ []
 
-told_of : (x : Item) (e : Event) (p : Pid)
-    → shown_to p (move_by x e) (told_event (move_by x e)) ≡ told_by p (move_by x e)
-told_of (item.Reported q i) e p =
-    elim (pid_eq q p) as (λ b. (cond b (e ∷ []) []) ++ [] ≡ cond b (e ∷ []) []) [
-      | true ↦ refl
+told_item : (marks : Marks) (x : Item) (e : Event) (p : Pid)
+    → shown_to p (move_by x e) (told_event marks (move_by x e)) ≡ told_by marks p (move_by x e)
+told_item marks (item.Reported q i) e p =
+    let some : Option Event = Some e in
+    elim (pid_eq q p) as (λ b. (cond b (option_to_list (cond (marks q i) some None)) []) ++ []
+    ≡ cond b (cond (marks q i) (e ∷ []) []) []) [
+      | true ↦ elim (marks q i) as (λ c. option_to_list (cond c some None) ++ [] ≡ cond c (e ∷ []) []) [
+        | true ↦ refl
+        | false ↦ refl
+      ]
       | false ↦ refl
     ]
-told_of (item.Hidden q i) e p =
+told_item marks (item.Hidden q i) e p =
     let none : Option Event = None in
     elim (pid_eq e.from p) as (λ b. (cond b (option_to_list none) []) ++ [] ≡ []) [
       | true ↦ refl
       | false ↦ refl
     ]
 
-pub told_last : (m : Move) (report : Option Event) (p : Pid) → move_by m.item m.event ≡ m → report ≡ told_event m
-    → shown_to p m report ≡ told_by p m
-told_last m report p is h = ap (shown_to p m) h
-    ∙ subst (λ y. shown_to p y (told_event y) ≡ told_by p y) is (told_of m.item m.event p)
+pub told_last : (marks : Marks) (m : Move) (report : Option Event) (p : Pid) → move_by m.item m.event ≡ m
+    → report ≡ told_event marks m → shown_to p m report ≡ told_by marks p m
+told_last marks m report p is h = ap (shown_to p m) h
+    ∙ subst (λ y. shown_to p y (told_event marks y) ≡ told_by marks p y) is (told_item marks m.item m.event p)

@@ -20,5 +20,8 @@ pub mod Proper
 pub mod Serving
 pub mod Telling
 pub mod Listing
+pub mod OneTrace
+pub mod Settled
 pub mod Plain
+pub mod Wholes
 pub mod ForCallers

@@ -16,6 +16,7 @@ use Rattle.st_core.specs.Step.{Acted, Outcome, answers, changed, outcome_of, ste
 use Rattle.st_core.specs.Run.{Stream, pids_of, run_from}
 use Rattle.st_core.specs.Streams.{lists, stream_of}
 use Rattle.st_core.proofs.ForCallers.{pid_same, pid_eq-refl, process_pid, mapped, eqb-swap, step_done}
+use Rattle.st_plan.specs.Marks.{Marks}
 use Rattle.st_plan.specs.Build.{state_after, tracers_after}
 use Rattle.st_plan.proofs.Lift.{process_then, Silent}
 use Rattle.st_plan.proofs.Kept.{IsKept, found, there_mapped}
@@ -214,10 +215,10 @@ listed_there (y ∷ streams) x h =
     ] h
 
 -- after the tracers the invariant holds of no moves
-pub opens : (top : ℕ) (streams : List Stream) → (o : IsOpened top (zero_state (pids_of streams))
+pub opens : (top : ℕ) (streams : List Stream) (marks : Marks) → (o : IsOpened top (zero_state (pids_of streams))
     (tracers_after None (pids_of streams)) (pids_of streams))
-    × IsKept streams [] (state_after (zero_state (pids_of streams)) o.os)
-opens top streams =
+    × IsKept streams marks [] (state_after (zero_state (pids_of streams)) o.os)
+opens top streams marks =
     let pids = pids_of streams in
     let zero = zero_state pids in
     let o = opened top pids None zero (zero_there pids) (zero_zero pids) (λ x h. absurd (false≢true h)) in (

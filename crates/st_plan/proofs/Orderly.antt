@@ -16,6 +16,7 @@ use Rattle.st_order.specs.declared.item.Item.TheVariants as item
 use Rattle.st_order.specs.Items.{event_of}
 use Rattle.st_order.specs.Order.{key_by, key, comes_before, KeysRise}
 use Rattle.st_order.proofs.ForCallers.{comes_before_is}
+use Rattle.st_plan.specs.Marks.{Marks}
 use Rattle.st_plan.specs.Moves.{Move, move_by, moves, is_taking, clock}
 use Rattle.st_plan.proofs.Along.{event_is, key_below, one_move, there_event, IsAt, IsKeyBelow, IsThere}
 use Rattle.st_plan.proofs.Free.{AllAlong, IsInTurn}
@@ -173,26 +174,27 @@ source_came streams earlier p i e xs at receive rise covers source = elim (cover
 ]
 
 -- a receive of the order finds its message
-abbrev pub Waits : List Stream → List Move → Move → Type 0
-Waits streams earlier m = (p : Pid) (i : ℕ) (e : Event) → m ≡ move_by (item.Reported p i) e → IsReceive streams p i e
-    → IsWaiting streams earlier m
+abbrev pub Waits : List Stream → Marks → List Move → Move → Type 0
+Waits streams marks earlier m = (p : Pid) (i : ℕ) (e : Event) → m ≡ move_by (item.Reported p i) e
+    → IsReceive streams p i e → IsWaiting streams marks earlier m
 
-waits_by : (streams : List Stream) → IsPaired streams → AreTops streams
+waits_by : (streams : List Stream) (marks : Marks) → IsPaired streams → AreTops streams
     → (earlier : List Move) (p : Pid) (i : ℕ) (e : Event) (xs : List Item) → IsReceive streams p i e
     → AllByRecursion (Leads streams (item.Reported p i ∷ xs)) earlier → KeysRise streams (item.Reported p i ∷ xs)
     → Covers streams earlier (item.Reported p i ∷ xs) → AllByRecursion (HasCome streams) earlier
-    → IsWaiting streams earlier (move_by (item.Reported p i) e)
-waits_by streams ok tops earlier p i e xs r leads rise covers came =
+    → IsWaiting streams marks earlier (move_by (item.Reported p i) e)
+waits_by streams marks ok tops earlier p i e xs r leads rise covers came =
     let source = source_item streams ok tops p i e r in
     let first = source_came streams earlier p i e xs r.at (receive_unstamped e r.kind) rise covers source in
     let below = leads_below streams (item.Reported p i) xs e earlier r.at leads in
-    receive_waits streams ok earlier p i e r came below source first.0 first.1
+    receive_waits streams marks ok earlier p i e r came below source first.0 first.1
 
-pub waits_along : (streams : List Stream) → IsPaired streams → AreTops streams → (earlier : List Move) (xs : List Item)
-    → AreThere streams xs → AllByRecursion (Leads streams xs) earlier → KeysRise streams xs → Covers streams earlier xs
-    → AllAlong (Knows streams) earlier (moves streams xs) → AllAlong (Waits streams) earlier (moves streams xs)
-waits_along streams ok tops earlier [] there leads rise covers known = tt
-waits_along streams ok tops earlier (x ∷ xs) there leads rise covers known =
+pub waits_along : (streams : List Stream) (marks : Marks) → IsPaired streams → AreTops streams → (earlier : List Move)
+    (xs : List Item) → AreThere streams xs → AllByRecursion (Leads streams xs) earlier → KeysRise streams xs
+    → Covers streams earlier xs
+    → AllAlong (Knows streams) earlier (moves streams xs) → AllAlong (Waits streams marks) earlier (moves streams xs)
+waits_along streams marks ok tops earlier [] there leads rise covers known = tt
+waits_along streams marks ok tops earlier (x ∷ xs) there leads rise covers known =
     let e = there.0.0 in
     let at = there.0.1 in
     let m = move_by x e in
@@ -201,16 +203,16 @@ waits_along streams ok tops earlier (x ∷ xs) there leads rise covers known =
     subst (AllAlong (Knows streams) earlier) cons known in
     let leading : AllByRecursion (Leads streams xs) (m ∷ earlier) =
     (leads_new streams x xs e at rise.0, leads_on streams x xs earlier leads) in
-    subst (AllAlong (Waits streams) earlier) (sym cons) (
+    subst (AllAlong (Waits streams marks) earlier) (sym cons) (
       λ p i d is r.
           let same : x ≡ item.Reported p i = sym (item_is x e) ∙ ap (λ (y : Move). y.item) is in
-          subst (IsWaiting streams earlier) (sym is)
-          (waits_by streams ok tops earlier p i d xs r
+          subst (IsWaiting streams marks earlier) (sym is)
+          (waits_by streams marks ok tops earlier p i d xs r
           (subst (λ z. AllByRecursion (Leads streams (z ∷ xs)) earlier) same leads)
           (subst (λ z. KeysRise streams (z ∷ xs)) same rise)
           (subst (λ z. Covers streams earlier (z ∷ xs)) same covers) knew.0.0.each),
-      waits_along streams ok tops (m ∷ earlier) xs there.1 leading rise.1 (covers_on streams earlier x xs e at covers)
-          knew.1,
+      waits_along streams marks ok tops (m ∷ earlier) xs there.1 leading rise.1
+          (covers_on streams earlier x xs e at covers) knew.1,
     )
 
 -- IN AN ORDER
@@ -224,9 +226,9 @@ IsClockBelow before m = is_taking m ≡ false → clock m.who before < m.event.s
 
 -- what an order of all items in turn gives: at each stamp its process's clock is below its count, and each receive
 -- finds its message
-pub record IsOrderly (streams : List Stream) (xs : List Item) : Type 0 where
+pub record IsOrderly (streams : List Stream) (marks : Marks) (xs : List Item) : Type 0 where
   pub clocks : AllAlong IsClockBelow [] (moves streams xs)
-  pub waits : AllAlong (Waits streams) [] (moves streams xs)
+  pub waits : AllAlong (Waits streams marks) [] (moves streams xs)
 
 -- what came along the moves holds of each item
 tops_from : (streams : List Stream) (earlier : List Move) (xs : List Item) → AreThere streams xs
@@ -251,9 +253,9 @@ tops_from streams earlier (x ∷ xs) there known (suc n) z d here at =
     subst (AllAlong (Knows streams) earlier) (one_move streams x e xs (there_event streams x e at_x)) known in
     tops_from streams (move_by x e ∷ earlier) xs there.1 knew.1 n z d here at
 
-pub orderly : (streams : List Stream) → IsPaired streams → (xs : List Item) → AreThere streams xs → IsWhole streams xs
-    → KeysRise streams xs → AreInTurn [] (moves streams xs) → IsOrderly streams xs
-orderly streams ok xs there whole rise turns =
+pub orderly : (streams : List Stream) (marks : Marks) → IsPaired streams → (xs : List Item) → AreThere streams xs
+    → IsWhole streams xs → KeysRise streams xs → AreInTurn [] (moves streams xs) → IsOrderly streams marks xs
+orderly streams marks ok xs there whole rise turns =
     let next = next_along streams [] xs there tt rise turns in
     let none : IsKnown streams [] = record { each = tt; have = λ q k less. absurd (omega arith) } in
     let known = known_along streams [] (moves streams xs) ok next none in
@@ -263,5 +265,5 @@ orderly streams ok xs there whole rise turns =
     tops_from streams [] xs there known place.0 x d place.1 at in
     record {
       clocks = clocks_below streams [] (moves streams xs) ok next none;
-      waits = waits_along streams ok tops [] xs there tt rise (λ z d at. inr (whole z d at)) known;
+      waits = waits_along streams marks ok tops [] xs there tt rise (λ z d at. inr (whole z d at)) known;
     }

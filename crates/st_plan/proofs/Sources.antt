@@ -1,7 +1,7 @@
 -- A receive's message is of its source, a hidden send or its sender's stamp with its count, which has a lower key: it
 -- is a send, and at most as high. And each send that came with its sender and count gives its event.
 use Rattle.std.proofs.Common.{◌≡◌, ℕ, suc, ◌+◌, ◌==◌, ◌&&◌, max, Bool, true, false, not, cond, List, Option, Some, None}
-use Rattle.std.proofs.Common.{is_some, option_and_then, refl, sym, ◌∙◌, ap, subst, arith, if◌then◌else◌}
+use Rattle.std.proofs.Common.{option_and_then, refl, sym, ◌∙◌, ap, subst, arith, if◌then◌else◌}
 use Rattle.std.specs.List.{slice_get, AllByRecursion}
 use Rattle.std.specs.Option.{option_map_or}
 use Rattle.std.proofs.lemmas.Bool.{eqb-true, false≢true, not-false, and_parts}
@@ -23,6 +23,7 @@ use Rattle.st_order.specs.declared.item.Item.TheVariants as item
 use Rattle.st_order.specs.Items.{height, is_hidden}
 use Rattle.st_order.specs.Order.{key_by}
 use Rattle.st_order.proofs.ForCallers.{hidden_receives, tallest_has}
+use Rattle.st_plan.specs.Marks.{Marks}
 use Rattle.st_plan.specs.Moves.{Move, move_by}
 use Rattle.st_plan.specs.Build.{quiet}
 use Rattle.st_plan.proofs.Taking.{IsWaiting}
@@ -147,10 +148,10 @@ source_item streams ok tops p i e r =
 
 -- EACH SEND WITH ITS FROM AND COUNT
 
-fits_by : (streams : List Stream) → IsPaired streams → (p : Pid) (i : ℕ) (e : Event) → IsReceive streams p i e
-    → (x : Item) (d : Event) → IsAt streams x d → IsSendTo p e.from e.serial.this (move_by x d)
-    → Fits streams p e (move_by x d)
-fits_by streams ok p i e r (item.Hidden a b) d at sent =
+fits_by : (streams : List Stream) (marks : Marks) → IsPaired streams → (p : Pid) (i : ℕ) (e : Event)
+    → IsReceive streams p i e → (x : Item) (d : Event) → IsAt streams x d → IsSendTo p e.from e.serial.this (move_by x d)
+    → Fits streams marks p e (marks p i) (move_by x d)
+fits_by streams marks ok p i e r (item.Hidden a b) d at sent =
     let who = sent.who in
     let count = sent.count in
     let same = same_place streams ok p i e a b d r.at (receive_unstamped e r.kind) at.0
@@ -160,7 +161,7 @@ fits_by streams ok p i e r (item.Hidden a b) d at sent =
     let event : d ≡ e = same_Some d e (sym at.0 ∙ there ∙ r.at) in
     let kinds = sym r.kind in
     let tos = sym r.to in (
-      refl,
+      ap (λ q. marks q b) same.0 ∙ ap (marks p) same.1,
       λ k. record {
         label = (event k).label;
         kind = kinds k;
@@ -170,7 +171,7 @@ fits_by streams ok p i e r (item.Hidden a b) d at sent =
         value = (event k).value;
       },
     )
-fits_by streams ok p i e r (item.Reported q j) d at sent =
+fits_by streams marks ok p i e r (item.Reported q j) d at sent =
     let who = sent.who in
     let count = sent.count in
     let receive = receive_unstamped e r.kind in
@@ -190,10 +191,13 @@ fits_by streams ok p i e r (item.Reported q j) d at sent =
     let labels = agreed.label in
     let values = agreed.value in (
       ap (λ (k : Kind). let f : Flags = elim k [
-        | kind.Send ↦ record { send = true; receive = is_some (receiver_at streams q j); print = false }
+        | kind.Send ↦
+            let seen = option_map_or (λ at. marks at.0 at.1) (receiver_at streams q j) false in
+            record { send = marks q j; receive = seen; print = false }
         | kind.Receive ↦ quiet
-        | kind.Print ↦ record { send = false; receive = false; print = true }
-      ] in f.receive) kind_is ∙ ap (λ (o : Option (Pid × ℕ)). is_some o) receiver,
+        | kind.Print ↦ record { send = false; receive = false; print = marks q j }
+      ] in f.receive) kind_is
+          ∙ ap (λ (o : Option (Pid × ℕ)). option_map_or (λ at. marks at.0 at.1) o false) receiver,
       λ k. record {
         label = labels k;
         kind = kinds k;
@@ -205,19 +209,20 @@ fits_by streams ok p i e r (item.Reported q j) d at sent =
     )
 
 -- each send that came, with the from and the count of a receive, fits it
-fits : (streams : List Stream) → IsPaired streams → (p : Pid) (i : ℕ) (e : Event) → IsReceive streams p i e
-    → (y : Move) → HasCome streams y → IsSendTo p e.from e.serial.this y → Fits streams p e y
-fits streams ok p i e r y came sent = subst (Fits streams p e) came.is
-    (fits_by streams ok p i e r y.item y.event came.at
+fits : (streams : List Stream) (marks : Marks) → IsPaired streams → (p : Pid) (i : ℕ) (e : Event)
+    → IsReceive streams p i e → (y : Move) → HasCome streams y → IsSendTo p e.from e.serial.this y → Fits streams marks p e (marks p i) y
+fits streams marks ok p i e r y came sent = subst (Fits streams marks p e (marks p i)) came.is
+    (fits_by streams marks ok p i e r y.item y.event came.at
     (subst (IsSendTo p e.from e.serial.this) (sym came.is) sent))
 
 -- so a receive whose source came finds its message waiting
-pub receive_waits : (streams : List Stream) → IsPaired streams → (earlier : List Move) (p : Pid) (i : ℕ) (e : Event)
-    → IsReceive streams p i e → AllByRecursion (HasCome streams) earlier
+pub receive_waits : (streams : List Stream) (marks : Marks) → IsPaired streams → (earlier : List Move) (p : Pid)
+    (i : ℕ) (e : Event) → IsReceive streams p i e → AllByRecursion (HasCome streams) earlier
     → AllByRecursion (IsBelow streams (move_by (item.Reported p i) e)) earlier
     → (source : HasSource streams p i e) (n : ℕ) → slice_get earlier n ≡ Some (move_by source.thing source.event)
-    → IsWaiting streams earlier (move_by (item.Reported p i) e)
-receive_waits streams ok earlier p i e r came below source n at =
+    → IsWaiting streams marks earlier (move_by (item.Reported p i) e)
+receive_waits streams marks ok earlier p i e r came below source n at =
     let free = untaken streams ok p i e earlier r.at (receive_unstamped e r.kind) came below p in
-    is_waiting streams earlier (move_by (item.Reported p i) e) n (move_by source.thing source.event) free at source.sent
-    (λ k y among sent. fits streams ok p i e r y (all_at (HasCome streams) earlier k y came among) sent)
+    is_waiting streams marks earlier (move_by (item.Reported p i) e) n (move_by source.thing source.event) free at
+    source.sent
+    (λ k y among sent. fits streams marks ok p i e r y (all_at (HasCome streams) earlier k y came among) sent)

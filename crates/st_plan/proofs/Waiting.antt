@@ -15,9 +15,10 @@ use Rattle.st_core.specs.Pid.{pid_eq}
 use Rattle.st_core.specs.Run.{Stream}
 use Rattle.st_core.proofs.ForCallers.{pid_same, pid_eq-refl}
 use Rattle.st_mail.specs.Mail as mail
+use Rattle.st_plan.specs.Marks.{Marks}
 use Rattle.st_plan.specs.Moves.{Move, is_taking}
 use Rattle.st_plan.specs.Build.{flags_of}
-use Rattle.st_plan.proofs.Kept.{message_of, queue_of, sends_to, stamp_queue, token_of, without}
+use Rattle.st_plan.proofs.Kept.{is_told, message_of, queue_of, sends_to, stamp_queue, token_of, without}
 use Rattle.st_plan.proofs.Taking.{got_of, IsWaiting}
 
 -- the message's token has this from and this count
@@ -157,14 +158,14 @@ abbrev pub Untaken : Pid → Pid → ℕ → List Move → Type 0
 Untaken p from this earlier = AllByRecursion (λ y. is_taking y ≡ true → y.who ≡ p
     → (pid_eq from y.event.from && this == y.event.serial.this) ≡ false) earlier
 
-stays_in : (streams : List Stream) (p from : Pid) (this : ℕ) (y : Move) (earlier : List Move)
+stays_in : (streams : List Stream) (marks : Marks) (p from : Pid) (this : ℕ) (y : Move) (earlier : List Move)
     → (is_taking y ≡ true → y.who ≡ p → (pid_eq from y.event.from && this == y.event.serial.this) ≡ false)
-    → IsIn (has_stamp from this) (queue_of streams p earlier)
-    → IsIn (has_stamp from this) (queue_of streams p (y ∷ earlier))
-stays_in streams p from this y earlier untaken i =
-    let old = queue_of streams p earlier in
+    → IsIn (has_stamp from this) (queue_of streams marks p earlier)
+    → IsIn (has_stamp from this) (queue_of streams marks p (y ∷ earlier))
+stays_in streams marks p from this y earlier untaken i =
+    let old = queue_of streams marks p earlier in
     let took = without y.event.from y.event.serial.this old in
-    let sent = if sends_to p y then old ++ message_of streams y ∷ [] else old in
+    let sent = if sends_to p y then old ++ message_of streams marks y ∷ [] else old in
     let waits = λ (xs : List Message). IsIn (has_stamp from this) xs in
     elim (is_taking y) as (λ b. is_taking y ≡ b → waits (cond b (cond (pid_eq y.who p) took old) sent)) [
       | true ↦ λ takes.
@@ -174,42 +175,43 @@ stays_in streams p from this y earlier untaken i =
             | false ↦ λ other. i
           ] refl
       | false ↦ λ stamps.
-          elim (sends_to p y) as (λ b. waits (cond b (old ++ message_of streams y ∷ []) old)) [
-            | true ↦ in_front (has_stamp from this) old (message_of streams y ∷ []) i
+          elim (sends_to p y) as (λ b. waits (cond b (old ++ message_of streams marks y ∷ []) old)) [
+            | true ↦ in_front (has_stamp from this) old (message_of streams marks y ∷ []) i
             | false ↦ i
           ]
     ] refl
 
 -- the message of a send that came, and whose message nothing took, waits
-pub waits : (streams : List Stream) (p from : Pid) (this : ℕ) (earlier : List Move) (n : ℕ) (z : Move)
+pub waits : (streams : List Stream) (marks : Marks) (p from : Pid) (this : ℕ) (earlier : List Move) (n : ℕ) (z : Move)
     → Untaken p from this earlier → slice_get earlier n ≡ Some z → IsSendTo p from this z
-    → IsIn (has_stamp from this) (queue_of streams p earlier)
-waits streams p from this [] n z untaken at sent = absurd (none-some z at)
-waits streams p from this (y ∷ earlier) zero z untaken at sent =
-    let old = queue_of streams p earlier in
+    → IsIn (has_stamp from this) (queue_of streams marks p earlier)
+waits streams marks p from this [] n z untaken at sent = absurd (none-some z at)
+waits streams marks p from this (y ∷ earlier) zero z untaken at sent =
+    let old = queue_of streams marks p earlier in
     let same : y ≡ z = same_Some y z at in
-    let here : queue_of streams p (z ∷ earlier) ≡ old ++ message_of streams z ∷ [] =
-    stamp_queue streams z earlier p true sent.stamps sent.sends in
-    let mine : has_stamp from this (message_of streams z) ≡ true =
+    let here : queue_of streams marks p (z ∷ earlier) ≡ old ++ message_of streams marks z ∷ [] =
+    stamp_queue streams marks z earlier p true sent.stamps sent.sends in
+    let mine : has_stamp from this (message_of streams marks z) ≡ true =
     and_from (pid_eq z.who from) (z.event.serial.this == this) (ap (λ q. pid_eq q from) sent.who ∙ pid_eq-refl from)
     (eq-eqb z.event.serial.this this sent.count) in
-    subst (IsIn (has_stamp from this)) (sym (ap (λ x. queue_of streams p (x ∷ earlier)) same ∙ here))
-    (at_end (has_stamp from this) old (message_of streams z) mine)
-waits streams p from this (y ∷ earlier) (suc n) z untaken at sent =
-    stays_in streams p from this y earlier untaken.0 (waits streams p from this earlier n z untaken.1 at sent)
+    subst (IsIn (has_stamp from this)) (sym (ap (λ x. queue_of streams marks p (x ∷ earlier)) same ∙ here))
+    (at_end (has_stamp from this) old (message_of streams marks z) mine)
+waits streams marks p from this (y ∷ earlier) (suc n) z untaken at sent =
+    stays_in streams marks p from this y earlier untaken.0
+    (waits streams marks p from this earlier n z untaken.1 at sent)
 
 -- each queued message is one of a send that came
-pub record IsOf (streams : List Stream) (p : Pid) (earlier : List Move) (x : Message) : Type 0 where
+pub record IsOf (streams : List Stream) (marks : Marks) (p : Pid) (earlier : List Move) (x : Message) : Type 0 where
   pub number : ℕ
   pub move : Move
   pub among : slice_get earlier number ≡ Some move
   pub stamps : is_taking move ≡ false
   pub sends : sends_to p move ≡ true
-  pub is : message_of streams move ≡ x
+  pub is : message_of streams marks move ≡ x
 
-of_later : (streams : List Stream) (p : Pid) (y : Move) (earlier : List Move) (x : Message) → IsOf streams p earlier x
-    → IsOf streams p (y ∷ earlier) x
-of_later streams p y earlier x o = record {
+of_later : (streams : List Stream) (marks : Marks) (p : Pid) (y : Move) (earlier : List Move) (x : Message)
+    → IsOf streams marks p earlier x → IsOf streams marks p (y ∷ earlier) x
+of_later streams marks p y earlier x o = record {
   number = suc o.number;
   move = o.move;
   among = o.among;
@@ -233,61 +235,61 @@ pushed_at [] y (suc k) x at = absurd (none-some x at)
 pushed_at (z ∷ xs) y zero x at = inl at
 pushed_at (z ∷ xs) y (suc k) x at = pushed_at xs y k x at
 
-pub queued_of : (streams : List Stream) (p : Pid) (earlier : List Move) (k : ℕ) (x : Message)
-    → slice_get (queue_of streams p earlier) k ≡ Some x → IsOf streams p earlier x
-queued_of streams p [] k x at = absurd (none-some x at)
-queued_of streams p (y ∷ earlier) k x at =
-    let old = queue_of streams p earlier in
+pub queued_of : (streams : List Stream) (marks : Marks) (p : Pid) (earlier : List Move) (k : ℕ) (x : Message)
+    → slice_get (queue_of streams marks p earlier) k ≡ Some x → IsOf streams marks p earlier x
+queued_of streams marks p [] k x at = absurd (none-some x at)
+queued_of streams marks p (y ∷ earlier) k x at =
+    let old = queue_of streams marks p earlier in
     let test = has_stamp y.event.from y.event.serial.this in
     let left = λ (o : Option ℕ). let ys : List Message = elim o [ None ↦ old | Some j ↦ remove old j ] in ys in
-    let sent = old ++ message_of streams y ∷ [] in
+    let sent = old ++ message_of streams marks y ∷ [] in
     let took = left (position test old) in
-    let later = of_later streams p y earlier x in
-    let Of = IsOf streams p (y ∷ earlier) x in
+    let later = of_later streams marks p y earlier x in
+    let Of = IsOf streams marks p (y ∷ earlier) x in
     elim (is_taking y) as (λ b. is_taking y ≡ b
     → slice_get (cond b (cond (pid_eq y.who p) took old) (cond (sends_to p y) sent old)) k ≡ Some x → Of) [
       | true ↦ λ takes at.
           elim (pid_eq y.who p) as (λ b. slice_get (cond b took old) k ≡ Some x → Of) [
             | true ↦ λ at.
                 elim (position test old) as (λ o. slice_get (left o) k ≡ Some x → Of) [
-                  | None ↦ λ at. later (queued_of streams p earlier k x at)
+                  | None ↦ λ at. later (queued_of streams marks p earlier k x at)
                   | Some j ↦ λ at.
                       let was = removed_at old j k x at in
-                      later (queued_of streams p earlier was.0 x was.1)
+                      later (queued_of streams marks p earlier was.0 x was.1)
                 ] at
-            | false ↦ λ at. later (queued_of streams p earlier k x at)
+            | false ↦ λ at. later (queued_of streams marks p earlier k x at)
           ] at
       | false ↦ λ stamps at.
           elim (sends_to p y) as (λ b. sends_to p y ≡ b → slice_get (cond b sent old) k ≡ Some x → Of) [
             | true ↦ λ sends at.
-                elim (pushed_at old (message_of streams y) k x at) [
-                  | inl was ↦ later (queued_of streams p earlier k x was)
+                elim (pushed_at old (message_of streams marks y) k x at) [
+                  | inl was ↦ later (queued_of streams marks p earlier k x was)
                   | inr new ↦ record { number = 0; move = y; among = refl; stamps = stamps; sends = sends; is = new }
                 ]
-            | false ↦ λ sends at. later (queued_of streams p earlier k x at)
+            | false ↦ λ sends at. later (queued_of streams marks p earlier k x at)
           ] refl at
     ] refl at
 
--- the send's message can be seen, and a receive of it gives this event of p
-abbrev pub Fits : List Stream → Pid → Event → Move → Type 0
-Fits streams p e y =
-    ((flags_of streams y).receive ≡ true) × (got_of p y.event.value (token_of streams y) ≡ e)
+-- the send's message is seen where it should be, and a receive of it gives this event of p
+abbrev pub Fits : List Stream → Marks → Pid → Event → Bool → Move → Type 0
+Fits streams marks p e seen y =
+    ((flags_of streams marks y).receive ≡ seen) × (got_of p y.event.value (token_of streams marks y) ≡ e)
 
 -- so a receive finds its message, where each send that came with its from and count fits it
-pub is_waiting : (streams : List Stream) (earlier : List Move) (m : Move) (n : ℕ) (z : Move)
+pub is_waiting : (streams : List Stream) (marks : Marks) (earlier : List Move) (m : Move) (n : ℕ) (z : Move)
     → Untaken m.who m.event.from m.event.serial.this earlier → slice_get earlier n ≡ Some z
     → IsSendTo m.who m.event.from m.event.serial.this z
     → ((k : ℕ) (y : Move) → slice_get earlier k ≡ Some y → IsSendTo m.who m.event.from m.event.serial.this y
-    → Fits streams m.who m.event y)
-    → IsWaiting streams earlier m
-is_waiting streams earlier m n z untaken at sent fits =
+    → Fits streams marks m.who m.event (is_told marks m) y)
+    → IsWaiting streams marks earlier m
+is_waiting streams marks earlier m n z untaken at sent fits =
     let from = m.event.from in
     let this = m.event.serial.this in
-    let queue = queue_of streams m.who earlier in
-    let f = first_in (has_stamp from this) queue (waits streams m.who from this earlier n z untaken at sent) in
-    let o = queued_of streams m.who earlier f.place f.message f.at in
+    let queue = queue_of streams marks m.who earlier in
+    let f = first_in (has_stamp from this) queue (waits streams marks m.who from this earlier n z untaken at sent) in
+    let o = queued_of streams marks m.who earlier f.place f.message f.at in
     let y = o.move in
-    let passes : has_stamp from this (message_of streams y) ≡ true = ap (has_stamp from this) o.is ∙ f.passes in
+    let passes : has_stamp from this (message_of streams marks y) ≡ true = ap (has_stamp from this) o.is ∙ f.passes in
     let parts = and_parts (pid_eq y.who from) (y.event.serial.this == this) passes in
     let good = fits o.number y o.among (record {
       stamps = o.stamps;
@@ -298,10 +300,10 @@ is_waiting streams earlier m n z untaken at sent fits =
     record {
       place = f.place;
       message = f.message;
-      token = token_of streams y;
+      token = token_of streams marks y;
       is = f.is;
       at = f.at;
       has = ap (λ (x : Message). x.token) (sym o.is);
       seen = good.0;
-      gives = ap (λ v. got_of m.who v (token_of streams y)) (ap (λ (x : Message). x.value) (sym o.is)) ∙ good.1;
+      gives = ap (λ v. got_of m.who v (token_of streams marks y)) (ap (λ (x : Message). x.value) (sym o.is)) ∙ good.1;
     }

@@ -1,6 +1,6 @@
 -- For the parts alone: the acts that are built for an item, from what the process whose it is has before.
 use Rattle.std.specs.Prelude.{◌≡◌, ℕ, ◌-◌, ◌==◌, ◌&&◌, zero, suc, max, nat_lt, Bool, true, false, not, List, []}
-use Rattle.std.specs.Prelude.{◌∷◌, ◌++◌, Option, Some, None, if◌then◌else◌, is_some, option_map, option_and_then}
+use Rattle.std.specs.Prelude.{◌∷◌, ◌++◌, Option, Some, None, if◌then◌else◌, option_map, option_and_then}
 use Rattle.std.specs.Prelude.{position}
 use Rattle.std.specs.Option.{option_map_or}
 use Rattle.st_core.specs.declared.types.Pid.{Pid}
@@ -20,6 +20,7 @@ use Rattle.st_mail.specs.Mail.{bears_stamp}
 use Rattle.st_pair.specs.Pairing.{receiver_at}
 use Rattle.st_order.specs.declared.item.Item.TheVariants as item
 use Rattle.st_plan.specs.declared.plan.Start.{Start}
+use Rattle.st_plan.specs.Marks.{Marks}
 use Rattle.st_plan.specs.Moves.{Move, is_taking}
 use Rattle.st_plan.specs.Plain.{told_by}
 
@@ -77,16 +78,18 @@ ready p x n s f = if s.prev == x.last
     then raise p x n (s.this - 1) f
     else renew p x n s.prev ++ raise p (renewed p x n s.prev) n (s.this - 1) f
 
--- the flags under which an item stamps: a reported send's message is received under a flag exactly where a receive is
--- paired with it
-abbrev pub flags_of : List Stream → Move → Flags
-flags_of streams m = elim m.item [
-  | item.Hidden p i ↦ record { send = false; receive = true; print = false }
+-- the flags under which an item stamps: an event is told under its own flag, and a send's message is received under a
+-- flag exactly where a receive that is told is paired with it
+abbrev pub flags_of : List Stream → Marks → Move → Flags
+flags_of streams marks m = elim m.item [
+  | item.Hidden p i ↦ record { send = false; receive = marks p i; print = false }
   | item.Reported p i ↦
       elim m.event.kind [
-        | kind.Send ↦ record { send = true; receive = is_some (receiver_at streams p i); print = false }
+        | kind.Send ↦
+            let seen = option_map_or (λ at. marks at.0 at.1) (receiver_at streams p i) false in
+            record { send = marks p i; receive = seen; print = false }
         | kind.Receive ↦ quiet
-        | kind.Print ↦ record { send = false; receive = false; print = true }
+        | kind.Print ↦ record { send = false; receive = false; print = marks p i }
       ]
 ]
 
@@ -104,32 +107,32 @@ act_of r m = elim m.item [
 ]
 
 -- the acts of an item, from the record of the process whose it is
-abbrev pub acts_of : List Stream → Process → Move → Option (List Act)
-acts_of streams r m = option_map (λ a. (if is_taking m then []
-    else ready m.who (start_of r.local) m.event.label m.event.serial (flags_of streams m)) ++ a ∷ []) (act_of r m)
+abbrev pub acts_of : List Stream → Marks → Process → Move → Option (List Act)
+acts_of streams marks r m = option_map (λ a. (if is_taking m then []
+    else ready m.who (start_of r.local) m.event.label m.event.serial (flags_of streams marks m)) ++ a ∷ []) (act_of r m)
 
 -- the state after these outcomes, which begin at s
 abbrev pub state_after : State → List Outcome → State
 state_after s [] = s
 state_after s (o ∷ os) = state_after o.after os
 
--- the acts of a move run from s, and report what the streams tell of it
-pub record GoesOn (top : ℕ) (streams : List Stream) (s : State) (m : Move) : Type 0 where
+-- the acts of a move run from s, and report what its process tells of it
+pub record GoesOn (top : ℕ) (streams : List Stream) (marks : Marks) (s : State) (m : Move) : Type 0 where
   pub before : Process
   pub is_before : process s m.who ≡ Some before
   pub acts : List Act
-  pub are : acts_of streams before m ≡ Some acts
+  pub are : acts_of streams marks before m ≡ Some acts
   pub outcomes : List Outcome
   pub runs : run_from top s acts ≡ Some outcomes
-  pub tells : (p : Pid) → stream acts outcomes p ≡ told_by p m
+  pub tells : (p : Pid) → stream acts outcomes p ≡ told_by marks p m
 
 -- all acts of these moves, each item's from the state that the acts before lead to
-abbrev pub build : ℕ → List Stream → State → List Move → Option (List Act)
-build top streams s [] = Some []
-build top streams s (m ∷ ms) =
+abbrev pub build : ℕ → List Stream → Marks → State → List Move → Option (List Act)
+build top streams marks s [] = Some []
+build top streams marks s (m ∷ ms) =
     option_and_then (λ r. option_and_then (λ acts. option_and_then (λ os.
-    option_map (λ rest. acts ++ rest) (build top streams (state_after s os) ms))
-    (run_from top s acts)) (acts_of streams r m)) (process s m.who)
+    option_map (λ rest. acts ++ rest) (build top streams marks (state_after s os) ms))
+    (run_from top s acts)) (acts_of streams marks r m)) (process s m.who)
 
 -- a tracer for each node but this one, by its least pid
 abbrev pub tracers_after : Option ℕ → List Pid → List Act
@@ -143,9 +146,9 @@ opening streams [] = []
 opening streams (m ∷ ms) = tracers_after None (pids_of streams)
 
 -- the acts of a construction that goes through
-abbrev pub construction : ℕ → List Stream → List Move → Option (List Act)
-construction top streams ms =
+abbrev pub construction : ℕ → List Stream → Marks → List Move → Option (List Act)
+construction top streams marks ms =
     let first = opening streams ms in
     let zero = zero_state (pids_of streams) in
-    option_and_then (λ os. option_map (λ rest. first ++ rest) (build top streams (state_after zero os) ms))
+    option_and_then (λ os. option_map (λ rest. first ++ rest) (build top streams marks (state_after zero os) ms))
     (run_from top zero first)

@@ -7,22 +7,23 @@ use Rattle.st_core.specs.Run.{Stream}
 use Rattle.st_pair.specs.Pairing.{refusal}
 use Rattle.st_pair.specs.Places.{event_at}
 use Rattle.st_order.specs.declared.item.Item.TheVariants as item
+use Rattle.st_plan.specs.Marks.{Marks}
 use Rattle.st_plan.specs.Moves.{Move}
 use Rattle.st_plan.specs.Reasons.{too_wide, uncaused, HoldsAt}
 
--- what p reports of a move: the event of its own reported item
-abbrev pub told_by : Pid → Move → List Event
-told_by p m = elim m.item [
-  | item.Reported q i ↦ if pid_eq q p then m.event ∷ [] else []
+-- what p tells of a move: the event of its own item, where that is told
+abbrev pub told_by : Marks → Pid → Move → List Event
+told_by marks p m = elim m.item [
+  | item.Reported q i ↦ if pid_eq q p then (if marks q i then m.event ∷ [] else []) else []
   | item.Hidden q i ↦ []
 ]
 
--- all that p reports of these moves
-abbrev pub told_all : Pid → List Move → List Event
-told_all p [] = []
-told_all p (m ∷ ms) = told_by p m ++ told_all p ms
+-- all that p tells of these moves
+abbrev pub told_all : Marks → Pid → List Move → List Event
+told_all marks p [] = []
+told_all marks p (m ∷ ms) = told_by marks p m ++ told_all marks p ms
 
--- how many of these moves p reports
+-- how many of these moves are events of p
 abbrev pub told : Pid → List Move → ℕ
 told p [] = 0
 told p (m ∷ earlier) = told p earlier + (elim m.item [
@@ -41,11 +42,15 @@ out_of_turn earlier m = elim m.item [
 abbrev pub HoldsNowhere : (List Move → Move → Bool) → List Stream → Type 0
 HoldsNowhere test streams = (p : Pid) (i : ℕ) → ¬ HoldsAt test streams p i
 
--- Pairing accepts the streams, the order lists each process's reported items by rising index, nothing is uncaused or
--- too wide, and a clock can have each count.
-pub record IsPlain (top : ℕ) (streams : List Stream) : Type 0 where
+-- Pairing accepts the streams, the order lists each process's reported items by rising index, nothing is uncaused, and
+-- a clock can have each count.
+pub record IsSettled (top : ℕ) (streams : List Stream) : Type 0 where
   pub accepted : refusal streams ≡ None
   pub in_turn : HoldsNowhere out_of_turn streams
   pub caused : HoldsNowhere uncaused streams
-  pub narrow : HoldsNowhere too_wide streams
   pub within : (p : Pid) (i : ℕ) (e : Event) → event_at streams p i ≡ Some e → e.serial.this ≤ top
+
+-- And nothing is too wide.
+pub record IsPlain (top : ℕ) (streams : List Stream) : Type 0 where
+  pub settled : IsSettled top streams
+  pub narrow : HoldsNowhere too_wide streams

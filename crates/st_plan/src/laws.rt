@@ -3,17 +3,42 @@
 
 ghost use Rattle.std.specs.Prelude.{◌≡◌, ℕ, List, Some};
 ghost use Rattle.st_core.specs.declared.types.Act.{Act};
+ghost use Rattle.st_core.specs.Laws.{NoReset};
 ghost use Rattle.st_core.specs.Run.{Shows, Stream};
 ghost use Rattle.st_core.specs.Streams.{IsStreams};
 ghost use Rattle.st_order.specs.Order.{order};
 ghost use Rattle.st_plan.specs.Build.{construction};
-ghost use Rattle.st_plan.specs.Moves.{moves};
-ghost use Rattle.st_plan.specs.Plain.{IsPlain};
+ghost use Rattle.st_plan.specs.Marks.{all_streams, all_told, marks_of, told_only, told_streams, Marks, Whole};
+ghost use Rattle.st_plan.specs.Moves.{moves, Move};
+ghost use Rattle.st_plan.specs.Plain.{IsPlain, IsSettled};
 
 /// Of streams that pairing accepts, whose order lists each process's events by rising index and has
-/// nothing uncaused and nothing too wide, the acts that are built, item by item, run and show them.
+/// nothing uncaused, the acts that are built, item by item, run and show those events that are told,
+/// whichever these are. None of them is a reset.
+pub fn settled_streams_are_shown()
+    ensures { (top : ℕ) (streams : List Stream) (marks : Marks) → IsStreams streams → IsSettled top streams →
+        (acts : List Act) × (construction top streams marks (moves streams (order streams)) ≡ Some acts)
+        × Shows top (told_only marks streams) acts × NoReset acts }
+{}
+
+/// So where the streams of a trace are all that is told of such whole streams, acts without a reset
+/// show them.
+pub fn completions_are_shown()
+    ensures { (top : ℕ) (wholes : List Whole) → IsStreams (all_streams wholes) → IsSettled top (all_streams wholes) →
+        (acts : List Act) × (construction top (all_streams wholes) (marks_of wholes)
+        (moves (all_streams wholes) (order (all_streams wholes))) ≡ Some acts)
+        × Shows top (told_streams wholes) acts × NoReset acts }
+{}
+
+/// Where all is told and nothing is too wide, they show the streams.
 pub fn plain_streams_are_shown()
     ensures { (top : ℕ) (streams : List Stream) → IsStreams streams → IsPlain top streams →
-        (acts : List Act) × (construction top streams (moves streams (order streams)) ≡ Some acts)
+        (acts : List Act) × (construction top streams all_told (moves streams (order streams)) ≡ Some acts)
         × Shows top streams acts }
+{}
+
+/// No acts that are built have a reset among them, whether they show anything or not.
+pub fn constructions_have_no_reset()
+    ensures { (top : ℕ) (streams : List Stream) (marks : Marks) (ms : List Move) (acts : List Act) →
+        construction top streams marks ms ≡ Some acts → NoReset acts }
 {}

@@ -6,6 +6,8 @@
 #![tactic(auto)]
 
 pub mod laws;
+mod marks;
 mod plan;
 
+pub use marks::{Everything, Tells};
 pub use plan::{QUIET, Start, ready};

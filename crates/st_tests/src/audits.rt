@@ -2,6 +2,7 @@
 //! ample memory, and what a refused growth leaves.
 
 mod certificates;
+mod completions;
 mod reasons;
 
 use crate::collected::{made, streams};

@@ -6,7 +6,9 @@ use Rattle.std.proofs.lemmas.Option.{slice_get-get_or}
 use Rattle.st_core.specs.State.{zero_state}
 use Rattle.st_core.specs.Run.{pids_of, run_from, Shows}
 use Rattle.st_plan.specs.Build.{tracers_after}
+use Rattle.st_plan.specs.Marks.{all_told}
 use Rattle.st_plan.specs.Reasons.{too_wide, uncaused}
+use Rattle.st_plan.proofs.ForCallers.{only_whole}
 use Rattle.st_audit.proofs.Ending.{holds_there, last_within, place_there, too_wide_halt, uncaused_halt}
 use Rattle.st_audit.specs.declared.construction.Halt.TheVariants as halt
 use Rattle.st_audit.specs.Progress.{AreTold, Ran}
@@ -93,7 +95,7 @@ loop-number-init g c =
       so_far = search rules;
       counts = search rules;
       told = subst (λ t. AreTold streams [] t.items) (sym done.told) begun.tells;
-      track = λ pairs are plain. on_track top streams now.world now.acts
+      track = λ pairs are plain. on_track top streams all_told now.world now.acts
           (subst (λ ps. Ran top (zero_state (pids_of streams)) (tracers_after None ps) now.world) are
           (subst (λ w. Ran top w (tracers_after None c.args.pids.now) now.world) begun.world done.ran))
           (done.acts ∙ ap (λ xs. xs ++ tracers_after None c.args.pids.now) begun.acts ∙ ap (tracers_after None) are);
@@ -117,9 +119,9 @@ loop-number-preserved g c =
           let track = i.track pairs are plain in
           let at = slice_get-get_or xs n none c.loop-number-test.true in
           let x = get_or xs n none in
-          let m = goes_next top streams c.requires.streams plain xs c.requires.order n x at old.world old.acts track in
+          let m = goes_next top streams all_told c.requires.streams plain.settled xs c.requires.order n x at old.world old.acts track in
           let f = done.follows x at pairs i.told m.serves in
-          track_next top streams c.requires.streams plain xs c.requires.order n x at old.world old.acts track m
+          track_next top streams all_told c.requires.streams plain.settled xs c.requires.order n x at old.world old.acts track m
           now.world
           now.acts f.put f.after;
     }
@@ -134,7 +136,7 @@ returns-in-Err-Stopped-clause-plain_fits g c = λ pairs are plain.
     let track = i.track pairs are plain in
     let at = slice_get-get_or xs n none c.loop-number-test.true in
     let x = get_or xs n none in
-    let m = goes_next g.row.TOP streams c.requires.streams plain xs c.requires.order n x at old.world old.acts track in
+    let m = goes_next g.row.TOP streams all_told c.requires.streams plain.settled xs c.requires.order n x at old.world old.acts track in
     let f = c.in-Err-Stopped.ensures.follows x at pairs i.told m.serves in
     absurd (no_stop c.in-Err-Stopped.field-0 c.in-Err-Stopped.field-0-is f.goes)
 
@@ -147,7 +149,7 @@ returns-in-Err-Uncaused-clause-plain_fits g c = λ pairs are plain.
     let within = c.loop-number-test.true in
     let holds = uncaused_halt streams (take n xs) _ c.in-Err-Uncaused.field-0 c.in-Err-Uncaused.field-0-is
     (c.in-Err-Uncaused.ensures.halt _ (slice_get-get_or xs n _ within)) in
-    plain.caused at.0 at.1 (holds_there uncaused streams xs n _ at c.requires.order within c.place_of-index.ensures
+    plain.settled.caused at.0 at.1 (holds_there uncaused streams xs n _ at c.requires.order within c.place_of-index.ensures
     holds)
 
 pub returns-in-Err-TooWide-clause-plain_fits : goal.returns-in-Err-TooWide-clause-plain_fits
@@ -170,6 +172,7 @@ returns-clause-plain_fits g c = λ pairs are plain.
     let n = c.loop-number.number in
     let now = c.loop-number.construction in
     let track = c.loop-number.invariant.track pairs are plain in
-    let shows = track_shows top streams c.requires.streams plain xs c.requires.order n now.world now.acts (omega arith)
+    let shows = track_shows top streams all_told c.requires.streams plain.settled xs c.requires.order n now.world now.acts (omega arith)
     track in
-    c.judged-2.ensures.shown (subst (Shows top streams) (sym c.into_acts-2.ensures) shows)
+    c.judged-2.ensures.shown (subst (Shows top streams) (sym c.into_acts-2.ensures)
+    (subst (λ ss. Shows top ss now.acts) (only_whole streams) shows))

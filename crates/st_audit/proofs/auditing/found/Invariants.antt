@@ -2,6 +2,7 @@
 use Rattle.std.proofs.Common.{◌≡◌, take, length}
 use Rattle.st_core.specs.Run.{pids_of}
 use Rattle.st_pair.specs.Links.{IsPairing}
+use Rattle.st_plan.specs.Marks.{all_told}
 use Rattle.st_plan.specs.Moves.{earlier_of}
 use Rattle.st_plan.specs.Plain.{IsPlain}
 use Rattle.st_audit.specs.Progress.{AreTold, IsSoFar}
@@ -15,5 +16,5 @@ invariant-loop-number g l =
       counts : length l.construction.told.items ≡ length l.streams;
       told : AreTold l.streams (earlier_of l.streams (take l.number l.items)) l.construction.told.items;
       track : IsPairing l.streams l.pairing → l.pids ≡ pids_of l.streams → IsPlain g.row.TOP l.streams
-          → IsOnTrack g.row.TOP l.streams (take l.number l.items) l.construction.world l.construction.acts;
+          → IsOnTrack g.row.TOP l.streams all_told (take l.number l.items) l.construction.world l.construction.acts;
     }

@@ -1,14 +1,15 @@
 -- Each item leads to the counts with its move, and where it halts the counts before it show why. Its acts are those of
 -- its move.
-use Rattle.std.proofs.Common.{◌≡◌, ◌+◌, Some, take, sym, ◌∙◌, ap, subst}
+use Rattle.std.proofs.Common.{◌≡◌, ◌+◌, arith, true, not, Some, take, sym, ◌∙◌, ap, subst}
 use Rattle.std.proofs.lemmas.Option.{same_Some, slice_get-get_or}
 use Rattle.std.proofs.lemmas.Result.{IfOk-weaker}
 use Rattle.st_order.specs.declared.item.Item.{Item}
 use Rattle.st_order.specs.declared.item.Item.TheVariants as item
+use Rattle.st_pair.specs.Places.{is_stamp}
 use Rattle.st_pair.proofs.ForCallers.{paired, serial_rises}
 use Rattle.st_plan.specs.Moves.{earlier_of}
 use Rattle.st_plan.proofs.ForCallers.{earlier_more}
-use Rattle.st_audit.specs.Progress.{AreTold, PutsActs, IsHalt, Serves}
+use Rattle.st_audit.specs.Progress.{AreTold, PutsActs, IsClockBelow, IsHalt, Serves}
 use Rattle.st_audit.proofs.Acting.{ok_both}
 use Rattle.st_audit.proofs.Ending.{if_err}
 use Rattle.st_audit.proofs.Next.{hidden_halt, hidden_next, reported_halt, reported_next}
@@ -22,7 +23,8 @@ returns-in-Reported-clause-so_far g c =
     let at = slice_get-get_or xs n _ c.requires.within ∙ ap (λ (x : Item). Some x) c.in-Reported.is in
     IfOk-weaker c.report.result _ _ (λ x done.
     reported_next g.row.TOP c.args.streams.now xs n c.args.self.now.world c.report.new.self.world
-    c.args.self.now.skipped c.report.new.self.skipped c.requires.so_far c.in-Reported.pid c.in-Reported.index at done)
+    c.args.self.now.skipped c.report.new.self.skipped c.requires.so_far (g.M.Tells.marks c.args.marks.now)
+    c.in-Reported.pid c.in-Reported.index c.requires.accepted at done)
     c.report.ensures.done
 
 pub returns-in-Reported-clause-halt : goal.returns-in-Reported-clause-halt
@@ -69,15 +71,21 @@ returns-in-Reported-clause-follows g c = λ x at pairs are.
     let i = c.in-Reported.index in
     let old = c.args.self.now in
     let now = c.report.new.self in
+    let marks = g.M.Tells.marks c.args.marks.now in
     let earlier = earlier_of streams (take n xs) in
     let here = slice_get-get_or xs n _ c.requires.within ∙ ap (λ (x : Item). Some x) c.in-Reported.is in
     let same : item.Reported p i ≡ x = same_Some (item.Reported p i) x (sym here ∙ at) in
-    subst (λ (y : Item). (m : Serves g.row.TOP streams earlier y old.world)
+    subst (λ (y : Item). (m : Serves g.row.TOP streams marks earlier y old.world)
     → PutsActs m.goes.acts m.goes.outcomes old.world old.acts c.report.result now.world now.acts) same
     (λ m.
     let rises = serial_rises streams (paired streams c.requires.accepted) p i m.event m.there in
     let turn = in_turn streams earlier old.told.items p i m.event are m.in_turn in
-    c.report.ensures.follows m.event m.there rises pairs turn m.goes)
+    let below : is_stamp m.event ≡ true → IsClockBelow old.world p m.event = λ stamps r is.
+    let was = c.requires.so_far.counted p r is in
+    let clocked = was.clocked in
+    let low = m.below (ap not stamps) in
+    omega arith in
+    c.report.ensures.follows m.event m.there rises pairs turn below m.goes)
 
 pub returns-in-Reported-clause-tells : goal.returns-in-Reported-clause-tells
 returns-in-Reported-clause-tells g c = λ are.
@@ -106,10 +114,11 @@ returns-in-Hidden-clause-follows g c = λ x at pairs are.
     let i = c.in-Hidden.index in
     let old = c.args.self.now in
     let now = c.send_hidden.new.self in
+    let marks = g.M.Tells.marks c.args.marks.now in
     let earlier = earlier_of streams (take n xs) in
     let here = slice_get-get_or xs n _ c.requires.within ∙ ap (λ (x : Item). Some x) c.in-Hidden.is in
     let same : item.Hidden p i ≡ x = same_Some (item.Hidden p i) x (sym here ∙ at) in
-    subst (λ (y : Item). (m : Serves g.row.TOP streams earlier y old.world)
+    subst (λ (y : Item). (m : Serves g.row.TOP streams marks earlier y old.world)
     → PutsActs m.goes.acts m.goes.outcomes old.world old.acts c.send_hidden.result now.world now.acts) same
     (λ m. c.send_hidden.ensures.follows m.event m.there m.goes)
 

@@ -11,7 +11,7 @@ use Rattle.st_audit.proofs.Telling.{not_missing, place_below, tells_one}
 use Rattle.st_audit.proofs.construction.Construction.report.Goals as goal
 
 pub returns-in_default-clause-follows : goal.returns-in_default-clause-follows
-returns-in_default-clause-follows g c = λ e at rises pairs told go.
+returns-in_default-clause-follows g c = λ e at rises pairs told below go.
     absurd (not_missing c.args.streams.now c.args.pid c.args.index e c.in_default.ensures.missing at)
 
 pub index-requires : goal.index-requires
@@ -21,21 +21,22 @@ index-requires g c =
     search rules
 
 pub returns-then-index-clause-follows : goal.returns-then-index-clause-follows
-returns-then-index-clause-follows g c = λ e at rises pairs told go.
+returns-then-index-clause-follows g c = λ e at rises pairs told below go.
     let here = told c.in-Some.place c.in-Some.ensures.found (omega (arith, c.ranges.index)) in
     absurd (c.if-index.true (c.index.ensures
     ∙ get_or_from_slice_get c.args.self.now.told.items c.in-Some.place c.args.index c.index.result.now here))
 
 pub returns-in_err-told-clause-follows : goal.returns-in_err-told-clause-follows
-returns-in_err-told-clause-follows g c = λ e at rises pairs told.
+returns-in_err-told-clause-follows g c = λ e at rises pairs told below.
     let streams = c.args.streams.now in
+    let marks = g.M.Tells.marks c.args.marks.now in
     let old = c.args.self.now in
     let now = c.act.new.self in
     let p = c.args.pid in
     let i = c.args.index in
     let x = c.in-Some-event.event in
     let same : x ≡ e = same_Some x e (sym c.in-Some-event.is ∙ c.event.ensures ∙ at) in
-    subst (λ (e : Event). (go : GoesOn g.row.TOP streams old.world (move_by (item.Reported p i) e))
+    subst (λ (e : Event). (go : GoesOn g.row.TOP streams marks old.world (move_by (item.Reported p i) e))
     → PutsActs go.acts go.outcomes old.world old.acts c.from_residual.result now.world now.acts) same
     (λ go.
     let done = c.in_err-told.ensures.follows streams pairs go in
@@ -50,15 +51,16 @@ index_mut-requires g c =
     search rules
 
 pub returns-clause-follows : goal.returns-clause-follows
-returns-clause-follows g c = λ e at rises pairs told.
+returns-clause-follows g c = λ e at rises pairs told below.
     let streams = c.args.streams.now in
+    let marks = g.M.Tells.marks c.args.marks.now in
     let old = c.args.self.now in
     let now = c.act.new.self in
     let p = c.args.pid in
     let i = c.args.index in
     let x = c.in-Some-event.event in
     let same : x ≡ e = same_Some x e (sym c.in-Some-event.is ∙ c.event.ensures ∙ at) in
-    subst (λ (e : Event). (go : GoesOn g.row.TOP streams old.world (move_by (item.Reported p i) e))
+    subst (λ (e : Event). (go : GoesOn g.row.TOP streams marks old.world (move_by (item.Reported p i) e))
     → PutsActs go.acts go.outcomes old.world old.acts (Ok tt) now.world now.acts) same
     (λ go.
     let done = c.in_ok-told.ensures.follows streams pairs go in

@@ -1,0 +1,76 @@
+//! Acts that show those events of streams that are told, whichever these are.
+
+ghost use Rattle.std.specs.Prelude.{◌≡◌, IfOk, None};
+ghost use Rattle.st_core.specs.Run.{pids_of};
+ghost use Rattle.st_core.specs.Streams.{IsStreams};
+ghost use Rattle.st_order.specs.Order.{IsOrder};
+ghost use Rattle.st_pair.specs.Links.{IsPairing};
+ghost use Rattle.st_pair.specs.Pairing.{refusal};
+ghost use Rattle.st_plan.specs.Plain.{IsPlain};
+ghost use Rattle.st_audit.specs.Findings.{ShowTold};
+
+use crate::construction::{Construction, Halt};
+use st_core::{Act, Pid, Sequence, Streams};
+use st_order::{Item, order};
+use st_pair::{PairFault, Pairing, pair};
+use st_plan::Tells;
+use std::alloc::{AllocError, Global};
+use std::thread::Threads;
+
+/// The acts of all items, in their order; none where one of them halts the construction.
+fn built<const TOP: u64, M: Tells>(
+    alloc: Global,
+    streams: &Streams,
+    pids: &[Pid],
+    pairing: &Pairing,
+    marks: &M,
+    items: &[Item],
+) -> Result<Option<Sequence<Act>>, AllocError>
+    requires streams { IsStreams streams.now }
+    requires pids { pids.now ≡ pids_of streams.now }
+    requires accepted { refusal streams.now ≡ None }
+    requires paired { IsPairing streams.now pairing.now }
+    requires order { IsOrder streams.now items.now }
+    ensures { IsPlain TOP streams.now → IfOk result (ShowTold TOP streams.now (M.marks marks.now)) }
+{
+    let Ok(mut construction) = Construction::<TOP>::new(alloc, streams) else {
+        return Err(AllocError);
+    };
+    match construction.open(pids) {
+        Ok(()) => {}
+        Err(Halt::Memory) => return Err(AllocError),
+        Err(_) => return Ok(None),
+    }
+    for number in 0..items.len() {
+        match construction.append(alloc, streams, pairing, marks, items, number) {
+            Ok(()) => {}
+            Err(Halt::Memory) => return Err(AllocError),
+            Err(Halt::Uncaused) => return Ok(None),
+            Err(Halt::TooWide) => return Ok(None),
+            Err(Halt::Stopped) => return Ok(None),
+        }
+    }
+    Ok(Some(construction.into_acts()))
+}
+
+/// Acts without a reset that show those events of the streams that are told, where the streams are
+/// plain; elsewhere there may be none, and it is the checker who says what the acts are worth.
+///
+/// It sorts on several threads, with one answer for every number of threads.
+pub fn told_acts<const TOP: u64, M: Tells>(
+    rt: &(impl Threads + Sync),
+    alloc: Global,
+    streams: &Streams,
+    marks: &M,
+) -> Result<Option<Sequence<Act>>, AllocError>
+    ensures { IsPlain TOP streams.now → IfOk result (ShowTold TOP streams.now (M.marks marks.now)) }
+{
+    let pids = streams.pids();
+    let pairing = match pair(alloc, streams) {
+        Ok(pairing) => pairing,
+        Err(PairFault::Memory) => return Err(AllocError),
+        Err(_) => return Ok(None),
+    };
+    let items = order(rt, alloc, streams, &pairing)?;
+    built::<TOP, M>(alloc, streams, pids, &pairing, marks, items.as_slice())
+}
