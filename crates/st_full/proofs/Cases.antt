@@ -2,7 +2,8 @@
 -- meant.
 use Rattle.std.specs.Prelude.{◌≡◌, ℕ, ◌&&◌, ◌||◌, Bool, true, false, not, List, [], ◌∷◌, ◌++◌, Option, Some, None}
 use Rattle.std.specs.Prelude.{is_some}
-use Rattle.std.proofs.Common.{refl, sym, ◌∙◌, ap}
+use Rattle.std.proofs.Common.{refl, sym, ◌∙◌, ap, arith, sum_by}
+use Rattle.std.specs.List.{count_by}
 use Rattle.std.proofs.lemmas.Bool.{and_parts, false≢true}
 use Rattle.std.proofs.lemmas.List.Elements.{All-from_recursion}
 use Rattle.st_core.specs.declared.types.Pid.{Pid}
@@ -24,6 +25,11 @@ use Rattle.st_order.specs.Order.{order}
 use Rattle.st_plan.specs.Moves.{Move, clock, last, moves}
 use Rattle.st_plan.specs.Plain.{IsPlain, out_of_turn, told}
 use Rattle.st_plan.specs.Reasons.{too_wide, uncaused}
+use Rattle.st_plan.specs.Marks.{Marked}
+use Rattle.st_full.specs.Needs.{is_rootless}
+use Rattle.st_full.specs.Supply.{excess, is_free}
+use Rattle.st_full.specs.Wholes.{wholes_of}
+use Rattle.st_full.proofs.Against.{shown_nothing}
 use Rattle.st_full.proofs.Plainness.{full_plain}
 
 abbrev a : Pid
@@ -245,3 +251,64 @@ crossing_shown = (
 
 crossing_tells : tells (zero_state (pids_of crossing)) crossing_acts crossing_outcomes ≡ false
 crossing_tells = refl
+
+-- All that those two do: the sends, and the print before one of them, aren't told.
+marked : Bool → Event → Marked
+marked told e = record { event = e; told = told }
+
+crossing_wholes : wholes_of 9 crossing crossing_acts crossing_outcomes
+    ≡ record {
+      pid = a;
+      marked = marked false (event kind.Print 1 0 1 a None 0)
+          ∷ marked false (event kind.Send 1 0 2 a (Some b) 5)
+          ∷ marked true (event kind.Receive 1 0 1 b (Some a) 4)
+          ∷ [];
+    }
+    ∷ record {
+      pid = b;
+      marked = marked false (event kind.Send 1 0 1 b (Some a) 4)
+          ∷ marked true (event kind.Receive 1 0 2 a (Some b) 5)
+          ∷ [];
+    }
+    ∷ []
+unfolding marked
+crossing_wholes = refl
+
+-- A need of 3 that nobody is free to feed, since the one process stamped a 3 of its own.
+abbrev alone : List Event
+alone = event kind.Print 1 0 3 a None 1 ∷ event kind.Print 1 0 5 a None 2 ∷ event kind.Print 1 3 6 a None 3 ∷ []
+
+abbrev alone_streams : List Stream
+alone_streams = record { pid = a; events = alone } ∷ []
+
+one_needs : (sum_by (excess alone_streams 3) (pids_of alone_streams) ≡ 1)
+    × (count_by (is_free alone_streams 3) (pids_of alone_streams) ≡ 0)
+one_needs = (refl, refl)
+
+alone_never : (top : ℕ) (acts : List Act) → NoReset acts → ¬ Shows top alone_streams acts
+alone_never top acts none shows =
+    let few = (shown_nothing top alone_streams acts shows none (tt, tt)).2 3 in
+    absurd (omega (arith, few, one_needs.0, one_needs.1))
+
+-- With a second process there is one that is free to send it.
+abbrev two_streams : List Stream
+two_streams = record { pid = a; events = alone } ∷ record { pid = b; events = [] } ∷ []
+
+one_feeds : (sum_by (excess two_streams 3) (pids_of two_streams) ≡ 1)
+    × (count_by (is_free two_streams 3) (pids_of two_streams) ≡ 1)
+one_feeds = (refl, refl)
+
+-- Or one that told of a send of it, which nobody told to have received.
+abbrev own_streams : List Stream
+own_streams =
+    record { pid = a; events = alone }
+    ∷ record { pid = b; events = event kind.Send 1 0 3 b (Some a) 7 ∷ [] }
+    ∷ []
+
+own_feeds : (sum_by (excess own_streams 3) (pids_of own_streams) ≡ 0)
+    × (count_by (is_free own_streams 3) (pids_of own_streams) ≡ 0)
+own_feeds = (refl, refl)
+
+-- After a receive no prev is 0.
+rootless : is_rootless (event kind.Receive 1 0 1 b (Some a) 4 ∷ []) (event kind.Print 1 0 2 a None 5) ≡ true
+rootless = refl

@@ -28,7 +28,7 @@ use Rattle.st_full.proofs.Turning.{After, after, event_move, event_move_there, i
 
 -- HEIGHTS
 
-greatest_has : (es : List Event) (n j : ℕ) (e : Event) → slice_get es j ≡ Some e → j < n
+pub greatest_has : (es : List Event) (n j : ℕ) (e : Event) → slice_get es j ≡ Some e → j < n
     → e.serial.this ≤ greatest_count (take n es)
 greatest_has es zero j e at less = absurd (omega arith)
 greatest_has [] (suc n) j e at less = absurd (none-some e at)

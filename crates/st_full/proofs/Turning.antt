@@ -128,7 +128,7 @@ abbrev index_of : Item → ℕ
 index_of (item.Reported p i) = i
 index_of (item.Hidden p i) = i
 
-leaves : (e : Event) → cond (not (is_stamp e)) e.serial.this e.serial.prev ≡ prev_after (e ∷ [])
+pub leaves : (e : Event) → cond (not (is_stamp e)) e.serial.this e.serial.prev ≡ prev_after (e ∷ [])
 leaves e = elim e.kind as (λ k. cond (not (let b : Bool = elim k [
   | kind.Send ↦ true
   | kind.Receive ↦ false

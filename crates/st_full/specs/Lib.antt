@@ -1,2 +1,7 @@
 -- What public contracts cite.
 pub mod Full
+pub mod Wholes
+pub mod Completed
+pub mod Needs
+pub mod Local
+pub mod Supply
