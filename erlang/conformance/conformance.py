@@ -1,0 +1,212 @@
+#!/usr/bin/env python3
+"""How near the machine is to a real node (docs/MACHINE.md, "Where a standard node differs").
+
+Random scripts run on one or two nodes, each act to its end before the next begins. What came of a
+script, its replies and its streams, is compared with the machine's: the streams of `seqaudit
+replay` and the replies of the slow model. A script agrees; or it differs by rules by which a
+standard node is known to differ, and agrees once these are exchanged in the slow model; or it
+fails, and is printed cut down to the acts that it needs to fail.
+"""
+
+import argparse
+import difflib
+import os
+import random
+import shutil
+import subprocess
+import sys
+from collections import Counter
+from pathlib import Path
+
+import machine
+from machine import BROKEN, RULES, Outcome
+from scripts import cut_down, random_script, written_script
+from written import WRITTEN
+
+HOME = Path(__file__).resolve().parent
+#: A script that finds a broken rule needs few acts; more would say that cutting down doesn't work.
+MOST_ACTS_LEFT = 8
+
+
+class Failure(Exception):
+    """A script that no exchange of rules explains; `acts` is how many it was cut down to."""
+
+    def __init__(self, text, acts=None):
+        super().__init__(text)
+        self.acts = acts
+
+
+class Nodes:
+    """The nodes, which run one script after the other."""
+
+    def __init__(self):
+        command = ["erl", "-noshell", "-kernel", "inet_dist_use_interface", "{127,0,0,1}",
+                   "-pa", str(HOME / "ebin"), "-s", "conformance_scripts", "main"]
+        self.erl = subprocess.Popen(command, stdin=subprocess.PIPE, stdout=subprocess.PIPE, text=True,
+                                    env={**os.environ, "ERL_CRASH_DUMP_SECONDS": "0"})
+        self.title, self.count = self.line(), int(self.line())
+
+    def line(self):
+        line = self.erl.stdout.readline()
+        if not line:
+            raise Failure("the node ended")
+        return line.rstrip("\n")
+
+    def run(self, script):
+        self.erl.stdin.write("\n".join([*script.text(), "", ""]))
+        self.erl.stdin.flush()
+        lines = list(iter(self.line, ""))
+        return Outcome(lines[:len(script.acts)], lines[len(script.acts):])
+
+
+def whole(outcome):
+    return outcome
+
+
+def streams(outcome):
+    return outcome.streams
+
+
+class Comparison:
+    """Compares scripts on the nodes with the machine: with seqaudit, and with the slow model."""
+
+    def __init__(self, nodes, seqaudit=None, broken=()):
+        self.nodes, self.seqaudit, self.broken = nodes, seqaudit, broken
+
+    def check(self, script):
+        """The rules by which the script's outcome differs, and those by which its streams do. Or fails."""
+        if self.seqaudit and not self.is_replayed(script):
+            least = cut_down(script, lambda one: not self.is_replayed(one))
+            raise self.failure(least, "seqaudit replay", Outcome([], self.replayed(least)),
+                               Outcome([], self.modelled(least).streams))
+        rules = self.rules_of(script, whole)
+        if rules is None:
+            least = cut_down(script, lambda one: self.rules_of(one, whole) is None)
+            raise self.failure(least, "node", self.nodes.run(least), self.modelled(least, RULES))
+        return rules, self.rules_of(script, streams) if rules else []
+
+    def rules_of(self, script, part):
+        """A least set of rules with which this part of the outcome agrees, or None where none does."""
+        node = part(self.nodes.run(script))
+        _, rules = machine.run(script)
+
+        def agrees(some):
+            return part(self.modelled(script, some)) == node
+
+        if agrees(()):
+            return []
+        if not agrees(rules):
+            return None
+        for rule in RULES:
+            if agrees(rules - {rule}):
+                rules = rules - {rule}
+        return [rule for rule in RULES if rule in rules]
+
+    def modelled(self, script, rules=()):
+        return machine.run(script, rules, self.broken)[0]
+
+    def is_replayed(self, script):
+        return self.replayed(script) == self.modelled(script).streams
+
+    def replayed(self, script):
+        """The streams of `seqaudit replay`."""
+        done = subprocess.run([self.seqaudit, "replay"], input="\n".join([*script.text(), ""]),
+                              capture_output=True, text=True, check=False)
+        lines = done.stdout.splitlines()
+        if done.returncode:
+            return [f"status {done.returncode}", *lines]
+        return lines[1:lines.index("acts")]
+
+    @staticmethod
+    def failure(script, name, found, slow):
+        """Both outcomes of the script, with the lines in which they differ marked."""
+        sides = [script.outcome_lines(outcome) for outcome in (found, slow)]
+        shown = difflib.unified_diff(*sides, name, "slow model", n=len(script.acts) + len(found.streams), lineterm="")
+        return Failure(f"the slow model differs from {name}, cut down to {len(script.acts)} acts:\n"
+                       + "\n".join("    " + line for line in shown if not line.startswith("@@")), len(script.acts))
+
+
+def check_written(comparison):
+    """Each written script must differ by its rules and no others. Returns how many ran."""
+    scripts = {name: (written_script(text), rules) for name, (text, rules) in WRITTEN.items()}
+    possible = {name: (script, rules) for name, (script, rules) in scripts.items()
+                if script.nodes() <= comparison.nodes.count}
+    for name, (script, expected) in possible.items():
+        rules, _ = comparison.check(script)
+        if rules != expected:
+            raise Failure(f"written script {name} differs by {rules} and not by {expected}")
+    return len(possible)
+
+
+def check_random(comparison, seed, runs):
+    """How many runs agreed and how many needed which rule: in all, and in their streams alone."""
+    counted = Counter(), Counter()
+    for number in range(runs):
+        script = random_script(random.Random(f"{seed} {number}"), comparison.nodes.count)
+        try:
+            for counter, rules in zip(counted, comparison.check(script)):
+                counter.update(rules or ["agree"])
+        except Failure as failure:
+            raise Failure(f"run {number}: {failure}", failure.acts) from None
+    return counted
+
+
+def report(counted, runs):
+    """A line for those that agree, and one for each rule; a run may need several."""
+    in_all, in_streams = counted
+    yield f"{'all':>7}{'streams':>9}   of {runs} runs"
+    for name, says in {"agree": "agree as they are", **{name: rule.says for name, rule in RULES.items()}}.items():
+        yield f"{in_all[name]:7}{in_streams[name]:9}   {says}" + (f" ({name})" if name in RULES else "")
+    yield f"{runs:7}{runs:9}   agree once these rules are exchanged"
+
+
+def find_broken(nodes, names, seed, runs):
+    """Each rule that is broken on purpose must be found, and the script that finds it be short."""
+    for name in names:
+        try:
+            check_random(Comparison(nodes, broken=[name]), seed, runs)
+        except Failure as failure:
+            if failure.acts is None or failure.acts > MOST_ACTS_LEFT:
+                raise
+            print(f"broken on purpose: {BROKEN[name].says} ({name})\n  found by {failure}")
+        else:
+            raise Failure(f"broken on purpose: {BROKEN[name].says} ({name}), and not found in {runs} runs")
+
+
+def find_program():
+    """The program where SEQAUDIT says, built in this repository, or on the path."""
+    built = [HOME.parent.parent / place for place in ("bin/seqaudit", "crates/seqaudit/out/seqaudit")]
+    said = [Path(os.environ["SEQAUDIT"])] if os.environ.get("SEQAUDIT") else []
+    return next((str(file) for file in said + built if file.is_file()), shutil.which("seqaudit"))
+
+
+def compare(nodes, seed, runs):
+    seqaudit = find_program()
+    print(f"streams by {seqaudit} replay and the slow model" if seqaudit
+          else "seqaudit isn't built: streams by the slow model alone")
+    comparison = Comparison(nodes, seqaudit)
+    print(f"{check_written(comparison)} written scripts agree or differ by their rules")
+    print("\n".join(report(check_random(comparison, seed, runs), runs)))
+
+
+def main():
+    options = argparse.ArgumentParser(description=__doc__, formatter_class=argparse.RawDescriptionHelpFormatter)
+    options.add_argument("--seed", type=int, default=1, help="of the random scripts")
+    options.add_argument("--runs", type=int, default=1000, help="how many random scripts")
+    options.add_argument("--broken", choices=[*BROKEN, "all"], metavar="RULE",
+                         help="break this rule of the slow model (or all, one after the other), and find that: "
+                              + ", ".join(BROKEN))
+    given = options.parse_args()
+    try:
+        nodes = Nodes()
+        print(f"{nodes.title}, {nodes.count} node{'s' if nodes.count > 1 else ''}, seed {given.seed}")
+        if given.broken:
+            find_broken(nodes, BROKEN if given.broken == "all" else [given.broken], given.seed, given.runs)
+        else:
+            compare(nodes, given.seed, given.runs)
+    except Failure as failure:
+        sys.exit(f"FAILED: {failure}")
+
+
+if __name__ == "__main__":
+    main()
