@@ -24,8 +24,11 @@ from scripts import cut_down, random_script, written_script
 from written import WRITTEN
 
 HOME = Path(__file__).resolve().parent
+#: Standard output is for what the scripts come to.
+LOGGER = "[{handler,default,logger_std_h,#{config=>#{type=>standard_error}}}]"
 #: A script that finds a broken rule needs few acts; more would say that cutting down doesn't work.
 MOST_ACTS_LEFT = 8
+CASES_SECONDS = 120
 
 
 class Failure(Exception):
@@ -36,14 +39,18 @@ class Failure(Exception):
         self.acts = acts
 
 
+def erl(module):
+    """Runs the module's main on a node that only this machine reaches."""
+    return ["env", "ERL_CRASH_DUMP_SECONDS=0", "erl", "-noshell", "-kernel", "inet_dist_use_interface",
+            "{127,0,0,1}", "logger", LOGGER, "-pa", str(HOME / "ebin"), "-s", module, "main"]
+
+
 class Nodes:
     """The nodes, which run one script after the other."""
 
     def __init__(self):
-        command = ["erl", "-noshell", "-kernel", "inet_dist_use_interface", "{127,0,0,1}",
-                   "-pa", str(HOME / "ebin"), "-s", "conformance_scripts", "main"]
-        self.erl = subprocess.Popen(command, stdin=subprocess.PIPE, stdout=subprocess.PIPE, text=True,
-                                    env={**os.environ, "ERL_CRASH_DUMP_SECONDS": "0"})
+        self.erl = subprocess.Popen(erl("conformance_scripts"), stdin=subprocess.PIPE, stdout=subprocess.PIPE,
+                                    text=True)
         self.title, self.count = self.line(), int(self.line())
 
     def line(self):
@@ -126,6 +133,12 @@ class Comparison:
                        + "\n".join("    " + line for line in shown if not line.startswith("@@")), len(script.acts))
 
 
+def check_cases():
+    """What a node does that the machine has no acts for."""
+    if subprocess.run(erl("conformance_cases"), stdin=subprocess.DEVNULL, timeout=CASES_SECONDS, check=False).returncode:
+        raise Failure("a case doesn't hold")
+
+
 def check_written(comparison):
     """Each written script must differ by its rules and no others. Returns how many ran."""
     scripts = {name: (written_script(text), rules) for name, (text, rules) in WRITTEN.items()}
@@ -161,16 +174,21 @@ def report(counted, runs):
 
 
 def find_broken(nodes, names, seed, runs):
-    """Each rule that is broken on purpose must be found, and the script that finds it be short."""
+    """Each rule that is broken on purpose must be found on the nodes, and the script that finds it be short."""
     for name in names:
+        what = f"{BROKEN[name].says} ({name})"
+        if BROKEN[name].nodes > nodes.count:
+            print(f"{what}: skipped, there is no second node")
+            continue
         try:
             check_random(Comparison(nodes, broken=[name]), seed, runs)
         except Failure as failure:
             if failure.acts is None or failure.acts > MOST_ACTS_LEFT:
                 raise
-            print(f"broken on purpose: {BROKEN[name].says} ({name})\n  found by {failure}")
+            found = str(failure) if len(names) == 1 else f"cut down to {failure.acts} acts"
+            print(f"{what}: found, {found}")
         else:
-            raise Failure(f"broken on purpose: {BROKEN[name].says} ({name}), and not found in {runs} runs")
+            raise Failure(f"{what}: not found in {runs} runs")
 
 
 def find_program():
@@ -183,7 +201,8 @@ def find_program():
 def compare(nodes, seed, runs):
     seqaudit = find_program()
     print(f"streams by {seqaudit} replay and the slow model" if seqaudit
-          else "seqaudit isn't built: streams by the slow model alone")
+          else "seqaudit isn't built: streams by the slow model alone", flush=True)
+    check_cases()
     comparison = Comparison(nodes, seqaudit)
     print(f"{check_written(comparison)} written scripts agree or differ by their rules")
     print("\n".join(report(check_random(comparison, seed, runs), runs)))
@@ -194,7 +213,7 @@ def main():
     options.add_argument("--seed", type=int, default=1, help="of the random scripts")
     options.add_argument("--runs", type=int, default=1000, help="how many random scripts")
     options.add_argument("--broken", choices=[*BROKEN, "all"], metavar="RULE",
-                         help="break this rule of the slow model (or all, one after the other), and find that: "
+                         help="break this rule of the slow model on purpose, or all of them in turn; it must be found: "
                               + ", ".join(BROKEN))
     given = options.parse_args()
     try:

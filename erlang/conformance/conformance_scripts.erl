@@ -10,7 +10,7 @@
 
 main() ->
     Nodes = conformance_nodes:start(),
-    Parts = [conformance_node:start(Node) || Node <- Nodes],
+    Parts = [conformance_actors:start(Node) || Node <- Nodes],
     io:format("~ts~n~b~n", [conformance_nodes:title(), length(Nodes)]),
     scripts(Parts).
 
@@ -40,7 +40,7 @@ world(Names, Parts) ->
     Processes = [{Name, {Part, Pid}}
                  || {Number, Part} <- lists:enumerate(0, Parts),
                     Here <- [[Name || Name <- Names, node_number(Name) =:= Number]],
-                    {Name, Pid} <- lists:zip(Here, conformance_node:actors(Part, length(Here)))],
+                    {Name, Pid} <- lists:zip(Here, conformance_actors:renew(Part, length(Here)))],
     #{processes => maps:from_list(Processes),
       names => maps:from_list([{Pid, Name} || {Name, {_, Pid}} <- Processes]),
       parts => Parts}.
@@ -55,7 +55,7 @@ act([Word, Actor | Rest], Queued, World) ->
 
 do(Actor, Call, #{processes := Processes}) ->
     {Part, Pid} = map_get(Actor, Processes),
-    conformance_node:act(Part, Pid, Call).
+    conformance_actors:act(Part, Pid, Call).
 
 %% A send has come to its end when its message lies in the queue.
 queued("send", [To, _], _, _, Queued, World) ->
@@ -118,7 +118,7 @@ name(Pid, #{names := Names}) ->
 
 %% Each process's own events. An event of no process of the script stands at the end as it came.
 streams(Names, #{parts := Parts} = World) ->
-    Events = [{owner(Event, World), Event} || Part <- Parts, Event <- conformance_node:events(Part)],
+    Events = [{owner(Event, World), Event} || Part <- Parts, Event <- conformance_actors:events(Part)],
     lists:append([[["process ", Name] | [event(Event, World) || {Owner, Event} <- Events, Owner =:= Name]]
                   || Name <- Names])
         ++ [io_lib:format("~0p", [Event]) || {Owner, Event} <- Events, not lists:member(Owner, Names)].

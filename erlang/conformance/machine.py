@@ -6,6 +6,7 @@ rules of the machine broken on purpose: no node does these, so a comparison must
 
 import sys
 from dataclasses import dataclass, replace
+from functools import reduce
 from pathlib import Path
 from typing import Callable
 
@@ -16,16 +17,22 @@ import slow_seqaudit as model  # noqa: E402 (it lies in the folder just named)
 
 @dataclass(frozen=True)
 class Rule:
-    """What is done in place of the machine's rule. `state` mends the world after the act."""
+    """What is done in place of the machine's rule.
+
+    `act` gives the act that is done in place of one. Where the rule applies to an act that was done,
+    `state` mends the world after it, and `reply` is its reply. It shows on so many nodes.
+    """
     says: str
-    applies: Callable
+    applies: Callable = lambda step: False
     state: Callable | None = None
     reply: Callable | None = None
+    act: Callable = lambda world, act: act
+    nodes: int = 1
 
 
 @dataclass
 class Step:
-    """One act that was done: its words, the processes before it, and the world after it."""
+    """One act that was done: the processes before it, the world after it, and which send's message it took."""
     act: list
     before: dict
     world: model.World
@@ -136,6 +143,18 @@ def trace_everywhere(step):
         one.traced = step.new.traced
 
 
+def take_newest(world, act):
+    if act[0] != "receive":
+        return act
+    queue = world.of[model.parse_pid(act[1])].queue
+    places = [k for k, (sender, value, _, _) in enumerate(queue) if model.is_wanted(act[2:], k, sender, value)]
+    return [*act[:2], "place", str(places[-1])] if places else act
+
+
+def print_at_any_label(_, act):
+    return ["print", act[1], act[3]] if act[0] == "printat" else act
+
+
 def is_act(word):
     return lambda step: step.act[0] == word
 
@@ -144,17 +163,21 @@ BROKEN = {
     "receive-last": Rule("a receive leaves last", receives_token, keep_last),
     "receive-clock": Rule("a receive leaves the clock", receives_token, keep_clock),
     "plain-receive": Rule("a message without a token leaves the token", receives_plainly, keep_token),
+    "newest": Rule("a receive takes the newest message that matches", act=take_newest),
     "no-receive": Rule("a receive that matches nothing takes the token away",
                        lambda step: step.act[0] == "receive" and step.sent is None, drop_token),
     "quiet-print": Rule("a print without its flag stamps nothing",
                         lambda step: step.act[0] == "print" and step.old.token and not step.old.token.flags[2],
                         take_back),
+    "print-label": Rule("a print at a label looks at no label", act=print_at_any_label),
     "clear": Rule("a token that is cleared takes the counts with it", is_act("clear"), forget_counts),
     "look": Rule("a look takes the token away", is_act("look"), drop_token),
     "reset-tracer": Rule("a reset takes the tracer off", is_act("reset"), turn_off),
     "reset-queues": Rule("a reset leaves the tokens of queued messages", is_act("reset"), keep_queues),
-    "reset-nodes": Rule("a reset reaches the other node", is_act("reset"), forget_everywhere),
-    "tracer-nodes": Rule("a tracer reaches the other node", is_act("tracer"), trace_everywhere),
+    "reset-nodes": Rule("a reset reaches the other node", is_act("reset"), forget_everywhere,
+                        nodes=2),
+    "tracer-nodes": Rule("a tracer reaches the other node", is_act("tracer"), trace_everywhere,
+                         nodes=2),
 }
 
 
@@ -172,18 +195,24 @@ def run(script, rules=(), broken=()):
     world, streams = model.World(script.pids), {pid: [] for pid in script.pids}
     replies, used = [], set()
     exchanged = [RULES[name] for name in RULES if name in rules] + [BROKEN[name] for name in broken]
-    for number, act in enumerate(script.acts):
-        before = {pid: replace(one, queue=list(one.queue)) for pid, one in world.of.items()}
-        report, sent = world.step(act, number)
-        step = Step(act, before, world, None if sent is None else script.acts[sent])
+    for number in range(len(script.acts)):
+        step, report = do_act(world, script.acts, number, exchanged)
         used |= {name for name, rule in RULES.items() if rule.applies(step)}
         replies.append(reply(step, exchanged))
-        for rule in exchanged:
-            if rule.state and rule.applies(step):
-                rule.state(step)
         if report:
             streams[report.actor()].append(report)
     return Outcome(replies, list(model.write(streams, []))[1:-1]), used
+
+
+def do_act(world, acts, number, exchanged):
+    before = {pid: replace(one, queue=list(one.queue)) for pid, one in world.of.items()}
+    act = reduce(lambda done, rule: rule.act(world, done), exchanged, acts[number])
+    report, sent = world.step(act, number)
+    step = Step(acts[number], before, world, None if sent is None else acts[sent])
+    for rule in exchanged:
+        if rule.state and rule.applies(step):
+            rule.state(step)
+    return step, report
 
 
 def reply(step, exchanged):

@@ -1,11 +1,12 @@
-%% One node's part of a run: it keeps the processes that act, has them act, and is the system tracer.
+%% One node's part of a run: it has the node's actors, the processes of a script, do their acts, and is
+%% the node's system tracer.
 %%
 %% A message would move the token of the process that gets it. So an actor finds its act in a table
 %% and puts the reply there, and it is suspended until its turn comes.
--module(conformance_node).
+-module(conformance_actors).
 -behaviour(gen_server).
 
--export([start/1, actors/2, act/3, events/1]).
+-export([start/1, renew/2, act/3, events/1]).
 -export([init/1, handle_call/3, handle_cast/2, handle_info/2]).
 
 -define(TABLE, ?MODULE).
@@ -18,11 +19,11 @@ start(Node) ->
     {ok, Pid} = erpc:call(Node, gen_server, start, [?MODULE, [], []]),
     Pid.
 
-%% Begins a run of so many fresh processes, with no tracer.
-actors(Pid, Count) ->
-    gen_server:call(Pid, {actors, Count}, ?CALL_MS).
+%% Ends the actors that there are and returns so many new ones. There is no tracer then.
+renew(Pid, Count) ->
+    gen_server:call(Pid, {renew, Count}, ?CALL_MS).
 
-%% Has the process act, and returns the reply once the act has run to its end.
+%% Has the actor do an act, and returns the reply once the act has run to its end.
 act(Pid, Actor, Act) ->
     gen_server:call(Pid, {act, Actor, Act}, ?CALL_MS).
 
@@ -34,7 +35,7 @@ init([]) ->
     ?TABLE = ets:new(?TABLE, [named_table, public]),
     {ok, {[], []}}.
 
-handle_call({actors, Count}, _From, {Before, _}) ->
+handle_call({renew, Count}, _From, {Before, _}) ->
     [exit(Actor, kill) || Actor <- Before],
     _ = seq_trace:set_system_tracer(false),
     Actors = [spawn_actor() || _ <- lists:seq(1, Count)],
