@@ -29,6 +29,7 @@ LOGGER = "[{handler,default,logger_std_h,#{config=>#{type=>standard_error}}}]"
 #: A script that finds a broken rule needs few acts; more would say that cutting down doesn't work.
 MOST_ACTS_LEFT = 8
 CASES_SECONDS = 120
+END_SECONDS = 30
 
 
 class Failure(Exception):
@@ -53,6 +54,14 @@ class Nodes:
                                     text=True)
         self.title, self.count = self.line(), int(self.line())
 
+    def __enter__(self):
+        return self
+
+    def __exit__(self, *_):
+        """The nodes end with their input."""
+        self.erl.stdin.close()
+        self.erl.wait(END_SECONDS)
+
     def line(self):
         line = self.erl.stdout.readline()
         if not line:
@@ -64,14 +73,6 @@ class Nodes:
         self.erl.stdin.flush()
         lines = list(iter(self.line, ""))
         return Outcome(lines[:len(script.acts)], lines[len(script.acts):])
-
-
-def whole(outcome):
-    return outcome
-
-
-def streams(outcome):
-    return outcome.streams
 
 
 class Comparison:
@@ -86,19 +87,19 @@ class Comparison:
             least = cut_down(script, lambda one: not self.is_replayed(one))
             raise self.failure(least, "seqaudit replay", Outcome([], self.replayed(least)),
                                Outcome([], self.modelled(least).streams))
-        rules = self.rules_of(script, whole)
+        found = self.nodes.run(script)
+        rules = self.rules_of(script, found)
         if rules is None:
-            least = cut_down(script, lambda one: self.rules_of(one, whole) is None)
+            least = cut_down(script, lambda one: self.rules_of(one, self.nodes.run(one)) is None)
             raise self.failure(least, "node", self.nodes.run(least), self.modelled(least, RULES))
-        return rules, self.rules_of(script, streams) if rules else []
+        return rules, self.rules_of(script, found, lambda outcome: outcome.streams)
 
-    def rules_of(self, script, part):
+    def rules_of(self, script, found, part=lambda outcome: outcome):
         """A least set of rules with which this part of the outcome agrees, or None where none does."""
-        node = part(self.nodes.run(script))
         _, rules = machine.run(script)
 
         def agrees(some):
-            return part(self.modelled(script, some)) == node
+            return part(self.modelled(script, some)) == part(found)
 
         if agrees(()):
             return []
@@ -128,9 +129,10 @@ class Comparison:
     def failure(script, name, found, slow):
         """Both outcomes of the script, with the lines in which they differ marked."""
         sides = [script.outcome_lines(outcome) for outcome in (found, slow)]
-        shown = difflib.unified_diff(*sides, name, "slow model", n=len(script.acts) + len(found.streams), lineterm="")
-        return Failure(f"the slow model differs from {name}, cut down to {len(script.acts)} acts:\n"
-                       + "\n".join("    " + line for line in shown if not line.startswith("@@")), len(script.acts))
+        shown = difflib.unified_diff(*sides, name, "slow model", n=sum(map(len, sides)), lineterm="")
+        lines = [f"\n    {line}" for line in shown if not line.startswith("@@")]
+        acts = len(script.acts)
+        return Failure(f"the slow model differs from {name}, cut down to {acts} acts:{''.join(lines)}", acts)
 
 
 def check_cases():
@@ -151,26 +153,28 @@ def check_written(comparison):
     return len(possible)
 
 
-def check_random(comparison, seed, runs):
+def check_random(comparison, seed, runs, verbose=False):
     """How many runs agreed and how many needed which rule: in all, and in their streams alone."""
-    counted = Counter(), Counter()
+    in_all, in_streams = Counter(), Counter()
     for number in range(runs):
         script = random_script(random.Random(f"{seed} {number}"), comparison.nodes.count)
         try:
-            for counter, rules in zip(counted, comparison.check(script)):
-                counter.update(rules or ["agree"])
+            rules, of_streams = comparison.check(script)
         except Failure as failure:
             raise Failure(f"run {number}: {failure}", failure.acts) from None
-    return counted
+        in_all.update(rules or ["agree"])
+        in_streams.update(of_streams or ["agree"])
+        if verbose:
+            print(f"run {number}: {', '.join(rules) or 'agrees'}")
+    return in_all, in_streams
 
 
-def report(counted, runs):
+def report(in_all, in_streams, runs):
     """A line for those that agree, and one for each rule; a run may need several."""
-    in_all, in_streams = counted
-    yield f"{'all':>7}{'streams':>9}   of {runs} runs"
-    for name, says in {"agree": "agree as they are", **{name: rule.says for name, rule in RULES.items()}}.items():
-        yield f"{in_all[name]:7}{in_streams[name]:9}   {says}" + (f" ({name})" if name in RULES else "")
-    yield f"{runs:7}{runs:9}   agree once these rules are exchanged"
+    rows = {"agree": "agree as they are", **{name: f"{rule.says} ({name})" for name, rule in RULES.items()}}
+    yield f"replies, streams  streams   of {runs} runs"
+    yield from (f"{in_all[name]:16}{in_streams[name]:9}   {says}" for name, says in rows.items())
+    yield f"{runs:16}{runs:9}   agree once these rules are exchanged"
 
 
 def find_broken(nodes, names, seed, runs):
@@ -198,14 +202,14 @@ def find_program():
     return next((str(file) for file in said + built if file.is_file()), shutil.which("seqaudit"))
 
 
-def compare(nodes, seed, runs):
+def compare(nodes, seed, runs, verbose):
     seqaudit = find_program()
     print(f"streams by {seqaudit} replay and the slow model" if seqaudit
           else "seqaudit isn't built: streams by the slow model alone", flush=True)
     check_cases()
     comparison = Comparison(nodes, seqaudit)
     print(f"{check_written(comparison)} written scripts agree or differ by their rules")
-    print("\n".join(report(check_random(comparison, seed, runs), runs)))
+    print("\n".join(report(*check_random(comparison, seed, runs, verbose), runs)))
 
 
 def main():
@@ -215,14 +219,15 @@ def main():
     options.add_argument("--broken", choices=[*BROKEN, "all"], metavar="RULE",
                          help="break this rule of the slow model on purpose, or all of them in turn; it must be found: "
                               + ", ".join(BROKEN))
+    options.add_argument("--verbose", action="store_true", help="name the rules that each run needs")
     given = options.parse_args()
     try:
-        nodes = Nodes()
-        print(f"{nodes.title}, {nodes.count} node{'s' if nodes.count > 1 else ''}, seed {given.seed}")
-        if given.broken:
-            find_broken(nodes, BROKEN if given.broken == "all" else [given.broken], given.seed, given.runs)
-        else:
-            compare(nodes, given.seed, given.runs)
+        with Nodes() as nodes:
+            print(f"{nodes.title}, {nodes.count} node{'s' if nodes.count > 1 else ''}, seed {given.seed}")
+            if given.broken:
+                find_broken(nodes, BROKEN if given.broken == "all" else [given.broken], given.seed, given.runs)
+            else:
+                compare(nodes, given.seed, given.runs, given.verbose)
     except Failure as failure:
         sys.exit(f"FAILED: {failure}")
 
