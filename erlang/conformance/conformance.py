@@ -27,7 +27,7 @@ HOME = Path(__file__).resolve().parent
 #: Standard output is for what the scripts come to.
 LOGGER = "[{handler,default,logger_std_h,#{config=>#{type=>standard_error}}}]"
 #: A script that finds a broken rule needs few acts; more would say that cutting down doesn't work.
-MOST_ACTS_LEFT = 8
+MOST_ACTS_LEFT = 10
 CASES_SECONDS = 120
 END_SECONDS = 30
 
@@ -196,10 +196,13 @@ def find_broken(nodes, names, seed, runs):
 
 
 def find_program():
-    """The program where SEQAUDIT says, built in this repository, or on the path."""
+    """The program that SEQAUDIT names, or the one that is built in this repository or on the path."""
+    if said := os.environ.get("SEQAUDIT"):
+        if not Path(said).is_file():
+            raise Failure(f"SEQAUDIT is {said}, and there is no such file")
+        return said
     built = [HOME.parent.parent / place for place in ("bin/seqaudit", "crates/seqaudit/out/seqaudit")]
-    said = [Path(os.environ["SEQAUDIT"])] if os.environ.get("SEQAUDIT") else []
-    return next((str(file) for file in said + built if file.is_file()), shutil.which("seqaudit"))
+    return next((str(file) for file in built if file.is_file()), shutil.which("seqaudit"))
 
 
 def compare(nodes, seed, runs, verbose):

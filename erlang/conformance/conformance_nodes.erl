@@ -5,22 +5,25 @@
 
 %% The nodes, by rising number. The second one ends with this one.
 start() ->
-    Id = os:getpid(),
     %% A node that is to be found by others needs the name server.
     _ = os:cmd("epmd -daemon"),
-    case net_kernel:start(list_to_atom("conformance_a_" ++ Id ++ "@localhost"), #{name_domain => shortnames}) of
-        {ok, _} ->
-            Options = #{name => list_to_atom("conformance_b_" ++ Id), host => "localhost",
-                        connection => standard_io,
-                        args => ["-setcookie", atom_to_list(erlang:get_cookie()),
-                                 "-kernel", "inet_dist_use_interface", "{127,0,0,1}",
-                                 "-pa", filename:dirname(code:which(?MODULE))]},
-            {ok, _, Second} = peer:start_link(Options),
-            true = net_kernel:connect_node(Second),
-            [node(), Second];
-        {error, _} ->
-            [node()]
+    case net_kernel:start(name("conformance_a_", "@localhost"), #{name_domain => shortnames}) of
+        {ok, _} -> [node() | second()];
+        {error, _} -> [node()]
     end.
+
+second() ->
+    Options = #{name => name("conformance_b_", ""), host => "localhost", connection => standard_io,
+                args => ["-setcookie", atom_to_list(erlang:get_cookie()),
+                         "-kernel", "inet_dist_use_interface", "{127,0,0,1}",
+                         "-pa", filename:dirname(code:which(?MODULE))]},
+    case peer:start_link(Options) of
+        {ok, _, Node} -> true = net_kernel:connect_node(Node), [Node];
+        {error, _} -> []
+    end.
+
+name(Word, Host) ->
+    list_to_atom(Word ++ os:getpid() ++ Host).
 
 %% What ran, in words.
 title() ->
