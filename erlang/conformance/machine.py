@@ -10,7 +10,6 @@ from functools import reduce
 from pathlib import Path
 from typing import Callable
 
-sys.dont_write_bytecode = True
 sys.path.insert(0, str(Path(__file__).parent.parent / "test"))
 import slow_seqaudit as model  # noqa: E402 (it lies in the folder just named)
 
