@@ -148,8 +148,8 @@ spawn_here_sets_the_counts() ->
     [Next] = [Serial || {print, Serial, From, _, _} <- Events, From =:= P],
     Next = {16 * T + 15, 16 * T + 16}.
 
-%% The request is two sends to the node, the second with the arguments; the answer is a message as
-%% any other, and the counts are those of any other.
+%% The request is two sends to the node, the second with the arguments; the answer is a receive like
+%% any other, and sets token and counts as one.
 spawn_there_is_two_sends(There) ->
     {P, {Child, {7, 1, 2, Child, 1}}, Events} =
         traced(4, fun() ->
