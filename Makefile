@@ -6,18 +6,26 @@
 PREFIX ?= /usr/local
 PROGRAM = bin/seqaudit
 
-.PHONY: test layers test-erlang try demo install bench hostile program clean
+.PHONY: test layers test-erlang test-conformance try demo install bench hostile program clean
 
 # Every proof from nothing, the wrong bodies, and the tests; then what stands on the program.
 test: layers
 	rt ci
 	@$(MAKE) --no-print-directory test-erlang
+	@$(MAKE) --no-print-directory test-conformance
 
 # Traces of a real Erlang node, where there is one, by the program that was built last.
 test-erlang: BUILT = $(firstword $(wildcard $(CURDIR)/crates/seqaudit/out/seqaudit $(CURDIR)/bin/seqaudit))
 test-erlang:
 	@if command -v erl >/dev/null; then SEQAUDIT=$(BUILT) $(MAKE) --no-print-directory -C erlang test; \
 	else echo "There is no erl here (Debian's erlang-base): the Erlang tests are skipped."; fi
+
+# The machine beside a real node, by 200 random scripts, and again with each rule of the slow model broken.
+test-conformance: BUILT = $(firstword $(wildcard $(CURDIR)/crates/seqaudit/out/seqaudit $(CURDIR)/bin/seqaudit))
+test-conformance:
+	@if command -v erl >/dev/null && command -v python3 >/dev/null; then \
+	SEQAUDIT=$(BUILT) $(MAKE) --no-print-directory -C erlang conformance conformance-broken RUNS=200; \
+	else echo "There is no erl or no python3 here: the comparison with a real node is skipped."; fi
 
 # What a crate's proofs cite of another crate's proofs is its module of lemmas for callers alone.
 layers:
@@ -55,4 +63,4 @@ hostile: $(PROGRAM)
 	bench/hostile
 
 clean:
-	rm -rf bin crates/*/out erlang/ebin erlang/test/ebin erlang/test/out
+	rm -rf bin crates/*/out erlang/ebin erlang/test/ebin erlang/test/out erlang/conformance/ebin
