@@ -11,11 +11,11 @@ FILE ?= examples/collected.txt
 SOURCES := crates.txt $(shell find crates -path '*/out' -prune -o -type f -print)
 CODE := crates.txt $(filter %.rt,$(SOURCES))
 
-.PHONY: help quick try program demo install test layers docs test-erlang bench hostile clean distclean
+.PHONY: help quick try program demo install test layers docs test-erlang test-conformance bench hostile clean distclean
 .DELETE_ON_ERROR:
 
 help:
-	@awk -F ':.*## ' '/^[a-z-]+:.*## / { printf "make %-13s%s\n", $$1, $$2 }' $(MAKEFILE_LIST)
+	@awk -F ':.*## ' '/^[a-z-]+:.*## / { printf "make %-18s%s\n", $$1, $$2 }' $(MAKEFILE_LIST)
 
 quick: $(PROGRAMS:%=bin/quick/%) ## builds without proofs, in bin/quick/: small traces, 10,000 acts a second (1 minute)
 
@@ -46,6 +46,7 @@ install: $(PROGRAMS:%=bin/%) ## copies the proved program to PREFIX/bin (at once
 test: layers docs ## the merge gate: all proofs from nothing, the wrong bodies, the tests (41 minutes)
 	rt ci
 	@$(MAKE) --no-print-directory test-erlang
+	@$(MAKE) --no-print-directory test-conformance
 
 # What a crate's proofs cite of another crate's proofs is its module of lemmas for callers alone.
 layers: ## looks which proofs cite another crate's (1 second)
@@ -60,6 +61,13 @@ test-erlang: ## the tests of erlang/, with the program that was built last (1 mi
 	@if command -v erl >/dev/null; then SEQAUDIT=$(BUILT) $(MAKE) --no-print-directory -C erlang test; \
 	else echo "There is no erl here (Debian's erlang-base): the Erlang tests are skipped."; fi
 
+# The machine beside a real node, by 200 random scripts, and again with each rule of the slow model broken.
+test-conformance: BUILT = $(firstword $(wildcard $(CURDIR)/crates/seqaudit/out/seqaudit $(CURDIR)/bin/seqaudit))
+test-conformance: ## compares the machine with a real node, by random scripts (1 minute; needs erl and python3)
+	@if command -v erl >/dev/null && command -v python3 >/dev/null; then \
+	SEQAUDIT=$(BUILT) $(MAKE) --no-print-directory -C erlang conformance conformance-broken RUNS=200; \
+	else echo "There is no erl or no python3 here: the comparison with a real node is skipped."; fi
+
 bench: bin/seqaudit ## times the commands on bundles of 1,000,000 acts, beside wc -l (1 minute, after program)
 	bench/run
 
@@ -67,7 +75,7 @@ hostile: bin/seqaudit ## faults, tampered text and inputs at the limits, docs/HO
 	bench/hostile
 
 clean: ## removes what was built; keeps the proofs
-	rm -rf bin erlang/ebin erlang/test/ebin erlang/test/out
+	rm -rf bin erlang/ebin erlang/test/ebin erlang/test/out erlang/conformance/ebin
 
 distclean: clean ## removes the proofs too
 	rm -rf crates/*/out

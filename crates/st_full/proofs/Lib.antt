@@ -20,4 +20,11 @@ pub mod Needs
 pub mod Feeders
 pub mod Supplying
 pub mod Against
+pub mod Ordered
+pub mod Recounting
+pub mod SamePairing
+pub mod SameSupply
+pub mod SameNames
+pub mod Renumbering
+pub mod Ranks
 pub mod ForCallers

@@ -2,7 +2,7 @@
 //! nothing: each clause is a theorem over the definitions of `specs/`, and a proof that calls the
 //! function may use it.
 
-ghost use Rattle.std.specs.Prelude.{◌≡◌, ◌↔◌, ℕ, true, List, Some, take};
+ghost use Rattle.std.specs.Prelude.{◌≡◌, ◌↔◌, ◌≤◌, ℕ, true, List, Some, take};
 ghost use Rattle.st_core.specs.declared.types.Act.{Act};
 ghost use Rattle.st_core.specs.declared.types.Event.{Event};
 ghost use Rattle.st_core.specs.declared.types.Pid.{Pid};
@@ -11,6 +11,7 @@ ghost use Rattle.st_core.specs.Pid.{IsRising};
 ghost use Rattle.st_core.specs.Run.{Shows, Stream, pids_of};
 ghost use Rattle.st_core.specs.State.{zero_state};
 ghost use Rattle.st_core.specs.Streams.{events_of, IsStreams};
+ghost use Rattle.st_pair.specs.Pairing.{refusal};
 ghost use Rattle.st_pair.specs.Places.{event_at};
 ghost use Rattle.st_plan.specs.Marks.{all_streams, told_streams, Whole};
 ghost use Rattle.st_plan.specs.Plain.{IsPlain, IsSettled};
@@ -18,6 +19,7 @@ ghost use Rattle.st_full.specs.Completed.{IsCompleted, IsShownInOneTrace};
 ghost use Rattle.st_full.specs.Full.{IsFull};
 ghost use Rattle.st_full.specs.Local.{IsNeedless};
 ghost use Rattle.st_full.specs.Needs.{is_late, is_need, is_rootless, HoldsOfNone, IsFedAt, marked_of};
+ghost use Rattle.st_full.specs.Renumbering.{count_of_rank, counts_of, KeepsOrder, renumbered_streams, with_counts};
 ghost use Rattle.st_full.specs.Supply.{IsSupplied};
 ghost use Rattle.st_full.specs.Wholes.{wholes_of};
 
@@ -96,4 +98,41 @@ pub fn shown_exactly_where_nothing_is_needed()
 pub fn needless_streams_are_shown()
     ensures { (top : ℕ) (streams : List Stream) → IsStreams streams → IsNeedless top streams
         → IsShownInOneTrace top streams }
+{}
+
+/// Only the order of counts matters: if all counts are replaced by others in the same order, and 0 by
+/// 0, streams stay needless, and others don't become it.
+pub fn renumbering_keeps_needless()
+    ensures { (f : ℕ → ℕ) → KeepsOrder f → (top : ℕ) (streams : List Stream)
+        → (IsNeedless top streams ↔ IsNeedless (f top) (with_counts f streams)) }
+{}
+
+/// The same reasons hold too, at the same places: pairing's, late stamps, needs of 0, and counts that
+/// too many need. Only a count above TOP is another matter, since it is about size.
+pub fn renumbering_keeps_reasons()
+    ensures { (f : ℕ → ℕ) → KeepsOrder f → (streams : List Stream)
+        → (refusal (with_counts f streams) ≡ refusal streams)
+        × (HoldsOfNone is_late (with_counts f streams) ↔ HoldsOfNone is_late streams)
+        × (HoldsOfNone is_rootless (with_counts f streams) ↔ HoldsOfNone is_rootless streams)
+        × ((v : ℕ) → IsSupplied (with_counts f streams) (f v) ↔ IsSupplied streams v) }
+{}
+
+/// So if acts without a reset show streams, such acts show them with their counts replaced as well.
+pub fn renumbered_runs_are_runs()
+    ensures { (f : ℕ → ℕ) → KeepsOrder f → (top : ℕ) (streams : List Stream) → IsRising (pids_of streams)
+        → IsShownInOneTrace top streams → IsShownInOneTrace (f top) (with_counts f streams) }
+{}
+
+/// And its use: to show that streams have a run without a reset, however large their counts are, it is
+/// enough to show it of the streams with each count replaced by its rank, at a TOP whose count fits.
+pub fn shown_if_renumbered_is()
+    ensures { (top rank_top : ℕ) (streams : List Stream) → IsRising (pids_of streams)
+        → count_of_rank (counts_of streams) rank_top ≤ top
+        → IsShownInOneTrace rank_top (renumbered_streams streams) → IsShownInOneTrace top streams }
+{}
+
+/// Streams are their renumbered streams with the counts put back, in order.
+pub fn counts_can_be_put_back()
+    ensures { (streams : List Stream) → KeepsOrder (count_of_rank (counts_of streams))
+        × (with_counts (count_of_rank (counts_of streams)) (renumbered_streams streams) ≡ streams) }
 {}

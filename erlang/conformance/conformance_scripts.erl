@@ -1,0 +1,138 @@
+%% Runs scripts of acts on one or two nodes, one act after the other, each to its end.
+%%
+%% A script comes on standard input as the text of a bundle without events (docs/FORMATS.md), and an
+%% empty line ends it. Then come, on standard output, a line for each act's reply, the streams as a
+%% bundle has them, and an empty line. A reply is spelled in the words of the machine; a token as
+%% the act `restore' spells it.
+-module(conformance_scripts).
+
+-export([main/0]).
+
+main() ->
+    Nodes = conformance_nodes:start(),
+    Parts = [conformance_actors:start(Node) || Node <- Nodes],
+    io:format("~ts~n~b~n", [conformance_nodes:title(), length(Nodes)]),
+    scripts(Parts).
+
+scripts(Parts) ->
+    case script([]) of
+        eof -> halt();
+        Lines -> io:put_chars([[Line, $\n] || Line <- run(Lines, Parts)] ++ "\n"), scripts(Parts)
+    end.
+
+script(Lines) ->
+    case io:get_line("") of
+        eof -> eof;
+        "\n" -> lists:reverse(Lines);
+        Line -> script([string:lexemes(string:trim(Line), " ") | Lines])
+    end.
+
+%% The lines that a script comes to.
+run([["seqtrace", _] | Lines], Parts) ->
+    {Listed, [["acts"] | Acts]} = lists:splitwith(fun([Word | _]) -> Word =:= "process" end, Lines),
+    Names = [Name || ["process", Name] <- Listed],
+    World = world(Names, Parts),
+    {Replies, _} = lists:mapfoldl(fun(Act, Queued) -> act(Act, Queued, World) end, #{}, Acts),
+    lists:append([Replies, streams(Names, World)]).
+
+%% What a script calls a process, with the process and the node's part that keeps it; and the parts.
+world(Names, Parts) ->
+    Processes = [{Name, {Part, Pid}}
+                 || {Number, Part} <- lists:enumerate(0, Parts),
+                    Here <- [[Name || Name <- Names, node_number(Name) =:= Number]],
+                    {Name, Pid} <- lists:zip(Here, conformance_actors:renew(Part, length(Here)))],
+    #{processes => maps:from_list(Processes),
+      names => maps:from_list([{Pid, Name} || {Name, {_, Pid}} <- Processes]),
+      parts => Parts}.
+
+node_number(Name) ->
+    list_to_integer(hd(string:lexemes(Name, "<."))).
+
+%% Has one act done, and returns its reply in words, and how many messages lie in each queue.
+act([Word, Actor | Rest], Queued, World) ->
+    Reply = do(Actor, call(Word, Rest, Actor, World), World),
+    {reply(Word, Reply, World), queued(Word, Rest, Actor, Reply, Queued, World)}.
+
+do(Actor, Call, #{processes := Processes}) ->
+    {Part, Pid} = map_get(Actor, Processes),
+    conformance_actors:act(Part, Pid, Call).
+
+%% A send has come to its end when its message lies in the queue.
+queued("send", [To, _], _, _, Queued, World) ->
+    More = maps:update_with(To, fun(Count) -> Count + 1 end, 1, Queued),
+    _ = do(To, {queued, map_get(To, More)}, World),
+    More;
+queued("receive", _, Actor, {_, _}, Queued, _) ->
+    maps:update_with(Actor, fun(Count) -> Count - 1 end, Queued);
+queued(_, _, _, _, Queued, _) ->
+    Queued.
+
+%% The call that a line of a script stands for.
+call("send", [To, Value], _, World) -> {send, pid(To, World), list_to_integer(Value)};
+call("receive", ["first"], _, _) -> {'receive', any, any};
+call("receive", ["from", From], _, World) -> {'receive', pid(From, World), any};
+call("receive", ["value", Value], _, _) -> {'receive', any, list_to_integer(Value)};
+call("receive", ["both", From, Value], _, World) -> {'receive', pid(From, World), list_to_integer(Value)};
+call("print", [Value], _, _) -> {print, list_to_integer(Value)};
+call("printat", [Label, Value], _, _) -> {print, list_to_integer(Label), list_to_integer(Value)};
+call("set", ["label", Label], _, _) -> {set, label, list_to_integer(Label)};
+call("set", [Flag, Value], _, _) -> {set, list_to_existing_atom(Flag), list_to_existing_atom(Value)};
+call("clear", [], _, _) -> {token, []};
+call("restore", Words, _, World) -> {token, token(Words, World)};
+call("look", [], _, _) -> look;
+call("reset", [], _, _) -> reset;
+call("tracer", ["true"], Actor, #{processes := Processes}) -> {tracer, element(1, map_get(Actor, Processes))};
+call("tracer", ["false"], _, _) -> {tracer, false}.
+
+pid(Name, #{processes := Processes}) ->
+    element(2, map_get(Name, Processes)).
+
+%% A token as a node has it: flags as bits, label, this, from, prev.
+token([Label, Send, Receive, Print, Prev, This, From], World) ->
+    Flags = lists:sum([Bit || {Bit, "true"} <- [{1, Send}, {2, Receive}, {4, Print}]]),
+    {Flags, list_to_integer(Label), list_to_integer(This), pid(From, World), list_to_integer(Prev)}.
+
+reply("send", {_, _}, _) -> "done";
+reply(Print, ok, _) when Print =:= "print"; Print =:= "printat" -> "done";
+reply("receive", nothing, _) -> "nothing";
+reply("receive", {From, Value}, World) -> ["mail ", name(From, World), " ", integer_to_list(Value)];
+reply("set", Old, _) -> ["old ", word(Old)];
+reply("clear", Old, World) -> ["previous ", token_words(Old, World)];
+reply("look", Token, World) -> ["current ", token_words(Token, World)];
+reply("restore", ok, _) -> "ok";
+reply("reset", true, _) -> "done";
+reply("tracer", Before, _) -> ["was ", word(Before =/= false)];
+reply(Word, Other, _) -> io_lib:format("~ts ~0p", [Word, Other]).
+
+token_words([], _) ->
+    "none";
+token_words({Flags, Label, This, From, Prev}, World) ->
+    lists:join(" ", [word(Label) | [word(Flags band Bit =/= 0) || Bit <- [1, 2, 4]]]
+                    ++ [word(Prev), word(This), name(From, World)]).
+
+word(Number) when is_integer(Number) -> integer_to_list(Number);
+word(Atom) when is_atom(Atom) -> atom_to_list(Atom).
+
+name(Pid, #{names := Names}) ->
+    maps:get(Pid, Names, io_lib:format("~p", [Pid])).
+
+%% Each process's own events. An event of no process of the script stands at the end as it came.
+streams(Names, #{parts := Parts} = World) ->
+    Events = [{owner(Event, World), Event} || Part <- Parts, Event <- conformance_actors:events(Part)],
+    lists:append([[["process ", Name] | [event(Event, World) || {Owner, Event} <- Events, Owner =:= Name]]
+                  || Name <- Names])
+        ++ [io_lib:format("~0p", [Event]) || {Owner, Event} <- Events, not lists:member(Owner, Names)].
+
+owner({seq_trace, _, {'receive', _, _, To, _}}, World) -> name(To, World);
+owner({seq_trace, _, {_, _, From, _, _}}, World) -> name(From, World).
+
+event({seq_trace, Label, {print, Serial, From, [], Value}}, World) when is_integer(Value) ->
+    event(Label, "print", Serial, From, "[]", Value, World);
+event({seq_trace, Label, {Kind, Serial, From, To, {From, Value}}}, World) ->
+    event(Label, io_lib:format("~p", [Kind]), Serial, From, name(To, World), Value, World);
+event(Event, _) ->
+    io_lib:format("~0p", [Event]).
+
+event(Label, Kind, {Prev, This}, From, To, Value, World) ->
+    io_lib:format("{seq_trace,~b,{~ts,{~b,~b},~ts,~ts,~b}}",
+                  [Label, Kind, Prev, This, name(From, World), To, Value]).

@@ -1,0 +1,251 @@
+"""The slow model of the machine with the replies of its calls, and rules of it that can be exchanged.
+
+`RULES` are those by which a standard node differs (docs/MACHINE.md has a row for each). `BROKEN` are
+rules of the machine broken on purpose: no node does these, so a comparison must find them.
+"""
+
+import sys
+from dataclasses import dataclass, replace
+from functools import reduce
+from pathlib import Path
+from typing import Callable
+
+sys.path.insert(0, str(Path(__file__).parent.parent / "test"))
+import slow_seqaudit as model  # noqa: E402 (it lies in the folder just named)
+
+
+@dataclass(frozen=True)
+class Rule:
+    """What is done in place of the machine's rule.
+
+    `act` gives the act that is done in place of one. Where the rule applies to an act that was done,
+    `state` mends the world after it, and `reply` is its reply. It shows on so many nodes.
+    """
+    says: str
+    applies: Callable = lambda step: False
+    state: Callable | None = None
+    reply: Callable | None = None
+    act: Callable = lambda world, act: act
+    nodes: int = 1
+
+
+@dataclass
+class Step:
+    """One act that was done: the processes before it, the world after it, and which send's message it took."""
+    act: list
+    before: dict
+    world: model.World
+    sent: list | None
+
+    @property
+    def actor(self):
+        return model.parse_pid(self.act[1])
+
+    @property
+    def old(self):
+        return self.before[self.actor]
+
+    @property
+    def new(self):
+        return self.world.of[self.actor]
+
+
+# What a standard node does
+
+def sets_without_token(step):
+    return step.act[0] == "set" and not step.old.token
+
+
+def restores(step):
+    return step.act[0] == "restore"
+
+
+def keep_last(step):
+    step.new.last = step.old.last
+
+
+def begin_with_last(step):
+    step.new.token = replace(step.new.token, prev=step.new.last)
+
+
+def default_component(step):
+    return "old 0" if step.act[2] == "label" else "old false"
+
+
+def take_counts(step):
+    step.new.last, step.new.clock = step.new.token.prev, step.new.token.this
+
+
+def keep_sender(step):
+    sender = step.old.token.sender if step.old.token else step.actor
+    step.new.token = replace(step.new.token, sender=sender)
+
+
+RULES = {
+    "set-last": Rule("a component set on no token leaves last as it was", sets_without_token, keep_last),
+    "set-serial": Rule("a fresh token's serial is {last,0}", sets_without_token, begin_with_last),
+    "set-reply": Rule("a component set on no token replies the default", sets_without_token,
+                      reply=default_component),
+    "restore-counts": Rule("a restored token sets clock and last from its serial", restores, take_counts),
+    "restore-from": Rule("a restored token has the current one's from, or its process", restores, keep_sender),
+    "restore-reply": Rule("a restored token replies ok", restores, reply=lambda step: "ok"),
+}
+
+
+# What nobody does
+
+def receives_token(step):
+    return step.act[0] == "receive" and step.sent is not None and step.new.token is not None
+
+
+def receives_plainly(step):
+    return step.act[0] == "receive" and step.sent is not None and step.new.token is None
+
+
+def keep_clock(step):
+    step.new.clock = step.old.clock
+
+
+def keep_token(step):
+    step.new.token = step.old.token
+
+
+def drop_token(step):
+    step.new.token = None
+
+
+def take_back(step):
+    step.new.token, step.new.clock = step.old.token, step.old.clock
+
+
+def forget_counts(step):
+    step.new.last = step.new.clock = 0
+
+
+def turn_off(step):
+    for one in step.world.on_node_of(step.actor):
+        one.traced = False
+
+
+def keep_queues(step):
+    for pid, one in step.world.of.items():
+        one.queue = step.before[pid].queue
+
+
+def forget_everywhere(step):
+    for one in step.world.of.values():
+        one.token, one.clock, one.last = None, 0, 0
+
+
+def trace_everywhere(step):
+    for one in step.world.of.values():
+        one.traced = step.new.traced
+
+
+def take_newest(world, act):
+    if act[0] != "receive":
+        return act
+    queue = world.of[model.parse_pid(act[1])].queue
+    places = [k for k, (sender, value, _, _) in enumerate(queue) if model.is_wanted(act[2:], k, sender, value)]
+    return [*act[:2], "place", str(places[-1])] if places else act
+
+
+def print_at_any_label(_, act):
+    return ["print", act[1], act[3]] if act[0] == "printat" else act
+
+
+def is_act(word):
+    return lambda step: step.act[0] == word
+
+
+BROKEN = {
+    "receive-last": Rule("a receive leaves last", receives_token, keep_last),
+    "receive-clock": Rule("a receive leaves the clock", receives_token, keep_clock),
+    "plain-receive": Rule("a message without a token leaves the token", receives_plainly, keep_token),
+    "newest": Rule("a receive takes the newest message that matches", act=take_newest),
+    "no-receive": Rule("a receive that matches nothing takes the token away",
+                       lambda step: step.act[0] == "receive" and step.sent is None, drop_token),
+    "quiet-print": Rule("a print without its flag stamps nothing",
+                        lambda step: step.act[0] == "print" and step.old.token and not step.old.token.flags[2],
+                        take_back),
+    "print-label": Rule("a print at a label looks at no label", act=print_at_any_label),
+    "clear": Rule("a token that is cleared takes the counts with it", is_act("clear"), forget_counts),
+    "look": Rule("a look takes the token away", is_act("look"), drop_token),
+    "reset-tracer": Rule("a reset takes the tracer off", is_act("reset"), turn_off),
+    "reset-queues": Rule("a reset leaves the tokens of queued messages", is_act("reset"), keep_queues),
+    "reset-nodes": Rule("a reset reaches the other node", is_act("reset"), forget_everywhere,
+                        nodes=2),
+    "tracer-nodes": Rule("a tracer reaches the other node", is_act("tracer"), trace_everywhere,
+                         nodes=2),
+}
+
+
+# Runs
+
+@dataclass(frozen=True)
+class Outcome:
+    """The replies of a script's acts, and the lines of its streams as a bundle has them."""
+    replies: list
+    streams: list
+
+
+def run(script, rules=(), broken=()):
+    """The script's outcome with these rules exchanged, and the names of all rules that it used."""
+    world, streams = model.World(script.pids), {pid: [] for pid in script.pids}
+    replies, used = [], set()
+    exchanged = [RULES[name] for name in RULES if name in rules] + [BROKEN[name] for name in broken]
+    for number in range(len(script.acts)):
+        step, report = do_act(world, script.acts, number, exchanged)
+        used |= {name for name, rule in RULES.items() if rule.applies(step)}
+        replies.append(reply(step, exchanged))
+        if report:
+            streams[report.actor()].append(report)
+    return Outcome(replies, list(model.write(streams, []))[1:-1]), used
+
+
+def do_act(world, acts, number, exchanged):
+    before = {pid: replace(one, queue=list(one.queue)) for pid, one in world.of.items()}
+    act = reduce(lambda done, rule: rule.act(world, done), exchanged, acts[number])
+    report, sent = world.step(act, number)
+    step = Step(acts[number], before, world, None if sent is None else acts[sent])
+    for rule in exchanged:
+        if rule.state and rule.applies(step):
+            rule.state(step)
+    return step, report
+
+
+def reply(step, exchanged):
+    for rule in exchanged:
+        if rule.reply and rule.applies(step):
+            return rule.reply(step)
+    match step.act:
+        case ["receive", *_]:
+            return "mail {1} {3}".format(*step.sent) if step.sent else "nothing"
+        case ["set", _, component, _]:
+            return f"old {component_words(step.old.token, component)}"
+        case ["clear" | "restore", *_]:
+            return f"previous {token_words(step.old.token)}"
+        case ["look", _]:
+            return f"current {token_words(step.old.token)}"
+        case ["tracer", *_]:
+            return f"was {truth(step.old.traced)}"
+    return "done"
+
+
+def component_words(token, component):
+    if not token:
+        return "none"
+    if component == "label":
+        return token.label
+    return truth(token.flags[("send", "receive", "print").index(component)])
+
+
+def token_words(token):
+    if not token:
+        return "none"
+    return " ".join([str(token.label), *map(truth, token.flags), str(token.prev), str(token.this),
+                     model.show(token.sender)])
+
+
+def truth(value):
+    return str(value).lower()

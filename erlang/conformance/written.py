@@ -1,0 +1,37 @@
+"""Written scripts: one for each rule by which a node differs, and for what is the same on both.
+
+Acts have semicolons between; a and b are processes of one node, c is one of another.
+"""
+
+#: The script, and the rules by which it differs. A component set on no token always replies
+#: otherwise, so `set-reply` stands wherever a script makes its token so.
+WRITTEN = {
+    "set-last": ("tracer a true; set a print true; print a 1; clear a; set a print true; print a 2",
+                 ["set-last", "set-reply"]),
+    "set-serial": ("set a label 1; send a a 1; receive a first; clear a; set a label 1; look a",
+                   ["set-serial", "set-reply"]),
+    "set-reply": ("set a label 1", ["set-reply"]),
+    "restore-counts": ("tracer a true; restore a 1 false false true 3 5 a; print a 1",
+                       ["restore-counts", "restore-reply"]),
+    "restore-from": ("restore a 1 false false false 0 0 b; look a", ["restore-from", "restore-reply"]),
+    "restore-reply": ("restore a 1 false false false 0 0 a", ["restore-reply"]),
+    # A receive that matches nothing moves no token.
+    "no-match": ("set a label 1; send b a 1; receive a value 2; look a", ["set-reply"]),
+    # Of two queued messages the one that is taken gives the token.
+    "taken": ("tracer a true; set a receive true; send a b 1; set a label 1; send a b 2;"
+              "receive b value 2; look b; receive b first; look b", ["set-reply"]),
+    # A message that a process sent without a token takes the receiver's token away.
+    "plain": ("set a label 1; send b a 1; receive a first; look a", ["set-reply"]),
+    # A message with an older count leaves the clock and sets last.
+    "older": ("set a label 1; print a 1; print a 2; set b label 2; send b a 1; receive a first; print a 1; look a",
+              ["set-reply"]),
+    # A print stamps without its flag too, and whether or not a tracer is on; at another label not.
+    "print": ("set a label 1; print a 1; look a; printat a 1 1; look a; printat a 2 1; look a", ["set-reply"]),
+    # A reset takes the tokens of this node's processes and of their queued messages, and no others.
+    "reset": ("set a label 1; send a b 1; send a c 1; set b label 1; set c label 1; reset a;"
+              "look a; look b; look c; receive b first; look b; receive c first; look c", ["set-reply"]),
+    # It leaves the tracer on.
+    "reset-tracer": ("tracer a true; reset a; tracer a true", []),
+    # Each node has a tracer of its own.
+    "tracer": ("tracer a true; tracer c true; tracer b false", []),
+}
