@@ -14,7 +14,7 @@ use Rattle.st_world.specs.World.{outcome_to}
 use Rattle.st_world.proofs.Answering.{refused_unknown, refused_full, refused_memory, answered, rows_after}
 use Rattle.st_world.proofs.RowLemmas.{unknown}
 use Rattle.st_world.proofs.Steps.{is_there, full_send, step_send, mail, told_of_send}
-use Rattle.st_world.proofs.world.World.send.Goals as goal
+use Rattle.st_world.proofs.processes.Processes.send.Goals as goal
 
 pub returns-in_default : goal.returns-in_default
 returns-in_default g c =

@@ -6,7 +6,7 @@ use Rattle.st_mail.specs.Actor.{process_of}
 use Rattle.st_world.specs.Rows.{state_of}
 use Rattle.st_world.proofs.Answering.{ordered, reads}
 use Rattle.st_world.proofs.RowLemmas.{unknown, stands}
-use Rattle.st_world.proofs.world.World.last.Goals as goal
+use Rattle.st_world.proofs.processes.Processes.clock.Goals as goal
 
 pub returns-in_default-clause-value : goal.returns-in_default-clause-value
 returns-in_default-clause-value g c =
@@ -16,7 +16,7 @@ returns-in_default-clause-value g c =
     let at : position (λ p. pid_eq p c.args.pid) c.self.inside.pids.keys ≡ None =
     sym c.number_of.ensures ∙ c.in_default.is in
     let gone = unknown ps ls bs c.self.invariant.aligned c.args.pid at in
-    reads (λ (o : Option Process). option_map (λ r. r.local.last) o) (state_of ps ls bs) c.args.self.now c.args.pid
+    reads (λ (o : Option Process). option_map (λ r. r.local.clock) o) (state_of ps ls bs) c.args.self.now c.args.pid
     None c.self.view_is gone
 
 pub returns-clause-value : goal.returns-clause-value
@@ -30,8 +30,8 @@ returns-clause-value g c =
     let here = stands ps ls bs c.self.invariant.aligned c.args.pid i at c.index.result.now c.index.ensures in
     let own : Process =
     process_of c.args.pid c.index.result.now (get_or c.self.inside.queues.boxes c.in-Some.number []) in
-    ap Some c.last.ensures.value
-    ∙ reads (λ (o : Option Process). option_map (λ r. r.local.last) o) (state_of ps ls bs) c.args.self.now c.args.pid
+    ap Some c.clock.ensures.value
+    ∙ reads (λ (o : Option Process). option_map (λ r. r.local.clock) o) (state_of ps ls bs) c.args.self.now c.args.pid
     (Some own) c.self.view_is here.found
 
 pub returns-in_default-clause-ordered : goal.returns-in_default-clause-ordered

@@ -12,7 +12,7 @@ use Rattle.st_world.specs.World.{outcome_to}
 use Rattle.st_world.proofs.Answering.{refused_unknown, answered, rows_after}
 use Rattle.st_world.proofs.RowLemmas.{unknown}
 use Rattle.st_world.proofs.Steps.{step_node}
-use Rattle.st_world.proofs.world.World.trace.Goals as goal
+use Rattle.st_world.proofs.processes.Processes.trace.Goals as goal
 
 pub returns-in_default : goal.returns-in_default
 returns-in_default g c =

@@ -6,7 +6,7 @@ use Rattle.st_mail.specs.Actor.{process_of}
 use Rattle.st_world.specs.Rows.{state_of}
 use Rattle.st_world.proofs.Answering.{reads}
 use Rattle.st_world.proofs.RowLemmas.{unknown, stands}
-use Rattle.st_world.proofs.world.World.token.Goals as goal
+use Rattle.st_world.proofs.processes.Processes.token.Goals as goal
 
 pub returns-in_default : goal.returns-in_default
 returns-in_default g c =

@@ -10,7 +10,7 @@ use Rattle.st_world.specs.World.{outcome_to}
 use Rattle.st_world.proofs.Answering.{refused_unknown, answered, rows_after}
 use Rattle.st_world.proofs.RowLemmas.{unknown, number_within}
 use Rattle.st_world.proofs.Steps.{queue_fits, step_receive}
-use Rattle.st_world.proofs.world.World.receive.Goals as goal
+use Rattle.st_world.proofs.processes.Processes.receive.Goals as goal
 
 pub returns-in_default : goal.returns-in_default
 returns-in_default g c =

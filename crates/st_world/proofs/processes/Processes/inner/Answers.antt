@@ -8,7 +8,7 @@ use Rattle.st_world.specs.Rows.{state_of}
 use Rattle.st_world.proofs.Answering.{refused_unknown, refused_full, answered, rows_after_inner}
 use Rattle.st_world.proofs.RowLemmas.{unknown}
 use Rattle.st_world.proofs.Steps.{receiver_inner, is_there, full_act, step_inner}
-use Rattle.st_world.proofs.world.World.inner.Goals as goal
+use Rattle.st_world.proofs.processes.Processes.inner.Goals as goal
 
 pub returns-in_default : goal.returns-in_default
 returns-in_default g c =
