@@ -73,12 +73,12 @@ loop-place-preserved g c =
       λ k within past. elim (cases_lt (k + place) c.args.ends.len) [
         | inr beyond ↦ c.loop-place.invariant.3 k within (omega (arith, beyond))
         | inl here ↦ record {
-            item = c.index-far.result.now.value;
-            is_there =
-                item_after slots c.args.ends c.requires.chained k within
-                ∙ ap (λ x. item_of (slots x)) (sym (c.loop-place.invariant.1 k (omega (arith, here, past))))
-                ∙ ap item_of c.index-far.ensures;
-            answered = record { shown = _; shows = refl; says = record { met = c.if-pred-2.ensures } };
-          }
+          item = c.index-far.result.now.value;
+          is_there =
+              item_after slots c.args.ends c.requires.chained k within
+              ∙ ap (λ x. item_of (slots x)) (sym (c.loop-place.invariant.1 k (omega (arith, here, past))))
+              ∙ ap item_of c.index-far.ensures;
+          answered = record { shown = _; shows = refl; says = record { met = c.if-pred-2.ensures } };
+        }
       ],
     )
