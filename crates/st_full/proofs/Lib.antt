@@ -20,4 +20,6 @@ pub mod Needs
 pub mod Feeders
 pub mod Supplying
 pub mod Against
+pub mod Reporting
+pub mod Counting
 pub mod ForCallers
