@@ -22,4 +22,7 @@ pub mod Supplying
 pub mod Against
 pub mod Reporting
 pub mod Counting
+pub mod Asking
+pub mod Placing
+pub mod Good
 pub mod ForCallers

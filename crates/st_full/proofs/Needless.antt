@@ -29,7 +29,7 @@ use Rattle.st_full.proofs.Plainness.{greatest_has}
 use Rattle.st_full.proofs.Turning.{After, after, event_move, event_move_there, is_move_of, own_step, turned}
 
 -- a stamp that isn't late is above the greatest count
-above_if : (stamp less : Bool) → stamp ≡ true → (stamp && not less) ≡ false → less ≡ true
+pub above_if : (stamp less : Bool) → stamp ≡ true → (stamp && not less) ≡ false → less ≡ true
 above_if true true is h = refl
 above_if true false is h = absurd (false≢true (sym h))
 above_if false less is h = absurd (false≢true is)

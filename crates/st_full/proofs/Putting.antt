@@ -44,7 +44,7 @@ pub all_there : (es : List Event) → events (told_only es) ≡ es
 all_there [] = refl
 all_there (e ∷ es) = ap (λ xs. e ∷ xs) (all_there es)
 
-take_drop : (i : ℕ) (es : List Event) → take i es ++ drop i es ≡ es
+pub take_drop : (i : ℕ) (es : List Event) → take i es ++ drop i es ≡ es
 take_drop zero es = refl
 take_drop (suc i) [] = refl
 take_drop (suc i) (e ∷ es) = ap (λ xs. e ∷ xs) (take_drop i es)

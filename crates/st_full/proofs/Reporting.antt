@@ -16,7 +16,7 @@ use Rattle.st_full.proofs.Putting.{all_there, more, put_all, put_in, told_only, 
 use Rattle.st_full.proofs.Shown.{are_own, AreReports, names_among_listed, unlisted_none}
 use Rattle.st_full.proofs.Supplying.{named, own_at}
 
-all_from : {X : Type 0} (P : X → Type 0) (xs : List X) → ((k : ℕ) (x : X) → slice_get xs k ≡ Some x → P x)
+pub all_from : {X : Type 0} (P : X → Type 0) (xs : List X) → ((k : ℕ) (x : X) → slice_get xs k ≡ Some x → P x)
     → AllByRecursion P xs
 all_from P [] each = tt
 all_from P (x ∷ xs) each = (each 0 x refl, all_from P xs (λ k y at. each (suc k) y at))
