@@ -155,7 +155,7 @@ none_stamped streams q v none s =
     (from_none (own_rule v) q 0 (events_of streams q) none s.index e s.at)
 
 -- in streams that fit there is one
-one_stamp : (streams : List Stream) → FitTogether streams → (q : Pid) (v : ℕ) (s t : HasStamp streams q v)
+pub one_stamp : (streams : List Stream) → FitTogether streams → (q : Pid) (v : ℕ) (s t : HasStamp streams q v)
     → s.event ≡ t.event
 one_stamp streams fit q v s t =
     let one = s.count in

@@ -25,4 +25,5 @@ pub mod Counting
 pub mod Asking
 pub mod Placing
 pub mod Good
+pub mod Receiving
 pub mod ForCallers
