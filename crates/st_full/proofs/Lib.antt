@@ -26,4 +26,5 @@ pub mod Asking
 pub mod Placing
 pub mod Good
 pub mod Receiving
+pub mod Sending
 pub mod ForCallers

@@ -70,15 +70,6 @@ sent_from kind.Send from to p sends own = pid_same from p (and_parts (pid_eq fro
 sent_from kind.Receive from to p sends own = absurd (false≢true sends)
 sent_from kind.Print from to p sends own = absurd (false≢true sends)
 
-send_stamps : (f : Event) → is_send f ≡ true → is_stamp f ≡ true
-send_stamps f sends = elim f.kind as (λ k.
-    (let b : Bool = elim k [ kind.Send ↦ true | kind.Receive ↦ false | kind.Print ↦ false ] in b) ≡ true
-    → (let b : Bool = elim k [ kind.Send ↦ true | kind.Receive ↦ false | kind.Print ↦ true ] in b) ≡ true) [
-      | kind.Send ↦ λ _. refl
-      | kind.Receive ↦ λ h. absurd (false≢true h)
-      | kind.Print ↦ λ h. absurd (false≢true h)
-    ] sends
-
 to_refl : (to : Option Pid) → to_eq to to ≡ true
 to_refl None = refl
 to_refl (Some p) = pid_eq-refl p
