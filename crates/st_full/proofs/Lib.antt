@@ -27,4 +27,5 @@ pub mod Placing
 pub mod Good
 pub mod Receiving
 pub mod Sending
+pub mod Starting
 pub mod ForCallers

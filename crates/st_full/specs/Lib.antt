@@ -5,3 +5,4 @@ pub mod Completed
 pub mod Needs
 pub mod Local
 pub mod Supply
+pub mod Reasons
