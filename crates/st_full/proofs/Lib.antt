@@ -28,4 +28,5 @@ pub mod Good
 pub mod Receiving
 pub mod Sending
 pub mod Starting
+pub mod Decided
 pub mod ForCallers

@@ -51,7 +51,7 @@ module _ (top : ℕ) (streams : List Stream) (good : IsGood top streams) (p : Pi
   es = events_of streams q
 
   -- the send that is invented
-  abbrev send : ℕ → Event
+  abbrev pub send : ℕ → Event
   send prev = record {
     label = e.label;
     kind = kind.Send;
