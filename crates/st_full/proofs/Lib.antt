@@ -29,4 +29,5 @@ pub mod Receiving
 pub mod Sending
 pub mod Starting
 pub mod Decided
+pub mod Deciding
 pub mod ForCallers

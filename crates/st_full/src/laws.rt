@@ -18,6 +18,7 @@ ghost use Rattle.st_full.specs.Completed.{IsCompleted, IsShownInOneTrace};
 ghost use Rattle.st_full.specs.Full.{IsFull};
 ghost use Rattle.st_full.specs.Local.{IsNeedless};
 ghost use Rattle.st_full.specs.Needs.{is_late, is_need, is_rootless, HoldsOfNone, IsFedAt, marked_of};
+ghost use Rattle.st_full.specs.Reasons.{HasEachSend, HasNoReason, Reason, StandsAgainst};
 ghost use Rattle.st_full.specs.Supply.{IsSupplied};
 ghost use Rattle.st_full.specs.Wholes.{wholes_of};
 
@@ -96,4 +97,28 @@ pub fn shown_exactly_where_nothing_is_needed()
 pub fn needless_streams_are_shown()
     ensures { (top : ℕ) (streams : List Stream) → IsStreams streams → IsNeedless top streams
         → IsShownInOneTrace top streams }
+{}
+
+/// If each reported receive has its send among the reported events, and no reason stands against the
+/// streams, they have a completion without a need. It has, for each need, an untold receive of its
+/// prev right before it: of a reported send to this process that nobody is told to have received, or
+/// else of an untold send of a process that tells nothing of this count.
+pub fn streams_without_a_reason_are_completed()
+    ensures { (top : ℕ) (streams : List Stream) → IsStreams streams → HasEachSend streams
+        → HasNoReason top streams → IsCompleted IsNeedless top streams }
+{}
+
+/// So for streams in which each reported receive has its send, the reasons decide: acts without a reset
+/// show them exactly if none stands against them. Each reason is a count over the events of single
+/// processes, and needs no order and no acts.
+pub fn reasons_decide()
+    ensures { (top : ℕ) (streams : List Stream) → IsStreams streams → HasEachSend streams
+        → (IsShownInOneTrace top streams ↔ HasNoReason top streams) }
+{}
+
+/// And a reason is final, whether sends are hidden or not: if one stands against streams, no acts
+/// without a reset show them, at this TOP. So streams are refused only if they are never shown.
+pub fn refused_only_if_never_shown()
+    ensures { (top : ℕ) (streams : List Stream) → IsRising (pids_of streams) → (reason : Reason)
+        → StandsAgainst top streams reason → (acts : List Act) → NoReset acts → ¬ Shows top streams acts }
 {}
