@@ -1,21 +1,19 @@
 -- Law D: streams against which no reason stands have a completion without a need. One need is met after the other. If a
 -- reported send serves it, its receive is put before the need. Else the process lacks a sender, so that one is free: its
 -- send is put in first. Each leaves the streams good, and takes one need away.
-use Rattle.std.proofs.Common.{◌≡◌, ℕ, zero, suc, ◌+◌, ◌-◌, ◌<◌, ◌==◌, ◌&&◌, Bool, true, false, cond, List, [], ◌∷◌}
-use Rattle.std.proofs.Common.{◌++◌, take, Option, Some, None, inl, inr, slice_get, sum_by, append-nil, append_assoc, refl}
+use Rattle.std.proofs.Common.{◌≡◌, ℕ, zero, suc, ◌+◌, ◌<◌, ◌==◌, ◌&&◌, Bool, true, false, cond, List, [], ◌∷◌}
+use Rattle.std.proofs.Common.{◌++◌, Option, Some, None, inl, inr, sum_by, refl}
 use Rattle.std.proofs.Common.{sym, ◌∙◌, ap, subst, arith}
 use Rattle.std.specs.List.{count_by}
-use Rattle.std.proofs.lemmas.Bool.{and_from, and_parts, cases_lt, eq-eqb, eqb-true, false≢true}
-use Rattle.std.proofs.lemmas.Option.{none-some, same_Some}
+use Rattle.std.proofs.lemmas.Bool.{and_from, cases_lt, eq-eqb}
 use Rattle.st_core.specs.declared.types.Pid.{Pid}
 use Rattle.st_core.specs.declared.types.Event.{Event}
-use Rattle.st_core.specs.Pid.{pid_eq, IsRising}
 use Rattle.st_core.specs.Run.{Stream, pids_of}
 use Rattle.st_core.specs.Streams.{events_of, IsStreams, lists}
 use Rattle.st_pair.specs.declared.answer.Source.{Source}
 use Rattle.st_pair.specs.declared.answer.Source.TheVariants as source
 use Rattle.st_pair.specs.Places.{event_at, is_stamp}
-use Rattle.st_pair.specs.Pairing.{source_of, stamp_of}
+use Rattle.st_pair.specs.Pairing.{stamp_of}
 use Rattle.st_order.specs.Items.{is_hidden}
 use Rattle.st_full.specs.Completed.{IsCompleted}
 use Rattle.st_full.specs.Local.{IsNeedless}
@@ -30,11 +28,11 @@ use Rattle.st_full.proofs.Feeding.{AreFine, AreTimely, fine_at}
 use Rattle.st_full.proofs.Good.{each, IsGood, IsLack, lacking, lacks}
 use Rattle.st_full.proofs.Meeting.{counted}
 use Rattle.st_full.proofs.Needless.{own_completion}
-use Rattle.st_full.proofs.Putting.{listed_at, more, wholes_with, with_pids, with_told}
+use Rattle.st_full.proofs.Putting.{listed_at, wholes_with, with_pids, with_told}
 use Rattle.st_full.proofs.Receiving.{fed, good_fed, IsSupply, lacks_less, lacks_others, receive_for, supply_of}
 use Rattle.st_full.proofs.Sending.{good_sent, lacks_same, needs_same, place, send, sent, supply_sent}
 use Rattle.st_full.proofs.Shown.{lists_among}
-use Rattle.st_full.proofs.Starting.{good_if, IsNeedOf, need_of}
+use Rattle.st_full.proofs.Starting.{good_if, need_of}
 
 -- WITHOUT A NEED
 
@@ -104,9 +102,9 @@ module _ (top : ℕ) where
         | true ↦ λ is _. (
           prev,
           let one : cond (is_need before e && prev == prev) 1 0 ≡ 1 =
-          ap (λ b. let n : ℕ = cond b 1 0 in n)
-          (and_from (is_need before e) (prev == prev) is (eq-eqb prev prev refl)) in
-          omega arith,
+              ap (λ b. let n : ℕ = cond b 1 0 in n)
+              (and_from (is_need before e) (prev == prev) is (eq-eqb prev prev refl)) in
+              omega arith,
         )
         | false ↦ λ _ some.
             let later = need_at (before ++ e ∷ []) es (omega arith) in

@@ -1,8 +1,7 @@
 -- The reasons decide where each receive has its send: without one streams have a needless completion, which acts show; and
 -- a reason stands against no streams that acts without a reset show, since it would stand against each completion.
-use Rattle.std.proofs.Common.{◌≡◌, ◌↔◌, ℕ, ◌≤◌, true, false, List, Some, slice_get, sym, ◌∙◌, ap, subst, arith}
+use Rattle.std.proofs.Common.{◌≡◌, ◌↔◌, ℕ, ◌≤◌, true, List, Some, slice_get, sym, ◌∙◌, ap, subst, arith}
 use Rattle.std.proofs.lemmas.Bool.{false≢true, ltb-true}
-use Rattle.std.proofs.lemmas.Option.{same_Some}
 use Rattle.st_core.specs.declared.types.Act.{Act}
 use Rattle.st_core.specs.declared.types.Pid.{Pid}
 use Rattle.st_core.specs.declared.types.Event.{Event}
@@ -15,7 +14,7 @@ use Rattle.st_plan.specs.Marks.{all_streams, told_streams, Whole}
 use Rattle.st_full.specs.Completed.{IsShownInOneTrace}
 use Rattle.st_full.specs.Full.{IsFull}
 use Rattle.st_full.specs.Needs.{marked_of}
-use Rattle.st_full.specs.Reasons.{HasEachSend, HasNoReason, HoldsAt, Late, Reason, StandsAgainst, TooHigh, Unfounded}
+use Rattle.st_full.specs.Reasons.{HasEachSend, HasNoReason, Late, Reason, StandsAgainst, TooHigh, Unfounded}
 use Rattle.st_full.specs.Reasons.{Unsent}
 use Rattle.st_full.proofs.Against.{shown_nothing}
 use Rattle.st_full.proofs.Decided.{decided}

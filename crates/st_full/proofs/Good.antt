@@ -1,14 +1,11 @@
 -- Streams that law D goes through: nothing stands against them, and each receive's send is there. What one more event
 -- leaves of this, wherever it fits.
-use Rattle.std.proofs.Common.{◌≡◌, ℕ, zero, suc, ◌+◌, ◌<◌, ◌≤◌, ◌==◌, ◌&&◌, Bool, true, false, cond, List, [], ◌∷◌}
-use Rattle.std.proofs.Common.{◌++◌, take, drop, length, inl, inr, Option, Some, None, is_none, not, sum_by, slice_get}
-use Rattle.std.proofs.Common.{refl, sym, ◌∙◌, ap, subst, arith}
+use Rattle.std.proofs.Common.{◌≡◌, ℕ, ◌≤◌, ◌&&◌, Bool, true, false, List, []}
+use Rattle.std.proofs.Common.{take, length, inl, inr, Option, Some, None, is_none, not, sum_by}
+use Rattle.std.proofs.Common.{refl, ◌∙◌, ap, subst, arith}
 use Rattle.std.specs.List.{count_by}
-use Rattle.std.proofs.lemmas.Bool.{false≢true, and_parts, and_from}
-use Rattle.std.proofs.lemmas.Option.{none-some, same_Some}
 use Rattle.st_core.specs.declared.types.Pid.{Pid}
 use Rattle.st_core.specs.declared.types.Event.{Event}
-use Rattle.st_core.specs.Pid.{pid_eq, IsRising}
 use Rattle.st_core.specs.Run.{Stream, pids_of}
 use Rattle.st_core.specs.Streams.{events_of, IsStreams}
 use Rattle.st_pair.specs.Places.{event_at, is_stamp}
@@ -16,7 +13,7 @@ use Rattle.st_pair.specs.Pairing.{is_send, receive_of, stamp_of, to_eq}
 use Rattle.st_full.specs.Needs.{is_need}
 use Rattle.st_full.specs.Supply.{excess, is_free, is_own_supply, IsSupplied, needs}
 use Rattle.st_full.proofs.Accepting.{FitTogether}
-use Rattle.st_full.proofs.Asking.{HasStamp, none_stamped, stamp_passes}
+use Rattle.st_full.proofs.Asking.{HasStamp, stamp_passes}
 use Rattle.st_full.proofs.Feeding.{AreTimely}
 use Rattle.st_full.proofs.Meeting.{counted}
 use Rattle.st_full.proofs.Putting.{is_placed, more, stays}

@@ -1,8 +1,8 @@
 -- A need that an unpaired reported send serves: the receive of this send, put right before the need, leaves the streams
 -- good, with one need less. It takes one need and one supply of its own from the process that has the need, and nothing
 -- from any other, so that as many are supplied as before.
-use Rattle.std.proofs.Common.{◌≡◌, ℕ, zero, suc, ◌+◌, ◌-◌, ◌<◌, ◌≤◌, ◌==◌, ◌&&◌, Bool, true, false, cond, List, []}
-use Rattle.std.proofs.Common.{◌∷◌, ◌++◌, take, drop, length, Option, Some, None, is_none, is_some, not, sum_by, slice_get}
+use Rattle.std.proofs.Common.{◌≡◌, ℕ, zero, suc, ◌+◌, ◌≤◌, ◌==◌, ◌&&◌, Bool, true, false, cond, List, []}
+use Rattle.std.proofs.Common.{◌∷◌, ◌++◌, take, drop, length, Option, Some, None, is_none, is_some, not, slice_get}
 use Rattle.std.proofs.Common.{refl, sym, ◌∙◌, ap, subst, arith}
 use Rattle.std.specs.List.{count_by}
 use Rattle.std.specs.Option.{option_map_or}
@@ -15,18 +15,16 @@ use Rattle.st_core.specs.declared.types.Event.{Event}
 use Rattle.st_core.specs.Pid.{pid_eq}
 use Rattle.st_core.specs.Laws.{IsReportAmong}
 use Rattle.st_core.specs.Run.{Stream, pids_of}
-use Rattle.st_core.specs.Streams.{events_of, is_of, is_own, lists}
-use Rattle.st_core.specs.Collected.{names_among}
+use Rattle.st_core.specs.Streams.{events_of, is_of, lists}
 use Rattle.st_core.proofs.ForCallers.{and_false, pid_eq-refl, pid_eq-swap, pid_same}
 use Rattle.st_pair.specs.Places.{event_at, is_stamp}
 use Rattle.st_pair.specs.Pairing.{agrees, is_send, receive_of, stamp_of, to_eq}
-use Rattle.st_full.specs.Needs.{is_need}
 use Rattle.st_full.specs.Supply.{excess, is_free, is_own_supply, needs, needs_from}
-use Rattle.st_full.proofs.Asking.{events_with, HasStamp, none_stamped, none_taken, one_stamp, passes_with, stamp_if}
+use Rattle.st_full.proofs.Asking.{events_with, HasStamp, none_taken, one_stamp, passes_with, stamp_if}
 use Rattle.st_full.proofs.Asking.{stamp_is, stamp_passes, taken_with}
 use Rattle.st_full.proofs.Counting.{count_one}
 use Rattle.st_full.proofs.Feeding.{AreTimely}
-use Rattle.st_full.proofs.Good.{any_event, each, free_is, IsGood, IsLack, lacks, sends_to, sent_with, stamp_stays}
+use Rattle.st_full.proofs.Good.{any_event, each, free_is, IsGood, IsLack, lacks, sends_to, sent_with}
 use Rattle.st_full.proofs.Good.{supplied_alike, within_with}
 use Rattle.st_full.proofs.Meeting.{counted, counted_of, met, timely_met}
 use Rattle.st_full.proofs.Putting.{fit_with, FitsAt, listed_at, more, new_there, take_drop, with_pids}

@@ -35,6 +35,7 @@ reports_of streams sound = along streams (all_found streams sound.draft.rising)
       own = own_at streams p i e sound.draft.own at;
       names = sym (names_among_listed streams e) ∙ named streams sound p i e at;
     }
+
     along : (some : List Stream) → AreFound streams some → AreReports (pids_of streams) some
     along [] found = tt
     along (x ∷ some) found = (
@@ -55,12 +56,12 @@ module _ (p : Pid) (i : ℕ) (r : Event) (pids : List Pid) (report : IsReportAmo
   put_reports [] all = tt
   put_reports (x ∷ streams) all = (
     elim (pid_eq x.pid p) as (λ b. pid_eq x.pid p ≡ b → AllByRecursion (IsReportAmong pids x.pid)
-    (events (cond b (put_in i r x.events) (told_only x.events)))) [
-      | true ↦ λ same. subst (AllByRecursion (IsReportAmong pids x.pid)) (sym (put_all i r x.events))
-          (all_put (IsReportAmong pids x.pid) i r x.events all.0
-          (subst (λ q. IsReportAmong pids q r) (sym (pid_same x.pid p same)) report))
-      | false ↦ λ _. subst (AllByRecursion (IsReportAmong pids x.pid)) (sym (all_there x.events)) all.0
-    ] refl,
+        (events (cond b (put_in i r x.events) (told_only x.events)))) [
+          | true ↦ λ same. subst (AllByRecursion (IsReportAmong pids x.pid)) (sym (put_all i r x.events))
+              (all_put (IsReportAmong pids x.pid) i r x.events all.0
+              (subst (λ q. IsReportAmong pids q r) (sym (pid_same x.pid p same)) report))
+          | false ↦ λ _. subst (AllByRecursion (IsReportAmong pids x.pid)) (sym (all_there x.events)) all.0
+        ] refl,
     put_reports streams all.1,
   )
 

@@ -1,13 +1,11 @@
 -- A need that nobody's reported send serves: a process that is free for its prev gets an untold send of it, to the
 -- process that has the need. The streams stay good, and the send is one that nobody is told to have received: the
 -- process that has the need lacks one sender less, and one process less is free.
-use Rattle.std.proofs.Common.{◌≡◌, ◌≢◌, ℕ, zero, suc, ◌+◌, ◌-◌, ◌<◌, ◌≤◌, ◌==◌, ◌&&◌, Bool, true, false, cond, List, []}
-use Rattle.std.proofs.Common.{◌∷◌, ◌++◌, take, drop, length, Option, Some, None, inl, inr, is_none, is_some, not, sum_by}
-use Rattle.std.proofs.Common.{slice_get, refl, sym, ◌∙◌, ap, subst, arith}
+use Rattle.std.proofs.Common.{◌≡◌, ◌≢◌, ℕ, ◌+◌, ◌<◌, ◌==◌, ◌&&◌, Bool, true, false, cond, List, []}
+use Rattle.std.proofs.Common.{◌∷◌, ◌++◌, take, drop, Option, Some, None, inl, inr, is_none, not, sum_by}
+use Rattle.std.proofs.Common.{refl, sym, ◌∙◌, ap, subst, arith}
 use Rattle.std.specs.List.{count_by}
-use Rattle.std.specs.Option.{option_map_or}
-use Rattle.std.proofs.lemmas.Bool.{cases_lt, eq-eqb, eqb-true, false≢true, and_parts, and_from}
-use Rattle.std.proofs.lemmas.Option.{none-some, same_Some}
+use Rattle.std.proofs.lemmas.Bool.{cases_lt, eqb-true, false≢true, and_parts, and_from}
 use Rattle.st_core.specs.declared.types.Pid.{Pid}
 use Rattle.st_core.specs.declared.types.Kind.TheVariants as kind
 use Rattle.st_core.specs.declared.types.Event.{Event}
@@ -19,7 +17,7 @@ use Rattle.st_core.specs.Collected.{is_among}
 use Rattle.st_core.proofs.ForCallers.{and_false, pid_eq-refl, pid_eq-swap, pid_same}
 use Rattle.st_pair.specs.Places.{event_at, is_stamp}
 use Rattle.st_pair.specs.Pairing.{receive_of, stamp_of}
-use Rattle.st_full.specs.Supply.{excess, is_free, is_own_supply, IsSupplied, needs, needs_from}
+use Rattle.st_full.specs.Supply.{excess, is_free, is_own_supply, IsSupplied, needs}
 use Rattle.st_full.proofs.Accepting.{FitTogether}
 use Rattle.st_full.proofs.Asking.{events_with, HasStamp, none_stamped, none_taken, passes_with, stamp_is, stamp_passes}
 use Rattle.st_full.proofs.Asking.{taken_with}

@@ -1,10 +1,10 @@
 -- Streams against which no reason stands are good: what pairing accepts fits together, two events at a time, and what
 -- holds of no event at its place holds of none along its process.
-use Rattle.std.proofs.Common.{◌≡◌, ℕ, zero, suc, ◌+◌, ◌<◌, ◌==◌, ◌&&◌, ◌||◌, Bool, true, false, cond, List, [], ◌∷◌}
+use Rattle.std.proofs.Common.{◌≡◌, ℕ, suc, ◌+◌, ◌<◌, ◌==◌, ◌&&◌, ◌||◌, Bool, true, false, cond, List, [], ◌∷◌}
 use Rattle.std.proofs.Common.{◌++◌, take, Option, Some, None, inl, inr, slice_get, append-nil, append_assoc, refl, sym}
-use Rattle.std.proofs.Common.{◌∙◌, ap, subst, arith, option_and_then}
+use Rattle.std.proofs.Common.{◌∙◌, ap, arith, option_and_then}
 use Rattle.std.proofs.lemmas.Bool.{and_from, and_parts, cases_lt, eq-eqb, eqb-true, false≢true}
-use Rattle.std.proofs.lemmas.Option.{none-some, same_Some}
+use Rattle.std.proofs.lemmas.Option.{same_Some}
 use Rattle.st_core.specs.declared.types.Pid.{Pid}
 use Rattle.st_core.specs.declared.types.Event.{Event}
 use Rattle.st_core.specs.Run.{Stream}
@@ -17,7 +17,7 @@ use Rattle.st_pair.specs.Pairing.{agrees, mismatch, receive_of, stamp_of}
 use Rattle.st_pair.proofs.ForCallers.{cond_none, event_none, IsPaired, once_place, paired, serial_rises}
 use Rattle.st_pair.proofs.ForCallers.{stamp_counts_rise, stamp_once}
 use Rattle.st_order.specs.Items.{is_hidden}
-use Rattle.st_full.specs.Needs.{HoldsOfNone, is_late, is_need, is_rootless}
+use Rattle.st_full.specs.Needs.{is_late, is_need}
 use Rattle.st_full.specs.Reasons.{HasEachSend, HasNoReason}
 use Rattle.st_full.specs.Supply.{needs, needs_from}
 use Rattle.st_full.proofs.Accepting.{FitTogether}
