@@ -6,3 +6,4 @@ pub mod Needs
 pub mod Local
 pub mod Supply
 pub mod Reasons
+pub mod Completion
