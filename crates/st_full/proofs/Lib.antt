@@ -37,4 +37,5 @@ pub mod Sending
 pub mod Starting
 pub mod Decided
 pub mod Deciding
+pub mod Choosing
 pub mod ForCallers

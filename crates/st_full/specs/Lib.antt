@@ -7,4 +7,5 @@ pub mod Local
 pub mod Supply
 pub mod Renumbering
 pub mod Reasons
+pub mod Choice
 pub mod Completion

@@ -15,6 +15,7 @@ ghost use Rattle.st_pair.specs.Pairing.{refusal};
 ghost use Rattle.st_pair.specs.Places.{event_at};
 ghost use Rattle.st_plan.specs.Marks.{all_streams, told_streams, Whole};
 ghost use Rattle.st_plan.specs.Plain.{IsPlain, IsSettled};
+ghost use Rattle.st_full.specs.Choice.{HasChoice};
 ghost use Rattle.st_full.specs.Completed.{IsCompleted, IsShownInOneTrace};
 ghost use Rattle.st_full.specs.Full.{IsFull};
 ghost use Rattle.st_full.specs.Local.{IsNeedless};
@@ -136,6 +137,8 @@ pub fn shown_if_renumbered_is()
 pub fn counts_can_be_put_back()
     ensures { (streams : List Stream) → KeepsOrder (count_of_rank (counts_of streams))
         × (with_counts (count_of_rank (counts_of streams)) (renumbered_streams streams) ≡ streams) }
+{}
+
 /// If each reported receive has its send among the reported events, and no reason stands against the
 /// streams, they have a completion without a need. It has, for each need, an untold receive of its
 /// prev right before it: of a reported send to this process that nobody is told to have received, or
@@ -158,4 +161,12 @@ pub fn reasons_decide()
 pub fn refused_only_if_never_shown()
     ensures { (top : ℕ) (streams : List Stream) → IsRising (pids_of streams) → (reason : Reason)
         → StandsAgainst top streams reason → (acts : List Act) → NoReset acts → ¬ Shows top streams acts }
+{}
+
+/// With hidden sends too: acts without a reset show streams exactly if the sends that nobody reported
+/// have places among the reported events at which none of the reasons holds. Finding such places is
+/// another matter: in general that question is NP-complete.
+pub fn shown_exactly_if_hidden_sends_have_places()
+    ensures { (top : ℕ) (streams : List Stream) → IsRising (pids_of streams)
+        → (IsShownInOneTrace top streams ↔ HasChoice top streams) }
 {}
