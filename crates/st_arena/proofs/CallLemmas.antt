@@ -5,8 +5,8 @@ use Rattle.std.proofs.Common.{map, Option, Some, None, IfSome, IfNone, slice_get
 use Rattle.std.specs.List.{AllZip, position}
 use Rattle.std.proofs.lemmas.Bool.{lt-ltb, le-ltb, cond-true, cond-false}
 use Rattle.std.proofs.lemmas.List.Sums.{position_or_len_is}
-use Rattle.std.proofs.lemmas.Option.{get_or_from_slice_get, slice_get_within, same_Some}
-use Rattle.st_arena.specs.Calls.{Computes, IsAnswered, IsFirstAnswered}
+use Rattle.std.proofs.lemmas.Option.{get_or_from_slice_get, slice_get-get_or, slice_get_within, same_Some}
+use Rattle.st_arena.specs.Calls.{Computes, IsAnswered, IsFirstAnswered, PassesOnce}
 use Rattle.st_arena.specs.Chain.{Turns}
 
 module _ {T : Type 0} (R : T → T → Type 0) where
@@ -71,3 +71,24 @@ module _ {T : Type 0} (answers : T → Bool → Type 0) (test : T → Bool) (ite
       → result ≡ position test items
   position-found None found absent = sym (position-none absent)
   position-found (Some place) found absent = sym (position-first place found)
+
+  -- the same of any place that was answered true, if one item at most passes
+  pub position-any : PassesOnce test items → (result : Option ℕ)
+      → IfSome result (λ place. IsAnswered answers items place true)
+      → IfNone result ((place : ℕ) → place < length items → IsAnswered answers items place false)
+      → result ≡ position test items
+  position-any once None found absent = sym (position-none absent)
+  position-any once (Some place) found absent =
+      let inside : place < length items = slice_get_within items place found.item found.is_there in
+      let passes = tests place true found.item found in
+      let here : test found.item ≡ true = sym (computes place found.item true found.is_there found.answered) in
+      let alone = λ (k : ℕ) (before : k < place).
+      let x = get_or items k found.item in
+      let there : slice_get items k ≡ Some x = slice_get-get_or items k found.item (omega arith) in
+      elim (test x) as (λ b. test x ≡ b → b ≡ false) [
+        | false ↦ λ _. refl
+        | true ↦ λ other. let same = once k place x found.item there found.is_there other here in absurd (omega arith)
+      ] refl in
+      sym (rw
+      (position_or_len_is test items place found.item (omega arith) alone (λ _. passes))
+      (cond-true (ltb place (length items)) (Some place) None (lt-ltb place (length items) inside)))

@@ -19,3 +19,8 @@ module _ {T : Type 0} (answers : T → Bool → Type 0) (items : List T) where
   pub record IsFirstAnswered (place : ℕ) : Type 0 where
     pub found : IsAnswered place true
     pub before : (earlier : ℕ) → earlier < place → IsAnswered earlier false
+
+-- no two items pass the test
+abbrev pub PassesOnce : {T : Type 0} → (T → Bool) → List T → Type 0
+PassesOnce {T} test items = (i j : ℕ) (x y : T) → slice_get items i ≡ Some x → slice_get items j ≡ Some y
+    → test x ≡ true → test y ≡ true → i ≡ j

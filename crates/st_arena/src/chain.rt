@@ -2,7 +2,7 @@
 //! sees this. Each function takes the slab and the ends of one list, and changes the nodes of that list
 //! alone; `lists` puts the ends back.
 
-ghost use Rattle.std.specs.Prelude.{◌≡◌, ◌+◌, ◌<◌, ◌≤◌, ℕ, suc, length, Some, None, false, IfSome, IfNone};
+ghost use Rattle.std.specs.Prelude.{◌≡◌, ◌+◌, ◌<◌, ◌≤◌, ℕ, suc, length, Some, None, true, false, IfSome, IfNone};
 ghost use Rattle.std.specs.Fn.{FnReturnsAt};
 ghost use Rattle.slab.specs.Slab.{get, ContainsKey, slab_len, HasRoomFor};
 ghost use Rattle.st_arena.specs.Calls.{IsAnswered, IsFirstAnswered};
@@ -176,6 +176,36 @@ pub(crate) fn first_answered<T, F: Fn(&T) -> bool>(
             return Some(place);
         }
         key = node.next;
+    }
+    None
+}
+
+/// A place whose item `pred` is true of, looked for from both ends at once.
+pub(crate) fn any_answered<T, F: Fn(&T) -> bool>(
+    nodes: &Slab<Node<T>>,
+    ends: Ends,
+    pred: &F,
+) -> Option<u64>
+    requires chained { IsChained (get nodes.now) ends }
+    requires callable { F.IsAlwaysCallable pred.now }
+    ensures found { IfSome result (λ place.
+        IsAnswered (FnReturnsAt F.Fn pred.now) (items_of (get nodes.now) ends) place true) }
+    ensures absent { IfNone result ((place : ℕ) → place < ends.len →
+        IsAnswered (FnReturnsAt F.Fn pred.now) (items_of (get nodes.now) ends) place false) }
+{
+    let mut front = ends.first;
+    let mut back = ends.last;
+    for place in 0..ends.len - ends.len / 2 {
+        let near = &nodes[front];
+        if pred(&near.value) {
+            return Some(place);
+        }
+        front = near.next;
+        let far = &nodes[back];
+        if pred(&far.value) {
+            return Some(ends.len - 1 - place);
+        }
+        back = far.previous;
     }
     None
 }

@@ -11,6 +11,7 @@
 //! | `push_back` | constant, unless the arena grows | takes some if nothing is spare |
 //! | `push_reserved`, `len`, `list_count` | constant | none |
 //! | `get`, `take_at` | as many steps as the place is from the nearer end | none |
+//! | `find_any` | as many steps as the place is from the nearer end | none |
 //! | `find_first`, `change_all` | as many steps as the list has items | none |
 //! | `walk` | constant, as is each of its steps | none |
 //!

@@ -1,6 +1,6 @@
 //! The arena of lists, and all that a caller does with it but the walk.
 
-use crate::chain::{append, change_items, first_answered, key_at, unlink};
+use crate::chain::{any_answered, append, change_items, first_answered, key_at, unlink};
 use crate::node::{Ends, NONE, Node};
 use crate::walk::Walk;
 use slab::Slab;
@@ -42,7 +42,7 @@ impl<T> Lists<T> {
     ghost use Rattle.std.specs.List.{AllZip};
     ghost use Rattle.std.specs.Fn.{FnReturnsAt};
     ghost use Rattle.st_arena.specs.Arena.{list_at};
-    ghost use Rattle.st_arena.specs.Calls.{Computes, IsAnswered, IsFirstAnswered};
+    ghost use Rattle.st_arena.specs.Calls.{Computes, IsAnswered, IsFirstAnswered, PassesOnce};
 
     /// As many empty lists, with nothing spare.
     pub fn new(alloc: Global, lists: usize) -> Result<Lists<T>, AllocError>
@@ -170,6 +170,24 @@ impl<T> Lists<T> {
             result ≡ position test (list_at self.now list) }
     {
         first_answered(&self.nodes, self.ends[list], pred)
+    }
+
+    /// A place of a list whose item `pred` is true of: the least one from the nearer end, so that it
+    /// takes as many steps as the place is from there.
+    pub fn find_any<F: Fn(&T) -> bool>(&self, list: usize, pred: &F) -> Option<u64>
+        requires in_range { list < length self.now.lists }
+        requires callable { F.IsAlwaysCallable pred.now }
+        ensures found { IfSome result (λ place.
+            IsAnswered (FnReturnsAt F.Fn pred.now) (list_at self.now list) place true) }
+        ensures absent { IfNone result ((place : ℕ) → place < length (list_at self.now list) →
+            IsAnswered (FnReturnsAt F.Fn pred.now) (list_at self.now list) place false) }
+
+        // So it is the position that a test has, if `pred` computes that test and one item at most passes.
+        ensures position { (test : T → Bool) →
+            Computes (FnReturnsAt F.Fn pred.now) test (list_at self.now list) →
+            PassesOnce test (list_at self.now list) → result ≡ position test (list_at self.now list) }
+    {
+        any_answered(&self.nodes, self.ends[list], pred)
     }
 
     /// Puts `change(&item)` in the place of each item of a list, from the first on.

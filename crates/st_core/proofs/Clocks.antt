@@ -9,6 +9,7 @@ use Rattle.std.proofs.lemmas.List.Elements.{All-nil, All-cons, All-weaker}
 use Rattle.std.proofs.lemmas.Option.{same_Some, none-some, cond_some, option_and_then_some}
 use Rattle.st_core.specs.declared.types.Pid.{Pid}
 use Rattle.st_core.specs.declared.types.Token.{Token}
+use Rattle.st_core.specs.declared.types.Label.{Label}
 use Rattle.st_core.specs.declared.types.Message.{Message}
 use Rattle.st_core.specs.declared.types.Kind.{Kind}
 use Rattle.st_core.specs.declared.types.Kind.TheVariants as kind
@@ -26,7 +27,7 @@ use Rattle.st_core.specs.Report.{flag_of, report}
 use Rattle.st_core.specs.Step.{Acted, Outcome, acted, actor, answers, sends, prints, receives, reached, changed, step}
 use Rattle.st_core.specs.Run.{run, run_from}
 use Rattle.st_core.specs.Pairs.{IsFollowing}
-use Rattle.st_core.specs.Laws.{Reports, is_reset, NoReset, clock_in, ClocksNeverFall, LiftsClock}
+use Rattle.st_core.specs.Laws.{Reports, is_reset, NoReset, clock_in, ClocksNeverFall, LiftsClock, stamps, StampsToken}
 use Rattle.st_core.proofs.Pids.{pid_eq-true}
 use Rattle.st_core.proofs.Others.{process_pid, mapped, Stepped, step_parts, run_parts, process_after}
 use Rattle.st_core.proofs.Others.{actor_mine, actor_after, sent_local}
@@ -219,7 +220,7 @@ found_clock a done before (Some r) plain least same =
     ] refl
 
 -- no step but a reset lowers a clock
-step_clock : (top : ℕ) (s : State) (a : Act) (o : Outcome) (p : Pid) → step top s a ≡ Some o → is_reset a ≡ false
+pub step_clock : (top : ℕ) (s : State) (a : Act) (o : Outcome) (p : Pid) → step top s a ≡ Some o → is_reset a ≡ false
     → clock_in s p ≤ clock_in o.after p
 step_clock top s a o p h plain =
     let t = step_parts top s a o h in
@@ -300,6 +301,94 @@ sent top s p q v o r token h is has =
           let event = event_of kind.Send token (Some q) v in
           sym (cond_some (x.local.traced && token.flags.send) event e
           (ap (λ k. report x.local.traced kind.Send k (Some q) v) (sym token_is) ∙ told)).1;
+    }
+
+-- A STAMP, REPORTED OR NOT
+
+-- the actor's part of a stamp: its token is p's, and lifted the clock
+printed_stamp : (r : Process) (v : ℕ) (stamped : Option LocalState) (done : Acted) (t : Token)
+    → ((m : LocalState) → stamped ≡ Some m → IsGrown r.pid r.local m) → option_map (prints r v) stamped ≡ Some done
+    → done.local.token ≡ Some t → IsStampAbove r.pid r.local.clock done.local t
+printed_stamp r v stamped done t grows h is =
+    let parts = mapped (prints r v) stamped done h in
+    let local : parts.0 ≡ done.local = ap (λ (d : Acted). d.local) parts.2 in
+    subst (λ l. IsStampAbove r.pid r.local.clock l t) local
+    ((grows parts.0 parts.1).token t (ap (λ (l : LocalState). l.token) local ∙ is))
+
+stamp_label : (n : Label) (r : Process) (done : Acted) (t : Token) → Some (answers r r.local reply.Done) ≡ Some done → done.local.token ≡ Some t → has_label n r.local.token ≡ false
+    → has_label n (Some t) ≡ false
+stamp_label n r done t h is none =
+    let same : r.local.token ≡ Some t = ap (λ (d : Acted). d.local.token) (same_Some _ done h) ∙ is in
+    ap (has_label n) (sym same) ∙ none
+
+acted_stamp : (top : ℕ) (a : Act) (r : Process) (done : Acted) (t : Token) → acted top r a ≡ Some done
+    → stamps a t ≡ true → done.local.token ≡ Some t → IsStampAbove r.pid r.local.clock done.local t
+acted_stamp top (act.Send p q v) r done t h is token =
+    let parts = mapped (sends r q v) (stamp_any top r.pid r.local) done h in
+    let local : parts.0 ≡ done.local = ap (λ (d : Acted). d.local) parts.2 in
+    subst (λ l. IsStampAbove r.pid r.local.clock l t) local
+    ((any_grows top r.pid r.local parts.0 parts.1).token t (ap (λ (l : LocalState). l.token) local ∙ token))
+acted_stamp top (act.Print p v) r done t h is token =
+    printed_stamp r v (stamp_any top r.pid r.local) done t (any_grows top r.pid r.local) h token
+acted_stamp top (act.PrintAt p n v) r done t h is token =
+    elim (has_label n r.local.token) as (λ b. has_label n r.local.token ≡ b
+    → cond b (option_map (prints r v) (stamp top r.pid r.local)) (Some (answers r r.local reply.Done)) ≡ Some done
+    → IsStampAbove r.pid r.local.clock done.local t) [
+      | true ↦ λ _ h. printed_stamp r v (stamp top r.pid r.local) done t (stamp_grows top r.pid r.local) h token
+      | false ↦ λ none h.
+          absurd (false≢true (sym (stamp_label n r done t h token none) ∙ is))
+    ] refl h
+acted_stamp top (act.Receive p w) r done t h is token = absurd (false≢true is)
+acted_stamp top (act.Set p c) r done t h is token = absurd (false≢true is)
+acted_stamp top (act.Clear p) r done t h is token = absurd (false≢true is)
+acted_stamp top (act.Restore p x) r done t h is token = absurd (false≢true is)
+acted_stamp top (act.Look p) r done t h is token = absurd (false≢true is)
+acted_stamp top (act.Reset p) r done t h is token = absurd (false≢true is)
+acted_stamp top (act.Tracer p b) r done t h is token = absurd (false≢true is)
+
+never_reset : (a : Act) (t : Token) → stamps a t ≡ true → is_reset a ≡ false
+never_reset (act.Reset p) t is = absurd (false≢true is)
+never_reset (act.Send p q v) t is = refl
+never_reset (act.Print p v) t is = refl
+never_reset (act.PrintAt p n v) t is = refl
+never_reset (act.Receive p w) t is = refl
+never_reset (act.Set p c) t is = refl
+never_reset (act.Clear p) t is = refl
+never_reset (act.Restore p x) t is = refl
+never_reset (act.Look p) t is = refl
+never_reset (act.Tracer p b) t is = refl
+
+-- what reaches the actor of a stamp beside its own part leaves its token
+own_token : (a : Act) (done : Acted) (r : Process) (t : Token) → stamps a t ≡ true → pid_eq r.pid (actor a) ≡ true
+    → (changed a done r).local.token ≡ done.local.token
+own_token (act.Send p q v) done r t is mine = ap (λ (l : LocalState). l.token) (sent_local p q v done r mine)
+own_token (act.Print p v) done r t is mine =
+    ap (λ b. (cond b (record r { local = done.local; queue = done.queue }) r).local.token) mine
+own_token (act.PrintAt p n v) done r t is mine =
+    ap (λ b. (cond b (record r { local = done.local; queue = done.queue }) r).local.token) mine
+own_token (act.Receive p w) done r t is mine = absurd (false≢true is)
+own_token (act.Set p c) done r t is mine = absurd (false≢true is)
+own_token (act.Clear p) done r t is mine = absurd (false≢true is)
+own_token (act.Restore p x) done r t is mine = absurd (false≢true is)
+own_token (act.Look p) done r t is mine = absurd (false≢true is)
+own_token (act.Reset p) done r t is mine = absurd (false≢true is)
+own_token (act.Tracer p b) done r t is mine = absurd (false≢true is)
+
+stamp_lifts : (top : ℕ) (s : State) (a : Act) (o : Outcome) (r : Process) (token : Token) → step top s a ≡ Some o
+    → stamps a token ≡ true → process o.after (actor a) ≡ Some r → r.local.token ≡ Some token
+    → Lifts s o (actor a) token.serial.this
+stamp_lifts top s a o r token h is there has =
+    let t = step_parts top s a o h in
+    let x = t.before in
+    let own : r.local.token ≡ t.done.local.token =
+    ap (λ (y : Process). y.local.token) (same_Some r _ (sym there ∙ actor_after top s a o t))
+    ∙ own_token a t.done x token is (actor_mine top s a o t) in
+    let stamped = acted_stamp top a x t.done token t.is_done is (sym own ∙ has) in
+    let above = stamped.above in
+    let before : clock_in s (actor a) ≡ x.local.clock = ap clock_found t.is_before in
+    record {
+      above = omega arith;
+      reaches = actor_clock top s a o t (never_reset a token is) ∙ stamped.reaches;
     }
 
 -- RUNS
@@ -401,6 +490,16 @@ reported_stamps_lift top pids acts os h none p n e r other =
     let lifts = λ (s : State) (stepped : step top s r.act ≡ Some o) (plain : is_reset r.act ≡ false).
     subst (λ q. Lifts s o q e.serial.this) r.own (report_lifts top s r.act o e stepped plain is other) in
     (lifts_from top (zero_state pids) acts os p e.serial.this n r.act o h none r.at out lifts).lifts)
+
+-- in every run
+pub stamps_lift : (top : ℕ) (pids : List Pid) (acts : List Act) (os : List Outcome) → run top pids acts ≡ Some os
+    → NoReset acts → (p : Pid) (n : ℕ) (t : Token) → StampsToken acts os p n t → LiftsClock os p t.serial.this n
+stamps_lift top pids acts os h none p n t r =
+    option_and_then_some (λ (o : Outcome). process o.after p) (slice_get os n) r.after r.is_after (λ o out is.
+    let lifts = λ (s : State) (stepped : step top s r.act ≡ Some o) (_ : is_reset r.act ≡ false).
+    subst (λ q. Lifts s o q t.serial.this) r.own
+    (stamp_lifts top s r.act o r.after t stepped r.stamped (ap (process o.after) r.own ∙ is) r.token) in
+    (lifts_from top (zero_state pids) acts os p t.serial.this n r.act o h none r.at out lifts).lifts)
 
 module _ (top : ℕ) (pids : List Pid) (acts : List Act) (os : List Outcome) (h : run top pids acts ≡ Some os)
     (r s : ℕ) (f : IsFollowing acts os r s) where

@@ -34,6 +34,7 @@ pub use Rattle.st_core.proofs.Reports.{event_reported, reported_in_order, report
 pub use Rattle.st_core.proofs.Clocks.{reported_sends_agree}
 -- ---- what every run without a reset keeps
 pub use Rattle.st_core.proofs.Clocks.{reported_stamps_lift, followed_sends_lift, lifted_once, lifted_later}
+pub use Rattle.st_core.proofs.Once.{step_once, zero_once}
 -- ---- what every run that reports all stamps and all receives of tokens keeps
 pub use Rattle.st_core.proofs.FullReports.{tell_counts, have_sends, greatest_push, prev_push}
 -- ---- the numbers of the sends in the queues

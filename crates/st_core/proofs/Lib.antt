@@ -16,6 +16,7 @@ pub mod Names
 pub mod Reports
 pub mod Clocks
 pub mod FullReports
+pub mod Once
 mod Cases
 pub mod Pids
 pub mod RisingPids

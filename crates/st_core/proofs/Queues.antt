@@ -134,7 +134,7 @@ acted_queue top (act.Reset p) r done other h = some_queue _ done h
 acted_queue top (act.Tracer p b) r done other h = some_queue _ done h
 
 -- the queue of a process after its own part of an act that is no receive
-own_queue : (top : ℕ) (s : State) (a : Act) (o : Outcome) (t : Stepped top s a o) (p : Pid) (r : Process)
+pub own_queue : (top : ℕ) (s : State) (a : Act) (o : Outcome) (t : Stepped top s a o) (p : Pid) (r : Process)
     → ¬ IsReceive a → process s p ≡ Some r → (if pid_eq r.pid (actor a) then t.done.queue else r.queue) ≡ r.queue
 own_queue top s a o t p r other is_r =
     elim (pid_eq r.pid (actor a)) as (λ b. pid_eq r.pid (actor a) ≡ b → cond b t.done.queue r.queue ≡ r.queue) [

@@ -1,10 +1,11 @@
 -- Laws of the machine: what one act leaves alone, what holds in every run, and what in every run without a reset.
-use Rattle.std.specs.Prelude.{◌≡◌, ℕ, ◌+◌, ◌<◌, ◌≤◌, ◌⊎◌, max, Bool, true, false, List, [], ◌∷◌, length, map, take}
+use Rattle.std.specs.Prelude.{◌≡◌, ◌≢◌, ℕ, ◌+◌, ◌<◌, ◌≤◌, ◌⊎◌, max, Bool, true, false, List, [], ◌∷◌, length, map, take}
 use Rattle.std.specs.Prelude.{Some, None, is_some, IsSome, slice_get, All, AllPairs, option_and_then}
 use Rattle.std.specs.List.{AllByRecursion}
 use Rattle.std.specs.Option.{ForSome, option_map_or}
 use Rattle.st_core.specs.declared.types.Pid.{Pid}
 use Rattle.st_core.specs.declared.types.Token.{Token}
+use Rattle.st_core.specs.declared.types.Message.{Message}
 use Rattle.st_core.specs.declared.types.Event.{Event}
 use Rattle.st_core.specs.declared.types.Kind.TheVariants as kind
 use Rattle.st_core.specs.declared.types.Act.{Act}
@@ -77,6 +78,43 @@ clock_in s p = elim (process s p) [ None ↦ 0 | Some r ↦ r.local.clock ]
 -- no process's clock falls from one outcome to a later one
 abbrev pub ClocksNeverFall : List Outcome → Type 0
 ClocksNeverFall os = AllPairs (λ o later. (p : Pid) → clock_in o.after p ≤ clock_in later.after p) os
+
+-- an act of this kind after which its actor has the token t has stamped it: a send and a print stamp what there is, a
+-- printat a token with its label
+abbrev pub stamps : Act → Token → Bool
+stamps (act.Send p q v) t = true
+stamps (act.Print p v) t = true
+stamps (act.PrintAt p n v) t = has_label n (Some t)
+stamps a t = false
+
+-- act n is p's and stamped the token t
+pub record StampsToken (acts : List Act) (os : List Outcome) (p : Pid) (n : ℕ) (t : Token) : Type 0 where
+  pub act : Act
+  pub at : slice_get acts n ≡ Some act
+  pub own : actor act ≡ p
+  pub stamped : stamps act t ≡ true
+  pub after : Process
+  pub is_after : option_and_then (λ o. process o.after p) (slice_get os n) ≡ Some after
+  pub token : after.local.token ≡ Some t
+
+-- the tokens of two messages, if one process stamped both, have different counts
+abbrev pub AreApart : Message → Message → Type 0
+AreApart m n = (t u : Token) → m.token ≡ Some t → n.token ≡ Some u → t.from ≡ u.from
+    → t.serial.this ≢ u.serial.this
+
+-- no two of these messages bear one stamp
+abbrev pub StampsStandOnce : List Message → Type 0
+StampsStandOnce [] = Unit {0}
+StampsStandOnce (m ∷ ms) = AllByRecursion (AreApart m) ms × StampsStandOnce ms
+
+-- the message's token, if it has one, has no count above the clock of the process that stamped it
+abbrev pub IsStampedBefore : State → Message → Type 0
+IsStampedBefore s m = ForSome m.token (λ t. t.serial.this ≤ clock_in s t.from)
+
+-- no stamp stands twice in a queue, and none is yet to come
+pub record HasStampsOnce (s : State) : Type 0 where
+  pub once : (p : Pid) (r : Process) → process s p ≡ Some r → StampsStandOnce r.queue
+  pub before : (p : Pid) (r : Process) → process s p ≡ Some r → AllByRecursion (IsStampedBefore s) r.queue
 
 -- act n lifts p's clock to this count: the clock stands at it after the act, and below it after each earlier one. So
 -- one act at most lifts a clock to a count, and to a greater count a later act

@@ -11,7 +11,7 @@ ghost use Rattle.st_core.specs.declared.types.Pid.{Pid};
 ghost use Rattle.st_core.specs.declared.types.Token.{Token};
 ghost use Rattle.st_core.specs.Laws.{AreAllListed, IsLeastUnlisted, LeavesOthers, IsStamped, KeepsSound, ReportsAmong};
 ghost use Rattle.st_core.specs.Laws.{ClocksNeverFall, GoesOnFrom, LiftsClock, NoReset, Reports, ReportsEverything};
-ghost use Rattle.st_core.specs.Laws.{ReportsEvent};
+ghost use Rattle.st_core.specs.Laws.{HasStampsOnce, ReportsEvent, StampsToken};
 ghost use Rattle.st_core.specs.Pid.{IsRising};
 ghost use Rattle.st_core.specs.Streams.{unlisted};
 ghost use Rattle.st_core.specs.Pairs.{AllPaired, Follows, IsFollowing, pairs};
@@ -90,6 +90,21 @@ pub fn reported_stamps_lift_clocks()
     ensures { (top : ℕ) (pids : List Pid) (acts : List Act) (os : List Outcome)
         → run top pids acts ≡ Some os → NoReset acts → (p : Pid) (n : ℕ) (e : Event)
         → Reports acts os p n e → e.kind ≢ kind.Receive → LiftsClock os p e.serial.this n }
+{}
+
+/// In a run without a reset every stamp, reported or not, lifts its process's clock to its count: so
+/// the counts of a process's stamps rise.
+pub fn stamps_lift_clocks()
+    ensures { (top : ℕ) (pids : List Pid) (acts : List Act) (os : List Outcome)
+        → run top pids acts ≡ Some os → NoReset acts → (p : Pid) (n : ℕ) (t : Token)
+        → StampsToken acts os p n t → LiftsClock os p t.serial.this n }
+{}
+
+/// In a run without a reset no queue ever holds two messages with one stamp: two tokens that one
+/// process stamped have different counts, none above its clock.
+pub fn queues_have_stamps_once()
+    ensures { (top : ℕ) (pids : List Pid) (acts : List Act) (os : List Outcome)
+        → run top pids acts ≡ Some os → NoReset acts → All (λ o. HasStampsOnce o.after) os }
 {}
 
 /// In a run without a reset each send that a reported receive follows, itself reported or not, lifts

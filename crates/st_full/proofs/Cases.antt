@@ -25,8 +25,10 @@ use Rattle.st_order.specs.Order.{order}
 use Rattle.st_plan.specs.Moves.{Move, clock, last, moves}
 use Rattle.st_plan.specs.Plain.{IsPlain, out_of_turn, told}
 use Rattle.st_plan.specs.Reasons.{too_wide, uncaused}
-use Rattle.st_plan.specs.Marks.{Marked}
+use Rattle.st_plan.specs.Marks.{Marked, Whole}
+use Rattle.st_full.specs.Completion.{completion}
 use Rattle.st_full.specs.Needs.{is_rootless}
+use Rattle.st_full.specs.Reasons.{Late, StandsAgainst, TooHigh, Unfounded, Unsent}
 use Rattle.st_full.specs.Supply.{excess, is_free}
 use Rattle.st_full.specs.Wholes.{wholes_of}
 use Rattle.st_full.proofs.Against.{shown_nothing}
@@ -312,3 +314,123 @@ own_feeds = (refl, refl)
 -- After a receive no prev is 0.
 rootless : is_rootless (event kind.Receive 1 0 1 b (Some a) 4 ∷ []) (event kind.Print 1 0 2 a None 5) ≡ true
 rootless = refl
+
+-- COMPLETIONS
+
+abbrev told_event : Event → Marked
+told_event e = record { event = e; told = true }
+
+abbrev added : Event → Marked
+added e = record { event = e; told = false }
+
+abbrev whole : Pid → List Marked → Whole
+whole p ms = record { pid = p; marked = ms }
+
+-- The reported send that nobody received serves the need of 3: its receive is put right before the need.
+own_completed : completion own_streams
+    ≡ whole a (
+    told_event (event kind.Print 1 0 3 a None 1)
+    ∷ told_event (event kind.Print 1 0 5 a None 2)
+    ∷ added (event kind.Receive 1 0 3 b (Some a) 7)
+    ∷ told_event (event kind.Print 1 3 6 a None 3)
+    ∷ []
+    )
+    ∷ whole b (told_event (event kind.Send 1 0 3 b (Some a) 7) ∷ [])
+    ∷ []
+own_completed = refl
+
+-- Nobody told of one: the free process sends it, with the need's label.
+two_completed : completion two_streams
+    ≡ whole a (
+    told_event (event kind.Print 1 0 3 a None 1)
+    ∷ told_event (event kind.Print 1 0 5 a None 2)
+    ∷ added (event kind.Receive 1 0 3 b (Some a) 0)
+    ∷ told_event (event kind.Print 1 3 6 a None 3)
+    ∷ []
+    )
+    ∷ whole b (added (event kind.Send 1 0 3 b (Some a) 0) ∷ [])
+    ∷ []
+two_completed = refl
+
+-- A free process on another node serves as well.
+abbrev far : Pid
+far = pid_on 1 30
+
+far_completed : completion (record { pid = a; events = alone } ∷ record { pid = far; events = [] } ∷ [])
+    ≡ whole a (
+    told_event (event kind.Print 1 0 3 a None 1)
+    ∷ told_event (event kind.Print 1 0 5 a None 2)
+    ∷ added (event kind.Receive 1 0 3 far (Some a) 0)
+    ∷ told_event (event kind.Print 1 3 6 a None 3)
+    ∷ []
+    )
+    ∷ whole far (added (event kind.Send 1 0 3 far (Some a) 0) ∷ [])
+    ∷ []
+far_completed = refl
+
+-- Two needs of 3 and one free process: too few.
+abbrev twice : List Stream
+twice =
+    record {
+      pid = a;
+      events = alone ++ (event kind.Print 1 4 7 a None 4 ∷ event kind.Print 1 3 8 a None 5 ∷ []);
+    }
+    ∷ record { pid = b; events = [] }
+    ∷ []
+
+twice_needs : (sum_by (excess twice 3) (pids_of twice) ≡ 2) × (count_by (is_free twice 3) (pids_of twice) ≡ 1)
+twice_needs = (refl, refl)
+
+twice_unsent : StandsAgainst 9 twice (Unsent 3)
+twice_unsent few = absurd (omega (arith, few, twice_needs.0, twice_needs.1))
+
+-- A need of 0, after a receive; and a stamp below a count that was received.
+abbrev after_receive : Event → List Stream
+after_receive e =
+    record { pid = a; events = event kind.Receive 1 0 3 b (Some a) 4 ∷ e ∷ [] }
+    ∷ record { pid = b; events = event kind.Send 1 0 3 b (Some a) 4 ∷ [] }
+    ∷ []
+
+unfounded : StandsAgainst 9 (after_receive (event kind.Print 1 0 5 a None 5)) (Unfounded a 1)
+unfounded = record { event = event kind.Print 1 0 5 a None 5; at = refl; holds = refl }
+
+late : StandsAgainst 9 (after_receive (event kind.Print 1 0 2 a None 5)) (Late a 1)
+late = record { event = event kind.Print 1 0 2 a None 5; at = refl; holds = refl }
+
+too_high : StandsAgainst 2 (after_receive (event kind.Print 1 3 5 a None 5)) (TooHigh a 0)
+too_high = record { event = event kind.Receive 1 0 3 b (Some a) 4; at = refl; holds = refl }
+
+-- The print of b begins a trace at clock 2. A send of 3 before it would lift the clock above 2, so it is the send that
+-- begins the trace.
+abbrev begun : List Stream
+begun =
+    record { pid = a; events = alone }
+    ∷ record { pid = b; events = event kind.Print 1 2 5 b None 4 ∷ [] }
+    ∷ []
+
+begun_completed : completion begun
+    ≡ whole a (
+    told_event (event kind.Print 1 0 3 a None 1)
+    ∷ told_event (event kind.Print 1 0 5 a None 2)
+    ∷ added (event kind.Receive 1 2 3 b (Some a) 0)
+    ∷ told_event (event kind.Print 1 3 6 a None 3)
+    ∷ []
+    )
+    ∷ whole b (added (event kind.Send 1 2 3 b (Some a) 0) ∷ told_event (event kind.Print 1 2 5 b None 4) ∷ [])
+    ∷ []
+begun_completed = refl
+
+-- A process alone may have sent to itself, before it stamped a higher count.
+abbrev to_itself : List Stream
+to_itself = record { pid = a; events = event kind.Print 1 0 3 a None 1 ∷ event kind.Print 1 2 5 a None 2 ∷ [] } ∷ []
+
+itself_completed : completion to_itself
+    ≡ whole a (
+    added (event kind.Send 1 0 2 a (Some a) 0)
+    ∷ told_event (event kind.Print 1 0 3 a None 1)
+    ∷ added (event kind.Receive 1 0 2 a (Some a) 0)
+    ∷ told_event (event kind.Print 1 2 5 a None 2)
+    ∷ []
+    )
+    ∷ []
+itself_completed = refl

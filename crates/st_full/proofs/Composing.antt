@@ -1,6 +1,6 @@
 -- A completion of a completion is one: what is told in the second is told of the first, so that needs can be met one at
 -- a time.
-use Rattle.std.proofs.Common.{◌≡◌, ℕ, zero, suc, true, false, cond, List, [], ◌∷◌, drop, slice_get}
+use Rattle.std.proofs.Common.{◌≡◌, ℕ, true, false, cond, List, [], ◌∷◌, drop, slice_get}
 use Rattle.std.proofs.Common.{refl, sym, ◌∙◌, ap, subst}
 use Rattle.std.proofs.lemmas.Option.{none-some, same_Some}
 use Rattle.st_core.specs.declared.types.Pid.{Pid}
@@ -91,16 +91,3 @@ completed_again Is top us done =
       sound = subst IsStreams (sym all) done.sound;
       is = subst (Is top) (sym all) done.is;
     }
-
--- So where each streams that are good and have n + 1 needs have a completion of which all is good and has n, and those
--- that have none are so, all that are good have a completion that is so.
-module _ (top : ℕ) (Good : List Stream → Type 0) (count : List Stream → ℕ) (Is : ℕ → List Stream → Type 0)
-    (less : (n : ℕ) (streams : List Stream) → Good streams → count streams ≡ suc n → (us : List Whole)
-    × (told_streams us ≡ streams) × Good (all_streams us) × (count (all_streams us) ≡ n))
-    (none : (streams : List Stream) → Good streams → count streams ≡ 0 → IsCompleted Is top streams) where
-  pub one_by_one : (n : ℕ) (streams : List Stream) → Good streams → count streams ≡ n → IsCompleted Is top streams
-  one_by_one zero streams good is = none streams good is
-  one_by_one (suc n) streams good is =
-      let one = less n streams good is in
-      subst (IsCompleted Is top) one.1
-      (completed_again Is top one.0 (one_by_one n (all_streams one.0) one.2 one.3))

@@ -27,4 +27,15 @@ pub mod SameSupply
 pub mod SameNames
 pub mod Renumbering
 pub mod Ranks
+pub mod Reporting
+pub mod Counting
+pub mod Asking
+pub mod Placing
+pub mod Good
+pub mod Receiving
+pub mod Sending
+pub mod Starting
+pub mod Decided
+pub mod Deciding
+pub mod Choosing
 pub mod ForCallers

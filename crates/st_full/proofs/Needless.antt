@@ -29,7 +29,7 @@ use Rattle.st_full.proofs.Plainness.{greatest_has}
 use Rattle.st_full.proofs.Turning.{After, after, event_move, event_move_there, is_move_of, own_step, turned}
 
 -- a stamp that isn't late is above the greatest count
-above_if : (stamp less : Bool) → stamp ≡ true → (stamp && not less) ≡ false → less ≡ true
+pub above_if : (stamp less : Bool) → stamp ≡ true → (stamp && not less) ≡ false → less ≡ true
 above_if true true is h = refl
 above_if true false is h = absurd (false≢true (sym h))
 above_if false less is h = absurd (false≢true is)
@@ -171,11 +171,17 @@ all_same (x ∷ streams) =
     (all_there x.events)
     ∙ ap (λ ys. x ∷ ys) (all_same streams)
 
-pub needless_streams_shown : (top : ℕ) (streams : List Stream) → IsStreams streams → IsNeedless top streams
-    → IsShownInOneTrace top streams
-needless_streams_shown top streams sound is = needless_shown top streams (record {
+-- streams that are so are a completion of themselves
+pub own_completion : (Is : ℕ → List Stream → Type 0) (top : ℕ) (streams : List Stream) → IsStreams streams
+    → Is top streams → IsCompleted Is top streams
+own_completion Is top streams sound is = record {
   wholes = map marks_all streams;
   told = told_same streams;
   sound = subst IsStreams (sym (all_same streams)) sound;
-  is = subst (IsNeedless top) (sym (all_same streams)) is;
-})
+  is = subst (Is top) (sym (all_same streams)) is;
+}
+
+pub needless_streams_shown : (top : ℕ) (streams : List Stream) → IsStreams streams → IsNeedless top streams
+    → IsShownInOneTrace top streams
+needless_streams_shown top streams sound is =
+    needless_shown top streams (own_completion IsNeedless top streams sound is)

@@ -41,7 +41,7 @@ lists_among (x ∷ streams) p =
     elim (pid_eq x.pid p) as (λ b. is_some (cond b (Some x) (stream_of streams p)) ≡
     (b || is_among (pids_of streams) p)) [ true ↦ refl | false ↦ lists_among streams p ]
 
-names_among_listed : (streams : List Stream) (e : Event) → names_listed streams e ≡ names_among (pids_of streams) e
+pub names_among_listed : (streams : List Stream) (e : Event) → names_listed streams e ≡ names_among (pids_of streams) e
 names_among_listed streams e =
     ap (λ b. b && option_map_or (lists streams) e.to true) (lists_among streams e.from)
     ∙ ap (λ b. is_among (pids_of streams) e.from && b) (to_same e.to)
@@ -52,7 +52,7 @@ names_among_listed streams e =
     to_same (Some q) = lists_among streams q
 
 -- each event is one that its process may report among all
-abbrev AreReports : List Pid → List Stream → Type 0
+abbrev pub AreReports : List Pid → List Stream → Type 0
 AreReports pids streams = AllByRecursion (λ (x : Stream). AllByRecursion (IsReportAmong pids x.pid) x.events) streams
 
 all_false : (all : List Stream) (p : Pid) (es : List Event) → AllByRecursion (IsReportAmong (pids_of all) p) es
@@ -65,7 +65,7 @@ all_own : (pids : List Pid) (p : Pid) (es : List Event) → AllByRecursion (IsRe
 all_own pids p [] h = tt
 all_own pids p (e ∷ es) h = (h.0.own, all_own pids p es h.1)
 
-unlisted_none : (all rest : List Stream) → AreReports (pids_of all) rest → unlisted_among all rest ≡ None
+pub unlisted_none : (all rest : List Stream) → AreReports (pids_of all) rest → unlisted_among all rest ≡ None
 unlisted_none all [] h = refl
 unlisted_none all (x ∷ rest) h =
     let test = λ (e : Event). not (names_listed all e) in
@@ -74,7 +74,7 @@ unlisted_none all (x ∷ rest) h =
     (position-none test x.events (all_false all x.pid x.events h.0))
     ∙ unlisted_none all rest h.1
 
-are_own : (pids : List Pid) (streams : List Stream) → AreReports pids streams → AreOwn streams
+pub are_own : (pids : List Pid) (streams : List Stream) → AreReports pids streams → AreOwn streams
 are_own pids [] h = tt
 are_own pids (x ∷ streams) h = (all_own pids x.pid x.events h.0, are_own pids streams h.1)
 

@@ -115,7 +115,7 @@ received_to kind.Print from to p receives own = absurd (false≢true (sym receiv
 received_to kind.Receive from None p receives own = absurd (false≢true own)
 received_to kind.Receive from (Some q) p receives own = ap (λ (x : Pid). Some x) (pid_same q p own)
 
-own_at : (streams : List Stream) (p : Pid) (i : ℕ) (e : Event) → AreOwn streams → event_at streams p i ≡ Some e
+pub own_at : (streams : List Stream) (p : Pid) (i : ℕ) (e : Event) → AreOwn streams → event_at streams p i ≡ Some e
     → is_own p e ≡ true
 own_at [] p i e own at = absurd (none-some e at)
 own_at (x ∷ streams) p i e own at =
@@ -126,7 +126,7 @@ own_at (x ∷ streams) p i e own at =
       | false ↦ λ other at. own_at streams p i e own.1 at
     ] refl at
 
-named : (streams : List Stream) → IsStreams streams → AreAllListed streams
+pub named : (streams : List Stream) → IsStreams streams → AreAllListed streams
 named streams s =
     subst (λ (o : Option (Pid × ℕ)). MatchOption o (AreAllListed streams) (λ x. IsLeastUnlisted streams x.0 x.1))
     s.listed (unlisted_is_least streams s.draft.rising)

@@ -6,3 +6,6 @@ pub mod Needs
 pub mod Local
 pub mod Supply
 pub mod Renumbering
+pub mod Reasons
+pub mod Choice
+pub mod Completion

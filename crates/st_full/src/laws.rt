@@ -15,11 +15,13 @@ ghost use Rattle.st_pair.specs.Pairing.{refusal};
 ghost use Rattle.st_pair.specs.Places.{event_at};
 ghost use Rattle.st_plan.specs.Marks.{all_streams, told_streams, Whole};
 ghost use Rattle.st_plan.specs.Plain.{IsPlain, IsSettled};
+ghost use Rattle.st_full.specs.Choice.{HasChoice};
 ghost use Rattle.st_full.specs.Completed.{IsCompleted, IsShownInOneTrace};
 ghost use Rattle.st_full.specs.Full.{IsFull};
 ghost use Rattle.st_full.specs.Local.{IsNeedless};
 ghost use Rattle.st_full.specs.Needs.{is_late, is_need, is_rootless, HoldsOfNone, IsFedAt, marked_of};
 ghost use Rattle.st_full.specs.Renumbering.{count_of_rank, counts_of, KeepsOrder, renumbered_streams, with_counts};
+ghost use Rattle.st_full.specs.Reasons.{HasEachSend, HasNoReason, Reason, StandsAgainst};
 ghost use Rattle.st_full.specs.Supply.{IsSupplied};
 ghost use Rattle.st_full.specs.Wholes.{wholes_of};
 
@@ -135,4 +137,36 @@ pub fn shown_if_renumbered_is()
 pub fn counts_can_be_put_back()
     ensures { (streams : List Stream) → KeepsOrder (count_of_rank (counts_of streams))
         × (with_counts (count_of_rank (counts_of streams)) (renumbered_streams streams) ≡ streams) }
+{}
+
+/// If each reported receive has its send among the reported events, and no reason stands against the
+/// streams, they have a completion without a need. It has, for each need, an untold receive of its
+/// prev right before it: of a reported send to this process that nobody is told to have received, or
+/// else of an untold send of a process that tells nothing of this count.
+pub fn streams_without_a_reason_are_completed()
+    ensures { (top : ℕ) (streams : List Stream) → IsStreams streams → HasEachSend streams
+        → HasNoReason top streams → IsCompleted IsNeedless top streams }
+{}
+
+/// So for streams in which each reported receive has its send, the reasons decide: acts without a reset
+/// show them exactly if none stands against them. Each reason is a count over the events of single
+/// processes, and needs no order and no acts.
+pub fn reasons_decide()
+    ensures { (top : ℕ) (streams : List Stream) → IsStreams streams → HasEachSend streams
+        → (IsShownInOneTrace top streams ↔ HasNoReason top streams) }
+{}
+
+/// And a reason is final, whether sends are hidden or not: if one stands against streams, no acts
+/// without a reset show them, at this TOP. So streams are refused only if they are never shown.
+pub fn refused_only_if_never_shown()
+    ensures { (top : ℕ) (streams : List Stream) → IsRising (pids_of streams) → (reason : Reason)
+        → StandsAgainst top streams reason → (acts : List Act) → NoReset acts → ¬ Shows top streams acts }
+{}
+
+/// With hidden sends too: acts without a reset show streams exactly if the sends that nobody reported
+/// have places among the reported events at which none of the reasons holds. Finding such places is
+/// another matter: in general that question is NP-complete.
+pub fn shown_exactly_if_hidden_sends_have_places()
+    ensures { (top : ℕ) (streams : List Stream) → IsRising (pids_of streams)
+        → (IsShownInOneTrace top streams ↔ HasChoice top streams) }
 {}

@@ -115,7 +115,7 @@ module _ (counts : List ℕ) (stored : List (List Message)) (fronts : AreFronts 
     count_stays : set counts i count ≡ counts
     count_stays = ap (set counts i) is_count ∙ set-get_or counts i 0
 
-    queue_is : queue_in boxes i ≡ front_wiped count list
+    pub queue_is : queue_in boxes i ≡ front_wiped count list
     queue_is = rw (← view, is_count) (box_at counts stored i fronts in_stored)
 
     -- a write of the count and of the list

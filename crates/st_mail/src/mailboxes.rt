@@ -6,6 +6,7 @@ ghost use Rattle.std.specs.Prelude.{slice_get, IfOk, IsOk, OnOk, OnErr};
 ghost use Rattle.st_core.specs.Pick.{pick};
 ghost use Rattle.st_core.specs.Pid.{pid_eq};
 ghost use Rattle.st_core.specs.Step.{untraced};
+ghost use Rattle.st_arena.specs.Calls.{PassesOnce};
 ghost use Rattle.st_mail.specs.Mail.{queue_in, left_by, bears_stamp};
 
 use st_arena::Lists;
@@ -218,6 +219,22 @@ impl Mailboxes {
         let mut kept = self.queues.walk(mailbox).skip(wiped as usize);
         let place = kept.position(|message| is_stamp(from, this, &message.token))?;
         Some(wiped + place as u64)
+    }
+
+    /// The same if no two messages of the mailbox have such a token. It is looked for from both ends at
+    /// once, so that an answer that comes to a long queue is found as soon as the oldest message.
+    pub fn place_of_one(&self, mailbox: usize, from: Pid, this: u64) -> Option<u64>
+        requires within { mailbox < length self.now.boxes }
+        requires one { PassesOnce (λ m. bears_stamp from this m.token) (queue_in self.now.boxes mailbox) }
+        ensures { result ≡ position (λ m. bears_stamp from this m.token) (queue_in self.now.boxes mailbox) }
+    {
+        if self.wiped[mailbox] > 0 {
+            return self.place_of(mailbox, from, this);
+        }
+        let bears = |message: &Message| -> bool
+            ensures { result ≡ bears_stamp from this message.now.token }
+        { is_stamp(from, this, &message.token) };
+        self.queues.find_any(mailbox, &bears)
     }
 
     /// Takes the tokens of the messages in the mailbox away. The messages stay. It takes no longer for

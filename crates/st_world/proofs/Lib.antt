@@ -4,5 +4,6 @@ mod States
 pub mod ForCallers
 mod RowLemmas
 mod Nodes
+mod Once
 mod Steps
 mod Answering

@@ -58,7 +58,7 @@ AreStamped top queue = All (λ m. ForSome m.token (IsStamped top m.from)) queue
 abbrev pub Rises : Event → Type 0
 Rises e = e.serial.prev < e.serial.this
 
--- what a step of the act answers and leaves, from the old state to the new: the clauses of `step` in
+-- what a step of the act returns and leaves, from the old state to the new: the clauses of `step` in
 -- one word, for the parts that it is made of
 pub record IsStep (top : ℕ) (old : State) (a : Act) (r : Result Told StepFault) (new : State) : Type 0 where
   pub steps : IfOk r (λ told. step top old a ≡ Some (outcome_to told new))

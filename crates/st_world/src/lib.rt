@@ -7,6 +7,7 @@
 
 mod node;
 mod outcome;
+mod processes;
 mod rows;
 mod world;
 

@@ -1,21 +1,17 @@
-//! The processes of a world, and one step of them. The public calls are here: each looks its
-//! processes up by pid, and leaves the rest to the functions on one process or on one node.
+//! The world: the processes, and whether they still are in one trace. The public calls are here.
 
 ghost use Rattle.std.specs.Prelude.{◌≡◌, ◌⊎◌, true, option_map, IfErr, IfOk, IfSome, OnErr, OnOk};
 ghost use Rattle.st_core.specs.Pid.{IsRising};
 ghost use Rattle.st_core.specs.State.{process, zero_state};
-ghost use Rattle.st_core.specs.Step.{actor, step};
-ghost use Rattle.st_mail.specs.Actor.{is_inner, is_send_act};
+ghost use Rattle.st_core.specs.Step.{step};
+ghost use Rattle.st_mail.specs.Actor.{is_send_act};
 ghost use Rattle.st_world.specs.World.{outcome_to, place_in, token_of, AreOrdered, AreStamped};
-ghost use Rattle.st_world.specs.World.{IsFault, IsNewFault, IsStep, Rises};
+ghost use Rattle.st_world.specs.World.{IsFault, IsNewFault, Rises};
 
-use crate::node::{reset, trace};
 use crate::outcome::{NewFault, StepFault};
-use crate::rows::{number_of, numbered, zeros};
-use indexmap::IndexSet;
-use st_core::{Act, Kind, Local, Message, Pid, Reply, Token, Want, is_rising};
-use st_mail::actor::{answer, event, inner, receive, stamped};
-use st_mail::{Mailboxes, Outcome};
+use crate::processes::Processes;
+use st_core::{Act, Pid, Token};
+use st_mail::Outcome;
 use std::alloc::Global;
 use std::marker::Model;
 
@@ -26,20 +22,23 @@ use std::marker::Model;
 /// refused.
 #[derive(Drop)]
 pub struct World<const TOP: u64> {
-    pids: IndexSet<Pid>,
-    locals: Vec<Local<TOP>>,
-    queues: Mailboxes,
+    processes: Processes<TOP>,
+
+    // Whether no reset was asked for yet. Until then no stamp stands twice in a queue, so that a message
+    // may be looked for from either end.
+    one_trace: bool,
 }
 
 impl<const TOP: u64> Model for World<TOP> {
+    ghost use Rattle.std.specs.Prelude.{◌≡◌, true};
+    ghost use Rattle.st_core.specs.Laws.{HasStampsOnce};
     ghost use Rattle.st_core.specs.State.{State};
-    ghost use Rattle.st_world.specs.Rows.{state_of, AreRows};
 
     ghost Value = { State };
 
-    ghost view = { λ a. state_of a.pids.keys a.locals.items a.queues.boxes };
+    ghost view = { λ w. w.processes };
 
-    ghost invariant = { λ a. AreRows TOP a.pids.keys a.locals.items a.queues.boxes };
+    ghost invariant = { λ w. w.one_trace ≡ true → HasStampsOnce w.processes };
 }
 
 impl<const TOP: u64> World<TOP> {
@@ -50,33 +49,18 @@ impl<const TOP: u64> World<TOP> {
         ensures rising { OnOk result (IsRising pids.now) }
         ensures fault { IfErr result (IsNewFault pids.now) }
     {
-        if !is_rising(pids) {
-            return Err(NewFault::NotRising);
-        }
-        let Ok(set) = numbered(alloc, pids) else {
-            return Err(NewFault::Memory);
-        };
-        let Ok(locals) = zeros(alloc, pids.len()) else {
-            return Err(NewFault::Memory);
-        };
-        let Ok(queues) = Mailboxes::new(alloc, pids.len()) else {
-            return Err(NewFault::Memory);
-        };
+        let processes = Processes::new(alloc, pids)?;
         Ok(World {
-            pids: set,
-            locals,
-            queues,
+            processes,
+            one_trace: true,
         })
     }
 
-    /// The token of the process. None if it has none, or if the process is unknown.
+    /// The token of the process. None if it has none, and if the process is unknown.
     pub fn token(&self, pid: Pid) -> Option<Token>
         ensures { result ≡ token_of self.now pid }
     {
-        let Some(number) = number_of(&self.pids, pid) else {
-            return None;
-        };
-        self.locals[number].token()
+        self.processes.token(pid)
     }
 
     /// The clock of the process, which is never below its last count nor above `TOP`. None if the
@@ -85,42 +69,37 @@ impl<const TOP: u64> World<TOP> {
         ensures value { result ≡ option_map (λ r. r.local.clock) (process self.now pid) }
         ensures ordered { IfSome (process self.now pid) (λ r. AreOrdered TOP r.local) }
     {
-        let Some(number) = number_of(&self.pids, pid) else {
-            return None;
-        };
-        Some(self.locals[number].clock())
+        self.processes.clock(pid)
     }
 
-    /// The last count of the process: that of the last message with a token that it took, or its
-    /// clock if a new trace began after that. It is never above the clock. None if the process is
-    /// unknown.
+    /// The last count of the process: that of the last message with a token that it took, or its clock
+    /// if a new trace began after that. It is never above the clock. None if the process is unknown.
     pub fn last(&self, pid: Pid) -> Option<u64>
         ensures value { result ≡ option_map (λ r. r.local.last) (process self.now pid) }
         ensures ordered { IfSome (process self.now pid) (λ r. AreOrdered TOP r.local) }
     {
-        let Some(number) = number_of(&self.pids, pid) else {
-            return None;
-        };
-        Some(self.locals[number].last())
+        self.processes.last(pid)
     }
 
     /// In the queue of the process the least place whose message has a token with this from and
     /// this own count: that message is from the process that stamped the token. None if there is no
-    /// such message, or if the process is unknown.
+    /// such message, and if the process is unknown. Until the first reset it takes as many steps as the
+    /// place is from the nearer end of the queue, then as many as it is from the front.
     pub fn place_of(&self, pid: Pid, from: Pid, this: u64) -> Option<u64>
         ensures value { result ≡ place_in self.now pid from this }
         ensures stamped { IfSome (process self.now pid) (λ r. AreStamped TOP r.queue) }
     {
-        let Some(number) = number_of(&self.pids, pid) else {
-            return None;
-        };
-        self.queues.place_of(number, from, this)
+        if self.one_trace {
+            self.processes.place_of_one(pid, from, this)
+        } else {
+            self.processes.place_of(pid, from, this)
+        }
     }
 
-    /// One act. An act has a step if its actor is there, with a send's receiver, and its clock, if
-    /// it stamps, isn't at `TOP`: refusals come in this order. After a refusal the world is as
-    /// before. No act but a send takes memory, so only a send can run out of it; how much room
-    /// there is for messages isn't part of the state that a contract sees.
+    /// One act. An act has a step if its actor is there, with a send's receiver, and if its stamp, if
+    /// it has one, has a value: refusals come in this order. After a refusal the world is as before.
+    /// Only a send takes memory, so only a send can run out of it; what room there is for messages is
+    /// no part of the state that a contract sees.
     pub fn step(&mut self, act: &Act) -> Result<Outcome, StepFault>
         ensures step { IfOk result (λ told. step TOP self.old act.now ≡ Some (outcome_to told self.new)) }
         ensures rises { IfOk result (λ told. IfSome told.report Rises) }
@@ -131,96 +110,10 @@ impl<const TOP: u64> World<TOP> {
             (fault ≡ StepFault.Memory) ⊎ (step TOP self.old act.now ≡ None)) }
         ensures memory { result ≡ Err StepFault.Memory → is_send_act act.now ≡ true }
     {
-        match *act {
-            Act::Send(me, to, value) => self.send(me, to, value),
-            Act::Receive(me, want) => self.receive(me, &want),
-            Act::Reset(me) => self.reset(me),
-            Act::Tracer(me, on) => self.trace(me, on),
-            Act::Print(me, _)
-            | Act::PrintAt(me, _, _)
-            | Act::Set(me, _)
-            | Act::Clear(me)
-            | Act::Restore(me, _)
-            | Act::Look(me) => self.inner(me, act),
+        let outcome = self.processes.step(act);
+        if let Act::Reset(_) = *act {
+            self.one_trace = false;
         }
-    }
-
-    /// An act that touches its actor alone and leaves its queue.
-    fn inner(&mut self, me: Pid, act: &Act) -> Result<Outcome, StepFault>
-        requires inner { is_inner act.now ≡ true }
-        requires me { actor act.now ≡ me }
-        ensures { IsStep TOP self.old act.now result self.new }
-    {
-        let Some(number) = number_of(&self.pids, me) else {
-            return Err(StepFault::Unknown);
-        };
-        let Ok(outcome) = inner(me, &mut self.locals[number], act) else {
-            return Err(StepFault::ClockFull);
-        };
-        Ok(outcome)
-    }
-
-    /// A receive.
-    fn receive(&mut self, me: Pid, want: &Want) -> Result<Outcome, StepFault>
-        ensures { IsStep TOP self.old (Act.Receive me want.now) result self.new }
-    {
-        let Some(number) = number_of(&self.pids, me) else {
-            return Err(StepFault::Unknown);
-        };
-        Ok(receive(me, &mut self.locals[number], &mut self.queues, number, want))
-    }
-
-    /// A send. The message carries the stamped token, and memory is asked for before anything
-    /// changes.
-    fn send(&mut self, me: Pid, to: Pid, value: u64) -> Result<Outcome, StepFault>
-        ensures { IsStep TOP self.old (Act.Send me to value) result self.new }
-    {
-        let Some(from_number) = number_of(&self.pids, me) else {
-            return Err(StepFault::Unknown);
-        };
-        let Some(to_number) = number_of(&self.pids, to) else {
-            return Err(StepFault::Unknown);
-        };
-        let Ok(local) = stamped(me, &self.locals[from_number]) else {
-            return Err(StepFault::ClockFull);
-        };
-        let token = local.token();
-        let message = Message {
-            from: me,
-            value,
-            token,
-        };
-        let Ok(()) = self.queues.put(to_number, message) else {
-            return Err(StepFault::Memory);
-        };
-        self.locals[from_number] = local;
-        Ok(Outcome {
-            reply: Reply::Done,
-            report: event(local.traced(), Kind::Send, token, Some(to), value),
-            place: None,
-        })
-    }
-
-    /// A reset of the node of `me`.
-    fn reset(&mut self, me: Pid) -> Result<Outcome, StepFault>
-        ensures { IsStep TOP self.old (Act.Reset me) result self.new }
-    {
-        let Some(_) = number_of(&self.pids, me) else {
-            return Err(StepFault::Unknown);
-        };
-        reset(me, self.pids.as_slice(), &mut self.locals, &mut self.queues);
-        Ok(answer(Reply::Done))
-    }
-
-    /// A tracer change on the node of `me`.
-    fn trace(&mut self, me: Pid, on: bool) -> Result<Outcome, StepFault>
-        ensures { IsStep TOP self.old (Act.Tracer me on) result self.new }
-    {
-        let Some(number) = number_of(&self.pids, me) else {
-            return Err(StepFault::Unknown);
-        };
-        let was = self.locals[number].traced();
-        trace(me, on, self.pids.as_slice(), &mut self.locals);
-        Ok(answer(Reply::Was(was)))
+        outcome
     }
 }

@@ -1,0 +1,329 @@
+-- A need that nobody's reported send serves: a process that is free for its prev gets an untold send of it, to the
+-- process that has the need. The streams stay good, and the send is one that nobody is told to have received: the
+-- process that has the need lacks one sender less, and one process less is free.
+use Rattle.std.proofs.Common.{◌≡◌, ◌≢◌, ℕ, ◌+◌, ◌<◌, ◌==◌, ◌&&◌, Bool, true, false, cond, List, []}
+use Rattle.std.proofs.Common.{◌∷◌, ◌++◌, take, drop, Option, Some, None, inl, inr, is_none, not, sum_by}
+use Rattle.std.proofs.Common.{refl, sym, ◌∙◌, ap, subst, arith}
+use Rattle.std.specs.List.{count_by}
+use Rattle.std.proofs.lemmas.Bool.{cases_lt, eqb-true, false≢true, and_parts, and_from}
+use Rattle.st_core.specs.declared.types.Pid.{Pid}
+use Rattle.st_core.specs.declared.types.Kind.TheVariants as kind
+use Rattle.st_core.specs.declared.types.Event.{Event}
+use Rattle.st_core.specs.Pid.{pid_eq}
+use Rattle.st_core.specs.Laws.{IsReportAmong}
+use Rattle.st_core.specs.Run.{Stream, pids_of}
+use Rattle.st_core.specs.Streams.{events_of, lists}
+use Rattle.st_core.specs.Collected.{is_among}
+use Rattle.st_core.proofs.ForCallers.{and_false, pid_eq-refl, pid_eq-swap, pid_same}
+use Rattle.st_pair.specs.Places.{event_at, is_stamp}
+use Rattle.st_pair.specs.Pairing.{receive_of, stamp_of}
+use Rattle.st_full.specs.Supply.{excess, is_free, is_own_supply, IsSupplied, needs}
+use Rattle.st_full.proofs.Accepting.{FitTogether}
+use Rattle.st_full.proofs.Asking.{events_with, HasStamp, none_stamped, none_taken, passes_with, stamp_is, stamp_passes}
+use Rattle.st_full.proofs.Asking.{taken_with}
+use Rattle.st_full.proofs.Counting.{count_one, sum_one}
+use Rattle.st_full.proofs.Fed.{events}
+use Rattle.st_full.proofs.Feeding.{AreTimely}
+use Rattle.st_full.proofs.Good.{any_event, each, free_is, IsGood, IsLack, lacks, sends_to, sent_with, supplied_alike}
+use Rattle.st_full.proofs.Good.{within_with}
+use Rattle.st_full.proofs.Inventing.{HasNo, IsSend, Keeps, send_keeps, send_told, with_send}
+use Rattle.st_full.proofs.Meeting.{counted, counted_of}
+use Rattle.st_full.proofs.Placing.{AllRise, IsPlaced, keeps_counted, keeps_timely, placed_at}
+use Rattle.st_full.proofs.Putting.{fit_with, FitsAt, listed_at, more, new_there, put_all, with_pids}
+use Rattle.st_full.proofs.Receiving.{IsSupply}
+use Rattle.st_full.proofs.Reporting.{all_from, sound_with}
+use Rattle.st_full.proofs.Shown.{lists_among}
+
+stamp_none : (o : Option (ℕ × Event)) → is_none o ≡ true → o ≡ None
+stamp_none None h = refl
+stamp_none (Some f) h = absurd (false≢true h)
+
+module _ (top : ℕ) (streams : List Stream) (good : IsGood top streams) (p : Pid) (e : Event)
+    (lack : IsLack streams p e) (q : Pid) (listed : lists streams q ≡ true)
+    (free : is_free streams e.serial.prev q ≡ true)
+    (few : count_by (is_own_supply streams e.serial.prev p) (pids_of streams) < needs streams e.serial.prev p) where
+  abbrev v : ℕ
+  v = e.serial.prev
+
+  abbrev es : List Event
+  es = events_of streams q
+
+  -- the send that is invented
+  abbrev pub send : ℕ → Event
+  send prev = record {
+    label = e.label;
+    kind = kind.Send;
+    serial = record { prev = prev; this = v };
+    from = q;
+    to = Some p;
+    value = 0;
+  }
+
+  send_is : IsSend send v
+  send_is = record { stamps = λ _. refl; count = λ _. refl; prev = λ _. refl }
+
+  untaken : is_none (receive_of streams q v) ≡ true
+  untaken = (and_parts (is_none (receive_of streams q v)) (is_none (stamp_of streams q v)) free).0
+
+  unstamped : stamp_of streams q v ≡ None
+  unstamped = stamp_none (stamp_of streams q v)
+      (and_parts (is_none (receive_of streams q v)) (is_none (stamp_of streams q v)) free).1
+
+  has_no : HasNo v es
+  has_no = all_from (λ d. is_stamp d ≡ true → d.serial.this ≢ v) es (λ k d at stamps count.
+      none_stamped streams q v unstamped (record {
+        index = k;
+        event = d;
+        at = at;
+        stamps = stamps;
+        count = count;
+      }))
+
+  all_rise : AllRise es
+  all_rise = all_from (λ d. d.serial.prev < d.serial.this) es (λ k d at. good.fit.rises q k d at)
+
+  -- no need is one of 0
+  above : 0 < v
+  above = elim (cases_lt 0 v) [
+    | inl less ↦ less
+    | inr not_less ↦
+        let zero_is : v ≡ 0 = omega arith in
+        let none = ap (λ n. needs streams n p) zero_is ∙ good.founded p in
+        absurd (omega arith)
+  ]
+
+  pub place : IsPlaced send v [] es
+  place = placed_at send v [] es above above (good.timely q) has_no all_rise
+
+  abbrev k : ℕ
+  k = place.index
+
+  abbrev x : Event
+  x = send place.prev
+
+  abbrev pub sent : List Stream
+  sent = more q k x streams
+
+  not_taken : (y : Pid) (j : ℕ) (d : Event) → event_at streams y j ≡ Some d → is_stamp d ≡ false → d.from ≡ q
+      → d.serial.this ≡ v → ⊥
+  not_taken y j d at receives sender count = none_taken streams q v untaken (record {
+    pid = y;
+    index = j;
+    event = d;
+    at = at;
+    receives = receives;
+    from = sender;
+    count = count;
+  })
+
+  fits : FitsAt streams q k x
+  fits = record {
+    rises = place.low;
+    above = λ _ j d less at _. place.below j d less at;
+    below = λ _ j d less at stamps. place.above j d less at stamps;
+    taken = λ _ y j d at receives sender count. absurd (not_taken y j d at receives sender (sym count));
+    fresh = λ receives. absurd (false≢true (sym receives));
+    sent = λ receives. absurd (false≢true (sym receives));
+  }
+
+  report : IsReportAmong (pids_of streams) q x
+  report = record {
+    own = and_from (pid_eq q q) true (pid_eq-refl q) refl;
+    names = and_from (is_among (pids_of streams) q) (is_among (pids_of streams) p)
+        (sym (lists_among streams q) ∙ listed)
+        (sym (lists_among streams p) ∙ listed_at streams p lack.index e lack.at);
+  }
+
+  -- THE EVENTS OF q
+
+  keeps : Keeps [] [] (with_send send v [] es)
+  keeps = send_keeps send v send_is [] es above (good.timely q) has_no
+
+  after_is : events_of sent q ≡ events (with_send send v [] es)
+  after_is =
+      events_with q k x streams listed place.within q
+      ∙ ap (λ b. cond b (take k es ++ x ∷ drop k es) es) (pid_eq-refl q)
+      ∙ sym (put_all k x es)
+      ∙ ap events (sym place.put)
+
+  others_are : (y : Pid) → pid_eq y q ≡ false → events_of sent y ≡ events_of streams y
+  others_are y other =
+      events_with q k x streams listed place.within y
+      ∙ ap (λ b. cond b (take k (events_of streams y) ++ x ∷ drop k (events_of streams y)) (events_of streams y)) other
+
+  timely_sent : (y : Pid) → AreTimely [] (events_of sent y)
+  timely_sent y = elim (pid_eq y q) as (λ b. pid_eq y q ≡ b → AreTimely [] (events_of sent y)) [
+    | false ↦ λ other. subst (AreTimely []) (sym (others_are y other)) (good.timely y)
+    | true ↦ λ same. subst (λ z. AreTimely [] (events_of sent z)) (sym (pid_same y q same))
+        (subst (AreTimely []) (sym after_is) (keeps_timely [] [] (with_send send v [] es) keeps))
+  ] refl
+
+  -- exactly the needs that there were are needs
+  counted_sent : (pick : ℕ → Bool) (y : Pid)
+      → counted pick [] (events_of sent y) ≡ counted pick [] (events_of streams y)
+  counted_sent pick y = elim (pid_eq y q) as (λ b. pid_eq y q ≡ b
+      → counted pick [] (events_of sent y) ≡ counted pick [] (events_of streams y)) [
+        | false ↦ λ other. ap (counted pick []) (others_are y other)
+        | true ↦ λ same. subst (λ z. counted pick [] (events_of sent z) ≡ counted pick [] (events_of streams z))
+            (sym (pid_same y q same))
+            (ap (counted pick []) after_is
+            ∙ keeps_counted pick [] [] (with_send send v [] es) keeps
+            ∙ ap (counted pick []) (send_told send v [] es))
+      ] refl
+
+  pub lacks_same : (y : Pid) → lacks sent y ≡ lacks streams y
+  lacks_same y = counted_sent each y
+
+  pub needs_same : (w : ℕ) (y : Pid) → needs sent w y ≡ needs streams w y
+  needs_same w y =
+      sym (counted_of w [] (events_of sent y))
+      ∙ counted_sent (λ n. n == w) y
+      ∙ counted_of w [] (events_of streams y)
+
+  -- SUPPLIES
+
+  fit_sent : FitTogether sent
+  fit_sent = fit_with q k x streams place.within good.fit fits
+
+  abbrev stamp : HasStamp sent q v
+  stamp = record {
+    index = k;
+    event = x;
+    at = new_there q k x streams place.within listed;
+    stamps = refl;
+    count = refl;
+  }
+
+  taken_same : (w : ℕ) (y : Pid) → is_none (receive_of sent y w) ≡ is_none (receive_of streams y w)
+  taken_same w y =
+      taken_with q k x streams listed place.within good.sound.draft.rising y w
+      (λ receives _ _. false≢true (sym receives))
+
+  passes_else : (test : Event → Bool) (w : ℕ) (y : Pid) → (pid_eq y q && v == w) ≡ false
+      → stamp_passes test (stamp_of sent y w) ≡ stamp_passes test (stamp_of streams y w)
+  passes_else test w y else_one =
+      passes_with q k x streams listed place.within test y w
+      (λ same. sym (ap (λ b. b && v == w) (ap (λ z. pid_eq z q) same ∙ pid_eq-refl q)) ∙ else_one)
+
+  own_else : (w : ℕ) (z y : Pid) → (pid_eq y q && v == w) ≡ false
+      → is_own_supply sent w z y ≡ is_own_supply streams w z y
+  own_else w z y else_one =
+      ap (λ b. b && stamp_passes (sends_to z) (stamp_of sent y w)) (taken_same w y)
+      ∙ ap (λ b. is_none (receive_of streams y w) && b) (passes_else (sends_to z) w y else_one)
+
+  free_else : (w : ℕ) (y : Pid) → (pid_eq y q && v == w) ≡ false → is_free sent w y ≡ is_free streams w y
+  free_else w y else_one =
+      free_is sent w y
+      ∙ ap (λ b. b && not (stamp_passes any_event (stamp_of sent y w))) (taken_same w y)
+      ∙ ap (λ b. is_none (receive_of streams y w) && not b) (passes_else any_event w y else_one)
+      ∙ sym (free_is streams w y)
+
+  untaken_still : is_none (receive_of sent q v) ≡ true
+  untaken_still = taken_same v q ∙ untaken
+
+  own_now : is_own_supply sent v p q ≡ true
+  own_now = and_from (is_none (receive_of sent q v)) (stamp_passes (sends_to p) (stamp_of sent q v)) untaken_still
+      (stamp_is sent fit_sent q v stamp (sends_to p) ∙ pid_eq-refl p)
+
+  own_not : (z : Pid) → pid_eq z p ≡ false → is_own_supply sent v z q ≡ false
+  own_not z other =
+      ap (λ b. is_none (receive_of sent q v) && b)
+      (stamp_is sent fit_sent q v stamp (sends_to z) ∙ pid_eq-swap p z ∙ other)
+      ∙ and_false (is_none (receive_of sent q v)) false refl
+
+  own_never : (z : Pid) → is_own_supply streams v z q ≡ false
+  own_never z =
+      ap (λ o. is_none (receive_of streams q v) && stamp_passes (sends_to z) o) unstamped
+      ∙ and_false (is_none (receive_of streams q v)) false refl
+
+  own_others : (z y : Pid) → pid_eq z p ≡ false → is_own_supply sent v z y ≡ is_own_supply streams v z y
+  own_others z y other = elim (pid_eq y q) as (λ b. pid_eq y q ≡ b
+      → is_own_supply sent v z y ≡ is_own_supply streams v z y) [
+        | false ↦ λ else_one. own_else v z y (ap (λ b. b && v == v) else_one)
+        | true ↦ λ same. subst (λ t. is_own_supply sent v z t ≡ is_own_supply streams v z t)
+            (sym (pid_same y q same)) (own_not z other ∙ sym (own_never z))
+      ] refl
+
+  free_gone : is_free sent v q ≡ false
+  free_gone =
+      free_is sent v q
+      ∙ ap (λ b. is_none (receive_of sent q v) && not b) (stamp_is sent fit_sent q v stamp any_event)
+      ∙ and_false (is_none (receive_of sent q v)) false refl
+
+  -- COUNTS
+
+  abbrev owns : List Stream → ℕ → Pid → ℕ
+  owns ss w z = count_by (is_own_supply ss w z) (pids_of ss)
+
+  pids_same : pids_of sent ≡ pids_of streams
+  pids_same = with_pids q k x streams
+
+  among : is_among (pids_of streams) q ≡ true
+  among = sym (lists_among streams q) ∙ listed
+
+  owns_alike : (w : ℕ) (z : Pid) → ((y : Pid) → is_own_supply sent w z y ≡ is_own_supply streams w z y)
+      → owns sent w z ≡ owns streams w z
+  owns_alike w z alike = λ j. count_by (λ y. alike y j) (pids_same j)
+
+  owns_more : owns sent v p ≡ owns streams v p + 1
+  owns_more =
+      ap (count_by (is_own_supply sent v p)) pids_same
+      ∙ count_one (is_own_supply sent v p) (is_own_supply streams v p) q own_now (own_never p)
+      (λ y other. own_else v p y (ap (λ b. b && v == v) other)) (pids_of streams) good.sound.draft.rising among
+
+  frees_less : count_by (is_free streams v) (pids_of streams) ≡ count_by (is_free sent v) (pids_of sent) + 1
+  frees_less =
+      count_one (is_free streams v) (is_free sent v) q free free_gone
+      (λ y other. sym (free_else v y (ap (λ b. b && v == v) other))) (pids_of streams) good.sound.draft.rising among
+      ∙ ap (λ ps. count_by (is_free sent v) ps + 1) (sym pids_same)
+
+  excess_less : excess streams v p ≡ excess sent v p + 1
+  excess_less =
+      let one = needs_same v p in
+      let two = owns_more in
+      omega arith
+
+  excess_others : (z : Pid) → pid_eq z p ≡ false → excess streams v z ≡ excess sent v z
+  excess_others z other =
+      let one = needs_same v z in
+      let two = owns_alike v z (λ y. own_others z y other) in
+      omega arith
+
+  supplied_here : IsSupplied sent v
+  supplied_here =
+      let sums = sum_one (excess streams v) (excess sent v) p excess_less excess_others (pids_of streams)
+      good.sound.draft.rising (sym (lists_among streams p) ∙ listed_at streams p lack.index e lack.at) in
+      let same : sum_by (excess sent v) (pids_of sent) ≡ sum_by (excess sent v) (pids_of streams) =
+      ap (sum_by (excess sent v)) pids_same in
+      let frees = frees_less in
+      let before = good.supplied v in
+      omega arith
+
+  supplied_sent : (w : ℕ) → IsSupplied sent w
+  supplied_sent w = elim (v == w) as (λ b. v == w ≡ b → IsSupplied sent w) [
+    | true ↦ λ same. subst (IsSupplied sent) (eqb-true v w same) supplied_here
+    | false ↦ λ other.
+        let apart = λ (y : Pid). ap (λ b. pid_eq y q && b) other ∙ and_false (pid_eq y q) false refl in
+        supplied_alike streams sent w (sym pids_same)
+        (λ z.
+        let one = needs_same w z in
+        let two = owns_alike w z (λ y. own_else w z y (apart y)) in
+        omega arith)
+        (λ y. sym (free_else w y (apart y))) (good.supplied w)
+  ] refl
+
+  pub good_sent : IsGood top sent
+  good_sent = record {
+    sound = sound_with q k x streams good.sound report;
+    fit = fit_sent;
+    sent = sent_with q k x streams place.within good.sent (λ receives. absurd (false≢true (sym receives)));
+    timely = timely_sent;
+    within = within_with q k x streams top place.within good.within
+        (let less = good.fit.rises p lack.index e lack.at in let high = good.within p lack.index e lack.at in omega arith);
+    founded = λ y. needs_same 0 y ∙ good.founded y;
+    supplied = supplied_sent;
+  }
+
+  -- and the send serves the need
+  pub supply_sent : IsSupply sent v p q
+  supply_sent = record { stamp = stamp; untaken = untaken_still; sends = refl; to = refl }

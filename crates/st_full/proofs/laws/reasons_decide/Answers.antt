@@ -1,0 +1,6 @@
+-- The lemma says it.
+use Rattle.st_full.proofs.Deciding.{decides}
+use Rattle.st_full.proofs.laws.reasons_decide.Goals as goal
+
+pub returns : goal.returns
+returns c = decides

@@ -1,0 +1,221 @@
+//! The processes of a world, and one step of them. Each call looks its processes up by pid, and leaves
+//! the rest to the functions on one process or on one node.
+
+ghost use Rattle.std.specs.Prelude.{◌≡◌, true, option_map, IfErr, IfOk, IfSome, OnOk};
+ghost use Rattle.st_core.specs.Pid.{IsRising};
+ghost use Rattle.st_core.specs.State.{process, zero_state};
+ghost use Rattle.st_core.specs.Step.{actor};
+ghost use Rattle.st_arena.specs.Calls.{PassesOnce};
+ghost use Rattle.st_mail.specs.Actor.{is_inner};
+ghost use Rattle.st_mail.specs.Mail.{bears_stamp};
+ghost use Rattle.st_world.specs.World.{place_in, token_of, AreOrdered, AreStamped, IsNewFault, IsStep};
+
+use crate::node::{reset, trace};
+use crate::outcome::{NewFault, StepFault};
+use crate::rows::{number_of, numbered, zeros};
+use indexmap::IndexSet;
+use st_core::{Act, Kind, Local, Message, Pid, Reply, Token, Want, is_rising};
+use st_mail::actor::{answer, event, inner, receive, stamped};
+use st_mail::{Mailboxes, Outcome};
+use std::alloc::Global;
+use std::marker::Model;
+
+/// All processes of the machine, whatever has happened to them.
+#[derive(Drop)]
+pub(crate) struct Processes<const TOP: u64> {
+    pids: IndexSet<Pid>,
+    locals: Vec<Local<TOP>>,
+    queues: Mailboxes,
+}
+
+impl<const TOP: u64> Model for Processes<TOP> {
+    ghost use Rattle.st_core.specs.State.{State};
+    ghost use Rattle.st_world.specs.Rows.{state_of, AreRows};
+
+    ghost Value = { State };
+
+    ghost view = { λ a. state_of a.pids.keys a.locals.items a.queues.boxes };
+
+    ghost invariant = { λ a. AreRows TOP a.pids.keys a.locals.items a.queues.boxes };
+}
+
+impl<const TOP: u64> Processes<TOP> {
+    /// These processes in their zero state.
+    pub fn new(alloc: Global, pids: &[Pid]) -> Result<Processes<TOP>, NewFault>
+        ensures zero { IfOk result (λ w. w ≡ zero_state pids.now) }
+        ensures rising { OnOk result (IsRising pids.now) }
+        ensures fault { IfErr result (IsNewFault pids.now) }
+    {
+        if !is_rising(pids) {
+            return Err(NewFault::NotRising);
+        }
+        let Ok(set) = numbered(alloc, pids) else {
+            return Err(NewFault::Memory);
+        };
+        let Ok(locals) = zeros(alloc, pids.len()) else {
+            return Err(NewFault::Memory);
+        };
+        let Ok(queues) = Mailboxes::new(alloc, pids.len()) else {
+            return Err(NewFault::Memory);
+        };
+        Ok(Processes {
+            pids: set,
+            locals,
+            queues,
+        })
+    }
+
+    /// The token of the process.
+    pub fn token(&self, pid: Pid) -> Option<Token>
+        ensures { result ≡ token_of self.now pid }
+    {
+        let Some(number) = number_of(&self.pids, pid) else {
+            return None;
+        };
+        self.locals[number].token()
+    }
+
+    /// The clock of the process.
+    pub fn clock(&self, pid: Pid) -> Option<u64>
+        ensures value { result ≡ option_map (λ r. r.local.clock) (process self.now pid) }
+        ensures ordered { IfSome (process self.now pid) (λ r. AreOrdered TOP r.local) }
+    {
+        let Some(number) = number_of(&self.pids, pid) else {
+            return None;
+        };
+        Some(self.locals[number].clock())
+    }
+
+    /// The last count of the process.
+    pub fn last(&self, pid: Pid) -> Option<u64>
+        ensures value { result ≡ option_map (λ r. r.local.last) (process self.now pid) }
+        ensures ordered { IfSome (process self.now pid) (λ r. AreOrdered TOP r.local) }
+    {
+        let Some(number) = number_of(&self.pids, pid) else {
+            return None;
+        };
+        Some(self.locals[number].last())
+    }
+
+    /// The least place of the process's queue whose message has a token with this from and this own
+    /// count.
+    pub fn place_of(&self, pid: Pid, from: Pid, this: u64) -> Option<u64>
+        ensures value { result ≡ place_in self.now pid from this }
+        ensures stamped { IfSome (process self.now pid) (λ r. AreStamped TOP r.queue) }
+    {
+        let Some(number) = number_of(&self.pids, pid) else {
+            return None;
+        };
+        self.queues.place_of(number, from, this)
+    }
+
+    /// The same if no two messages of that queue have such a token, found from the nearer end.
+    pub fn place_of_one(&self, pid: Pid, from: Pid, this: u64) -> Option<u64>
+        requires one { IfSome (process self.now pid) (λ r.
+            PassesOnce (λ m. bears_stamp from this m.token) r.queue) }
+        ensures value { result ≡ place_in self.now pid from this }
+        ensures stamped { IfSome (process self.now pid) (λ r. AreStamped TOP r.queue) }
+    {
+        let Some(number) = number_of(&self.pids, pid) else {
+            return None;
+        };
+        self.queues.place_of_one(number, from, this)
+    }
+
+    /// One act, by its kind.
+    pub fn step(&mut self, act: &Act) -> Result<Outcome, StepFault>
+        ensures { IsStep TOP self.old act.now result self.new }
+    {
+        match *act {
+            Act::Send(me, to, value) => self.send(me, to, value),
+            Act::Receive(me, want) => self.receive(me, &want),
+            Act::Reset(me) => self.reset(me),
+            Act::Tracer(me, on) => self.trace(me, on),
+            Act::Print(me, _)
+            | Act::PrintAt(me, _, _)
+            | Act::Set(me, _)
+            | Act::Clear(me)
+            | Act::Restore(me, _)
+            | Act::Look(me) => self.inner(me, act),
+        }
+    }
+
+    /// An act that touches its actor alone and leaves its queue.
+    fn inner(&mut self, me: Pid, act: &Act) -> Result<Outcome, StepFault>
+        requires inner { is_inner act.now ≡ true }
+        requires me { actor act.now ≡ me }
+        ensures { IsStep TOP self.old act.now result self.new }
+    {
+        let Some(number) = number_of(&self.pids, me) else {
+            return Err(StepFault::Unknown);
+        };
+        let Ok(outcome) = inner(me, &mut self.locals[number], act) else {
+            return Err(StepFault::ClockFull);
+        };
+        Ok(outcome)
+    }
+
+    /// A receive.
+    fn receive(&mut self, me: Pid, want: &Want) -> Result<Outcome, StepFault>
+        ensures { IsStep TOP self.old (Act.Receive me want.now) result self.new }
+    {
+        let Some(number) = number_of(&self.pids, me) else {
+            return Err(StepFault::Unknown);
+        };
+        Ok(receive(me, &mut self.locals[number], &mut self.queues, number, want))
+    }
+
+    /// A send. The message carries the stamped token, and memory is asked for before anything
+    /// changes.
+    fn send(&mut self, me: Pid, to: Pid, value: u64) -> Result<Outcome, StepFault>
+        ensures { IsStep TOP self.old (Act.Send me to value) result self.new }
+    {
+        let Some(from_number) = number_of(&self.pids, me) else {
+            return Err(StepFault::Unknown);
+        };
+        let Some(to_number) = number_of(&self.pids, to) else {
+            return Err(StepFault::Unknown);
+        };
+        let Ok(local) = stamped(me, &self.locals[from_number]) else {
+            return Err(StepFault::ClockFull);
+        };
+        let token = local.token();
+        let message = Message {
+            from: me,
+            value,
+            token,
+        };
+        let Ok(()) = self.queues.put(to_number, message) else {
+            return Err(StepFault::Memory);
+        };
+        self.locals[from_number] = local;
+        Ok(Outcome {
+            reply: Reply::Done,
+            report: event(local.traced(), Kind::Send, token, Some(to), value),
+            place: None,
+        })
+    }
+
+    /// A reset of the node of `me`.
+    fn reset(&mut self, me: Pid) -> Result<Outcome, StepFault>
+        ensures { IsStep TOP self.old (Act.Reset me) result self.new }
+    {
+        let Some(_) = number_of(&self.pids, me) else {
+            return Err(StepFault::Unknown);
+        };
+        reset(me, self.pids.as_slice(), &mut self.locals, &mut self.queues);
+        Ok(answer(Reply::Done))
+    }
+
+    /// A tracer change on the node of `me`.
+    fn trace(&mut self, me: Pid, on: bool) -> Result<Outcome, StepFault>
+        ensures { IsStep TOP self.old (Act.Tracer me on) result self.new }
+    {
+        let Some(number) = number_of(&self.pids, me) else {
+            return Err(StepFault::Unknown);
+        };
+        let was = self.locals[number].traced();
+        trace(me, on, self.pids.as_slice(), &mut self.locals);
+        Ok(answer(Reply::Was(was)))
+    }
+}
