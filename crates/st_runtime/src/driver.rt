@@ -4,7 +4,7 @@ ghost use Rattle.std.specs.Prelude.{◌≡◌, ◌≢◌, ◌<◌, ◌≤◌, le
 ghost use Rattle.std.specs.Prelude.{IsFalse, Some, None, MatchOption};
 ghost use Rattle.st_runtime.specs.Driven.{IsDriven, IsDriveFault, IsRefused, acts_in, stamps_in};
 ghost use Rattle.st_runtime.specs.System.{is_stamping};
-ghost use Rattle.st_runtime.specs.Working.{IsEnding};
+ghost use Rattle.st_runtime.specs.Working.{IsFirstRefusal};
 
 use crate::acts::is_stamping;
 use crate::fault::{ActFault, DriveFault};
@@ -31,7 +31,7 @@ pub fn drive<const TOP: u64, const RANKS: u64, R: Threads + Wait + Sync, G: Gate
     gate: &G,
 ) -> Result<Record, DriveFault>
     requires { vec_len scripts ≡ length pids.now }
-    ensures ok { IfOk result (IsDriven TOP pids.now scripts.items) }
+    ensures ok { IfOk result (IsDriven TOP RANKS pids.now scripts.items) }
     ensures err { IfErr result (IsDriveFault TOP RANKS pids.now scripts.items) }
 {
     let acts = acts_in(scripts.as_slice());
@@ -99,7 +99,7 @@ fn lacks_memory(ends: &[Ending]) -> bool
 fn first_refusal(ends: &[Ending]) -> Option<(Pid, u64, ActFault)>
     ensures { MatchOption result
         (All (λ end. end.fault ≡ None) ends.now)
-        (λ r. IsEnding ends.now r.0 r.1 r.2) }
+        (λ r. IsFirstRefusal ends.now r.0 r.1 r.2) }
 {
     for end in ends {
         if let Some(fault) = end.fault {
