@@ -1,5 +1,6 @@
 -- What a worker thread is given, and what it leaves.
-use Rattle.std.specs.Prelude.{◌≡◌, ℕ, List, map, length, Some, None, MatchOption, All, take, slice_get}
+use Rattle.std.specs.Prelude.{◌≡◌, ℕ, List, map, length, Option, Some, None, MatchOption, IfSome, All, take}
+use Rattle.std.specs.Prelude.{slice_get}
 use Rattle.std.specs.List.{AllZip}
 use Rattle.st_core.specs.declared.types.Pid.{Pid}
 use Rattle.st_core.specs.declared.types.Act.{Act}
@@ -29,6 +30,10 @@ pub record IsWorked (pids : List Pid) (task : Pid × List Act) (end : Ending) : 
   pub acts : MatchOption end.fault
       (IsDone pids task end.seat.mine)
       (IsRefused pids task.0 task.1 (length end.seat.mine))
+
+-- a worker that wasn't told to stop leaves what became of its script
+abbrev pub IsLeft : List Pid → (Pid × List Act) → Option Ending → Type 0
+IsLeft pids task left = IfSome left (IsWorked pids task)
 
 -- what became of each script
 abbrev pub AreWorked : List Pid → List (Pid × List Act) → List Ending → Type 0

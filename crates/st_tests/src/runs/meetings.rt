@@ -2,6 +2,7 @@
 //! it has left, or lacks one at a gate that it has entered.
 
 use super::MOST;
+use crate::collected::{p30, p31};
 use st_check::{Verdict, check};
 use st_core::{Act, Pid, Sequence};
 use st_runtime::{ActFault, DriveFault, Gate, Record, Seat, System, drive};
@@ -138,10 +139,6 @@ impl<R: Clock> Gate for Turnstile<'_, R> {
     }
 }
 
-/// Two processes on one node.
-const HOLDER: Pid = Pid::new(30);
-const OTHER: Pid = Pid::new(31);
-
 /// Whether the other's act came in while the holder's was at the gate before, and while it was at the gate after.
 fn came_in<R: Threads + Wait + Sync + Abort + Clock>(
     rt: &R,
@@ -153,7 +150,7 @@ fn came_in<R: Threads + Wait + Sync + Abort + Clock>(
 ) -> (bool, bool) {
     let gate = Turnstile {
         clock: rt,
-        holder: HOLDER,
+        holder: p30(),
         holds: AtomicBool::new(false),
         pressed_in: AtomicBool::new(false),
         came: AtomicBool::new(false),
@@ -181,18 +178,18 @@ fn came_in<R: Threads + Wait + Sync + Abort + Clock>(
 fn the_gate_is_told_once_all_locks_are_held_and_once_they_are_given_back(
     rt: HostRuntime,
 ) -> Result<(), Fail> {
-    let (system, seats) = System::<99, 99>::open(rt.alloc(), &[HOLDER, OTHER])?;
+    let (system, seats) = System::<99, 99>::open(rt.alloc(), &[p30(), p31()])?;
     let mut seats = seats.into_iter();
     let (Some(mut holder), Some(mut other)) = (seats.next(), seats.next()) else {
         panic!(rt; "no seats");
     };
     let cases = [
-        (Act::Look(HOLDER), Act::Send(OTHER, HOLDER, 1)),
-        (Act::Send(HOLDER, HOLDER, 1), Act::Send(OTHER, HOLDER, 1)),
-        (Act::Send(HOLDER, OTHER, 1), Act::Look(OTHER)),
-        (Act::Send(HOLDER, OTHER, 1), Act::Send(OTHER, OTHER, 1)),
-        (Act::Reset(HOLDER), Act::Look(OTHER)),
-        (Act::Tracer(HOLDER, true), Act::Send(OTHER, OTHER, 1)),
+        (Act::Look(p30()), Act::Send(p31(), p30(), 1)),
+        (Act::Send(p30(), p30(), 1), Act::Send(p31(), p30(), 1)),
+        (Act::Send(p30(), p31(), 1), Act::Look(p31())),
+        (Act::Send(p30(), p31(), 1), Act::Send(p31(), p31(), 1)),
+        (Act::Reset(p30()), Act::Look(p31())),
+        (Act::Tracer(p30(), true), Act::Send(p31(), p31(), 1)),
     ];
     for (held, asked) in &cases {
         let came = came_in(&rt, &system, &mut holder, &mut other, held, asked);

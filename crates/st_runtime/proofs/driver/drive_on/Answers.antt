@@ -4,7 +4,7 @@ use Rattle.std.specs.Prelude.{All}
 use Rattle.st_runtime.specs.Driven.{acts_in, stamps_in}
 use Rattle.st_runtime.specs.Working.{IsFirstRefusal}
 use Rattle.st_runtime.proofs.Driving.{fresh_seats, scripts_worked, driven, is_possible, worker_fault}
-use Rattle.st_runtime.proofs.driver.drive.Goals as goal
+use Rattle.st_runtime.proofs.driver.drive_on.Goals as goal
 
 pub tasks_of-requires : goal.tasks_of-requires
 tasks_of-requires g c = rw c.in_ok-system.ensures.seats (fresh_seats c.args.pids.now)
