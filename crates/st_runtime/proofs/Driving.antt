@@ -1,10 +1,11 @@
 -- A record of joined pieces is that of driven scripts: the seats hold the scripts, and each seat's calls stand in the
 -- run in their order. A worker's refusal is one of an act of its script.
 use Rattle.std.proofs.Common.{◌≡◌, ◌≢◌, ℕ, zero, suc, ◌<◌, ◌≤◌, Bool, true, false, cond, List, [], ◌∷◌, ◌++◌}
-use Rattle.std.proofs.Common.{length, map, None, refl, sym, ◌∙◌, ap, subst, arith, inl, inr}
-use Rattle.std.proofs.Common.{⊎_elim}
+use Rattle.std.proofs.Common.{length, map, None, refl, sym, ◌∙◌, ap, subst, arith}
 use Rattle.std.specs.List.{AllZip, zip}
-use Rattle.std.specs.Prelude.{All, Contains, MatchOption}
+use Rattle.std.specs.Prelude.{All, MatchOption, Some, take, slice_get}
+use Rattle.std.proofs.lemmas.List.Elements.{All-nil, All-cons}
+use Rattle.std.proofs.lemmas.Option.{same_Some}
 use Rattle.std.proofs.lemmas.Slice.Zip.{firsts-zip, seconds-zip}
 use Rattle.st_core.specs.declared.types.Act.{Act}
 use Rattle.st_core.specs.declared.types.Pid.{Pid}
@@ -18,12 +19,13 @@ use Rattle.st_runtime.specs.declared.fault.ActFault.{ActFault}
 use Rattle.st_runtime.specs.declared.fault.ActFault.TheVariants as fault
 use Rattle.st_runtime.specs.declared.record.Record.{Record}
 use Rattle.st_runtime.specs.declared.worker.Ending.{Ending}
-use Rattle.st_runtime.specs.Driven.{acts_by, acts_in, stamps_in, IsDriven, IsRefused, IsPossible, IsWorkerFault}
+use Rattle.st_runtime.specs.Driven.{acts_by, acts_in, stamps_in, IsDriven, IsOwn, IsRefused, IsPossible}
+use Rattle.st_runtime.specs.Driven.{IsWorkerFault}
 use Rattle.st_runtime.specs.Joined.{IsJoined}
 use Rattle.st_runtime.specs.Pieces.{Parts, pids_in, calls_of}
 use Rattle.st_runtime.specs.Seat.{Calls, no_calls}
-use Rattle.st_runtime.specs.Working.{called_acts, IsWorked, IsEnding}
-use Rattle.st_runtime.proofs.Members.{In, In-Contains, Contains-In}
+use Rattle.st_runtime.specs.Pcb.{Control, IsKept}
+use Rattle.st_runtime.specs.Working.{called_acts, IsDone, IsWorked, IsFirstRefusal}
 use Rattle.st_runtime.proofs.Runs.{pids_streams}
 use Rattle.st_runtime.proofs.Shown.{are_streams}
 
@@ -62,11 +64,10 @@ pids_worked pids [] (e ∷ es) worked = absurd worked
 pids_worked pids (t ∷ ts) [] worked = absurd worked
 pids_worked pids (t ∷ ts) (e ∷ es) worked = λ i. worked.0.pid i ∷ pids_worked pids ts es worked.1 i
 
-acts_done : (pids : List Pid) (t : Task) (e : Ending) → IsWorked pids t e → e.fault ≡ None
-    → called_acts e.seat.mine ≡ t.1
-acts_done pids t e worked none =
+is_done : (pids : List Pid) (t : Task) (e : Ending) → IsWorked pids t e → e.fault ≡ None → IsDone pids t e.seat.mine
+is_done pids t e worked none =
     let refused : ActFault → Type 0 = IsRefused pids t.0 t.1 (length e.seat.mine) in
-    subst (λ o. MatchOption o (called_acts e.seat.mine ≡ t.1) refused) none worked.acts
+    subst (λ o. MatchOption o (IsDone pids t e.seat.mine) refused) none worked.acts
 
 acts_worked : (pids : List Pid) (ts : List Task) (es : List Ending) → AllZip (IsWorked pids) ts es
     → All (λ (e : Ending). e.fault ≡ None) es → map (λ e. called_acts e.seat.mine) es ≡ map (λ t. t.1) ts
@@ -74,7 +75,7 @@ acts_worked pids [] [] worked none = refl
 acts_worked pids [] (e ∷ es) worked none = absurd worked
 acts_worked pids (t ∷ ts) [] worked none = absurd worked
 acts_worked pids (t ∷ ts) (e ∷ es) worked none =
-    let here = acts_done pids t e worked.0 (none 0 e (omega arith)) in
+    let here = (is_done pids t e worked.0 (none 0 e (omega arith))).acts in
     let rest = acts_worked pids ts es worked.1 (λ k d below. none (suc k) d (omega arith)) in
     λ i. here i ∷ rest i
 
@@ -100,11 +101,12 @@ seat_acts es (d ∷ ds) calls =
     let rest = seat_acts es ds (λ k x below. calls (suc k) x (omega arith)) in
     λ i. here i ∷ rest i
 
-pub driven : (top : ℕ) (pieces : Parts) (r : Record) (pids : List Pid) (scripts : List (List Act))
+pub driven : (top ranks : ℕ) (pieces : Parts) (r : Record) (pids : List Pid) (scripts : List (List Act))
     (ends : List Ending) → length scripts ≡ length pids → IsRising pids → pids_in pieces.processes ≡ pids
     → pieces.seats ≡ map (λ e. e.seat) ends → AllZip (IsWorked pids) (zip pids scripts) ends
-    → All (λ (e : Ending). e.fault ≡ None) ends → IsJoined top pieces r → IsDriven top pids scripts r
-driven top pieces r pids scripts ends even rising of_pids of_seats worked none joined =
+    → All (λ (e : Ending). e.fault ≡ None) ends → IsJoined top pieces r
+    → All (λ (x : Control). IsKept top ranks x.process x.log) pieces.processes → IsDriven top ranks pids scripts r
+driven top ranks pieces r pids scripts ends even rising of_pids of_seats worked none joined kept =
     let xs = pieces.processes in
     let es = joined.entries in
     let acts = map (λ (e : Entry). e.act) es in
@@ -114,6 +116,13 @@ driven top pieces r pids scripts ends even rising of_pids of_seats worked none j
     let from : map (λ e. e.seat.pid) ends ≡ pids =
     pids_worked pids (zip pids scripts) ends worked ∙ firsts-zip pids scripts even in
     record {
+      logs = xs;
+      logged = of_pids;
+      kept = kept;
+      whole = joined.fit.whole;
+      entries = es;
+      merged = joined.merged;
+      acts = joined.acts;
       outcomes = one.outcomes;
       runs = ap (λ ps. run top ps r.acts) (sym of_pids) ∙ ap (λ made. run top (pids_in xs) made) joined.acts ∙ one.runs;
       replies = joined.replies ∙ sym one.replies;
@@ -130,16 +139,30 @@ driven top pieces r pids scripts ends even rising of_pids of_seats worked none j
 
 -- ---- a worker's refusal
 
--- the task of an ending
-task_of : (pids : List Pid) (ts : List Task) (es : List Ending) (e : Ending) → AllZip (IsWorked pids) ts es → In e es
-    → (t : Task) × (In t ts × IsWorked pids t e)
-task_of pids [] [] e worked i = absurd i
-task_of pids [] (d ∷ ds) e worked i = absurd worked
-task_of pids (t ∷ ts) [] e worked i = absurd i
-task_of pids (t ∷ ts) (d ∷ ds) e worked i =
-    ⊎_elim
-    (λ same. (t, (inl refl, subst (IsWorked pids t) (sym same) worked.0)))
-    (λ later. let r = task_of pids ts ds e worked.1 later in (r.0, (inr r.1.0, r.1.1))) i
+-- the task beside an ending
+task_at : (pids : List Pid) (ts : List Task) (es : List Ending) (k : ℕ) (e : Ending) → AllZip (IsWorked pids) ts es
+    → slice_get es k ≡ Some e → (t : Task) × ((slice_get ts k ≡ Some t) × IsWorked pids t e)
+task_at pids [] [] k e worked at = absurd (cc)
+task_at pids [] (d ∷ ds) k e worked at = absurd worked
+task_at pids (t ∷ ts) [] k e worked at = absurd worked
+task_at pids (t ∷ ts) (d ∷ ds) zero e worked at =
+    (t, (refl, subst (IsWorked pids t) (same_Some d e at) worked.0))
+task_at pids (t ∷ ts) (d ∷ ds) (suc k) e worked at = task_at pids ts ds k e worked.1 at
+
+-- the acts of a script
+abbrev AllOwn : List Pid → Task → Type 0
+AllOwn pids t = All (IsOwn pids t.0) t.1
+
+-- tasks beside endings without a refusal are done
+own_before : (pids : List Pid) (ts : List Task) (es : List Ending) (k : ℕ) → AllZip (IsWorked pids) ts es
+    → All (λ (e : Ending). e.fault ≡ None) (take k es) → All (AllOwn pids) (take k ts)
+own_before pids ts es zero worked none = All-nil (AllOwn pids)
+own_before pids [] es (suc k) worked none = All-nil (AllOwn pids)
+own_before pids (t ∷ ts) [] (suc k) worked none = absurd worked
+own_before pids (t ∷ ts) (e ∷ es) (suc k) worked none =
+    let here = (is_done pids t e worked.0 (none 0 e (omega arith))).own in
+    let rest = own_before pids ts es k worked.1 (λ i d below. none (suc i) d (omega arith)) in
+    All-cons (AllOwn pids) t (take k ts) here rest
 
 pub is_possible : (top ranks : ℕ) (scripts : List (List Act)) (f : ActFault) (acts stamps : ℕ)
     → f ≢ fault.Memory → (f ≡ fault.ClockFull → top < stamps) → (f ≡ fault.RankFull → ranks < acts)
@@ -154,23 +177,24 @@ is_possible top ranks scripts fault.NotYours acts stamps memory clock rank of_ac
 is_possible top ranks scripts fault.Stray acts stamps memory clock rank of_acts of_stamps = tt
 
 pub worker_fault : (top ranks : ℕ) (pids : List Pid) (scripts : List (List Act)) (ends : List Ending) (p : Pid) (n : ℕ)
-    (f g : ActFault) → AllZip (IsWorked pids) (zip pids scripts) ends → IsEnding ends p n f
+    (f g : ActFault) → AllZip (IsWorked pids) (zip pids scripts) ends → IsFirstRefusal ends p n f
     → ((script : List Act) → IsRefused pids p script n f → IsRefused pids p script n g)
     → IsPossible top ranks scripts g → IsWorkerFault top ranks pids scripts p n g
-worker_fault top ranks pids scripts ends p n f g worked ending told possible =
-    let e = ending.end in
-    let found = task_of pids (zip pids scripts) ends e worked (Contains-In e ends ending.among) in
+worker_fault top ranks pids scripts ends p n f g worked first told possible =
+    let e = first.end in
+    let found = task_at pids (zip pids scripts) ends first.number e worked first.among in
     let t = found.0 in
-    let whose : t.0 ≡ p = sym found.1.1.pid ∙ ending.pid in
+    let whose : t.0 ≡ p = sym found.1.1.pid ∙ first.pid in
     let script = t.1 in
     let refused : IsRefused pids t.0 script (length e.seat.mine) f =
-    subst (λ o. MatchOption o (called_acts e.seat.mine ≡ script) (IsRefused pids t.0 script (length e.seat.mine)))
-    ending.refused found.1.1.acts in
-    let at_n : IsRefused pids t.0 script n f = subst (λ m. IsRefused pids t.0 script m f) ending.place refused in
+    subst (λ o. MatchOption o (IsDone pids t e.seat.mine) (IsRefused pids t.0 script (length e.seat.mine)))
+    first.refused found.1.1.acts in
+    let at_n : IsRefused pids t.0 script n f = subst (λ m. IsRefused pids t.0 script m f) first.place refused in
     record {
+      number = first.number;
       script = script;
-      scripted = subst (λ q. Contains (zip pids scripts) (q, script)) whose
-          (In-Contains t (zip pids scripts) found.1.0);
+      scripted = subst (λ q. slice_get (zip pids scripts) first.number ≡ Some (q, script)) whose found.1.0;
       refused = told script (subst (λ q. IsRefused pids q script n f) whose at_n);
       possible = possible;
+      before = own_before pids (zip pids scripts) ends first.number worked first.before;
     }

@@ -4,6 +4,7 @@ pub mod PartLemmas
 pub mod SendLemmas
 pub mod StepLemmas
 pub mod ActLemmas
+pub mod HeldLemmas
 pub mod PidLemmas
 -- That what the threads did is one run.
 pub mod Legal

@@ -1,6 +1,6 @@
 -- What became of each task is what its worker's promise says.
 use Rattle.std.proofs.Common.{◌≡◌, ℕ, suc, ◌<◌, List, [], ◌∷◌, length, map, get_or, refl, ap, subst}
-use Rattle.std.proofs.Common.{arith, ◌++◌, ◌≢◌, ◌↔◌, ◌∙◌, sym, Bool, true, false, Result, Err}
+use Rattle.std.proofs.Common.{arith, ◌++◌, ◌≢◌, ◌↔◌, ◌∙◌, sym, Bool, true, false, Result, Ok, Err, Option, Some, IfOk}
 use Rattle.std.specs.List.{AllZip, zip}
 use Rattle.st_core.specs.declared.types.Act.{Act}
 use Rattle.st_core.specs.declared.types.Pid.{Pid}
@@ -13,30 +13,45 @@ use Rattle.st_runtime.specs.declared.fault.ActFault.TheVariants as fault
 use Rattle.st_runtime.specs.declared.worker.Ending.{Ending}
 use Rattle.st_runtime.specs.Driven.{IsOwn}
 use Rattle.st_runtime.specs.System.{knows}
-use Rattle.st_runtime.specs.Working.{called_acts, IsWorked}
+use Rattle.st_runtime.specs.Working.{called_acts, IsLeft, IsWorked}
 
 abbrev pub Task : Type 0
 Task = Pid × List Act
 
-pub all_worked : {H : Type 0} (system : H → List Pid) (task : H → Task) (pids : List Pid) (hs : List H)
-    (ts : List Task) (es : List Ending) → length es ≡ length hs
+pub all_left : {H : Type 0} (system : H → List Pid) (task : H → Task) (pids : List Pid) (hs : List H)
+    (ts : List Task) (os : List (Option Ending)) → length os ≡ length hs
     → AllZip (λ t h. (task h ≡ t) × (system h ≡ pids)) ts hs
-    → ((i : ℕ) (d : Ending) → i < length hs
-    → (h : H) × (h ≡ get_or hs i h) × IsWorked (system h) (task h) (get_or es i d))
-    → AllZip (IsWorked pids) ts es
-all_worked system task pids [] [] [] even of each = tt
-all_worked system task pids [] [] (e ∷ es) even of each = absurd (omega arith)
-all_worked system task pids [] (t ∷ ts) es even of each = absurd of
-all_worked system task pids (h ∷ hs) [] es even of each = absurd of
-all_worked system task pids (h ∷ hs) (t ∷ ts) [] even of each = absurd (omega arith)
-all_worked system task pids (h ∷ hs) (t ∷ ts) (e ∷ es) even of each =
-    let here = each 0 e (omega arith) in
-    let of_h : IsWorked (system h) (task h) e =
-    subst (λ x. IsWorked (system x) (task x) e) here.1 here.2 in
-    let of_t : IsWorked (system h) t e = subst (λ x. IsWorked (system h) x e) of.0.0 of_h in (
-      subst (λ x. IsWorked x t e) of.0.1 of_t,
-      all_worked system task pids hs ts es (omega arith) of.1 (λ i d below. each (suc i) d (omega arith)),
+    → ((i : ℕ) (d : Option Ending) → i < length hs
+    → (h : H) × (h ≡ get_or hs i h) × IsLeft (system h) (task h) (get_or os i d))
+    → AllZip (IsLeft pids) ts os
+all_left system task pids [] [] [] even of each = tt
+all_left system task pids [] [] (o ∷ os) even of each = absurd (omega arith)
+all_left system task pids [] (t ∷ ts) os even of each = absurd of
+all_left system task pids (h ∷ hs) [] os even of each = absurd of
+all_left system task pids (h ∷ hs) (t ∷ ts) [] even of each = absurd (omega arith)
+all_left system task pids (h ∷ hs) (t ∷ ts) (o ∷ os) even of each =
+    let here = each 0 o (omega arith) in
+    let of_h : IsLeft (system h) (task h) o =
+    subst (λ x. IsLeft (system x) (task x) o) here.1 here.2 in
+    let of_t : IsLeft (system h) t o = subst (λ x. IsLeft (system h) x o) of.0.0 of_h in (
+      subst (λ x. IsLeft x t o) of.0.1 of_t,
+      all_left system task pids hs ts os (omega arith) of.1 (λ i d below. each (suc i) d (omega arith)),
     )
+
+-- none of them was told to stop
+pub all_worked : (pids : List Pid) (ts : List Task) (es : List Ending)
+    → AllZip (IsLeft pids) ts (map (λ e. Some e) es) → AllZip (IsWorked pids) ts es
+all_worked pids [] [] left = tt
+all_worked pids [] (e ∷ es) left = absurd left
+all_worked pids (t ∷ ts) [] left = absurd left
+all_worked pids (t ∷ ts) (e ∷ es) left = (left.0, all_worked pids ts es left.1)
+
+pub ended_worked : {V E : Type 0} (pids : List Pid) (ts : List Task) (os : List (Option Ending)) (items : V → List Ending)
+    (r : Result V E) → AllZip (IsLeft pids) ts os → IfOk r (λ v. map (λ e. Some e) (items v) ≡ os)
+    → IfOk r (λ v. AllZip (IsWorked pids) ts (items v))
+ended_worked pids ts os items (Ok v) left same =
+    all_worked pids ts (items v) (subst (AllZip (IsLeft pids) ts) (sym same) left)
+ended_worked pids ts os items (Err e) left same = tt
 
 -- pairs whose first parts are changed
 pub zip_map : {A B C : Type 0} (f : A → C) (xs : List A) (ys : List B)

@@ -1,26 +1,38 @@
 -- Scripts that are driven: what a record of them says, and what each refusal says of them.
 use Rattle.std.specs.Prelude.{◌≡◌, ◌≢◌, ◌↔◌, ℕ, ◌<◌, true, false, List, map, filter, length, sum_by, count_by}
-use Rattle.std.specs.Prelude.{All, Contains, zip, take, slice_get, Some}
+use Rattle.std.specs.Prelude.{All, zip, take, slice_get, Some}
 use Rattle.st_core.specs.declared.types.Pid.{Pid}
 use Rattle.st_core.specs.declared.types.Act.{Act}
 use Rattle.st_core.specs.Pid.{pid_eq, IsRising}
 use Rattle.st_core.specs.Run.{Shows, pids_of, run}
 use Rattle.st_core.specs.Step.{Outcome, actor}
 use Rattle.st_core.specs.Streams.{IsStreams}
+use Rattle.st_runtime.specs.declared.entry.Entry.{Entry}
 use Rattle.st_runtime.specs.declared.fault.ActFault.{ActFault}
 use Rattle.st_runtime.specs.declared.fault.ActFault.TheVariants as act
 use Rattle.st_runtime.specs.declared.fault.DriveFault.{DriveFault}
 use Rattle.st_runtime.specs.declared.fault.DriveFault.TheVariants as fault
 use Rattle.st_runtime.specs.declared.fault.JoinFault.TheVariants as joining
 use Rattle.st_runtime.specs.declared.record.Record.{Record}
+use Rattle.st_runtime.specs.Joined.{IsMerged}
+use Rattle.st_runtime.specs.Pcb.{Control, IsKept}
+use Rattle.st_runtime.specs.Pieces.{pids_in, AreWhole}
 use Rattle.st_runtime.specs.System.{knows, is_stamping}
 
 -- the acts of p among these, in order
 abbrev pub acts_by : Pid → List Act → List Act
 acts_by p acts = filter (λ a. pid_eq (actor a) p) acts
 
--- The record is one run of the machine over exactly these pids, and each process's acts in it are its script.
-pub record IsDriven (top : ℕ) (pids : List Pid) (scripts : List (List Act)) (r : Record) : Type 0 where
+-- There are logs of exactly these processes, each such as a lock keeps it, whose distinct entries by rising rank and
+-- actor are the record's acts. The record is one run of the machine, and each process's acts in it are its script.
+pub record IsDriven (top ranks : ℕ) (pids : List Pid) (scripts : List (List Act)) (r : Record) : Type 0 where
+  pub logs : List Control
+  pub logged : pids_in logs ≡ pids
+  pub kept : All (λ x. IsKept top ranks x.process x.log) logs
+  pub whole : AreWhole logs
+  pub entries : List Entry
+  pub merged : IsMerged logs entries
+  pub acts : r.acts ≡ map (λ e. e.act) entries
   pub outcomes : List Outcome
   pub runs : run top pids r.acts ≡ Some outcomes
   pub replies : r.replies ≡ map (λ o. o.reply) outcomes
@@ -61,13 +73,15 @@ IsPossible top ranks scripts act.ClockFull = top < stamps_in scripts
 IsPossible top ranks scripts act.RankFull = ranks < acts_in scripts
 IsPossible top ranks scripts act.Memory = ⊥
 
--- p is one of the pids, and act n of its script was refused
+-- Act n of p's script was refused. p is the least whose script was: a process before it may make each act of its own.
 pub record IsWorkerFault (top ranks : ℕ) (pids : List Pid) (scripts : List (List Act)) (p : Pid) (n : ℕ) (f : ActFault)
     : Type 0 where
+  pub number : ℕ
   pub script : List Act
-  pub scripted : Contains (zip pids scripts) (p, script)
+  pub scripted : slice_get (zip pids scripts) number ≡ Some (p, script)
   pub refused : IsRefused pids p script n f
   pub possible : IsPossible top ranks scripts f
+  pub before : All (λ t. All (IsOwn pids t.0) t.1) (take number (zip pids scripts))
 
 -- when scripts aren't driven: NotRising exactly where the pids don't rise
 abbrev pub IsDriveFault : ℕ → ℕ → List Pid → List (List Act) → DriveFault → Type 0

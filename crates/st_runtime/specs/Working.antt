@@ -1,5 +1,6 @@
 -- What a worker thread is given, and what it leaves.
-use Rattle.std.specs.Prelude.{◌≡◌, ℕ, List, map, length, Some, MatchOption, Contains}
+use Rattle.std.specs.Prelude.{◌≡◌, ℕ, List, map, length, Option, Some, None, MatchOption, IfSome, All, take}
+use Rattle.std.specs.Prelude.{slice_get}
 use Rattle.std.specs.List.{AllZip}
 use Rattle.st_core.specs.declared.types.Pid.{Pid}
 use Rattle.st_core.specs.declared.types.Act.{Act}
@@ -12,28 +13,38 @@ use Rattle.st_runtime.specs.declared.fault.JoinFault.TheVariants as joining
 use Rattle.st_runtime.specs.declared.fault.OpenFault.{OpenFault}
 use Rattle.st_runtime.specs.declared.fault.OpenFault.TheVariants as opening
 use Rattle.st_runtime.specs.declared.worker.Ending.{Ending}
-use Rattle.st_runtime.specs.Driven.{IsRefused}
+use Rattle.st_runtime.specs.Driven.{IsOwn, IsRefused}
 
 -- the acts of calls
 abbrev pub called_acts : List (Act × Reply) → List Act
 called_acts calls = map (λ c. c.0) calls
 
--- what became of a process's script in a system of these pids: its accepted acts are the script, or it was refused the
--- act that comes next in it
+-- the accepted acts are the script, each of which is the process's own
+pub record IsDone (pids : List Pid) (task : Pid × List Act) (calls : List (Act × Reply)) : Type 0 where
+  pub acts : called_acts calls ≡ task.1
+  pub own : All (IsOwn pids task.0) task.1
+
+-- what became of a process's script in a system of these pids: it is done, or it was refused the act that comes next
 pub record IsWorked (pids : List Pid) (task : Pid × List Act) (end : Ending) : Type 0 where
   pub pid : end.seat.pid ≡ task.0
   pub acts : MatchOption end.fault
-      (called_acts end.seat.mine ≡ task.1)
+      (IsDone pids task end.seat.mine)
       (IsRefused pids task.0 task.1 (length end.seat.mine))
+
+-- a worker that wasn't told to stop leaves what became of its script
+abbrev pub IsLeft : List Pid → (Pid × List Act) → Option Ending → Type 0
+IsLeft pids task left = IfSome left (IsWorked pids task)
 
 -- what became of each script
 abbrev pub AreWorked : List Pid → List (Pid × List Act) → List Ending → Type 0
 AreWorked pids tasks ends = AllZip (IsWorked pids) tasks ends
 
--- a worker's refusal: whose it is, at which act of its script, and why
-pub record IsEnding (ends : List Ending) (p : Pid) (n : ℕ) (f : ActFault) : Type 0 where
+-- the first worker's refusal: whose it is, at which act of its script, and why
+pub record IsFirstRefusal (ends : List Ending) (p : Pid) (n : ℕ) (f : ActFault) : Type 0 where
+  pub number : ℕ
   pub end : Ending
-  pub among : Contains ends end
+  pub among : slice_get ends number ≡ Some end
+  pub before : All (λ e. e.fault ≡ None) (take number ends)
   pub pid : end.seat.pid ≡ p
   pub place : length end.seat.mine ≡ n
   pub refused : end.fault ≡ Some f

@@ -4,7 +4,7 @@ ghost use Rattle.std.specs.Prelude.{◌≡◌, ◌≢◌, ◌<◌, ◌≤◌, le
 ghost use Rattle.std.specs.Prelude.{IsFalse, Some, None, MatchOption};
 ghost use Rattle.st_runtime.specs.Driven.{IsDriven, IsDriveFault, IsRefused, acts_in, stamps_in};
 ghost use Rattle.st_runtime.specs.System.{is_stamping};
-ghost use Rattle.st_runtime.specs.Working.{IsEnding};
+ghost use Rattle.st_runtime.specs.Working.{IsFirstRefusal};
 
 use crate::acts::is_stamping;
 use crate::fault::{ActFault, DriveFault};
@@ -13,7 +13,7 @@ use crate::join::join_given;
 use crate::record::Record;
 use crate::seat::Seat;
 use crate::system::System;
-use crate::worker::{Ending, tasks_of, work_all};
+use crate::worker::{Ending, WORKER_STACK, tasks_of, work_all};
 use st_core::{Act, Pid, Sequence};
 use std::alloc::{AllocError, Global};
 use std::sync::Wait;
@@ -31,14 +31,30 @@ pub fn drive<const TOP: u64, const RANKS: u64, R: Threads + Wait + Sync, G: Gate
     gate: &G,
 ) -> Result<Record, DriveFault>
     requires { vec_len scripts ≡ length pids.now }
-    ensures ok { IfOk result (IsDriven TOP pids.now scripts.items) }
+    ensures ok { IfOk result (IsDriven TOP RANKS pids.now scripts.items) }
+    ensures err { IfErr result (IsDriveFault TOP RANKS pids.now scripts.items) }
+{
+    drive_on::<TOP, RANKS, R, G>(rt, alloc, pids, scripts, gate, WORKER_STACK)
+}
+
+/// The same, each thread with a stack of so many bytes.
+fn drive_on<const TOP: u64, const RANKS: u64, R: Threads + Wait + Sync, G: Gate + Sync>(
+    rt: &R,
+    alloc: Global,
+    pids: &[Pid],
+    scripts: Vec<Sequence<Act>>,
+    gate: &G,
+    stack: usize,
+) -> Result<Record, DriveFault>
+    requires { vec_len scripts ≡ length pids.now }
+    ensures ok { IfOk result (IsDriven TOP RANKS pids.now scripts.items) }
     ensures err { IfErr result (IsDriveFault TOP RANKS pids.now scripts.items) }
 {
     let acts = acts_in(scripts.as_slice());
     let stamps = stamps_in(scripts.as_slice());
     let (system, seats) = System::<TOP, RANKS>::open_for(alloc, pids, scripts.as_slice())?;
     let tasks = tasks_of(alloc, seats, scripts)?;
-    let ends = work_all(rt, alloc, &system, gate, tasks)?;
+    let ends = work_all(rt, alloc, &system, gate, tasks, stack)?;
     if lacks_memory(ends.as_slice()) {
         return Err(DriveFault::Memory);
     }
@@ -99,7 +115,7 @@ fn lacks_memory(ends: &[Ending]) -> bool
 fn first_refusal(ends: &[Ending]) -> Option<(Pid, u64, ActFault)>
     ensures { MatchOption result
         (All (λ end. end.fault ≡ None) ends.now)
-        (λ r. IsEnding ends.now r.0 r.1 r.2) }
+        (λ r. IsFirstRefusal ends.now r.0 r.1 r.2) }
 {
     for end in ends {
         if let Some(fault) = end.fault {

@@ -68,7 +68,7 @@ pub enum DriveFault {
     Act(Pid, u64, ActFault),
     /// Refusal 3: the pieces don't fit, which no call leaves.
     Join(JoinFault),
-    /// Refusal 4: a thread couldn't be started. Those that were started have run to their end.
+    /// Refusal 4: a thread couldn't be started. Those that were started stopped at their next act.
     Thread,
     /// Refusal 5: the pids do not rise strictly.
     NotRising,

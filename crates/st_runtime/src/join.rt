@@ -6,6 +6,7 @@ ghost use Rattle.st_core.specs.Pid.{IsRising};
 ghost use Rattle.st_core.specs.Streams.{IsStreams};
 ghost use Rattle.st_runtime.specs.Joined.{IsJoined, streams_of};
 ghost use Rattle.st_runtime.specs.Joining.{IsLogged, IsReadOut};
+ghost use Rattle.st_runtime.specs.Pcb.{IsKept};
 ghost use Rattle.st_runtime.specs.Pieces.{pids_in, AreWhole, IsFit, IsJoinFault};
 
 use crate::collect::streams_of;
@@ -45,6 +46,7 @@ pub(crate) fn join_given<const TOP: u64, const RANKS: u64, R: Threads + Sync>(
     pieces: Pieces<TOP, RANKS>,
 ) -> Result<Record, JoinFault>
     ensures ok { IfOk result (IsJoined TOP pieces.entry) }
+    ensures kept { OnOk result (All (λ x. IsKept TOP RANKS x.process x.log) pieces.entry.processes) }
     ensures err { IfErr result (IsJoinFault pieces.entry) }
 {
     see_fit(rt, alloc, &pieces)?;
@@ -118,7 +120,8 @@ fn run_by_threads<const TOP: u64, const RANKS: u64, R: Threads + Sync>(
 ) -> Result<Record, AllocError>
     requires rising { IsRising (pids_in processes.now) }
     requires whole { AreWhole processes.now }
-    ensures { IfOk result (IsLogged TOP processes.now) }
+    ensures logged { IfOk result (IsLogged TOP processes.now) }
+    ensures kept { OnOk result (All (λ x. IsKept TOP RANKS x.process x.log) processes.now) }
 {
     let merged = merged(alloc, processes)?;
     let entries = merged.as_slice();

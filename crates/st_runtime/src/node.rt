@@ -1,6 +1,7 @@
 //! What an act of a whole node finds under the locks that it takes, one after the other.
 
-ghost use Rattle.std.specs.Prelude.{◌≡◌, ◌≢◌, ◌<◌, ◌≤◌, true, false, Some, None, Err, IfOk, IfSome, OnOk};
+ghost use Rattle.std.specs.Prelude.{◌≡◌, ◌≢◌, ◌+◌, ◌≤◌, ◌↔◌, ◌⊎◌, true, false, max, Some, None, Err, IfOk};
+ghost use Rattle.std.specs.Prelude.{IfSome, IsSome};
 ghost use Rattle.st_runtime.specs.Locked.{wide_reply, IsLockFault};
 ghost use Rattle.st_runtime.specs.Logs.{last_rank};
 ghost use Rattle.st_runtime.specs.Pcb.{is_wide};
@@ -28,7 +29,8 @@ impl Found {
     /// With what the lock of this pid holds.
     pub fn with<const TOP: u64, const RANKS: u64>(self, pcb: &Pcb<TOP, RANKS>, pid: Pid) -> Found
         ensures actor { result.actor ≡ self.actor }
-        ensures last { (self.last ≤ result.last) × (last_rank 0 pcb.now.log ≤ result.last) }
+        ensures last { result.last ≡ max self.last (last_rank 0 pcb.now.log) }
+        ensures within { self.last ≤ RANKS → result.last ≤ RANKS }
         ensures pid { result.stray ≡ false → pcb.now.process.pid ≡ pid }
         ensures here { pcb.now.process.pid ≡ self.actor
             → result.stray ≡ false → result.was ≡ Some pcb.now.process.local.traced }
@@ -48,13 +50,17 @@ impl Found {
         }
     }
 
-    /// The entry of the act, once all locks are held.
+    /// The entry of the act, once all locks are held. Refusals: 6 Stray, 4 RankFull, in this order.
     pub fn entry(&self, act: &Act, ranks: u64) -> Result<Entry, ActFault>
-        requires { is_wide act.now ≡ true }
+        requires wide { is_wide act.now ≡ true }
+        requires last { self.now.last ≤ ranks }
         ensures act { IfOk result (λ e. e.act ≡ act.now) }
         ensures bare { IfOk result (λ e. (e.report ≡ None) × (e.carried ≡ None)) }
-        ensures rank { IfOk result (λ e. (self.now.last < e.rank) × (e.rank ≤ ranks)) }
-        ensures stray { OnOk result (self.now.stray ≡ false) }
+        ensures rank { IfOk result (λ e. (e.rank ≡ self.now.last + 1) × (e.rank ≤ ranks)) }
+        ensures stray { (result ≡ Err ActFault.Stray) ↔ ((self.now.stray ≡ true) ⊎ (self.now.was ≡ None)) }
+        ensures full { (result ≡ Err ActFault.RankFull)
+            ↔ ((self.now.stray ≡ false) × IsSome self.now.was × (self.now.last ≡ ranks)) }
+        ensures memory { result ≢ Err ActFault.Memory }
         ensures reply { IfOk result (λ e. IfSome self.now.was (λ was. e.reply ≡ wide_reply act.now was)) }
         ensures known { IsLockFault result }
         ensures clock { result ≢ Err ActFault.ClockFull }
@@ -65,7 +71,7 @@ impl Found {
         let Some(was) = self.was else {
             return Err(ActFault::Stray);
         };
-        if self.last >= ranks {
+        if self.last == ranks {
             return Err(ActFault::RankFull);
         }
         Ok(Entry {

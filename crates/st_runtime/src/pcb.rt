@@ -105,7 +105,8 @@ impl<const TOP: u64, const RANKS: u64> Pcb<TOP, RANKS> {
 
     /// The greatest rank in its log, 0 where that is empty.
     pub(crate) fn last_rank(&self) -> u64
-        ensures { result ≡ last_rank 0 self.now.log }
+        ensures value { result ≡ last_rank 0 self.now.log }
+        ensures within { result ≤ RANKS }
     {
         last_rank(self.log.as_slice())
     }

@@ -2,11 +2,12 @@
 //! order of their pids, and nothing is known of what a lock holds but what its type keeps.
 
 ghost use Rattle.std.specs.Prelude.{◌≡◌, ◌≢◌, ◌<◌, ◌≤◌, ◌↔◌, ◌⊎◌, false, true, [], ◌∷◌, ◌++◌, length, map, is_some};
-ghost use Rattle.std.specs.Prelude.{slice_get, Some, None, Err, Ok, IfOk, IfErr, IfSome, OnOk};
+ghost use Rattle.std.specs.Prelude.{◌+◌, drop, slice_get, Some, None, Err, Ok, IfOk, IfErr, IfSome, OnOk};
 ghost use Rattle.std.specs.Prelude.{OnErr, vec_len};
 ghost use Rattle.st_core.specs.Pid.{IsRising};
 ghost use Rattle.st_core.specs.Step.{actor, receiver};
-ghost use Rattle.st_runtime.specs.Locked.{wide_reply, IsLockFault};
+ghost use Rattle.st_runtime.specs.Locked.{wide_reply, on_node, AreFor, FindsClockFull, FindsRankFull, HasRank};
+ghost use Rattle.st_runtime.specs.Locked.{IsLockFault};
 ghost use Rattle.st_runtime.specs.declared.fault.PcbFault.{PcbFault};
 ghost use Rattle.st_runtime.specs.Pcb.{is_wide, IsSame, IsStepped};
 ghost use Rattle.st_runtime.specs.Pieces.{pids_in};
@@ -273,10 +274,15 @@ impl<const TOP: u64, const RANKS: u64> System<TOP, RANKS> {
         requires wide { is_wide act.now ≡ true }
         requires actor { found.actor ≡ actor act.now }
         requires place { place ≤ length self.now }
+        requires last { found.last ≤ RANKS }
         ensures act { IfOk result (λ e. e.act ≡ act.now) }
         ensures bare { IfOk result (λ e. (e.report ≡ None) × (e.carried ≡ None)) }
-        ensures rank { IfOk result (λ e. (found.last < e.rank) × (e.rank ≤ RANKS)) }
+        ensures above { IfOk result (λ e. (found.last < e.rank) × (e.rank ≤ RANKS)) }
+        ensures rank { IfOk result (λ e. HasRank (on_node found.actor (drop place self.now)) found.last e.rank) }
+        ensures full { result ≡ Err ActFault.RankFull
+            → HasRank (on_node found.actor (drop place self.now)) found.last (RANKS + 1) }
         ensures stray { OnOk result (found.stray ≡ false) }
+        ensures full_stray { result ≡ Err ActFault.RankFull → found.stray ≡ false }
         ensures reply { IfOk result (λ e. IfSome found.was (λ was. e.reply ≡ wide_reply act.now was)) }
         ensures known { IsLockFault result }
         ensures clock { result ≢ Err ActFault.ClockFull }
@@ -302,7 +308,8 @@ fn told(step: Result<Reply, PcbFault>) -> Result<Reply, ActFault>
     ensures err { IfErr result (λ f. (refusal : PcbFault) × (step ≡ Err refusal)) }
     ensures stray { result ≢ Err ActFault.Stray }
     ensures known { IsLockFault result }
-    ensures clock { result ≡ Err ActFault.ClockFull → step ≡ Err PcbFault.ClockFull }
+    ensures clock { (result ≡ Err ActFault.ClockFull) ↔ (step ≡ Err PcbFault.ClockFull) }
+    ensures rank { (result ≡ Err ActFault.RankFull) ↔ (step ≡ Err PcbFault.RankFull) }
 {
     match step {
         Ok(reply) => Ok(reply),
@@ -321,9 +328,13 @@ fn acted<const TOP: u64, const RANKS: u64>(
     requires alone { receiver act.now ≡ actor act.now }
     ensures ok { IfOk result (λ y. IsStepped TOP act.now y (pcb.old ∷ []) (pcb.new ∷ [])) }
     ensures err { OnErr result (IsSame pcb.old pcb.new) }
-    ensures stray { result ≡ Err ActFault.Stray → pcb.old.process.pid ≢ actor act.now }
+    ensures stray { (result ≡ Err ActFault.Stray) ↔ (pcb.old.process.pid ≢ actor act.now) }
+    ensures clock { (result ≡ Err ActFault.ClockFull)
+        ↔ ((pcb.old.process.pid ≡ actor act.now) × FindsClockFull TOP act.now (pcb.old ∷ [])) }
+    ensures rank { (result ≡ Err ActFault.RankFull)
+        ↔ ((pcb.old.process.pid ≡ actor act.now) × FindsRankFull TOP RANKS act.now (pcb.old ∷ [])) }
     ensures known { IsLockFault result }
-    ensures clock { result ≡ Err ActFault.ClockFull → is_stamping act.now ≡ true }
+    ensures stamping { result ≡ Err ActFault.ClockFull → is_stamping act.now ≡ true }
 {
     if pcb.pid() != act.actor() {
         return Err(ActFault::Stray);
@@ -341,8 +352,12 @@ fn sent<const TOP: u64, const RANKS: u64>(
     requires apart { receiver act.now ≢ actor act.now }
     ensures ok { IfOk result (λ y. IsStepped TOP act.now y (from.old ∷ to.old ∷ []) (from.new ∷ to.new ∷ [])) }
     ensures err { OnErr result (IsSame from.old from.new × IsSame to.old to.new) }
-    ensures stray { result ≡ Err ActFault.Stray
-        → (from.old.process.pid ≢ actor act.now) ⊎ (to.old.process.pid ≢ receiver act.now) }
+    ensures stray { (result ≡ Err ActFault.Stray)
+        ↔ ((from.old.process.pid ≢ actor act.now) ⊎ (to.old.process.pid ≢ receiver act.now)) }
+    ensures clock { (result ≡ Err ActFault.ClockFull)
+        ↔ (AreFor act.now from.old to.old × FindsClockFull TOP act.now (from.old ∷ to.old ∷ [])) }
+    ensures rank { (result ≡ Err ActFault.RankFull)
+        ↔ (AreFor act.now from.old to.old × FindsRankFull TOP RANKS act.now (from.old ∷ to.old ∷ [])) }
     ensures known { IsLockFault result }
 {
     if from.pid() != act.actor() {

@@ -1,19 +1,25 @@
 //! The workers of a drive: each makes the acts of one script in a thread of its own.
 
-ghost use Rattle.std.specs.Prelude.{◌≡◌, [], length, map, zip, All, IfOk, IfErr};
-ghost use Rattle.st_runtime.specs.Working.{IsWorked, AreWorked, IsOwnFault};
+ghost use Rattle.std.specs.Prelude.{◌≡◌, [], length, map, zip, All, IfOk, IfErr, Some};
+ghost use Rattle.st_runtime.specs.Working.{IsLeft, AreWorked, IsOwnFault};
 
 use crate::fault::{ActFault, DriveFault};
 use crate::gate::Gate;
 use crate::seat::Seat;
 use crate::system::System;
+use core::thread::Stack;
 use st_core::{Act, Sequence};
 use std::alloc::{AllocError, Global};
 use std::marker::Model;
 use std::snapshot::Snapshot;
 use std::sync::Wait;
+use std::sync::atomic::{AtomicBool, Ordering};
 use std::thread;
 use std::thread::{Promise, Threads};
+
+/// The stack of a worker's thread, in bytes. An act of a whole node takes a frame for each of its processes
+/// (`System::act`), of which an input of the program has up to 1,024.
+pub const WORKER_STACK: usize = 2_097_152;
 
 /// What a worker is given: a seat through which no act was made yet, and the acts to make.
 #[derive(Drop)]
@@ -66,12 +72,12 @@ struct Leaves<const TOP: u64, const RANKS: u64> {
     task: Snapshot<Task>,
 }
 
-impl<const TOP: u64, const RANKS: u64> Promise<Ending> for Leaves<TOP, RANKS> {
-    ghost kept_by = { λ p end. IsWorked p.system.value p.task.value end };
+impl<const TOP: u64, const RANKS: u64> Promise<Option<Ending>> for Leaves<TOP, RANKS> {
+    ghost kept_by = { λ p left. IsLeft p.system.value p.task.value left };
 }
 
-/// All workers at once, each in a thread of its own. Where a thread can't be started, those that were
-/// started end first.
+/// All workers at once, each in a thread of its own with a stack of so many bytes. If a thread can't be started,
+/// those that were started stop at their next act, and are waited for.
 ///
 /// Refusals: `Thread`, then `Memory`; but `Memory` at once where there is no room for the threads.
 pub fn work_all<const TOP: u64, const RANKS: u64, R: Threads + Wait + Sync, G: Gate + Sync>(
@@ -80,10 +86,12 @@ pub fn work_all<const TOP: u64, const RANKS: u64, R: Threads + Wait + Sync, G: G
     system: &System<TOP, RANKS>,
     gate: &G,
     tasks: Vec<Task>,
+    stack: usize,
 ) -> Result<Vec<Ending>, DriveFault>
     ensures ok { IfOk result (λ v. AreWorked system.now tasks.items v.items) }
     ensures err { IfErr result IsOwnFault }
 {
+    let stop = &AtomicBool::new(false);
     thread::scope(
         thread::scope_env(),
         rt,
@@ -99,10 +107,12 @@ pub fn work_all<const TOP: u64, const RANKS: u64, R: Threads + Wait + Sync, G: G
                     system: Snapshot::of(system),
                     task: Snapshot::of(&task),
                 };
-                let work = move || -> Ending
-                    ensures { IsWorked system.entry.now task result }
-                { work(rt, system, gate, task) };
-                let Ok(worker) = scope.spawn_with(leaves, work) else {
+                let work = move || -> Option<Ending>
+                    ensures { IsLeft system.entry.now task result }
+                { work(rt, system, gate, stop, task) };
+                let thread = Stack::new().stack_size(stack);
+                let Ok(worker) = thread.spawn_scoped_with(scope, leaves, work) else {
+                    stop.store(true, Ordering::SeqCst);
                     return Err(DriveFault::Thread);
                 };
                 let Ok(()) = workers.push(worker) else {
@@ -110,24 +120,42 @@ pub fn work_all<const TOP: u64, const RANKS: u64, R: Threads + Wait + Sync, G: G
                 };
             }
             match thread::join_promised(rt, workers) {
-                Ok(ends) => Ok(ends),
+                Ok(left) => all_ended(alloc, left),
                 Err(_) => Err(DriveFault::Memory),
             }
         },
     )
 }
 
-/// Makes the script's acts in order, until one is refused.
+/// What the workers left, if none was told to stop. Refusals: `Thread`, `Memory`.
+fn all_ended(alloc: Global, left: Vec<Option<Ending>>) -> Result<Vec<Ending>, DriveFault>
+    ensures ok { IfOk result (λ v. map (λ end. Some end) v.items ≡ left.items) }
+    ensures err { IfErr result IsOwnFault }
+{
+    let mut ends = Vec::with_capacity(alloc, left.len())?;
+    for end in left {
+        let Some(end) = end else {
+            return Err(DriveFault::Thread);
+        };
+        let Ok(()) = ends.push(end) else {
+            return Err(DriveFault::Memory);
+        };
+    }
+    Ok(ends)
+}
+
+/// Makes the script's acts in order, until one is refused; nothing, if it is told to stop before.
 fn work<const TOP: u64, const RANKS: u64, R: Wait, G: Gate>(
     rt: &R,
     system: &System<TOP, RANKS>,
     gate: &G,
+    stop: &AtomicBool,
     task: Task,
-) -> Ending
-    ensures { IsWorked system.now task result }
+) -> Option<Ending>
+    ensures { IsLeft system.now task result }
 {
     let Task { seat, script } = task;
-    played(rt, system, gate, seat, script.as_slice())
+    played(rt, system, gate, stop, seat, script.as_slice())
 }
 
 /// The same, of the task's parts.
@@ -135,19 +163,23 @@ fn played<const TOP: u64, const RANKS: u64, R: Wait, G: Gate>(
     rt: &R,
     system: &System<TOP, RANKS>,
     gate: &G,
+    stop: &AtomicBool,
     mut seat: Seat,
     script: &[Act],
-) -> Ending
+) -> Option<Ending>
     requires { seat.mine ≡ [] }
-    ensures { IsWorked system.now (seat.pid, script.now) result }
+    ensures { IsLeft system.now (seat.pid, script.now) result }
 {
     for act in script {
+        if stop.load(Ordering::SeqCst) {
+            return None;
+        }
         if let Err(fault) = system.act(rt, gate, &mut seat, act) {
-            return Ending {
+            return Some(Ending {
                 seat,
                 fault: Some(fault),
-            };
+            });
         }
     }
-    Ending { seat, fault: None }
+    Some(Ending { seat, fault: None })
 }

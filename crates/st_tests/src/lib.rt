@@ -1,4 +1,4 @@
-//! Tests of all crates but for the runtime's, which stand beside its code.
+//! Tests of all crates but for those of the runtime that use what is private, which stand beside its code.
 //!
 //! They stand in a crate of their own: a crate that has tests is proved twice, with and without them.
 //!
@@ -16,6 +16,7 @@
 //! | `plans` | `st_plan` |
 //! | `audits` | `st_audit` |
 //! | `charts` | `st_chart`: charts and reports |
+//! | `runs` | `st_runtime`: threads that meet, and records of driven scripts |
 //! | `commands` | `st_commands`: whole commands, byte for byte |
 //! | `collected` | none: texts of streams, and pids, that the others share |
 #![tactic(auto)]
@@ -46,6 +47,8 @@ mod pairs;
 mod plans;
 #[cfg(test)]
 mod reads;
+#[cfg(test)]
+mod runs;
 #[cfg(test)]
 mod text;
 #[cfg(test)]

@@ -1,6 +1,6 @@
-//! Driven scripts: threads that meet, refusals, and scripts that busy one another.
+//! Driven scripts: refusals, and what a refused growth leaves.
 
-use super::drive;
+use super::{drive, drive_on};
 use crate::fault::{ActFault, DriveFault};
 use crate::gate::{Gate, OpenGate};
 use crate::record::Record;
@@ -8,11 +8,8 @@ use st_core::{Act, Component, Label, Pid, Sequence, Want};
 use std::alloc::Global;
 use std::process::Abort;
 use std::sync::Wait;
-use std::sync::atomic::{AtomicBool, AtomicU64, Ordering};
 use std::test::Fail;
-use std::thread;
 use std::thread::Threads;
-use std::time::{Clock, Duration};
 
 /// Drives these scripts, which are as many as the pids; once more where memory or a thread was refused.
 fn driven<const TOP: u64, const RANKS: u64, R: Threads + Wait + Sync + Abort, G: Gate + Sync>(
@@ -71,7 +68,10 @@ fn refused_acts_and_falling_pids(rt: HostRuntime) {
     let print = Act::Print(me, 0);
     let set = Act::Set(me, Component::Label(Label(1)));
     let foreign = DriveFault::Act(me, 0, ActFault::NotYours);
-    assert_refused::<9, 9, _>(&rt, alloc, &[me], &[&[Act::Look(other)]], foreign);
+    let both = [me, other];
+    assert_refused::<9, 9, _>(&rt, alloc, &both, &[&[Act::Look(other)], &[]], foreign);
+    let nobody = Act::Look(Pid::new(99));
+    assert_refused::<9, 9, _>(&rt, alloc, &both, &[&[nobody], &[nobody]], foreign);
     let falling = DriveFault::NotRising;
     assert_refused::<9, 9, _>(&rt, alloc, &[other, me], &[&[], &[]], falling);
     let rank = DriveFault::Act(me, 3, ActFault::RankFull);
@@ -98,67 +98,32 @@ fn a_send_to_another_node(rt: HostRuntime) -> Result<(), Fail> {
     Ok(())
 }
 
-/// Lets the acts of two processes wait until both hold their locks. `R` is a clock to pause by.
-#[derive(Drop)]
-struct Meeting<'a, R: Clock> {
-    clock: &'a R,
-    first: Pid,
-    first_holds: AtomicBool,
-    other_holds: AtomicBool,
-    met: AtomicU64,
-}
-
-/// How often a thread looks for the other, with a pause of a millisecond after each look.
-const TURNS: u64 = 5_000;
-
-impl<R: Clock> Gate for Meeting<'_, R> {
-    fn before(&self, pid: Pid, _n: u64) {
-        let (mine, theirs) = if pid == self.first {
-            (&self.first_holds, &self.other_holds)
-        } else {
-            (&self.other_holds, &self.first_holds)
-        };
-        mine.store(true, Ordering::SeqCst);
-        for _ in 0..TURNS {
-            if theirs.load(Ordering::SeqCst) {
-                self.met.fetch_add(1, Ordering::SeqCst);
-                return;
-            }
-            thread::sleep(self.clock, Duration::from_millis(1));
-        }
-    }
-
-    fn after(&self, _pid: Pid, _n: u64) {}
-}
-
-/// Drives two senders that meet, and answers how many met and how many acts the record has.
-fn two_met<R: Threads + Wait + Sync + Abort + Clock>(
+/// Drives no acts of one process on so large a stack.
+fn on_stack<R: Threads + Wait + Sync + Abort>(
     rt: &R,
     alloc: Global,
-) -> Result<(u64, usize), DriveFault> {
-    let pids = [Pid::new(30), Pid::new(31), Pid::new(32), Pid::new(33)];
-    let gate = Meeting {
-        clock: rt,
-        first: pids[0],
-        first_holds: AtomicBool::new(false),
-        other_holds: AtomicBool::new(false),
-        met: AtomicU64::new(0),
+    stack: usize,
+) -> Result<Record, DriveFault> {
+    let pids = [Pid::new(30)];
+    let mut scripts = Vec::new(alloc);
+    let Ok(()) = scripts.push(Sequence::new(alloc)) else {
+        return Err(DriveFault::Memory);
     };
-    let one = [Act::Send(pids[0], pids[1], 1)];
-    let other = [Act::Send(pids[2], pids[3], 2)];
-    let record = driven_once::<9, 9, _, _>(rt, alloc, &gate, &pids, &[&one, &[], &other, &[]])?;
-    Ok((gate.met.load(Ordering::SeqCst), record.acts.len()))
+    assert_eq!(rt; scripts.len(), pids.len());
+    drive_on::<9, 9, R, OpenGate>(rt, alloc, &pids, scripts, &OpenGate, stack)
 }
 
-// One lock round all processes, or one thread for all scripts, would keep the second act from its locks.
+// No thread has so large a stack.
 #[test]
-fn two_senders_at_once(rt: HostRuntime) -> Result<(), Fail> {
-    let met = match two_met(&rt, rt.alloc()) {
-        Err(DriveFault::Memory | DriveFault::Thread) => two_met(&rt, rt.alloc())?,
-        answer => answer?,
+fn a_refused_thread_is_told(rt: HostRuntime) {
+    let refused = match on_stack(&rt, rt.alloc(), usize::MAX) {
+        Err(DriveFault::Memory) => on_stack(&rt, rt.alloc(), usize::MAX),
+        answer => answer,
     };
-    assert_eq!(rt; met, (2, 2));
-    Ok(())
+    match refused {
+        Ok(_) => panic!(rt; "driven"),
+        Err(fault) => assert_eq!(rt; fault, DriveFault::Thread),
+    }
 }
 
 /// Act n of a busy process: sends to the other processes, receives, sets and prints.
@@ -200,15 +165,6 @@ fn four_busy<R: Threads + Wait + Sync + Abort>(rt: &R, alloc: Global) -> Result<
     assert_eq!(rt; scripts.len(), pids.len());
     let record = drive::<1_000, 1_000, R, OpenGate>(rt, alloc, &pids, scripts, &OpenGate)?;
     Ok(record.acts.len())
-}
-
-// A record comes each time: no entry is missing, and no seat differs.
-#[test]
-fn four_busy_scripts(rt: HostRuntime) -> Result<(), Fail> {
-    for _ in 0..20 {
-        assert_eq!(rt; four_busy(&rt, rt.alloc())?, 200);
-    }
-    Ok(())
 }
 
 /// Where a growth or a thread is refused, the call answers that, or is right; and the same call is right

@@ -1,7 +1,7 @@
 //! Pieces that fit, and pieces that don't.
 
 use super::join_pieces;
-use crate::fault::JoinFault;
+use crate::fault::{ActFault, JoinFault};
 use crate::gate::OpenGate;
 use crate::pcb::Pcb;
 use crate::pieces::Pieces;
@@ -109,5 +109,37 @@ fn refused_growths_leave_no_trace(rt: HostRuntime) -> Result<(), Fail> {
     let record = joined(rt.alloc(), &pieces)?;
     assert_eq!(rt; record.acts.len(), 9);
     assert_eq!(rt; record.streams.pids(), pids.as_slice());
+    Ok(())
+}
+
+// A reset of four processes one growth of which is refused, as where this test runs with an allocation that fails,
+// is in no log: the processes can go on, and the record has none.
+#[test]
+fn a_refused_reset_leaves_no_trace(rt: HostRuntime) -> Result<(), Fail> {
+    let pids = [Pid::new(30), Pid::new(31), Pid::new(32), Pid::new(33)];
+    let (system, seats) = opened::<9, 9>(rt.alloc(), &pids)?;
+    let mut used = room(rt.alloc(), pids.len())?;
+    let mut made = 4;
+    for mut seat in seats {
+        let me = seat.pid();
+        if me == pids[0] {
+            match system.act(&rt, &OpenGate, &mut seat, &Act::Reset(me)) {
+                Ok(reply) => {
+                    assert_eq!(rt; reply, Reply::Done);
+                    made = 5;
+                }
+                Err(fault) => {
+                    assert_eq!(rt; fault, ActFault::Memory);
+                    assert!(rt; seat.mine().is_empty());
+                }
+            }
+        }
+        let looked = acted(&rt, &OpenGate, &system, &mut seat, &Act::Look(me));
+        assert_eq!(rt; looked, Ok(Reply::Current(None)));
+        used.push(seat)?;
+    }
+    let pieces = gathered(system, used).ok_or("not gathered")?;
+    let record = joined(rt.alloc(), &pieces)?;
+    assert_eq!(rt; record.acts.len(), made);
     Ok(())
 }

@@ -1,15 +1,16 @@
 //! Worked steps of processes that are lent. Each call is made once more where memory lacked: in a run
 //! one growth of which is refused, the second answer is the right one.
 
-ghost use Rattle.std.specs.Prelude.{◌≡◌, true, IfOk};
+ghost use Rattle.std.specs.Prelude.{◌≡◌, ◌<◌, true, IfOk, OnOk};
 ghost use Rattle.st_core.specs.Step.{actor};
-ghost use Rattle.st_runtime.specs.Pcb.{is_alone, IsBetween};
+ghost use Rattle.st_runtime.specs.Pcb.{is_alone, IsBetween, IsSame};
 
 use super::Pcb;
 use crate::entry::Entry;
 use crate::fault::PcbFault;
-use st_core::{Act, Component, Label, Pid, Reply, Want};
+use st_core::{Act, Component, Label, Pid, Reply, Serial, Want};
 use std::alloc::{AllocError, Global};
+use std::process::Abort;
 use std::test::Fail;
 
 /// A process with a clock and ranks up to 9.
@@ -37,6 +38,7 @@ fn acted(process: &mut Small, act: &Act) -> Result<Reply, PcbFault>
 
 fn sent(from: &mut Small, to: &mut Small, act: &Act) -> Result<Reply, PcbFault>
     requires { IsBetween act.now from.old.process.pid to.old.process.pid }
+    ensures from_pid { from.new.process.pid ≡ from.old.process.pid }
     ensures to_pid { to.new.process.pid ≡ to.old.process.pid }
 {
     match Pcb::between(from, to, act) {
@@ -45,8 +47,27 @@ fn sent(from: &mut Small, to: &mut Small, act: &Act) -> Result<Reply, PcbFault>
     }
 }
 
+/// Makes room for one entry.
+fn prepared(process: &mut Small) -> Result<(), AllocError>
+    ensures same { IsSame process.old process.new }
+    ensures room { OnOk result (0 < process.new.spare) }
+{
+    match process.prepare() {
+        Ok(()) => Ok(()),
+        Err(_) => process.prepare(),
+    }
+}
+
+fn assert_ranks(rt: &impl Abort, process: &Small, ranks: &[u64]) {
+    assert_eq!(rt; process.log().len(), ranks.len());
+    for (entry, rank) in process.log().iter().zip(ranks) {
+        assert_eq!(rt; entry.rank, *rank);
+    }
+}
+
+// A set and a send of 30, the receive of 31, and a reset that is committed to both.
 #[test]
-fn steps_on_two_lent_processes(rt: HostRuntime) -> Result<(), Fail> {
+fn two_processes_by_hand(rt: HostRuntime) -> Result<(), Fail> {
     let p30 = Pid::new(30);
     let p31 = Pid::new(31);
     let mut one = fresh(rt.alloc(), p30)?;
@@ -57,32 +78,24 @@ fn steps_on_two_lent_processes(rt: HostRuntime) -> Result<(), Fail> {
     assert_eq!(rt; sent(&mut one, &mut other, &send), Ok(Reply::Done));
     let receive = Act::Receive(p31, Want::First);
     assert_eq!(rt; acted(&mut other, &receive), Ok(Reply::Mail(p30, 5)));
-    assert_eq!(rt; one.local().clock(), 1);
-    assert_eq!(rt; other.local().clock(), 1);
-    assert_eq!(rt; one.last_rank(), 2);
-    assert_eq!(rt; other.last_rank(), 3);
-    Ok(())
-}
-
-#[test]
-fn a_reset_is_committed_where_room_was_made(rt: HostRuntime) -> Result<(), Fail> {
-    let me = Pid::new(30);
-    let mut process = fresh(rt.alloc(), me)?;
-    let set = Act::Set(me, Component::Label(Label(1)));
-    assert_eq!(rt; acted(&mut process, &set), Ok(Reply::Old(None)));
-    if process.prepare().is_err() {
-        process.prepare()?;
-    }
-    assert!(rt; process.last_rank() < 4);
+    prepared(&mut one)?;
+    prepared(&mut other)?;
+    assert!(rt; one.last_rank() < 4);
+    assert!(rt; other.last_rank() < 4);
     let reset = Entry {
         rank: 4,
-        act: Act::Reset(me),
+        act: Act::Reset(p30),
         reply: Reply::Done,
         report: None,
         carried: None,
     };
-    process.commit(&reset);
-    assert_eq!(rt; process.last_rank(), 4);
-    assert_eq!(rt; process.local().token(), None);
+    one.commit(&reset);
+    other.commit(&reset);
+    assert_ranks(&rt, &one, &[1, 2, 4]);
+    assert_ranks(&rt, &other, &[2, 3, 4]);
+    let carried = one.log().get(1).and_then(|entry| entry.carried);
+    assert_eq!(rt; carried.map(|token| token.serial), Some(Serial { prev: 0, this: 1 }));
+    assert_eq!(rt; one.local().clock(), 0);
+    assert_eq!(rt; other.local().clock(), 0);
     Ok(())
 }

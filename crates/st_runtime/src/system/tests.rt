@@ -5,17 +5,19 @@ use crate::fault::ActFault;
 use crate::gate::{Gate, OpenGate};
 use crate::seat::Seat;
 use crate::trial::{acted, gathered, opened, room};
+use crate::worker::WORKER_STACK;
 use st_core::{Act, Component, Label, Pid, Reply, Serial, Want};
 use std::process::Abort;
 use std::sync::Wait;
 use std::sync::atomic::{AtomicU64, Ordering};
 use std::test::Fail;
 use std::thread;
+use std::thread::Threads;
 
 /// An act and what it answers.
 type Played = (Act, Result<Reply, ActFault>);
 
-/// Makes acts through a seat, and asserts what each answers.
+/// Makes acts through a seat, and asserts what each answers, and that the seat keeps those that are accepted.
 fn play<const TOP: u64, const RANKS: u64, R: Wait + Abort, G: Gate>(
     rt: &R,
     gate: &G,
@@ -24,7 +26,10 @@ fn play<const TOP: u64, const RANKS: u64, R: Wait + Abort, G: Gate>(
     acts: &[Played],
 ) {
     for (act, expected) in acts {
+        let made = seat.mine().len();
         assert_eq!(rt; acted(rt, gate, system, seat, act), *expected);
+        let kept = made.saturating_add(usize::from(expected.is_ok()));
+        assert_eq!(rt; seat.mine().len(), kept);
     }
 }
 
@@ -34,6 +39,16 @@ struct Counting {
     before: AtomicU64,
     after: AtomicU64,
     acts: AtomicU64,
+}
+
+impl Counting {
+    fn new() -> Counting {
+        Counting {
+            before: AtomicU64::new(0),
+            after: AtomicU64::new(0),
+            acts: AtomicU64::new(0),
+        }
+    }
 }
 
 impl Gate for Counting {
@@ -72,15 +87,35 @@ fn a_gate_is_told_of_acts_under_their_lock(rt: HostRuntime) -> Result<(), Fail> 
     let me = Pid::new(30);
     let (system, seats) = opened::<3, 9>(rt.alloc(), &[me])?;
     for mut seat in seats {
-        let gate = Counting {
-            before: AtomicU64::new(0),
-            after: AtomicU64::new(0),
-            acts: AtomicU64::new(0),
-        };
+        let gate = Counting::new();
         play(&rt, &gate, &system, &mut seat, &refused_among(me));
         assert_eq!(rt; gate.before.load(Ordering::SeqCst), 7);
         assert_eq!(rt; gate.after.load(Ordering::SeqCst), 7);
         assert_eq!(rt; gate.acts.load(Ordering::SeqCst), 1 + 2 + 3 + 4 + 5 + 6);
+    }
+    Ok(())
+}
+
+// An act of a whole node is told of once before and once after, also where it is refused.
+#[test]
+fn a_gate_is_told_of_acts_of_a_node_once(rt: HostRuntime) -> Result<(), Fail> {
+    let me = Pid::new(30);
+    let (system, seats) = opened::<9, 3>(rt.alloc(), &[me, Pid::new(31)])?;
+    let Some(mut seat) = seats.into_iter().next() else {
+        panic!(rt; "no seats");
+    };
+    let acts = [
+        (Act::Tracer(me, true), Ok(Reply::Was(false))),
+        (Act::Reset(me), Ok(Reply::Done)),
+        (Act::Reset(me), Ok(Reply::Done)),
+        (Act::Reset(me), Err(ActFault::RankFull)),
+        (Act::Tracer(me, false), Err(ActFault::RankFull)),
+    ];
+    for (told, played) in (1..).zip(&acts) {
+        let gate = Counting::new();
+        play(&rt, &gate, &system, &mut seat, &[*played]);
+        assert_eq!(rt; gate.before.load(Ordering::SeqCst), 1, "before act {told}");
+        assert_eq!(rt; gate.after.load(Ordering::SeqCst), 1, "after act {told}");
     }
     Ok(())
 }
@@ -98,6 +133,46 @@ fn refused_acts_change_nothing(rt: HostRuntime) -> Result<(), Fail> {
             panic!(rt; "no token");
         };
         assert_eq!(rt; token.serial, Serial { prev: 0, this: 3 });
+    }
+    Ok(())
+}
+
+// Three entries fill the ranks of a log. What was made stays.
+#[test]
+fn a_full_rank_keeps_what_was_made(rt: HostRuntime) -> Result<(), Fail> {
+    let me = Pid::new(30);
+    let (system, seats) = opened::<3, 3>(rt.alloc(), &[me])?;
+    let Some(mut seat) = seats.into_iter().next() else {
+        panic!(rt; "no seats");
+    };
+    let made = (Act::Look(me), Ok(Reply::Current(None)));
+    let full = (Act::Look(me), Err(ActFault::RankFull));
+    play(&rt, &OpenGate, &system, &mut seat, &[made, made, made, full]);
+    assert_eq!(rt; seat.mine().len(), 3);
+    Ok(())
+}
+
+// A send reaches the other node, and the reset after it doesn't.
+#[test]
+fn a_reset_leaves_the_log_of_another_node(rt: HostRuntime) -> Result<(), Fail> {
+    let here = Pid::on(1, 30);
+    let away = Pid::on(2, 31);
+    let (system, seats) = opened::<9, 9>(rt.alloc(), &[here, away])?;
+    let Some(mut seat) = seats.into_iter().next() else {
+        panic!(rt; "no seats");
+    };
+    let send = Act::Send(here, away, 5);
+    let acts = [
+        (send, Ok(Reply::Done)),
+        (Act::Reset(here), Ok(Reply::Done)),
+    ];
+    play(&rt, &OpenGate, &system, &mut seat, &acts);
+    let pieces = gathered(system, Vec::new(rt.alloc())).ok_or("not gathered")?;
+    for process in pieces.processes {
+        if process.pid() == away {
+            assert_eq!(rt; process.log().len(), 1);
+            assert_eq!(rt; process.log().first().map(|entry| entry.act), Some(send));
+        }
     }
     Ok(())
 }
@@ -148,24 +223,38 @@ fn acts_of_a_node_leave_other_nodes(rt: HostRuntime) -> Result<(), Fail> {
 /// As many processes as a node may have here.
 const MANY: u16 = 1_024;
 
-// The locks of a node take a frame each, and a thread's stack of ordinary size has room for them.
+/// Makes the act in a thread whose stack is a worker's. None, if no thread could be started.
+fn on_worker_stack<R: Threads + Wait + Sync + Abort>(
+    rt: &R,
+    system: &System<9, 9>,
+    seat: &mut Seat,
+    act: &Act,
+) -> Option<Result<Reply, ActFault>> {
+    thread::scope(thread::scope_env(), rt, |scope| {
+        let thread = thread::Builder::new().stack_size(WORKER_STACK);
+        match thread.spawn_scoped(scope, || acted(rt, &OpenGate, system, seat, act)) {
+            Ok(thread) => Some(thread.join(rt)),
+            Err(_) => None,
+        }
+    })
+}
+
+// The locks of a node take a frame each, and a worker's stack has room for those of 1,024 processes.
 #[test]
-fn a_reset_of_a_large_node_fits_the_stack(rt: HostRuntime) -> Result<(), Fail> {
+fn a_reset_of_a_large_node_fits_a_workers_stack(rt: HostRuntime) -> Result<(), Fail> {
     let mut pids = room(rt.alloc(), MANY as usize)?;
     for number in 0..MANY {
         pids.push(Pid::new(number))?;
     }
     let (system, seats) = opened::<9, 9>(rt.alloc(), pids.as_slice())?;
-    let mut seats = seats.into_iter();
-    let Some(mut seat) = seats.next() else {
+    let Some(mut seat) = seats.into_iter().next() else {
         panic!(rt; "no seats");
     };
     let reset = Act::Reset(Pid::new(0));
-    let answers = thread::join(
-        &rt,
-        || acted(&rt, &OpenGate, &system, &mut seat, &reset),
-        || (),
-    );
-    assert_eq!(rt; answers.0, Ok(Reply::Done));
+    let answer = match on_worker_stack(&rt, &system, &mut seat, &reset) {
+        None => on_worker_stack(&rt, &system, &mut seat, &reset),
+        answer => answer,
+    };
+    assert_eq!(rt; answer, Some(Ok(Reply::Done)));
     Ok(())
 }

@@ -1,8 +1,9 @@
 -- The processes that are left are those of the pieces, and the pieces were seen to fit.
 use Rattle.std.proofs.Common.{◌∙◌, arith, sym, subst, List}
+use Rattle.std.specs.Prelude.{All}
 use Rattle.st_core.specs.Pid.{IsRising}
 use Rattle.st_runtime.specs.Joining.{IsLogged}
-use Rattle.st_runtime.specs.Pcb.{Control}
+use Rattle.st_runtime.specs.Pcb.{Control, IsKept}
 use Rattle.st_runtime.specs.Pieces.{pids_in, AreWhole}
 use Rattle.st_runtime.proofs.JoinLemmas.{joined}
 use Rattle.st_runtime.proofs.join.join_given.Goals as goal
@@ -24,4 +25,9 @@ returns-clause-ok g c =
     let r = c.in_ok-run_by_threads.field-0 in
     let is = c.as_slice.ensures.value ∙ c.into_processes-processes.ensures.processes in
     joined top c.args.pieces r c.in_ok-see_fit.ensures.ok
-    (subst (λ (xs : List Control). IsLogged top xs r) is c.in_ok-run_by_threads.ensures)
+    (subst (λ (xs : List Control). IsLogged top xs r) is c.in_ok-run_by_threads.ensures.logged)
+
+pub returns-clause-kept : goal.returns-clause-kept
+returns-clause-kept g c =
+    let is = c.as_slice.ensures.value ∙ c.into_processes-processes.ensures.processes in
+    subst (All (λ (x : Control). IsKept g.row.TOP g.row.RANKS x.process x.log)) is c.in_ok-run_by_threads.ensures.kept

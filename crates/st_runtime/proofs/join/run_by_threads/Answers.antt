@@ -1,5 +1,5 @@
 -- The merged entries of whole logs are one run, and each thread reads its part out of them.
-use Rattle.std.proofs.Common.{arith, rules, ◌≡◌, ◌∙◌, sym, ap, map, List}
+use Rattle.std.proofs.Common.{arith, rules, ◌∙◌, sym, ap, map, List}
 use Rattle.std.proofs.lemmas.Simd.{map-map}
 use denote.Ref.{Bor}
 use Rattle.st_runtime.specs.declared.entry.Entry.{Entry}
@@ -16,8 +16,8 @@ join-streams-requires-after_bounds g c κs within =
     let run = one_run top g.row.RANKS xs entries c.in_ok-merged.ensures.kept c.requires.whole merged in
     ((omega arith, are_streams top xs entries c.requires.rising run), search rules)
 
-pub returns : goal.returns
-returns g c =
+pub returns-clause-logged : goal.returns-clause-logged
+returns-clause-logged g c =
     let top = g.row.TOP in
     let xs = c.args.processes.now in
     let refs = c.in_ok-merged.merged.items in

@@ -1,5 +1,5 @@
 -- The merged entries of whole logs are one run, of which acts, replies and streams are read out.
-use Rattle.std.proofs.Common.{arith, ◌≡◌, ◌∙◌, sym, ap, map, List}
+use Rattle.std.proofs.Common.{arith, ◌∙◌, sym, ap, map, List}
 use Rattle.std.proofs.lemmas.Simd.{map-map}
 use denote.Ref.{Bor}
 use Rattle.st_runtime.specs.declared.entry.Entry.{Entry}

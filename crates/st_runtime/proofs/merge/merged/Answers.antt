@@ -1,9 +1,8 @@
 -- What is sorted are all own entries, by the ranks that stand beside them, and stably.
-use Rattle.std.proofs.Common.{◌≡◌, List, map, rules, subst, sym}
+use Rattle.std.proofs.Common.{List, rules, subst, sym}
 use Rattle.std.specs.List.Sorted.{IsPermutation, IsStableBy}
 use Rattle.std.proofs.lemmas.List.Sorted.{IsNonDecreasingBy-from_sort_by_key, answers_always}
 use Rattle.std.proofs.lemmas.Result.{IfOk-weaker}
-use denote.Ref.{Bor}
 use Rattle.st_runtime.specs.declared.entry.Entry.{Entry}
 use Rattle.st_runtime.specs.Joined.{IsMerged}
 use Rattle.st_runtime.specs.Pcb.{Control, IsKept}

@@ -2,9 +2,9 @@
 use Rattle.std.proofs.Common.{◌≡◌, ◌≤◌, ◌∙◌, sym, None}
 use Rattle.std.specs.Prelude.{All}
 use Rattle.st_runtime.specs.Driven.{acts_in, stamps_in}
-use Rattle.st_runtime.specs.Working.{IsEnding}
+use Rattle.st_runtime.specs.Working.{IsFirstRefusal}
 use Rattle.st_runtime.proofs.Driving.{fresh_seats, scripts_worked, driven, is_possible, worker_fault}
-use Rattle.st_runtime.proofs.driver.drive.Goals as goal
+use Rattle.st_runtime.proofs.driver.drive_on.Goals as goal
 
 pub tasks_of-requires : goal.tasks_of-requires
 tasks_of-requires g c = rw c.in_ok-system.ensures.seats (fresh_seats c.args.pids.now)
@@ -24,12 +24,12 @@ returns-in-Some-clause-err g c =
     rw (← c.as_slice-2.ensures.value) c.stamps_in-stamps.ensures in
     let p = c.in-Some.pid in
     let n = c.in-Some.n in
-    let ending : IsEnding ends p n c.in-Some.fault = rw (← c.as_slice-5.ensures.value) c.in-Some.ensures in
+    let first : IsFirstRefusal ends p n c.in-Some.fault = rw (← c.as_slice-5.ensures.value) c.in-Some.ensures in
     let told = c.possible-told.ensures in
     let possible = is_possible top ranks scripts c.possible-told.result c.acts_in-acts.result
     c.stamps_in-stamps.result told.memory told.clock told.rank acts stamps in (
       opened.rising,
-      worker_fault top ranks pids scripts ends p n c.in-Some.fault c.possible-told.result worked ending
+      worker_fault top ranks pids scripts ends p n c.in-Some.fault c.possible-told.result worked first
           (λ script. told.refused pids p script n) possible,
     )
 
@@ -43,6 +43,7 @@ returns-clause-ok g c =
     c.in_ok-tasks.tasks.items ends opened.system opened.seats c.in_ok-tasks.ensures c.in_ok-ends.ensures.ok in
     let none : All (λ e. e.fault ≡ None) ends = rw (← c.as_slice-5.ensures.value) c.in_default.ensures in
     let gathered = c.in-Ok.ensures in
-    driven g.row.TOP c.in-Ok.pieces c.in_ok-join_given.field-0 pids scripts ends
+    driven g.row.TOP g.row.RANKS c.in-Ok.pieces c.in_ok-join_given.field-0 pids scripts ends
     (sym c.args.scripts.ok.0 ∙ c.requires) opened.rising (gathered.processes ∙ opened.system)
     (gathered.seats ∙ c.in_ok-seats.ensures) worked none c.in_ok-join_given.ensures.ok
+    c.in_ok-join_given.ensures.kept

@@ -2,7 +2,7 @@
 use Rattle.std.proofs.Common.{◌≡◌, ◌≢◌, ap, sym, ◌∙◌, arith}
 use Rattle.st_core.specs.declared.types.Act.TheVariants.{Send}
 use Rattle.st_core.specs.Pid.{number_of}
-use Rattle.st_runtime.proofs.pcb.tests.steps_on_two_lent_processes.Goals as goal
+use Rattle.st_runtime.proofs.pcb.tests.two_processes_by_hand.Goals as goal
 
 pub sent-requires : goal.sent-requires
 sent-requires g c =

@@ -1,0 +1,105 @@
+//! Scripts that busy one another: every act and every want, on two nodes.
+
+use st_core::{Act, Component, Flags, Label, Pid, Sequence, Serial, Token, Want};
+use std::alloc::{AllocError, Global};
+
+/// The processes of a run, by rising pid: so many on each of the nodes 0 and 1.
+pub(super) fn processes(alloc: Global, on_each: u16) -> Result<Vec<Pid>, AllocError> {
+    let mut pids = Vec::new(alloc);
+    for node in 0..2 {
+        for number in 0..on_each {
+            let Ok(()) = pids.push(Pid::on(node, number)) else {
+                return Err(AllocError);
+            };
+        }
+    }
+    Ok(pids)
+}
+
+/// A script of so many acts for each of these processes.
+pub(super) fn scripts(
+    alloc: Global,
+    pids: &[Pid],
+    on_each: u16,
+    acts: u64,
+) -> Result<Vec<Sequence<Act>>, AllocError> {
+    let mut scripts = Vec::new(alloc);
+    for pid in pids {
+        let mut script = Vec::new(alloc);
+        for n in 0..acts {
+            let Ok(()) = script.push(busy(*pid, on_each, n)) else {
+                return Err(AllocError);
+            };
+        }
+        let Ok(()) = scripts.push(Sequence::from_vec(script)) else {
+            return Err(AllocError);
+        };
+    }
+    Ok(scripts)
+}
+
+/// Act n of a busy process. The first fifty have two resets and two changes of the tracer among them.
+fn busy(me: Pid, on_each: u16, n: u64) -> Act {
+    match n % 500 {
+        7 | 29 => Act::Tracer(me, true),
+        19 | 41 => Act::Reset(me),
+        431 => Act::Tracer(me, false),
+        _ => busy_alone(me, on_each, n),
+    }
+}
+
+/// The same, of an act that touches no whole node. Half of them are sends and receives.
+fn busy_alone(me: Pid, on_each: u16, n: u64) -> Act {
+    let drawn = mixed(me, n);
+    let other = Pid::on(
+        (drawn % 2) as u16,
+        ((drawn >> 1) % 65_536) as u16 % on_each.max(1),
+    );
+    let value = (drawn >> 20) % 4;
+    match n % 32 {
+        0 => Act::Receive(me, Want::Both(other, value)),
+        1 | 20 => Act::Set(me, Component::Send(true)),
+        2 | 21 => Act::Set(me, Component::Receive(true)),
+        3 => Act::Set(me, Component::Print(true)),
+        4 | 9 | 14 | 19 | 24 | 30 => Act::Send(me, other, value),
+        5 => Act::Send(me, me, value),
+        6 | 22 | 23 | 26 | 31 => Act::Receive(me, Want::First),
+        8 => Act::Receive(me, Want::From(other)),
+        10 => Act::Receive(me, Want::Value(value)),
+        11 => Act::Receive(me, Want::Place(value)),
+        12 => Act::Print(me, value),
+        13 => Act::PrintAt(me, Label((value % 2) as u32), value),
+        15 => Act::Look(me),
+        16 => Act::Restore(me, token(other, value)),
+        18 => Act::Clear(me),
+        25 => Act::Set(me, Component::Label(Label((value % 2) as u32))),
+        28 => Act::Set(me, Component::Print(value != 0)),
+        _ => Act::Look(me),
+    }
+}
+
+/// A token that a process may have kept from before.
+fn token(from: Pid, value: u64) -> Token {
+    Token {
+        label: Label((value % 2) as u32),
+        flags: Flags {
+            send: true,
+            receive: value % 2 == 0,
+            print: true,
+        },
+        serial: Serial {
+            prev: value,
+            this: value + 1,
+        },
+        from,
+    }
+}
+
+/// A number that looks random, of a process and the number of its act.
+fn mixed(me: Pid, n: u64) -> u64 {
+    let seed = u64::from(me.node()) * 65_536 + u64::from(me.number());
+    let first = seed
+        .wrapping_mul(0x9E37_79B9_7F4A_7C15)
+        .wrapping_add(n.wrapping_mul(0xD1B5_4A32_D192_ED03));
+    (first ^ (first >> 29)).wrapping_mul(0xBF58_476D_1CE4_E5B9) >> 16
+}
