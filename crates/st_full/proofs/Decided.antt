@@ -121,7 +121,8 @@ module _ (top : ℕ) where
       }
 
   Completes : ℕ → Type 0
-  Completes n = (streams : List Stream) → IsGood top streams → lacking streams ≡ n → IsCompleted IsNeedless top streams
+  Completes n = (streams : List Stream) → IsGood top streams → ((v : ℕ) → IsSupplied streams v) → lacking streams ≡ n
+      → IsCompleted IsNeedless top streams
 
   -- a need that a reported send serves
   by_send : (n : ℕ) → Completes n → (streams : List Stream) (good : IsGood top streams) → lacking streams ≡ suc n
