@@ -30,6 +30,8 @@ pub mod Sending
 pub mod Starting
 pub mod Filling
 pub mod Serving
+pub mod Taking
+pub mod Sharing
 pub mod Decided
 pub mod Deciding
 pub mod ForCallers

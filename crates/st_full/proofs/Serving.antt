@@ -119,7 +119,7 @@ module _ (top : ℕ) (s : Supply) where
     free_stamp = stamp_none (stamp_of streams s.from v)
         (and_parts (is_none (receive_of streams s.from v)) (is_none (stamp_of streams s.from v)) free).1
 
-  own_stamp : (streams : List Stream) → IsOwn streams s → (f : ℕ × Event)
+  pub own_stamp : (streams : List Stream) → IsOwn streams s → (f : ℕ × Event)
       × (stamp_of streams s.from (count_of s) ≡ Some f)
   own_stamp streams own = elim (stamp_of streams s.from (count_of s)) as (λ o.
       (is_none (receive_of streams s.from (count_of s)) && stamp_passes (sends_to s.to) o) ≡ true
@@ -176,14 +176,14 @@ module _ (top : ℕ) where
 
   ready_still : (before after : List Stream) (s : Supply) → IsStep top before after s → (ss : List Supply)
       → Apart s.from (count_of s) ss → AllByRecursion (IsReady before) ss → AllByRecursion (IsReady after) ss
-  ready_still before after s done [] apart all = tt
-  ready_still before after s done (t ∷ ss) apart all =
+  ready_still before next s done [] apart all = tt
+  ready_still before next s done (t ∷ ss) apart all =
       let other = differs_swap s t apart.0 in (
         elim all.0 [
           | inl own ↦ inl (done.own_else (count_of t) t.to t.from other ∙ own)
           | inr free ↦ inr (done.free_else (count_of t) t.from other ∙ free)
         ],
-        ready_still before after s done ss apart.1 all.1,
+        ready_still before next s done ss apart.1 all.1,
       )
 
   pub all_sent : (ss : List Supply) (ws : List Whole) → IsGood top (all_streams ws)
