@@ -32,6 +32,7 @@ pub mod Filling
 pub mod Serving
 pub mod Taking
 pub mod Sharing
+pub mod Supplies
 pub mod Decided
 pub mod Deciding
 pub mod ForCallers

@@ -3,10 +3,10 @@
 -- then, and is taken from the free ones once.
 use Rattle.std.proofs.Common.{◌≡◌, ◌⊎◌, inl, inr, ℕ, zero, suc, ◌+◌, ◌-◌, ◌<◌, ◌≤◌, ◌==◌, ◌&&◌, ◌||◌, Bool, true, false, cond}
 use Rattle.std.proofs.Common.{List, [], ◌∷◌, ◌++◌, filter, length, take, drop, Option, Some, None, is_none, not, sum_by}
-use Rattle.std.proofs.Common.{refl, sym, ◌∙◌, ap, subst, arith, length-append}
+use Rattle.std.proofs.Common.{refl, sym, ◌∙◌, ap, subst, arith, length-append, length-drop}
 use Rattle.std.specs.List.{AllByRecursion, count_by}
 use Rattle.std.proofs.lemmas.Bool.{and_from, and_parts, eq-eqb, eqb-true, false≢true}
-use Rattle.std.proofs.lemmas.List.Sums.{length-filter, sum_by-cons}
+use Rattle.std.proofs.lemmas.List.Sums.{length-filter, sum_by-append, sum_by-cons}
 use Rattle.st_core.specs.declared.types.Pid.{Pid}
 use Rattle.st_core.specs.declared.types.Event.{Event}
 use Rattle.st_core.specs.Pid.{pid_eq, IsBelow, IsRising}
@@ -25,11 +25,11 @@ use Rattle.st_full.proofs.Taking.{is_for, one_if}
 
 -- LISTS OF PIDS
 
-abbrev IsNone : Pid → List Pid → Type 0
+abbrev pub IsNone : Pid → List Pid → Type 0
 IsNone q qs = AllByRecursion (λ y. pid_eq q y ≡ false) qs
 
 -- no two are one
-abbrev Different : List Pid → Type 0
+abbrev pub Different : List Pid → Type 0
 Different [] = Unit {0}
 Different (q ∷ qs) = IsNone q qs × Different qs
 
@@ -44,7 +44,7 @@ all_filter P test (x ∷ xs) all =
     ]
 
 -- each passes
-passes_filter : {X : Type 0} (test : X → Bool) (xs : List X) → AllByRecursion (λ x. test x ≡ true) (filter test xs)
+pub passes_filter : {X : Type 0} (test : X → Bool) (xs : List X) → AllByRecursion (λ x. test x ≡ true) (filter test xs)
 passes_filter test [] = tt
 passes_filter test (x ∷ xs) =
     let rest = passes_filter test xs in
@@ -54,7 +54,7 @@ passes_filter test (x ∷ xs) =
       | false ↦ λ _. rest
     ] refl
 
-all_map : {X : Type 0} (P Q : X → Type 0) → ((x : X) → P x → Q x) → (xs : List X) → AllByRecursion P xs
+pub all_map : {X : Type 0} (P Q : X → Type 0) → ((x : X) → P x → Q x) → (xs : List X) → AllByRecursion P xs
     → AllByRecursion Q xs
 all_map P Q each [] all = tt
 all_map P Q each (x ∷ xs) all = (each x all.0, all_map P Q each xs all.1)
@@ -213,6 +213,11 @@ supplied_count v p z (e ∷ es) (q ∷ qs) enough prevs =
       | false ↦ λ rest one. omega arith
     ] rest one
 
+without_needs : (P : Supply → Type 0) (p : Pid) (es : List Event) (qs : List Pid) → length es ≡ 0
+    → AllByRecursion P (supplied_by p es qs)
+without_needs P p [] qs none = tt
+without_needs P p (e ∷ es) qs none = absurd (omega arith)
+
 -- THE SUPPLIES OF ONE COUNT
 
 -- a supply of v by a listed process to a listed process
@@ -345,3 +350,71 @@ module _ (streams : List Stream) (rising : IsRising (pids_of streams)) (v : ℕ)
       (all_map Later (λ s. Apart s.from (count_of s) later) (λ s all. apart_if s.from (count_of s) later all)
       (supplied_by p (mine p) (own streams v p ++ fs))
       (supplied_all Later v p (mine p) (own streams v p) fs (needs_prev v [] (events_of streams p)) owns frees))
+
+  -- as many as needs
+  count_mine : (z p : Pid) (fs : List Pid) → excess streams v p ≤ length fs
+      → count_by (is_for v z) (supplied_by p (mine p) (own streams v p ++ fs)) ≡ cond (pid_eq p z) (length (mine p)) 0
+  count_mine z p fs enough =
+      let all = length-append (own streams v p) fs in
+      let owns = length-filter (is_own_supply streams v p) (pids_of streams) in
+      let few = needs_length v [] (events_of streams p) in
+      supplied_count v p z (mine p) (own streams v p ++ fs) (omega arith) (needs_prev v [] (events_of streams p))
+
+  -- and each takes as many free ones as it lacks
+  enough_left : (p : Pid) (fs ps : List Pid) → sum_by (excess streams v) (p ∷ ps) ≤ length fs
+      → (excess streams v p ≤ length fs)
+      × (sum_by (excess streams v) ps ≤ length (drop (length (mine p) - length (own streams v p)) fs))
+  enough_left p fs ps enough =
+      let n = length (mine p) - length (own streams v p) in
+      let sum = sum_by-cons (excess streams v) p ps in
+      let owns = length-filter (is_own_supply streams v p) (pids_of streams) in
+      let few = needs_length v [] (events_of streams p) in
+      let rest = length-drop n fs in
+      (omega arith, omega arith)
+
+  pub count_none : (z : Pid) (fs ps : List Pid) → AllByRecursion (λ p. pid_eq p z ≡ false) ps
+      → sum_by (excess streams v) ps ≤ length fs → count_by (is_for v z) (supplies_of streams v fs ps) ≡ 0
+  count_none z fs [] others enough = refl
+  count_none z fs (p ∷ ps) others enough =
+      let n = length (mine p) - length (own streams v p) in
+      let parts = enough_left p fs ps enough in
+      let here = count_mine z p fs parts.0 ∙ ap (λ b. cond b (length (mine p)) 0) others.0 in
+      let rest = count_none z (drop n fs) ps others.1 parts.1 in
+      let sum = sum_by-append (λ t. one_if (is_for v z t)) (supplied_by p (mine p) (own streams v p ++ fs))
+      (supplies_of streams v (drop n fs) ps) in
+      omega arith
+
+  pub count_all : (z : Pid) (fs ps : List Pid) → IsRising ps → is_among ps z ≡ true
+      → sum_by (excess streams v) ps ≤ length fs
+      → count_by (is_for v z) (supplies_of streams v fs ps) ≡ needs streams v z
+  count_all z fs [] up among enough = absurd (false≢true among)
+  count_all z fs (p ∷ ps) up among enough =
+      let n = length (mine p) - length (own streams v p) in
+      let parts = enough_left p fs ps enough in
+      let later = supplies_of streams v (drop n fs) ps in
+      let sum = sum_by-append (λ t. one_if (is_for v z t)) (supplied_by p (mine p) (own streams v p ++ fs)) later in
+      elim (pid_eq p z) as (λ b. pid_eq p z ≡ b → (b || is_among ps z) ≡ true
+      → count_by (is_for v z) (supplies_of streams v fs (p ∷ ps)) ≡ needs streams v z) [
+        | true ↦ λ same _.
+            let who = pid_same p z same in
+            let here = count_mine z p fs parts.0 ∙ ap (λ b. cond b (length (mine p)) 0) same in
+            let mine_are : length (mine p) ≡ needs streams v z =
+            needs_length v [] (events_of streams p) ∙ ap (needs streams v) who in
+            let rest = count_none z (drop n fs) ps (all_map (IsBelow p) (λ x. pid_eq x z ≡ false)
+            (λ x below. pid_eq-swap x z ∙ ap (λ y. pid_eq y x) (sym who) ∙ IsBelow-apart p x below) ps up.0) parts.1 in
+            omega arith
+        | false ↦ λ other among.
+            let here = count_mine z p fs parts.0 ∙ ap (λ b. cond b (length (mine p)) 0) other in
+            let rest = count_all z (drop n fs) ps up.1 among parts.1 in
+            omega arith
+      ] refl among
+
+  -- without needs there are none
+  pub no_supplies : (P : Supply → Type 0) → ((p : Pid) → needs streams v p ≡ 0) → (fs ps : List Pid)
+      → AllByRecursion P (supplies_of streams v fs ps)
+  no_supplies P none fs [] = tt
+  no_supplies P none fs (p ∷ ps) =
+      let n = length (mine p) - length (own streams v p) in
+      all_both P (supplied_by p (mine p) (own streams v p ++ fs)) (supplies_of streams v (drop n fs) ps)
+      (without_needs P p (mine p) (own streams v p ++ fs) (needs_length v [] (events_of streams p) ∙ none p))
+      (no_supplies P none (drop n fs) ps)
