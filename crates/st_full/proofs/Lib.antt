@@ -11,7 +11,6 @@ pub mod Exactly
 pub mod Needless
 pub mod Feeding
 pub mod Inventing
-pub mod Composing
 pub mod Accepting
 pub mod Putting
 pub mod Meeting
@@ -28,13 +27,17 @@ pub mod SameNames
 pub mod Renumbering
 pub mod Ranks
 pub mod Reporting
-pub mod Counting
 pub mod Asking
 pub mod Placing
 pub mod Good
 pub mod Receiving
 pub mod Sending
 pub mod Starting
+pub mod Filling
+pub mod Serving
+pub mod Taking
+pub mod Sharing
+pub mod Supplies
 pub mod Decided
 pub mod Deciding
 pub mod Choosing

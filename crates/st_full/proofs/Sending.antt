@@ -1,57 +1,48 @@
--- A need that nobody's reported send serves: a process that is free for its prev gets an untold send of it, to the
--- process that has the need. The streams stay good, and the send is one that nobody is told to have received: the
--- process that has the need lacks one sender less, and one process less is free.
-use Rattle.std.proofs.Common.{◌≡◌, ◌≢◌, ℕ, ◌+◌, ◌<◌, ◌==◌, ◌&&◌, Bool, true, false, cond, List, []}
-use Rattle.std.proofs.Common.{◌∷◌, ◌++◌, take, drop, Option, Some, None, inl, inr, is_none, not, sum_by}
-use Rattle.std.proofs.Common.{refl, sym, ◌∙◌, ap, subst, arith}
-use Rattle.std.specs.List.{count_by}
-use Rattle.std.proofs.lemmas.Bool.{cases_lt, eqb-true, false≢true, and_parts, and_from}
+-- The send of a process that is free for a count: put in where its counts pass this one, it leaves the streams good, with
+-- the needs that they had. It is one that nobody is told to have received, and what else is told of messages stays.
+use Rattle.std.proofs.Common.{◌≡◌, ◌≢◌, ◌≤◌, ℕ, ◌<◌, ◌==◌, ◌&&◌, Bool, true, false, cond, List, []}
+use Rattle.std.proofs.Common.{◌∷◌, ◌++◌, take, drop, Option, Some, None, is_none, not}
+use Rattle.std.proofs.Common.{refl, sym, ◌∙◌, ap, subst}
+use Rattle.std.proofs.lemmas.Bool.{false≢true, and_parts, and_from}
 use Rattle.st_core.specs.declared.types.Pid.{Pid}
 use Rattle.st_core.specs.declared.types.Kind.TheVariants as kind
+use Rattle.st_core.specs.declared.types.Label.{Label}
 use Rattle.st_core.specs.declared.types.Event.{Event}
 use Rattle.st_core.specs.Pid.{pid_eq}
 use Rattle.st_core.specs.Laws.{IsReportAmong}
 use Rattle.st_core.specs.Run.{Stream, pids_of}
 use Rattle.st_core.specs.Streams.{events_of, lists}
 use Rattle.st_core.specs.Collected.{is_among}
-use Rattle.st_core.proofs.ForCallers.{and_false, pid_eq-refl, pid_eq-swap, pid_same}
+use Rattle.st_core.proofs.ForCallers.{pid_eq-refl, pid_same}
 use Rattle.st_pair.specs.Places.{event_at, is_stamp}
 use Rattle.st_pair.specs.Pairing.{receive_of, stamp_of}
-use Rattle.st_full.specs.Supply.{excess, is_free, is_own_supply, IsSupplied, needs}
+use Rattle.st_full.specs.Supply.{is_free, is_own_supply, needs, needs_from}
 use Rattle.st_full.proofs.Accepting.{FitTogether}
 use Rattle.st_full.proofs.Asking.{events_with, HasStamp, none_stamped, none_taken, passes_with, stamp_is, stamp_passes}
 use Rattle.st_full.proofs.Asking.{taken_with}
-use Rattle.st_full.proofs.Counting.{count_one, sum_one}
 use Rattle.st_full.proofs.Fed.{events}
 use Rattle.st_full.proofs.Feeding.{AreTimely}
-use Rattle.st_full.proofs.Good.{any_event, each, free_is, IsGood, IsLack, lacks, sends_to, sent_with, supplied_alike}
-use Rattle.st_full.proofs.Good.{within_with}
+use Rattle.st_full.proofs.Good.{any_event, free_is, IsGood, sends_to, sent_with, within_with}
 use Rattle.st_full.proofs.Inventing.{HasNo, IsSend, Keeps, send_keeps, send_told, with_send}
-use Rattle.st_full.proofs.Meeting.{counted, counted_of}
-use Rattle.st_full.proofs.Placing.{AllRise, IsPlaced, keeps_counted, keeps_timely, placed_at}
-use Rattle.st_full.proofs.Putting.{fit_with, FitsAt, listed_at, more, new_there, put_all, with_pids}
-use Rattle.st_full.proofs.Receiving.{IsSupply}
+use Rattle.st_full.proofs.Placing.{AllRise, IsPlaced, keeps_needs, keeps_timely, placed_at}
+use Rattle.st_full.proofs.Putting.{fit_with, FitsAt, more, new_there, put_all}
 use Rattle.st_full.proofs.Reporting.{all_from, sound_with}
 use Rattle.st_full.proofs.Shown.{lists_among}
 
-stamp_none : (o : Option (ℕ × Event)) → is_none o ≡ true → o ≡ None
+pub stamp_none : (o : Option (ℕ × Event)) → is_none o ≡ true → o ≡ None
 stamp_none None h = refl
 stamp_none (Some f) h = absurd (false≢true h)
 
-module _ (top : ℕ) (streams : List Stream) (good : IsGood top streams) (p : Pid) (e : Event)
-    (lack : IsLack streams p e) (q : Pid) (listed : lists streams q ≡ true)
-    (free : is_free streams e.serial.prev q ≡ true)
-    (few : count_by (is_own_supply streams e.serial.prev p) (pids_of streams) < needs streams e.serial.prev p) where
-  abbrev v : ℕ
-  v = e.serial.prev
-
+module _ (top : ℕ) (streams : List Stream) (good : IsGood top streams) (label : Label) (v : ℕ) (above : 0 < v)
+    (high : v ≤ top) (p : Pid) (there : lists streams p ≡ true) (q : Pid) (listed : lists streams q ≡ true)
+    (free : is_free streams v q ≡ true) where
   abbrev es : List Event
   es = events_of streams q
 
   -- the send that is invented
   abbrev pub send : ℕ → Event
   send prev = record {
-    label = e.label;
+    label = label;
     kind = kind.Send;
     serial = record { prev = prev; this = v };
     from = q;
@@ -81,16 +72,6 @@ module _ (top : ℕ) (streams : List Stream) (good : IsGood top streams) (p : Pi
 
   all_rise : AllRise es
   all_rise = all_from (λ d. d.serial.prev < d.serial.this) es (λ k d at. good.fit.rises q k d at)
-
-  -- no need is one of 0
-  above : 0 < v
-  above = elim (cases_lt 0 v) [
-    | inl less ↦ less
-    | inr not_less ↦
-        let zero_is : v ≡ 0 = omega arith in
-        let none = ap (λ n. needs streams n p) zero_is ∙ good.founded p in
-        absurd (omega arith)
-  ]
 
   pub place : IsPlaced send v [] es
   place = placed_at send v [] es above above (good.timely q) has_no all_rise
@@ -131,7 +112,7 @@ module _ (top : ℕ) (streams : List Stream) (good : IsGood top streams) (p : Pi
     own = and_from (pid_eq q q) true (pid_eq-refl q) refl;
     names = and_from (is_among (pids_of streams) q) (is_among (pids_of streams) p)
         (sym (lists_among streams q) ∙ listed)
-        (sym (lists_among streams p) ∙ listed_at streams p lack.index e lack.at);
+        (sym (lists_among streams p) ∙ there);
   }
 
   -- THE EVENTS OF q
@@ -159,26 +140,14 @@ module _ (top : ℕ) (streams : List Stream) (good : IsGood top streams) (p : Pi
   ] refl
 
   -- exactly the needs that there were are needs
-  counted_sent : (pick : ℕ → Bool) (y : Pid)
-      → counted pick [] (events_of sent y) ≡ counted pick [] (events_of streams y)
-  counted_sent pick y = elim (pid_eq y q) as (λ b. pid_eq y q ≡ b
-      → counted pick [] (events_of sent y) ≡ counted pick [] (events_of streams y)) [
-        | false ↦ λ other. ap (counted pick []) (others_are y other)
-        | true ↦ λ same. subst (λ z. counted pick [] (events_of sent z) ≡ counted pick [] (events_of streams z))
-            (sym (pid_same y q same))
-            (ap (counted pick []) after_is
-            ∙ keeps_counted pick [] [] (with_send send v [] es) keeps
-            ∙ ap (counted pick []) (send_told send v [] es))
-      ] refl
-
-  pub lacks_same : (y : Pid) → lacks sent y ≡ lacks streams y
-  lacks_same y = counted_sent each y
-
   pub needs_same : (w : ℕ) (y : Pid) → needs sent w y ≡ needs streams w y
-  needs_same w y =
-      sym (counted_of w [] (events_of sent y))
-      ∙ counted_sent (λ n. n == w) y
-      ∙ counted_of w [] (events_of streams y)
+  needs_same w y = elim (pid_eq y q) as (λ b. pid_eq y q ≡ b → needs sent w y ≡ needs streams w y) [
+    | false ↦ λ other. ap (needs_from w []) (others_are y other)
+    | true ↦ λ same. subst (λ z. needs sent w z ≡ needs streams w z) (sym (pid_same y q same))
+        (ap (needs_from w []) after_is
+        ∙ keeps_needs w [] [] (with_send send v [] es) keeps
+        ∙ ap (needs_from w []) (send_told send v [] es))
+  ] refl
 
   -- SUPPLIES
 
@@ -205,13 +174,13 @@ module _ (top : ℕ) (streams : List Stream) (good : IsGood top streams) (p : Pi
       passes_with q k x streams listed place.within test y w
       (λ same. sym (ap (λ b. b && v == w) (ap (λ z. pid_eq z q) same ∙ pid_eq-refl q)) ∙ else_one)
 
-  own_else : (w : ℕ) (z y : Pid) → (pid_eq y q && v == w) ≡ false
+  pub own_else : (w : ℕ) (z y : Pid) → (pid_eq y q && v == w) ≡ false
       → is_own_supply sent w z y ≡ is_own_supply streams w z y
   own_else w z y else_one =
       ap (λ b. b && stamp_passes (sends_to z) (stamp_of sent y w)) (taken_same w y)
       ∙ ap (λ b. is_none (receive_of streams y w) && b) (passes_else (sends_to z) w y else_one)
 
-  free_else : (w : ℕ) (y : Pid) → (pid_eq y q && v == w) ≡ false → is_free sent w y ≡ is_free streams w y
+  pub free_else : (w : ℕ) (y : Pid) → (pid_eq y q && v == w) ≡ false → is_free sent w y ≡ is_free streams w y
   free_else w y else_one =
       free_is sent w y
       ∙ ap (λ b. b && not (stamp_passes any_event (stamp_of sent y w))) (taken_same w y)
@@ -221,96 +190,9 @@ module _ (top : ℕ) (streams : List Stream) (good : IsGood top streams) (p : Pi
   untaken_still : is_none (receive_of sent q v) ≡ true
   untaken_still = taken_same v q ∙ untaken
 
-  own_now : is_own_supply sent v p q ≡ true
+  pub own_now : is_own_supply sent v p q ≡ true
   own_now = and_from (is_none (receive_of sent q v)) (stamp_passes (sends_to p) (stamp_of sent q v)) untaken_still
       (stamp_is sent fit_sent q v stamp (sends_to p) ∙ pid_eq-refl p)
-
-  own_not : (z : Pid) → pid_eq z p ≡ false → is_own_supply sent v z q ≡ false
-  own_not z other =
-      ap (λ b. is_none (receive_of sent q v) && b)
-      (stamp_is sent fit_sent q v stamp (sends_to z) ∙ pid_eq-swap p z ∙ other)
-      ∙ and_false (is_none (receive_of sent q v)) false refl
-
-  own_never : (z : Pid) → is_own_supply streams v z q ≡ false
-  own_never z =
-      ap (λ o. is_none (receive_of streams q v) && stamp_passes (sends_to z) o) unstamped
-      ∙ and_false (is_none (receive_of streams q v)) false refl
-
-  own_others : (z y : Pid) → pid_eq z p ≡ false → is_own_supply sent v z y ≡ is_own_supply streams v z y
-  own_others z y other = elim (pid_eq y q) as (λ b. pid_eq y q ≡ b
-      → is_own_supply sent v z y ≡ is_own_supply streams v z y) [
-        | false ↦ λ else_one. own_else v z y (ap (λ b. b && v == v) else_one)
-        | true ↦ λ same. subst (λ t. is_own_supply sent v z t ≡ is_own_supply streams v z t)
-            (sym (pid_same y q same)) (own_not z other ∙ sym (own_never z))
-      ] refl
-
-  free_gone : is_free sent v q ≡ false
-  free_gone =
-      free_is sent v q
-      ∙ ap (λ b. is_none (receive_of sent q v) && not b) (stamp_is sent fit_sent q v stamp any_event)
-      ∙ and_false (is_none (receive_of sent q v)) false refl
-
-  -- COUNTS
-
-  abbrev owns : List Stream → ℕ → Pid → ℕ
-  owns ss w z = count_by (is_own_supply ss w z) (pids_of ss)
-
-  pids_same : pids_of sent ≡ pids_of streams
-  pids_same = with_pids q k x streams
-
-  among : is_among (pids_of streams) q ≡ true
-  among = sym (lists_among streams q) ∙ listed
-
-  owns_alike : (w : ℕ) (z : Pid) → ((y : Pid) → is_own_supply sent w z y ≡ is_own_supply streams w z y)
-      → owns sent w z ≡ owns streams w z
-  owns_alike w z alike = λ j. count_by (λ y. alike y j) (pids_same j)
-
-  owns_more : owns sent v p ≡ owns streams v p + 1
-  owns_more =
-      ap (count_by (is_own_supply sent v p)) pids_same
-      ∙ count_one (is_own_supply sent v p) (is_own_supply streams v p) q own_now (own_never p)
-      (λ y other. own_else v p y (ap (λ b. b && v == v) other)) (pids_of streams) good.sound.draft.rising among
-
-  frees_less : count_by (is_free streams v) (pids_of streams) ≡ count_by (is_free sent v) (pids_of sent) + 1
-  frees_less =
-      count_one (is_free streams v) (is_free sent v) q free free_gone
-      (λ y other. sym (free_else v y (ap (λ b. b && v == v) other))) (pids_of streams) good.sound.draft.rising among
-      ∙ ap (λ ps. count_by (is_free sent v) ps + 1) (sym pids_same)
-
-  excess_less : excess streams v p ≡ excess sent v p + 1
-  excess_less =
-      let one = needs_same v p in
-      let two = owns_more in
-      omega arith
-
-  excess_others : (z : Pid) → pid_eq z p ≡ false → excess streams v z ≡ excess sent v z
-  excess_others z other =
-      let one = needs_same v z in
-      let two = owns_alike v z (λ y. own_others z y other) in
-      omega arith
-
-  supplied_here : IsSupplied sent v
-  supplied_here =
-      let sums = sum_one (excess streams v) (excess sent v) p excess_less excess_others (pids_of streams)
-      good.sound.draft.rising (sym (lists_among streams p) ∙ listed_at streams p lack.index e lack.at) in
-      let same : sum_by (excess sent v) (pids_of sent) ≡ sum_by (excess sent v) (pids_of streams) =
-      ap (sum_by (excess sent v)) pids_same in
-      let frees = frees_less in
-      let before = good.supplied v in
-      omega arith
-
-  supplied_sent : (w : ℕ) → IsSupplied sent w
-  supplied_sent w = elim (v == w) as (λ b. v == w ≡ b → IsSupplied sent w) [
-    | true ↦ λ same. subst (IsSupplied sent) (eqb-true v w same) supplied_here
-    | false ↦ λ other.
-        let apart = λ (y : Pid). ap (λ b. pid_eq y q && b) other ∙ and_false (pid_eq y q) false refl in
-        supplied_alike streams sent w (sym pids_same)
-        (λ z.
-        let one = needs_same w z in
-        let two = owns_alike w z (λ y. own_else w z y (apart y)) in
-        omega arith)
-        (λ y. sym (free_else w y (apart y))) (good.supplied w)
-  ] refl
 
   pub good_sent : IsGood top sent
   good_sent = record {
@@ -318,12 +200,6 @@ module _ (top : ℕ) (streams : List Stream) (good : IsGood top streams) (p : Pi
     fit = fit_sent;
     sent = sent_with q k x streams place.within good.sent (λ receives. absurd (false≢true (sym receives)));
     timely = timely_sent;
-    within = within_with q k x streams top place.within good.within
-        (let less = good.fit.rises p lack.index e lack.at in let high = good.within p lack.index e lack.at in omega arith);
+    within = within_with q k x streams top place.within good.within high;
     founded = λ y. needs_same 0 y ∙ good.founded y;
-    supplied = supplied_sent;
   }
-
-  -- and the send serves the need
-  pub supply_sent : IsSupply sent v p q
-  supply_sent = record { stamp = stamp; untaken = untaken_still; sends = refl; to = refl }
