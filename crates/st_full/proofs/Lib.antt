@@ -38,6 +38,7 @@ pub mod Serving
 pub mod Taking
 pub mod Sharing
 pub mod Supplies
+pub mod Seeking
 pub mod Decided
 pub mod Deciding
 pub mod Choosing

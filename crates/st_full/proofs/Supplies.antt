@@ -21,7 +21,8 @@ use Rattle.st_full.specs.Completion.{count_of, supplies, supplies_below, supplie
 use Rattle.st_full.specs.Supply.{is_free, IsSupplied, needs, needs_from}
 use Rattle.st_full.proofs.Asking.{unlisted_events}
 use Rattle.st_full.proofs.Meeting.{need_low}
-use Rattle.st_full.proofs.Serving.{AllApart, Apart, differs, IsReady, IsServed}
+use Rattle.st_full.proofs.Sending.{IsServed}
+use Rattle.st_full.proofs.Serving.{AllApart, Apart, differs, IsReady}
 use Rattle.st_full.proofs.Sharing.{all_apart, all_both, all_filter, all_map, all_parts, apart_both, count_all, different_filter}
 use Rattle.st_full.proofs.Sharing.{IsPart, no_supplies, passes_filter}
 use Rattle.st_full.proofs.Shown.{lists_among}
@@ -35,7 +36,7 @@ greatest_take zero es = omega arith
 greatest_take (suc i) [] = omega arith
 greatest_take (suc i) (e ∷ es) = let rest = greatest_take i es in omega arith
 
-abbrev highest : List Stream → ℕ
+abbrev pub highest : List Stream → ℕ
 highest streams = greatest (map (λ x. greatest_count x.events) streams)
 
 greatest_among : (streams : List Stream) (p : Pid) → greatest_count (events_of streams p) ≤ highest streams
@@ -49,7 +50,7 @@ greatest_among (x ∷ streams) p =
     ]
 
 -- needs of higher counts there are none
-none_high : (streams : List Stream) (v : ℕ) (p : Pid) → highest streams ≤ v → needs streams v p ≡ 0
+pub none_high : (streams : List Stream) (v : ℕ) (p : Pid) → highest streams ≤ v → needs streams v p ≡ 0
 none_high streams v p high = elim (cases_lt 0 (needs streams v p)) [
   | inr not_less ↦ omega arith
   | inl less ↦
