@@ -3,7 +3,7 @@
 -- have counts.
 use Rattle.std.proofs.Common.{◌≡◌, ℕ, ◌*◌, ◌<◌, ◌≤◌, Bool, true, List, [], ◌∷◌, length, map, refl, sym}
 use Rattle.std.proofs.Common.{subst, arith, Some, slice_get}
-use Rattle.std.specs.Prelude.{All, Contains, zip, count_by}
+use Rattle.std.specs.Prelude.{All, zip, count_by}
 use Rattle.std.specs.List.{list_all}
 use Rattle.std.proofs.lemmas.List.{length-map}
 use Rattle.std.proofs.lemmas.List.Elements.{All-nil, All-cons, All-filter, filter_passes}
@@ -77,10 +77,10 @@ zipped (p ∷ ps) xs =
     All-cons (λ (x : Pid × List Act). x.1 ≡ acts_by x.0 xs) (p, acts_by p xs) (zip ps (scripts_of ps xs)) refl
     (zipped ps xs)
 
-script_is : (ps : List Pid) (xs : List Act) (p : Pid) (script : List Act)
-    → Contains (zip ps (scripts_of ps xs)) (p, script) → script ≡ acts_by p xs
-script_is ps xs p script c =
-    subst (λ (x : Pid × List Act). x.1 ≡ acts_by x.0 xs) c.2 (zipped ps xs c.0 (p, script) c.1)
+script_is : (ps : List Pid) (xs : List Act) (p : Pid) (script : List Act) (k : ℕ)
+    → slice_get (zip ps (scripts_of ps xs)) k ≡ Some (p, script) → script ≡ acts_by p xs
+script_is ps xs p script k at =
+    All_at (λ (x : Pid × List Act). x.1 ≡ acts_by x.0 xs) (zip ps (scripts_of ps xs)) k (p, script) at (zipped ps xs)
 
 -- its acts are that process's, and each is among those of the text, so that its actor and receiver are listed
 own_act : (xs : List Act) (p : Pid) (n : ℕ) (a : Act) → slice_get (acts_by p xs) n ≡ Some a → actor a ≡ p
@@ -116,12 +116,12 @@ module _ (bytes : List ℕ) (streams : List Stream) (acts : List Act) (s : Spell
   stray act.NotYours h =
       let w = h.1 in
       let at = subst (λ (script : List Act). slice_get script n ≡ Some w.refused.asked)
-      (script_is (pids_of streams) acts p w.script w.scripted) w.refused.place in
+      (script_is (pids_of streams) acts p w.script w.number w.scripted) w.refused.place in
       absurd (w.refused.not_yours.0 refl (own_act acts p n w.refused.asked at))
   stray act.Unknown h =
       let w = h.1 in
       let at = subst (λ (script : List Act). slice_get script n ≡ Some w.refused.asked)
-      (script_is (pids_of streams) acts p w.script w.scripted) w.refused.place in
+      (script_is (pids_of streams) acts p w.script w.number w.scripted) w.refused.place in
       let known = known_act (pids_of streams) acts p n w.refused.asked s.text.bundle.listed at in
       let unknown = (w.refused.unknown.0 refl).1 in
       absurd (cc)

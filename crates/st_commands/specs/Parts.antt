@@ -72,7 +72,7 @@ pub data ReplaysTo (streams : List Stream) (acts : List Act) : Output → Type 0
 
 -- what the acts come to as scripts of the streams' processes
 pub data DrivesTo (streams : List Stream) (acts : List Act) : Output → Type 0 where
-  Records : (r : Record) → IsDriven top (pids_of streams) (scripts_of (pids_of streams) acts) r
+  Records : (r : Record) → IsDriven top ranks (pids_of streams) (scripts_of (pids_of streams) acts) r
       → DrivesTo streams acts (record_output r)
   Refuses : (f : DriveFault) → IsDriveFault top ranks (pids_of streams) (scripts_of (pids_of streams) acts) f
       → DrivesTo streams acts (drive_refused f)

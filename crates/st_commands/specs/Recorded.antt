@@ -33,7 +33,7 @@ pub record HasRecord (bytes : List ℕ) (r : Record) : Type 0 where
   pub streams : List Stream
   pub acts : List Act
   pub spelled : Spells bytes streams (Some acts)
-  pub driven : IsDriven top (pids_of streams) (scripts_of (pids_of streams) acts) r
+  pub driven : IsDriven top ranks (pids_of streams) (scripts_of (pids_of streams) acts) r
 
 -- ---- no record
 
@@ -58,8 +58,8 @@ pub record HasActs (bytes : List ℕ) : Type 0 where
   pub acts : List Act
   pub spelled : Spells bytes streams (Some acts)
 
--- the bytes spell streams and acts, and at act n of p's script a lock held another process than its own, which no call
--- leaves
+-- The bytes spell streams and acts, and act n of p's script is told to have found another process under a lock than its
+-- own. No call leaves that, which no clause says.
 pub record HasStray (bytes : List ℕ) (p : Pid) (n : ℕ) : Type 0 where
   pub streams : List Stream
   pub acts : List Act
