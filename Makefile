@@ -1,66 +1,81 @@
-# On a fresh machine with the Rattle toolchain:
-#   make try FILE=..   runs the program on an input without its proofs, in about a minute
-#   make demo          proves and builds the program, and runs it on examples/
-#   make test          runs the merge gate
+# `make` alone says what there is. The times were measured on a four-core virtual machine with nothing else to do.
+
+# The programs, each a crate; everything below is made for each of them.
+PROGRAMS = seqaudit
 
 PREFIX ?= /usr/local
-PROGRAM = bin/seqaudit
+COMMAND ?= audit
+FILE ?= examples/collected.txt
 
-.PHONY: test layers test-erlang test-conformance try demo install bench hostile program clean
+# What a program is made of, and what of it runs.
+SOURCES := crates.txt $(shell find crates -path '*/out' -prune -o -type f -print)
+CODE := crates.txt $(filter %.rt,$(SOURCES))
 
-# Every proof from nothing, the wrong bodies, and the tests; then what stands on the program.
-test: layers
+.PHONY: help quick try program demo install test layers docs test-erlang test-conformance bench hostile clean distclean
+.DELETE_ON_ERROR:
+
+help:
+	@awk -F ':.*## ' '/^[a-z-]+:.*## / { printf "make %-18s%s\n", $$1, $$2 }' $(MAKEFILE_LIST)
+
+quick: $(PROGRAMS:%=bin/quick/%) ## builds without proofs, in bin/quick/: small traces, 10,000 acts a second (1 minute)
+
+bin/quick/%: $(CODE)
+	@echo "$* is built without its proofs, in about a minute." >&2
+	@.ci/quick $* $@
+
+# What isn't the program's output goes to standard error. If the program fails, make says `Error` and the program's exit
+# status, and ends with 2 itself, as it always does.
+try: bin/quick/seqaudit ## runs the unproved program: COMMAND=.. FILE=.. (at once; 1 minute the first time)
+	@echo 'An unproved run: "make program" proves seqaudit.' >&2
+	@bin/quick/seqaudit $(COMMAND) < $(FILE)
+
+program: $(PROGRAMS:%=bin/%) ## proves the program and all below it, and builds it in bin/ (15 minutes; after an edit what changed)
+
+bin/%: $(SOURCES)
+	@.ci/prove $*
+	cd crates/$* && rt run -- $$(cat args) < stdin
+	@mkdir -p bin
+	cp crates/$*/out/$* $@
+
+demo: bin/seqaudit ## runs the proved program on examples/ and compares what it writes (seconds, after program)
+	@examples/demo $<
+
+install: $(PROGRAMS:%=bin/%) ## copies the proved program to PREFIX/bin (at once, after program)
+	install -D -t $(DESTDIR)$(PREFIX)/bin $^
+
+test: layers docs ## the merge gate: all proofs from nothing, the wrong bodies, the tests (41 minutes)
 	rt ci
 	@$(MAKE) --no-print-directory test-erlang
 	@$(MAKE) --no-print-directory test-conformance
 
-# Traces of a real Erlang node, where there is one, by the program that was built last.
+# What a crate's proofs cite of another crate's proofs is its module of lemmas for callers alone.
+layers: ## looks which proofs cite another crate's (1 second)
+	@.ci/layers
+
+docs: ## holds names, links and counts in the docs to the sources (2 seconds)
+	@.ci/docs
+
+# Traces of a real Erlang node, if there is one, by the program that was built last.
 test-erlang: BUILT = $(firstword $(wildcard $(CURDIR)/crates/seqaudit/out/seqaudit $(CURDIR)/bin/seqaudit))
-test-erlang:
+test-erlang: ## the tests of erlang/, with the program that was built last (1 minute; needs erl)
 	@if command -v erl >/dev/null; then SEQAUDIT=$(BUILT) $(MAKE) --no-print-directory -C erlang test; \
 	else echo "There is no erl here (Debian's erlang-base): the Erlang tests are skipped."; fi
 
-# The machine beside a real node, by 200 random scripts, and again with each rule of the slow model broken.
+# The machine beside a real node, and again with each rule of the slow model broken.
 test-conformance: BUILT = $(firstword $(wildcard $(CURDIR)/crates/seqaudit/out/seqaudit $(CURDIR)/bin/seqaudit))
-test-conformance:
+test-conformance: ## compares 200 random scripts with a real node (1 minute; needs erl and Python)
 	@if command -v erl >/dev/null && command -v python3 >/dev/null; then \
 	SEQAUDIT=$(BUILT) $(MAKE) --no-print-directory -C erlang conformance conformance-broken RUNS=200; \
 	else echo "There is no erl or no python3 here: the comparison with a real node is skipped."; fi
 
-# What a crate's proofs cite of another crate's proofs is its module of lemmas for callers alone.
-layers:
-	@.ci/layers
-
-# Proves the program and all below it, saying how far it is, and builds it.
-program: $(PROGRAM)
-
-$(PROGRAM): crates.txt $(shell find crates -path '*/out' -prune -o -type f -print)
-	cd crates/seqaudit && rt run -- check < stdin
-	mkdir -p bin
-	cp crates/seqaudit/out/seqaudit $@
-
-# Runs the proved program on the inputs of examples/, and compares what it answers with the files beside them.
-demo: $(PROGRAM)
-	@examples/demo $(PROGRAM)
-
-# Runs the program on one input without proving it first, which takes about a minute. What isn't the program's answer
-# goes to standard error.
-COMMAND ?= audit
-FILE ?= examples/collected.txt
-try:
-	@echo 'An unproved run: the program is built without its proofs. "make demo" proves it first.' >&2
-	@cd crates/seqaudit && rt try -- $(COMMAND) < "$(abspath $(FILE))" || echo "exit status $$?" >&2
-
-install: $(PROGRAM)
-	install -D $(PROGRAM) $(DESTDIR)$(PREFIX)/bin/seqaudit
-
-# Times the commands on bundles of 1,000,000 acts, beside wc -l.
-bench: $(PROGRAM)
+bench: bin/seqaudit ## times the commands on bundles of 1,000,000 acts, beside wc -l (1 minute, after program)
 	bench/run
 
-# Puts the program under faults, tampered text and inputs at the limits (docs/HOSTILE.md), and counts the checks.
-hostile: $(PROGRAM)
+hostile: bin/seqaudit ## faults, tampered text and inputs at the limits, docs/HOSTILE.md (1 minute, after program)
 	bench/hostile
 
-clean:
-	rm -rf bin crates/*/out erlang/ebin erlang/test/ebin erlang/test/out erlang/conformance/ebin
+clean: ## removes what was built; keeps the proofs
+	rm -rf bin erlang/ebin erlang/test/ebin erlang/test/out erlang/conformance/ebin
+
+distclean: clean ## removes the proofs too
+	rm -rf crates/*/out

@@ -51,7 +51,7 @@ fn key_from_last<T>(nodes: &Slab<Node<T>>, ends: Ends, place: u64) -> usize
     key
 }
 
-/// Adds a node with `value` behind the last one, and answers the list's ends from then on.
+/// Adds a node with `value` after the last one, and returns the list's ends from then on.
 pub(crate) fn append<T>(nodes: &mut Slab<Node<T>>, ends: Ends, value: T) -> Ends
     requires room { HasRoomFor nodes.old 1 }
     requires last { 0 < ends.len → ContainsKey nodes.old ends.last }
@@ -83,7 +83,7 @@ pub(crate) fn append<T>(nodes: &mut Slab<Node<T>>, ends: Ends, value: T) -> Ends
     }
 }
 
-/// Takes the node at a place out, and answers the list's ends from then on, and its value.
+/// Takes the node at a place out, and returns the list's ends from then on, and its value.
 pub(crate) fn unlink<T>(nodes: &mut Slab<Node<T>>, ends: Ends, place: u64, key: usize) -> (Ends, T)
     requires chained { IsChained (get nodes.old) ends }
     requires in_range { place < ends.len }
@@ -108,8 +108,8 @@ pub(crate) fn unlink<T>(nodes: &mut Slab<Node<T>>, ends: Ends, place: u64, key: 
     (ends, value)
 }
 
-// Links the node before the place to the one behind it, if there is one before, and answers the list's
-// first key.
+// Links the node before the place to the one after it, if there is one before, and returns the
+// list's first key.
 fn mend_next<T>(
     nodes: &mut Slab<Node<T>>,
     ends: Ends,
@@ -131,8 +131,8 @@ fn mend_next<T>(
     ends.first
 }
 
-// Links the node behind the place to the one before it, if there is one behind, and answers the list's
-// last key.
+// Links the node after the place to the one before it, if there is one after, and returns the
+// list's last key.
 fn mend_previous<T>(
     nodes: &mut Slab<Node<T>>,
     ends: Ends,
@@ -156,7 +156,7 @@ fn mend_previous<T>(
     ends.last
 }
 
-/// The least place whose item `pred` answers with true.
+/// The least place whose item `pred` returns true for.
 pub(crate) fn first_answered<T, F: Fn(&T) -> bool>(
     nodes: &Slab<Node<T>>,
     ends: Ends,

@@ -1,21 +1,21 @@
 //! Lists linked by index, all in one arena.
 //!
-//! [`Lists`] holds a fixed number of lists. Each value stands in a node of one `slab`, so that a node
+//! [`Lists`] holds a fixed number of lists. Each value lies in a node of one `slab`, so that a node
 //! that one list gives back serves the next push on any list. After every call all lists are those
-//! before it with the one change that the call names. Where memory is refused no list has changed, and
+//! before it with the one change that the call names. If memory runs out no list has changed, and
 //! the value that was to be pushed comes back.
 //!
 //! | Call | Cost | Memory |
 //! |---|---|---|
 //! | `new`, `reserve` | as many steps as lists, or as values held | takes some |
-//! | `push_back` | constant, but where the arena grows | takes some where nothing is spare |
+//! | `push_back` | constant, unless the arena grows | takes some if nothing is spare |
 //! | `push_reserved`, `len`, `list_count` | constant | none |
 //! | `get`, `take_at` | as many steps as the place is from the nearer end | none |
 //! | `find_first`, `change_all` | as many steps as the list has items | none |
 //! | `walk` | constant, as is each of its steps | none |
 //!
-//! A node is its value and two indexes. Places and lengths are `u64`, and lists are numbered from 0.
-//! Each call asks that the list's number is below the number of lists, which never changes.
+//! A node is its value and two indexes. Places and lengths are `u64`, and lists are numbered from
+//! 0. Each call requires that the list's number is below the number of lists, which never changes.
 #![tactic(auto)]
 
 mod chain;

@@ -7,7 +7,7 @@ use slab::Slab;
 use std::alloc::{AllocError, AllocFailed, Global};
 use std::marker::Model;
 
-/// A fixed number of lists whose nodes stand in one arena.
+/// A fixed number of lists whose nodes lie in one arena.
 ///
 /// A contract sees the lists, and `spare`: how many more values fit with no allocation.
 #[derive(Drop)]
@@ -61,8 +61,8 @@ impl<T> Lists<T> {
         })
     }
 
-    /// Makes room for `additional` more values, on whichever lists. Nothing changes where there is room
-    /// already.
+    /// Makes room for `additional` more values, on any lists. If there is room already, nothing
+    /// changes.
     pub fn reserve(&mut self, additional: usize) -> Result<(), AllocError>
         ensures room { OnOk result (additional ≤ self.new.spare) }
         ensures succeeds { additional ≤ self.old.spare → IsOk result }
@@ -73,18 +73,18 @@ impl<T> Lists<T> {
         self.nodes.reserve(additional)
     }
 
-    /// Adds `value` at the end of a list, or hands it back where there is no memory.
+    /// Adds `value` at the end of a list, or hands it back if memory runs out.
     pub fn push_back(&mut self, list: usize, value: T) -> Result<(), AllocFailed<T>>
         requires { list < length self.old.lists }
         ensures pushed { OnOk result (
             self.new.lists ≡ slice_set self.old.lists list (list_at self.old list ++ value ∷ [])) }
 
-        // It fails only where nothing was spare, and then no list changes.
+        // It fails only if nothing was spare, and then no list changes.
         ensures succeeds { 0 < self.old.spare → IsOk result }
         ensures lists_stay { OnErr result (self.new.lists ≡ self.old.lists) }
         ensures value_returned { IfErr result (λ failed. failed.value ≡ value) }
 
-        // The push itself takes one spare place. More become spare where the arena grows.
+        // The push itself takes one spare place. More become spare if the arena grows.
         ensures spare { self.old.spare ≤ self.new.spare + 1 }
         ensures had_room { 0 < self.old.spare → self.old.spare ≡ self.new.spare + 1 }
         ensures spare_stays { OnErr result (self.old.spare ≤ self.new.spare) }
@@ -155,7 +155,7 @@ impl<T> Lists<T> {
         Some(value)
     }
 
-    /// The least place of a list whose item `pred` answers with true.
+    /// The least place of a list whose item `pred` returns true for.
     pub fn find_first<F: Fn(&T) -> bool>(&self, list: usize, pred: &F) -> Option<u64>
         requires in_range { list < length self.now.lists }
         requires callable { F.IsAlwaysCallable pred.now }
@@ -164,7 +164,7 @@ impl<T> Lists<T> {
         ensures absent { IfNone result ((place : ℕ) → place < length (list_at self.now list) →
             IsAnswered (FnReturnsAt F.Fn pred.now) (list_at self.now list) place false) }
 
-        // So it is the position that a test has, where `pred` computes that test.
+        // So it is the position that a test has, if `pred` computes that test.
         ensures position { (test : T → Bool) →
             Computes (FnReturnsAt F.Fn pred.now) test (list_at self.now list) →
             result ≡ position test (list_at self.now list) }
@@ -182,7 +182,7 @@ impl<T> Lists<T> {
         ensures changed { AllZip (FnReturnsAt F.Fn change.now)
             (list_at self.old list) (list_at self.new list) }
 
-        // So it is the list mapped by a function, where `change` computes that function.
+        // So it is the list mapped by a function, if `change` computes that function.
         ensures mapped { (function : T → T) →
             Computes (FnReturnsAt F.Fn change.now) function (list_at self.old list) →
             self.new.lists ≡ slice_set self.old.lists list (map function (list_at self.old list)) }

@@ -7,8 +7,8 @@ ghost use Rattle.st_arena.specs.Chain.{SetsNext, SetsPrevious, SetsItem};
 
 use slab::Slab;
 
-/// Stands where a node has no neighbour, or a list no node. It is never followed: a list's length says
-/// where it ends.
+/// The neighbour of a node that has none, and an end of an empty list. It is never followed: a
+/// list's length says where it ends.
 pub(crate) const NONE: usize = usize::MAX;
 
 /// A value of some list, and the keys of the nodes beside it in that list.
@@ -19,7 +19,7 @@ pub(crate) struct Node<T> {
     pub previous: usize,
 }
 
-/// Where a list begins and ends, and how many nodes it has. The keys mean something only where it has
+/// Where a list begins and ends, and how many nodes it has. The keys mean something only if it has
 /// some.
 #[derive(Clone, Copy)]
 pub(crate) struct Ends {

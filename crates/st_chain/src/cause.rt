@@ -10,6 +10,7 @@ pub enum Cause {
     Event(Pid, u64),
     /// Of a receive: a send that nobody reported.
     Hidden,
-    /// Of a send or print: no reported receive, so a trace starts there.
+    /// Of a send or print: no reported receive has that count. It begins a trace, or its cause was
+    /// not reported.
     Start,
 }

@@ -11,7 +11,7 @@ use std::marker::Model;
 /// indexes that are left. Each step is constant.
 #[derive(Drop)]
 pub struct Chain<'a> {
-    // None where no event of the process has the label.
+    // None if no event of the process has the label.
     walk: Option<Walk<'a, u64>>,
 }
 

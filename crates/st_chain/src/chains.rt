@@ -117,8 +117,8 @@ impl<'a> Model for Chains<'a> {
 }
 
 impl<'a> Chains<'a> {
-    /// The chains of streams, by the pairing that was made from them. Refusal 1, the only one: a
-    /// growth was refused.
+    /// The chains of streams, by the pairing that was made from them. Refusal 1, the only one:
+    /// memory ran out.
     pub fn new(
         alloc: Global,
         streams: &'a Streams,
@@ -137,16 +137,15 @@ impl<'a> Chains<'a> {
         })
     }
 
-    /// The indexes of a process's events with this label, rising; none where the process isn't
-    /// listed. Takes no memory; finding the first takes logarithmic time, and each next one constant
-    /// time.
+    /// The indexes of a process's events with this label, rising; none if the process isn't listed.
+    /// Takes no memory; finding the first takes logarithmic time, and each next one constant time.
     pub fn of(&self, pid: Pid, label: Label) -> Chain<'_>
         ensures { result ≡ chain self.now pid label }
     {
         self.table.chain(ChainKey { pid, label })
     }
 
-    /// What the event at this place follows; none where there is no event. Takes no memory.
+    /// What the event at this place follows; none if there is no event. Takes no memory.
     pub fn cause(&self, pid: Pid, index: u64) -> Option<Cause>
         ensures { result ≡ cause_at self.now pid index }
     {
@@ -165,9 +164,9 @@ impl<'a> Chains<'a> {
         }
     }
 
-    /// The event at this place, its cause, and so on until a hidden send or a start; nothing where
-    /// there is no event. It ends: no cause counts more than its event. Refusal 1, the only one: a
-    /// growth was refused.
+    /// The event at this place, its cause, and so on until a hidden send or a start; nothing if
+    /// there is no event. It ends: no cause counts more than its event. Refusal 1, the only one:
+    /// memory ran out.
     pub fn back(&self, alloc: Global, pid: Pid, index: u64) -> Result<Vec<(Pid, u64)>, AllocError>
         ensures { IfOk result (λ v. IsBackFrom self.now (place_at self.now pid index) v.items) }
     {

@@ -20,7 +20,7 @@ pub(crate) struct Charted {
 }
 
 impl Charted {
-    /// The item with its event, if that has the label; none where nothing stands at its place.
+    /// The item with its event, if that has the label; none if no event is at its place.
     pub(crate) fn of(streams: &Streams, label: Label, item: Item) -> Option<Charted>
         ensures { result ≡ charted streams.now label item }
     {
@@ -40,7 +40,7 @@ impl Charted {
         }
     }
 
-    /// Whether the process is where the item happened.
+    /// Whether the item happened at this process.
     pub(crate) fn is_at(&self, pid: Pid) -> bool
         ensures { result ≡ is_at self.now pid }
     {

@@ -180,7 +180,7 @@ fn send_chart<W: ByteSink>(
 }
 
 /// Writes the chart of the items that have this label, in their order: its lanes, and a line for
-/// each. An item at whose place nothing stands has no label and is left out: an item of these
+/// each. An item at whose place there is no event has no label and is left out: an item of these
 /// streams never is. The chains are those of these streams. It takes memory for its lanes alone.
 pub fn chart<W: ByteSink>(
     alloc: Global,

@@ -14,7 +14,7 @@ use st_core::{Kind, Pid};
 use st_order::Item;
 use st_text::{Buffer, put_bytes, put_number, put_serial};
 
-/// Appends the mark where an item happened.
+/// Appends the mark of the lane in which an item happened.
 fn put_letter(buffer: &mut Buffer, item: Item, kind: Kind)
     requires { array_vec_len buffer.old + mark_room ≤ buffer_room }
     ensures { buffer.new.items ≡ buffer.old.items ++ letter item kind }
@@ -103,7 +103,7 @@ fn put_item_words(buffer: &mut Buffer, chains: &Chains, charted: &Charted)
     put_origin(buffer, chains, charted.item);
 }
 
-/// Appends what stands behind the marks.
+/// Appends what follows the marks.
 pub(crate) fn put_item(buffer: &mut Buffer, chains: &Chains, charted: &Charted)
     requires { array_vec_len buffer.old + line_room ≤ buffer_room }
     ensures { buffer.new.items ≡ buffer.old.items ++ ended_line (codes "  " ++ item_words chains.now charted.now) }

@@ -223,7 +223,7 @@ fn send_unfit<W: ByteSink>(
     flush(writer, &mut buffer)
 }
 
-/// Writes what was found: the text of the bundle with its acts where the streams fit; else the place
+/// Writes what was found: if the streams fit, the text of the bundle with its acts; else the place
 /// and the reason, the event there, and what the reason rests on. Takes no memory.
 pub fn report<W: ByteSink>(
     writer: &mut W,

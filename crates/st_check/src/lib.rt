@@ -1,6 +1,6 @@
 //! The exact checker of certificates, and the replay of acts.
 //!
-//! `check` answers the definition's verdict of streams and acts, `replay` what acts report and
+//! `check` returns the definition's verdict of streams and acts, `replay` what acts report and
 //! reply. Both step a `World`; neither reads nor writes text.
 #![tactic(auto)]
 

@@ -29,7 +29,7 @@ pub(crate) struct Progress<const TOP: u64> {
 
 /// Why the next act doesn't pass.
 pub(crate) enum Stop {
-    /// A growth was refused.
+    /// Memory ran out.
     Memory,
     /// It has no step.
     Stuck,
@@ -37,7 +37,7 @@ pub(crate) enum Stop {
     Differs,
 }
 
-/// Why an act stops for want of a step.
+/// Why an act has no step.
 fn stop_of(fault: StepFault) -> Stop
     ensures { result ≡ stop_of fault }
 {
@@ -66,7 +66,7 @@ impl<const TOP: u64> Progress<TOP> {
         })
     }
 
-    /// Takes the act of this number where it passes.
+    /// Takes the act of this number if it passes.
     pub(crate) fn advance(
         &mut self,
         streams: &Streams,
@@ -108,8 +108,8 @@ impl<const TOP: u64> Progress<TOP> {
         Ok(())
     }
 
-    /// Counts the event that the process at this place reported, if it did. False where it isn't
-    /// the next of its events.
+    /// Counts the event that the process at this place reported, if it did. False if it isn't the
+    /// next of its events.
     fn count(&mut self, place: usize, events: &[Event], report: Option<Event>) -> bool
         requires { place < length self.old.counts.items }
         ensures next { IsTrue result ↔

@@ -24,8 +24,8 @@ struct Recording<const TOP: u64> {
     replies: Sequence<Reply>,
 }
 
-/// What the acts report and reply in their run from zero clocks over these processes, where they
-/// have one.
+/// What the acts report and reply in their run from zero clocks over these processes, if they have
+/// one.
 pub fn replay<const TOP: u64>(
     alloc: Global,
     pids: &[Pid],
@@ -81,7 +81,7 @@ impl<const TOP: u64> Recording<TOP> {
         })
     }
 
-    /// Takes the act of this number, and answers whether it has a step.
+    /// Takes the act of this number, and returns whether it has a step.
     fn advance(&mut self, acts: &[Act], number: usize) -> Result<bool, AllocError>
         requires within { number < length acts.now }
         requires recorded { IsReplayedTo TOP (pids_of self.old.streams) (take number acts.now)

@@ -1,4 +1,4 @@
-//! What the checker and the replay answer.
+//! What the checker and the replay return.
 
 use st_core::{Pid, Reply, Sequence, Streams};
 use thiserror::Error;
@@ -22,7 +22,7 @@ pub enum Verdict {
 /// Why there is no verdict.
 #[derive(Clone, Copy, Debug, PartialEq, Eq, Error)]
 pub enum CheckFault {
-    /// Refusal 1: a growth was refused.
+    /// Refusal 1: memory ran out.
     #[error("no memory")]
     Memory,
 }
@@ -39,7 +39,7 @@ pub enum Replayed {
 /// Why acts weren't replayed.
 #[derive(Clone, Copy, Debug, PartialEq, Eq, Error)]
 pub enum ReplayFault {
-    /// Refusal 1, after the other: a growth was refused.
+    /// Refusal 1, after the other: memory ran out.
     #[error("no memory")]
     Memory,
     /// Refusal 2: the pids don't rise strictly.

@@ -56,8 +56,8 @@ pub fn event(
     }
 }
 
-/// What a process keeps after a send or a print: stamped where it has a token. Refusal 1: the clock
-/// is at `TOP`.
+/// What a process keeps after a send or a print: stamped if it has a token. Refusal 1: the clock is
+/// at `TOP`.
 pub fn stamped<const TOP: u64>(me: Pid, local: &Local<TOP>) -> Result<Local<TOP>, ClockFull>
     ensures stamp { result_ok result ≡ stamp_any TOP me local.now }
     ensures fit { IfOk result (λ l. IsMeetable TOP l.token) }
@@ -70,7 +70,7 @@ pub fn stamped<const TOP: u64>(me: Pid, local: &Local<TOP>) -> Result<Local<TOP>
     Ok(local)
 }
 
-/// A print: the stamp, whatever the flag, and its event.
+/// A print: the stamp, with the flag or without, and its event.
 fn print<const TOP: u64>(me: Pid, local: &mut Local<TOP>, value: u64) -> Result<Outcome, ClockFull>
     ensures acted { IfOk result (ActsOutside TOP (Act.Print me value) me local.old local.new) }
     ensures full { OnErr result (HasNoPart TOP (Act.Print me value) me local.old) }
@@ -88,7 +88,7 @@ fn print<const TOP: u64>(me: Pid, local: &mut Local<TOP>, value: u64) -> Result<
     })
 }
 
-/// A print where the token has this label, and else nothing.
+/// A print if the token has this label, and else nothing.
 fn print_at<const TOP: u64>(
     me: Pid,
     local: &mut Local<TOP>,

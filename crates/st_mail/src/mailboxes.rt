@@ -65,8 +65,8 @@ impl Mailboxes {
         Ok(Mailboxes { queues, wiped })
     }
 
-    /// Makes room for `count` more messages, in whichever mailboxes. Nothing changes where there is
-    /// room already. Refusal 1: no memory, only where there isn't.
+    /// Makes room for `count` more messages, in any mailboxes. If there is room already, nothing
+    /// changes. Refusal 1: no memory, only if there isn't.
     pub fn reserve(&mut self, count: usize) -> Result<(), AllocError>
         ensures room { OnOk result (count ≤ self.new.spare) }
         ensures succeeds { count ≤ self.old.spare → IsOk result }
@@ -98,7 +98,7 @@ impl Mailboxes {
         }
     }
 
-    /// Puts a message at the end of the mailbox. Refusal 1: no memory, only where there is no room.
+    /// Puts a message at the end of the mailbox. Refusal 1: no memory, only if there is no room.
     pub fn put(&mut self, mailbox: usize, message: Message) -> Result<(), AllocError>
         requires { mailbox < length self.old.boxes }
         ensures ok { OnOk result (
@@ -117,7 +117,7 @@ impl Mailboxes {
         Ok(())
     }
 
-    /// Puts a message at the end of the mailbox, where there is room for it.
+    /// Puts a message at the end of the mailbox, which has room for it.
     pub fn put_reserved(&mut self, mailbox: usize, message: Message)
         requires within { mailbox < length self.old.boxes }
         requires room { 0 < self.old.spare }
@@ -187,7 +187,7 @@ impl Mailboxes {
         self.queues.find_first(mailbox, &matches)
     }
 
-    /// Takes the message that a receive with this pattern takes, and answers its place and itself.
+    /// Takes the message that a receive with this pattern takes, and returns its place and itself.
     /// Its room is there for the next put on any mailbox.
     pub fn take(&mut self, mailbox: usize, want: &Want) -> Option<(u64, Message)>
         requires { mailbox < length self.old.boxes }

@@ -5,10 +5,10 @@ use st_core::{Event, Reply};
 /// What came of an act.
 #[derive(Clone, Copy, Debug, PartialEq, Eq)]
 pub struct Outcome {
-    /// What the act answers its actor.
+    /// What the act replies to its actor.
     pub reply: Reply,
     /// What the system tracer gets, if the act is reported.
     pub report: Option<Event>,
-    /// Where in its queue a receive took its message, the oldest at place 0.
+    /// The place in its queue from which a receive took its message, the oldest at place 0.
     pub place: Option<u64>,
 }

@@ -20,7 +20,7 @@ pub struct Labelled {
     pub item: Item,
 }
 
-/// The label of the event that an item is about; none where nothing stands at the item's place.
+/// The label of the event that an item is about; none if no event is at the item's place.
 fn label_of(streams: &Streams, item: Item) -> Option<Label>
     ensures { result ≡ label_of streams.now item }
 {
@@ -96,9 +96,9 @@ fn grouped(
     Ok(groups)
 }
 
-/// For each label that an item has, by rising label, the items that have it, in their order; sorted
-/// on several threads, with one answer for every number of threads. An item at whose place nothing
-/// stands has no label and is left out: an item of these streams never is.
+/// For each label that an item has, by rising label, the items that have it, in their order. It is
+/// sorted on several threads, and the result doesn't depend on how many. An item at whose place
+/// there is no event has no label and is left out: an item of these streams never is.
 pub fn by_label(
     rt: &(impl Threads + Sync),
     alloc: Global,

@@ -12,21 +12,21 @@ ghost use Rattle.st_order.specs.declared.item.Item.{Item};
 ghost use Rattle.st_order.specs.Order.{IsOrder, order};
 ghost use Rattle.st_order.specs.Turn.{StampsLead, in_turn, is_event_of};
 
-/// There is one order at most: so `order` answers the same list for every number of threads.
+/// There is one order at most: so `order` returns the same list for every number of threads.
 pub fn one_order()
     ensures { (streams : List Stream) (xs ys : List Item) → IsOrder streams xs → IsOrder streams ys
         → xs ≡ ys }
 {}
 
-/// Where no two receives have one sender and one count there is an order, the computed one. Else two
+/// If no two receives have one sender and one count there is an order, the computed one. Else two
 /// hidden sends could share a key.
 pub fn an_order()
     ensures { (streams : List Stream) → IsRising (pids_of streams) → first (repeated streams) streams ≡ None
         → IsOrder streams (order streams) }
 {}
 
-/// Where each send and print of a process counts more than all its events before it, the order lists
-/// the process's events by rising index, none missing: heights never fall, and where one stays, a
+/// If each send and print of a process counts more than all its events before it, the order lists
+/// the process's events by rising index, none missing: heights never fall, and if one stays, a
 /// receive follows.
 pub fn leading_stamps_keep_turn()
     ensures { (streams : List Stream) (xs : List Item) (p : Pid) → IsRising (pids_of streams)

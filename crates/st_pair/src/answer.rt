@@ -1,4 +1,4 @@
-//! What pairing answers.
+//! What pairing finds: a reason against streams, or the source of a receive.
 
 use st_core::Pid;
 use thiserror::Error;
@@ -11,14 +11,14 @@ use thiserror::Error;
 /// acts without a reset, which sets the counts of a node's processes back to 0.
 #[derive(Clone, Copy, Debug, PartialEq, Eq, Error)]
 pub enum PairFault {
-    /// Refusal 1: a growth was refused. It can come in place of any other answer.
+    /// Refusal 1: memory ran out. It can replace any other result.
     #[error("no memory")]
     Memory,
     /// Refusal 2: the serial of this event doesn't rise: its prev isn't less than its this.
     #[error("a serial doesn't rise")]
     PrevNotBefore(Pid, u64),
     /// Refusal 3: this send or print counts no higher than the last one of its process before it,
-    /// which stands at the second index.
+    /// which is at the second index.
     #[error("the sends and prints of a process don't rise")]
     NotRising(Pid, u64, u64),
     /// Refusal 4: this receive has the sender and the count of the earlier one at the second place.
@@ -30,7 +30,7 @@ pub enum PairFault {
     Mismatch(Pid, u64, Pid, u64),
 }
 
-/// Where the message of a reported receive came from.
+/// What the message of a reported receive came from.
 #[derive(Clone, Copy, Debug, PartialEq, Eq)]
 pub enum Source {
     /// From the send at this place.

@@ -1,9 +1,9 @@
-//! Where a key may stand among sorted rows.
+//! Guesses at where a key is among sorted rows.
 //!
-//! Each receive is looked up several times, and a search by halves in a large table waits for
-//! memory at each step. Counts mostly lie close together, so that a key's count and sender can name
-//! a slot that says where the search would end. That is tested before it is believed, so that no
-//! rule binds the slots, and a wrong guess costs a search.
+//! Each receive is looked up several times, and a binary search in a large table waits for memory
+//! at each step. Counts mostly lie close together, so that a key's count and sender can name a slot
+//! that says where the search would end. That is tested before it is believed, so that no rule
+//! binds the slots, and a wrong guess costs a search.
 
 use crate::tables::{Key, Row};
 use std::alloc::{AllocError, Global};
@@ -97,7 +97,7 @@ impl Guesses {
         }
     }
 
-    /// Where the rows with this key may begin; past all rows where the key is past all slots.
+    /// A guess at where the rows with this key begin; past all rows if the key is past all slots.
     pub fn start_of(&self, key: Key) -> usize {
         match self.starts.get(self.slot_of(key)) {
             None => UNSET as usize,

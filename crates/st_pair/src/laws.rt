@@ -23,35 +23,35 @@ pub fn first_is_least()
         IsStreams streams → first rule streams ≡ Some fault → IsLeast rule streams fault }
 {}
 
-/// Where pairing accepts, a receive is that of a send exactly where the send is that of the receive.
+/// If pairing accepts, a receive is that of a send exactly if the send is that of the receive.
 pub fn sources_and_receivers_agree()
     ensures { (streams : List Stream) → IsStreams streams → refusal streams ≡ None →
         (p : Pid) (i : ℕ) (q : Pid) (j : ℕ) →
         (receiver_at streams q j ≡ Some (p, i)) ↔ (source_at streams p i ≡ Some (source.Event q j)) }
 {}
 
-/// Where pairing accepts, the counts of a process's sends and prints rise, so that each has its own.
+/// If pairing accepts, the counts of a process's sends and prints rise, so that each has its own.
 pub fn stamp_counts_rise()
     ensures { (streams : List Stream) → refusal streams ≡ None →
         (p : Pid) (j i : ℕ) (d e : Event) → j < i → event_at streams p j ≡ Some d → event_at streams p i ≡ Some e →
         is_stamp d ≡ true → is_stamp e ≡ true → d.serial.this < e.serial.this }
 {}
 
-/// Where an event's prev isn't less than its this, no acts show the streams: the serial of every
+/// If an event's prev isn't less than its this, no acts show the streams: the serial of every
 /// report rises.
 pub fn prev_not_before_is_final()
     ensures { (streams : List Stream) (p : Pid) (i : ℕ) →
         refusal streams ≡ Some (fault.PrevNotBefore p i) → NeverShown streams }
 {}
 
-/// Where any of the four reasons stands against streams, no acts without a reset show them: without
-/// one a process stamps no count twice, and ever greater ones.
+/// If any of the four reasons holds of streams, no acts without a reset show them: without one a
+/// process stamps no count twice, and ever greater ones.
 pub fn refusals_are_final_without_reset()
     ensures { (streams : List Stream) (reason : PairFault) →
         refusal streams ≡ Some reason → NeverShownInOneTrace streams }
 {}
 
-/// Where acts without a reset show streams and report every stamp and every receive of a token, no
+/// If acts without a reset show streams and report every stamp and every receive of a token, no
 /// send is hidden: the source of each receive is an event.
 pub fn fully_shown_sends_are_events()
     ensures { (top : ℕ) (streams : List Stream) (acts : List Act) (shows : Shows top streams acts) →

@@ -33,7 +33,7 @@ pub enum Link {
 }
 
 impl Link {
-    /// Of a receive, where its message came from.
+    /// Of a receive, what its message came from.
     fn source(self) -> Option<Source>
         ensures { result ≡ source_in self }
     {
@@ -55,8 +55,8 @@ impl Link {
     }
 }
 
-/// The sources of the receives of streams that no reason stands against, and the receivers of
-/// their sends: 16 bytes an event.
+/// The sources of the receives of streams without a reason against them, and the receivers of their
+/// sends: 16 bytes an event.
 #[derive(Debug, Drop)]
 pub struct Pairing {
     pids: Vec<Pid>,
@@ -85,7 +85,7 @@ impl Pairing {
         }
     }
 
-    /// Where the message of the receive at this place came from; none where there is no receive.
+    /// What the message of the receive at this place came from; none if there is no receive.
     pub fn source(&self, pid: Pid, index: u64) -> Option<Source>
         ensures { (streams : List Stream) → IsPairing streams self.now → result ≡ source_at streams pid index }
     {
@@ -95,7 +95,7 @@ impl Pairing {
         }
     }
 
-    /// The receive that is paired with the send at this place; none where there is no such send.
+    /// The receive that is paired with the send at this place; none if there is no such send.
     pub fn receiver(&self, pid: Pid, index: u64) -> Option<(Pid, u64)>
         ensures { (streams : List Stream) → IsPairing streams self.now → result ≡ receiver_at streams pid index }
     {
@@ -113,7 +113,7 @@ fn read(links: &[Link], index: u64) -> Option<Link>
     links.get(index as usize).copied()
 }
 
-/// Where the pid stands among these, which rise.
+/// The place of the pid among these, which rise.
 fn place_of(pids: &[Pid], pid: Pid) -> Option<usize>
     requires { IsRising pids.now }
     ensures found { IfSome result (λ i. slice_get pids.now i ≡ Some pid) }
@@ -180,7 +180,7 @@ fn all_links(
     Ok(lists)
 }
 
-/// The pairing of streams that no reason stands against.
+/// The pairing of streams without a reason against them.
 fn linked(
     alloc: Global,
     streams: &Streams,
@@ -197,7 +197,7 @@ fn linked(
     Ok(Pairing { pids, links })
 }
 
-/// The tables of streams that no reason stands against.
+/// The tables of streams without a reason against them.
 #[derive(Debug, Drop)]
 struct Tables {
     /// The first receive from each sender with each count.

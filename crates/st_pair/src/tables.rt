@@ -1,7 +1,8 @@
 //! Tables from a sender and a count to the place of the first event that has them.
 //!
 //! A table is a list of rows that a stable sort put in order, 24 bytes a row and no gaps, and
-//! guesses where a key stands in it, at most 8 bytes a row. A hash table of the same keys takes more.
+//! guesses at where a key is in it, at most 8 bytes a row. A hash table of the same keys takes
+//! more.
 
 ghost use Rattle.std.specs.Prelude.{◌≡◌, ◌≤◌, IfOk, IsTrue, OnOk, length, option_and_then, slice_get};
 ghost use Rattle.std.specs.List.Sorted.{IsSortedByKey};
@@ -27,7 +28,7 @@ pub struct Key {
     pub from: Pid,
 }
 
-/// The place of an event, under its sender and count. The fields stand so that they leave no gaps.
+/// The place of an event, under its sender and count. The order of the fields leaves no gaps.
 #[derive(Clone, Copy, Debug)]
 pub struct Row {
     /// The sender.
@@ -116,7 +117,7 @@ impl Table {
 /// How many rows from a guess on are tried, since a few keys may share its slot.
 const TRIES: usize = 4;
 
-/// Where the rows with this key begin, or would: by a guess, else a search by halves.
+/// The place at which the rows with this key begin, or would: by a guess, else a binary search.
 fn start_of(rows: &[Row], guesses: &Guesses, key: Key) -> usize
     requires { IsSortedByKey key_of row_key_cmp rows.now }
     ensures { place_at_key rows.now key ≡ option_and_then (place_under key) (slice_get rows.now result) }

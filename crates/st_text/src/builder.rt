@@ -109,7 +109,7 @@ impl BundleBuilder {
             return Step::Stops(ReadFault::TooMany(n));
         }
         // The draft tests the order again, as it does for each caller; the test above gives the fault its place before
-        // `TooMany`. So this is want of memory.
+        // `TooMany`. So memory ran out.
         let Ok(()) = self.draft.open(pid) else {
             return Step::Halts;
         };
@@ -143,7 +143,7 @@ impl BundleBuilder {
             return Step::Stops(ReadFault::TooMany(n));
         }
         // The draft tests this again, as it does for each caller; the test above gives the fault its place before
-        // `TooMany`. So this is want of memory.
+        // `TooMany`. So memory ran out.
         let Ok(()) = self.draft.add(last, *event) else {
             return Step::Halts;
         };

@@ -1,4 +1,4 @@
-//! A bundle: collected streams, and the acts that are said to have made them, where there are any.
+//! A bundle: collected streams, and the acts that are said to have made them, or none.
 
 ghost use Rattle.std.specs.Prelude.{◌≡◌, IsTrue, IfOk, IfErr, OnOk, Some, None, false, not, position};
 ghost use Rattle.std.specs.List.{list_all};
@@ -64,7 +64,7 @@ fn first_unlisted(streams: &Streams, acts: &[Act]) -> Option<usize>
     )
 }
 
-/// The same where there may be no acts.
+/// The same of acts or none.
 fn unlisted_act(streams: &Streams, acts: &Option<Sequence<Act>>) -> Option<usize>
     ensures { result ≡ unlisted_act streams.now acts.now }
 {
@@ -75,7 +75,7 @@ fn unlisted_act(streams: &Streams, acts: &Option<Sequence<Act>>) -> Option<usize
 }
 
 impl Bundle {
-    /// A bundle of these parts, which come back where an act's actor or receiver isn't listed. Takes no memory.
+    /// A bundle of these parts, which come back if an act's actor or receiver isn't listed. Takes no memory.
     pub fn new(streams: Streams, acts: Option<Sequence<Act>>) -> Result<Bundle, UnknownAct>
         ensures parts { IfOk result (λ b. (b.streams ≡ streams) × (b.acts ≡ acts)) }
         ensures listed { OnOk result (unlisted_act streams acts ≡ None) }

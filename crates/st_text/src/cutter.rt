@@ -1,5 +1,5 @@
-//! Bytes in pieces, cut at their newlines. Whole lines are read where they lie in the piece; of the unfinished line so
-//! much is kept as a line can have. It counts no bytes.
+//! Bytes in pieces, cut at their newlines. Whole lines are read in the piece itself; of the unfinished line no more is
+//! kept than a line can have. It counts no bytes.
 
 ghost use Rattle.std.specs.Prelude.{◌≡◌, ◌<◌, ◌≤◌, ◌++◌, ◌∷◌, ◌||◌, [], List, ℕ, Bool, is_some, None, Some, false};
 ghost use Rattle.std.specs.Prelude.{IfOk, OnOk, OnErr, vec_len, length};
@@ -35,7 +35,7 @@ pub(crate) struct Cutter {
     pub(crate) builder: Option<BundleBuilder>,
     /// The fault of the first faulty line. Later bytes aren't looked at.
     pub(crate) fault: Option<ReadFault>,
-    /// A growth was refused.
+    /// Memory ran out.
     pub(crate) out: bool,
     ghost short: { vec_len tail ≤ longest },
 }
@@ -165,8 +165,7 @@ impl Cutter {
         self.pass_line(&said);
     }
 
-    /// Takes the rest of the unfinished line, and its newline. Most lines lie whole in their piece, and are read where
-    /// they lie.
+    /// Takes the rest of the unfinished line, and its newline. Most lines are whole in their piece, and are read there.
     #[inline(always)]
     fn end_line(&mut self, rest: &[u8])
         requires going { self.old.out ≡ false }
@@ -181,7 +180,7 @@ impl Cutter {
         self.pass_line(&read_line(rest));
     }
 
-    /// Whether a line is faulty or a growth was refused, so that more bytes change nothing.
+    /// Whether a line is faulty or memory ran out, so that more bytes change nothing.
     fn is_over(&self) -> bool
         ensures { result ≡ (self.now.out || is_some self.now.fault) }
     {

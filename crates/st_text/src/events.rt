@@ -69,7 +69,7 @@ fn ends_at(kind: Kind, bytes: &[u8]) -> Option<((Pid, Option<Pid>), &[u8])>
     Some(((from, to), rest))
 }
 
-/// An event behind its first word.
+/// An event after its first word.
 #[tactic(auto, unfolding(crate::specs::Parsing::event_at))]
 pub(crate) fn event_at(bytes: &[u8]) -> Option<(Event, &[u8])>
     ensures { Gives (λ x. (x.0, x.1.now)) result (event_at bytes.now) }

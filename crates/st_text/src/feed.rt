@@ -42,8 +42,8 @@ impl Feed {
         }
     }
 
-    /// Takes the next piece of the text. It answers `TooLarge` (refusal 3) at byte 67,108,865 and `Memory` (refusal 1)
-    /// where a growth was refused, and either again from then on; other faults are told at the end.
+    /// Takes the next piece of the text. It returns `TooLarge` (refusal 3) at byte 67,108,865 and `Memory` (refusal 1)
+    /// if memory runs out, and either again from then on; other faults come at the end.
     pub fn piece(&mut self, piece: &[u8]) -> Result<(), ReadFault>
         // However the text is cut into pieces.
         ensures fed { (bytes : List ℕ) → IsFed bytes self.old → IsFed (bytes ++ piece.now) self.new }

@@ -10,7 +10,7 @@ use crate::bundle::Bundle;
 use crate::fault::ReadFault;
 use st_core::{Draft, Pid};
 
-/// The line of an event, where it is one that a text can have.
+/// The line of an event, if it is one that a text can have.
 fn event_line(draft: &Draft, pid: Pid, index: u64) -> u64
     ensures { event_line_number draft.now pid index < 2 ^ 64 → result ≡ event_line_number draft.now pid index }
 {
@@ -26,7 +26,7 @@ fn event_line(draft: &Draft, pid: Pid, index: u64) -> u64
     n
 }
 
-/// Whether header 2 stands where no line names a pid of another node. A call of its own, for one path in the proof.
+/// Whether the header is 2 though no line names a pid of another node. A call of its own, for one path in the proof.
 fn is_needless(wide: bool, remote: bool) -> bool
     ensures { result ≡ (wide && not remote) }
 {

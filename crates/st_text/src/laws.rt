@@ -25,7 +25,7 @@ pub fn text_or_fault()
     ensures { NoFaultIsText }
 {}
 
-/// The fault of lines is that of the first faulty one, and an unlisted pid is told of the first line that names one.
+/// The fault of lines is that of the first faulty one, and `Unknown` names the first line with an unlisted pid.
 pub fn fault_is_first()
     ensures line { FaultIsFirst }
     ensures unknown { UnknownIsFirst }

@@ -21,7 +21,7 @@ pub enum Line {
     Act(Act),
 }
 
-/// A line that stands once in a text, or once for each process.
+/// A line that a text has once, or once for each process.
 #[tactic(auto, unfolding(crate::specs::Parsing::rare_at))]
 fn rare_at(bytes: &[u8]) -> Option<(Line, &[u8])>
     ensures { Gives (λ x. (x.0, x.1.now)) result (rare_at bytes.now) }

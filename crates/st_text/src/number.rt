@@ -8,10 +8,10 @@ ghost use Rattle.std.specs.Str.Parse.{digits_value};
 ghost use Rattle.st_text.specs.Parts.Words.{Gives};
 ghost use Rattle.st_text.specs.Parsing.{number};
 
-/// Another digit fits behind any number below this one.
+/// Another digit fits after any number below this one.
 const FITS_BELOW: u64 = u64::MAX / 10;
 
-/// The number with another digit behind it, where that fits.
+/// The number with another digit after it, if that fits.
 #[inline(always)]
 fn with_digit(n: u64, digit: u8) -> Option<u64>
     requires { digit < 10 }
@@ -23,7 +23,7 @@ fn with_digit(n: u64, digit: u8) -> Option<u64>
     n.checked_mul(10)?.checked_add(u64::from(digit))
 }
 
-/// What the digits at the front of the bytes are worth, and how many they are, where their worth fits.
+/// The value of the digits at the front of the bytes, and how many they are, if the value fits.
 #[inline(always)]
 fn digits_at(bytes: &[u8]) -> Option<(u64, usize)>
     ensures { let count = prefix_len is_ascii_digit bytes.now in

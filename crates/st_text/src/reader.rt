@@ -16,8 +16,8 @@ const PIECE: u64 = 65_536;
 /// It reads on to the end of the source, a failure (`Device`) or byte 67,108,865 (`TooLarge`), and takes no byte after
 /// that one; so these two come first. Then comes the first faulty line; on one line the order is `Line`, `Order`,
 /// `Foreign`, `TooMany`. Then `Truncated`; then `Line(1)` for a header 2 that no line needs; then `Unknown` for the
-/// first line that names an unlisted pid. `Memory` can stand in place of a bundle and of any of these but the first
-/// two, where the reading had something to keep.
+/// first line that names an unlisted pid. `Memory` can replace a bundle and any of these but the first two, if the
+/// reading had something to keep.
 pub fn read<S: ByteSource>(alloc: Global, source: &mut S) -> Result<Bundle, ReadFault>
     ensures { ReadsSource S.gives S.ended S.failed source.old source.new result }
 {

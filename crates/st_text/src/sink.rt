@@ -43,7 +43,7 @@ pub fn flush<S: ByteSink>(sink: &mut S, buffer: &mut Buffer) -> Result<(), Devic
     Ok(())
 }
 
-/// Makes room for a line: where less is left, what waits is written.
+/// Makes room for a line: if less is left, what waits is written.
 pub fn make_room<S: ByteSink>(sink: &mut S, buffer: &mut Buffer) -> Result<(), Device>
     ensures goes { WritesOn S.puts S.failed [] sink.old sink.new buffer.old.items buffer.new.items result }
     ensures room { OnOk result (array_vec_len buffer.new + line_room ≤ buffer_room) }

@@ -227,7 +227,7 @@ fn put_token(buffer: &mut Buffer, token: &Token)
     put_pid(buffer, token.from);
 }
 
-/// A word, a space, a pid and, where more follows, another space.
+/// A word, a space, a pid and, if more follows, another space.
 fn put_actor(buffer: &mut Buffer, word: &[u8], pid: Pid, space: &[u8])
     requires { array_vec_len buffer.old + length word.now + length space.now + pid_room ≤ buffer_room }
     ensures items { buffer.new.items ≡ buffer.old.items ++ (word.now ++ spelled.pid pid ++ space.now) }

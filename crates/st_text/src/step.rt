@@ -9,6 +9,6 @@ pub(crate) enum Step {
     Goes,
     /// It has this fault.
     Stops(ReadFault),
-    /// A growth was refused.
+    /// Memory ran out.
     Halts,
 }

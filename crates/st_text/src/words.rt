@@ -1,4 +1,4 @@
-//! The words and small values at the front of some bytes: each function answers the value and the bytes after it.
+//! The words and small values at the front of some bytes: each function returns the value and the bytes after it.
 
 ghost use Rattle.st_text.specs.Parts.Words.{Gives};
 ghost use Rattle.st_text.specs.Parsing.{after, bool_at, pid_at, label_at, serial_at, actor_at};
@@ -68,7 +68,7 @@ pub(crate) fn serial_at(bytes: &[u8]) -> Option<(Serial, &[u8])>
     Some((Serial { prev, this }, rest))
 }
 
-/// A pid and the space behind it.
+/// A pid and the space after it.
 #[inline]
 #[tactic(auto, unfolding(crate::specs::Parsing::actor_at))]
 pub(crate) fn actor_at(bytes: &[u8]) -> Option<(Pid, &[u8])>

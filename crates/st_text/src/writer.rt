@@ -91,7 +91,7 @@ fn write_acts<S: ByteSink>(sink: &mut S, buffer: &mut Buffer, acts: &[Act]) -> R
     write_act_list(sink, buffer, acts)
 }
 
-/// Writes all lines behind the header.
+/// Writes all lines after the header.
 fn write_body<S: ByteSink>(
     sink: &mut S,
     buffer: &mut Buffer,
@@ -122,7 +122,7 @@ fn write_lines<S: ByteSink>(
     write_body(sink, buffer, streams, acts)
 }
 
-/// Writes the text of a bundle with these parts: header, streams, and the acts where there are any. Takes no memory.
+/// Writes the text of a bundle with these parts: header, streams, and the acts if there are any. Takes no memory.
 pub fn write_parts<S: ByteSink>(
     sink: &mut S,
     streams: &Streams,

@@ -1,4 +1,5 @@
-//! Acts that touch each process of a node, and no other. Pids rise by node, so these stand in a row.
+//! Acts that touch each process of a node, and no other. Pids rise by node, so these are
+//! neighbours.
 
 ghost use Rattle.std.specs.Prelude.{◌≡◌, List, length, map, None};
 ghost use Rattle.st_core.specs.declared.types.Message.{Message};

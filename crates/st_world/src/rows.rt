@@ -1,5 +1,5 @@
-//! The rows of a world: how they are made, where a pid stands in them, and where the processes of a
-//! node do. The same number stands for one process in each row.
+//! The rows of a world: how they are made, and at which places a pid and the processes of a node
+//! are. The same place is one process's in each row.
 
 ghost use Rattle.std.specs.Prelude.{◌≡◌, nat_le, nat_lt, position, replicate, IfOk};
 ghost use Rattle.st_core.specs.Pid.{node_of, pid_eq, IsRising};

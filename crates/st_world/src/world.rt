@@ -69,7 +69,7 @@ impl<const TOP: u64> World<TOP> {
         })
     }
 
-    /// The token of the process. None where it has none, and where the process is unknown.
+    /// The token of the process. None if it has none, or if the process is unknown.
     pub fn token(&self, pid: Pid) -> Option<Token>
         ensures { result ≡ token_of self.now pid }
     {
@@ -79,7 +79,7 @@ impl<const TOP: u64> World<TOP> {
         self.locals[number].token()
     }
 
-    /// The clock of the process, which is never below its last count nor above `TOP`. None where the
+    /// The clock of the process, which is never below its last count nor above `TOP`. None if the
     /// process is unknown.
     pub fn clock(&self, pid: Pid) -> Option<u64>
         ensures value { result ≡ option_map (λ r. r.local.clock) (process self.now pid) }
@@ -91,8 +91,8 @@ impl<const TOP: u64> World<TOP> {
         Some(self.locals[number].clock())
     }
 
-    /// The last count of the process: that of the last message with a token that it took, or its clock
-    /// where a new trace began after that. It is never above the clock. None where the process is
+    /// The last count of the process: that of the last message with a token that it took, or its
+    /// clock if a new trace began after that. It is never above the clock. None if the process is
     /// unknown.
     pub fn last(&self, pid: Pid) -> Option<u64>
         ensures value { result ≡ option_map (λ r. r.local.last) (process self.now pid) }
@@ -105,8 +105,8 @@ impl<const TOP: u64> World<TOP> {
     }
 
     /// In the queue of the process the least place whose message has a token with this from and
-    /// this own count: that message is from the process that stamped the token. None where there is
-    /// no such message, and where the process is unknown.
+    /// this own count: that message is from the process that stamped the token. None if there is no
+    /// such message, or if the process is unknown.
     pub fn place_of(&self, pid: Pid, from: Pid, this: u64) -> Option<u64>
         ensures value { result ≡ place_in self.now pid from this }
         ensures stamped { IfSome (process self.now pid) (λ r. AreStamped TOP r.queue) }
@@ -117,10 +117,10 @@ impl<const TOP: u64> World<TOP> {
         self.queues.place_of(number, from, this)
     }
 
-    /// One act. An act has a step where its actor is there, with a send's receiver, and where its
-    /// stamp, if it has one, has a value: refusals come in this order. After a refusal the world is
-    /// as before. No act but a send takes memory, so only a send can be refused for want of it; what
-    /// room there is for messages is no part of the state that a contract sees.
+    /// One act. An act has a step if its actor is there, with a send's receiver, and its clock, if
+    /// it stamps, isn't at `TOP`: refusals come in this order. After a refusal the world is as
+    /// before. No act but a send takes memory, so only a send can run out of it; how much room
+    /// there is for messages isn't part of the state that a contract sees.
     pub fn step(&mut self, act: &Act) -> Result<Outcome, StepFault>
         ensures step { IfOk result (λ told. step TOP self.old act.now ≡ Some (outcome_to told self.new)) }
         ensures rises { IfOk result (λ told. IfSome told.report Rises) }
