@@ -17,6 +17,7 @@
 //! | `audits` | `st_audit` |
 //! | `charts` | `st_chart`: charts and reports |
 //! | `commands` | `st_commands`: whole commands, byte for byte |
+//! | `sizes` | all: calls with 100,000 of what they take |
 //! | `collected` | none: texts of streams, and pids, that the others share |
 #![tactic(auto)]
 
@@ -46,6 +47,8 @@ mod pairs;
 mod plans;
 #[cfg(test)]
 mod reads;
+#[cfg(test)]
+mod sizes;
 #[cfg(test)]
 mod text;
 #[cfg(test)]
