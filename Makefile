@@ -11,7 +11,7 @@ FILE ?= examples/collected.txt
 SOURCES := crates.txt $(shell find crates -path '*/out' -prune -o -type f -print)
 CODE := crates.txt $(filter %.rt,$(SOURCES))
 
-.PHONY: help quick try program demo install test layers docs test-erlang test-conformance bench hostile clean distclean
+.PHONY: help quick try program demo install test layers docs test-program test-erlang test-conformance bench hostile clean distclean
 .DELETE_ON_ERROR:
 
 help:
@@ -43,8 +43,9 @@ demo: bin/seqaudit ## runs the proved program on examples/ and compares what it 
 install: $(PROGRAMS:%=bin/%) ## copies the proved program to PREFIX/bin (at once, after program)
 	install -D -t $(DESTDIR)$(PREFIX)/bin $^
 
-test: layers docs ## the merge gate: all proofs from nothing, the wrong bodies, the tests (41 minutes)
+test: layers docs ## the merge gate: all proofs from nothing, the wrong bodies, the tests (45 minutes)
 	rt ci
+	@$(MAKE) --no-print-directory test-program
 	@$(MAKE) --no-print-directory test-erlang
 	@$(MAKE) --no-print-directory test-conformance
 
@@ -55,15 +56,23 @@ layers: ## looks which proofs cite another crate's (1 second)
 docs: ## holds names, links and counts in the docs to the sources (2 seconds)
 	@.ci/docs
 
+# The program that the gate, or else `make program`, built last.
+BUILT = $(firstword $(wildcard $(CURDIR)/crates/seqaudit/out/seqaudit $(CURDIR)/bin/seqaudit))
+
+# What no proof sees: the built program on examples/, its statuses, random traces beside a slow model, a million acts,
+# and faults. Python's seeds are fixed.
+test-program: ## the program that was built last: examples/, random traces, a million acts, faults (2 minutes)
+	@.ci/program $(BUILT)
+	@if command -v python3 >/dev/null; then bench/hostile $(BUILT); \
+	else echo "There is no python3 here: the faults are skipped."; fi
+
 # Traces of a real Erlang node, if there is one, by the program that was built last.
-test-erlang: BUILT = $(firstword $(wildcard $(CURDIR)/crates/seqaudit/out/seqaudit $(CURDIR)/bin/seqaudit))
 test-erlang: ## the tests of erlang/, with the program that was built last (1 minute; needs erl)
 	@if command -v erl >/dev/null; then SEQAUDIT=$(BUILT) $(MAKE) --no-print-directory -C erlang test; \
 	else echo "There is no erl here (Debian's erlang-base): the Erlang tests are skipped."; fi
 
-# The machine beside a real node, by 200 random scripts, and again with each rule of the slow model broken.
-test-conformance: BUILT = $(firstword $(wildcard $(CURDIR)/crates/seqaudit/out/seqaudit $(CURDIR)/bin/seqaudit))
-test-conformance: ## compares the machine with a real node, by random scripts (1 minute; needs erl and python3)
+# The machine beside a real node, and again with each rule of the slow model broken.
+test-conformance: ## compares 200 random scripts with a real node (1 minute; needs erl and Python)
 	@if command -v erl >/dev/null && command -v python3 >/dev/null; then \
 	SEQAUDIT=$(BUILT) $(MAKE) --no-print-directory -C erlang conformance conformance-broken RUNS=200; \
 	else echo "There is no erl or no python3 here: the comparison with a real node is skipped."; fi

@@ -1,17 +1,22 @@
 #!/usr/bin/env python3
-"""Compares seqaudit with the slow model on random runs of the machine.
+"""Compares seqaudit with the slow model on random runs of the machine, and on streams of no run.
 
     random_runs.py SEQAUDIT FIRST LAST
 
 Each number from FIRST to LAST makes one run. The model and the program must answer the same to
 `check` of its acts, to `check` of the acts after a tampering, and to `audit` and `chart` of its
 streams, where the program has these commands. Where every stamp and every receive of a message with
-a token is reported and nothing is reset, the streams must fit; and each fits must pass `check`."""
+a token is reported and nothing is reset, the streams must fit; and each fits must pass `check`.
+
+Each number also makes wild streams: those of another run with one to three damages. `audit` and
+`chart` of them must be the model's too. Of 300 numbers or more each of the auditor's answers must
+have come at least once."""
 
 import random
 import subprocess
 import sys
 from collections import Counter
+from dataclasses import replace
 
 import slow_seqaudit as model
 
@@ -79,6 +84,76 @@ class Run:
         return acts
 
 
+class Wild:
+    """The streams of a run with one to three damages, each of which may give a reason of its own."""
+
+    SKIPS = (1, 999, 1_000, 1_001, 1_002, 5_000)
+
+    def __init__(self, chosen):
+        run = Run(chosen, chosen.choice([True, False]))
+        self.chosen, self.pids, self.streams = chosen, run.pids, run.streams
+        kinds = [self.shift_counts, self.raise_prev, self.lose, self.double, self.exchange, self.near_greatest,
+                 self.change]
+        for kind in chosen.sample(kinds, chosen.randint(1, 3)):
+            if any(self.streams.values()):
+                kind()
+        # A number of the text form is at most the greatest.
+        for pid, events in self.streams.items():
+            self.streams[pid] = [replace(event, prev=min(event.prev, model.TOP), this=min(event.this, model.TOP))
+                                 for event in events]
+
+    def some_place(self):
+        pid = self.chosen.choice([pid for pid in self.pids if self.streams[pid]])
+        return self.streams[pid], self.chosen.randrange(len(self.streams[pid]))
+
+    def shift_counts(self):
+        """From one event on a process's own counts are greater, by about as much as the auditor fills in."""
+        events, first = self.some_place()
+        more = self.chosen.choice(self.SKIPS)
+        for i in range(first, len(events)):
+            if events[i].kind != "receive":
+                events[i] = replace(events[i], this=events[i].this + more)
+
+    def raise_prev(self):
+        """One event's prev is far above its process's clock, or just at or below its this."""
+        events, i = self.some_place()
+        prev = events[i].prev + self.chosen.choice(self.SKIPS)
+        this = self.chosen.choice([events[i].this, prev, prev + 1, prev + self.chosen.choice(self.SKIPS)])
+        events[i] = replace(events[i], prev=prev, this=this)
+
+    def lose(self):
+        """An event is missing: of a receive the message stays, of a send the receive names what nobody told."""
+        events, i = self.some_place()
+        del events[i]
+
+    def double(self):
+        events, i = self.some_place()
+        events.insert(self.chosen.randint(i, len(events)), events[i])
+
+    def exchange(self):
+        events, i = self.some_place()
+        j = self.chosen.randrange(len(events))
+        events[i], events[j] = events[j], events[i]
+
+    def near_greatest(self):
+        """One event, or all from it on, have counts so high that the last of them is at most the greatest."""
+        events, first = self.some_place()
+        last = self.chosen.choice([first + 1, len(events)])
+        more = model.TOP - self.chosen.choice([0, 1, 1_000]) - max(event.this for event in events[first:last])
+        for i in range(first, last):
+            lower = self.chosen.choice([0, more])
+            events[i] = replace(events[i], prev=events[i].prev + lower, this=events[i].this + more)
+
+    def change(self):
+        """One field of one event is another."""
+        events, i = self.some_place()
+        event, other = events[i], self.chosen.choice(self.pids)
+        changes = [{"label": self.chosen.choice(LABELS)}, {"value": self.chosen.choice(VALUES)},
+                   {"prev": self.chosen.randrange(8)}, {"this": self.chosen.randrange(8)}]
+        changes += [{"sender": other}] * (event.kind == "receive") + [{"to": other}] * (event.kind == "send")
+        events[i] = replace(event, **self.chosen.choice(changes))
+
+
 def text(lines):
     return "".join(line + "\n" for line in lines)
 
@@ -96,24 +171,43 @@ def compare(program, words, given):
     return lines, status
 
 
+def compare_run(program, number, counted):
+    """One run: the verdicts of its acts, and what its streams give."""
+    reported = number % 2 == 0
+    run = Run(random.Random(number), reported)
+    assert compare(program, ["check"], text(model.write(run.streams, run.acts)))[1] == 0, number
+    said, _ = compare(program, ["check"], text(model.write(run.streams, run.tampered())))
+    counted["tampered: " + " ".join(said[0].split(" ")[:2])] += 1
+    answer, status = compare_streams(program, run.streams, counted, "audit")
+    assert status == 0 or not reported, (number, answer)
+
+
+def compare_streams(program, streams, counted, called):
+    """What the auditor says of streams; a fits must pass the check. And the charts of all labels."""
+    bare = text(line for line in model.write(streams, []) if line != "acts")
+    answer, status = compare(program, ["audit"], bare)
+    counted[f"{called}: " + ("fits" if status == 0 else answer[0].split(" ")[3])] += 1
+    assert status == 1 or ask(program, ["check"], text(answer))[1] == 0, (bare, answer)
+    for label in LABELS:
+        compare(program, ["chart", "--label", str(label)], bare)
+    return answer, status
+
+
+# All that the auditor answers.
+ANSWERS = ("fits", "prevnotbefore", "notrising", "repeated", "mismatch", "uncaused", "toowide", "notreplayed")
+ENOUGH = 300
+
+
 def main():
     program, first, last = sys.argv[1], int(sys.argv[2]), int(sys.argv[3])
     counted = Counter()
     for number in range(first, last + 1):
-        reported = number % 2 == 0
-        run = Run(random.Random(number), reported)
-        assert compare(program, ["check"], text(model.write(run.streams, run.acts)))[1] == 0, number
-        said, _ = compare(program, ["check"], text(model.write(run.streams, run.tampered())))
-        counted["tampered: " + " ".join(said[0].split(" ")[:2])] += 1
-        bare = text(line for line in model.write(run.streams, []) if line != "acts")
-        answer, status = compare(program, ["audit"], bare)
-        counted["audit: " + ("fits" if status == 0 else answer[0].split(" ")[3])] += 1
-        assert status == 0 or not reported, (number, answer)
-        assert status == 1 or ask(program, ["check"], text(answer))[1] == 0, (number, answer)
-        for label in LABELS:
-            compare(program, ["chart", "--label", str(label)], bare)
+        compare_run(program, number, counted)
+        compare_streams(program, Wild(random.Random(f"wild {number}")).streams, counted, "wild")
     for what, count in sorted(counted.items()):
         print(f"{count:6} {what}")
+    never = [answer for answer in ANSWERS if not counted[f"wild: {answer}"]]
+    assert last - first + 1 < ENOUGH or not never, f"no wild streams got {never}"
 
 
 if __name__ == "__main__":

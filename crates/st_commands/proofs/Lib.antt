@@ -9,6 +9,7 @@ pub mod Refusals
 pub mod Examples
 pub mod Owed
 pub mod Outputs
+pub mod ChartOutputs
 pub mod Meanings
 pub mod Findings
 pub mod Scripts

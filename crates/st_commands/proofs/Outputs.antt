@@ -26,7 +26,7 @@ use Rattle.st_commands.specs.Laws.{HasOneOutput}
 
 -- ---- the text
 
-abbrev whole : List Stream → Option (List Act) → Contents
+abbrev pub whole : List Stream → Option (List Act) → Contents
 whole streams acts = record { streams = streams; acts = acts }
 
 -- the streams and acts that bytes spell
@@ -48,13 +48,13 @@ acts_apart bytes ss ts acts s t X =
     let same = ap (λ (c : Contents). c.acts) (text_one bytes (whole ss (Some acts)) (whole ts None) s.text t.text) in
     absurd (cc same)
 
-fault_apart : (bytes : List ℕ) (streams : List Stream) (acts : Option (List Act)) (f : ReadFault)
+pub fault_apart : (bytes : List ℕ) (streams : List Stream) (acts : Option (List Act)) (f : ReadFault)
     → Spells bytes streams acts → fault bytes ≡ Some f → (X : Type 0) → X
 fault_apart bytes streams acts f s is X =
     let none = text_sound bytes (whole streams acts) (record { text = s.text; within = s.within }) in
     absurd (cc)
 
-one_fault : (bytes : List ℕ) (f g : ReadFault) → fault bytes ≡ Some f → fault bytes ≡ Some g → f ≡ g
+pub one_fault : (bytes : List ℕ) (f g : ReadFault) → fault bytes ≡ Some f → fault bytes ≡ Some g → f ≡ g
 one_fault bytes f g p q = cc
 
 -- ---- check

@@ -1,5 +1,5 @@
 -- Each text ends a line, so none is empty.
-use Rattle.std.proofs.Common.{ℕ, ◌<◌, List, [], ◌∷◌, ◌++◌, length, codes, decimal, arith}
+use Rattle.std.proofs.Common.{◌<◌, ◌++◌, length, codes, decimal, arith}
 use Rattle.std.specs.List.{flat_map}
 use Rattle.std.proofs.lemmas.List.{length-append}
 use Rattle.st_core.specs.Verdict.{Verdict, Stuck, Differs, Left, Yes}

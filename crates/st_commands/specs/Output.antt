@@ -1,7 +1,7 @@
 -- What the program writes and answers: a text of whole lines, and an exit status (own profile).
 -- The status is 0 for a yes or a run, 1 for a no, 2 for a faulty input, 3 for a faulty command line, and 4 for want of
 -- memory or a device's fault.
-use Rattle.std.specs.Prelude.{ℕ, List, [], ◌∷◌, ◌++◌, codes, decimal}
+use Rattle.std.specs.Prelude.{ℕ, List, ◌++◌, codes, decimal}
 use Rattle.std.specs.List.{flat_map}
 use Rattle.st_core.specs.Verdict.{Verdict, Stuck, Differs, Left, Yes}
 use Rattle.st_text.specs.Spelling as spelled

@@ -1,6 +1,8 @@
 //! What the answers of the commands mean. The functions do nothing: their contracts are the
 //! laws.
 
+ghost use Rattle.st_core.specs.declared.types.Label.{Label};
+ghost use Rattle.st_commands.specs.Charted.{IsCharted};
 ghost use Rattle.st_commands.specs.Checked.{IsChecked};
 ghost use Rattle.st_commands.specs.Laws.{YesMeans, NoMeans, ShownIsYes, HasOutput, HasOneOutput};
 ghost use Rattle.st_commands.specs.Laws.{FitsMeans, UnfitMeans, CertificateIsYes};
@@ -58,19 +60,21 @@ pub fn recorded_is_yes()
     ensures { RecordedIsYes }
 {}
 
-/// Bytes have an output of the check and of the replay.
+/// Bytes have an output of the check, of the replay and of each label's chart.
 pub fn an_answer()
     ensures check { HasOutput IsChecked }
     ensures replay { HasOutput IsReplayed }
+    ensures chart { (label : Label) → HasOutput (IsCharted label) }
 {
     a_verdict();
 }
 
-/// Bytes have one output of the check and one of the replay at most, so whoever knows the bytes that were read knows
-/// which output is owed.
+/// Bytes have one output at most of the check, of the replay and of each label's chart, so whoever knows the bytes that
+/// were read knows which output is owed.
 pub fn one_answer()
     ensures check { HasOneOutput IsChecked }
     ensures replay { HasOneOutput IsReplayed }
+    ensures chart { (label : Label) → HasOneOutput (IsCharted label) }
 {}
 
 /// No text within the reader's limits has an act without a step, so `no stuck` never comes.

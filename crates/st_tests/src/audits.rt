@@ -62,8 +62,10 @@ fn certificate_acts(alloc: Global) -> Option<Sequence<Act>> {
 #[test]
 fn a_refused_growth_is_memory(rt: HostRuntime) {
     let alloc = rt.alloc();
-    let (Some(streams), Some(acts)) = (made(alloc, CERTIFICATE), certificate_acts(alloc)) else {
-        return;
+    let streams = made(&rt, alloc, CERTIFICATE);
+    let acts = match certificate_acts(alloc) {
+        Some(acts) => acts,
+        None => certificate_acts(alloc).expect(&rt, "no acts at the second try"),
     };
     let answer = match audit::<MOST>(&rt, alloc, &streams) {
         Err(AuditFault::Memory) => audit::<MOST>(&rt, alloc, &streams),

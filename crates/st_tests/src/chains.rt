@@ -190,9 +190,7 @@ fn way_back(alloc: Global, streams: &Streams) -> Option<(Option<u64>, Vec<(Pid, 
 #[test]
 fn a_refused_growth_is_answered(rt: HostRuntime) {
     let alloc = rt.alloc();
-    let Some(streams) = made(alloc, ONE_MESSAGE) else {
-        return;
-    };
+    let streams = made(&rt, alloc, ONE_MESSAGE);
     let (first, back) = match way_back(alloc, &streams) {
         Some(answers) => answers,
         None => way_back(alloc, &streams).expect(&rt, "refused again"),

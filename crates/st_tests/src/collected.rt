@@ -1,8 +1,9 @@
 //! Collected streams, as the tests of what is told of them take them.
 
-use st_core::{MemorySource, Pid, Streams};
+use st_core::{MemorySink, MemorySource, Pid, Streams};
 use st_text::read;
 use std::alloc::Global;
+use std::process::Abort;
 use std::test::Fail;
 
 /// The processes 30, 31 and 32 of node 0.
@@ -25,12 +26,28 @@ pub(crate) const ONE_MESSAGE: &str = "seqtrace 1\n\
     process <0.31.0>\n\
     {seq_trace,17,{'receive',{0,1},<0.30.0>,<0.31.0>,5}}\n";
 
-/// The streams of a text, where no growth is refused.
-pub(crate) fn made(alloc: Global, text: &str) -> Option<Streams> {
+fn streams_of(alloc: Global, text: &str) -> Option<Streams> {
     let bundle = read(alloc, &mut MemorySource::new(text.as_bytes(), None)).ok()?;
     Some(bundle.streams)
 }
 
+/// The streams of a text. Where memory is refused a second try has it, so that a test of one refused growth gets to
+/// what it tests.
+pub(crate) fn made(rt: &impl Abort, alloc: Global, text: &str) -> Streams {
+    match streams_of(alloc, text) {
+        Some(streams) => streams,
+        None => streams_of(alloc, text).expect(rt, "no streams at the second try"),
+    }
+}
+
+/// A sink for so many bytes, which a second try has where memory is refused.
+pub(crate) fn sink_at_last(rt: &impl Abort, alloc: Global, room: usize) -> MemorySink {
+    match MemorySink::new(alloc, room, None) {
+        Ok(sink) => sink,
+        Err(_) => MemorySink::new(alloc, room, None).expect(rt, "no sink at the second try"),
+    }
+}
+
 pub(crate) fn streams(alloc: Global, text: &str) -> Result<Streams, Fail> {
-    Ok(made(alloc, text).ok_or("no streams")?)
+    Ok(streams_of(alloc, text).ok_or("no streams")?)
 }

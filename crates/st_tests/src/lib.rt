@@ -18,6 +18,7 @@
 //! | `charts` | `st_chart`: charts and reports |
 //! | `runs` | `st_runtime`: threads that meet, and records of driven scripts |
 //! | `commands` | `st_commands`: whole commands, byte for byte |
+//! | `sizes` | all: calls with 100,000 of what they take |
 //! | `collected` | none: texts of streams, and pids, that the others share |
 #![tactic(auto)]
 
@@ -49,6 +50,8 @@ mod plans;
 mod reads;
 #[cfg(test)]
 mod runs;
+#[cfg(test)]
+mod sizes;
 #[cfg(test)]
 mod text;
 #[cfg(test)]

@@ -1,6 +1,7 @@
 //! What a read answers where a growth was refused, and that the same read is right afterwards. That is
 //! seen where `rt try --test --fail-alloc N` refuses the N-th growth.
 
+use crate::collected::sink_at_last;
 use crate::text::CERTIFICATE;
 use st_core::{MemorySink, MemorySource};
 use st_text::{Bundle, Feed, ReadFault, read, write};
@@ -23,9 +24,7 @@ fn read_whole(alloc: Global) -> Result<Bundle, ReadFault> {
 #[test]
 fn a_refused_read_is_right_afterwards(rt: HostRuntime) {
     let alloc = rt.alloc();
-    let Ok(sink) = MemorySink::new(alloc, 1000, None) else {
-        return;
-    };
+    let sink = sink_at_last(&rt, alloc, 1000);
     let answer = match read_whole(alloc) {
         Err(ReadFault::Memory) => read_whole(alloc),
         answer => answer,
@@ -48,9 +47,7 @@ fn read_in_pieces(rt: &impl Abort, alloc: Global) -> Result<Bundle, ReadFault> {
 #[test]
 fn a_new_feed_reads_right_after_a_refused_one(rt: HostRuntime) {
     let alloc = rt.alloc();
-    let Ok(sink) = MemorySink::new(alloc, 1000, None) else {
-        return;
-    };
+    let sink = sink_at_last(&rt, alloc, 1000);
     let answer = match read_in_pieces(&rt, alloc) {
         Err(ReadFault::Memory) => read_in_pieces(&rt, alloc),
         answer => answer,

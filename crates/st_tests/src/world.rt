@@ -179,24 +179,6 @@ fn small_limits(rt: HostRuntime) -> Result<(), Fail> {
     Ok(())
 }
 
-/// Why there is no world of these pids, if there is none.
-fn refusal(alloc: Global, pids: &[Pid]) -> Option<NewFault> {
-    match World::<9>::new(alloc, pids) {
-        Ok(_) => None,
-        Err(fault) => Some(fault),
-    }
-}
-
-#[test]
-fn refuses_pids_that_do_not_rise(rt: HostRuntime) -> Result<(), Fail> {
-    let falling = refusal(rt.alloc(), &[p31(), p30()]);
-    assert_eq!(rt; falling, Some(NewFault::NotRising));
-    let twice = refusal(rt.alloc(), &[p30(), p30()]);
-    assert_eq!(rt; twice, Some(NewFault::NotRising));
-    assert_eq!(rt; refusal(rt.alloc(), &[]), None);
-    Ok(())
-}
-
 #[test]
 fn refuses_acts_of_unknown_processes(rt: HostRuntime) -> Result<(), Fail> {
     let mut world = World::<9>::new(rt.alloc(), &[p30()])?;

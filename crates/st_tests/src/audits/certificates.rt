@@ -3,7 +3,6 @@
 use super::{assert_fits, certificate_acts, found, restored};
 use crate::collected::{p30, p31};
 use crate::text::CERTIFICATE;
-use st_audit::Finding;
 use st_core::{Act, Component, Label, Pid, Want};
 use std::test::Fail;
 
@@ -31,11 +30,6 @@ const ONE_RECEIVED: &str = "seqtrace 1\n\
 const HIGH_PREV: &str = "seqtrace 1\n\
     process <0.30.0>\n\
     {seq_trace,17,{print,{2,3},<0.30.0>,[],5}}\n";
-
-/// A print before which a thousand counts are missing.
-const THOUSAND_MISSING: &str = "seqtrace 1\n\
-    process <0.30.0>\n\
-    {seq_trace,17,{print,{0,1001},<0.30.0>,[],7}}\n";
 
 #[test]
 fn hidden_sends_fit(rt: HostRuntime) -> Result<(), Fail> {
@@ -95,14 +89,5 @@ fn a_new_trace_begins_at_a_prev_above_the_clock(rt: HostRuntime) -> Result<(), F
         Act::Print(p30(), 5),
     ];
     assert_fits(&rt, &finding, &acts, &[]);
-    Ok(())
-}
-
-#[test]
-fn a_thousand_counts_are_filled_in(rt: HostRuntime) -> Result<(), Fail> {
-    match found(&rt, rt.alloc(), THOUSAND_MISSING)? {
-        Finding::Unfit(..) => panic!(rt; "unfit"),
-        Finding::Fits(acts, _) => assert_eq!(rt; acts.len(), 1004),
-    }
     Ok(())
 }

@@ -1,7 +1,7 @@
 //! Refused growths, and sinks that fail at each place.
 
 use super::{HIDDEN_CHART, HIDDEN_SENDS, drawn, hidden_items};
-use crate::collected::{made, streams};
+use crate::collected::{made, sink_at_last, streams};
 use st_chart::ChartFault;
 use st_core::MemorySink;
 use std::test::Fail;
@@ -10,12 +10,8 @@ use std::test::Fail;
 #[test]
 fn a_refused_growth_writes_nothing(rt: HostRuntime) {
     let alloc = rt.alloc();
-    let Some(streams) = made(alloc, HIDDEN_SENDS) else {
-        return;
-    };
-    let Ok(mut sink) = MemorySink::new(alloc, 1000, None) else {
-        return;
-    };
+    let streams = made(&rt, alloc, HIDDEN_SENDS);
+    let mut sink = sink_at_last(&rt, alloc, 1000);
     let items = hidden_items();
     if let Err(fault) = drawn(alloc, &mut sink, &streams, &items, 17) {
         assert_eq!(rt; fault, ChartFault::Memory);

@@ -2,7 +2,7 @@
 
 use super::Case;
 
-pub static CASES: [Case; 17] = [
+pub static CASES: [Case; 20] = [
     Case {
         name: "audit_hidden_sends",
         input: "seqtrace 1\n\
@@ -32,6 +32,42 @@ pub static CASES: [Case; 17] = [
             send <0.31.0> <0.30.0> 6\n\
             receive <0.30.0> place 0\n",
         status: 0,
+    },
+    Case {
+        name: "audit_hidden_too_wide",
+        input: "seqtrace 1\n\
+            process <0.30.0>\n\
+            process <0.31.0>\n\
+            {seq_trace,17,{'receive',{0,1002},<0.30.0>,<0.31.0>,5}}\n",
+        text: "unfit <0.31.0> 0 toowide\n\
+            event <0.31.0> 0 {seq_trace,17,{'receive',{0,1002},<0.30.0>,<0.31.0>,5}}\n",
+        status: 1,
+    },
+    Case {
+        name: "audit_uncaused_and_too_wide",
+        input: "seqtrace 1\n\
+            process <0.30.0>\n\
+            process <0.31.0>\n\
+            {seq_trace,1,{'receive',{0,5},<0.30.0>,<0.31.0>,4}}\n\
+            {seq_trace,1,{print,{2,2006},<0.31.0>,[],9}}\n",
+        text: "unfit <0.31.0> 1 uncaused\n\
+            event <0.31.0> 1 {seq_trace,1,{print,{2,2006},<0.31.0>,[],9}}\n",
+        status: 1,
+    },
+    // The receive stands before its send, whose process counted more before it: its message isn't there.
+    Case {
+        name: "audit_message_not_there",
+        input: "seqtrace 1\n\
+            process <0.30.0>\n\
+            {seq_trace,1,{'receive',{0,5},<0.31.0>,<0.30.0>,4}}\n\
+            {seq_trace,1,{send,{0,3},<0.30.0>,<0.31.0>,6}}\n\
+            process <0.31.0>\n\
+            {seq_trace,1,{'receive',{0,3},<0.30.0>,<0.31.0>,6}}\n",
+        text: "unfit <0.31.0> 0 notreplayed left <0.30.0>\n\
+            event <0.31.0> 0 {seq_trace,1,{'receive',{0,3},<0.30.0>,<0.31.0>,6}}\n\
+            acts\n\
+            tracer <0.30.0> true\n",
+        status: 1,
     },
     Case {
         name: "audit_mismatch",

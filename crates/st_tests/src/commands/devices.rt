@@ -2,7 +2,7 @@
 //! once and work again.
 
 use st_commands::run;
-use st_core::{MemorySink, MemorySource, ReadFrom, WriteTo};
+use st_core::{EndlessSource, MemorySink, MemorySource, ReadFrom, WriteTo};
 use std::io;
 use std::io::{ErrorKind, Read, Write};
 use std::test::Fail;
@@ -74,12 +74,32 @@ impl Write for Taker {
     }
 }
 
+/// The words of each command.
+static COMMANDS: [&[&str]; 5] = [
+    &["seqaudit", "check"],
+    &["seqaudit", "replay"],
+    &["seqaudit", "drive"],
+    &["seqaudit", "audit"],
+    &["seqaudit", "chart", "--label", "17"],
+];
+
+#[test]
+fn a_reader_that_never_ends_is_too_large(rt: HostRuntime) -> Result<(), Fail> {
+    for words in COMMANDS {
+        let mut writer = MemorySink::new(rt.alloc(), 1000, None)?;
+        let status = run(&rt, words, &mut EndlessSource::new(), &mut writer);
+        assert!(rt; writer.written() == b"fault too large\n".as_slice());
+        assert_eq!(rt; status, 2);
+    }
+    Ok(())
+}
+
 #[test]
 fn a_reader_that_errs_is_told(rt: HostRuntime) -> Result<(), Fail> {
-    for command in ["check", "replay", "drive"] {
+    for words in COMMANDS {
         let mut reader = MemorySource::new(PRINT_ONE.as_bytes(), Some(100));
         let mut writer = MemorySink::new(rt.alloc(), 1000, None)?;
-        let status = run(&rt, &["seqaudit", command], &mut reader, &mut writer);
+        let status = run(&rt, words, &mut reader, &mut writer);
         assert!(rt; writer.written() == b"fault device\n".as_slice());
         assert_eq!(rt; status, 4);
     }

@@ -3,10 +3,7 @@
 ghost use Rattle.std.specs.Prelude.{◌≤◌, IfOk};
 
 use super::MANY;
-use st_core::{
-    ByteSink, ByteSource, EndlessSource, Failed, MemorySink, MemorySource, ReadFrom, Recorder,
-    WriteTo,
-};
+use st_core::{ByteSink, ByteSource, Failed, MemorySink, ReadFrom, Recorder, WriteTo};
 use std::io::{self, Error, ErrorKind, Read, Write};
 use std::test::Fail;
 
@@ -113,20 +110,6 @@ fn readers_end_and_writers_fill_up(rt: HostRuntime) {
 }
 
 #[test]
-fn a_source_fails_where_its_fuse_burns_and_from_then_on(rt: HostRuntime) {
-    let mut source = MemorySource::new(b"seqtrace", Some(5));
-    let mut piece = [0; 4];
-    assert!(rt; source.take(&mut piece) == Ok(4));
-    assert!(rt; piece == *b"seqt");
-    assert!(rt; source.take(&mut piece) == Ok(1));
-    assert!(rt; source.take(&mut piece) == Err(Failed));
-    assert!(rt; source.take(&mut []) == Err(Failed));
-    let mut ended = MemorySource::new(b"", Some(0));
-    assert!(rt; ended.take(&mut []) == Ok(0));
-    assert!(rt; ended.take(&mut piece) == Err(Failed));
-}
-
-#[test]
 fn a_full_sink_fails(rt: HostRuntime) -> Result<(), Fail> {
     let mut sink = MemorySink::new(rt.alloc(), 3, None)?;
     assert!(rt; sink.put(b"ye") == Ok(2));
@@ -134,13 +117,6 @@ fn a_full_sink_fails(rt: HostRuntime) -> Result<(), Fail> {
     assert!(rt; sink.put(b"\n") == Err(Failed));
     assert!(rt; sink.written() == b"yes".as_slice());
     Ok(())
-}
-
-#[test]
-fn an_endless_source_gives_zeros(rt: HostRuntime) {
-    let mut piece = [7; 3];
-    assert!(rt; EndlessSource::new().take(&mut piece) == Ok(3));
-    assert!(rt; piece == [0; 3]);
 }
 
 #[test]

@@ -2,6 +2,7 @@
 //! something only where an allocation fails: `rt try --test --fail-alloc N` fails the N-th of each.
 
 use super::{MANY, event};
+use crate::collected::sink_at_last;
 use st_core::{AddFault, ByteSink, Draft, Kind, MemorySink, OpenFault, Pid, Recorder, Sequence};
 
 #[test]
@@ -42,9 +43,7 @@ fn a_sink_without_memory_is_refused(rt: HostRuntime) {
 
 #[test]
 fn a_recorder_lets_nothing_through_unrecorded(rt: HostRuntime) {
-    let Ok(sink) = MemorySink::new(rt.alloc(), 100, None) else {
-        return;
-    };
+    let sink = sink_at_last(&rt, rt.alloc(), 100);
     let mut recorder = Recorder::new(rt.alloc(), sink);
     let passed = recorder.put(b"yes\n").is_ok();
     assert!(rt; recorder.passed().is_empty() != passed);

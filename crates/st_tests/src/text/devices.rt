@@ -2,12 +2,11 @@
 
 use super::texts::PRINT_ONE;
 use super::{refusal, sink, text_of};
-use st_core::{EndlessSource, MemorySource, ReadFrom, WriteTo};
+use st_core::{MemorySource, ReadFrom, WriteTo};
 use st_text::{Bundle, ReadFault, read, write};
 use std::alloc::Global;
 use std::io::{self, Error, ErrorKind, Read, Write};
 use std::process::Abort;
-use std::test::Fail;
 
 /// A reader of text and a writer that passes three bytes a call at most, and errs at one of its calls.
 #[derive(Drop)]
@@ -63,12 +62,6 @@ fn bundle(rt: &impl Abort, alloc: Global) -> Bundle {
         Err(fault) => panic!(rt; "{fault:?}"),
         Ok(bundle) => bundle,
     }
-}
-
-#[test]
-fn endless_source_is_too_large(rt: HostRuntime) {
-    let answer = read(rt.alloc(), &mut EndlessSource::new());
-    assert_eq!(rt; refusal(&rt, answer), ReadFault::TooLarge);
 }
 
 #[test]

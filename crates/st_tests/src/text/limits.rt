@@ -69,15 +69,3 @@ fn bytes(rt: HostRuntime) -> Result<(), Fail> {
     assert_eq!(rt; refusal(&rt, answer), ReadFault::TooLarge);
     Ok(())
 }
-
-#[test]
-fn too_large_again(rt: HostRuntime) -> Result<(), Fail> {
-    let alloc = rt.alloc();
-    let text = vec![in alloc; b'x'; 67_108_865]?;
-    let mut feed = Feed::new(alloc);
-    assert_eq!(rt; feed.piece(&text), Err(ReadFault::TooLarge));
-    assert_eq!(rt; feed.piece(b"seqtrace 1\n"), Err(ReadFault::TooLarge));
-    assert_eq!(rt; feed.piece(b""), Err(ReadFault::TooLarge));
-    assert_eq!(rt; refusal(&rt, feed.end()), ReadFault::TooLarge);
-    Ok(())
-}
