@@ -186,7 +186,7 @@ stamp_is streams fit q v s test =
 
 -- WITH ONE MORE EVENT
 
-unlisted_events : (streams : List Stream) (q : Pid) → lists streams q ≡ false → events_of streams q ≡ []
+pub unlisted_events : (streams : List Stream) (q : Pid) → lists streams q ≡ false → events_of streams q ≡ []
 unlisted_events streams q none = elim (stream_of streams q) as (λ o. is_some o ≡ false → events_in o ≡ []) [
   | None ↦ λ _. refl
   | Some x ↦ λ h. absurd (false≢true (sym h))

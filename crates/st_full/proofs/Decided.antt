@@ -1,50 +1,75 @@
--- Law D: streams against which no reason stands have a completion without a need. One need is met after the other. If a
--- reported send serves it, its receive is put before the need. Else the process lacks a sender, so that one is free: its
--- send is put in first. Each leaves the streams good, and takes one need away.
-use Rattle.std.proofs.Common.{◌≡◌, ℕ, zero, suc, ◌+◌, ◌<◌, ◌==◌, ◌&&◌, Bool, true, false, cond, List, [], ◌∷◌}
-use Rattle.std.proofs.Common.{◌++◌, Option, Some, None, inl, inr, sum_by, refl}
-use Rattle.std.proofs.Common.{sym, ◌∙◌, ap, subst, arith}
-use Rattle.std.specs.List.{count_by}
-use Rattle.std.proofs.lemmas.Bool.{and_from, cases_lt, eq-eqb}
+-- Law D: the completion of streams against which no reason stands is needless. With the sends that its supplies lack it
+-- needs what the streams needed; each of these needs gets its receive; and neither makes anything late.
+use Rattle.std.proofs.Common.{◌≡◌, ℕ, zero, suc, ◌+◌, ◌<◌, ◌≤◌, ◌==◌, ◌&&◌, ◌||◌, Bool, true, false, cond, List, [], ◌∷◌, ◌++◌}
+use Rattle.std.proofs.Common.{take, Option, Some, None, slice_get, append-nil, append_assoc, refl, sym, ◌∙◌, ap, subst}
+use Rattle.std.proofs.Common.{arith}
+use Rattle.std.specs.List.{AllByRecursion}
+use Rattle.std.proofs.lemmas.Bool.{and_from, eq-eqb, false≢true}
+use Rattle.std.proofs.lemmas.Option.{none-some, same_Some}
 use Rattle.st_core.specs.declared.types.Pid.{Pid}
 use Rattle.st_core.specs.declared.types.Event.{Event}
+use Rattle.st_core.specs.Pid.{pid_eq}
 use Rattle.st_core.specs.Run.{Stream, pids_of}
 use Rattle.st_core.specs.Streams.{events_of, IsStreams, lists}
+use Rattle.st_core.specs.Collected.{is_among}
+use Rattle.st_core.proofs.ForCallers.{pid_eq-refl}
 use Rattle.st_pair.specs.declared.answer.Source.{Source}
 use Rattle.st_pair.specs.declared.answer.Source.TheVariants as source
 use Rattle.st_pair.specs.Places.{event_at, is_stamp}
-use Rattle.st_pair.specs.Pairing.{stamp_of}
+use Rattle.st_pair.specs.Pairing.{source_of, stamp_of}
 use Rattle.st_order.specs.Items.{is_hidden}
+use Rattle.st_plan.specs.Marks.{all_streams, told_streams, Whole}
 use Rattle.st_full.specs.Completed.{IsCompleted}
+use Rattle.st_full.specs.Completion.{completion, supplies, told_wholes, with_sends}
 use Rattle.st_full.specs.Local.{IsNeedless}
-use Rattle.st_full.specs.Needs.{is_need}
+use Rattle.st_full.specs.Needs.{is_late, is_need}
 use Rattle.st_full.specs.Reasons.{HasEachSend, HasNoReason}
-use Rattle.st_full.specs.Supply.{excess, is_free, is_own_supply, needs, needs_from}
+use Rattle.st_full.specs.Supply.{needs, needs_from}
 use Rattle.st_full.proofs.Accepting.{accepted_if}
 use Rattle.st_full.proofs.Asking.{HasStamp, none_stamped}
-use Rattle.st_full.proofs.Composing.{completed_again}
-use Rattle.st_full.proofs.Counting.{some_passes, some_term, sum_one, term_within}
-use Rattle.st_full.proofs.Feeding.{AreFine, AreTimely, fine_at}
-use Rattle.st_full.proofs.Good.{each, IsGood, IsLack, lacking, lacks}
-use Rattle.st_full.proofs.Meeting.{counted}
-use Rattle.st_full.proofs.Needless.{own_completion}
-use Rattle.st_full.proofs.Putting.{listed_at, wholes_with, with_pids, with_told}
-use Rattle.st_full.proofs.Receiving.{fed, good_fed, IsSupply, lacks_less, lacks_others, receive_for, supply_of}
-use Rattle.st_full.proofs.Sending.{good_sent, lacks_same, needs_same, place, send, sent, supply_sent}
+use Rattle.st_full.proofs.Feeding.{AreTimely}
+use Rattle.st_full.proofs.Filling.{receives_told, sends_told}
+use Rattle.st_full.proofs.Good.{IsGood}
+use Rattle.st_full.proofs.Needless.{all_same, told_same}
+use Rattle.st_full.proofs.Reporting.{all_from}
+use Rattle.st_full.proofs.Serving.{all_sent, AreSent, IsReady, IsServed}
 use Rattle.st_full.proofs.Shown.{lists_among}
-use Rattle.st_full.proofs.Starting.{good_if, need_of}
+use Rattle.st_full.proofs.Starting.{good_if}
+use Rattle.st_full.proofs.Supplies.{all_ready, all_served, are_apart, as_many}
+use Rattle.st_full.proofs.Taking.{all_met, AreMet, AsMany}
 
 -- WITHOUT A NEED
 
-fine_if : (before es : List Event) → AreTimely before es → counted each before es ≡ 0 → AreFine before es
-fine_if before [] timely none = tt
-fine_if before (e ∷ es) timely none =
-    let rest = counted each (before ++ e ∷ []) es in
-    elim (is_need before e) as (λ b. is_need before e ≡ b → cond (b && true) 1 0 + rest ≡ 0 → AreFine before (e ∷ es)) [
-      | true ↦ λ _ none. absurd (omega arith)
-      | false ↦ λ is none. (timely.0, is, fine_if (before ++ e ∷ []) es timely.1 (omega arith))
-    ] refl none
+-- said by places
+timely_at : (before es : List Event) → AreTimely before es → (i : ℕ) (e : Event) → slice_get es i ≡ Some e
+    → is_late (before ++ take i es) e ≡ false
+timely_at before [] timely i e at = absurd (none-some e at)
+timely_at before (d ∷ es) timely zero e at =
+    ap (is_late (before ++ [])) (sym (same_Some d e at)) ∙ ap (λ xs. is_late xs d) (append-nil before) ∙ timely.0
+timely_at before (d ∷ es) timely (suc i) e at =
+    ap (λ xs. is_late xs e) (sym (append_assoc before (d ∷ []) (take i es)))
+    ∙ timely_at (before ++ d ∷ []) es timely.1 i e at
 
+-- a need is counted
+needs_some : (before es : List Event) (i : ℕ) (e : Event) → slice_get es i ≡ Some e
+    → is_need (before ++ take i es) e ≡ true → 0 < needs_from e.serial.prev before es
+needs_some before [] i e at need = absurd (none-some e at)
+needs_some before (d ∷ es) zero e at need =
+    let prev = e.serial.prev in
+    let same = same_Some d e at in
+    let is : (is_need before d && d.serial.prev == prev) ≡ true =
+    and_from (is_need before d) (d.serial.prev == prev)
+    (ap (is_need before) same ∙ ap (λ xs. is_need xs e) (sym (append-nil before)) ∙ need)
+    (eq-eqb d.serial.prev prev (ap (λ (x : Event). x.serial.prev) same)) in
+    let one : (let n : ℕ = cond (is_need before d && d.serial.prev == prev) 1 0 in n) ≡ 1 =
+    ap (λ b. let n : ℕ = cond b 1 0 in n) is in
+    omega arith
+needs_some before (d ∷ es) (suc i) e at need =
+    let later = needs_some (before ++ d ∷ []) es i e at
+    (ap (λ xs. is_need xs e) (append_assoc before (d ∷ []) (take i es)) ∙ need) in
+    omega arith
+
+-- a receive that has its send isn't one of a hidden send
 seen_if : (streams : List Stream) (e : Event) → (is_stamp e ≡ false → HasStamp streams e.from e.serial.this)
     → is_hidden streams e ≡ false
 seen_if streams e sent =
@@ -61,147 +86,77 @@ seen_if streams e sent =
           ] refl
     ] refl
 
-module _ (top : ℕ) where
-  none_lack : (streams : List Stream) → lacking streams ≡ 0 → (p : Pid) → lists streams p ≡ true
-      → lacks streams p ≡ 0
-  none_lack streams none p there = elim (cases_lt 0 (lacks streams p)) [
-    | inr not_less ↦ omega arith
-    | inl less ↦
-        let sum = term_within (lacks streams) p (pids_of streams) (sym (lists_among streams p) ∙ there) less in
-        absurd (omega arith)
-  ]
+needless_if : (top : ℕ) (streams : List Stream) → IsGood top streams → ((v : ℕ) (p : Pid) → needs streams v p ≡ 0)
+    → IsNeedless top streams
+needless_if top streams good none = record {
+  accepted = accepted_if streams good.sound.draft.rising good.fit;
+  reported = λ p i e at. seen_if streams e (good.sent p i e at);
+  timely = λ p i e at. timely_at [] (events_of streams p) (good.timely p) i e at;
+  caused = λ p i e at.
+      let before = take i (events_of streams p) in
+      elim (is_need before e) as (λ b. is_need before e ≡ b → b ≡ false) [
+        | false ↦ λ _. refl
+        | true ↦ λ need.
+            let some = needs_some [] (events_of streams p) i e at need in
+            let no = none e.serial.prev p in
+            absurd (omega arith)
+      ] refl;
+  within = good.within;
+}
 
-  needless_if : (streams : List Stream) → IsGood top streams → lacking streams ≡ 0 → IsNeedless top streams
-  needless_if streams good none =
-      let fine = λ (p : Pid) (i : ℕ) (e : Event) (at : event_at streams p i ≡ Some e).
-      fine_at [] (events_of streams p) (fine_if [] (events_of streams p) (good.timely p)
-      (none_lack streams none p (listed_at streams p i e at))) i e at in
-      record {
-        accepted = accepted_if streams good.sound.draft.rising good.fit;
-        reported = λ p i e at. seen_if streams e (good.sent p i e at);
-        timely = λ p i e at. (fine p i e at).0;
-        caused = λ p i e at. (fine p i e at).1;
-        within = good.within;
-      }
+-- THE COMPLETION
 
-  -- ONE NEED AFTER THE OTHER
+each_listed : (streams : List Stream) → AllByRecursion (λ q. lists streams q ≡ true) (pids_of streams)
+each_listed streams = all_from (λ q. lists streams q ≡ true) (pids_of streams) (λ k q at.
+    lists_among streams q ∙ among_at (pids_of streams) k q at)
+  where
+    among_at : (ps : List Pid) (k : ℕ) (q : Pid) → slice_get ps k ≡ Some q → is_among ps q ≡ true
+    among_at [] k q at = absurd (none-some q at)
+    among_at (p ∷ ps) zero q at =
+        ap (λ b. b || is_among ps q) (ap (λ x. pid_eq x q) (same_Some p q at) ∙ pid_eq-refl q)
+    among_at (p ∷ ps) (suc k) q at = elim (pid_eq p q) as (λ b. (b || is_among ps q) ≡ true) [
+      | true ↦ refl
+      | false ↦ among_at ps k q at
+    ]
 
-  -- some need of p, of a prev of which it has needs
-  record IsLacked (streams : List Stream) (p : Pid) : Type 0 where
-    event : Event
-    lack : IsLack streams p event
-    some : 0 < needs streams event.serial.prev p
+module _ (top : ℕ) (streams : List Stream) (sound : IsStreams streams) (sends : HasEachSend streams)
+    (none : HasNoReason top streams) where
+  good : IsGood top streams
+  good = good_if top streams sound sends none
 
-  need_at : (before es : List Event) → 0 < counted each before es → (v : ℕ) × (0 < needs_from v before es)
-  need_at before [] some = absurd (omega arith)
-  need_at before (e ∷ es) some =
-      let prev = e.serial.prev in
-      elim (is_need before e) as (λ b. is_need before e ≡ b
-      → 0 < cond (b && true) 1 0 + counted each (before ++ e ∷ []) es
-      → (v : ℕ) × (0 < needs_from v before (e ∷ es))) [
-        | true ↦ λ is _. (
-          prev,
-          let one : cond (is_need before e && prev == prev) 1 0 ≡ 1 =
-              ap (λ b. let n : ℕ = cond b 1 0 in n)
-              (and_from (is_need before e) (prev == prev) is (eq-eqb prev prev refl)) in
-              omega arith,
-        )
-        | false ↦ λ _ some.
-            let later = need_at (before ++ e ∷ []) es (omega arith) in
-            (later.0, let less = later.1 in omega arith)
-      ] refl some
+  abbrev told : List Whole
+  told = told_wholes streams
 
-  lacked_of : (streams : List Stream) (p : Pid) (v : ℕ) → 0 < needs streams v p → IsLacked streams p
-  lacked_of streams p v some =
-      let n = need_of v [] (events_of streams p) some in
-      record {
-        event = n.event;
-        lack = record { index = n.index; at = n.at; need = n.need };
-        some = subst (λ w. 0 < needs streams w p) (sym n.prev) some;
-      }
+  all_told : all_streams told ≡ streams
+  all_told = all_same streams
 
-  Completes : ℕ → Type 0
-  Completes n = (streams : List Stream) → IsGood top streams → lacking streams ≡ n → IsCompleted IsNeedless top streams
+  sent : AreSent top (all_streams told) (all_streams (with_sends (supplies streams) told)) (supplies streams)
+  sent = all_sent top (supplies streams) told (subst (IsGood top) (sym all_told) good)
+      (subst (λ ss. AllByRecursion (IsServed top ss) (supplies streams)) (sym all_told)
+      (all_served streams sound.draft.rising good.founded none.supplied (each_listed streams) top none.within))
+      (subst (λ ss. AllByRecursion (IsReady ss) (supplies streams)) (sym all_told)
+      (all_ready streams sound.draft.rising good.founded none.supplied (each_listed streams)))
+      (are_apart streams sound.draft.rising good.founded none.supplied (each_listed streams))
 
-  -- a need that a reported send serves
-  by_send : (n : ℕ) → Completes n → (streams : List Stream) (good : IsGood top streams) → lacking streams ≡ suc n
-      → (p : Pid) (e : Event) → IsLack streams p e → (q : Pid) → IsSupply streams e.serial.prev p q
-      → IsCompleted IsNeedless top streams
-  unfolding Completes
-  by_send n later streams good lacking_is p e lack q supply =
-      let r = receive_for supply.stamp.event in
-      let longer = fed top streams good p e lack q supply in
-      let less = sum_one (lacks streams) (lacks longer) p (sym (lacks_less top streams good p e lack q supply))
-      (λ x other. sym (lacks_others top streams good p e lack q supply x other)) (pids_of streams)
-      good.sound.draft.rising (sym (lists_among streams p) ∙ listed_at streams p lack.index e lack.at) in
-      let same : lacking longer ≡ sum_by (lacks longer) (pids_of streams) =
-      ap (sum_by (lacks longer)) (with_pids p lack.index r streams) in
-      subst (IsCompleted IsNeedless top) (with_told p lack.index r streams)
-      (completed_again IsNeedless top (wholes_with p lack.index r streams)
-      (later longer (good_fed top streams good p e lack q supply) (omega arith)))
+  many : AsMany (all_streams (with_sends (supplies streams) told)) (supplies streams)
+  many w z =
+      sent.needs_are w z
+      ∙ ap (λ ss. needs ss w z) all_told
+      ∙ as_many streams sound.draft.rising good.founded none.supplied (each_listed streams) w z
 
-  abbrev owns : List Stream → ℕ → Pid → ℕ
-  owns streams v p = count_by (is_own_supply streams v p) (pids_of streams)
+  met : AreMet top (all_streams (completion streams))
+  met = all_met top (supplies streams) (with_sends (supplies streams) told) sent.good sent.own
+      (are_apart streams sound.draft.rising good.founded none.supplied (each_listed streams)) many
 
-  -- one that a free process serves
-  by_free : (n : ℕ) → Completes n → (streams : List Stream) → IsGood top streams → lacking streams ≡ suc n
-      → (p : Pid) (e : Event) → IsLack streams p e → (q : Pid) → lists streams q ≡ true
-      → is_free streams e.serial.prev q ≡ true → owns streams e.serial.prev p < needs streams e.serial.prev p
-      → IsCompleted IsNeedless top streams
-  unfolding Completes
-  by_free n later streams good lacking_is p e lack q listed free few =
-      let v = e.serial.prev in
-      let longer = sent top streams good p e lack q listed free few in
-      let put = place top streams good p e lack q listed free few in
-      let x = send top streams good p e lack q listed free few put.prev in
-      let all_same : lacking longer ≡ lacking streams =
-      λ j. sum_by (λ y. lacks_same top streams good p e lack q listed free few y j) (with_pids q put.index x streams j) in
-      let needs_are = needs_same top streams good p e lack q listed free few v p in
-      let need = need_of v [] (events_of longer p) (omega arith) in
-      let lack_then : IsLack longer p need.event = record { index = need.index; at = need.at; need = need.need } in
-      let supply = subst (λ w. IsSupply longer w p q) (sym need.prev)
-      (supply_sent top streams good p e lack q listed free few) in
-      subst (IsCompleted IsNeedless top) (with_told q put.index x streams)
-      (completed_again IsNeedless top (wholes_with q put.index x streams)
-      (by_send n later longer (good_sent top streams good p e lack q listed free few) (all_same ∙ lacking_is)
-      p need.event lack_then q supply))
+  pub completed : (told_streams (completion streams) ≡ streams) × IsStreams (all_streams (completion streams))
+      × IsNeedless top (all_streams (completion streams))
+  completed = (
+    receives_told (supplies streams) (with_sends (supplies streams) told)
+        ∙ sends_told (supplies streams) told
+        ∙ told_same streams,
+    met.good.sound,
+    needless_if top (all_streams (completion streams)) met.good met.none,
+  )
 
-  by_need : (n : ℕ) → Completes n → (streams : List Stream) → IsGood top streams → lacking streams ≡ suc n
-      → (p : Pid) → lists streams p ≡ true → IsLacked streams p → IsCompleted IsNeedless top streams
-  by_need n later streams good lacking_is p there lacked =
-      let e = lacked.event in
-      let v = e.serial.prev in
-      let some = lacked.some in
-      elim (cases_lt (owns streams v p) (needs streams v p)) [
-        | inr enough ↦
-            let own = some_passes (is_own_supply streams v p) (pids_of streams) (omega arith) in
-            by_send n later streams good lacking_is p e lacked.lack own.pid (supply_of streams v p own.pid own.passes)
-        | inl few ↦
-            let lacks_one : 0 < excess streams v p = omega arith in
-            let sum = term_within (excess streams v) p (pids_of streams) (sym (lists_among streams p) ∙ there)
-            lacks_one in
-            let supplied = good.supplied v in
-            let free = some_passes (is_free streams v) (pids_of streams) (omega arith) in
-            by_free n later streams good lacking_is p e lacked.lack free.pid (lists_among streams free.pid ∙ free.among)
-            free.passes few
-      ]
-
-  some_lacked : (streams : List Stream) (p : Pid) → 0 < lacks streams p → IsLacked streams p
-  some_lacked streams p some =
-      let one = need_at [] (events_of streams p) some in
-      lacked_of streams p one.0 one.1
-
-  all_met : (n : ℕ) → Completes n
-  unfolding Completes
-  all_met zero streams good none =
-      own_completion IsNeedless top streams good.sound (needless_if streams good none)
-  all_met (suc n) streams good lacking_is =
-      let term = some_term (lacks streams) (pids_of streams) (omega arith) in
-      by_need n (all_met n) streams good lacking_is term.pid (lists_among streams term.pid ∙ term.among)
-      (some_lacked streams term.pid term.above)
-
-  pub decided : (streams : List Stream) → IsStreams streams → HasEachSend streams → HasNoReason top streams
-      → IsCompleted IsNeedless top streams
-  unfolding Completes
-  decided streams sound sends none =
-      all_met (lacking streams) streams (good_if top streams sound sends none) refl
+  pub decided : IsCompleted IsNeedless top streams
+  decided = record { wholes = completion streams; told = completed.0; sound = completed.1; is = completed.2 }

@@ -26,7 +26,6 @@ pub record IsGood (top : ℕ) (streams : List Stream) : Type 0 where
   pub timely : (p : Pid) → AreTimely [] (events_of streams p)
   pub within : (p : Pid) (i : ℕ) (e : Event) → event_at streams p i ≡ Some e → e.serial.this ≤ top
   pub founded : (p : Pid) → needs streams 0 p ≡ 0
-  pub supplied : (v : ℕ) → IsSupplied streams v
 
 abbrev pub each : ℕ → Bool
 each v = true

@@ -10,6 +10,7 @@ use Rattle.st_core.specs.Laws.{greatest_count, prev_after}
 use Rattle.st_core.proofs.ForCallers.{and_false, greatest_push, prev_push}
 use Rattle.st_pair.specs.Places.{is_stamp}
 use Rattle.st_plan.specs.Marks.{Marked, told_events}
+use Rattle.st_full.specs.Completion.{begins}
 use Rattle.st_full.specs.Needs.{is_late, is_need}
 use Rattle.st_full.proofs.Feeding.{Alike, alike_late, alike_need, alike_push, AreTimely}
 use Rattle.st_full.proofs.Turning.{leaves}
@@ -36,11 +37,6 @@ keeps_told all before (e ∷ es) alike timely = (
   alike_need all before e alike,
   keeps_told (all ++ e ∷ []) (before ++ e ∷ []) es (alike_push all before e alike.greatest) timely.1,
 )
-
--- where e's prev is neither what is left nor below the greatest count c, but below v, the new send begins its trace
-abbrev pub begins : ℕ → ℕ → ℕ → Event → Bool
-begins v c left e =
-    is_stamp e && (not (e.serial.prev == left) && (not (nat_lt e.serial.prev c) && nat_lt e.serial.prev v))
 
 -- the prev of the send of v that is put before e
 abbrev pub prev_for : ℕ → List Event → Event → ℕ

@@ -28,6 +28,11 @@ pub mod Good
 pub mod Receiving
 pub mod Sending
 pub mod Starting
+pub mod Filling
+pub mod Serving
+pub mod Taking
+pub mod Sharing
+pub mod Supplies
 pub mod Decided
 pub mod Deciding
 pub mod ForCallers

@@ -157,14 +157,14 @@ all_there : (es : List Event) → map (λ (m : Marked). m.event) (map (λ e. rec
 all_there [] = refl
 all_there (e ∷ es) = ap (λ xs. e ∷ xs) (all_there es)
 
-told_same : (streams : List Stream) → told_streams (map marks_all streams) ≡ streams
+pub told_same : (streams : List Stream) → told_streams (map marks_all streams) ≡ streams
 told_same [] = refl
 told_same (x ∷ streams) =
     ap (λ es. let y : Stream = record { pid = x.pid; events = es } in y ∷ told_streams (map marks_all streams))
     (all_told x.events)
     ∙ ap (λ ys. x ∷ ys) (told_same streams)
 
-all_same : (streams : List Stream) → all_streams (map marks_all streams) ≡ streams
+pub all_same : (streams : List Stream) → all_streams (map marks_all streams) ≡ streams
 all_same [] = refl
 all_same (x ∷ streams) =
     ap (λ es. let y : Stream = record { pid = x.pid; events = es } in y ∷ all_streams (map marks_all streams))

@@ -1,7 +1,7 @@
 -- Where an invented send stands: before it all counts are lower, and behind it each stamp is higher, since none is late;
 -- its prev is lower too, being what events of lower counts leave, or the prev that begins a trace.
 use Rattle.std.proofs.Common.{◌≡◌, ℕ, zero, suc, ◌+◌, ◌<◌, ◌≤◌, ◌==◌, ◌&&◌, nat_lt, Bool, true, false, not, cond}
-use Rattle.std.proofs.Common.{List, [], ◌∷◌, ◌++◌, length, Some, slice_get, refl, sym, ◌∙◌, ap, arith}
+use Rattle.std.proofs.Common.{List, [], ◌∷◌, ◌++◌, length, Some, slice_get, refl, sym, ◌∙◌, ap, arith, take, append-nil, append_assoc}
 use Rattle.std.specs.List.{AllByRecursion}
 use Rattle.std.proofs.lemmas.Bool.{and_parts, ltb-true, ltb-false}
 use Rattle.std.proofs.lemmas.Option.{none-some, same_Some}
@@ -10,10 +10,11 @@ use Rattle.st_core.specs.Laws.{greatest_count, prev_after}
 use Rattle.st_core.proofs.ForCallers.{greatest_push, prev_push}
 use Rattle.st_pair.specs.Places.{is_stamp}
 use Rattle.st_plan.specs.Marks.{Marked, told_events}
+use Rattle.st_full.specs.Completion.{begins, place_below, prev_between}
 use Rattle.st_full.specs.Needs.{is_need}
 use Rattle.st_full.proofs.Fed.{events}
 use Rattle.st_full.proofs.Feeding.{AreTimely}
-use Rattle.st_full.proofs.Inventing.{begins, HasNo, Keeps, prev_for, with_send}
+use Rattle.st_full.proofs.Inventing.{HasNo, Keeps, prev_for, with_send}
 use Rattle.st_full.proofs.Meeting.{counted}
 use Rattle.st_full.proofs.Needless.{above_if}
 use Rattle.st_full.proofs.Putting.{put_in, told_only}
@@ -55,6 +56,8 @@ pub record IsPlaced (send : ℕ → Event) (v : ℕ) (before es : List Event) : 
   pub low : prev < v
   pub below : (j : ℕ) (d : Event) → j < index → slice_get es j ≡ Some d → d.serial.this < v
   pub above : (j : ℕ) (d : Event) → index ≤ j → slice_get es j ≡ Some d → is_stamp d ≡ true → v < d.serial.this
+  pub index_is : place_below v es ≡ index
+  pub prev_is : prev_between v (before ++ take index es) (slice_get es index) ≡ prev
 
 -- a stamp behind a count isn't late, and so above it
 timely_above : (v : ℕ) (before es : List Event) → v ≤ greatest_count before → AreTimely before es → (j : ℕ) (d : Event)
@@ -115,6 +118,9 @@ placed_later send v before e es low test rest = record {
         | zero ↦ λ less _. absurd (omega arith)
         | suc k ↦ λ less at. rest.above k d (omega arith) at stamps
       ] less at;
+  index_is = ap (λ b. cond b (1 + place_below v es) 0) test ∙ (let same = rest.index_is in omega arith);
+  prev_is = ap (λ xs. prev_between v xs (slice_get es rest.index))
+      (sym (append_assoc before (e ∷ []) (take rest.index es))) ∙ rest.prev_is;
 }
 
 pub placed_at : (send : ℕ → Event) (v : ℕ) (before es : List Event) → greatest_count before < v → prev_after before < v
@@ -127,6 +133,8 @@ placed_at send v before [] low left timely none rise = record {
   low = left;
   below = λ j d less at. absurd (none-some d at);
   above = λ j d less at stamps. absurd (none-some d at);
+  index_is = refl;
+  prev_is = ap prev_after (append-nil before);
 }
 placed_at send v before (e ∷ es) low left timely none rise =
     let this = e.serial.this in
@@ -156,5 +164,7 @@ placed_at send v before (e ∷ es) low left timely none rise =
                   omega arith
               | suc k ↦ λ at. timely_above v (before ++ e ∷ []) es (omega arith) timely.1 k d at stamps
             ] at;
+            index_is = ap (λ b. cond b (1 + place_below v es) 0) test;
+            prev_is = ap (λ xs. prev_between v xs (Some e)) (append-nil before);
           }
     ] refl

@@ -19,7 +19,8 @@ use Rattle.st_core.specs.Streams.{events_of, is_of, lists}
 use Rattle.st_core.proofs.ForCallers.{and_false, pid_eq-refl, pid_eq-swap, pid_same}
 use Rattle.st_pair.specs.Places.{event_at, is_stamp}
 use Rattle.st_pair.specs.Pairing.{agrees, is_send, receive_of, stamp_of, to_eq}
-use Rattle.st_full.specs.Supply.{excess, is_free, is_own_supply, needs, needs_from}
+use Rattle.st_full.specs.Completion.{receive_for}
+use Rattle.st_full.specs.Supply.{excess, is_free, is_own_supply, IsSupplied, needs, needs_from}
 use Rattle.st_full.proofs.Asking.{events_with, HasStamp, none_taken, one_stamp, passes_with, stamp_if}
 use Rattle.st_full.proofs.Asking.{stamp_is, stamp_passes, taken_with}
 use Rattle.st_full.proofs.Counting.{count_one}
@@ -76,10 +77,6 @@ pub drop_is : (es : List Event) (i : ℕ) (e : Event) → slice_get es i ≡ Som
 drop_is [] i e at = absurd (none-some e at)
 drop_is (d ∷ es) zero e at = ap (λ x. x ∷ es) (same_Some d e at)
 drop_is (d ∷ es) (suc i) e at = drop_is es i e at
-
--- the receive of a send
-abbrev pub receive_for : Event → Event
-receive_for f = record f { kind = kind.Receive }
 
 module _ (top : ℕ) (streams : List Stream) (good : IsGood top streams) (p : Pid) (e : Event)
     (lack : IsLack streams p e) (q : Pid) (supply : IsSupply streams e.serial.prev p q) where
@@ -200,19 +197,19 @@ module _ (top : ℕ) (streams : List Stream) (good : IsGood top streams) (p : Pi
   pub lacks_others : (x : Pid) → pid_eq x p ≡ false → lacks fed x ≡ lacks streams x
   lacks_others x other = ap (counted each []) (others_are x other)
 
-  needs_less : (w : ℕ) → needs fed w p + cond (v == w) 1 0 ≡ needs streams w p
+  pub needs_less : (w : ℕ) → needs fed w p + cond (v == w) 1 0 ≡ needs streams w p
   needs_less w =
       ap (λ n. n + cond (v == w) 1 0) (sym (counted_of w [] (events_of fed p)))
       ∙ counted_fed (λ n. n == w)
       ∙ counted_of w [] (events_of streams p)
 
-  needs_others : (w : ℕ) (x : Pid) → pid_eq x p ≡ false → needs fed w x ≡ needs streams w x
+  pub needs_others : (w : ℕ) (x : Pid) → pid_eq x p ≡ false → needs fed w x ≡ needs streams w x
   needs_others w x other = ap (needs_from w []) (others_are x other)
 
   -- SUPPLIES
 
   -- only the message that is received now changes
-  own_else : (w : ℕ) (x y : Pid) → (pid_eq y q && v == w) ≡ false
+  pub own_else : (w : ℕ) (x y : Pid) → (pid_eq y q && v == w) ≡ false
       → is_own_supply fed w x y ≡ is_own_supply streams w x y
   own_else w x y else_one =
       ap (λ b. b && stamp_passes (sends_to x) (stamp_of fed y w))
@@ -355,6 +352,9 @@ module _ (top : ℕ) (streams : List Stream) (good : IsGood top streams) (p : Pi
           let none = good.founded p in
           subst (λ z. needs fed 0 z ≡ 0) (sym (pid_same x p same)) (omega arith)
     ] refl;
-    supplied = λ w. supplied_alike streams fed w (sym (with_pids p i r streams))
-        (λ x. sym (excess_at w x (v == w) (pid_eq x p) refl refl)) (λ y. sym (free_at w y)) (good.supplied w);
   }
+
+  pub supplied_fed : ((w : ℕ) → IsSupplied streams w) → (w : ℕ) → IsSupplied fed w
+  supplied_fed supplied w =
+      supplied_alike streams fed w (sym (with_pids p i r streams))
+      (λ x. sym (excess_at w x (v == w) (pid_eq x p) refl refl)) (λ y. sym (free_at w y)) (supplied w)

@@ -1,13 +1,14 @@
 -- A need that nobody's reported send serves: a process that is free for its prev gets an untold send of it, to the
 -- process that has the need. The streams stay good, and the send is one that nobody is told to have received: the
 -- process that has the need lacks one sender less, and one process less is free.
-use Rattle.std.proofs.Common.{◌≡◌, ◌≢◌, ℕ, ◌+◌, ◌<◌, ◌==◌, ◌&&◌, Bool, true, false, cond, List, []}
+use Rattle.std.proofs.Common.{◌≡◌, ◌≢◌, ◌≤◌, ℕ, ◌+◌, ◌<◌, ◌==◌, ◌&&◌, Bool, true, false, cond, List, []}
 use Rattle.std.proofs.Common.{◌∷◌, ◌++◌, take, drop, Option, Some, None, inl, inr, is_none, not, sum_by}
 use Rattle.std.proofs.Common.{refl, sym, ◌∙◌, ap, subst, arith}
 use Rattle.std.specs.List.{count_by}
 use Rattle.std.proofs.lemmas.Bool.{cases_lt, eqb-true, false≢true, and_parts, and_from}
 use Rattle.st_core.specs.declared.types.Pid.{Pid}
 use Rattle.st_core.specs.declared.types.Kind.TheVariants as kind
+use Rattle.st_core.specs.declared.types.Label.{Label}
 use Rattle.st_core.specs.declared.types.Event.{Event}
 use Rattle.st_core.specs.Pid.{pid_eq}
 use Rattle.st_core.specs.Laws.{IsReportAmong}
@@ -34,24 +35,20 @@ use Rattle.st_full.proofs.Receiving.{IsSupply}
 use Rattle.st_full.proofs.Reporting.{all_from, sound_with}
 use Rattle.st_full.proofs.Shown.{lists_among}
 
-stamp_none : (o : Option (ℕ × Event)) → is_none o ≡ true → o ≡ None
+pub stamp_none : (o : Option (ℕ × Event)) → is_none o ≡ true → o ≡ None
 stamp_none None h = refl
 stamp_none (Some f) h = absurd (false≢true h)
 
-module _ (top : ℕ) (streams : List Stream) (good : IsGood top streams) (p : Pid) (e : Event)
-    (lack : IsLack streams p e) (q : Pid) (listed : lists streams q ≡ true)
-    (free : is_free streams e.serial.prev q ≡ true)
-    (few : count_by (is_own_supply streams e.serial.prev p) (pids_of streams) < needs streams e.serial.prev p) where
-  abbrev v : ℕ
-  v = e.serial.prev
-
+module _ (top : ℕ) (streams : List Stream) (good : IsGood top streams) (label : Label) (v : ℕ) (above : 0 < v)
+    (high : v ≤ top) (p : Pid) (there : lists streams p ≡ true) (q : Pid) (listed : lists streams q ≡ true)
+    (free : is_free streams v q ≡ true) where
   abbrev es : List Event
   es = events_of streams q
 
   -- the send that is invented
   abbrev pub send : ℕ → Event
   send prev = record {
-    label = e.label;
+    label = label;
     kind = kind.Send;
     serial = record { prev = prev; this = v };
     from = q;
@@ -81,16 +78,6 @@ module _ (top : ℕ) (streams : List Stream) (good : IsGood top streams) (p : Pi
 
   all_rise : AllRise es
   all_rise = all_from (λ d. d.serial.prev < d.serial.this) es (λ k d at. good.fit.rises q k d at)
-
-  -- no need is one of 0
-  above : 0 < v
-  above = elim (cases_lt 0 v) [
-    | inl less ↦ less
-    | inr not_less ↦
-        let zero_is : v ≡ 0 = omega arith in
-        let none = ap (λ n. needs streams n p) zero_is ∙ good.founded p in
-        absurd (omega arith)
-  ]
 
   pub place : IsPlaced send v [] es
   place = placed_at send v [] es above above (good.timely q) has_no all_rise
@@ -131,7 +118,7 @@ module _ (top : ℕ) (streams : List Stream) (good : IsGood top streams) (p : Pi
     own = and_from (pid_eq q q) true (pid_eq-refl q) refl;
     names = and_from (is_among (pids_of streams) q) (is_among (pids_of streams) p)
         (sym (lists_among streams q) ∙ listed)
-        (sym (lists_among streams p) ∙ listed_at streams p lack.index e lack.at);
+        (sym (lists_among streams p) ∙ there);
   }
 
   -- THE EVENTS OF q
@@ -205,13 +192,13 @@ module _ (top : ℕ) (streams : List Stream) (good : IsGood top streams) (p : Pi
       passes_with q k x streams listed place.within test y w
       (λ same. sym (ap (λ b. b && v == w) (ap (λ z. pid_eq z q) same ∙ pid_eq-refl q)) ∙ else_one)
 
-  own_else : (w : ℕ) (z y : Pid) → (pid_eq y q && v == w) ≡ false
+  pub own_else : (w : ℕ) (z y : Pid) → (pid_eq y q && v == w) ≡ false
       → is_own_supply sent w z y ≡ is_own_supply streams w z y
   own_else w z y else_one =
       ap (λ b. b && stamp_passes (sends_to z) (stamp_of sent y w)) (taken_same w y)
       ∙ ap (λ b. is_none (receive_of streams y w) && b) (passes_else (sends_to z) w y else_one)
 
-  free_else : (w : ℕ) (y : Pid) → (pid_eq y q && v == w) ≡ false → is_free sent w y ≡ is_free streams w y
+  pub free_else : (w : ℕ) (y : Pid) → (pid_eq y q && v == w) ≡ false → is_free sent w y ≡ is_free streams w y
   free_else w y else_one =
       free_is sent w y
       ∙ ap (λ b. b && not (stamp_passes any_event (stamp_of sent y w))) (taken_same w y)
@@ -221,7 +208,7 @@ module _ (top : ℕ) (streams : List Stream) (good : IsGood top streams) (p : Pi
   untaken_still : is_none (receive_of sent q v) ≡ true
   untaken_still = taken_same v q ∙ untaken
 
-  own_now : is_own_supply sent v p q ≡ true
+  pub own_now : is_own_supply sent v p q ≡ true
   own_now = and_from (is_none (receive_of sent q v)) (stamp_passes (sends_to p) (stamp_of sent q v)) untaken_still
       (stamp_is sent fit_sent q v stamp (sends_to p) ∙ pid_eq-refl p)
 
@@ -277,8 +264,23 @@ module _ (top : ℕ) (streams : List Stream) (good : IsGood top streams) (p : Pi
       (λ y other. sym (free_else v y (ap (λ b. b && v == v) other))) (pids_of streams) good.sound.draft.rising among
       ∙ ap (λ ps. count_by (is_free sent v) ps + 1) (sym pids_same)
 
-  excess_less : excess streams v p ≡ excess sent v p + 1
-  excess_less =
+  pub good_sent : IsGood top sent
+  good_sent = record {
+    sound = sound_with q k x streams good.sound report;
+    fit = fit_sent;
+    sent = sent_with q k x streams place.within good.sent (λ receives. absurd (false≢true (sym receives)));
+    timely = timely_sent;
+    within = within_with q k x streams top place.within good.within high;
+    founded = λ y. needs_same 0 y ∙ good.founded y;
+  }
+
+  -- and the send serves the need
+  pub supply_sent : IsSupply sent v p q
+  supply_sent = record { stamp = stamp; untaken = untaken_still; sends = refl; to = refl }
+
+  -- as many are supplied as before
+  excess_less : owns streams v p < needs streams v p → excess streams v p ≡ excess sent v p + 1
+  excess_less few =
       let one = needs_same v p in
       let two = owns_more in
       omega arith
@@ -289,19 +291,19 @@ module _ (top : ℕ) (streams : List Stream) (good : IsGood top streams) (p : Pi
       let two = owns_alike v z (λ y. own_others z y other) in
       omega arith
 
-  supplied_here : IsSupplied sent v
-  supplied_here =
-      let sums = sum_one (excess streams v) (excess sent v) p excess_less excess_others (pids_of streams)
-      good.sound.draft.rising (sym (lists_among streams p) ∙ listed_at streams p lack.index e lack.at) in
+  supplied_here : owns streams v p < needs streams v p → IsSupplied streams v → IsSupplied sent v
+  supplied_here few before =
+      let sums = sum_one (excess streams v) (excess sent v) p (excess_less few) excess_others (pids_of streams)
+      good.sound.draft.rising (sym (lists_among streams p) ∙ there) in
       let same : sum_by (excess sent v) (pids_of sent) ≡ sum_by (excess sent v) (pids_of streams) =
       ap (sum_by (excess sent v)) pids_same in
       let frees = frees_less in
-      let before = good.supplied v in
       omega arith
 
-  supplied_sent : (w : ℕ) → IsSupplied sent w
-  supplied_sent w = elim (v == w) as (λ b. v == w ≡ b → IsSupplied sent w) [
-    | true ↦ λ same. subst (IsSupplied sent) (eqb-true v w same) supplied_here
+  pub supplied_sent : owns streams v p < needs streams v p → ((w : ℕ) → IsSupplied streams w) → (w : ℕ)
+      → IsSupplied sent w
+  supplied_sent few supplied w = elim (v == w) as (λ b. v == w ≡ b → IsSupplied sent w) [
+    | true ↦ λ same. subst (IsSupplied sent) (eqb-true v w same) (supplied_here few (supplied v))
     | false ↦ λ other.
         let apart = λ (y : Pid). ap (λ b. pid_eq y q && b) other ∙ and_false (pid_eq y q) false refl in
         supplied_alike streams sent w (sym pids_same)
@@ -309,21 +311,5 @@ module _ (top : ℕ) (streams : List Stream) (good : IsGood top streams) (p : Pi
         let one = needs_same w z in
         let two = owns_alike w z (λ y. own_else w z y (apart y)) in
         omega arith)
-        (λ y. sym (free_else w y (apart y))) (good.supplied w)
+        (λ y. sym (free_else w y (apart y))) (supplied w)
   ] refl
-
-  pub good_sent : IsGood top sent
-  good_sent = record {
-    sound = sound_with q k x streams good.sound report;
-    fit = fit_sent;
-    sent = sent_with q k x streams place.within good.sent (λ receives. absurd (false≢true (sym receives)));
-    timely = timely_sent;
-    within = within_with q k x streams top place.within good.within
-        (let less = good.fit.rises p lack.index e lack.at in let high = good.within p lack.index e lack.at in omega arith);
-    founded = λ y. needs_same 0 y ∙ good.founded y;
-    supplied = supplied_sent;
-  }
-
-  -- and the send serves the need
-  pub supply_sent : IsSupply sent v p q
-  supply_sent = record { stamp = stamp; untaken = untaken_still; sends = refl; to = refl }

@@ -139,5 +139,4 @@ module _ (top : ℕ) (streams : List Stream) (sound : IsStreams streams) (sends 
     timely = λ p. timely_from [] (events_of streams p) (λ i e at. none.timely p i e at);
     within = none.within;
     founded = founded_at;
-    supplied = none.supplied;
   }

@@ -99,13 +99,22 @@ send_for s prev = record {
 abbrev pub receive_for : Event → Event
 receive_for f = record f { kind = kind.Receive }
 
+-- the count of the message: the prev of the need
+abbrev pub count_of : Supply → ℕ
+count_of s = s.need.serial.prev
+
+-- the invented send, as it stands among these events of its process
+abbrev pub send_among : Supply → List Event → Event
+send_among s es =
+    send_for s (prev_between (count_of s) (take (place_below (count_of s) es) es)
+    (slice_get es (place_below (count_of s) es)))
+
 -- with the send of a supply, if its process has no stamp of this count
 abbrev pub with_send_of : Supply → List Whole → List Whole
-with_send_of s wholes = elim (stamp_of (all_streams wholes) s.from s.need.serial.prev) [
+with_send_of s wholes = elim (stamp_of (all_streams wholes) s.from (count_of s)) [
   | Some f ↦ wholes
-  | None ↦ let es = events_of (all_streams wholes) s.from in
-      let i = place_below s.need.serial.prev es in
-      map (put s.from i (send_for s (prev_between s.need.serial.prev (take i es) (slice_get es i)))) wholes
+  | None ↦ map (put s.from (place_below (count_of s) (events_of (all_streams wholes) s.from))
+      (send_among s (events_of (all_streams wholes) s.from))) wholes
 ]
 
 -- how many of these events, after those before, come before the first need of v
@@ -116,10 +125,9 @@ place_of_need v before (e ∷ es) =
 
 -- with the receive of a supply, right before the first need of its count
 abbrev pub with_receive_of : Supply → List Whole → List Whole
-with_receive_of s wholes = elim (stamp_of (all_streams wholes) s.from s.need.serial.prev) [
+with_receive_of s wholes = elim (stamp_of (all_streams wholes) s.from (count_of s)) [
   | None ↦ wholes
-  | Some f ↦ map (put s.to (place_of_need s.need.serial.prev [] (events_of (all_streams wholes) s.to)) (receive_for f.1))
-      wholes
+  | Some f ↦ map (put s.to (place_of_need (count_of s) [] (events_of (all_streams wholes) s.to)) (receive_for f.1)) wholes
 ]
 
 abbrev pub with_sends : List Supply → List Whole → List Whole

@@ -15,6 +15,7 @@ ghost use Rattle.st_pair.specs.Places.{event_at};
 ghost use Rattle.st_plan.specs.Marks.{all_streams, told_streams, Whole};
 ghost use Rattle.st_plan.specs.Plain.{IsPlain, IsSettled};
 ghost use Rattle.st_full.specs.Completed.{IsCompleted, IsShownInOneTrace};
+ghost use Rattle.st_full.specs.Completion.{completion};
 ghost use Rattle.st_full.specs.Full.{IsFull};
 ghost use Rattle.st_full.specs.Local.{IsNeedless};
 ghost use Rattle.st_full.specs.Needs.{is_late, is_need, is_rootless, HoldsOfNone, IsFedAt, marked_of};
@@ -100,12 +101,14 @@ pub fn needless_streams_are_shown()
 {}
 
 /// If each reported receive has its send among the reported events, and no reason stands against the
-/// streams, they have a completion without a need. It has, for each need, an untold receive of its
-/// prev right before it: of a reported send to this process that nobody is told to have received, or
-/// else of an untold send of a process that tells nothing of this count.
+/// streams, then `completion` completes them: it tells the streams, and has no need. Each need has an
+/// untold receive right before it, of a reported send to this process that nobody is told to have
+/// received, or else of an untold send of a process that tells nothing of this count.
 pub fn streams_without_a_reason_are_completed()
     ensures { (top : ℕ) (streams : List Stream) → IsStreams streams → HasEachSend streams
-        → HasNoReason top streams → IsCompleted IsNeedless top streams }
+        → HasNoReason top streams
+        → (told_streams (completion streams) ≡ streams) × IsStreams (all_streams (completion streams))
+        × IsNeedless top (all_streams (completion streams)) }
 {}
 
 /// So for streams in which each reported receive has its send, the reasons decide: acts without a reset
