@@ -329,12 +329,12 @@ whole p ms = record { pid = p; marked = ms }
 -- The reported send that nobody received serves the need of 3: its receive is put right before the need.
 own_completed : completion own_streams
     ≡ whole a (
-      told_event (event kind.Print 1 0 3 a None 1)
-      ∷ told_event (event kind.Print 1 0 5 a None 2)
-      ∷ added (event kind.Receive 1 0 3 b (Some a) 7)
-      ∷ told_event (event kind.Print 1 3 6 a None 3)
-      ∷ []
-      )
+    told_event (event kind.Print 1 0 3 a None 1)
+    ∷ told_event (event kind.Print 1 0 5 a None 2)
+    ∷ added (event kind.Receive 1 0 3 b (Some a) 7)
+    ∷ told_event (event kind.Print 1 3 6 a None 3)
+    ∷ []
+    )
     ∷ whole b (told_event (event kind.Send 1 0 3 b (Some a) 7) ∷ [])
     ∷ []
 own_completed = refl
@@ -342,12 +342,12 @@ own_completed = refl
 -- Nobody told of one: the free process sends it, with the need's label.
 two_completed : completion two_streams
     ≡ whole a (
-      told_event (event kind.Print 1 0 3 a None 1)
-      ∷ told_event (event kind.Print 1 0 5 a None 2)
-      ∷ added (event kind.Receive 1 0 3 b (Some a) 0)
-      ∷ told_event (event kind.Print 1 3 6 a None 3)
-      ∷ []
-      )
+    told_event (event kind.Print 1 0 3 a None 1)
+    ∷ told_event (event kind.Print 1 0 5 a None 2)
+    ∷ added (event kind.Receive 1 0 3 b (Some a) 0)
+    ∷ told_event (event kind.Print 1 3 6 a None 3)
+    ∷ []
+    )
     ∷ whole b (added (event kind.Send 1 0 3 b (Some a) 0) ∷ [])
     ∷ []
 two_completed = refl
@@ -358,12 +358,12 @@ far = pid_on 1 30
 
 far_completed : completion (record { pid = a; events = alone } ∷ record { pid = far; events = [] } ∷ [])
     ≡ whole a (
-      told_event (event kind.Print 1 0 3 a None 1)
-      ∷ told_event (event kind.Print 1 0 5 a None 2)
-      ∷ added (event kind.Receive 1 0 3 far (Some a) 0)
-      ∷ told_event (event kind.Print 1 3 6 a None 3)
-      ∷ []
-      )
+    told_event (event kind.Print 1 0 3 a None 1)
+    ∷ told_event (event kind.Print 1 0 5 a None 2)
+    ∷ added (event kind.Receive 1 0 3 far (Some a) 0)
+    ∷ told_event (event kind.Print 1 3 6 a None 3)
+    ∷ []
+    )
     ∷ whole far (added (event kind.Send 1 0 3 far (Some a) 0) ∷ [])
     ∷ []
 far_completed = refl
@@ -410,12 +410,12 @@ begun =
 
 begun_completed : completion begun
     ≡ whole a (
-      told_event (event kind.Print 1 0 3 a None 1)
-      ∷ told_event (event kind.Print 1 0 5 a None 2)
-      ∷ added (event kind.Receive 1 2 3 b (Some a) 0)
-      ∷ told_event (event kind.Print 1 3 6 a None 3)
-      ∷ []
-      )
+    told_event (event kind.Print 1 0 3 a None 1)
+    ∷ told_event (event kind.Print 1 0 5 a None 2)
+    ∷ added (event kind.Receive 1 2 3 b (Some a) 0)
+    ∷ told_event (event kind.Print 1 3 6 a None 3)
+    ∷ []
+    )
     ∷ whole b (added (event kind.Send 1 2 3 b (Some a) 0) ∷ told_event (event kind.Print 1 2 5 b None 4) ∷ [])
     ∷ []
 begun_completed = refl
@@ -426,11 +426,11 @@ to_itself = record { pid = a; events = event kind.Print 1 0 3 a None 1 ∷ event
 
 itself_completed : completion to_itself
     ≡ whole a (
-      added (event kind.Send 1 0 2 a (Some a) 0)
-      ∷ told_event (event kind.Print 1 0 3 a None 1)
-      ∷ added (event kind.Receive 1 0 2 a (Some a) 0)
-      ∷ told_event (event kind.Print 1 2 5 a None 2)
-      ∷ []
-      )
+    added (event kind.Send 1 0 2 a (Some a) 0)
+    ∷ told_event (event kind.Print 1 0 3 a None 1)
+    ∷ added (event kind.Receive 1 0 2 a (Some a) 0)
+    ∷ told_event (event kind.Print 1 2 5 a None 2)
+    ∷ []
+    )
     ∷ []
 itself_completed = refl

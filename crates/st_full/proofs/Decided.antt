@@ -1,10 +1,10 @@
 -- Law D: the completion of streams against which no reason stands is needless. With the sends that its supplies lack it
 -- needs what the streams needed; each of these needs gets its receive; and neither makes anything late.
-use Rattle.std.proofs.Common.{◌≡◌, ℕ, zero, suc, ◌+◌, ◌<◌, ◌≤◌, ◌==◌, ◌&&◌, ◌||◌, Bool, true, false, cond, List, [], ◌∷◌, ◌++◌}
+use Rattle.std.proofs.Common.{◌≡◌, ℕ, zero, suc, ◌<◌, ◌==◌, ◌&&◌, ◌||◌, Bool, true, false, cond, List, [], ◌∷◌, ◌++◌}
 use Rattle.std.proofs.Common.{take, Option, Some, None, slice_get, append-nil, append_assoc, refl, sym, ◌∙◌, ap, subst}
 use Rattle.std.proofs.Common.{arith}
 use Rattle.std.specs.List.{AllByRecursion}
-use Rattle.std.proofs.lemmas.Bool.{and_from, eq-eqb, false≢true}
+use Rattle.std.proofs.lemmas.Bool.{and_from, eq-eqb}
 use Rattle.std.proofs.lemmas.Option.{none-some, same_Some}
 use Rattle.st_core.specs.declared.types.Pid.{Pid}
 use Rattle.st_core.specs.declared.types.Event.{Event}
@@ -15,8 +15,8 @@ use Rattle.st_core.specs.Collected.{is_among}
 use Rattle.st_core.proofs.ForCallers.{pid_eq-refl}
 use Rattle.st_pair.specs.declared.answer.Source.{Source}
 use Rattle.st_pair.specs.declared.answer.Source.TheVariants as source
-use Rattle.st_pair.specs.Places.{event_at, is_stamp}
-use Rattle.st_pair.specs.Pairing.{source_of, stamp_of}
+use Rattle.st_pair.specs.Places.{is_stamp}
+use Rattle.st_pair.specs.Pairing.{stamp_of}
 use Rattle.st_order.specs.Items.{is_hidden}
 use Rattle.st_plan.specs.Marks.{all_streams, told_streams, Whole}
 use Rattle.st_full.specs.Completed.{IsCompleted}

@@ -1,21 +1,19 @@
 -- Streams that law D goes through: nothing stands against them, and each receive's send is there. What one more event
 -- leaves of this, wherever it fits.
 use Rattle.std.proofs.Common.{◌≡◌, ℕ, ◌≤◌, ◌&&◌, Bool, true, false, List, []}
-use Rattle.std.proofs.Common.{take, length, inl, inr, Option, Some, None, is_none, not, sum_by}
-use Rattle.std.proofs.Common.{refl, ◌∙◌, ap, subst, arith}
-use Rattle.std.specs.List.{count_by}
+use Rattle.std.proofs.Common.{take, length, inl, inr, Option, Some, None, is_none, not}
+use Rattle.std.proofs.Common.{refl, ◌∙◌, ap, subst}
 use Rattle.st_core.specs.declared.types.Pid.{Pid}
 use Rattle.st_core.specs.declared.types.Event.{Event}
-use Rattle.st_core.specs.Run.{Stream, pids_of}
+use Rattle.st_core.specs.Run.{Stream}
 use Rattle.st_core.specs.Streams.{events_of, IsStreams}
 use Rattle.st_pair.specs.Places.{event_at, is_stamp}
 use Rattle.st_pair.specs.Pairing.{is_send, receive_of, stamp_of, to_eq}
 use Rattle.st_full.specs.Needs.{is_need}
-use Rattle.st_full.specs.Supply.{excess, is_free, is_own_supply, IsSupplied, needs}
+use Rattle.st_full.specs.Supply.{is_free, needs}
 use Rattle.st_full.proofs.Accepting.{FitTogether}
 use Rattle.st_full.proofs.Asking.{HasStamp, stamp_passes}
 use Rattle.st_full.proofs.Feeding.{AreTimely}
-use Rattle.st_full.proofs.Meeting.{counted}
 use Rattle.st_full.proofs.Putting.{is_placed, more, stays}
 
 pub record IsGood (top : ℕ) (streams : List Stream) : Type 0 where
@@ -26,17 +24,6 @@ pub record IsGood (top : ℕ) (streams : List Stream) : Type 0 where
   pub timely : (p : Pid) → AreTimely [] (events_of streams p)
   pub within : (p : Pid) (i : ℕ) (e : Event) → event_at streams p i ≡ Some e → e.serial.this ≤ top
   pub founded : (p : Pid) → needs streams 0 p ≡ 0
-
-abbrev pub each : ℕ → Bool
-each v = true
-
--- how many needs p has, of any count
-abbrev pub lacks : List Stream → Pid → ℕ
-lacks streams p = counted each [] (events_of streams p)
-
--- and all have
-abbrev pub lacking : List Stream → ℕ
-lacking streams = sum_by (lacks streams) (pids_of streams)
 
 -- a need of p
 pub record IsLack (streams : List Stream) (p : Pid) (e : Event) : Type 0 where
@@ -50,10 +37,6 @@ pub record IsLack (streams : List Stream) (p : Pid) (e : Event) : Type 0 where
 abbrev pub sends_to : Pid → Event → Bool
 sends_to p f = is_send f && to_eq f.to (Some p)
 
-pub own_is : (streams : List Stream) (v : ℕ) (p q : Pid) → is_own_supply streams v p q
-    ≡ (is_none (receive_of streams q v) && stamp_passes (sends_to p) (stamp_of streams q v))
-own_is streams v p q = refl
-
 abbrev pub any_event : Event → Bool
 any_event f = true
 
@@ -64,16 +47,6 @@ none_passes (Some f) = refl
 pub free_is : (streams : List Stream) (v : ℕ) (q : Pid) → is_free streams v q
     ≡ (is_none (receive_of streams q v) && not (stamp_passes any_event (stamp_of streams q v)))
 free_is streams v q = ap (λ b. is_none (receive_of streams q v) && b) (none_passes (stamp_of streams q v))
-
-pub supplied_alike : (xs ys : List Stream) (v : ℕ) → pids_of xs ≡ pids_of ys
-    → ((p : Pid) → excess xs v p ≡ excess ys v p) → ((q : Pid) → is_free xs v q ≡ is_free ys v q)
-    → IsSupplied xs v → IsSupplied ys v
-supplied_alike xs ys v pids excesses frees supplied =
-    let sums : sum_by (excess xs v) (pids_of xs) ≡ sum_by (excess ys v) (pids_of ys) =
-    λ j. sum_by (λ p. excesses p j) (pids j) in
-    let counts : count_by (is_free xs v) (pids_of xs) ≡ count_by (is_free ys v) (pids_of ys) =
-    λ j. count_by (λ q. frees q j) (pids j) in
-    omega arith
 
 -- ONE MORE EVENT
 

@@ -11,7 +11,6 @@ pub mod Exactly
 pub mod Needless
 pub mod Feeding
 pub mod Inventing
-pub mod Composing
 pub mod Accepting
 pub mod Putting
 pub mod Meeting
@@ -21,7 +20,6 @@ pub mod Feeders
 pub mod Supplying
 pub mod Against
 pub mod Reporting
-pub mod Counting
 pub mod Asking
 pub mod Placing
 pub mod Good

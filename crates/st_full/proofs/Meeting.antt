@@ -1,5 +1,5 @@
 -- A receive of its prev before a need meets this need and no other: after both all is as it was.
-use Rattle.std.proofs.Common.{◌≡◌, ℕ, ◌+◌, ◌<◌, ◌==◌, ◌&&◌, nat_lt, Bool, true, false, not, cond, List}
+use Rattle.std.proofs.Common.{◌≡◌, ℕ, ◌+◌, ◌<◌, ◌==◌, ◌&&◌, nat_lt, true, false, not, cond, List}
 use Rattle.std.proofs.Common.{[], ◌∷◌, ◌++◌, append-nil, append_assoc, refl, sym, ◌∙◌, ap, arith}
 use Rattle.std.proofs.lemmas.Bool.{eq-eqb, ltb-true, and_parts}
 use Rattle.st_core.specs.declared.types.Event.{Event}
@@ -11,25 +11,13 @@ use Rattle.st_full.specs.Supply.{needs_from}
 use Rattle.st_full.proofs.Feeding.{Alike, alike_late, alike_need, alike_push, AreTimely, both_false, no_stamp}
 use Rattle.st_full.proofs.Turning.{leaves}
 
--- how many of these events, after those before, are needs of a prev that is picked
-abbrev pub counted : (ℕ → Bool) → List Event → List Event → ℕ
-counted pick before [] = 0
-counted pick before (e ∷ es) =
-    cond (is_need before e && pick e.serial.prev) 1 0 + counted pick (before ++ e ∷ []) es
-
--- of one prev
-pub counted_of : (v : ℕ) (before es : List Event) → counted (λ n. n == v) before es ≡ needs_from v before es
-counted_of v before [] = refl
-counted_of v before (e ∷ es) =
-    ap (λ n. cond (is_need before e && e.serial.prev == v) 1 0 + n) (counted_of v (before ++ e ∷ []) es)
-
 -- after what is alike the needs are the same
-pub needs_alike : (pick : ℕ → Bool) (xs ys es : List Event) → Alike xs ys → counted pick xs es ≡ counted pick ys es
-needs_alike pick xs ys [] alike = refl
-needs_alike pick xs ys (e ∷ es) alike =
-    ap (λ b. cond (b && pick e.serial.prev) 1 0 + counted pick (xs ++ e ∷ []) es) (alike_need xs ys e alike)
-    ∙ ap (λ n. cond (is_need ys e && pick e.serial.prev) 1 0 + n)
-    (needs_alike pick (xs ++ e ∷ []) (ys ++ e ∷ []) es (alike_push xs ys e alike.greatest))
+pub needs_alike : (v : ℕ) (xs ys es : List Event) → Alike xs ys → needs_from v xs es ≡ needs_from v ys es
+needs_alike v xs ys [] alike = refl
+needs_alike v xs ys (e ∷ es) alike =
+    ap (λ b. cond (b && e.serial.prev == v) 1 0 + needs_from v (xs ++ e ∷ []) es) (alike_need xs ys e alike)
+    ∙ ap (λ n. cond (is_need ys e && e.serial.prev == v) 1 0 + n)
+    (needs_alike v (xs ++ e ∷ []) (ys ++ e ∷ []) es (alike_push xs ys e alike.greatest))
 
 sums : (a b c d x y : ℕ) → a ≡ 0 → b ≡ 0 → c ≡ d → x ≡ y → (a + (b + x)) + d ≡ c + y
 sums a b c d x y first second was later = omega arith
@@ -39,9 +27,9 @@ more a x d y later = omega arith
 
 module _ (r e : Event) (receives : is_stamp r ≡ false) (feeds : r.serial.this ≡ e.serial.prev) where
   -- the need itself
-  met_here : (pick : ℕ → Bool) (before rest : List Event) → is_need before e ≡ true
-      → counted pick before (r ∷ e ∷ rest) + cond (pick e.serial.prev) 1 0 ≡ counted pick before (e ∷ rest)
-  met_here pick before rest need =
+  met_here : (v : ℕ) (before rest : List Event) → is_need before e ≡ true
+      → needs_from v before (r ∷ e ∷ rest) + cond (e.serial.prev == v) 1 0 ≡ needs_from v before (e ∷ rest)
+  met_here v before rest need =
       let prev = e.serial.prev in
       let parts = and_parts (is_stamp e) (not (prev == prev_after before) && nat_lt prev (greatest_count before)) need in
       let tests = and_parts (not (prev == prev_after before)) (nat_lt prev (greatest_count before)) parts.1 in
@@ -54,17 +42,17 @@ module _ (r e : Event) (receives : is_stamp r ≡ false) (feeds : r.serial.this 
       let none : is_need front e ≡ false =
       ap (λ b. is_stamp e && (not b && nat_lt prev (greatest_count front))) (eq-eqb prev (prev_after front) (sym left))
       ∙ both_false (is_stamp e) (nat_lt prev (greatest_count front)) in
-      let later = needs_alike pick (front ++ e ∷ []) (before ++ e ∷ []) rest (alike_push front before e same) in
-      sums _ _ _ _ _ _ (ap (λ b. cond (b && pick r.serial.prev) 1 0) (no_stamp before r receives).1)
-      (ap (λ b. cond (b && pick prev) 1 0) none) (ap (λ b. cond (b && pick prev) 1 0) need) later
+      let later = needs_alike v (front ++ e ∷ []) (before ++ e ∷ []) rest (alike_push front before e same) in
+      sums _ _ _ _ _ _ (ap (λ b. cond (b && r.serial.prev == v) 1 0) (no_stamp before r receives).1)
+      (ap (λ b. cond (b && prev == v) 1 0) none) (ap (λ b. cond (b && prev == v) 1 0) need) later
 
   -- behind others
-  pub met : (pick : ℕ → Bool) (before front rest : List Event) → is_need (before ++ front) e ≡ true
-      → counted pick before (front ++ r ∷ e ∷ rest) + cond (pick e.serial.prev) 1 0
-      ≡ counted pick before (front ++ e ∷ rest)
-  met pick before [] rest need = met_here pick before rest (ap (λ xs. is_need xs e) (sym (append-nil before)) ∙ need)
-  met pick before (d ∷ front) rest need =
-      let later = met pick (before ++ d ∷ []) front rest
+  pub met : (v : ℕ) (before front rest : List Event) → is_need (before ++ front) e ≡ true
+      → needs_from v before (front ++ r ∷ e ∷ rest) + cond (e.serial.prev == v) 1 0
+      ≡ needs_from v before (front ++ e ∷ rest)
+  met v before [] rest need = met_here v before rest (ap (λ xs. is_need xs e) (sym (append-nil before)) ∙ need)
+  met v before (d ∷ front) rest need =
+      let later = met v (before ++ d ∷ []) front rest
       (ap (λ xs. is_need xs e) (append_assoc before (d ∷ []) front) ∙ need) in
       more _ _ _ _ later
 

@@ -1,6 +1,6 @@
 -- Where an invented send stands: before it all counts are lower, and behind it each stamp is higher, since none is late;
 -- its prev is lower too, being what events of lower counts leave, or the prev that begins a trace.
-use Rattle.std.proofs.Common.{◌≡◌, ℕ, zero, suc, ◌+◌, ◌<◌, ◌≤◌, ◌==◌, ◌&&◌, nat_lt, Bool, true, false, not, cond}
+use Rattle.std.proofs.Common.{◌≡◌, ℕ, zero, suc, ◌+◌, ◌<◌, ◌≤◌, ◌==◌, ◌&&◌, nat_lt, true, false, not, cond}
 use Rattle.std.proofs.Common.{List, [], ◌∷◌, ◌++◌, length, Some, slice_get, refl, sym, ◌∙◌, ap, arith, take, append-nil, append_assoc}
 use Rattle.std.specs.List.{AllByRecursion}
 use Rattle.std.proofs.lemmas.Bool.{and_parts, ltb-true, ltb-false}
@@ -12,10 +12,10 @@ use Rattle.st_pair.specs.Places.{is_stamp}
 use Rattle.st_plan.specs.Marks.{Marked, told_events}
 use Rattle.st_full.specs.Completion.{begins, place_below, prev_between}
 use Rattle.st_full.specs.Needs.{is_need}
+use Rattle.st_full.specs.Supply.{needs_from}
 use Rattle.st_full.proofs.Fed.{events}
 use Rattle.st_full.proofs.Feeding.{AreTimely}
 use Rattle.st_full.proofs.Inventing.{HasNo, Keeps, prev_for, with_send}
-use Rattle.st_full.proofs.Meeting.{counted}
 use Rattle.st_full.proofs.Needless.{above_if}
 use Rattle.st_full.proofs.Putting.{put_in, told_only}
 use Rattle.st_full.proofs.Turning.{leaves}
@@ -28,18 +28,18 @@ keeps_timely all before (m ∷ ms) keeps = (
   keeps_timely (all ++ m.event ∷ []) (cond m.told (before ++ m.event ∷ []) before) ms keeps.2,
 )
 
-pub keeps_counted : (pick : ℕ → Bool) (all before : List Event) (ms : List Marked) → Keeps all before ms
-    → counted pick all (events ms) ≡ counted pick before (told_events ms)
-keeps_counted pick all before [] keeps = refl
-keeps_counted pick all before (m ∷ ms) keeps =
+pub keeps_needs : (v : ℕ) (all before : List Event) (ms : List Marked) → Keeps all before ms
+    → needs_from v all (events ms) ≡ needs_from v before (told_events ms)
+keeps_needs v all before [] keeps = refl
+keeps_needs v all before (m ∷ ms) keeps =
     let e = m.event in
-    let rest = counted pick (all ++ e ∷ []) (events ms) in
-    let later = keeps_counted pick (all ++ e ∷ []) (cond m.told (before ++ e ∷ []) before) ms keeps.2 in
-    ap (λ b. cond (b && pick e.serial.prev) 1 0 + rest) keeps.1
-    ∙ elim m.told as (λ b. rest ≡ counted pick (cond b (before ++ e ∷ []) before) (told_events ms)
-    → cond (cond b (is_need before e) false && pick e.serial.prev) 1 0 + rest
-    ≡ counted pick before (cond b (e ∷ told_events ms) (told_events ms))) [
-      | true ↦ λ later. ap (λ n. cond (is_need before e && pick e.serial.prev) 1 0 + n) later
+    let rest = needs_from v (all ++ e ∷ []) (events ms) in
+    let later = keeps_needs v (all ++ e ∷ []) (cond m.told (before ++ e ∷ []) before) ms keeps.2 in
+    ap (λ b. cond (b && e.serial.prev == v) 1 0 + rest) keeps.1
+    ∙ elim m.told as (λ b. rest ≡ needs_from v (cond b (before ++ e ∷ []) before) (told_events ms)
+    → cond (cond b (is_need before e) false && e.serial.prev == v) 1 0 + rest
+    ≡ needs_from v before (cond b (e ∷ told_events ms) (told_events ms))) [
+      | true ↦ λ later. ap (λ n. cond (is_need before e && e.serial.prev == v) 1 0 + n) later
       | false ↦ λ later. let none : 0 + rest ≡ rest = omega arith in none ∙ later
     ] later
 

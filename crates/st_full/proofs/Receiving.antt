@@ -1,12 +1,10 @@
--- A need that an unpaired reported send serves: the receive of this send, put right before the need, leaves the streams
--- good, with one need less. It takes one need and one supply of its own from the process that has the need, and nothing
--- from any other, so that as many are supplied as before.
+-- The receive of an unpaired send, put right before a need of its count: the streams stay good, with one need less, and
+-- what else is told of messages stays.
 use Rattle.std.proofs.Common.{◌≡◌, ℕ, zero, suc, ◌+◌, ◌≤◌, ◌==◌, ◌&&◌, Bool, true, false, cond, List, []}
-use Rattle.std.proofs.Common.{◌∷◌, ◌++◌, take, drop, length, Option, Some, None, is_none, is_some, not, slice_get}
+use Rattle.std.proofs.Common.{◌∷◌, ◌++◌, take, drop, length, Option, Some, None, is_none, is_some, slice_get}
 use Rattle.std.proofs.Common.{refl, sym, ◌∙◌, ap, subst, arith}
-use Rattle.std.specs.List.{count_by}
 use Rattle.std.specs.Option.{option_map_or}
-use Rattle.std.proofs.lemmas.Bool.{eq-eqb, eqb-true, false≢true, and_parts, and_from}
+use Rattle.std.proofs.lemmas.Bool.{eq-eqb, false≢true, and_parts, and_from}
 use Rattle.std.proofs.lemmas.Option.{none-some, same_Some, slice_get_within}
 use Rattle.st_core.specs.declared.types.Pid.{Pid}
 use Rattle.st_core.specs.declared.types.Kind.{Kind}
@@ -16,21 +14,19 @@ use Rattle.st_core.specs.Pid.{pid_eq}
 use Rattle.st_core.specs.Laws.{IsReportAmong}
 use Rattle.st_core.specs.Run.{Stream, pids_of}
 use Rattle.st_core.specs.Streams.{events_of, is_of, lists}
-use Rattle.st_core.proofs.ForCallers.{and_false, pid_eq-refl, pid_eq-swap, pid_same}
+use Rattle.st_core.proofs.ForCallers.{pid_eq-refl, pid_same}
 use Rattle.st_pair.specs.Places.{event_at, is_stamp}
 use Rattle.st_pair.specs.Pairing.{agrees, is_send, receive_of, stamp_of, to_eq}
 use Rattle.st_full.specs.Completion.{receive_for}
-use Rattle.st_full.specs.Supply.{excess, is_free, is_own_supply, IsSupplied, needs, needs_from}
+use Rattle.st_full.specs.Supply.{is_own_supply, needs, needs_from}
 use Rattle.st_full.proofs.Asking.{events_with, HasStamp, none_taken, one_stamp, passes_with, stamp_if}
-use Rattle.st_full.proofs.Asking.{stamp_is, stamp_passes, taken_with}
-use Rattle.st_full.proofs.Counting.{count_one}
+use Rattle.st_full.proofs.Asking.{stamp_passes, taken_with}
 use Rattle.st_full.proofs.Feeding.{AreTimely}
-use Rattle.st_full.proofs.Good.{any_event, each, free_is, IsGood, IsLack, lacks, sends_to, sent_with}
-use Rattle.st_full.proofs.Good.{supplied_alike, within_with}
-use Rattle.st_full.proofs.Meeting.{counted, counted_of, met, timely_met}
-use Rattle.st_full.proofs.Putting.{fit_with, FitsAt, listed_at, more, new_there, take_drop, with_pids}
+use Rattle.st_full.proofs.Good.{IsGood, IsLack, sends_to, sent_with, within_with}
+use Rattle.st_full.proofs.Meeting.{met, timely_met}
+use Rattle.st_full.proofs.Putting.{fit_with, FitsAt, listed_at, more, take_drop}
 use Rattle.st_full.proofs.Reporting.{sound_with}
-use Rattle.st_full.proofs.Shown.{lists_among, names_among_listed}
+use Rattle.st_full.proofs.Shown.{names_among_listed}
 use Rattle.st_full.proofs.Supplying.{named, own_at}
 
 -- the send that serves a need of v at p
@@ -184,24 +180,11 @@ module _ (top : ℕ) (streams : List Stream) (good : IsGood top streams) (p : Pi
   ] refl
 
   -- the need is met, and no other
-  counted_fed : (pick : ℕ → Bool)
-      → counted pick [] (events_of fed p) + cond (pick v) 1 0 ≡ counted pick [] (events_of streams p)
-  counted_fed pick =
-      ap (λ es. counted pick [] es + cond (pick v) 1 0) after_is
-      ∙ met r e refl supply.stamp.count pick [] front rest lack.need
-      ∙ ap (counted pick []) before_is
-
-  pub lacks_less : lacks fed p + 1 ≡ lacks streams p
-  lacks_less = counted_fed each
-
-  pub lacks_others : (x : Pid) → pid_eq x p ≡ false → lacks fed x ≡ lacks streams x
-  lacks_others x other = ap (counted each []) (others_are x other)
-
   pub needs_less : (w : ℕ) → needs fed w p + cond (v == w) 1 0 ≡ needs streams w p
   needs_less w =
-      ap (λ n. n + cond (v == w) 1 0) (sym (counted_of w [] (events_of fed p)))
-      ∙ counted_fed (λ n. n == w)
-      ∙ counted_of w [] (events_of streams p)
+      ap (λ es. needs_from w [] es + cond (v == w) 1 0) after_is
+      ∙ met r e refl supply.stamp.count w [] front rest lack.need
+      ∙ ap (needs_from w []) before_is
 
   pub needs_others : (w : ℕ) (x : Pid) → pid_eq x p ≡ false → needs fed w x ≡ needs streams w x
   needs_others w x other = ap (needs_from w []) (others_are x other)
@@ -220,122 +203,6 @@ module _ (top : ℕ) (streams : List Stream) (good : IsGood top streams) (p : Pi
       ∙ ap (λ b. is_none (receive_of streams y w) && b)
       (passes_with p i r streams there inside (sends_to x) y w (λ _. refl))
 
-  taken_now : is_none (receive_of fed q v) ≡ false
-  taken_now = elim (is_none (receive_of fed q v)) as (λ b. is_none (receive_of fed q v) ≡ b → b ≡ false) [
-    | false ↦ λ _. refl
-    | true ↦ λ none. absurd (none_taken fed q v none (record {
-      pid = p;
-      index = i;
-      event = r;
-      at = new_there p i r streams inside there;
-      receives = refl;
-      from = from;
-      count = supply.stamp.count;
-    }))
-  ] refl
-
-  own_gone : (x : Pid) → is_own_supply fed v x q ≡ false
-  own_gone x = ap (λ b. b && stamp_passes (sends_to x) (stamp_of fed q v)) taken_now
-
-  own_before : is_own_supply streams v p q ≡ true
-  own_before = and_from (is_none (receive_of streams q v)) (stamp_passes (sends_to p) (stamp_of streams q v))
-      supply.untaken (stamp_is streams good.fit q v supply.stamp (sends_to p)
-      ∙ and_from (is_send f) (to_eq f.to (Some p)) supply.sends (ap (λ to. to_eq to (Some p)) supply.to ∙ pid_eq-refl p))
-
-  own_not : (x : Pid) → pid_eq x p ≡ false → is_own_supply streams v x q ≡ false
-  own_not x other =
-      ap (λ b. is_none (receive_of streams q v) && b) (stamp_is streams good.fit q v supply.stamp (sends_to x)
-      ∙ ap (λ to. is_send f && to_eq to (Some x)) supply.to
-      ∙ ap (λ b. is_send f && b) (pid_eq-swap p x ∙ other)
-      ∙ and_false (is_send f) false refl)
-      ∙ and_false (is_none (receive_of streams q v)) false refl
-
-  -- for all others the own supplies are the same
-  own_others : (x y : Pid) → pid_eq x p ≡ false → is_own_supply fed v x y ≡ is_own_supply streams v x y
-  own_others x y other = elim (pid_eq y q) as (λ b. pid_eq y q ≡ b
-      → is_own_supply fed v x y ≡ is_own_supply streams v x y) [
-        | false ↦ λ else_one. own_else v x y (ap (λ b. b && v == v) else_one)
-        | true ↦ λ same. subst (λ z. is_own_supply fed v x z ≡ is_own_supply streams v x z)
-            (sym (pid_same y q same)) (own_gone x ∙ sym (own_not x other))
-      ] refl
-
-  abbrev owns : List Stream → ℕ → Pid → ℕ
-  owns ss w x = count_by (is_own_supply ss w x) (pids_of ss)
-
-  owns_alike : (w : ℕ) (x : Pid) → ((y : Pid) → is_own_supply fed w x y ≡ is_own_supply streams w x y)
-      → owns fed w x ≡ owns streams w x
-  owns_alike w x alike = λ j. count_by (λ y. alike y j) (with_pids p i r streams j)
-
-  owns_less : owns streams v p ≡ owns fed v p + 1
-  owns_less =
-      count_one (is_own_supply streams v p) (is_own_supply fed v p) q own_before (own_gone p)
-      (λ y other. sym (own_else v p y (ap (λ b. b && v == v) other))) (pids_of streams) good.sound.draft.rising
-      (sym (lists_among streams q) ∙ listed_at streams q supply.stamp.index f supply.stamp.at)
-      ∙ ap (λ ps. count_by (is_own_supply fed v p) ps + 1) (sym (with_pids p i r streams))
-
-  excess_at : (w : ℕ) (x : Pid) (same_prev same_pid : Bool) → v == w ≡ same_prev → pid_eq x p ≡ same_pid
-      → excess fed w x ≡ excess streams w x
-  excess_at w x false false prev who =
-      let one = needs_others w x who in
-      let two = owns_alike w x (λ y. own_else w x y (ap (λ b. pid_eq y q && b) prev ∙ and_false (pid_eq y q) false refl)) in
-      omega arith
-  excess_at w x false true prev who =
-      let two = owns_alike w x (λ y. own_else w x y (ap (λ b. pid_eq y q && b) prev ∙ and_false (pid_eq y q) false refl)) in
-      let one : needs fed w x + 0 ≡ needs streams w x =
-      subst (λ z. needs fed w z + 0 ≡ needs streams w z) (sym (pid_same x p who))
-      (ap (λ b. needs fed w p + cond b 1 0) (sym prev) ∙ needs_less w) in
-      omega arith
-  excess_at w x true false prev who =
-      let same = eqb-true v w prev in
-      let one = needs_others w x who in
-      let two : owns fed w x ≡ owns streams w x =
-      subst (λ n. owns fed n x ≡ owns streams n x) same (owns_alike v x (λ y. own_others x y who)) in
-      omega arith
-  excess_at w x true true prev who =
-      let same = eqb-true v w prev in
-      let person = pid_same x p who in
-      let one : needs fed w x + 1 ≡ needs streams w x =
-      subst (λ z. needs fed w z + 1 ≡ needs streams w z) (sym person)
-      (ap (λ b. needs fed w p + cond b 1 0) (sym prev) ∙ needs_less w) in
-      let two : owns streams w x ≡ owns fed w x + 1 =
-      subst (λ z. owns streams w z ≡ owns fed w z + 1) (sym person)
-      (subst (λ n. owns streams n p ≡ owns fed n p + 1) same owns_less) in
-      omega arith
-
-  -- a process that has told of the stamp isn't free, before and after
-  not_free : is_free streams v q ≡ false
-  not_free =
-      free_is streams v q
-      ∙ ap (λ b. is_none (receive_of streams q v) && not b) (stamp_is streams good.fit q v supply.stamp any_event)
-      ∙ and_false (is_none (receive_of streams q v)) false refl
-
-  free_at : (w : ℕ) (y : Pid) → is_free fed w y ≡ is_free streams w y
-  free_at w y =
-      let stamps = passes_with p i r streams there inside any_event y w (λ _. refl) in
-      free_is fed w y
-      ∙ ap (λ b. is_none (receive_of fed y w) && not b) stamps
-      ∙ elim (pid_eq y q && v == w) as (λ b. (pid_eq y q && v == w) ≡ b
-      → (is_none (receive_of fed y w) && not (stamp_passes any_event (stamp_of streams y w)))
-      ≡ (is_none (receive_of streams y w) && not (stamp_passes any_event (stamp_of streams y w)))) [
-        | false ↦ λ else_one.
-            ap (λ b. b && not (stamp_passes any_event (stamp_of streams y w)))
-            (taken_with p i r streams there inside good.sound.draft.rising y w (λ _ sender count.
-            false≢true (sym else_one
-            ∙ and_from (pid_eq y q) (v == w) (ap (λ z. pid_eq z q) (sym sender ∙ from) ∙ pid_eq-refl q)
-            (eq-eqb v w (sym supply.stamp.count ∙ count)))))
-        | true ↦ λ this_one.
-            let parts = and_parts (pid_eq y q) (v == w) this_one in
-            let stamp : HasStamp streams y w =
-            subst (λ n. HasStamp streams y n) (eqb-true v w parts.1)
-            (subst (λ z. HasStamp streams z v) (sym (pid_same y q parts.0)) supply.stamp) in
-            let is = stamp_is streams good.fit y w stamp any_event in
-            ap (λ b. is_none (receive_of fed y w) && not b) is
-            ∙ and_false (is_none (receive_of fed y w)) false refl
-            ∙ sym (ap (λ b. is_none (receive_of streams y w) && not b) is
-            ∙ and_false (is_none (receive_of streams y w)) false refl)
-      ] refl
-      ∙ sym (free_is streams w y)
-
   pub good_fed : IsGood top fed
   good_fed = record {
     sound = sound_with p i r streams good.sound report;
@@ -353,8 +220,3 @@ module _ (top : ℕ) (streams : List Stream) (good : IsGood top streams) (p : Pi
           subst (λ z. needs fed 0 z ≡ 0) (sym (pid_same x p same)) (omega arith)
     ] refl;
   }
-
-  pub supplied_fed : ((w : ℕ) → IsSupplied streams w) → (w : ℕ) → IsSupplied fed w
-  supplied_fed supplied w =
-      supplied_alike streams fed w (sym (with_pids p i r streams))
-      (λ x. sym (excess_at w x (v == w) (pid_eq x p) refl refl)) (λ y. sym (free_at w y)) (supplied w)

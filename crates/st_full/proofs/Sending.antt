@@ -1,11 +1,9 @@
--- A need that nobody's reported send serves: a process that is free for its prev gets an untold send of it, to the
--- process that has the need. The streams stay good, and the send is one that nobody is told to have received: the
--- process that has the need lacks one sender less, and one process less is free.
-use Rattle.std.proofs.Common.{◌≡◌, ◌≢◌, ◌≤◌, ℕ, ◌+◌, ◌<◌, ◌==◌, ◌&&◌, Bool, true, false, cond, List, []}
-use Rattle.std.proofs.Common.{◌∷◌, ◌++◌, take, drop, Option, Some, None, inl, inr, is_none, not, sum_by}
-use Rattle.std.proofs.Common.{refl, sym, ◌∙◌, ap, subst, arith}
-use Rattle.std.specs.List.{count_by}
-use Rattle.std.proofs.lemmas.Bool.{cases_lt, eqb-true, false≢true, and_parts, and_from}
+-- The send of a process that is free for a count: put in where its counts pass this one, it leaves the streams good, with
+-- the needs that they had. It is one that nobody is told to have received, and what else is told of messages stays.
+use Rattle.std.proofs.Common.{◌≡◌, ◌≢◌, ◌≤◌, ℕ, ◌<◌, ◌==◌, ◌&&◌, Bool, true, false, cond, List, []}
+use Rattle.std.proofs.Common.{◌∷◌, ◌++◌, take, drop, Option, Some, None, is_none, not}
+use Rattle.std.proofs.Common.{refl, sym, ◌∙◌, ap, subst}
+use Rattle.std.proofs.lemmas.Bool.{false≢true, and_parts, and_from}
 use Rattle.st_core.specs.declared.types.Pid.{Pid}
 use Rattle.st_core.specs.declared.types.Kind.TheVariants as kind
 use Rattle.st_core.specs.declared.types.Label.{Label}
@@ -15,23 +13,19 @@ use Rattle.st_core.specs.Laws.{IsReportAmong}
 use Rattle.st_core.specs.Run.{Stream, pids_of}
 use Rattle.st_core.specs.Streams.{events_of, lists}
 use Rattle.st_core.specs.Collected.{is_among}
-use Rattle.st_core.proofs.ForCallers.{and_false, pid_eq-refl, pid_eq-swap, pid_same}
+use Rattle.st_core.proofs.ForCallers.{pid_eq-refl, pid_same}
 use Rattle.st_pair.specs.Places.{event_at, is_stamp}
 use Rattle.st_pair.specs.Pairing.{receive_of, stamp_of}
-use Rattle.st_full.specs.Supply.{excess, is_free, is_own_supply, IsSupplied, needs}
+use Rattle.st_full.specs.Supply.{is_free, is_own_supply, needs, needs_from}
 use Rattle.st_full.proofs.Accepting.{FitTogether}
 use Rattle.st_full.proofs.Asking.{events_with, HasStamp, none_stamped, none_taken, passes_with, stamp_is, stamp_passes}
 use Rattle.st_full.proofs.Asking.{taken_with}
-use Rattle.st_full.proofs.Counting.{count_one, sum_one}
 use Rattle.st_full.proofs.Fed.{events}
 use Rattle.st_full.proofs.Feeding.{AreTimely}
-use Rattle.st_full.proofs.Good.{any_event, each, free_is, IsGood, IsLack, lacks, sends_to, sent_with, supplied_alike}
-use Rattle.st_full.proofs.Good.{within_with}
+use Rattle.st_full.proofs.Good.{any_event, free_is, IsGood, sends_to, sent_with, within_with}
 use Rattle.st_full.proofs.Inventing.{HasNo, IsSend, Keeps, send_keeps, send_told, with_send}
-use Rattle.st_full.proofs.Meeting.{counted, counted_of}
-use Rattle.st_full.proofs.Placing.{AllRise, IsPlaced, keeps_counted, keeps_timely, placed_at}
-use Rattle.st_full.proofs.Putting.{fit_with, FitsAt, listed_at, more, new_there, put_all, with_pids}
-use Rattle.st_full.proofs.Receiving.{IsSupply}
+use Rattle.st_full.proofs.Placing.{AllRise, IsPlaced, keeps_needs, keeps_timely, placed_at}
+use Rattle.st_full.proofs.Putting.{fit_with, FitsAt, more, new_there, put_all}
 use Rattle.st_full.proofs.Reporting.{all_from, sound_with}
 use Rattle.st_full.proofs.Shown.{lists_among}
 
@@ -146,26 +140,14 @@ module _ (top : ℕ) (streams : List Stream) (good : IsGood top streams) (label 
   ] refl
 
   -- exactly the needs that there were are needs
-  counted_sent : (pick : ℕ → Bool) (y : Pid)
-      → counted pick [] (events_of sent y) ≡ counted pick [] (events_of streams y)
-  counted_sent pick y = elim (pid_eq y q) as (λ b. pid_eq y q ≡ b
-      → counted pick [] (events_of sent y) ≡ counted pick [] (events_of streams y)) [
-        | false ↦ λ other. ap (counted pick []) (others_are y other)
-        | true ↦ λ same. subst (λ z. counted pick [] (events_of sent z) ≡ counted pick [] (events_of streams z))
-            (sym (pid_same y q same))
-            (ap (counted pick []) after_is
-            ∙ keeps_counted pick [] [] (with_send send v [] es) keeps
-            ∙ ap (counted pick []) (send_told send v [] es))
-      ] refl
-
-  pub lacks_same : (y : Pid) → lacks sent y ≡ lacks streams y
-  lacks_same y = counted_sent each y
-
   pub needs_same : (w : ℕ) (y : Pid) → needs sent w y ≡ needs streams w y
-  needs_same w y =
-      sym (counted_of w [] (events_of sent y))
-      ∙ counted_sent (λ n. n == w) y
-      ∙ counted_of w [] (events_of streams y)
+  needs_same w y = elim (pid_eq y q) as (λ b. pid_eq y q ≡ b → needs sent w y ≡ needs streams w y) [
+    | false ↦ λ other. ap (needs_from w []) (others_are y other)
+    | true ↦ λ same. subst (λ z. needs sent w z ≡ needs streams w z) (sym (pid_same y q same))
+        (ap (needs_from w []) after_is
+        ∙ keeps_needs w [] [] (with_send send v [] es) keeps
+        ∙ ap (needs_from w []) (send_told send v [] es))
+  ] refl
 
   -- SUPPLIES
 
@@ -212,58 +194,6 @@ module _ (top : ℕ) (streams : List Stream) (good : IsGood top streams) (label 
   own_now = and_from (is_none (receive_of sent q v)) (stamp_passes (sends_to p) (stamp_of sent q v)) untaken_still
       (stamp_is sent fit_sent q v stamp (sends_to p) ∙ pid_eq-refl p)
 
-  own_not : (z : Pid) → pid_eq z p ≡ false → is_own_supply sent v z q ≡ false
-  own_not z other =
-      ap (λ b. is_none (receive_of sent q v) && b)
-      (stamp_is sent fit_sent q v stamp (sends_to z) ∙ pid_eq-swap p z ∙ other)
-      ∙ and_false (is_none (receive_of sent q v)) false refl
-
-  own_never : (z : Pid) → is_own_supply streams v z q ≡ false
-  own_never z =
-      ap (λ o. is_none (receive_of streams q v) && stamp_passes (sends_to z) o) unstamped
-      ∙ and_false (is_none (receive_of streams q v)) false refl
-
-  own_others : (z y : Pid) → pid_eq z p ≡ false → is_own_supply sent v z y ≡ is_own_supply streams v z y
-  own_others z y other = elim (pid_eq y q) as (λ b. pid_eq y q ≡ b
-      → is_own_supply sent v z y ≡ is_own_supply streams v z y) [
-        | false ↦ λ else_one. own_else v z y (ap (λ b. b && v == v) else_one)
-        | true ↦ λ same. subst (λ t. is_own_supply sent v z t ≡ is_own_supply streams v z t)
-            (sym (pid_same y q same)) (own_not z other ∙ sym (own_never z))
-      ] refl
-
-  free_gone : is_free sent v q ≡ false
-  free_gone =
-      free_is sent v q
-      ∙ ap (λ b. is_none (receive_of sent q v) && not b) (stamp_is sent fit_sent q v stamp any_event)
-      ∙ and_false (is_none (receive_of sent q v)) false refl
-
-  -- COUNTS
-
-  abbrev owns : List Stream → ℕ → Pid → ℕ
-  owns ss w z = count_by (is_own_supply ss w z) (pids_of ss)
-
-  pids_same : pids_of sent ≡ pids_of streams
-  pids_same = with_pids q k x streams
-
-  among : is_among (pids_of streams) q ≡ true
-  among = sym (lists_among streams q) ∙ listed
-
-  owns_alike : (w : ℕ) (z : Pid) → ((y : Pid) → is_own_supply sent w z y ≡ is_own_supply streams w z y)
-      → owns sent w z ≡ owns streams w z
-  owns_alike w z alike = λ j. count_by (λ y. alike y j) (pids_same j)
-
-  owns_more : owns sent v p ≡ owns streams v p + 1
-  owns_more =
-      ap (count_by (is_own_supply sent v p)) pids_same
-      ∙ count_one (is_own_supply sent v p) (is_own_supply streams v p) q own_now (own_never p)
-      (λ y other. own_else v p y (ap (λ b. b && v == v) other)) (pids_of streams) good.sound.draft.rising among
-
-  frees_less : count_by (is_free streams v) (pids_of streams) ≡ count_by (is_free sent v) (pids_of sent) + 1
-  frees_less =
-      count_one (is_free streams v) (is_free sent v) q free free_gone
-      (λ y other. sym (free_else v y (ap (λ b. b && v == v) other))) (pids_of streams) good.sound.draft.rising among
-      ∙ ap (λ ps. count_by (is_free sent v) ps + 1) (sym pids_same)
-
   pub good_sent : IsGood top sent
   good_sent = record {
     sound = sound_with q k x streams good.sound report;
@@ -273,43 +203,3 @@ module _ (top : ℕ) (streams : List Stream) (good : IsGood top streams) (label 
     within = within_with q k x streams top place.within good.within high;
     founded = λ y. needs_same 0 y ∙ good.founded y;
   }
-
-  -- and the send serves the need
-  pub supply_sent : IsSupply sent v p q
-  supply_sent = record { stamp = stamp; untaken = untaken_still; sends = refl; to = refl }
-
-  -- as many are supplied as before
-  excess_less : owns streams v p < needs streams v p → excess streams v p ≡ excess sent v p + 1
-  excess_less few =
-      let one = needs_same v p in
-      let two = owns_more in
-      omega arith
-
-  excess_others : (z : Pid) → pid_eq z p ≡ false → excess streams v z ≡ excess sent v z
-  excess_others z other =
-      let one = needs_same v z in
-      let two = owns_alike v z (λ y. own_others z y other) in
-      omega arith
-
-  supplied_here : owns streams v p < needs streams v p → IsSupplied streams v → IsSupplied sent v
-  supplied_here few before =
-      let sums = sum_one (excess streams v) (excess sent v) p (excess_less few) excess_others (pids_of streams)
-      good.sound.draft.rising (sym (lists_among streams p) ∙ there) in
-      let same : sum_by (excess sent v) (pids_of sent) ≡ sum_by (excess sent v) (pids_of streams) =
-      ap (sum_by (excess sent v)) pids_same in
-      let frees = frees_less in
-      omega arith
-
-  pub supplied_sent : owns streams v p < needs streams v p → ((w : ℕ) → IsSupplied streams w) → (w : ℕ)
-      → IsSupplied sent w
-  supplied_sent few supplied w = elim (v == w) as (λ b. v == w ≡ b → IsSupplied sent w) [
-    | true ↦ λ same. subst (IsSupplied sent) (eqb-true v w same) (supplied_here few (supplied v))
-    | false ↦ λ other.
-        let apart = λ (y : Pid). ap (λ b. pid_eq y q && b) other ∙ and_false (pid_eq y q) false refl in
-        supplied_alike streams sent w (sym pids_same)
-        (λ z.
-        let one = needs_same w z in
-        let two = owns_alike w z (λ y. own_else w z y (apart y)) in
-        omega arith)
-        (λ y. sym (free_else w y (apart y))) (supplied w)
-  ] refl

@@ -1,11 +1,11 @@
 -- Who sends what: the supplies of one count. Each need gets a sender, since own ones and free ones are enough; each is told
 -- of a send to this process or is free; and no process sends twice, since it is told of one receiver at most, isn't free
 -- then, and is taken from the free ones once.
-use Rattle.std.proofs.Common.{◌≡◌, ◌⊎◌, inl, inr, ℕ, zero, suc, ◌+◌, ◌-◌, ◌<◌, ◌≤◌, ◌==◌, ◌&&◌, ◌||◌, Bool, true, false, cond}
-use Rattle.std.proofs.Common.{List, [], ◌∷◌, ◌++◌, filter, length, take, drop, Option, Some, None, is_none, not, sum_by}
+use Rattle.std.proofs.Common.{◌≡◌, inl, inr, ℕ, zero, suc, ◌+◌, ◌-◌, ◌≤◌, ◌==◌, ◌&&◌, ◌||◌, Bool, true, false, cond}
+use Rattle.std.proofs.Common.{List, [], ◌∷◌, ◌++◌, filter, length, take, drop, Option, Some, None, is_none, sum_by}
 use Rattle.std.proofs.Common.{refl, sym, ◌∙◌, ap, subst, arith, length-append, length-drop}
 use Rattle.std.specs.List.{AllByRecursion, count_by}
-use Rattle.std.proofs.lemmas.Bool.{and_from, and_parts, eq-eqb, eqb-true, false≢true}
+use Rattle.std.proofs.lemmas.Bool.{and_parts, eq-eqb, eqb-true, false≢true}
 use Rattle.std.proofs.lemmas.List.Sums.{length-filter, sum_by-append, sum_by-cons}
 use Rattle.st_core.specs.declared.types.Pid.{Pid}
 use Rattle.st_core.specs.declared.types.Event.{Event}
@@ -13,7 +13,7 @@ use Rattle.st_core.specs.Pid.{pid_eq, IsBelow, IsRising}
 use Rattle.st_core.specs.Run.{Stream, pids_of}
 use Rattle.st_core.specs.Streams.{events_of, lists}
 use Rattle.st_core.specs.Collected.{is_among}
-use Rattle.st_core.proofs.ForCallers.{and_false, IsBelow-apart, pid_eq-refl, pid_eq-swap, pid_same}
+use Rattle.st_core.proofs.ForCallers.{and_false, IsBelow-apart, pid_eq-swap, pid_same}
 use Rattle.st_pair.specs.Pairing.{is_send, receive_of, stamp_of, to_eq}
 use Rattle.st_full.specs.Completion.{count_of, needs_of, own, supplied_by, supplies_of, Supply}
 use Rattle.st_full.specs.Needs.{is_need}

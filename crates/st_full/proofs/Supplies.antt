@@ -1,7 +1,7 @@
 -- The supplies of all counts: no two are of one sender and count, each can be had, and there are as many of each count
 -- to each process as it has needs of it, where streams have no reason against them.
-use Rattle.std.proofs.Common.{◌≡◌, ℕ, zero, suc, ◌+◌, ◌<◌, ◌≤◌, ◌==◌, ◌&&◌, max, Bool, true, false, cond, List, [], ◌∷◌}
-use Rattle.std.proofs.Common.{◌++◌, filter, length, map, take, Option, Some, None, inl, inr, slice_get, sum_by, refl, sym}
+use Rattle.std.proofs.Common.{◌≡◌, ℕ, zero, suc, ◌<◌, ◌≤◌, ◌==◌, ◌&&◌, Bool, true, false, cond, List, [], ◌∷◌}
+use Rattle.std.proofs.Common.{filter, map, take, Some, inl, inr, slice_get, refl, sym}
 use Rattle.std.proofs.Common.{◌∙◌, ap, subst, arith}
 use Rattle.std.specs.List.{AllByRecursion, count_by}
 use Rattle.std.proofs.lemmas.Bool.{cases_lt, eqb-true, false≢true}
@@ -12,16 +12,14 @@ use Rattle.st_core.specs.Laws.{greatest_count}
 use Rattle.st_core.specs.Pid.{pid_eq, IsRising}
 use Rattle.st_core.specs.Run.{Stream, pids_of}
 use Rattle.st_core.specs.Streams.{events_of, lists, stream_of}
-use Rattle.st_core.specs.Collected.{is_among}
 use Rattle.st_core.proofs.ForCallers.{and_false, pid_same}
 use Rattle.st_pair.specs.Places.{event_at}
 use Rattle.st_pair.proofs.ForCallers.{events_in}
 use Rattle.st_order.specs.Items.{greatest}
 use Rattle.st_order.proofs.ForCallers.{all_found, AreFound}
 use Rattle.st_full.specs.Completion.{count_of, supplies, supplies_below, supplies_of, Supply}
-use Rattle.st_full.specs.Supply.{excess, is_free, IsSupplied, needs, needs_from}
+use Rattle.st_full.specs.Supply.{is_free, IsSupplied, needs, needs_from}
 use Rattle.st_full.proofs.Asking.{unlisted_events}
-use Rattle.st_full.proofs.Good.{IsGood}
 use Rattle.st_full.proofs.Meeting.{need_low}
 use Rattle.st_full.proofs.Serving.{AllApart, Apart, differs, IsReady, IsServed}
 use Rattle.st_full.proofs.Sharing.{all_apart, all_both, all_filter, all_map, all_parts, apart_both, count_all, different_filter}

@@ -1,20 +1,18 @@
 -- The receives of the completion: where the send of each supply is told of, no two are of one sender and count, and there
 -- are as many supplies of each count to each process as it has needs, the streams with all receives are good and have no
 -- need.
-use Rattle.std.proofs.Common.{◌≡◌, ℕ, zero, suc, ◌+◌, ◌<◌, ◌==◌, ◌&&◌, Bool, true, false, cond, not, nat_lt, List, []}
-use Rattle.std.proofs.Common.{◌∷◌, ◌++◌, map, take, drop, Option, Some, None, is_none, slice_get, inl, inr, refl, sym, ◌∙◌}
+use Rattle.std.proofs.Common.{◌≡◌, ℕ, suc, ◌+◌, ◌<◌, ◌==◌, ◌&&◌, Bool, true, false, cond, List, []}
+use Rattle.std.proofs.Common.{◌∷◌, ◌++◌, map, take, Option, Some, None, slice_get, refl, sym, ◌∙◌}
 use Rattle.std.proofs.Common.{ap, subst, arith, append-nil, append_assoc}
 use Rattle.std.specs.List.{AllByRecursion, count_by}
-use Rattle.std.proofs.lemmas.Bool.{and_from, and_parts, cases_lt, eq-eqb, eqb-true, false≢true}
+use Rattle.std.proofs.lemmas.Bool.{and_from, and_parts, eq-eqb, eqb-true}
 use Rattle.std.proofs.lemmas.List.Sums.{sum_by-cons}
-use Rattle.std.proofs.lemmas.Option.{none-some, same_Some}
 use Rattle.st_core.specs.declared.types.Pid.{Pid}
 use Rattle.st_core.specs.declared.types.Event.{Event}
 use Rattle.st_core.specs.Pid.{pid_eq}
-use Rattle.st_core.specs.Run.{Stream, pids_of}
+use Rattle.st_core.specs.Run.{Stream}
 use Rattle.st_core.specs.Streams.{events_of}
 use Rattle.st_core.proofs.ForCallers.{pid_eq-refl, pid_eq-swap, pid_same}
-use Rattle.st_pair.specs.Places.{event_at}
 use Rattle.st_pair.specs.Pairing.{stamp_of}
 use Rattle.st_plan.specs.Marks.{all_streams, Whole}
 use Rattle.st_full.specs.Completion.{count_of, place_of_need, put, receive_for, Supply, with_receive_of, with_receives}

@@ -1,8 +1,7 @@
 -- The completion of streams against which no reason stands: who sends what feeds each need, and where these sends and
 -- their receives stand.
-use Rattle.std.specs.Prelude.{ℕ, zero, suc, ◌+◌, ◌-◌, ◌<◌, ◌==◌, ◌&&◌, Bool, true, false, not, nat_lt, List, [], ◌∷◌}
+use Rattle.std.specs.Prelude.{ℕ, zero, suc, ◌+◌, ◌-◌, ◌==◌, ◌&&◌, Bool, true, false, not, nat_lt, List, [], ◌∷◌}
 use Rattle.std.specs.Prelude.{◌++◌, map, filter, length, take, drop, slice_get, Option, Some, None, if◌then◌else◌}
-use Rattle.std.specs.List.{count_by}
 use Rattle.st_core.specs.declared.types.Pid.{Pid}
 use Rattle.st_core.specs.declared.types.Kind.TheVariants as kind
 use Rattle.st_core.specs.declared.types.Event.{Event}
@@ -13,7 +12,7 @@ use Rattle.st_core.specs.Streams.{events_of}
 use Rattle.st_pair.specs.Places.{is_stamp}
 use Rattle.st_pair.specs.Pairing.{stamp_of}
 use Rattle.st_order.specs.Items.{greatest}
-use Rattle.st_plan.specs.Marks.{all_streams, Marked, Whole}
+use Rattle.st_plan.specs.Marks.{all_streams, Whole}
 use Rattle.st_full.specs.Needs.{is_need}
 use Rattle.st_full.specs.Supply.{is_free, is_own_supply}
 
