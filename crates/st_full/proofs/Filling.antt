@@ -12,7 +12,7 @@ use Rattle.st_plan.specs.Marks.{all_streams, Marked, told_events, told_streams, 
 use Rattle.st_full.specs.Completion.{count_of, place_below, place_of_need, put, receive_for, send_among, Supply}
 use Rattle.st_full.specs.Completion.{with_receive_of, with_receives, with_send_of, with_sends}
 use Rattle.st_full.proofs.Fed.{events}
-use Rattle.st_full.proofs.Putting.{all_there, more, put_all, put_in, told_only}
+use Rattle.st_full.proofs.Putting.{more}
 
 abbrev untold : Event → Marked
 untold e = record { event = e; told = false }
@@ -55,14 +55,12 @@ module _ (p : Pid) (i : ℕ) (e : Event) where
       (elim (pid_eq w.pid p) as (λ b. (let u : Whole =
       cond b (record { pid = w.pid; marked = inserted i (untold e) w.marked }) w in
       let x : Stream = record { pid = u.pid; events = events u.marked } in x)
-      ≡ (let x : Stream = record { pid = w.pid; events = events (cond b (put_in i e es) (told_only es)) } in x)) [
-        | true ↦ ap (λ xs. let x : Stream = record { pid = w.pid; events = xs } in x)
-            (inserted_all i e w.marked ∙ sym (put_all i e es))
-        | false ↦ ap (λ xs. let x : Stream = record { pid = w.pid; events = xs } in x) (sym (all_there es))
+      ≡ (let x : Stream = record { pid = w.pid; events = cond b (take i es ++ e ∷ drop i es) es } in x)) [
+        | true ↦ ap (λ xs. let x : Stream = record { pid = w.pid; events = xs } in x) (inserted_all i e w.marked)
+        | false ↦ refl
       ])
       ∙ ap (λ xs. let x : Stream =
-      record { pid = w.pid; events = events (cond (pid_eq w.pid p) (put_in i e es) (told_only es)) } in x ∷ xs)
-      (put_more ws)
+      record { pid = w.pid; events = cond (pid_eq w.pid p) (take i es ++ e ∷ drop i es) es } in x ∷ xs) (put_more ws)
 
 -- WHAT IS TOLD
 

@@ -1,6 +1,8 @@
--- The lemmas that proofs of the crates above may cite: full runs and streams, that they are plain, and the full
--- completion of each run without a reset.
+-- The lemmas that proofs of the crates above may cite: full runs and streams, that they are plain, the full completion
+-- of each run without a reset, and the reasons that decide, with the completion where none stands.
 
 pub use Rattle.st_full.proofs.Telling.{run_full}
 pub use Rattle.st_full.proofs.Plainness.{full_streams_plain, full_plain}
 pub use Rattle.st_full.proofs.Completing.{run_completed}
+pub use Rattle.st_full.proofs.Decided.{completed}
+pub use Rattle.st_full.proofs.Deciding.{decides, never_shown, no_reason}

@@ -12,6 +12,7 @@ use Rattle.st_pair.specs.Places.{is_stamp}
 use Rattle.st_plan.specs.Marks.{Marked, told_events}
 use Rattle.st_full.specs.Completion.{begins}
 use Rattle.st_full.specs.Needs.{is_late, is_need}
+use Rattle.st_full.proofs.Fed.{events}
 use Rattle.st_full.proofs.Feeding.{Alike, alike_late, alike_need, alike_push, AreTimely}
 use Rattle.st_full.proofs.Turning.{leaves}
 
@@ -27,7 +28,7 @@ Keeps all before (m ∷ ms) =
     × (is_need all m.event ≡ cond m.told (is_need before m.event) false)
     × Keeps (all ++ m.event ∷ []) (cond m.told (before ++ m.event ∷ []) before) ms
 
-abbrev told_only : List Event → List Marked
+abbrev pub told_only : List Event → List Marked
 told_only es = map (λ e. record { event = e; told = true }) es
 
 keeps_told : (all before es : List Event) → Alike all before → AreTimely before es → Keeps all before (told_only es)
@@ -48,6 +49,10 @@ with_send send v before [] = marked false (send (prev_after before)) ∷ []
 with_send send v before (e ∷ es) =
     cond (nat_lt e.serial.this v) (marked true e ∷ with_send send v (before ++ e ∷ []) es)
     (marked false (send (prev_for v before e)) ∷ marked true e ∷ told_only es)
+
+pub all_there : (es : List Event) → events (told_only es) ≡ es
+all_there [] = refl
+all_there (e ∷ es) = ap (λ xs. e ∷ xs) (all_there es)
 
 told_all : (es : List Event) → told_events (told_only es) ≡ es
 told_all [] = refl

@@ -1,7 +1,8 @@
 -- Where an invented send stands: before it all counts are lower, and behind it each stamp is higher, since none is late;
 -- its prev is lower too, being what events of lower counts leave, or the prev that begins a trace.
 use Rattle.std.proofs.Common.{◌≡◌, ℕ, zero, suc, ◌+◌, ◌<◌, ◌≤◌, ◌==◌, ◌&&◌, nat_lt, true, false, not, cond}
-use Rattle.std.proofs.Common.{List, [], ◌∷◌, ◌++◌, length, Some, slice_get, refl, sym, ◌∙◌, ap, arith, take, append-nil, append_assoc}
+use Rattle.std.proofs.Common.{List, [], ◌∷◌, ◌++◌, length, Some, slice_get, take, drop, append-nil, append_assoc, refl}
+use Rattle.std.proofs.Common.{sym, ◌∙◌, ap, arith}
 use Rattle.std.specs.List.{AllByRecursion}
 use Rattle.std.proofs.lemmas.Bool.{and_parts, ltb-true, ltb-false}
 use Rattle.std.proofs.lemmas.Option.{none-some, same_Some}
@@ -15,9 +16,8 @@ use Rattle.st_full.specs.Needs.{is_need}
 use Rattle.st_full.specs.Supply.{needs_from}
 use Rattle.st_full.proofs.Fed.{events}
 use Rattle.st_full.proofs.Feeding.{AreTimely}
-use Rattle.st_full.proofs.Inventing.{HasNo, Keeps, prev_for, with_send}
+use Rattle.st_full.proofs.Inventing.{all_there, HasNo, Keeps, prev_for, told_only, with_send}
 use Rattle.st_full.proofs.Needless.{above_if}
-use Rattle.st_full.proofs.Putting.{put_in, told_only}
 use Rattle.st_full.proofs.Turning.{leaves}
 
 -- what is kept, of all events
@@ -51,7 +51,7 @@ AllRise es = AllByRecursion (λ e. e.serial.prev < e.serial.this) es
 pub record IsPlaced (send : ℕ → Event) (v : ℕ) (before es : List Event) : Type 0 where
   pub index : ℕ
   pub prev : ℕ
-  pub put : with_send send v before es ≡ put_in index (send prev) es
+  pub put : events (with_send send v before es) ≡ take index es ++ send prev ∷ drop index es
   pub within : index ≤ length es
   pub low : prev < v
   pub below : (j : ℕ) (d : Event) → j < index → slice_get es j ≡ Some d → d.serial.this < v
@@ -103,9 +103,9 @@ placed_later : (send : ℕ → Event) (v : ℕ) (before : List Event) (e : Event
 placed_later send v before e es low test rest = record {
   index = suc rest.index;
   prev = rest.prev;
-  put = ap (λ b. cond b (record { event = e; told = true } ∷ with_send send v (before ++ e ∷ []) es)
-      (record { event = send (prev_for v before e); told = false } ∷ record { event = e; told = true } ∷ told_only es))
-      test ∙ ap (λ ms. record { event = e; told = true } ∷ ms) rest.put;
+  put = ap (λ b. events (cond b (record { event = e; told = true } ∷ with_send send v (before ++ e ∷ []) es)
+      (record { event = send (prev_for v before e); told = false } ∷ record { event = e; told = true } ∷ told_only es)))
+      test ∙ ap (λ xs. e ∷ xs) rest.put;
   within = let less = rest.within in omega arith;
   low = rest.low;
   below = λ j d less at. elim j as (λ j. j < suc rest.index → slice_get (e ∷ es) j ≡ Some d → d.serial.this < v) [
@@ -150,9 +150,10 @@ placed_at send v before (e ∷ es) low left timely none rise =
           record {
             index = 0;
             prev = prev_for v before e;
-            put = ap (λ b. cond b (record { event = e; told = true } ∷ with_send send v (before ++ e ∷ []) es)
+            put = ap (λ b. events (cond b (record { event = e; told = true } ∷ with_send send v (before ++ e ∷ []) es)
                 (record { event = send (prev_for v before e); told = false }
-                ∷ record { event = e; told = true } ∷ told_only es)) test;
+                ∷ record { event = e; told = true } ∷ told_only es))) test
+                ∙ ap (λ xs. send (prev_for v before e) ∷ e ∷ xs) (all_there es);
             within = omega arith;
             low = prev_low v before e left;
             below = λ j d less at. absurd (omega arith);

@@ -14,103 +14,50 @@ use Rattle.st_core.proofs.ForCallers.{pid_eq-refl, pid_same}
 use Rattle.st_pair.specs.Places.{event_at, is_stamp}
 use Rattle.st_pair.specs.Pairing.{agrees}
 use Rattle.st_pair.proofs.ForCallers.{events_in}
-use Rattle.st_plan.specs.Marks.{all_streams, Marked, told_events, told_streams, Whole}
 use Rattle.st_full.proofs.Accepting.{FitTogether}
-use Rattle.st_full.proofs.Fed.{events}
-use Rattle.st_full.proofs.Hearing.{told_append}
 
 -- THE STREAMS WITH IT
 
-abbrev pub told_only : List Event → List Marked
-told_only es = map (λ e. record { event = e; told = true }) es
-
--- the event, untold, before event i
-abbrev pub put_in : ℕ → Event → List Event → List Marked
-put_in i r es = told_only (take i es) ++ record { event = r; told = false } ∷ told_only (drop i es)
-
-abbrev whole_with : Pid → ℕ → Event → Stream → Whole
-whole_with p i r x =
-    record { pid = x.pid; marked = cond (pid_eq x.pid p) (put_in i r x.events) (told_only x.events) }
-
--- the streams with it before event i of p
-abbrev pub wholes_with : Pid → ℕ → Event → List Stream → List Whole
-wholes_with p i r streams = map (whole_with p i r) streams
-
-all_told : (es : List Event) → told_events (told_only es) ≡ es
-all_told [] = refl
-all_told (e ∷ es) = ap (λ xs. e ∷ xs) (all_told es)
-
-pub all_there : (es : List Event) → events (told_only es) ≡ es
-all_there [] = refl
-all_there (e ∷ es) = ap (λ xs. e ∷ xs) (all_there es)
+-- the streams with the event before event i of p
+abbrev pub more : Pid → ℕ → Event → List Stream → List Stream
+more p i r streams = map (λ x. record {
+  pid = x.pid;
+  events = cond (pid_eq x.pid p) (take i x.events ++ r ∷ drop i x.events) x.events;
+}) streams
 
 pub take_drop : (i : ℕ) (es : List Event) → take i es ++ drop i es ≡ es
 take_drop zero es = refl
 take_drop (suc i) [] = refl
 take_drop (suc i) (e ∷ es) = ap (λ xs. e ∷ xs) (take_drop i es)
 
-put_told : (i : ℕ) (r : Event) (es : List Event) → told_events (put_in i r es) ≡ es
-put_told i r es =
-    told_append (told_only (take i es)) (record { event = r; told = false } ∷ told_only (drop i es))
-    ∙ ap (λ xs. xs ++ told_events (told_only (drop i es))) (all_told (take i es))
-    ∙ ap (λ xs. take i es ++ xs) (all_told (drop i es))
-    ∙ take_drop i es
-
-events_append : (xs ys : List Marked) → events (xs ++ ys) ≡ events xs ++ events ys
-events_append [] ys = refl
-events_append (x ∷ xs) ys = ap (λ es. x.event ∷ es) (events_append xs ys)
-
-pub put_all : (i : ℕ) (r : Event) (es : List Event) → events (put_in i r es) ≡ take i es ++ r ∷ drop i es
-put_all i r es =
-    events_append (told_only (take i es)) (record { event = r; told = false } ∷ told_only (drop i es))
-    ∙ ap (λ xs. xs ++ r ∷ events (told_only (drop i es))) (all_there (take i es))
-    ∙ ap (λ xs. take i es ++ r ∷ xs) (all_there (drop i es))
-
-pub with_told : (p : Pid) (i : ℕ) (r : Event) (streams : List Stream) → told_streams (wholes_with p i r streams) ≡ streams
-with_told p i r [] = refl
-with_told p i r (x ∷ streams) =
-    let one : told_events (cond (pid_eq x.pid p) (put_in i r x.events) (told_only x.events)) ≡ x.events =
-    elim (pid_eq x.pid p) as (λ b. told_events (cond b (put_in i r x.events) (told_only x.events)) ≡ x.events) [
-      | true ↦ put_told i r x.events
-      | false ↦ all_told x.events
-    ] in
-    ap (λ es. let y : Stream = record { pid = x.pid; events = es } in y ∷ told_streams (wholes_with p i r streams)) one
-    ∙ ap (λ ys. x ∷ ys) (with_told p i r streams)
-
-pub with_pids : (p : Pid) (i : ℕ) (r : Event) (streams : List Stream)
-    → pids_of (all_streams (wholes_with p i r streams)) ≡ pids_of streams
+pub with_pids : (p : Pid) (i : ℕ) (r : Event) (streams : List Stream) → pids_of (more p i r streams) ≡ pids_of streams
 with_pids p i r [] = refl
 with_pids p i r (x ∷ streams) = ap (λ ps. x.pid ∷ ps) (with_pids p i r streams)
 
 -- what a process has then
 pub with_events : (p : Pid) (i : ℕ) (r : Event) (streams : List Stream) (q : Pid) → lists streams q ≡ true
-    → events_of (all_streams (wholes_with p i r streams)) q
+    → events_of (more p i r streams) q
     ≡ cond (pid_eq q p) (take i (events_of streams q) ++ r ∷ drop i (events_of streams q)) (events_of streams q)
 with_events p i r [] q there = absurd (false≢true there)
 with_events p i r (x ∷ streams) q there =
-    let w : Stream =
-    record { pid = x.pid; events = events (cond (pid_eq x.pid p) (put_in i r x.events) (told_only x.events)) } in
     let put = λ (b : Bool) (es : List Event). cond b (take i es ++ r ∷ drop i es) es in
+    let y : Stream = record { pid = x.pid; events = put (pid_eq x.pid p) x.events } in
     elim (pid_eq x.pid q) as (λ b. pid_eq x.pid q ≡ b → is_some (cond b (Some x) (stream_of streams q)) ≡ true
-    → events_in (cond b (Some w) (stream_of (all_streams (wholes_with p i r streams)) q))
+    → events_in (cond b (Some y) (stream_of (more p i r streams) q))
     ≡ put (pid_eq q p) (events_in (cond b (Some x) (stream_of streams q)))) [
-      | true ↦ λ same _.
-          elim (pid_eq x.pid p) as (λ b. events (cond b (put_in i r x.events) (told_only x.events)) ≡ put b x.events) [
-            | true ↦ put_all i r x.events
-            | false ↦ all_there x.events
-          ]
-          ∙ ap (λ y. put (pid_eq y p) x.events) (pid_same x.pid q same)
+      | true ↦ λ same _. ap (λ z. put (pid_eq z p) x.events) (pid_same x.pid q same)
       | false ↦ λ _ there. with_events p i r streams q there
     ] refl there
 
-pub listed_with : (p : Pid) (i : ℕ) (r : Event) (streams : List Stream) (q : Pid) (k : ℕ) (e : Event)
-    → event_at (all_streams (wholes_with p i r streams)) q k ≡ Some e → lists streams q ≡ true
+listed_with : (p : Pid) (i : ℕ) (r : Event) (streams : List Stream) (q : Pid) (k : ℕ) (e : Event)
+    → event_at (more p i r streams) q k ≡ Some e → lists streams q ≡ true
 listed_with p i r [] q k e at = absurd (none-some e at)
 listed_with p i r (x ∷ streams) q k e at =
-    let w : Stream =
-    record { pid = x.pid; events = events (cond (pid_eq x.pid p) (put_in i r x.events) (told_only x.events)) } in
-    elim (pid_eq x.pid q) as (λ b.
-    slice_get (events_in (cond b (Some w) (stream_of (all_streams (wholes_with p i r streams)) q))) k ≡ Some e
+    let y : Stream = record {
+      pid = x.pid;
+      events = cond (pid_eq x.pid p) (take i x.events ++ r ∷ drop i x.events) x.events;
+    } in
+    elim (pid_eq x.pid q) as (λ b. slice_get (events_in (cond b (Some y) (stream_of (more p i r streams) q))) k ≡ Some e
     → is_some (cond b (Some x) (stream_of streams q)) ≡ true) [
       | true ↦ λ _. refl
       | false ↦ λ at. listed_with p i r streams q k e at
@@ -203,12 +150,9 @@ listed_at streams q k e at = elim (stream_of streams q) as (λ o. slice_get (eve
 -- WITH THE EVENT
 
 module _ (p : Pid) (i : ℕ) (r : Event) (streams : List Stream) where
-  abbrev pub more : List Stream
-  more = all_streams (wholes_with p i r streams)
-
   -- an event of the longer streams is the new one or an old one
   placed : i ≤ length (events_of streams p) → (q : Pid) (k : ℕ) (e : Event) → lists streams q ≡ true
-      → event_at more q k ≡ Some e → ((q ≡ p) × IsNew i r k e) ⊎ IsOld (events_of streams q) (pid_eq q p) i k e
+      → event_at (more p i r streams) q k ≡ Some e → ((q ≡ p) × IsNew i r k e) ⊎ IsOld (events_of streams q) (pid_eq q p) i k e
   placed within q k e there at =
       let es = events_of streams q in
       elim (pid_eq q p) as (λ b. pid_eq q p ≡ b → slice_get (cond b (take i es ++ r ∷ drop i es) es) k ≡ Some e
@@ -222,12 +166,12 @@ module _ (p : Pid) (i : ℕ) (r : Event) (streams : List Stream) where
         | false ↦ λ _ at. inr (record { index = k; at = at; moved = refl })
       ] refl (ap (λ xs. slice_get xs k) (sym (with_events p i r streams q there)) ∙ at)
 
-  pub is_placed : i ≤ length (events_of streams p) → (q : Pid) (k : ℕ) (e : Event) → event_at more q k ≡ Some e
+  pub is_placed : i ≤ length (events_of streams p) → (q : Pid) (k : ℕ) (e : Event) → event_at (more p i r streams) q k ≡ Some e
       → ((q ≡ p) × IsNew i r k e) ⊎ IsOld (events_of streams q) (pid_eq q p) i k e
   is_placed within q k e at = placed within q k e (listed_with p i r streams q k e at) at
 
   -- and each old one stays
-  pub stays : (q : Pid) (m : ℕ) (e : Event) → event_at streams q m ≡ Some e → (k : ℕ) × (event_at more q k ≡ Some e)
+  pub stays : (q : Pid) (m : ℕ) (e : Event) → event_at streams q m ≡ Some e → (k : ℕ) × (event_at (more p i r streams) q k ≡ Some e)
   stays q m e at =
       let es = events_of streams q in
       let there = with_events p i r streams q (listed_at streams q m e at) in
@@ -237,7 +181,7 @@ module _ (p : Pid) (i : ℕ) (r : Event) (streams : List Stream) where
       ] in
       (stay.0, ap (λ xs. slice_get xs stay.0) there ∙ stay.1)
 
-  pub new_there : i ≤ length (events_of streams p) → lists streams p ≡ true → event_at more p i ≡ Some r
+  pub new_there : i ≤ length (events_of streams p) → lists streams p ≡ true → event_at (more p i r streams) p i ≡ Some r
   new_there within there =
       let es = events_of streams p in
       ap (λ xs. slice_get xs i) (with_events p i r streams p there

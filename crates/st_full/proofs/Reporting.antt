@@ -11,8 +11,7 @@ use Rattle.st_core.specs.Streams.{IsStreams}
 use Rattle.st_core.proofs.ForCallers.{pid_same}
 use Rattle.st_pair.specs.Places.{event_at}
 use Rattle.st_order.proofs.ForCallers.{all_found, AreFound}
-use Rattle.st_full.proofs.Fed.{events}
-use Rattle.st_full.proofs.Putting.{all_there, more, put_all, put_in, told_only, with_pids}
+use Rattle.st_full.proofs.Putting.{more, with_pids}
 use Rattle.st_full.proofs.Shown.{are_own, AreReports, names_among_listed, unlisted_none}
 use Rattle.st_full.proofs.Supplying.{named, own_at}
 
@@ -56,11 +55,10 @@ module _ (p : Pid) (i : ℕ) (r : Event) (pids : List Pid) (report : IsReportAmo
   put_reports [] all = tt
   put_reports (x ∷ streams) all = (
     elim (pid_eq x.pid p) as (λ b. pid_eq x.pid p ≡ b → AllByRecursion (IsReportAmong pids x.pid)
-        (events (cond b (put_in i r x.events) (told_only x.events)))) [
-          | true ↦ λ same. subst (AllByRecursion (IsReportAmong pids x.pid)) (sym (put_all i r x.events))
-              (all_put (IsReportAmong pids x.pid) i r x.events all.0
-              (subst (λ q. IsReportAmong pids q r) (sym (pid_same x.pid p same)) report))
-          | false ↦ λ _. subst (AllByRecursion (IsReportAmong pids x.pid)) (sym (all_there x.events)) all.0
+        (cond b (take i x.events ++ r ∷ drop i x.events) x.events)) [
+          | true ↦ λ same. all_put (IsReportAmong pids x.pid) i r x.events all.0
+              (subst (λ q. IsReportAmong pids q r) (sym (pid_same x.pid p same)) report)
+          | false ↦ λ _. all.0
         ] refl,
     put_reports streams all.1,
   )

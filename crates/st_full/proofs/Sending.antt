@@ -25,7 +25,7 @@ use Rattle.st_full.proofs.Feeding.{AreTimely}
 use Rattle.st_full.proofs.Good.{any_event, free_is, IsGood, sends_to, sent_with, within_with}
 use Rattle.st_full.proofs.Inventing.{HasNo, IsSend, Keeps, send_keeps, send_told, with_send}
 use Rattle.st_full.proofs.Placing.{AllRise, IsPlaced, keeps_needs, keeps_timely, placed_at}
-use Rattle.st_full.proofs.Putting.{fit_with, FitsAt, more, new_there, put_all}
+use Rattle.st_full.proofs.Putting.{fit_with, FitsAt, more, new_there}
 use Rattle.st_full.proofs.Reporting.{all_from, sound_with}
 use Rattle.st_full.proofs.Shown.{lists_among}
 
@@ -124,8 +124,7 @@ module _ (top : ℕ) (streams : List Stream) (good : IsGood top streams) (label 
   after_is =
       events_with q k x streams listed place.within q
       ∙ ap (λ b. cond b (take k es ++ x ∷ drop k es) es) (pid_eq-refl q)
-      ∙ sym (put_all k x es)
-      ∙ ap events (sym place.put)
+      ∙ sym place.put
 
   others_are : (y : Pid) → pid_eq y q ≡ false → events_of sent y ≡ events_of streams y
   others_are y other =
