@@ -1,6 +1,6 @@
 -- The reasons decide where each receive has its send: without one streams have a needless completion, which acts show; and
 -- a reason stands against no streams that acts without a reset show, since it would stand against each completion.
-use Rattle.std.proofs.Common.{◌≡◌, ◌↔◌, ℕ, ◌≤◌, true, List, Some, slice_get, sym, ◌∙◌, ap, subst, arith}
+use Rattle.std.proofs.Common.{◌≡◌, ◌↔◌, ◌⊎◌, inl, inr, ℕ, ◌≤◌, true, List, Some, slice_get, sym, ◌∙◌, ap, subst, arith}
 use Rattle.std.proofs.lemmas.Bool.{false≢true, ltb-true}
 use Rattle.st_core.specs.declared.types.Act.{Act}
 use Rattle.st_core.specs.declared.types.Pid.{Pid}
@@ -14,13 +14,14 @@ use Rattle.st_plan.specs.Marks.{all_streams, told_streams, Whole}
 use Rattle.st_full.specs.Completed.{IsShownInOneTrace}
 use Rattle.st_full.specs.Full.{IsFull}
 use Rattle.st_full.specs.Needs.{marked_of}
-use Rattle.st_full.specs.Reasons.{HasEachSend, HasNoReason, Late, Reason, StandsAgainst, TooHigh, Unfounded}
+use Rattle.st_full.specs.Reasons.{HasEachSend, HasNoReason, HasReason, Late, Reason, StandsAgainst, TooHigh, Unfounded}
 use Rattle.st_full.specs.Reasons.{Unsent}
 use Rattle.st_full.proofs.Against.{shown_nothing}
 use Rattle.st_full.proofs.Decided.{decided}
 use Rattle.st_full.proofs.Exactly.{shown_full}
 use Rattle.st_full.proofs.Fed.{told_at}
 use Rattle.st_full.proofs.Needless.{needless_shown}
+use Rattle.st_full.proofs.Seeking.{none_or_some}
 use Rattle.st_full.proofs.Needs.{at_mark, events_told}
 
 AreWithin : ℕ → List Stream → Type 0
@@ -74,3 +75,11 @@ never_shown top streams rising reason against acts one_trace shows =
       shows = shows;
       one_trace = one_trace;
     }))
+
+-- so one of the two holds
+pub shown_or_refused : (top : ℕ) (streams : List Stream) → IsStreams streams → HasEachSend streams
+    → IsShownInOneTrace top streams ⊎ HasReason top streams
+shown_or_refused top streams sound sends = elim (none_or_some top streams) [
+  | inl none ↦ inl ((decides top streams sound sends).1 none)
+  | inr some ↦ inr some
+]

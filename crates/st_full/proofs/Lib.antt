@@ -31,6 +31,7 @@ pub mod Serving
 pub mod Taking
 pub mod Sharing
 pub mod Supplies
+pub mod Seeking
 pub mod Decided
 pub mod Deciding
 pub mod ForCallers

@@ -35,7 +35,7 @@ greatest_take zero es = omega arith
 greatest_take (suc i) [] = omega arith
 greatest_take (suc i) (e ∷ es) = let rest = greatest_take i es in omega arith
 
-abbrev highest : List Stream → ℕ
+abbrev pub highest : List Stream → ℕ
 highest streams = greatest (map (λ x. greatest_count x.events) streams)
 
 greatest_among : (streams : List Stream) (p : Pid) → greatest_count (events_of streams p) ≤ highest streams
@@ -49,7 +49,7 @@ greatest_among (x ∷ streams) p =
     ]
 
 -- needs of higher counts there are none
-none_high : (streams : List Stream) (v : ℕ) (p : Pid) → highest streams ≤ v → needs streams v p ≡ 0
+pub none_high : (streams : List Stream) (v : ℕ) (p : Pid) → highest streams ≤ v → needs streams v p ≡ 0
 none_high streams v p high = elim (cases_lt 0 (needs streams v p)) [
   | inr not_less ↦ omega arith
   | inl less ↦

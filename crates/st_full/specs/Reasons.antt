@@ -46,3 +46,8 @@ StandsAgainst top streams (Late p i) = HoldsAt is_late streams p i
 StandsAgainst top streams (Unfounded p i) = HoldsAt is_rootless streams p i
 StandsAgainst top streams (Unsent v) = ¬ IsSupplied streams v
 StandsAgainst top streams (TooHigh p i) = HoldsAt (is_too_high top) streams p i
+
+-- some reason stands against them
+pub record HasReason (top : ℕ) (streams : List Stream) : Type 0 where
+  pub reason : Reason
+  pub stands : StandsAgainst top streams reason

@@ -2,7 +2,7 @@
 //! nothing: each clause is a theorem over the definitions of `specs/`, and a proof that calls the
 //! function may use it.
 
-ghost use Rattle.std.specs.Prelude.{◌≡◌, ◌↔◌, ℕ, true, List, Some, take};
+ghost use Rattle.std.specs.Prelude.{◌≡◌, ◌↔◌, ◌⊎◌, ℕ, true, List, Some, take};
 ghost use Rattle.st_core.specs.declared.types.Act.{Act};
 ghost use Rattle.st_core.specs.declared.types.Event.{Event};
 ghost use Rattle.st_core.specs.declared.types.Pid.{Pid};
@@ -19,7 +19,7 @@ ghost use Rattle.st_full.specs.Completion.{completion};
 ghost use Rattle.st_full.specs.Full.{IsFull};
 ghost use Rattle.st_full.specs.Local.{IsNeedless};
 ghost use Rattle.st_full.specs.Needs.{is_late, is_need, is_rootless, HoldsOfNone, IsFedAt, marked_of};
-ghost use Rattle.st_full.specs.Reasons.{HasEachSend, HasNoReason, Reason, StandsAgainst};
+ghost use Rattle.st_full.specs.Reasons.{HasEachSend, HasNoReason, HasReason, Reason, StandsAgainst};
 ghost use Rattle.st_full.specs.Supply.{IsSupplied};
 ghost use Rattle.st_full.specs.Wholes.{wholes_of};
 
@@ -117,6 +117,13 @@ pub fn streams_without_a_reason_are_completed()
 pub fn reasons_decide()
     ensures { (top : ℕ) (streams : List Stream) → IsStreams streams → HasEachSend streams
         → (IsShownInOneTrace top streams ↔ HasNoReason top streams) }
+{}
+
+/// So either acts without a reset show such streams, or one of the reasons stands against them, which
+/// is found event by event and count by count.
+pub fn streams_are_shown_or_refused()
+    ensures { (top : ℕ) (streams : List Stream) → IsStreams streams → HasEachSend streams
+        → IsShownInOneTrace top streams ⊎ HasReason top streams }
 {}
 
 /// And a reason is final, whether sends are hidden or not: if one stands against streams, no acts
