@@ -1,6 +1,6 @@
 -- A reason stands against streams, or none does: the events are finitely many, and of counts that are above all of theirs
 -- there are no needs.
-use Rattle.std.proofs.Common.{◌≡◌, ◌⊎◌, inl, inr, ℕ, zero, suc, ◌+◌, ◌<◌, ◌≤◌, ◌||◌, Bool, true, false, List, [], ◌∷◌, ◌++◌, take}
+use Rattle.std.proofs.Common.{◌≡◌, ◌⊎◌, inl, inr, ℕ, zero, suc, ◌<◌, ◌≤◌, ◌||◌, Bool, true, false, List, [], ◌∷◌, ◌++◌, take}
 use Rattle.std.proofs.Common.{Some, slice_get, sum_by, append-nil, append_assoc, refl, sym, ◌∙◌, ap, subst, arith}
 use Rattle.std.proofs.lemmas.Bool.{cases_lt, false≢true, ltb-false}
 use Rattle.std.proofs.lemmas.List.Sums.{sum_by-cons}
@@ -15,7 +15,7 @@ use Rattle.st_core.specs.Streams.{events_of}
 use Rattle.st_core.proofs.ForCallers.{pid_same}
 use Rattle.st_pair.specs.Places.{event_at}
 use Rattle.st_full.specs.Needs.{HoldsOfNone, is_late, is_rootless}
-use Rattle.st_full.specs.Reasons.{HasNoReason, HasReason, HoldsAt, is_too_high, Late, Reason, StandsAgainst, TooHigh, Unfounded}
+use Rattle.st_full.specs.Reasons.{HasNoReason, HasReason, HoldsAt, is_too_high, Late, TooHigh, Unfounded}
 use Rattle.st_full.specs.Reasons.{Unsent}
 use Rattle.st_full.specs.Supply.{excess, is_free, IsSupplied}
 use Rattle.st_full.proofs.Putting.{listed_at}
