@@ -19,15 +19,17 @@ use Rattle.st_core.specs.State.{Process, State, process, zero_state}
 use Rattle.st_core.specs.Step.{Outcome, actor}
 use Rattle.st_core.specs.Run.{Shows, Stream, pids_of, run, stream}
 use Rattle.st_core.specs.Laws.{moves_token, NoReset, ReportsEverything}
+use Rattle.st_pair.specs.declared.answer.PairFault.{PairFault}
+use Rattle.st_pair.specs.Pairing.{refusal}
 use Rattle.st_order.specs.declared.item.Item.{Item}
 use Rattle.st_order.specs.declared.item.Item.TheVariants as item
 use Rattle.st_order.specs.Order.{order}
 use Rattle.st_plan.specs.Moves.{Move, clock, last, moves}
 use Rattle.st_plan.specs.Plain.{IsPlain, out_of_turn, told}
 use Rattle.st_plan.specs.Reasons.{too_wide, uncaused}
-use Rattle.st_plan.specs.Marks.{Marked, Whole}
+use Rattle.st_plan.specs.Marks.{all_streams, Marked, Whole}
 use Rattle.st_full.specs.Completion.{completion}
-use Rattle.st_full.specs.Needs.{is_rootless}
+use Rattle.st_full.specs.Needs.{is_late, is_need, is_rootless}
 use Rattle.st_full.specs.Reasons.{Late, StandsAgainst, TooHigh, Unfounded, Unsent}
 use Rattle.st_full.specs.Supply.{excess, is_free}
 use Rattle.st_full.specs.Wholes.{wholes_of}
@@ -434,3 +436,30 @@ itself_completed : completion to_itself
     )
     ∷ []
 itself_completed = refl
+
+-- Computed of each of these: pairing accepts all events, and none of them is late or a need.
+abbrev is_clean : List Event → List Event → Bool
+is_clean before [] = true
+is_clean before (e ∷ es) = not (is_late before e || is_need before e) && is_clean (before ++ e ∷ []) es
+
+abbrev are_clean : List Stream → Bool
+are_clean [] = true
+are_clean (x ∷ streams) = is_clean [] x.events && are_clean streams
+
+abbrev accepts : Option PairFault → Bool
+accepts None = true
+accepts (Some fault) = false
+
+abbrev is_needless : List Stream → Bool
+is_needless streams = accepts (refusal streams) && are_clean streams
+
+needless : (is_needless (all_streams (completion own_streams)) ≡ true)
+    × (is_needless (all_streams (completion two_streams)) ≡ true)
+    × (is_needless (all_streams (completion begun)) ≡ true)
+    × (is_needless (all_streams (completion to_itself)) ≡ true)
+needless = (refl, refl, refl, refl)
+
+-- Before, each has a need.
+needy : (is_needless own_streams ≡ false) × (is_needless two_streams ≡ false) × (is_needless begun ≡ false)
+    × (is_needless to_itself ≡ false)
+needy = (refl, refl, refl, refl)

@@ -32,7 +32,8 @@ use Rattle.st_full.proofs.Filling.{receives_told, sends_told}
 use Rattle.st_full.proofs.Good.{IsGood}
 use Rattle.st_full.proofs.Needless.{all_same, told_same}
 use Rattle.st_full.proofs.Reporting.{all_from}
-use Rattle.st_full.proofs.Serving.{all_sent, AreSent, IsReady, IsServed}
+use Rattle.st_full.proofs.Sending.{IsServed}
+use Rattle.st_full.proofs.Serving.{all_sent, AreSent, IsReady}
 use Rattle.st_full.proofs.Shown.{lists_among}
 use Rattle.st_full.proofs.Starting.{good_if}
 use Rattle.st_full.proofs.Supplies.{all_ready, all_served, are_apart, as_many}

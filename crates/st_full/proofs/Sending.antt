@@ -5,8 +5,6 @@ use Rattle.std.proofs.Common.{◌∷◌, ◌++◌, take, drop, Option, Some, Non
 use Rattle.std.proofs.Common.{refl, sym, ◌∙◌, ap, subst}
 use Rattle.std.proofs.lemmas.Bool.{false≢true, and_parts, and_from}
 use Rattle.st_core.specs.declared.types.Pid.{Pid}
-use Rattle.st_core.specs.declared.types.Kind.TheVariants as kind
-use Rattle.st_core.specs.declared.types.Label.{Label}
 use Rattle.st_core.specs.declared.types.Event.{Event}
 use Rattle.st_core.specs.Pid.{pid_eq}
 use Rattle.st_core.specs.Laws.{IsReportAmong}
@@ -16,6 +14,7 @@ use Rattle.st_core.specs.Collected.{is_among}
 use Rattle.st_core.proofs.ForCallers.{pid_eq-refl, pid_same}
 use Rattle.st_pair.specs.Places.{event_at, is_stamp}
 use Rattle.st_pair.specs.Pairing.{receive_of, stamp_of}
+use Rattle.st_full.specs.Completion.{count_of, send_for, Supply}
 use Rattle.st_full.specs.Supply.{is_free, is_own_supply, needs, needs_from}
 use Rattle.st_full.proofs.Accepting.{FitTogether}
 use Rattle.st_full.proofs.Asking.{events_with, HasStamp, none_stamped, none_taken, passes_with, stamp_is, stamp_passes}
@@ -25,30 +24,38 @@ use Rattle.st_full.proofs.Feeding.{AreTimely}
 use Rattle.st_full.proofs.Good.{any_event, free_is, IsGood, sends_to, sent_with, within_with}
 use Rattle.st_full.proofs.Inventing.{HasNo, IsSend, Keeps, send_keeps, send_told, with_send}
 use Rattle.st_full.proofs.Placing.{AllRise, IsPlaced, keeps_needs, keeps_timely, placed_at}
-use Rattle.st_full.proofs.Putting.{fit_with, FitsAt, more, new_there}
+use Rattle.st_full.proofs.Putting.{fit_with, FitsAt, more, new_there, with_pids}
 use Rattle.st_full.proofs.Reporting.{all_from, sound_with}
 use Rattle.st_full.proofs.Shown.{lists_among}
 
-pub stamp_none : (o : Option (ℕ × Event)) → is_none o ≡ true → o ≡ None
+stamp_none : (o : Option (ℕ × Event)) → is_none o ≡ true → o ≡ None
 stamp_none None h = refl
 stamp_none (Some f) h = absurd (false≢true h)
 
-module _ (top : ℕ) (streams : List Stream) (good : IsGood top streams) (label : Label) (v : ℕ) (above : 0 < v)
-    (high : v ≤ top) (p : Pid) (there : lists streams p ≡ true) (q : Pid) (listed : lists streams q ≡ true)
-    (free : is_free streams v q ≡ true) where
+-- who sends and who needs are listed, and a clock can have the count
+pub record IsServed (top : ℕ) (streams : List Stream) (s : Supply) : Type 0 where
+  pub above : 0 < count_of s
+  pub high : count_of s ≤ top
+  pub to : lists streams s.to ≡ true
+  pub from : lists streams s.from ≡ true
+
+module _ (top : ℕ) (streams : List Stream) (good : IsGood top streams) (s : Supply) (served : IsServed top streams s)
+    (free : is_free streams (count_of s) s.from ≡ true) where
+  abbrev v : ℕ
+  v = count_of s
+
+  abbrev p : Pid
+  p = s.to
+
+  abbrev q : Pid
+  q = s.from
+
   abbrev es : List Event
   es = events_of streams q
 
   -- the send that is invented
-  abbrev pub send : ℕ → Event
-  send prev = record {
-    label = label;
-    kind = kind.Send;
-    serial = record { prev = prev; this = v };
-    from = q;
-    to = Some p;
-    value = 0;
-  }
+  abbrev send : ℕ → Event
+  send prev = send_for s prev
 
   send_is : IsSend send v
   send_is = record { stamps = λ _. refl; count = λ _. refl; prev = λ _. refl }
@@ -56,7 +63,7 @@ module _ (top : ℕ) (streams : List Stream) (good : IsGood top streams) (label 
   untaken : is_none (receive_of streams q v) ≡ true
   untaken = (and_parts (is_none (receive_of streams q v)) (is_none (stamp_of streams q v)) free).0
 
-  unstamped : stamp_of streams q v ≡ None
+  pub unstamped : stamp_of streams q v ≡ None
   unstamped = stamp_none (stamp_of streams q v)
       (and_parts (is_none (receive_of streams q v)) (is_none (stamp_of streams q v)) free).1
 
@@ -74,7 +81,7 @@ module _ (top : ℕ) (streams : List Stream) (good : IsGood top streams) (label 
   all_rise = all_from (λ d. d.serial.prev < d.serial.this) es (λ k d at. good.fit.rises q k d at)
 
   pub place : IsPlaced send v [] es
-  place = placed_at send v [] es above above (good.timely q) has_no all_rise
+  place = placed_at send v [] es served.above served.above (good.timely q) has_no all_rise
 
   abbrev k : ℕ
   k = place.index
@@ -111,24 +118,24 @@ module _ (top : ℕ) (streams : List Stream) (good : IsGood top streams) (label 
   report = record {
     own = and_from (pid_eq q q) true (pid_eq-refl q) refl;
     names = and_from (is_among (pids_of streams) q) (is_among (pids_of streams) p)
-        (sym (lists_among streams q) ∙ listed)
-        (sym (lists_among streams p) ∙ there);
+        (sym (lists_among streams q) ∙ served.from)
+        (sym (lists_among streams p) ∙ served.to);
   }
 
   -- THE EVENTS OF q
 
   keeps : Keeps [] [] (with_send send v [] es)
-  keeps = send_keeps send v send_is [] es above (good.timely q) has_no
+  keeps = send_keeps send v send_is [] es served.above (good.timely q) has_no
 
   after_is : events_of sent q ≡ events (with_send send v [] es)
   after_is =
-      events_with q k x streams listed place.within q
+      events_with q k x streams served.from place.within q
       ∙ ap (λ b. cond b (take k es ++ x ∷ drop k es) es) (pid_eq-refl q)
       ∙ sym place.put
 
   others_are : (y : Pid) → pid_eq y q ≡ false → events_of sent y ≡ events_of streams y
   others_are y other =
-      events_with q k x streams listed place.within y
+      events_with q k x streams served.from place.within y
       ∙ ap (λ b. cond b (take k (events_of streams y) ++ x ∷ drop k (events_of streams y)) (events_of streams y)) other
 
   timely_sent : (y : Pid) → AreTimely [] (events_of sent y)
@@ -148,6 +155,9 @@ module _ (top : ℕ) (streams : List Stream) (good : IsGood top streams) (label 
         ∙ ap (needs_from w []) (send_told send v [] es))
   ] refl
 
+  pub pids_same : pids_of sent ≡ pids_of streams
+  pids_same = with_pids q k x streams
+
   -- SUPPLIES
 
   fit_sent : FitTogether sent
@@ -157,20 +167,20 @@ module _ (top : ℕ) (streams : List Stream) (good : IsGood top streams) (label 
   stamp = record {
     index = k;
     event = x;
-    at = new_there q k x streams place.within listed;
+    at = new_there q k x streams place.within served.from;
     stamps = refl;
     count = refl;
   }
 
   taken_same : (w : ℕ) (y : Pid) → is_none (receive_of sent y w) ≡ is_none (receive_of streams y w)
   taken_same w y =
-      taken_with q k x streams listed place.within good.sound.draft.rising y w
+      taken_with q k x streams served.from place.within good.sound.draft.rising y w
       (λ receives _ _. false≢true (sym receives))
 
   passes_else : (test : Event → Bool) (w : ℕ) (y : Pid) → (pid_eq y q && v == w) ≡ false
       → stamp_passes test (stamp_of sent y w) ≡ stamp_passes test (stamp_of streams y w)
   passes_else test w y else_one =
-      passes_with q k x streams listed place.within test y w
+      passes_with q k x streams served.from place.within test y w
       (λ same. sym (ap (λ b. b && v == w) (ap (λ z. pid_eq z q) same ∙ pid_eq-refl q)) ∙ else_one)
 
   pub own_else : (w : ℕ) (z y : Pid) → (pid_eq y q && v == w) ≡ false
@@ -199,6 +209,6 @@ module _ (top : ℕ) (streams : List Stream) (good : IsGood top streams) (label 
     fit = fit_sent;
     sent = sent_with q k x streams place.within good.sent (λ receives. absurd (false≢true (sym receives)));
     timely = timely_sent;
-    within = within_with q k x streams top place.within good.within high;
+    within = within_with q k x streams top place.within good.within served.high;
     founded = λ y. needs_same 0 y ∙ good.founded y;
   }

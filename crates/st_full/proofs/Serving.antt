@@ -20,7 +20,8 @@ use Rattle.st_full.proofs.Asking.{stamp_passes}
 use Rattle.st_full.proofs.Filling.{put_more}
 use Rattle.st_full.proofs.Good.{IsGood, sends_to}
 use Rattle.st_full.proofs.Putting.{more, with_pids}
-use Rattle.st_full.proofs.Sending.{free_else, good_sent, needs_same, own_else, own_now, place, send, sent, stamp_none}
+use Rattle.st_full.proofs.Sending.{free_else, good_sent, IsServed, needs_same, own_else, own_now, pids_same, place, sent}
+use Rattle.st_full.proofs.Sending.{unstamped}
 use Rattle.st_full.proofs.Shown.{lists_among}
 
 -- the sender and count of neither are those of the other
@@ -41,13 +42,6 @@ differs_swap s t h =
     ap (λ b. b && count_of s == count_of t) (pid_eq-swap t.from s.from)
     ∙ ap (λ b. pid_eq s.from t.from && b) (eqb-swap (count_of s) (count_of t))
     ∙ h
-
--- who may serve whom, at which count
-pub record IsServed (top : ℕ) (streams : List Stream) (s : Supply) : Type 0 where
-  pub above : 0 < count_of s
-  pub high : count_of s ≤ top
-  pub to : lists streams s.to ≡ true
-  pub from : lists streams s.from ≡ true
 
 abbrev pub IsOwn : List Stream → Supply → Type 0
 IsOwn streams s = is_own_supply streams (count_of s) s.to s.from ≡ true
@@ -90,33 +84,24 @@ module _ (top : ℕ) (s : Supply) where
     es = events_of streams s.from
 
     abbrev after : List Stream
-    after = sent top streams good s.need.label v served.above served.high s.to served.to s.from served.from free
+    after = sent top streams good s served free
 
     sent_step : IsStep top streams after s
     sent_step = record {
-      good = good_sent top streams good s.need.label v served.above served.high s.to served.to s.from served.from free;
-      pids = with_pids s.from (place top streams good s.need.label v served.above served.high s.to served.to s.from
-          served.from free).index (send top streams good s.need.label v served.above served.high s.to served.to s.from
-          served.from free (place top streams good s.need.label v served.above served.high s.to served.to s.from
-          served.from free).prev) streams;
-      needs_are = needs_same top streams good s.need.label v served.above served.high s.to served.to s.from served.from
-          free;
-      own = own_now top streams good s.need.label v served.above served.high s.to served.to s.from served.from free;
-      own_else = own_else top streams good s.need.label v served.above served.high s.to served.to s.from served.from free;
-      free_else = free_else top streams good s.need.label v served.above served.high s.to served.to s.from served.from
-          free;
+      good = good_sent top streams good s served free;
+      pids = pids_same top streams good s served free;
+      needs_are = needs_same top streams good s served free;
+      own = own_now top streams good s served free;
+      own_else = own_else top streams good s served free;
+      free_else = free_else top streams good s served free;
     }
 
     -- it stands where the completion puts it
     is_after : more s.from (place_below v es) (send_among s es) streams ≡ after
     is_after =
-        let put = place top streams good s.need.label v served.above served.high s.to served.to s.from served.from free in
+        let put = place top streams good s served free in
         ap (λ i. more s.from i (send_for s (prev_between v (take i es) (slice_get es i))) streams) put.index_is
         ∙ ap (λ prev. more s.from put.index (send_for s prev) streams) put.prev_is
-
-    free_stamp : stamp_of streams s.from v ≡ None
-    free_stamp = stamp_none (stamp_of streams s.from v)
-        (and_parts (is_none (receive_of streams s.from v)) (is_none (stamp_of streams s.from v)) free).1
 
   pub own_stamp : (streams : List Stream) → IsOwn streams s → (f : ℕ × Event)
       × (stamp_of streams s.from (count_of s) ≡ Some f)
@@ -143,7 +128,7 @@ module _ (top : ℕ) (s : Supply) where
             let stamp = own_stamp streams own in
             subst (λ o. IsStep top streams (all_streams (sent_in o)) s) (sym stamp.1) (no_step streams good own)
         | inr free ↦
-            subst (λ o. IsStep top streams (all_streams (sent_in o)) s) (sym (free_stamp streams good served free))
+            subst (λ o. IsStep top streams (all_streams (sent_in o)) s) (sym (unstamped top streams good s served free))
             (subst (λ ss. IsStep top streams ss s)
             (sym (put_more s.from i (send_among s es) ws ∙ is_after streams good served free))
             (sent_step streams good served free))

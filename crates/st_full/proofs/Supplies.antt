@@ -21,7 +21,8 @@ use Rattle.st_full.specs.Completion.{count_of, supplies, supplies_below, supplie
 use Rattle.st_full.specs.Supply.{is_free, IsSupplied, needs, needs_from}
 use Rattle.st_full.proofs.Asking.{unlisted_events}
 use Rattle.st_full.proofs.Meeting.{need_low}
-use Rattle.st_full.proofs.Serving.{AllApart, Apart, differs, IsReady, IsServed}
+use Rattle.st_full.proofs.Sending.{IsServed}
+use Rattle.st_full.proofs.Serving.{AllApart, Apart, differs, IsReady}
 use Rattle.st_full.proofs.Sharing.{all_apart, all_both, all_filter, all_map, all_parts, apart_both, count_all, different_filter}
 use Rattle.st_full.proofs.Sharing.{IsPart, no_supplies, passes_filter}
 use Rattle.st_full.proofs.Shown.{lists_among}
