@@ -1,9 +1,9 @@
 -- The sends of the completion: where each supply is told of or its sender is free for it, and no two are of one sender
 -- and count, the streams with the sends that they lack are good, need what they needed, and have the send of each supply.
-use Rattle.std.proofs.Common.{◌≡◌, ◌⊎◌, inl, inr, ℕ, ◌<◌, ◌≤◌, ◌==◌, ◌&&◌, Bool, true, false, List, []}
+use Rattle.std.proofs.Common.{◌≡◌, ◌⊎◌, inl, inr, ℕ, ◌==◌, ◌&&◌, Bool, true, false, List, []}
 use Rattle.std.proofs.Common.{◌∷◌, map, take, Option, Some, None, is_none, slice_get, refl, sym, ◌∙◌, ap, subst}
 use Rattle.std.specs.List.{AllByRecursion}
-use Rattle.std.proofs.lemmas.Bool.{and_parts, false≢true}
+use Rattle.std.proofs.lemmas.Bool.{false≢true}
 use Rattle.st_core.specs.declared.types.Pid.{Pid}
 use Rattle.st_core.specs.declared.types.Event.{Event}
 use Rattle.st_core.specs.Pid.{pid_eq}
@@ -19,7 +19,7 @@ use Rattle.st_full.specs.Supply.{is_free, is_own_supply, needs}
 use Rattle.st_full.proofs.Asking.{stamp_passes}
 use Rattle.st_full.proofs.Filling.{put_more}
 use Rattle.st_full.proofs.Good.{IsGood, sends_to}
-use Rattle.st_full.proofs.Putting.{more, with_pids}
+use Rattle.st_full.proofs.Putting.{more}
 use Rattle.st_full.proofs.Sending.{free_else, good_sent, IsServed, needs_same, own_else, own_now, pids_same, place, sent}
 use Rattle.st_full.proofs.Sending.{unstamped}
 use Rattle.st_full.proofs.Shown.{lists_among}
