@@ -112,22 +112,23 @@ pub fn streams_without_a_reason_are_completed()
 {}
 
 /// So for streams in which each reported receive has its send, the reasons decide: acts without a reset
-/// show them exactly if none stands against them. Each reason is a count over the events of single
-/// processes, and needs no order and no acts.
+/// show them exactly if none stands against them. The reasons are read off the events of each process,
+/// with no order of all events and no acts.
 pub fn reasons_decide()
     ensures { (top : ℕ) (streams : List Stream) → IsStreams streams → HasEachSend streams
         → (IsShownInOneTrace top streams ↔ HasNoReason top streams) }
 {}
 
-/// So either acts without a reset show such streams, or one of the reasons stands against them, which
-/// is found event by event and count by count.
+/// So either acts without a reset show such streams, or one of the reasons stands against them, at a
+/// place or of a count.
 pub fn streams_are_shown_or_refused()
     ensures { (top : ℕ) (streams : List Stream) → IsStreams streams → HasEachSend streams
         → IsShownInOneTrace top streams ⊎ HasReason top streams }
 {}
 
 /// And a reason is final, whether sends are hidden or not: if one stands against streams, no acts
-/// without a reset show them, at this TOP. So streams are refused only if they are never shown.
+/// without a reset show them. So streams are refused only if they are never shown. Only `TooHigh`
+/// depends on TOP: the others stand at each.
 pub fn refused_only_if_never_shown()
     ensures { (top : ℕ) (streams : List Stream) → IsRising (pids_of streams) → (reason : Reason)
         → StandsAgainst top streams reason → (acts : List Act) → NoReset acts → ¬ Shows top streams acts }
