@@ -41,5 +41,6 @@ pub mod Supplies
 pub mod Seeking
 pub mod Decided
 pub mod Deciding
+pub mod Composing
 pub mod Choosing
 pub mod ForCallers

@@ -1,9 +1,9 @@
-//! Runs that report everything: nothing stands against their streams.
+//! Completions: what decides whether streams have a run without a reset, and what they lack.
 //!
 //! A process that reports every stamp and every receive of a token tells its counts, and hides no
-//! send. So pairing accepts the streams, the order keeps each process's events in turn, and no event
-//! is uncaused or too far ahead. This crate has that law, over the definitions of the layers below,
-//! and no code.
+//! send: such streams are full. Each run without a reset is full if all that it does is counted,
+//! reported or not; so streams have such a run exactly if they can be completed. Laws over the
+//! definitions of the layers below, and no code.
 #![tactic(auto)]
 
 pub mod laws;
