@@ -15,6 +15,7 @@
 //! | `checks` | `st_check`: checks and replays |
 //! | `plans` | `st_plan` |
 //! | `audits` | `st_audit` |
+//! | `completes` | `st_complete` |
 //! | `charts` | `st_chart`: charts and reports |
 //! | `commands` | `st_commands`: whole commands, byte for byte |
 //! | `collected` | none: texts of streams, and pids, that the others share |
@@ -32,6 +33,8 @@ mod checks;
 mod collected;
 #[cfg(test)]
 mod commands;
+#[cfg(test)]
+mod completes;
 #[cfg(test)]
 mod lists;
 #[cfg(test)]
