@@ -1,7 +1,9 @@
 //! Traces that lack something: their completions by hand, reasons, and acts.
 
 use crate::collected::{made, p30, p31, streams};
-use st_complete::{Answer, CertificateFault, CompleteFault, Completion, Never, certificate, complete};
+use st_complete::{
+    Answer, CertificateFault, CompleteFault, Completion, Never, certificate, complete,
+};
 use st_core::{Event, Kind, Label, Serial, Streams};
 use std::alloc::Global;
 use std::process::Abort;
