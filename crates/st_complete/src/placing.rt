@@ -160,7 +160,10 @@ impl Walks {
     /// Adds a walk, unless one that is kept goes no further and costs no more.
     fn keep(&mut self, start: usize, walk: Walk) -> Result<(), AllocError> {
         let mut worst = start;
-        for (number, other) in self.all.iter().enumerate().skip(start) {
+        for number in start..self.all.len() {
+            let Some(other) = self.all.get(number) else {
+                break;
+            };
             if other.place <= walk.place && other.cost <= walk.cost {
                 return Ok(());
             }
