@@ -233,7 +233,7 @@ impl Search<'_> {
             if (0..self.streams.len()).all(|p| s.next[p] == self.streams[p].len()) {
                 return true;
             }
-            if self.seen.len() > 3_000_000 {
+            if self.seen.len() > 60_000 {
                 self.cut = true;
                 return false;
             }

@@ -1,23 +1,22 @@
 -- Why the reasons hold, and why they are final: what acts without a reset show has a full completion, in which none of
 -- them holds.
-use Rattle.std.proofs.Common.{◌≡◌, ℕ, ◌+◌, ◌<◌, ◌≤◌, ◌⊎◌, inl, inr, zero, suc, ◌&&◌, nat_lt, not, Bool, true, false, cond, List}
-use Rattle.std.proofs.Common.{[], ◌∷◌, take, map, find, slice_get, Option, Some, None, refl, sym, ◌∙◌, ap, subst, arith}
+use Rattle.std.proofs.Common.{◌≡◌, ℕ, ◌<◌, ◌≤◌, zero, suc, ◌&&◌, nat_lt, not, Bool, true, false, cond, List}
+use Rattle.std.proofs.Common.{[], ◌∷◌, map, find, slice_get, Option, Some, None, refl, sym, ◌∙◌, ap, subst, arith}
 use Rattle.std.proofs.lemmas.Bool.{false≢true}
 use Rattle.std.proofs.lemmas.Bool.Decides.{nat_tests}
 use Rattle.std.proofs.lemmas.Option.{same_Some}
 use Rattle.st_core.specs.declared.types.Pid.{Pid}
 use Rattle.st_core.specs.declared.types.Act.{Act}
 use Rattle.st_core.specs.declared.types.Event.{Event}
-use Rattle.st_core.specs.Laws.{NoReset, greatest_count}
+use Rattle.st_core.specs.Laws.{NoReset}
 use Rattle.st_core.specs.Pid.{pid_eq, IsRising}
 use Rattle.st_core.specs.Run.{Shows, Stream, pids_of}
-use Rattle.st_core.specs.Streams.{events_of, IsStreams}
+use Rattle.st_core.specs.Streams.{events_of}
 use Rattle.st_pair.specs.declared.answer.PairFault.TheVariants as fault
 use Rattle.st_pair.specs.Pairing.{refusal}
 use Rattle.st_pair.specs.Places.{event_at, is_stamp}
 use Rattle.st_pair.proofs.ForCallers.{paired, refused_never_shown, stamp_counts_rise}
 use Rattle.st_plan.specs.Marks.{all_streams, told_events, told_streams, Marked, Whole}
-use Rattle.st_full.specs.Completed.{IsShownInOneTrace}
 use Rattle.st_full.specs.Full.{IsFull}
 use Rattle.st_full.specs.Needs.{HoldsOfNone, is_late, is_rootless, marked_of}
 use Rattle.st_full.specs.Supply.{IsSupplied}
@@ -28,7 +27,6 @@ use Rattle.st_complete.specs.declared.answer.Never.TheVariants as never
 use Rattle.st_complete.specs.declared.answer.Answer.{Answer}
 use Rattle.st_complete.specs.declared.answer.Answer.TheVariants as answer
 use Rattle.st_complete.specs.Answers.{HoldsThere, IsAnswer, IsFinal, IsHigher, IsLastHigher, IsNeverFinal, IsReason}
-use Rattle.st_complete.specs.Answers.{is_too_high}
 
 -- THE LAST EVENT THAT COUNTS NO LOWER
 
@@ -79,9 +77,9 @@ among [] i e at = absurd (cc)
 among (m ∷ ms) i e at = elim m.told as (λ b. slice_get (cond b (m.event ∷ told_events ms) (told_events ms)) i ≡ Some e
     → IsAmong (m ∷ ms) e) [
       | true ↦ elim i as (λ n. slice_get (m.event ∷ told_events ms) n ≡ Some e → IsAmong (m ∷ ms) e) [
-          | zero ↦ λ h. record { index = 0; at = h }
-          | suc n ↦ λ h. let rest = among ms n e h in record { index = suc rest.index; at = rest.at }
-        ]
+        | zero ↦ λ h. record { index = 0; at = h }
+        | suc n ↦ λ h. let rest = among ms n e h in record { index = suc rest.index; at = rest.at }
+      ]
       | false ↦ λ h. let rest = among ms i e h in record { index = suc rest.index; at = rest.at }
     ] at
 

@@ -2,7 +2,6 @@
 use Rattle.std.specs.Prelude.{ℕ, zero, suc, ◌==◌, ◌||◌, ◌+◌, Bool, List, map, if◌then◌else◌}
 use Rattle.std.specs.List.{list_any}
 use Rattle.st_core.specs.declared.types.Event.{Event}
-use Rattle.st_core.specs.declared.types.Serial.{Serial}
 use Rattle.st_core.specs.Run.{Stream}
 
 -- the count is 0, or an event of the streams has it as its prev or its this

@@ -121,6 +121,31 @@ fn found<const TOP: u64>(
     searched::<TOP>(alloc, streams, pairing)
 }
 
+/// The place of the first event.
+fn first_place(streams: &Streams) -> Option<(Pid, u64)> {
+    for &pid in streams.pids() {
+        if !streams.events(pid).is_empty() {
+            return Some((pid, 0));
+        }
+    }
+    None
+}
+
+/// The answer where the search named no event. That isn't expected: its whole streams were none, or
+/// the judge refused them.
+fn unexpected<const TOP: u64>(streams: &Streams) -> Result<Answer, CompleteFault>
+    requires { refusal streams.now ≡ None }
+    ensures { IfOk result (IsAnswer TOP streams.now) }
+{
+    let Some((pid, index)) = first_place(streams) else {
+        return Err(CompleteFault::Memory);
+    };
+    match open::<TOP>(streams, pid, index) {
+        None => Err(CompleteFault::Memory),
+        Some(answer) => Ok(answer),
+    }
+}
+
 /// The answer.
 fn answered<const TOP: u64>(alloc: Global, streams: &Streams) -> Result<Answer, CompleteFault>
     ensures { IfOk result (IsAnswer TOP streams.now) }
@@ -132,8 +157,7 @@ fn answered<const TOP: u64>(alloc: Global, streams: &Streams) -> Result<Answer, 
     match found::<TOP>(alloc, streams, &pairing) {
         Err(_) => Err(CompleteFault::Memory),
         Ok(Some(answer)) => Ok(answer),
-        // The search named no event, which is not expected.
-        Ok(None) => Err(CompleteFault::Memory),
+        Ok(None) => unexpected::<TOP>(streams),
     }
 }
 

@@ -160,11 +160,18 @@ impl Walks {
     /// Adds a walk, unless one that is kept goes no further and costs no more.
     fn keep(&mut self, start: usize, walk: Walk) -> Result<(), AllocError> {
         let mut worst = start;
-        for (number, other) in self.all.iter().enumerate().skip(start) {
+        for number in start..self.all.len() {
+            let Some(other) = self.all.get(number) else {
+                break;
+            };
             if other.place <= walk.place && other.cost <= walk.cost {
                 return Ok(());
             }
-            if self.all.get(worst).is_none_or(|found| is_better(found, other)) {
+            if self
+                .all
+                .get(worst)
+                .is_none_or(|found| is_better(found, other))
+            {
                 worst = number;
             }
         }
@@ -267,7 +274,11 @@ impl Ground {
         before: Serial,
         prev: u64,
     ) -> (u64, bool) {
-        let left = if walk.place == end { before.prev } else { self.prev(end) };
+        let left = if walk.place == end {
+            before.prev
+        } else {
+            self.prev(end)
+        };
         let greatest = self.greatest(end);
         if prev == left || prev >= before.this.max(greatest) {
             return (walk.cost, false);
@@ -278,8 +289,15 @@ impl Ground {
         }
         let needs = prev != self.prev(end) && prev < walk.run.before.this.max(greatest);
         let price = if needs { prices.of(prev) } else { 0 };
-        let moves = walk.cost.saturating_sub(walk.run.cost).saturating_add(price);
-        if moves < stays { (moves, true) } else { (stays, false) }
+        let moves = walk
+            .cost
+            .saturating_sub(walk.run.cost)
+            .saturating_add(price);
+        if moves < stays {
+            (moves, true)
+        } else {
+            (stays, false)
+        }
     }
 }
 
@@ -361,7 +379,11 @@ fn place_stretch(
         };
         extras.push(Extra {
             process: send.from,
-            index: if moves && number >= last_run { stretch.end } else { walk.place },
+            index: if moves && number >= last_run {
+                stretch.end
+            } else {
+                walk.place
+            },
             event: send.event,
         })?;
         at = walk.before;
@@ -391,7 +413,15 @@ fn place_process(
         let count = rest.partition_point(|send| send.event.serial.this < event.serial.this);
         let (now, later) = rest.split_at(count);
         let stretch = Stretch { start, end, before };
-        place_stretch(alloc, &ground, prices, now, stretch, Some(event.serial.prev), extras)?;
+        place_stretch(
+            alloc,
+            &ground,
+            prices,
+            now,
+            stretch,
+            Some(event.serial.prev),
+            extras,
+        )?;
         rest = later;
         start = end.saturating_add(1);
         before = event.serial;

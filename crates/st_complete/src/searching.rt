@@ -32,10 +32,7 @@ fn pairing_of(alloc: Global, streams: &Streams) -> Result<Option<Pairing>, Alloc
 
 /// The candidate with the messages that its needs get, or the last need of the least count that has
 /// too few, and what has too few.
-fn fed(
-    alloc: Global,
-    candidate: &Candidate,
-) -> Result<(Option<Candidate>, Vec<Need>), AllocError> {
+fn fed(alloc: Global, candidate: &Candidate) -> Result<(Option<Candidate>, Vec<Need>), AllocError> {
     let Some(pairing) = pairing_of(alloc, &candidate.streams)? else {
         return Ok((None, Vec::new(alloc)));
     };

@@ -86,12 +86,8 @@ pub(crate) fn all_left(alloc: Global, events: &[Event]) -> Result<Vec<Left>, All
 fn prev_before(left: Left, count: u64, next: Option<&Event>) -> u64 {
     match next {
         Some(event)
-            if is_stamp(event)
-                && left.greatest <= event.serial.prev
-                && event.serial.prev < count =>
-        {
-            event.serial.prev
-        }
+            if is_stamp(event) && left.greatest <= event.serial.prev && event.serial.prev < count =>
+            { event.serial.prev }
         _ => left.prev,
     }
 }
@@ -125,7 +121,12 @@ fn receive_of(sent: &Event) -> Event {
 
 impl Inventions {
     /// Goes on to the sends of this process.
-    fn turn_to(&mut self, alloc: Global, streams: &Streams, process: usize) -> Result<(), AllocError> {
+    fn turn_to(
+        &mut self,
+        alloc: Global,
+        streams: &Streams,
+        process: usize,
+    ) -> Result<(), AllocError> {
         if self.process == Some(process) {
             return Ok(());
         }
@@ -152,7 +153,8 @@ impl Inventions {
 
     /// Invents a send and its receive.
     fn invent(&mut self, streams: &Streams, wanted: Wanted) -> Result<(), AllocError> {
-        let (Some(from), Some(to)) = (pid_at(streams, wanted.from), pid_at(streams, wanted.to)) else {
+        let (Some(from), Some(to)) = (pid_at(streams, wanted.from), pid_at(streams, wanted.to))
+        else {
             return Ok(());
         };
         let Some(need) = streams.event(to, wanted.index as u64) else {
@@ -205,7 +207,9 @@ pub(crate) fn extras_of(
     }
     let mut extras = inventions.into_extras();
     for feed in feeds {
-        let sent = feed.sent.and_then(|index| events_at(streams, feed.from).get(index));
+        let sent = feed
+            .sent
+            .and_then(|index| events_at(streams, feed.from).get(index));
         if let Some(sent) = sent {
             extras.push(Extra {
                 process: feed.need.process,

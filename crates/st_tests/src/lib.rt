@@ -15,6 +15,7 @@
 //! | `checks` | `st_check`: checks and replays |
 //! | `plans` | `st_plan` |
 //! | `audits` | `st_audit` |
+//! | `completes` | `st_complete` |
 //! | `charts` | `st_chart`: charts and reports |
 //! | `runs` | `st_runtime`: threads that meet, and records of driven scripts |
 //! | `commands` | `st_commands`: whole commands, byte for byte |
@@ -34,6 +35,8 @@ mod checks;
 mod collected;
 #[cfg(test)]
 mod commands;
+#[cfg(test)]
+mod completes;
 #[cfg(test)]
 mod lists;
 #[cfg(test)]

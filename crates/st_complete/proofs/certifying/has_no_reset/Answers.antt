@@ -1,5 +1,5 @@
 -- One act more, and none at the end.
-use Rattle.std.proofs.Common.{◌≡◌, ℕ, ◌+◌, ◌≤◌, ◌<◌, zero, suc, false, List, [], ◌∷◌, drop, get_or, length, sym, ◌∙◌, ap}
+use Rattle.std.proofs.Common.{◌≡◌, ℕ, ◌+◌, ◌≤◌, ◌<◌, zero, suc, false, List, [], ◌∷◌, drop, get_or, length, sym, ◌∙◌}
 use Rattle.std.proofs.Common.{subst, arith}
 use Rattle.st_core.specs.declared.types.Act.{Act}
 use Rattle.st_core.specs.Laws.{is_reset, NoReset}

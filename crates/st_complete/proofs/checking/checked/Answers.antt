@@ -1,5 +1,5 @@
 -- The completion is the candidate, and what it has more than the streams is untold.
-use Rattle.std.proofs.Common.{◌≡◌, ◌+◌, ◌-◌, ap, sym, ◌∙◌, arith, subst}
+use Rattle.std.proofs.Common.{ap, sym, ◌∙◌, arith, subst}
 use Rattle.std.proofs.lemmas.Option.{same_Some}
 use Rattle.st_core.specs.Streams.{total_of, IsStreams}
 use Rattle.st_full.specs.Local.{IsNeedless}

@@ -1,5 +1,5 @@
 -- One process more.
-use Rattle.std.proofs.Common.{◌≡◌, get_or, length, slice_get, Some, sym, ◌∙◌, ap, arith}
+use Rattle.std.proofs.Common.{get_or, length, slice_get, sym, ◌∙◌, ap, arith}
 use Rattle.st_core.specs.declared.types.Pid.{Pid}
 use Rattle.st_pair.proofs.ForCallers.{at_get_or}
 use Rattle.st_complete.proofs.Judged.{all_told, pids_length, told_here, told_next}

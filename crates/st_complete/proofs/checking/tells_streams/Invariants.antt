@@ -1,5 +1,5 @@
 -- The processes that were taken tell their streams.
-use Rattle.std.proofs.Common.{◌≡◌, ℕ, ◌<◌, length}
+use Rattle.std.proofs.Common.{ℕ, ◌<◌}
 use Rattle.st_complete.proofs.Judged.{IsToldAt}
 use Rattle.st_complete.proofs.checking.tells_streams.Given as goal
 

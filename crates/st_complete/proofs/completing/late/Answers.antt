@@ -9,7 +9,7 @@ returns g c = (
   c.requires.accepted,
   c.requires.late,
   last_higher c.args.streams.now c.args.pid c.args.index _ _ c.in_ok-event.event c.requires.accepted c.requires.late
-  (sym c.event.ensures ∙ c.in_ok-event.was) refl
-  (subst (λ es. IsHigher es c.args.index c.in_ok-event.event.serial.this c.in_ok-higher.higher)
-  c.events-events.ensures.value c.in_ok-higher.ensures),
+      (sym c.event.ensures ∙ c.in_ok-event.was) refl
+      (subst (λ es. IsHigher es c.args.index c.in_ok-event.event.serial.this c.in_ok-higher.higher)
+      c.events-events.ensures.value c.in_ok-higher.ensures),
 )

@@ -1,5 +1,5 @@
 -- An event has the mark at its index, and past the end of the marks none.
-use Rattle.std.proofs.Common.{◌≡◌, ℕ, ◌<◌, length, get_or, option_map, Some, false, sym, ◌∙◌, ap, arith}
+use Rattle.std.proofs.Common.{◌<◌, length, get_or, option_map, Some, false, sym, ◌∙◌, ap, arith}
 use Rattle.st_core.specs.declared.types.Event.{Event}
 use Rattle.st_pair.proofs.ForCallers.{at_get_or, blank}
 use Rattle.st_complete.proofs.Kept.{mark_read, past_end}
