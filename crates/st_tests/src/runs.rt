@@ -66,7 +66,10 @@ fn assert_same_streams<R: Abort>(rt: &R, pids: &[Pid], told: &Streams, wanted: &
     assert_eq!(rt; told.pids(), pids);
     assert_eq!(rt; told.total(), wanted.total());
     for pid in pids {
-        assert!(rt; told.events(*pid) == wanted.events(*pid), "the stream of {pid:?}");
+        assert!(rt;
+            told.events(*pid) == wanted.events(*pid),
+            "the stream of {pid:?}"
+        );
     }
 }
 

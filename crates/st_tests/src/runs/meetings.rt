@@ -193,7 +193,10 @@ fn the_gate_is_told_once_all_locks_are_held_and_once_they_are_given_back(
     ];
     for (held, asked) in &cases {
         let came = came_in(&rt, &system, &mut holder, &mut other, held, asked);
-        assert!(rt; came == (false, true), "{asked:?} beside {held:?}: {came:?}");
+        assert!(rt;
+            came == (false, true),
+            "{asked:?} beside {held:?}: {came:?}"
+        );
     }
     Ok(())
 }
