@@ -105,6 +105,8 @@ impl<const TOP: u64, const RANKS: u64> System<TOP, RANKS> {
     /// Makes the act under the locks of all processes that it touches, and keeps it in the seat with
     /// its reply. It waits for the locks.
     ///
+    /// An act of a whole node takes up to two kilobytes of stack for each process of the node.
+    ///
     /// Refusals: 5 NotYours, 2 Unknown, 6 Stray, 3 ClockFull, 4 RankFull, 1 Memory, in this order,
     /// save that room in the seat, and in the logs for an act of a whole node, is made first: so
     /// Memory can come in place of 6, 3 and 4. After a refusal no log has changed.

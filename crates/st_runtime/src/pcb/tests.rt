@@ -94,7 +94,10 @@ fn two_processes_by_hand(rt: HostRuntime) -> Result<(), Fail> {
     assert_ranks(&rt, &one, &[1, 2, 4]);
     assert_ranks(&rt, &other, &[2, 3, 4]);
     let carried = one.log().get(1).and_then(|entry| entry.carried);
-    assert_eq!(rt; carried.map(|token| token.serial), Some(Serial { prev: 0, this: 1 }));
+    assert_eq!(rt;
+        carried.map(|token| token.serial),
+        Some(Serial { prev: 0, this: 1 })
+    );
     assert_eq!(rt; one.local().clock(), 0);
     assert_eq!(rt; other.local().clock(), 0);
     Ok(())

@@ -147,7 +147,13 @@ fn a_full_rank_keeps_what_was_made(rt: HostRuntime) -> Result<(), Fail> {
     };
     let made = (Act::Look(me), Ok(Reply::Current(None)));
     let full = (Act::Look(me), Err(ActFault::RankFull));
-    play(&rt, &OpenGate, &system, &mut seat, &[made, made, made, full]);
+    play(
+        &rt,
+        &OpenGate,
+        &system,
+        &mut seat,
+        &[made, made, made, full],
+    );
     assert_eq!(rt; seat.mine().len(), 3);
     Ok(())
 }
@@ -162,10 +168,7 @@ fn a_reset_leaves_the_log_of_another_node(rt: HostRuntime) -> Result<(), Fail> {
         panic!(rt; "no seats");
     };
     let send = Act::Send(here, away, 5);
-    let acts = [
-        (send, Ok(Reply::Done)),
-        (Act::Reset(here), Ok(Reply::Done)),
-    ];
+    let acts = [(send, Ok(Reply::Done)), (Act::Reset(here), Ok(Reply::Done))];
     play(&rt, &OpenGate, &system, &mut seat, &acts);
     let pieces = gathered(system, Vec::new(rt.alloc())).ok_or("not gathered")?;
     for process in pieces.processes {

@@ -190,10 +190,14 @@ fn the_gate_is_told_once_all_locks_are_held_and_once_they_are_given_back(
         (Act::Send(p30(), p31(), 1), Act::Send(p31(), p31(), 1)),
         (Act::Reset(p30()), Act::Look(p31())),
         (Act::Tracer(p30(), true), Act::Send(p31(), p31(), 1)),
+        (Act::Send(p30(), p31(), 1), Act::Send(p31(), p30(), 1)),
     ];
     for (held, asked) in &cases {
         let came = came_in(&rt, &system, &mut holder, &mut other, held, asked);
-        assert!(rt; came == (false, true), "{asked:?} beside {held:?}: {came:?}");
+        assert!(rt;
+            came == (false, true),
+            "{asked:?} beside {held:?}: {came:?}"
+        );
     }
     Ok(())
 }

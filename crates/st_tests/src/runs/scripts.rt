@@ -89,7 +89,7 @@ fn token(from: Pid, value: u64) -> Token {
         },
         serial: Serial {
             prev: value,
-            this: value + 1,
+            this: value.saturating_add(1),
         },
         from,
     }
