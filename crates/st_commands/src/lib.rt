@@ -23,4 +23,4 @@ pub use check::run_check;
 pub use drive::run_drive;
 pub use program::run;
 pub use replay::run_replay;
-pub use words::{Refusal, Task, plain_words, read_words};
+pub use words::{Refusal, Task, chart_labels, plain_words, read_words};

@@ -7,13 +7,13 @@ ghost use Rattle.std.specs.Prelude.{◌≡◌, ◌<◌, length, IfOk};
 mod arenas;
 
 use crate::collected::{p30, p31};
-use st_audit::{Finding, audit};
+use st_audit::{Finding, audit, told_acts};
 use st_chain::Chains;
 use st_chart::chart;
 use st_core::{Act, Draft, Event, Kind, Label, MemorySink, Pid, Serial, Streams};
 use st_order::{by_label, order};
 use st_pair::pair;
-use st_plan::{QUIET, Start, ready};
+use st_plan::{Everything, QUIET, Start, ready};
 use std::alloc::Global;
 use std::test::Fail;
 
@@ -68,6 +68,14 @@ fn a_hundred_thousand_events_fit(rt: HostRuntime) -> Result<(), Fail> {
             assert_eq!(rt; pairs.len(), 50_000);
         }
     }
+    Ok(())
+}
+
+#[test]
+fn acts_that_tell_a_hundred_thousand_events_are_built(rt: HostRuntime) -> Result<(), Fail> {
+    let streams = to_and_fro(rt.alloc())?;
+    let acts = told_acts::<{ u64::MAX }, Everything>(&rt, rt.alloc(), &streams, &Everything)?;
+    assert_eq!(rt; acts.ok_or("no acts")?.len(), 100_002);
     Ok(())
 }
 
