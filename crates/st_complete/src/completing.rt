@@ -163,6 +163,8 @@ fn answered<const TOP: u64>(alloc: Global, streams: &Streams) -> Result<Answer, 
 
 /// A completion of the streams, or an event and the reason why they have none. The same streams
 /// always get the same answer.
+///
+/// `Never::Unsent` isn't given yet: such streams are `Open` at the last need of the least such count.
 pub fn complete<const TOP: u64>(alloc: Global, streams: &Streams) -> Result<Answer, CompleteFault>
     ensures answer { IfOk result (IsAnswer TOP streams.now) }
     ensures ruled_out { IfOk result (IsNeverFinal TOP streams.now) }
