@@ -1,0 +1,3 @@
+-- The lemmas.
+pub mod Telling
+pub mod Backs
