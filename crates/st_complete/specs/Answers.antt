@@ -1,0 +1,85 @@
+-- What the answers mean: a completion, or a place and a reason why no acts without a reset show the streams.
+use Rattle.std.specs.Prelude.{◌≡◌, ℕ, ◌<◌, ◌≤◌, nat_lt, Bool, true, false, List, take, Some, None, IsSome}
+use Rattle.st_core.specs.declared.types.Pid.{Pid}
+use Rattle.st_core.specs.declared.types.Event.{Event}
+use Rattle.st_core.specs.Run.{Stream}
+use Rattle.st_core.specs.Streams.{events_of}
+use Rattle.st_pair.specs.declared.answer.PairFault.TheVariants as fault
+use Rattle.st_pair.specs.Final.{NeverShownInOneTrace}
+use Rattle.st_pair.specs.Laws.{IsEarlier}
+use Rattle.st_pair.specs.Pairing.{refusal}
+use Rattle.st_pair.specs.Places.{event_at, is_stamp}
+use Rattle.st_full.specs.Completed.{IsShownInOneTrace}
+use Rattle.st_full.specs.Needs.{HoldsOfNone, is_late, is_need, is_rootless}
+use Rattle.st_full.specs.Supply.{IsSupplied}
+use Rattle.st_complete.specs.declared.answer.Never.{Never}
+use Rattle.st_complete.specs.declared.answer.Never.TheVariants as never
+use Rattle.st_complete.specs.declared.answer.Answer.{Answer}
+use Rattle.st_complete.specs.declared.answer.Answer.TheVariants as answer
+use Rattle.st_complete.specs.Completions.{Completes}
+
+-- the test holds of event i of p, after those before it, and of no event at a lesser place
+pub record HoldsFirst (test : List Event → Event → Bool) (streams : List Stream) (p : Pid) (i : ℕ) : Type 0 where
+  pub event : Event
+  pub at : event_at streams p i ≡ Some event
+  pub holds : test (take i (events_of streams p)) event ≡ true
+  pub least : (q : Pid) (j : ℕ) (f : Event) → event_at streams q j ≡ Some f → IsEarlier q j p i
+      → test (take j (events_of streams q)) f ≡ false
+
+-- event j of p is the last receive before its event i that counts no lower than this one
+pub record IsLastHigher (streams : List Stream) (p : Pid) (i j : ℕ) : Type 0 where
+  pub event : Event
+  pub at : event_at streams p i ≡ Some event
+  pub receive : Event
+  pub there : event_at streams p j ≡ Some receive
+  pub before : j < i
+  pub receives : is_stamp receive ≡ false
+  pub high : event.serial.this ≤ receive.serial.this
+  pub last : (k : ℕ) (f : Event) → j < k → k < i → event_at streams p k ≡ Some f → f.serial.this < event.serial.this
+
+-- event i of p is a need, and there are more needs of its prev than messages that may feed them
+pub record IsUnsent (streams : List Stream) (p : Pid) (i : ℕ) : Type 0 where
+  pub event : Event
+  pub at : event_at streams p i ≡ Some event
+  pub need : is_need (take i (events_of streams p)) event ≡ true
+  pub unsupplied : ¬ IsSupplied streams event.serial.prev
+
+-- no clock can have the event's count
+abbrev pub is_too_high : ℕ → List Event → Event → Bool
+is_too_high top es e = nat_lt top e.serial.this
+
+-- nothing of lesser number stands against the streams than the needs of one prev
+pub record IsRooted (streams : List Stream) : Type 0 where
+  pub accepted : refusal streams ≡ None
+  pub timely : HoldsOfNone is_late streams
+  pub rooted : HoldsOfNone is_rootless streams
+
+-- the reason holds at event i of p
+abbrev pub IsReason : ℕ → List Stream → Pid → ℕ → Never → Type 0
+IsReason top streams p i never.PrevNotBefore = refusal streams ≡ Some (fault.PrevNotBefore p i)
+IsReason top streams p i (never.NotRising j) = refusal streams ≡ Some (fault.NotRising p i j)
+IsReason top streams p i (never.Repeated q j) = refusal streams ≡ Some (fault.Repeated p i q j)
+IsReason top streams p i (never.Mismatch q j) = refusal streams ≡ Some (fault.Mismatch p i q j)
+IsReason top streams p i (never.Late j) =
+    (refusal streams ≡ None) × HoldsFirst is_late streams p i × IsLastHigher streams p i j
+IsReason top streams p i never.Unfounded =
+    (refusal streams ≡ None) × HoldsOfNone is_late streams × HoldsFirst is_rootless streams p i
+IsReason top streams p i never.Unsent = IsRooted streams × IsUnsent streams p i
+IsReason top streams p i never.TooHigh = IsRooted streams × HoldsFirst (is_too_high top) streams p i
+
+-- no acts without a reset show the streams, however far clocks go; for TooHigh, as far as these go
+abbrev pub IsFinal : ℕ → List Stream → Never → Type 0
+IsFinal top streams never.TooHigh = ¬ IsShownInOneTrace top streams
+IsFinal top streams reason = NeverShownInOneTrace streams
+
+-- a completion; an event that is there and the reason that holds there; or an event that is there, of streams against
+-- which pairing has nothing
+abbrev pub IsAnswer : ℕ → List Stream → Answer → Type 0
+IsAnswer top streams (answer.Whole wholes) = Completes top streams wholes
+IsAnswer top streams (answer.Never p i reason) = IsSome (event_at streams p i) × IsReason top streams p i reason
+IsAnswer top streams (answer.Open p i) = (refusal streams ≡ None) × IsSome (event_at streams p i)
+
+-- a Never is final
+abbrev pub IsNeverFinal : ℕ → List Stream → Answer → Type 0
+IsNeverFinal top streams (answer.Never p i reason) = IsFinal top streams reason
+IsNeverFinal top streams found = Unit {0}
