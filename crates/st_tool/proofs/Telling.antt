@@ -19,7 +19,10 @@ use Rattle.st_commands.specs.Audited.{report_output}
 use Rattle.st_core.specs.declared.types.Pid.{Pid}
 use Rattle.st_pair.specs.Pairing.{refusal}
 use Rattle.st_tool.specs.Why.{ArePaired, IsWhy, Traced, Lacking, Unpaired, traced, no_event}
+use Rattle.st_tool.specs.Renumber.{IsRenumbered, Ranked, streams_output}
 use Rattle.st_tool.specs.Parts.{TracesTo, OfBack, OfNoEvent, OfReason, NoRoomToTrace}
+use Rattle.st_tool.specs.Parts.{RenumbersTo, Ranks, NoRoomToRenumber}
+use Rattle.st_complete.specs.Ranks.{renumbered_streams}
 use Rattle.st_commands.specs.Command.{ReadsAll, Owes, OfBytes, ForMemory, ForReader, Delivers, Whole, Part}
 
 -- ---- writing
@@ -102,3 +105,11 @@ module _ {R : Type 0} (gives : R → List ℕ → R → Type 0) (ended : R → T
         (Unpaired h.bytes c.streams found
         (record { given = c.acts; spelled = h.spelled; fault = f; refused = is; found_by = by }))
     owes_why out NoRoomToTrace = ForMemory h.bytes h.all h.small
+
+  -- ---- renumber
+
+  pub owes_renumber : (c : Contents) → WasRead c → (out : Output) → RenumbersTo c.streams out
+      → Owes gives ended failed old new IsRenumbered out
+  owes_renumber c h out Ranks =
+      OfBytes h.bytes (streams_output (renumbered_streams c.streams)) h.all (Ranked h.bytes c.streams c.acts h.spelled)
+  owes_renumber c h out NoRoomToRenumber = ForMemory h.bytes h.all h.small

@@ -9,6 +9,8 @@ use Rattle.st_tool.specs.declared.lines.OutputLine.TheVariants as lines
 abbrev pub words : OutputLine → List ℕ
 words (lines.NoEvent p i) = codes "no event " ++ place_words p i
 words (lines.Fault f) = fault_words f
+words lines.NoActs = codes "fault no acts"
+words lines.Long = codes "long"
 
 abbrev pub text_of : OutputLine → List ℕ
 text_of l = ended_line (words l)

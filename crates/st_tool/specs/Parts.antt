@@ -10,9 +10,11 @@ use Rattle.st_pair.specs.Places.{event_at}
 use Rattle.st_chain.specs.Causes.{IsBackFrom}
 use Rattle.st_audit.specs.declared.finding.Finding.{Finding}
 use Rattle.st_audit.specs.Findings.{unfit_by}
+use Rattle.st_complete.specs.Ranks.{renumbered_streams}
 use Rattle.st_commands.specs.Output.{Output, no_memory}
 use Rattle.st_commands.specs.Audited.{report_output}
 use Rattle.st_tool.specs.Why.{traced, no_event}
+use Rattle.st_tool.specs.Renumber.{streams_output}
 
 -- the way back from an event of streams
 pub data TracesTo (streams : List Stream) (p : Pid) (i : ℕ) : Output → Type 0 where
@@ -22,6 +24,11 @@ pub data TracesTo (streams : List Stream) (p : Pid) (i : ℕ) : Output → Type 
   OfReason : (f : PairFault) (found : Finding) → refusal streams ≡ Some f → unfit_by f ≡ Some found
       → TracesTo streams p i (report_output streams found)
   NoRoomToTrace : TracesTo streams p i no_memory
+
+-- the renumbered streams
+pub data RenumbersTo (streams : List Stream) : Output → Type 0 where
+  Ranks : RenumbersTo streams (streams_output (renumbered_streams streams))
+  NoRoomToRenumber : RenumbersTo streams no_memory
 
 -- the longest of what says by what an event follows
 abbrev pub by_room : ℕ

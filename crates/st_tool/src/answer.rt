@@ -4,13 +4,15 @@ ghost use Rattle.std.specs.Prelude.{◌≡◌, MatchResult};
 ghost use Rattle.st_commands.specs.Audited.{finding_status, report_output};
 ghost use Rattle.st_commands.specs.Command.{Delivers};
 ghost use Rattle.st_commands.specs.Output.{fault_status, no_device, no_memory, refused};
+ghost use Rattle.st_commands.specs.Parts.{bundled};
 ghost use Rattle.st_tool.specs.Lines.{text_of};
+ghost use Rattle.st_tool.specs.Renumber.{streams_output};
 
 use crate::lines::{OutputLine, send_line};
 use st_audit::Finding;
 use st_chart::report;
-use st_core::{ByteSink, Streams};
-use st_text::{Device, ReadFault};
+use st_core::{Act, ByteSink, Streams};
+use st_text::{Device, ReadFault, write_parts};
 
 /// The status for a text that was written, or for a writer that failed.
 pub(crate) fn status_of(sent: Result<(), Device>, status: u8) -> u8
@@ -62,6 +64,22 @@ pub(crate) fn tell_finding<W: ByteSink>(writer: &mut W, streams: &Streams, findi
 {
     let sent = report(writer, streams, finding);
     status_of(sent, finding_status(finding))
+}
+
+/// Tells the bundle of streams without acts.
+pub(crate) fn tell_streams<W: ByteSink>(writer: &mut W, streams: &Streams) -> u8
+    ensures { Delivers W.puts W.failed writer.old writer.new (streams_output streams.now) result }
+{
+    let sent = write_parts(writer, streams, None);
+    status_of(sent, 0)
+}
+
+/// Tells the bundle of streams with acts.
+pub(crate) fn tell_bundle<W: ByteSink>(writer: &mut W, streams: &Streams, acts: &[Act]) -> u8
+    ensures { Delivers W.puts W.failed writer.old writer.new (bundled streams.now acts.now) result }
+{
+    let sent = write_parts(writer, streams, Some(acts));
+    status_of(sent, 0)
 }
 
 /// Tells a fault.

@@ -20,6 +20,10 @@ pub(crate) enum OutputLine {
     NoEvent(Pid, u64),
     /// Why the input is no text, or there is no answer.
     Fault(ReadFault),
+    /// The input has no acts.
+    NoActs,
+    /// The acts are more than the reader takes.
+    Long,
 }
 
 /// Appends a process and an index in its stream.
@@ -74,6 +78,8 @@ fn put_words(buffer: &mut Buffer, line: OutputLine)
             put_place(buffer, pid, index);
         }
         OutputLine::Fault(fault) => put_fault(buffer, fault),
+        OutputLine::NoActs => put_bytes(buffer, b"fault no acts"),
+        OutputLine::Long => put_bytes(buffer, b"long"),
     }
 }
 

@@ -8,11 +8,30 @@ use st_core::Pid;
 use std::alloc::{AllocError, Global};
 use std::convert::AsStr;
 
+/// How a completion is written.
+#[derive(Clone, Copy, Debug, PartialEq, Eq)]
+pub enum Form {
+    /// A bundle of the streams that were read with acts that show them.
+    Acts,
+    /// A bundle of the completed streams.
+    Streams,
+    /// The events that were added, a line each.
+    Added,
+}
+
 /// A command of the program.
 #[derive(Clone, Copy, Debug, PartialEq, Eq)]
 pub enum Task {
+    /// `complete`: what do the streams lack?
+    Complete(Form),
+    /// `renumber`: the streams with small counts.
+    Renumber,
     /// `why PID I`: what caused event I of this process?
     Why(Pid, u64),
+    /// `lint`: why does the reader refuse the text?
+    Lint,
+    /// `explain`: why does `check` refuse the acts?
+    Explain,
     /// `check`, as `seqaudit` has it.
     Check,
     /// `audit`, as `seqaudit` has it.
@@ -46,6 +65,20 @@ fn plain_command<'a>(
         .arg(file_arg(alloc))
 }
 
+/// `complete [--as FORM] [FILE]`.
+fn complete_command<'a>(alloc: Global) -> Result<Command<'a>, AllocError> {
+    let form = Arg::new(alloc, "FORM")
+        .long("as")
+        .help("What to write: the added events, all streams, or acts that show the given streams")
+        .value_parser(["added", "streams", "acts"].as_slice())
+        .default_value("added");
+    Command::new(alloc, "complete")
+        .about(help::COMPLETE)
+        .after_help(help::COMPLETE_EXAMPLE)
+        .arg(form)?
+        .arg(file_arg(alloc))
+}
+
 /// `why PID I [FILE]`.
 fn why_command<'a>(alloc: Global) -> Result<Command<'a>, AllocError> {
     let pid = Arg::new(alloc, "PID")
@@ -73,10 +106,33 @@ fn command_line<'a>(alloc: Global) -> Result<Command<'a>, AllocError> {
         .disable_help_subcommand(true);
     let audit = plain_command(alloc, "audit", help::AUDIT, help::AUDIT_EXAMPLE)?;
     let check = plain_command(alloc, "check", help::CHECK, help::CHECK_EXAMPLE)?;
+    let explain = plain_command(alloc, "explain", help::EXPLAIN, help::EXPLAIN_EXAMPLE)?;
+    let lint = plain_command(alloc, "lint", help::LINT, help::LINT_EXAMPLE)?;
+    let renumber = plain_command(alloc, "renumber", help::RENUMBER, help::RENUMBER_EXAMPLE)?;
     program
         .subcommand(audit)?
+        .subcommand(complete_command(alloc)?)?
         .subcommand(why_command(alloc)?)?
-        .subcommand(check)
+        .subcommand(lint)?
+        .subcommand(check)?
+        .subcommand(explain)?
+        .subcommand(renumber)
+}
+
+/// The form of this name.
+fn form_of(name: Option<&str>) -> Form {
+    match name {
+        Some(name) => {
+            if name == "acts" {
+                return Form::Acts;
+            }
+            if name == "streams" {
+                return Form::Streams;
+            }
+            Form::Added
+        }
+        None => Form::Added,
+    }
 }
 
 /// The pid that a text writes, with its angle brackets or without.
@@ -103,8 +159,20 @@ fn why_of(found: &ArgMatches) -> Option<Task> {
 
 /// The command of this name, of whose own words `clap` found these.
 fn task_of(name: &str, found: &ArgMatches) -> Option<Task> {
+    if name == "complete" {
+        return Some(Task::Complete(form_of(found.get_str("FORM"))));
+    }
+    if name == "renumber" {
+        return Some(Task::Renumber);
+    }
     if name == "why" {
         return why_of(found);
+    }
+    if name == "lint" {
+        return Some(Task::Lint);
+    }
+    if name == "explain" {
+        return Some(Task::Explain);
     }
     if name == "check" {
         return Some(Task::Check);
