@@ -1,2 +1,5 @@
 -- The lemmas.
 pub mod Kept
+pub mod Flawed
+pub mod Judged
+pub mod Answered

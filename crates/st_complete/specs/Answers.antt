@@ -1,12 +1,11 @@
 -- What the answers mean: a completion, or a place and a reason why no acts without a reset show the streams.
-use Rattle.std.specs.Prelude.{◌≡◌, ℕ, ◌<◌, ◌≤◌, nat_lt, Bool, true, false, List, take, Some, None, IsSome}
+use Rattle.std.specs.Prelude.{◌≡◌, ℕ, ◌<◌, ◌≤◌, nat_lt, Bool, true, false, List, take, slice_get, Some, None, IsSome}
 use Rattle.st_core.specs.declared.types.Pid.{Pid}
 use Rattle.st_core.specs.declared.types.Event.{Event}
 use Rattle.st_core.specs.Run.{Stream}
 use Rattle.st_core.specs.Streams.{events_of}
 use Rattle.st_pair.specs.declared.answer.PairFault.TheVariants as fault
 use Rattle.st_pair.specs.Final.{NeverShownInOneTrace}
-use Rattle.st_pair.specs.Laws.{IsEarlier}
 use Rattle.st_pair.specs.Pairing.{refusal}
 use Rattle.st_pair.specs.Places.{event_at, is_stamp}
 use Rattle.st_full.specs.Completed.{IsShownInOneTrace}
@@ -18,13 +17,11 @@ use Rattle.st_complete.specs.declared.answer.Answer.{Answer}
 use Rattle.st_complete.specs.declared.answer.Answer.TheVariants as answer
 use Rattle.st_complete.specs.Completions.{Completes}
 
--- the test holds of event i of p, after those before it, and of no event at a lesser place
-pub record HoldsFirst (test : List Event → Event → Bool) (streams : List Stream) (p : Pid) (i : ℕ) : Type 0 where
+-- the test holds of event i of p, after those before it
+pub record HoldsThere (test : List Event → Event → Bool) (streams : List Stream) (p : Pid) (i : ℕ) : Type 0 where
   pub event : Event
   pub at : event_at streams p i ≡ Some event
   pub holds : test (take i (events_of streams p)) event ≡ true
-  pub least : (q : Pid) (j : ℕ) (f : Event) → event_at streams q j ≡ Some f → IsEarlier q j p i
-      → test (take j (events_of streams q)) f ≡ false
 
 -- event j of p is the last receive before its event i that counts no lower than this one
 pub record IsLastHigher (streams : List Stream) (p : Pid) (i j : ℕ) : Type 0 where
@@ -44,6 +41,14 @@ pub record IsUnsent (streams : List Stream) (p : Pid) (i : ℕ) : Type 0 where
   pub need : is_need (take i (events_of streams p)) event ≡ true
   pub unsupplied : ¬ IsSupplied streams event.serial.prev
 
+-- event j of these is the last before index i that counts no lower than this
+pub record IsHigher (es : List Event) (i this j : ℕ) : Type 0 where
+  pub event : Event
+  pub at : slice_get es j ≡ Some event
+  pub before : j < i
+  pub high : this ≤ event.serial.this
+  pub last : (k : ℕ) (f : Event) → j < k → k < i → slice_get es k ≡ Some f → f.serial.this < this
+
 -- no clock can have the event's count
 abbrev pub is_too_high : ℕ → List Event → Event → Bool
 is_too_high top es e = nat_lt top e.serial.this
@@ -61,22 +66,22 @@ IsReason top streams p i (never.NotRising j) = refusal streams ≡ Some (fault.N
 IsReason top streams p i (never.Repeated q j) = refusal streams ≡ Some (fault.Repeated p i q j)
 IsReason top streams p i (never.Mismatch q j) = refusal streams ≡ Some (fault.Mismatch p i q j)
 IsReason top streams p i (never.Late j) =
-    (refusal streams ≡ None) × HoldsFirst is_late streams p i × IsLastHigher streams p i j
+    (refusal streams ≡ None) × HoldsThere is_late streams p i × IsLastHigher streams p i j
 IsReason top streams p i never.Unfounded =
-    (refusal streams ≡ None) × HoldsOfNone is_late streams × HoldsFirst is_rootless streams p i
+    (refusal streams ≡ None) × HoldsOfNone is_late streams × HoldsThere is_rootless streams p i
 IsReason top streams p i never.Unsent = IsRooted streams × IsUnsent streams p i
-IsReason top streams p i never.TooHigh = IsRooted streams × HoldsFirst (is_too_high top) streams p i
+IsReason top streams p i never.TooHigh = IsRooted streams × HoldsThere (is_too_high top) streams p i
 
 -- no acts without a reset show the streams, however far clocks go; for TooHigh, as far as these go
 abbrev pub IsFinal : ℕ → List Stream → Never → Type 0
 IsFinal top streams never.TooHigh = ¬ IsShownInOneTrace top streams
 IsFinal top streams reason = NeverShownInOneTrace streams
 
--- a completion; an event that is there and the reason that holds there; or an event that is there, of streams against
--- which pairing has nothing
+-- a completion; a reason that holds at an event; or an event that is there, of streams against which pairing has
+-- nothing
 abbrev pub IsAnswer : ℕ → List Stream → Answer → Type 0
 IsAnswer top streams (answer.Whole wholes) = Completes top streams wholes
-IsAnswer top streams (answer.Never p i reason) = IsSome (event_at streams p i) × IsReason top streams p i reason
+IsAnswer top streams (answer.Never p i reason) = IsReason top streams p i reason
 IsAnswer top streams (answer.Open p i) = (refusal streams ≡ None) × IsSome (event_at streams p i)
 
 -- a Never is final

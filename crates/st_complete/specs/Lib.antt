@@ -2,3 +2,5 @@
 pub mod Completions
 pub mod Answers
 pub mod Ranks
+-- For the parts alone: tests of one event, and where they hold first.
+pub mod Flaws

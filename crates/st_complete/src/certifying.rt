@@ -1,31 +1,89 @@
 //! The acts of a completion.
 
-ghost use Rattle.std.specs.Prelude.{IfOk};
-ghost use Rattle.st_core.specs.Laws.{NoReset};
+ghost use Rattle.std.specs.Prelude.{◌≡◌, true, IfOk};
+ghost use Rattle.st_core.specs.Laws.{is_reset, NoReset};
 ghost use Rattle.st_core.specs.Run.{Shows};
 ghost use Rattle.st_core.specs.Verdict.{IsVerdict, Yes};
 
 use crate::answer::{Certificate, CertificateFault};
 use crate::completion::Completion;
-use st_core::Streams;
+use st_audit::told_acts;
+use st_check::{Verdict, check};
+use st_core::{Act, Sequence, Streams};
 use std::alloc::Global;
 use std::thread::Threads;
 
-/// Acts that show the streams, by their completion. The checker is asked too, and said yes.
-///
-/// It sorts on several threads, with one answer for every number of threads.
-pub fn certificate<const TOP: u64>(
-    _rt: &(impl Threads + Sync),
-    _alloc: Global,
+/// Whether the act is a reset.
+fn is_reset(act: &Act) -> bool
+    ensures { result ≡ is_reset act.now }
+{
+    match act {
+        Act::Reset(_) => true,
+        Act::Send(..)
+        | Act::Receive(..)
+        | Act::Print(..)
+        | Act::PrintAt(..)
+        | Act::Set(..)
+        | Act::Clear(_)
+        | Act::Restore(..)
+        | Act::Look(_)
+        | Act::Tracer(..) => false,
+    }
+}
+
+/// Whether none of the acts is a reset.
+fn has_no_reset(acts: &[Act]) -> bool
+    ensures { result ≡ true → NoReset acts.now }
+{
+    for act in acts {
+        if is_reset(act) {
+            return false;
+        }
+    }
+    true
+}
+
+/// The acts, if the checker says that they show the streams and none is a reset.
+fn certified<const TOP: u64>(
+    alloc: Global,
     streams: &Streams,
-    completion: &Completion,
-    _most: u64,
+    acts: Sequence<Act>,
 ) -> Result<Certificate, CertificateFault>
     ensures verdict { IfOk result (λ found. IsVerdict TOP streams.now found.acts (Yes found.pairs)) }
     ensures shows { IfOk result (λ found. Shows TOP streams.now found.acts) }
     ensures one_trace { IfOk result (λ found. NoReset found.acts) }
 {
-    let _ = streams;
-    let _ = completion;
-    Err(CertificateFault::Memory)
+    if !has_no_reset(acts.as_slice()) {
+        return Err(CertificateFault::TooMany);
+    }
+    match check::<TOP>(alloc, streams, acts.as_slice()) {
+        Err(_) => Err(CertificateFault::Memory),
+        Ok(Verdict::Yes(pairs)) => Ok(Certificate { acts, pairs }),
+        Ok(_) => Err(CertificateFault::TooMany),
+    }
+}
+
+/// Acts that show the streams, by their completion, and the checker's yes. TooMany says that they are
+/// more than `most`, or that more than 1,000 counts are missing before one event of the completion
+/// or 1,000,000 in all: each takes an act.
+///
+/// It sorts on several threads, with one answer for every number of threads.
+pub fn certificate<const TOP: u64>(
+    rt: &(impl Threads + Sync),
+    alloc: Global,
+    streams: &Streams,
+    completion: &Completion,
+    most: u64,
+) -> Result<Certificate, CertificateFault>
+    ensures verdict { IfOk result (λ found. IsVerdict TOP streams.now found.acts (Yes found.pairs)) }
+    ensures shows { IfOk result (λ found. Shows TOP streams.now found.acts) }
+    ensures one_trace { IfOk result (λ found. NoReset found.acts) }
+{
+    let Ok(built) = told_acts::<TOP, Completion>(rt, alloc, completion.streams(), completion) else {
+        return Err(CertificateFault::Memory);
+    };
+    match built {
+        Some(acts) if acts.len() as u64 <= most => certified::<TOP>(alloc, streams, acts),
+        _ => Err(CertificateFault::TooMany),
+    }
 }

@@ -44,7 +44,7 @@ pub(crate) fn marks_at(lists: &[Sequence<bool>], place: usize) -> &[bool]
 }
 
 /// A mark; past the end there is none, and events there are untold.
-fn is_marked(marks: &[bool], index: usize) -> bool
+pub(crate) fn is_marked(marks: &[bool], index: usize) -> bool
     ensures { result ≡ get_or marks.now index false }
 {
     if index < marks.len() {

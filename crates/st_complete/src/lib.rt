@@ -7,9 +7,16 @@
 
 mod answer;
 mod certifying;
+mod checking;
 mod completing;
 mod completion;
+mod feeding;
+mod flaws;
+mod placing;
+mod prices;
 mod renumbering;
+mod searching;
+mod writing;
 
 pub use answer::{Answer, Certificate, CertificateFault, CompleteFault, Never};
 pub use certifying::certificate;

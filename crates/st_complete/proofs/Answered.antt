@@ -1,0 +1,162 @@
+-- Why the reasons hold, and why they are final: what acts without a reset show has a full completion, in which none of
+-- them holds.
+use Rattle.std.proofs.Common.{◌≡◌, ℕ, ◌+◌, ◌<◌, ◌≤◌, ◌⊎◌, inl, inr, zero, suc, ◌&&◌, nat_lt, not, Bool, true, false, cond, List}
+use Rattle.std.proofs.Common.{[], ◌∷◌, take, map, find, slice_get, Option, Some, None, refl, sym, ◌∙◌, ap, subst, arith}
+use Rattle.std.proofs.lemmas.Bool.{false≢true}
+use Rattle.std.proofs.lemmas.Bool.Decides.{nat_tests}
+use Rattle.std.proofs.lemmas.Option.{same_Some}
+use Rattle.st_core.specs.declared.types.Pid.{Pid}
+use Rattle.st_core.specs.declared.types.Act.{Act}
+use Rattle.st_core.specs.declared.types.Event.{Event}
+use Rattle.st_core.specs.Laws.{NoReset, greatest_count}
+use Rattle.st_core.specs.Pid.{pid_eq, IsRising}
+use Rattle.st_core.specs.Run.{Shows, Stream, pids_of}
+use Rattle.st_core.specs.Streams.{events_of, IsStreams}
+use Rattle.st_pair.specs.declared.answer.PairFault.TheVariants as fault
+use Rattle.st_pair.specs.Pairing.{refusal}
+use Rattle.st_pair.specs.Places.{event_at, is_stamp}
+use Rattle.st_pair.proofs.ForCallers.{paired, refused_never_shown, stamp_counts_rise}
+use Rattle.st_plan.specs.Marks.{all_streams, told_events, told_streams, Marked, Whole}
+use Rattle.st_full.specs.Completed.{IsShownInOneTrace}
+use Rattle.st_full.specs.Full.{IsFull}
+use Rattle.st_full.specs.Needs.{HoldsOfNone, is_late, is_rootless, marked_of}
+use Rattle.st_full.specs.Supply.{IsSupplied}
+use Rattle.st_full.specs.Wholes.{wholes_of}
+use Rattle.st_full.proofs.ForCallers.{run_completed}
+use Rattle.st_complete.specs.declared.answer.Never.{Never}
+use Rattle.st_complete.specs.declared.answer.Never.TheVariants as never
+use Rattle.st_complete.specs.declared.answer.Answer.{Answer}
+use Rattle.st_complete.specs.declared.answer.Answer.TheVariants as answer
+use Rattle.st_complete.specs.Answers.{HoldsThere, IsAnswer, IsFinal, IsHigher, IsLastHigher, IsNeverFinal, IsReason}
+use Rattle.st_complete.specs.Answers.{is_too_high}
+
+-- THE LAST EVENT THAT COUNTS NO LOWER
+
+abbrev pub LastHigher : List Event → ℕ → ℕ → Option ℕ → Type 0
+LastHigher es this i None = (k : ℕ) (f : Event) → k < i → slice_get es k ≡ Some f → f.serial.this < this
+LastHigher es this i (Some j) = IsHigher es i this j
+
+stamps_if : (stamp less : Bool) → (stamp && not less) ≡ true → stamp ≡ true
+stamps_if true less h = refl
+stamps_if false less h = h
+
+abbrev IsNot : Bool → Type 0
+IsNot stamp = stamp ≡ true → ⊥
+
+receive_if : (stamp : Bool) → IsNot stamp → stamp ≡ false
+receive_if stamp never_is = elim stamp as (λ b. IsNot b → b ≡ false) [ true ↦ λ h. absurd (h refl) | false ↦ λ h. refl ] never_is
+
+-- in streams that pairing accepts it is a receive
+pub last_higher : (streams : List Stream) (p : Pid) (i j this : ℕ) (e : Event) → refusal streams ≡ None
+    → HoldsThere is_late streams p i → event_at streams p i ≡ Some e → this ≡ e.serial.this
+    → IsHigher (events_of streams p) i this j → IsLastHigher streams p i j
+last_higher streams p i j this e accepted late at is higher =
+    let same = same_Some late.event e (sym late.at ∙ at) in
+    let stamp : is_stamp e ≡ true = subst (λ (x : Event). is_stamp x ≡ true) same
+    (stamps_if (is_stamp late.event) _ late.holds) in
+    record {
+      event = e;
+      at = at;
+      receive = higher.event;
+      there = higher.at;
+      before = higher.before;
+      receives = receive_if (is_stamp higher.event) (λ stamps.
+          let below = stamp_counts_rise streams (paired streams accepted) p j i higher.event e higher.before higher.at at stamps stamp in
+          let high = higher.high in
+          omega (arith, below, high, is));
+      high = let high = higher.high in omega (arith, high, is);
+      last = λ k f after before there. let low = higher.last k f after before there in omega (arith, low, is);
+    }
+
+-- EACH TOLD EVENT IS ONE OF ALL
+
+record IsAmong (ms : List Marked) (e : Event) : Type 0 where
+  index : ℕ
+  at : slice_get (map (λ (m : Marked). m.event) ms) index ≡ Some e
+
+among : (ms : List Marked) (i : ℕ) (e : Event) → slice_get (told_events ms) i ≡ Some e → IsAmong ms e
+among [] i e at = absurd (cc)
+among (m ∷ ms) i e at = elim m.told as (λ b. slice_get (cond b (m.event ∷ told_events ms) (told_events ms)) i ≡ Some e
+    → IsAmong (m ∷ ms) e) [
+      | true ↦ elim i as (λ n. slice_get (m.event ∷ told_events ms) n ≡ Some e → IsAmong (m ∷ ms) e) [
+          | zero ↦ λ h. record { index = 0; at = h }
+          | suc n ↦ λ h. let rest = among ms n e h in record { index = suc rest.index; at = rest.at }
+        ]
+      | false ↦ λ h. let rest = among ms i e h in record { index = suc rest.index; at = rest.at }
+    ] at
+
+abbrev told_whole : Whole → Stream
+told_whole w = record { pid = w.pid; events = told_events w.marked }
+
+abbrev all_whole : Whole → Stream
+all_whole w = record { pid = w.pid; events = map (λ (m : Marked). m.event) w.marked }
+
+abbrev events_in : Option Stream → List Event
+events_in o = elim o [ None ↦ [] | Some x ↦ x.events ]
+
+abbrev marked_in : Option Whole → List Marked
+marked_in o = elim o [ None ↦ [] | Some w ↦ w.marked ]
+
+told_kept : (wholes : List Whole) (p : Pid) → events_of (told_streams wholes) p ≡ told_events (marked_of wholes p)
+told_kept [] p = refl
+told_kept (w ∷ wholes) p = elim (pid_eq w.pid p) as (λ b.
+    events_in (cond b (Some (told_whole w)) (find (λ x. pid_eq x.pid p) (told_streams wholes)))
+    ≡ told_events (marked_in (cond b (Some w) (find (λ x. pid_eq x.pid p) wholes))))
+    [ true ↦ refl | false ↦ told_kept wholes p ]
+
+all_kept : (wholes : List Whole) (p : Pid)
+    → events_of (all_streams wholes) p ≡ map (λ (m : Marked). m.event) (marked_of wholes p)
+all_kept [] p = refl
+all_kept (w ∷ wholes) p = elim (pid_eq w.pid p) as (λ b.
+    events_in (cond b (Some (all_whole w)) (find (λ x. pid_eq x.pid p) (all_streams wholes)))
+    ≡ map (λ (m : Marked). m.event) (marked_in (cond b (Some w) (find (λ x. pid_eq x.pid p) wholes))))
+    [ true ↦ refl | false ↦ all_kept wholes p ]
+
+-- so a count of shown streams is one that a clock can have
+shown_within : (top : ℕ) (streams : List Stream) (wholes : List Whole) → told_streams wholes ≡ streams
+    → IsFull top (all_streams wholes) → (p : Pid) (i : ℕ) (e : Event) → event_at streams p i ≡ Some e
+    → e.serial.this ≤ top
+shown_within top streams wholes told full p i e at =
+    let there = among (marked_of wholes p) i e (ap (λ es. slice_get es i) (sym (told_kept wholes p)
+    ∙ ap (λ ss. events_of ss p) told) ∙ at) in
+    full.within p there.index e (ap (λ es. slice_get es there.index) (all_kept wholes p) ∙ there.at)
+
+-- THE REASONS ARE FINAL
+
+-- what acts without a reset show has none of the reasons
+abbrev pub HaveNothingAgainst : Type 0
+HaveNothingAgainst = (top : ℕ) (streams : List Stream) (acts : List Act) → Shows top streams acts → NoReset acts
+    → IsRising (pids_of streams)
+    → HoldsOfNone is_late streams × HoldsOfNone is_rootless streams × ((v : ℕ) → IsSupplied streams v)
+
+never_holds : (test : List Event → Event → Bool) (streams : List Stream) (p : Pid) (i : ℕ) → HoldsOfNone test streams
+    → HoldsThere test streams p i → ⊥
+never_holds test streams p i none there = false≢true (sym (none p i there.event there.at) ∙ there.holds)
+
+above : (top this : ℕ) → nat_lt top this ≡ true → this ≤ top → ⊥
+above top this is below = let high : top < this = grind (arith, nat_tests, is) in omega (arith, high, below)
+
+reason_final : (top : ℕ) (streams : List Stream) (p : Pid) (i : ℕ) (reason : Never) → HaveNothingAgainst
+    → IsRising (pids_of streams) → IsReason top streams p i reason → IsFinal top streams reason
+reason_final top streams p i never.PrevNotBefore law rising is = refused_never_shown streams (fault.PrevNotBefore p i) is
+reason_final top streams p i (never.NotRising j) law rising is = refused_never_shown streams (fault.NotRising p i j) is
+reason_final top streams p i (never.Repeated q j) law rising is =
+    refused_never_shown streams (fault.Repeated p i q j) is
+reason_final top streams p i (never.Mismatch q j) law rising is =
+    refused_never_shown streams (fault.Mismatch p i q j) is
+reason_final top streams p i (never.Late j) law rising is = λ most acts none shows.
+    never_holds is_late streams p i (law most streams acts shows none rising).0 is.1
+reason_final top streams p i never.Unfounded law rising is = λ most acts none shows.
+    never_holds is_rootless streams p i (law most streams acts shows none rising).1 is.2
+reason_final top streams p i never.Unsent law rising is = λ most acts none shows.
+    is.1.unsupplied ((law most streams acts shows none rising).2 is.1.event.serial.prev)
+reason_final top streams p i never.TooHigh law rising is = λ shown.
+    let full = run_completed top streams shown.acts shown.shows shown.one_trace rising in
+    above top is.1.event.serial.this is.1.holds
+    (shown_within top streams (wholes_of top streams shown.acts shown.shows.0) full.0 full.2 p i is.1.event is.1.at)
+
+pub never_final : (top : ℕ) (streams : List Stream) (found : Answer) → HaveNothingAgainst → IsRising (pids_of streams)
+    → IsAnswer top streams found → IsNeverFinal top streams found
+never_final top streams (answer.Whole wholes) law rising is = tt
+never_final top streams (answer.Never p i reason) law rising is = reason_final top streams p i reason law rising is
+never_final top streams (answer.Open p i) law rising is = tt
