@@ -20,6 +20,9 @@ use Rattle.st_core.specs.declared.types.Pid.{Pid}
 use Rattle.st_pair.specs.Pairing.{refusal}
 use Rattle.st_tool.specs.Why.{ArePaired, IsWhy, Traced, Lacking, Unpaired, traced, no_event}
 use Rattle.st_tool.specs.Renumber.{IsRenumbered, Ranked, streams_output}
+use Rattle.st_tool.specs.declared.words.Form.{Form}
+use Rattle.st_tool.specs.Complete.{IsCompleted, Answered}
+use Rattle.st_tool.specs.Parts.{CompletesTo, Finds, NoRoomToComplete}
 use Rattle.st_tool.specs.Parts.{TracesTo, OfBack, OfNoEvent, OfReason, NoRoomToTrace}
 use Rattle.st_tool.specs.Parts.{RenumbersTo, Ranks, NoRoomToRenumber}
 use Rattle.st_complete.specs.Ranks.{renumbered_streams}
@@ -113,3 +116,13 @@ module _ {R : Type 0} (gives : R → List ℕ → R → Type 0) (ended : R → T
   owes_renumber c h out Ranks =
       OfBytes h.bytes (streams_output (renumbered_streams c.streams)) h.all (Ranked h.bytes c.streams c.acts h.spelled)
   owes_renumber c h out NoRoomToRenumber = ForMemory h.bytes h.all h.small
+
+  -- ---- complete
+
+  pub owes_complete : (c : Contents) → WasRead c → (f : Form) (out : Output) → CompletesTo f c.streams out
+      → Owes gives ended failed old new (IsCompleted f) out
+  owes_complete c h f out (Finds found o is final answers) =
+      OfBytes h.bytes o h.all
+      (Answered h.bytes c.streams found o
+      (record { given = c.acts; spelled = h.spelled; is = is; ruled_out = final }) answers)
+  owes_complete c h f out NoRoomToComplete = ForMemory h.bytes h.all h.small

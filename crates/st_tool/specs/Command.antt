@@ -6,6 +6,7 @@ use Rattle.st_commands.specs.Checked.{IsChecked}
 use Rattle.st_commands.specs.Audited.{IsAudited}
 use Rattle.st_tool.specs.declared.words.Task.{Task}
 use Rattle.st_tool.specs.declared.words.Task.TheVariants as task
+use Rattle.st_tool.specs.Complete.{IsCompleted}
 use Rattle.st_tool.specs.Renumber.{IsRenumbered}
 use Rattle.st_tool.specs.Why.{IsWhy}
 
@@ -19,9 +20,9 @@ module _ {R W : Type 0} (gives : R → List ℕ → R → Type 0) (ended : R →
   -- what each command does; of the words of `lint` and `explain` nothing is claimed
   abbrev pub Does : Task → ℕ → Type 0
   Does (task.Why p i) status = TellsOf (IsWhy p i) status
+  Does (task.Complete form) status = TellsOf (IsCompleted form) status
   Does task.Renumber status = TellsOf IsRenumbered status
   Does task.Check status = TellsOf IsChecked status
   Does task.Audit status = TellsOf IsAudited status
-  Does (task.Complete form) status = Unit {0}
   Does task.Lint status = Unit {0}
   Does task.Explain status = Unit {0}

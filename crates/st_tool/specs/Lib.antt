@@ -2,6 +2,7 @@
 pub mod Begun
 pub mod Why
 pub mod Renumber
+pub mod Complete
 pub mod Command
 -- For the contracts of the functions that a command is made of.
 pub mod Lines

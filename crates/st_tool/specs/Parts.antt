@@ -15,6 +15,11 @@ use Rattle.st_commands.specs.Output.{Output, no_memory}
 use Rattle.st_commands.specs.Audited.{report_output}
 use Rattle.st_tool.specs.Why.{traced, no_event}
 use Rattle.st_tool.specs.Renumber.{streams_output}
+use Rattle.st_tool.specs.declared.words.Form.{Form}
+use Rattle.st_tool.specs.Complete.{Answers}
+use Rattle.st_complete.specs.declared.answer.Answer.{Answer}
+use Rattle.st_complete.specs.Answers.{IsAnswer, IsNeverFinal}
+use Rattle.st_commands.specs.Checked.{top}
 
 -- the way back from an event of streams
 pub data TracesTo (streams : List Stream) (p : Pid) (i : ℕ) : Output → Type 0 where
@@ -24,6 +29,12 @@ pub data TracesTo (streams : List Stream) (p : Pid) (i : ℕ) : Output → Type 
   OfReason : (f : PairFault) (found : Finding) → refusal streams ≡ Some f → unfit_by f ≡ Some found
       → TracesTo streams p i (report_output streams found)
   NoRoomToTrace : TracesTo streams p i no_memory
+
+-- what streams lack, in a form
+pub data CompletesTo (f : Form) (streams : List Stream) : Output → Type 0 where
+  Finds : (found : Answer) (out : Output) → IsAnswer top streams found → IsNeverFinal top streams found
+      → Answers f streams found out → CompletesTo f streams out
+  NoRoomToComplete : CompletesTo f streams no_memory
 
 -- the renumbered streams
 pub data RenumbersTo (streams : List Stream) : Output → Type 0 where

@@ -1,6 +1,11 @@
 //! The command `complete`: what the streams whose text the input is lack, or why no run without a reset has them. The
 //! acts in the input are ignored.
 
+ghost use Rattle.st_commands.specs.Command.{Owes, Tells};
+ghost use Rattle.st_complete.specs.Answers.{IsAnswer, IsNeverFinal};
+ghost use Rattle.st_tool.specs.Complete.{IsCompleted};
+ghost use Rattle.st_tool.specs.Parts.{CompletesTo};
+
 use crate::answer::{status_of, tell_bundle, tell_fault, tell_line, tell_streams};
 use crate::completion_lines::{send_added, send_never, send_open};
 use crate::lines::OutputLine;
@@ -24,7 +29,10 @@ fn tell_acts<H: Threads + Sync, W: ByteSink>(
     streams: &Streams,
     completion: &Completion,
     writer: &mut W,
-) -> u8 {
+) -> u8
+    requires { IsAnswer TOP streams.now (Answer.Whole completion.now) }
+    ensures { Tells W.puts W.failed writer.old writer.new (CompletesTo Form.Acts streams.now) result }
+{
     match certificate::<TOP>(rt, alloc, streams, completion, MOST_ACTS) {
         Ok(found) => tell_bundle(writer, streams, found.acts.as_slice()),
         Err(CertificateFault::TooMany) => tell_line(writer, OutputLine::Long, 5),
@@ -40,7 +48,10 @@ fn tell_completion<H: Threads + Sync, W: ByteSink>(
     completion: &Completion,
     form: Form,
     writer: &mut W,
-) -> u8 {
+) -> u8
+    requires { IsAnswer TOP streams.now (Answer.Whole completion.now) }
+    ensures { Tells W.puts W.failed writer.old writer.new (CompletesTo form streams.now) result }
+{
     match form {
         Form::Acts => tell_acts(rt, alloc, streams, completion, writer),
         Form::Streams => tell_streams(writer, completion.streams()),
@@ -59,7 +70,11 @@ fn tell_answer<H: Threads + Sync, W: ByteSink>(
     answer: &Answer,
     form: Form,
     writer: &mut W,
-) -> u8 {
+) -> u8
+    requires is { IsAnswer TOP streams.now answer.now }
+    requires ruled_out { IsNeverFinal TOP streams.now answer.now }
+    ensures { Tells W.puts W.failed writer.old writer.new (CompletesTo form streams.now) result }
+{
     match answer {
         Answer::Whole(completion) => tell_completion(rt, alloc, streams, completion, form, writer),
         Answer::Never(pid, index, never) => {
@@ -80,7 +95,9 @@ fn complete_streams<H: Threads + Sync, W: ByteSink>(
     streams: &Streams,
     form: Form,
     writer: &mut W,
-) -> u8 {
+) -> u8
+    ensures { Tells W.puts W.failed writer.old writer.new (CompletesTo form streams.now) result }
+{
     match complete::<TOP>(alloc, streams) {
         Ok(answer) => tell_answer(rt, alloc, streams, &answer, form, writer),
         Err(CompleteFault::Memory) => tell_fault(writer, ReadFault::Memory),
@@ -97,7 +114,10 @@ pub fn run_complete<H: Threads + Sync, R: ByteSource, W: ByteSink>(
     reader: &mut R,
     writer: &mut W,
     form: Form,
-) -> u8 {
+) -> u8
+    ensures { Tells W.puts W.failed writer.old writer.new
+        (Owes R.gives R.ended R.failed reader.old reader.new (IsCompleted form)) result }
+{
     match read(alloc, reader) {
         Ok(bundle) => complete_streams(rt, alloc, &bundle.streams, form, writer),
         Err(fault) => tell_fault(writer, fault),

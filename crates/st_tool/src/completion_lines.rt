@@ -1,54 +1,78 @@
-//! The lines of the command `complete`: the events that were added, and an event with the reason why there is no
+//! The lines of the command `complete`: the events that were added, or an event with the reason why there is no
 //! completion.
 
-ghost use Rattle.std.specs.Prelude.{◌≡◌, ◌≤◌, ◌+◌, length};
+ghost use Rattle.std.specs.Prelude.{◌≡◌, ◌≤◌, ◌+◌, ◌++◌, codes, length};
+ghost use Rattle.std.specs.List.{flat_map};
 ghost use Rattle.arrayvec.specs.ArrayVec.{array_vec_len};
+ghost use Rattle.st_core.specs.Run.{pids_of};
+ghost use Rattle.st_plan.specs.Marks.{all_streams};
 ghost use Rattle.st_text.specs.Room.{buffer_room, line_room};
+ghost use Rattle.st_text.specs.Writing.{WritesOn, WritesText};
+ghost use Rattle.st_chart.specs.Words.{ended_line, place_words};
+ghost use Rattle.st_chart.specs.Report.{event_line, event_words};
+ghost use Rattle.st_tool.specs.Complete.{added_at, added_of, added_text, never_text, open_text, other_line};
+ghost use Rattle.st_tool.specs.Complete.{place_line};
 
-use crate::lines::put_place;
+use crate::lines::{OutputLine, put_place, write_line};
 use st_complete::{Completion, Never};
 use st_core::{ByteSink, Event, Pid, Streams};
-use st_text::{Buffer, Device, flush, make_room, put_bytes, put_event, put_number};
+use st_text::{Buffer, Device, flush, make_room, put_bytes, put_event};
 
-/// Appends `added` and a place.
-fn put_added_front(buffer: &mut Buffer, pid: Pid, index: u64)
-    requires { array_vec_len buffer.old + line_room ≤ buffer_room }
+/// Appends a word, a place and a space.
+fn put_front(buffer: &mut Buffer, word: &[u8], pid: Pid, index: u64)
+    requires room { array_vec_len buffer.old + line_room ≤ buffer_room }
+    requires short { length word.now ≤ 6 }
+    ensures { buffer.new.items ≡ buffer.old.items ++ (word.now ++ place_words pid index ++ codes " ") }
 {
-    put_bytes(buffer, b"added ");
-    put_place(buffer, pid, index);
-    put_bytes(buffer, b" ");
-}
-
-/// Appends `event` and a place.
-fn put_event_front(buffer: &mut Buffer, pid: Pid, index: u64)
-    requires { array_vec_len buffer.old + line_room ≤ buffer_room }
-{
-    put_bytes(buffer, b"event ");
+    put_bytes(buffer, word);
     put_place(buffer, pid, index);
     put_bytes(buffer, b" ");
 }
 
 /// Appends an event and a newline.
-fn put_event_end(buffer: &mut Buffer, event: &Event)
+fn put_end(buffer: &mut Buffer, event: Option<Event>)
     requires { array_vec_len buffer.old + line_room ≤ buffer_room }
+    ensures { buffer.new.items ≡ buffer.old.items ++ ended_line (event_words event) }
 {
-    put_event(buffer, event);
+    if let Some(event) = event {
+        put_event(buffer, &event);
+    }
     put_bytes(buffer, b"\n");
 }
 
-/// Writes the line of an added event.
-fn write_added<W: ByteSink>(
+/// Writes a word, a place, and the event there, in two parts: together they may take more than a line's room.
+fn write_place_line<W: ByteSink>(
     writer: &mut W,
     buffer: &mut Buffer,
+    word: &[u8],
     pid: Pid,
     index: u64,
-    event: &Event,
-) -> Result<(), Device> {
+    event: Option<Event>,
+) -> Result<(), Device>
+    requires { length word.now ≤ 6 }
+    ensures { WritesOn W.puts W.failed (place_line word.now pid index event)
+        writer.old writer.new buffer.old.items buffer.new.items result }
+{
     make_room(writer, buffer)?;
-    put_added_front(buffer, pid, index);
+    put_front(buffer, word, pid, index);
     make_room(writer, buffer)?;
-    put_event_end(buffer, event);
+    put_end(buffer, event);
     Ok(())
+}
+
+/// Writes the line of the event at this place.
+fn write_event_line<W: ByteSink>(
+    writer: &mut W,
+    buffer: &mut Buffer,
+    streams: &Streams,
+    pid: Pid,
+    index: u64,
+) -> Result<(), Device>
+    ensures { WritesOn W.puts W.failed (event_line streams.now pid index)
+        writer.old writer.new buffer.old.items buffer.new.items result }
+{
+    let event = streams.event(pid, index);
+    write_place_line(writer, buffer, b"event ", pid, index, event)
 }
 
 /// Writes the line of an event of a completion, if it was added.
@@ -58,13 +82,17 @@ fn write_if_added<W: ByteSink>(
     completion: &Completion,
     pid: Pid,
     index: u64,
-) -> Result<(), Device> {
-    match (
-        completion.streams().event(pid, index),
-        completion.told(pid, index),
-    ) {
-        (Some(event), Some(false)) => write_added(writer, buffer, pid, index, &event),
-        _ => Ok(()),
+) -> Result<(), Device>
+    ensures { WritesOn W.puts W.failed (added_at completion.now pid index)
+        writer.old writer.new buffer.old.items buffer.new.items result }
+{
+    match completion.told(pid, index) {
+        None => Ok(()),
+        Some(true) => Ok(()),
+        Some(false) => {
+            let event = completion.streams().event(pid, index);
+            write_place_line(writer, buffer, b"added ", pid, index, event)
+        }
     }
 }
 
@@ -74,164 +102,135 @@ fn write_added_of<W: ByteSink>(
     buffer: &mut Buffer,
     completion: &Completion,
     pid: Pid,
-) -> Result<(), Device> {
-    for index in 0..completion.streams().len(pid) {
+) -> Result<(), Device>
+    ensures { WritesOn W.puts W.failed (added_of completion.now pid)
+        writer.old writer.new buffer.old.items buffer.new.items result }
+{
+    let count = completion.streams().len(pid);
+    for index in 0..count {
         write_if_added(writer, buffer, completion, pid, index)?;
     }
     Ok(())
 }
 
-/// Writes a line for each added event.
-fn write_all_added<W: ByteSink>(
+/// Writes a line for each added event of these processes.
+fn write_added_by<W: ByteSink>(
     writer: &mut W,
     buffer: &mut Buffer,
     completion: &Completion,
-) -> Result<(), Device> {
-    for pid in completion.streams().pids() {
+    pids: &[Pid],
+) -> Result<(), Device>
+    ensures { WritesOn W.puts W.failed (flat_map (added_of completion.now) pids.now)
+        writer.old writer.new buffer.old.items buffer.new.items result }
+{
+    for pid in pids {
         write_added_of(writer, buffer, completion, *pid)?;
     }
     Ok(())
 }
 
-/// Writes how many events were added.
-fn write_added_count<W: ByteSink>(
+/// Writes how many events were added, and a line for each.
+fn write_added<W: ByteSink>(
     writer: &mut W,
     buffer: &mut Buffer,
-    added: u64,
-) -> Result<(), Device> {
-    make_room(writer, buffer)?;
-    put_bytes(buffer, b"added ");
-    put_number(buffer, added);
-    put_bytes(buffer, b"\n");
-    Ok(())
+    completion: &Completion,
+) -> Result<(), Device>
+    ensures { WritesOn W.puts W.failed (added_text completion.now)
+        writer.old writer.new buffer.old.items buffer.new.items result }
+{
+    write_line(writer, buffer, OutputLine::Added(completion.added()))?;
+    write_added_by(writer, buffer, completion, completion.streams().pids())
 }
 
 /// Sends how many events were added, and a line for each.
-pub(crate) fn send_added<W: ByteSink>(
-    writer: &mut W,
-    completion: &Completion,
-) -> Result<(), Device> {
+pub(crate) fn send_added<W: ByteSink>(writer: &mut W, completion: &Completion) -> Result<(), Device>
+    ensures { WritesText W.puts W.failed (added_text completion.now) writer.old writer.new result }
+{
     let mut buffer = Buffer::new();
-    write_added_count(writer, &mut buffer, completion.added())?;
-    write_all_added(writer, &mut buffer, completion)?;
+    write_added(writer, &mut buffer, completion)?;
     flush(writer, &mut buffer)
 }
 
-/// Writes the line of the event at this place, if there is one.
-fn write_event_line<W: ByteSink>(
+/// Writes the event at the other place that a reason against an event of this process names, if it names one.
+fn write_other<W: ByteSink>(
+    writer: &mut W,
+    buffer: &mut Buffer,
+    streams: &Streams,
+    pid: Pid,
+    never: Never,
+) -> Result<(), Device>
+    ensures { WritesOn W.puts W.failed (other_line streams.now pid never)
+        writer.old writer.new buffer.old.items buffer.new.items result }
+{
+    match never {
+        Never::PrevNotBefore => Ok(()),
+        Never::NotRising(index) => write_event_line(writer, buffer, streams, pid, index),
+        Never::Repeated(other, index) => write_event_line(writer, buffer, streams, other, index),
+        Never::Mismatch(other, index) => write_event_line(writer, buffer, streams, other, index),
+        Never::Late(index) => write_event_line(writer, buffer, streams, pid, index),
+        Never::Unfounded => Ok(()),
+        Never::Unsent => Ok(()),
+        Never::TooHigh => Ok(()),
+    }
+}
+
+/// Writes a reason against the event at this place, and the events that it names.
+fn write_never<W: ByteSink>(
     writer: &mut W,
     buffer: &mut Buffer,
     streams: &Streams,
     pid: Pid,
     index: u64,
-) -> Result<(), Device> {
-    let Some(event) = streams.event(pid, index) else {
-        return Ok(());
-    };
-    make_room(writer, buffer)?;
-    put_event_front(buffer, pid, index);
-    make_room(writer, buffer)?;
-    put_event_end(buffer, &event);
-    Ok(())
-}
-
-/// The other place that a reason against an event of this process names.
-fn other_place(pid: Pid, never: Never) -> Option<(Pid, u64)> {
-    match never {
-        Never::NotRising(index) | Never::Late(index) => Some((pid, index)),
-        Never::Repeated(other, index) | Never::Mismatch(other, index) => Some((other, index)),
-        Never::PrevNotBefore | Never::Unfounded | Never::Unsent | Never::TooHigh => None,
-    }
-}
-
-/// Appends the word of a reason, without the other place.
-fn put_never(buffer: &mut Buffer, never: Never)
-    requires { array_vec_len buffer.old + line_room ≤ buffer_room }
-{
-    match never {
-        Never::PrevNotBefore => put_bytes(buffer, b"prevnotbefore"),
-        Never::NotRising(_) => put_bytes(buffer, b"notrising"),
-        Never::Repeated(_, _) => put_bytes(buffer, b"repeated"),
-        Never::Mismatch(_, _) => put_bytes(buffer, b"mismatch"),
-        Never::Late(_) => put_bytes(buffer, b"late"),
-        Never::Unfounded => put_bytes(buffer, b"unfounded"),
-        Never::Unsent => put_bytes(buffer, b"unsent"),
-        Never::TooHigh => put_bytes(buffer, b"toohigh"),
-    }
-}
-
-/// Appends a word and a place.
-fn put_at(buffer: &mut Buffer, word: &[u8], pid: Pid, index: u64)
-    requires room { array_vec_len buffer.old + line_room ≤ buffer_room }
-    requires short { length word.now ≤ 10 }
-{
-    put_bytes(buffer, word);
-    put_place(buffer, pid, index);
-}
-
-/// Writes the line of a reason against the event at this place.
-fn write_never_line<W: ByteSink>(
-    writer: &mut W,
-    buffer: &mut Buffer,
-    pid: Pid,
-    index: u64,
     never: Never,
-) -> Result<(), Device> {
-    make_room(writer, buffer)?;
-    put_at(buffer, b"never ", pid, index);
-    make_room(writer, buffer)?;
-    put_bytes(buffer, b" ");
-    make_room(writer, buffer)?;
-    put_never(buffer, never);
-    make_room(writer, buffer)?;
-    if let Some((other, place)) = other_place(pid, never) {
-        put_at(buffer, b" ", other, place);
-    }
-    make_room(writer, buffer)?;
-    put_bytes(buffer, b"\n");
-    Ok(())
+) -> Result<(), Device>
+    ensures { WritesOn W.puts W.failed (never_text streams.now pid index never)
+        writer.old writer.new buffer.old.items buffer.new.items result }
+{
+    write_line(writer, buffer, OutputLine::Never(pid, index, never))?;
+    write_event_line(writer, buffer, streams, pid, index)?;
+    write_other(writer, buffer, streams, pid, never)
 }
 
-/// Sends a reason against the event at this place, with the events that it names.
+/// Sends a reason against the event at this place, and the events that it names.
 pub(crate) fn send_never<W: ByteSink>(
     writer: &mut W,
     streams: &Streams,
     pid: Pid,
     index: u64,
     never: Never,
-) -> Result<(), Device> {
+) -> Result<(), Device>
+    ensures { WritesText W.puts W.failed (never_text streams.now pid index never) writer.old writer.new result }
+{
     let mut buffer = Buffer::new();
-    write_never_line(writer, &mut buffer, pid, index, never)?;
-    write_event_line(writer, &mut buffer, streams, pid, index)?;
-    if let Some((other, place)) = other_place(pid, never) {
-        write_event_line(writer, &mut buffer, streams, other, place)?;
-    }
+    write_never(writer, &mut buffer, streams, pid, index, never)?;
     flush(writer, &mut buffer)
 }
 
-/// Writes the line of an event of which it is open whether it can be.
-fn write_open_line<W: ByteSink>(
+/// Writes that it is open whether the event at this place can be, and the event.
+fn write_open<W: ByteSink>(
     writer: &mut W,
     buffer: &mut Buffer,
+    streams: &Streams,
     pid: Pid,
     index: u64,
-) -> Result<(), Device> {
-    make_room(writer, buffer)?;
-    put_at(buffer, b"open ", pid, index);
-    make_room(writer, buffer)?;
-    put_bytes(buffer, b"\n");
-    Ok(())
+) -> Result<(), Device>
+    ensures { WritesOn W.puts W.failed (open_text streams.now pid index)
+        writer.old writer.new buffer.old.items buffer.new.items result }
+{
+    write_line(writer, buffer, OutputLine::Open(pid, index))?;
+    write_event_line(writer, buffer, streams, pid, index)
 }
 
-/// Sends that it is open, with the event.
+/// Sends that it is open whether the event at this place can be, and the event.
 pub(crate) fn send_open<W: ByteSink>(
     writer: &mut W,
     streams: &Streams,
     pid: Pid,
     index: u64,
-) -> Result<(), Device> {
+) -> Result<(), Device>
+    ensures { WritesText W.puts W.failed (open_text streams.now pid index) writer.old writer.new result }
+{
     let mut buffer = Buffer::new();
-    write_open_line(writer, &mut buffer, pid, index)?;
-    write_event_line(writer, &mut buffer, streams, pid, index)?;
+    write_open(writer, &mut buffer, streams, pid, index)?;
     flush(writer, &mut buffer)
 }
