@@ -30,5 +30,5 @@ returns-in-Open g c =
       output = out;
       owed = Finds (answer.Open p i) out (rw c.in-Open.is at c.requires.is) tt (IsOpen p i);
       delivered = delivers writer.puts writer.failed _ _ out c.send_open-sent.result _ c.send_open-sent.ensures
-          c.status_of.ensures;
+          c.status_of-in-Open.ensures;
     }
