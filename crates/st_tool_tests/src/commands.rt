@@ -30,7 +30,10 @@ fn write_end(text: &mut String, n: u64, me: u64) -> Result<(), AllocError> {
     let to = if n % 2 == 1 { 31 } else { 30 };
     let kind = if me == from { "send" } else { "'receive'" };
     let prev = n.saturating_sub(1);
-    writeln!(text, "{{seq_trace,17,{{{kind},{{{prev},{n}}},<0.{from}.0>,<0.{to}.0>,{n}}}}}")
+    writeln!(
+        text,
+        "{{seq_trace,17,{{{kind},{{{prev},{n}}},<0.{from}.0>,<0.{to}.0>,{n}}}}}"
+    )
 }
 
 /// A long chain.
