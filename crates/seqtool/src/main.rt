@@ -1,0 +1,80 @@
+//! The program `seqtool`: what a person needs beside the exact `seqaudit`.
+//!
+//! It only joins `st_tool` to the outside: what each command writes and answers is said there.
+#![tactic(auto)]
+
+use clap::Error;
+use clap::error::ErrorKind;
+use st_core::{ByteSink, ByteSource, ReadFrom, WriteTo};
+use st_tool::{Request, read_words, run, tell_no_device, tell_no_memory};
+use std::process::ExitCode;
+use std::rt::Files;
+use std::thread::Threads;
+use std::{env, fs, io};
+
+/// The status of words that ask for nothing that the program does.
+const USAGE: u8 = 3;
+
+/// The status of a device that failed.
+const FAILED: u8 = 4;
+
+/// The words of the command line.
+fn words_of(rt: &HostRuntime) -> io::Result<Vec<String>> {
+    let words = env::args(rt)?.collect(rt.alloc())?;
+    Ok(words)
+}
+
+/// Does what the words ask for, on the file that they name or on standard input.
+fn serve<H: AllocGlobal + Files + Threads + Sync, R: ByteSource, W: ByteSink>(
+    rt: &H,
+    request: &Request<'_>,
+    input: &mut R,
+    writer: &mut W,
+) -> u8 {
+    match request.file {
+        None => run(rt, request.task, input, writer),
+        Some(path) => match fs::open(rt, path) {
+            Ok(file) => run(rt, request.task, &mut ReadFrom::new(file), writer),
+            Err(_) => tell_no_device(writer),
+        },
+    }
+}
+
+/// Prints a help text or the version to standard output with status 0, and a message to standard error with status 3.
+fn tell_error(rt: &HostRuntime, error: &Error) -> u8 {
+    if error.kind() == ErrorKind::OutOfMemory {
+        return tell_no_memory(&mut WriteTo::new(rt.stdout()));
+    }
+    match error.print(rt) {
+        Ok(()) => { if error.use_stderr() { USAGE } else { 0 } }
+        Err(_) => FAILED,
+    }
+}
+
+/// Answers a word that isn't UTF-8, or for which there was no memory.
+fn tell_unread(rt: &HostRuntime, error: &io::Error) -> u8 {
+    match error.kind() {
+        io::ErrorKind::OutOfMemory => tell_no_memory(&mut WriteTo::new(rt.stdout())),
+        _ => match rt.eprintln(
+            "error: a word of the command line isn't UTF-8; see seqtool --help",
+        ) {
+            Ok(()) => USAGE,
+            Err(_) => FAILED,
+        },
+    }
+}
+
+fn main(rt: HostRuntime) -> ExitCode {
+    let status = match words_of(&rt) {
+        Ok(words) => match read_words(rt.alloc(), words.as_slice()) {
+            Ok(request) => {
+                let mut input = ReadFrom::new(rt.stdin());
+                let mut writer = WriteTo::new(rt.stdout());
+                serve(&rt, &request, &mut input, &mut writer)
+            }
+            Err(error) => tell_error(&rt, &error),
+        },
+        Err(error) => tell_unread(&rt, &error),
+    };
+    ExitCode::from(status)
+}

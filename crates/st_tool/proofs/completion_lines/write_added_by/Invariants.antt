@@ -1,0 +1,12 @@
+-- The lines of the processes so far were written, or wait.
+use Rattle.std.proofs.Common.{take}
+use Rattle.std.specs.List.{flat_map}
+use Rattle.st_text.specs.Writing.{Goes}
+use Rattle.st_tool.specs.Complete.{added_of}
+use Rattle.st_tool.proofs.completion_lines.write_added_by.Given as goal
+
+abbrev pub invariant-loop-pid : goal.invariant-loop-pid
+invariant-loop-pid g l =
+    Goes g.W.ByteSink.puts g.W.ByteSink.failed
+    (flat_map (added_of l.completion) (take l.pid-index l.pids)) l.initial.writer l.writer
+    l.initial.buffer.items l.buffer.items

@@ -1,0 +1,236 @@
+//! The lines of the command `complete`: the events that were added, or an event with the reason why there is no
+//! completion.
+
+ghost use Rattle.std.specs.Prelude.{◌≡◌, ◌≤◌, ◌+◌, ◌++◌, codes, length};
+ghost use Rattle.std.specs.List.{flat_map};
+ghost use Rattle.arrayvec.specs.ArrayVec.{array_vec_len};
+ghost use Rattle.st_core.specs.Run.{pids_of};
+ghost use Rattle.st_plan.specs.Marks.{all_streams};
+ghost use Rattle.st_text.specs.Room.{buffer_room, line_room};
+ghost use Rattle.st_text.specs.Writing.{WritesOn, WritesText};
+ghost use Rattle.st_chart.specs.Words.{ended_line, place_words};
+ghost use Rattle.st_chart.specs.Report.{event_line, event_words};
+ghost use Rattle.st_tool.specs.Complete.{added_at, added_of, added_text, never_text, open_text, other_line};
+ghost use Rattle.st_tool.specs.Complete.{place_line};
+
+use crate::lines::{OutputLine, put_place, write_line};
+use st_complete::{Completion, Never};
+use st_core::{ByteSink, Event, Pid, Streams};
+use st_text::{Buffer, Device, flush, make_room, put_bytes, put_event};
+
+/// Appends a word, a place and a space.
+fn put_front(buffer: &mut Buffer, word: &[u8], pid: Pid, index: u64)
+    requires room { array_vec_len buffer.old + line_room ≤ buffer_room }
+    requires short { length word.now ≤ 6 }
+    ensures { buffer.new.items ≡ buffer.old.items ++ (word.now ++ place_words pid index ++ codes " ") }
+{
+    put_bytes(buffer, word);
+    put_place(buffer, pid, index);
+    put_bytes(buffer, b" ");
+}
+
+/// Appends an event and a newline.
+fn put_end(buffer: &mut Buffer, event: Option<Event>)
+    requires { array_vec_len buffer.old + line_room ≤ buffer_room }
+    ensures { buffer.new.items ≡ buffer.old.items ++ ended_line (event_words event) }
+{
+    if let Some(event) = event {
+        put_event(buffer, &event);
+    }
+    put_bytes(buffer, b"\n");
+}
+
+/// Writes a word, a place, and the event there, in two parts: together they may take more than a line's room.
+fn write_place_line<W: ByteSink>(
+    writer: &mut W,
+    buffer: &mut Buffer,
+    word: &[u8],
+    pid: Pid,
+    index: u64,
+    event: Option<Event>,
+) -> Result<(), Device>
+    requires { length word.now ≤ 6 }
+    ensures { WritesOn W.puts W.failed (place_line word.now pid index event)
+        writer.old writer.new buffer.old.items buffer.new.items result }
+{
+    make_room(writer, buffer)?;
+    put_front(buffer, word, pid, index);
+    make_room(writer, buffer)?;
+    put_end(buffer, event);
+    Ok(())
+}
+
+/// Writes the line of the event at this place.
+fn write_event_line<W: ByteSink>(
+    writer: &mut W,
+    buffer: &mut Buffer,
+    streams: &Streams,
+    pid: Pid,
+    index: u64,
+) -> Result<(), Device>
+    ensures { WritesOn W.puts W.failed (event_line streams.now pid index)
+        writer.old writer.new buffer.old.items buffer.new.items result }
+{
+    let event = streams.event(pid, index);
+    write_place_line(writer, buffer, b"event ", pid, index, event)
+}
+
+/// Writes the line of an event of a completion, if it was added.
+fn write_if_added<W: ByteSink>(
+    writer: &mut W,
+    buffer: &mut Buffer,
+    completion: &Completion,
+    pid: Pid,
+    index: u64,
+) -> Result<(), Device>
+    ensures { WritesOn W.puts W.failed (added_at completion.now pid index)
+        writer.old writer.new buffer.old.items buffer.new.items result }
+{
+    match completion.told(pid, index) {
+        None => Ok(()),
+        Some(true) => Ok(()),
+        Some(false) => {
+            let event = completion.streams().event(pid, index);
+            write_place_line(writer, buffer, b"added ", pid, index, event)
+        }
+    }
+}
+
+/// Writes a line for each added event of a process.
+fn write_added_of<W: ByteSink>(
+    writer: &mut W,
+    buffer: &mut Buffer,
+    completion: &Completion,
+    pid: Pid,
+) -> Result<(), Device>
+    ensures { WritesOn W.puts W.failed (added_of completion.now pid)
+        writer.old writer.new buffer.old.items buffer.new.items result }
+{
+    let count = completion.streams().len(pid);
+    for index in 0..count {
+        write_if_added(writer, buffer, completion, pid, index)?;
+    }
+    Ok(())
+}
+
+/// Writes a line for each added event of these processes.
+fn write_added_by<W: ByteSink>(
+    writer: &mut W,
+    buffer: &mut Buffer,
+    completion: &Completion,
+    pids: &[Pid],
+) -> Result<(), Device>
+    ensures { WritesOn W.puts W.failed (flat_map (added_of completion.now) pids.now)
+        writer.old writer.new buffer.old.items buffer.new.items result }
+{
+    for pid in pids {
+        write_added_of(writer, buffer, completion, *pid)?;
+    }
+    Ok(())
+}
+
+/// Writes how many events were added, and a line for each.
+fn write_added<W: ByteSink>(
+    writer: &mut W,
+    buffer: &mut Buffer,
+    completion: &Completion,
+) -> Result<(), Device>
+    ensures { WritesOn W.puts W.failed (added_text completion.now)
+        writer.old writer.new buffer.old.items buffer.new.items result }
+{
+    write_line(writer, buffer, OutputLine::Added(completion.added()))?;
+    write_added_by(writer, buffer, completion, completion.streams().pids())
+}
+
+/// Sends how many events were added, and a line for each.
+pub(crate) fn send_added<W: ByteSink>(writer: &mut W, completion: &Completion) -> Result<(), Device>
+    ensures { WritesText W.puts W.failed (added_text completion.now) writer.old writer.new result }
+{
+    let mut buffer = Buffer::new();
+    write_added(writer, &mut buffer, completion)?;
+    flush(writer, &mut buffer)
+}
+
+/// Writes the event at the other place that a reason against an event of this process names, if it names one.
+fn write_other<W: ByteSink>(
+    writer: &mut W,
+    buffer: &mut Buffer,
+    streams: &Streams,
+    pid: Pid,
+    never: Never,
+) -> Result<(), Device>
+    ensures { WritesOn W.puts W.failed (other_line streams.now pid never)
+        writer.old writer.new buffer.old.items buffer.new.items result }
+{
+    match never {
+        Never::PrevNotBefore => Ok(()),
+        Never::NotRising(index) => write_event_line(writer, buffer, streams, pid, index),
+        Never::Repeated(other, index) => write_event_line(writer, buffer, streams, other, index),
+        Never::Mismatch(other, index) => write_event_line(writer, buffer, streams, other, index),
+        Never::Late(index) => write_event_line(writer, buffer, streams, pid, index),
+        Never::Unfounded => Ok(()),
+        Never::Unsent => Ok(()),
+        Never::TooHigh => Ok(()),
+    }
+}
+
+/// Writes a reason against the event at this place, and the events that it names.
+fn write_never<W: ByteSink>(
+    writer: &mut W,
+    buffer: &mut Buffer,
+    streams: &Streams,
+    pid: Pid,
+    index: u64,
+    never: Never,
+) -> Result<(), Device>
+    ensures { WritesOn W.puts W.failed (never_text streams.now pid index never)
+        writer.old writer.new buffer.old.items buffer.new.items result }
+{
+    write_line(writer, buffer, OutputLine::Never(pid, index, never))?;
+    write_event_line(writer, buffer, streams, pid, index)?;
+    write_other(writer, buffer, streams, pid, never)
+}
+
+/// Sends a reason against the event at this place, and the events that it names.
+pub(crate) fn send_never<W: ByteSink>(
+    writer: &mut W,
+    streams: &Streams,
+    pid: Pid,
+    index: u64,
+    never: Never,
+) -> Result<(), Device>
+    ensures { WritesText W.puts W.failed (never_text streams.now pid index never) writer.old writer.new result }
+{
+    let mut buffer = Buffer::new();
+    write_never(writer, &mut buffer, streams, pid, index, never)?;
+    flush(writer, &mut buffer)
+}
+
+/// Writes that it is open whether the event at this place can be, and the event.
+fn write_open<W: ByteSink>(
+    writer: &mut W,
+    buffer: &mut Buffer,
+    streams: &Streams,
+    pid: Pid,
+    index: u64,
+) -> Result<(), Device>
+    ensures { WritesOn W.puts W.failed (open_text streams.now pid index)
+        writer.old writer.new buffer.old.items buffer.new.items result }
+{
+    write_line(writer, buffer, OutputLine::Open(pid, index))?;
+    write_event_line(writer, buffer, streams, pid, index)
+}
+
+/// Sends that it is open whether the event at this place can be, and the event.
+pub(crate) fn send_open<W: ByteSink>(
+    writer: &mut W,
+    streams: &Streams,
+    pid: Pid,
+    index: u64,
+) -> Result<(), Device>
+    ensures { WritesText W.puts W.failed (open_text streams.now pid index) writer.old writer.new result }
+{
+    let mut buffer = Buffer::new();
+    write_open(writer, &mut buffer, streams, pid, index)?;
+    flush(writer, &mut buffer)
+}

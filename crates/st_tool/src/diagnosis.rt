@@ -1,0 +1,314 @@
+//! What is wrong with a text that the reader refuses: where, what could stand there, and what to do about it.
+//!
+//! The reader says which line and which of its refusals; the scan says the column. Lines and columns count from 1.
+
+use crate::scan::{Above, Expected, Place, Scan, Sort, common, rising_bytes};
+use st_text::ReadFault;
+
+/// What could stand at the column.
+#[derive(Clone, Copy, Debug)]
+pub(crate) enum Wanted<'a> {
+    /// What the grammar has there.
+    Grammar(Expected),
+    /// A pid above this one.
+    Above(&'a [u8]),
+    /// An event of the first process; this is one of the second.
+    EventOf(&'a [u8], &'a [u8]),
+    /// A pid with a process line, which this one has not.
+    Listed(&'a [u8]),
+    /// These words.
+    Words(&'static str),
+}
+
+/// A place in a text and what is wrong there.
+#[derive(Clone, Copy, Debug)]
+pub(crate) struct Diagnosis<'a> {
+    /// The line's number.
+    pub(crate) number: u64,
+    /// The line.
+    pub(crate) line: &'a [u8],
+    /// The column, counted from 0.
+    pub(crate) column: usize,
+    /// What could stand there.
+    pub(crate) wanted: Wanted<'a>,
+    /// What to do about it; empty if what could stand there says it.
+    pub(crate) remedy: &'static str,
+}
+
+/// What stands above a line.
+#[derive(Clone, Copy, Debug)]
+struct Context<'a> {
+    above: Above,
+    /// The pid of the last process line.
+    last: &'a [u8],
+}
+
+impl<'a> Context<'a> {
+    /// Passes a line.
+    fn pass(&mut self, line: &'a [u8]) {
+        if self.above == Above::Nothing {
+            self.above = Above::Header;
+        } else if let Some(pid) = line.strip_prefix(b"process ".as_slice()) {
+            self.above = Above::Process;
+            self.last = pid;
+        } else if line == b"acts".as_slice() {
+            self.above = Above::Acts;
+        }
+    }
+}
+
+/// The bytes from a place up to another.
+fn between(bytes: &[u8], start: usize, end: usize) -> &[u8] {
+    let front = bytes.split_at(end.min(bytes.len())).0;
+    front.split_at(start.min(front.len())).1
+}
+
+/// The line with this number, without its newline, and what stands above it.
+fn line_at(bytes: &[u8], number: u64) -> (&[u8], Context<'_>) {
+    let mut context = Context {
+        above: Above::Nothing,
+        last: b"".as_slice(),
+    };
+    let mut n: u64 = 1;
+    let mut start: usize = 0;
+    for (i, byte) in bytes.iter().enumerate() {
+        if *byte == b'\n' {
+            let line = between(bytes, start, i);
+            if n == number {
+                return (line, context);
+            }
+            context.pass(line);
+            n = n.saturating_add(1);
+            start = i.saturating_add(1);
+        }
+    }
+    (between(bytes, start, bytes.len()), context)
+}
+
+/// How many newlines there are, and one more.
+fn last_number(bytes: &[u8]) -> u64 {
+    let mut n: u64 = 1;
+    for byte in bytes {
+        if *byte == b'\n' {
+            n = n.saturating_add(1);
+        }
+    }
+    n
+}
+
+/// A pid of a line.
+fn text_at<'a>(line: &'a [u8], place: Place) -> &'a [u8] {
+    between(line, place.start, place.end)
+}
+
+/// How many bytes of a pid's text some process line's pid begins with; none if it is listed.
+fn unlisted_bytes(bytes: &[u8], pid: &[u8]) -> Option<usize> {
+    let mut best: usize = 0;
+    let mut start: usize = 0;
+    for (i, byte) in bytes.iter().enumerate() {
+        if *byte == b'\n' {
+            if let Some(listed) = between(bytes, start, i).strip_prefix(b"process ".as_slice()) {
+                if listed == pid {
+                    return None;
+                }
+                best = best.max(common(listed, pid));
+            }
+            start = i.saturating_add(1);
+        }
+    }
+    Some(best)
+}
+
+/// What to do about a byte that the grammar doesn't have at this column.
+fn remedy_of(line: &[u8], column: usize, above: Above, expected: Expected) -> &'static str {
+    if line.is_empty() {
+        return "the line is empty: leave it out";
+    }
+    match line.get(column).copied() {
+        Some(b'\r') => "a carriage return: end lines with a newline alone",
+        Some(b'%' | b'#') if column == 0 => "a bundle has no comments: leave the line out",
+        Some(b' ' | b'\t') if expected == Expected::End => "a blank ends the line: leave it out",
+        Some(b' ' | b'\t') => "a blank too many: leave it out",
+        Some(b'r') if expected == Expected::Thing("send, 'receive' or print") => {
+            "the word 'receive' stands in quotes"
+        }
+        _ => remedy_of_place(line, above, expected),
+    }
+}
+
+/// What to do about a line that breaks off otherwise.
+fn remedy_of_place(line: &[u8], above: Above, expected: Expected) -> &'static str {
+    match expected {
+        Expected::Number("a label", _) => "labels are numbers here: give each term a number",
+        Expected::Number("a pid's node" | "a pid's number", _) => {
+            "a pid is <NODE.NUMBER.0> with numbers up to 65535: number the processes anew"
+        }
+        Expected::Number(_, _) => "numbers are digits alone, and none is greater than this one",
+        Expected::NoLeadingZero => "write the number without its leading 0",
+        Expected::Thing("0, the third part of a pid") => "the third part of a pid is 0",
+        Expected::Thing("an act") => {
+            if line == b"acts".as_slice() {
+                "the word acts stands once"
+            } else {
+                "below the word acts stand acts alone: processes and events stand above it"
+            }
+        }
+        _ => match above {
+            Above::Nothing => "write seqtrace 1, or seqtrace 2 if a pid of another node is named",
+            Above::Header | Above::Process | Above::Acts => "",
+        },
+    }
+}
+
+/// The first pid of these that isn't on node 0.
+fn first_away(line: &[u8], pids: &[Place]) -> Option<usize> {
+    for place in pids {
+        let node = place.start.saturating_add(1);
+        if line.get(node).copied() != Some(b'0') {
+            return Some(node);
+        }
+    }
+    None
+}
+
+/// What is wrong with a line that none of the grammar's lines is, or that may not stand where it does.
+fn wrong_line(bytes: &[u8], number: u64) -> Diagnosis<'_> {
+    let (line, context) = line_at(bytes, number);
+    let mut scan = Scan::new(line);
+    let found = scan.whole(context.above);
+    match found {
+        Err(expected) => Diagnosis {
+            number,
+            line,
+            column: scan.at(),
+            wanted: Wanted::Grammar(expected),
+            remedy: remedy_of(line, scan.at(), context.above, expected),
+        },
+        Ok(Sort::Header) => Diagnosis {
+            number,
+            line,
+            column: line.len().saturating_sub(1),
+            wanted: Wanted::Words("1"),
+            remedy: "no pid of a node other than 0 is named, so the header is seqtrace 1",
+        },
+        Ok(_) => Diagnosis {
+            number,
+            line,
+            column: first_away(line, scan.pids()).unwrap_or(0),
+            wanted: Wanted::Words("node 0 under seqtrace 1"),
+            remedy: "a bundle that names a pid of another node begins with seqtrace 2",
+        },
+    }
+}
+
+/// What is wrong with a process line that isn't above the one before.
+fn wrong_order(bytes: &[u8], number: u64) -> Diagnosis<'_> {
+    let (line, context) = line_at(bytes, number);
+    let pid = line.strip_prefix(b"process ".as_slice()).unwrap_or(line);
+    Diagnosis {
+        number,
+        line,
+        column: rising_bytes(context.last, pid).saturating_add(8),
+        wanted: Wanted::Above(context.last),
+        remedy: "processes stand by rising pid, each once",
+    }
+}
+
+/// The pid of the process that reports an event.
+fn reporter<'a>(line: &'a [u8], sort: Sort, pids: &[Place]) -> (usize, &'a [u8]) {
+    let which = if sort == Sort::Receive { 1 } else { 0 };
+    match pids.get(which) {
+        Some(place) => (place.start, text_at(line, *place)),
+        None => (0, line),
+    }
+}
+
+/// What is wrong with an event of another process.
+fn wrong_process(bytes: &[u8], number: u64) -> Diagnosis<'_> {
+    let (line, context) = line_at(bytes, number);
+    let mut scan = Scan::new(line);
+    let sort = scan.whole(context.above).unwrap_or(Sort::Stamp);
+    let (start, pid) = reporter(line, sort, scan.pids());
+    Diagnosis {
+        number,
+        line,
+        column: start.saturating_add(common(pid, context.last)),
+        wanted: Wanted::EventOf(context.last, pid),
+        remedy: "an event stands below the process that reports it: a receive below its to, others below their from",
+    }
+}
+
+/// What is wrong with a line that names a pid without a process line.
+fn wrong_pid(bytes: &[u8], number: u64) -> Diagnosis<'_> {
+    let (line, context) = line_at(bytes, number);
+    let mut scan = Scan::new(line);
+    let _ = scan.whole(context.above);
+    let mut column: usize = 0;
+    let mut unlisted: &[u8] = line;
+    for place in scan.pids().iter().rev() {
+        let pid = text_at(line, *place);
+        if let Some(count) = unlisted_bytes(bytes, pid) {
+            column = place.start.saturating_add(count);
+            unlisted = pid;
+        }
+    }
+    Diagnosis {
+        number,
+        line,
+        column,
+        wanted: Wanted::Listed(unlisted),
+        remedy: "add a process line for it, even if it reported nothing",
+    }
+}
+
+/// What is wrong with a line that is one too many of its kind.
+fn too_many(bytes: &[u8], number: u64) -> Diagnosis<'_> {
+    let (line, context) = line_at(bytes, number);
+    let most = match Scan::new(line).whole(context.above) {
+        Ok(Sort::Process) => "no process more than 1024",
+        Ok(Sort::Act | Sort::SendAct) => "no act more than 4000000",
+        _ => "no event more than 1000000",
+    };
+    Diagnosis {
+        number,
+        line,
+        column: 0,
+        wanted: Wanted::Words(most),
+        remedy: "cut the trace: a shorter time, or fewer processes",
+    }
+}
+
+/// What is wrong with the end of a text.
+fn wrong_end(bytes: &[u8]) -> Diagnosis<'_> {
+    let number = last_number(bytes);
+    let (line, _) = line_at(bytes, number);
+    if bytes.is_empty() {
+        return Diagnosis {
+            number,
+            line,
+            column: 0,
+            wanted: Wanted::Words("the header seqtrace 1 or seqtrace 2"),
+            remedy: "the text is empty",
+        };
+    }
+    Diagnosis {
+        number,
+        line,
+        column: line.len(),
+        wanted: Wanted::Words("a newline at the end"),
+        remedy: "each line is ended by a newline, the last one too",
+    }
+}
+
+/// What is wrong with a text that the reader refuses for its lines; none for its other refusals.
+pub(crate) fn diagnose(bytes: &[u8], fault: ReadFault) -> Option<Diagnosis<'_>> {
+    match fault {
+        ReadFault::Line(n) => Some(wrong_line(bytes, n)),
+        ReadFault::Order(n) => Some(wrong_order(bytes, n)),
+        ReadFault::Foreign(n) => Some(wrong_process(bytes, n)),
+        ReadFault::Unknown(n) => Some(wrong_pid(bytes, n)),
+        ReadFault::TooMany(n) => Some(too_many(bytes, n)),
+        ReadFault::Truncated => Some(wrong_end(bytes)),
+        ReadFault::Memory | ReadFault::Device | ReadFault::TooLarge => None,
+    }
+}

@@ -1,0 +1,165 @@
+//! The lines that the program writes alone, through a buffer on the stack. Which line is written is decided elsewhere;
+//! writing takes no memory.
+
+ghost use Rattle.std.specs.Prelude.{◌≡◌, ◌≤◌, ◌+◌, ◌++◌, codes, length, decimal};
+ghost use Rattle.arrayvec.specs.ArrayVec.{array_vec_len};
+ghost use Rattle.st_text.specs.Room.{buffer_room, line_room, number_room};
+ghost use Rattle.st_text.specs.Writing.{WritesOn, WritesText};
+ghost use Rattle.st_chart.specs.Words.{place_words};
+ghost use Rattle.st_chart.specs.Room.{place_room};
+ghost use Rattle.st_commands.specs.Output.{fault_words};
+ghost use Rattle.st_tool.specs.Complete.{never_words};
+ghost use Rattle.st_tool.specs.Lines.{words, text_of, words_room};
+
+use st_complete::Never;
+use st_core::{ByteSink, Pid};
+use st_text::{Buffer, Device, ReadFault, flush, make_room, put_bytes, put_number, put_pid};
+
+/// A line that stands alone.
+#[derive(Clone, Copy, Debug)]
+pub(crate) enum OutputLine {
+    /// There is no event at this place.
+    NoEvent(Pid, u64),
+    /// Why the input is no text, or there is no answer.
+    Fault(ReadFault),
+    /// The input has no acts.
+    NoActs,
+    /// The acts are more than the reader takes.
+    Long,
+    /// So many events were added.
+    Added(u64),
+    /// Why the event at this place rules out a run without a reset.
+    Never(Pid, u64, Never),
+    /// It is open whether the event at this place can be.
+    Open(Pid, u64),
+}
+
+/// Appends a process and an index in its stream.
+pub(crate) fn put_place(buffer: &mut Buffer, pid: Pid, index: u64)
+    requires { array_vec_len buffer.old + place_room ≤ buffer_room }
+    ensures items { buffer.new.items ≡ buffer.old.items ++ place_words pid index }
+    ensures len { array_vec_len buffer.new ≤ array_vec_len buffer.old + place_room }
+{
+    put_pid(buffer, pid);
+    put_bytes(buffer, b" ");
+    put_number(buffer, index);
+}
+
+/// Appends words and a number.
+fn put_numbered(buffer: &mut Buffer, words: &[u8], number: u64)
+    requires { array_vec_len buffer.old + (length words.now + number_room) ≤ buffer_room }
+    ensures items { buffer.new.items ≡ buffer.old.items ++ (words.now ++ decimal number) }
+    ensures len { array_vec_len buffer.new ≤ array_vec_len buffer.old + (length words.now + number_room) }
+{
+    put_bytes(buffer, words);
+    put_number(buffer, number);
+}
+
+/// Appends the words of a fault.
+fn put_fault(buffer: &mut Buffer, fault: ReadFault)
+    requires { array_vec_len buffer.old + words_room ≤ buffer_room }
+    ensures items { buffer.new.items ≡ buffer.old.items ++ fault_words fault }
+    ensures len { array_vec_len buffer.new ≤ array_vec_len buffer.old + words_room }
+{
+    match fault {
+        ReadFault::Memory => put_bytes(buffer, b"fault memory"),
+        ReadFault::Device => put_bytes(buffer, b"fault device"),
+        ReadFault::TooLarge => put_bytes(buffer, b"fault too large"),
+        ReadFault::Line(n) => put_numbered(buffer, b"fault line ", n),
+        ReadFault::Order(n) => put_numbered(buffer, b"fault order ", n),
+        ReadFault::Foreign(n) => put_numbered(buffer, b"fault foreign ", n),
+        ReadFault::Unknown(n) => put_numbered(buffer, b"fault unknown ", n),
+        ReadFault::TooMany(n) => put_numbered(buffer, b"fault too many ", n),
+        ReadFault::Truncated => put_bytes(buffer, b"fault truncated"),
+    }
+}
+
+/// Appends a word and a place.
+fn put_other(buffer: &mut Buffer, word: &[u8], pid: Pid, index: u64)
+    requires { array_vec_len buffer.old + (length word.now + place_room) ≤ buffer_room }
+    ensures items { buffer.new.items ≡ buffer.old.items ++ (word.now ++ place_words pid index) }
+    ensures len { array_vec_len buffer.new ≤ array_vec_len buffer.old + (length word.now + place_room) }
+{
+    put_bytes(buffer, word);
+    put_place(buffer, pid, index);
+}
+
+/// Appends the words of a reason against an event of this process.
+fn put_never_words(buffer: &mut Buffer, pid: Pid, never: Never)
+    requires { array_vec_len buffer.old + (13 + place_room) ≤ buffer_room }
+    ensures items { buffer.new.items ≡ buffer.old.items ++ never_words pid never }
+    ensures len { array_vec_len buffer.new ≤ array_vec_len buffer.old + (13 + place_room) }
+{
+    match never {
+        Never::PrevNotBefore => put_bytes(buffer, b"prevnotbefore"),
+        Never::NotRising(index) => put_other(buffer, b"notrising ", pid, index),
+        Never::Repeated(other, index) => put_other(buffer, b"repeated ", other, index),
+        Never::Mismatch(other, index) => put_other(buffer, b"mismatch ", other, index),
+        Never::Late(index) => put_other(buffer, b"late ", pid, index),
+        Never::Unfounded => put_bytes(buffer, b"unfounded"),
+        Never::Unsent => put_bytes(buffer, b"unsent"),
+        Never::TooHigh => put_bytes(buffer, b"toohigh"),
+    }
+}
+
+/// Appends the words of a reason and its place.
+fn put_never(buffer: &mut Buffer, pid: Pid, index: u64, never: Never)
+    requires { array_vec_len buffer.old + words_room ≤ buffer_room }
+    ensures items { buffer.new.items
+        ≡ buffer.old.items ++ (codes "never " ++ place_words pid index ++ codes " " ++ never_words pid never) }
+    ensures len { array_vec_len buffer.new ≤ array_vec_len buffer.old + words_room }
+{
+    put_bytes(buffer, b"never ");
+    put_place(buffer, pid, index);
+    put_bytes(buffer, b" ");
+    put_never_words(buffer, pid, never);
+}
+
+/// Appends the words of a line.
+fn put_words(buffer: &mut Buffer, line: OutputLine)
+    requires { array_vec_len buffer.old + words_room ≤ buffer_room }
+    ensures items { buffer.new.items ≡ buffer.old.items ++ words line }
+    ensures len { array_vec_len buffer.new ≤ array_vec_len buffer.old + words_room }
+{
+    match line {
+        OutputLine::NoEvent(pid, index) => put_other(buffer, b"no event ", pid, index),
+        OutputLine::Fault(fault) => put_fault(buffer, fault),
+        OutputLine::NoActs => put_bytes(buffer, b"fault no acts"),
+        OutputLine::Long => put_bytes(buffer, b"long"),
+        OutputLine::Added(count) => put_numbered(buffer, b"added ", count),
+        OutputLine::Never(pid, index, never) => put_never(buffer, pid, index, never),
+        OutputLine::Open(pid, index) => put_other(buffer, b"open ", pid, index),
+    }
+}
+
+/// Appends a line and its newline.
+fn put_line(buffer: &mut Buffer, line: OutputLine)
+    requires { array_vec_len buffer.old + line_room ≤ buffer_room }
+    ensures { buffer.new.items ≡ buffer.old.items ++ text_of line }
+{
+    put_words(buffer, line);
+    put_bytes(buffer, b"\n");
+}
+
+/// Writes a line into the buffer, and first what waits there if that is much.
+pub(crate) fn write_line<W: ByteSink>(
+    writer: &mut W,
+    buffer: &mut Buffer,
+    line: OutputLine,
+) -> Result<(), Device>
+    ensures { WritesOn W.puts W.failed (text_of line)
+        writer.old writer.new buffer.old.items buffer.new.items result }
+{
+    make_room(writer, buffer)?;
+    put_line(buffer, line);
+    Ok(())
+}
+
+/// Writes one line to the writer.
+pub(crate) fn send_line<W: ByteSink>(writer: &mut W, line: OutputLine) -> Result<(), Device>
+    ensures { WritesText W.puts W.failed (text_of line) writer.old writer.new result }
+{
+    let mut buffer = Buffer::new();
+    write_line(writer, &mut buffer, line)?;
+    flush(writer, &mut buffer)
+}

@@ -1,0 +1,153 @@
+//! The command `why`: what caused an event of the streams whose text the input is. The acts in the input are ignored.
+
+ghost use Rattle.std.specs.Prelude.{◌≡◌, IsSome, None};
+ghost use Rattle.st_audit.specs.Findings.{unfit_by};
+ghost use Rattle.st_commands.specs.Command.{Owes, Tells};
+ghost use Rattle.st_pair.specs.Links.{IsPairing};
+ghost use Rattle.st_pair.specs.Pairing.{IsPairFault, refusal};
+ghost use Rattle.st_pair.specs.Places.{event_at};
+ghost use Rattle.st_tool.specs.Parts.{TracesTo};
+ghost use Rattle.st_tool.specs.Why.{IsWhy};
+
+use crate::answer::{status_of, tell_fault, tell_finding, tell_line};
+use crate::lines::OutputLine;
+use crate::steps::send_steps;
+use st_audit::{Finding, Reason};
+use st_chain::Chains;
+use st_core::{ByteSink, ByteSource, Pid, Streams};
+use st_pair::{PairFault, Pairing, pair};
+use st_text::{ReadFault, read};
+use std::alloc::Global;
+
+/// A reason of pairing as a finding; none if it is that a growth was refused.
+fn unfit_by(fault: PairFault) -> Option<Finding>
+    ensures { result ≡ unfit_by fault }
+{
+    match fault {
+        PairFault::Memory => None,
+        PairFault::PrevNotBefore(pid, index) => {
+            Some(Finding::Unfit(pid, index, Reason::PrevNotBefore))
+        }
+        PairFault::NotRising(pid, index, place) => {
+            Some(Finding::Unfit(pid, index, Reason::NotRising(place)))
+        }
+        PairFault::Repeated(pid, index, other, place) => {
+            Some(Finding::Unfit(pid, index, Reason::Repeated(other, place)))
+        }
+        PairFault::Mismatch(pid, index, sender, place) => {
+            Some(Finding::Unfit(pid, index, Reason::Mismatch(sender, place)))
+        }
+    }
+}
+
+/// Tells why streams aren't paired.
+fn tell_unpaired<W: ByteSink>(
+    streams: &Streams,
+    pid: Pid,
+    index: u64,
+    fault: PairFault,
+    writer: &mut W,
+) -> u8
+    requires { IsPairFault streams.now fault }
+    ensures { Tells W.puts W.failed writer.old writer.new (TracesTo streams.now pid index) result }
+{
+    match unfit_by(fault) {
+        Some(finding) => tell_finding(writer, streams, &finding),
+        None => tell_fault(writer, ReadFault::Memory),
+    }
+}
+
+/// Tells the way back from an event that is there.
+fn trace_event<W: ByteSink>(
+    alloc: Global,
+    streams: &Streams,
+    chains: &Chains,
+    pid: Pid,
+    index: u64,
+    writer: &mut W,
+) -> u8
+    requires same { chains.now ≡ streams.now }
+    requires accepted { refusal streams.now ≡ None }
+    requires there { IsSome (event_at streams.now pid index) }
+    ensures { Tells W.puts W.failed writer.old writer.new (TracesTo streams.now pid index) result }
+{
+    match chains.back(alloc, pid, index) {
+        Ok(back) => {
+            let sent = send_steps(writer, streams, chains, back.as_slice());
+            status_of(sent, 0)
+        }
+        Err(_) => tell_fault(writer, ReadFault::Memory),
+    }
+}
+
+/// Tells the way back over these causes.
+fn trace_back<W: ByteSink>(
+    alloc: Global,
+    streams: &Streams,
+    chains: &Chains,
+    pid: Pid,
+    index: u64,
+    writer: &mut W,
+) -> u8
+    requires same { chains.now ≡ streams.now }
+    requires accepted { refusal streams.now ≡ None }
+    ensures { Tells W.puts W.failed writer.old writer.new (TracesTo streams.now pid index) result }
+{
+    match streams.event(pid, index) {
+        Some(_) => trace_event(alloc, streams, chains, pid, index, writer),
+        None => tell_line(writer, OutputLine::NoEvent(pid, index), 1),
+    }
+}
+
+/// Tells the way back in streams that are paired.
+fn trace_paired<W: ByteSink>(
+    alloc: Global,
+    streams: &Streams,
+    pairing: &Pairing,
+    pid: Pid,
+    index: u64,
+    writer: &mut W,
+) -> u8
+    requires { IsPairing streams.now pairing.now }
+    ensures { Tells W.puts W.failed writer.old writer.new (TracesTo streams.now pid index) result }
+{
+    match Chains::new(alloc, streams, pairing) {
+        Ok(chains) => trace_back(alloc, streams, &chains, pid, index, writer),
+        Err(_) => tell_fault(writer, ReadFault::Memory),
+    }
+}
+
+/// Tells the way back in streams.
+fn trace_streams<W: ByteSink>(
+    alloc: Global,
+    streams: &Streams,
+    pid: Pid,
+    index: u64,
+    writer: &mut W,
+) -> u8
+    ensures { Tells W.puts W.failed writer.old writer.new (TracesTo streams.now pid index) result }
+{
+    match pair(alloc, streams) {
+        Ok(pairing) => trace_paired(alloc, streams, &pairing, pid, index, writer),
+        Err(fault) => tell_unpaired(streams, pid, index, fault, writer),
+    }
+}
+
+/// Reads a bundle and writes the event at this place and its causes, back to a hidden send or a start, with status 0.
+/// If there is no such event, or the streams can't be paired, it writes that with status 1. Faulty input is 2; running
+/// out of memory, and a reader or a writer that fails, are 4. Its time grows with the streams.
+pub fn run_why<R: ByteSource, W: ByteSink>(
+    alloc: Global,
+    reader: &mut R,
+    writer: &mut W,
+    pid: Pid,
+    index: u64,
+) -> u8
+    ensures { Tells W.puts W.failed writer.old writer.new
+        (Owes R.gives R.ended R.failed reader.old reader.new (IsWhy pid index)) result }
+{
+    match read(alloc, reader) {
+        Ok(bundle) => trace_streams(alloc, &bundle.streams, pid, index, writer),
+        Err(fault) => tell_fault(writer, fault),
+    }
+}
