@@ -1,7 +1,7 @@
 # `make` alone says what there is. The times were measured on a four-core virtual machine with nothing else to do.
 
 # The programs, each a crate; everything below is made for each of them.
-PROGRAMS = seqaudit
+PROGRAMS = seqaudit seqtool
 
 PREFIX ?= /usr/local
 COMMAND ?= audit
@@ -37,11 +37,18 @@ bin/%: $(SOURCES)
 	@mkdir -p bin
 	cp crates/$*/out/$* $@
 
-demo: bin/seqaudit ## runs the proved program on examples/ and compares what it writes (seconds, after program)
-	@examples/demo $<
+demo: bin/seqaudit bin/seqtool ## runs the proved programs on examples/ and compares what they write (seconds, after program)
+	@examples/demo bin/seqaudit
+	@examples/demo-seqtool bin/seqtool
 
-install: $(PROGRAMS:%=bin/%) ## copies the proved program to PREFIX/bin (at once, after program)
+SHARE = $(DESTDIR)$(PREFIX)/share
+
+install: $(PROGRAMS:%=bin/%) ## copies the proved programs, man pages and completions to PREFIX (at once, after program)
 	install -D -t $(DESTDIR)$(PREFIX)/bin $^
+	install -D -m 644 -t $(SHARE)/man/man1 man/seqaudit.1 man/seqtool.1
+	install -D -m 644 completions/seqtool.bash $(SHARE)/bash-completion/completions/seqtool
+	install -D -m 644 completions/seqtool.bash $(SHARE)/bash-completion/completions/seqaudit
+	install -D -m 644 -t $(SHARE)/zsh/site-functions completions/_seqtool
 
 test: layers docs ## the merge gate: all proofs from nothing, the wrong bodies, the tests (45 minutes)
 	rt ci
@@ -58,17 +65,19 @@ docs: ## holds names, links and counts in the docs to the sources (2 seconds)
 
 # The program that the gate, or else `make program`, built last.
 BUILT = $(firstword $(wildcard $(CURDIR)/crates/seqaudit/out/seqaudit $(CURDIR)/bin/seqaudit))
+BUILT_TOOL = $(firstword $(wildcard $(CURDIR)/crates/seqtool/out/seqtool $(CURDIR)/bin/seqtool))
 
 # What no proof sees: the built program on examples/, its statuses, random traces beside a slow model, a million acts,
 # and faults. Python's seeds are fixed.
 test-program: ## the program that was built last: examples/, random traces, a million acts, faults (2 minutes)
 	@.ci/program $(BUILT)
+	@examples/demo-seqtool $(BUILT_TOOL)
 	@if command -v python3 >/dev/null; then bench/hostile $(BUILT); \
 	else echo "There is no python3 here: the faults are skipped."; fi
 
 # Traces of a real Erlang node, if there is one, by the program that was built last.
 test-erlang: ## the tests of erlang/, with the program that was built last (1 minute; needs erl)
-	@if command -v erl >/dev/null; then SEQAUDIT=$(BUILT) $(MAKE) --no-print-directory -C erlang test; \
+	@if command -v erl >/dev/null; then SEQAUDIT=$(BUILT) SEQTOOL=$(BUILT_TOOL) $(MAKE) --no-print-directory -C erlang test; \
 	else echo "There is no erl here (Debian's erlang-base): the Erlang tests are skipped."; fi
 
 # The machine beside a real node, and again with each rule of the slow model broken.

@@ -6,7 +6,7 @@ pub(crate) const PROGRAM: &str =
     "Tools for people around seqaudit: what a trace lacks, what caused an event, and what is wrong with a text.";
 
 pub(crate) const PROGRAM_EXAMPLE: &str =
-    "Example: a trace comes in, and audit refuses it for want of unreported messages.
+    "Example: a trace comes in, and audit refuses it since unreported messages are missing.
   seqtool audit trace.txt
   seqtool complete trace.txt
   seqtool complete --as streams trace.txt | seqaudit chart --label 17
