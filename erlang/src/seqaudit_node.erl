@@ -10,6 +10,9 @@
 -define(USAGE, 3).
 -define(SYSTEM, 4).
 
+%% Options that cut a trace down before it is looked at.
+-define(CUTS, ["--label", "--process", "--from", "--to"]).
+
 -type options() :: #{string() => [string()]}.
 %% The words after each option, the last one first; the words without one stand under "".
 
@@ -44,8 +47,9 @@ run([]) ->
 commands() ->
     [{"collect", ["--node", "--cookie", "--seconds", "--limit", "-o"], ["--reset"], fun collect/1},
      {"convert", ["-o"], [], fun convert/1},
-     {"audit", [], ["--whole"], fun audit/1},
-     {"chart", ["--label", "--svg"], [], fun chart/1}].
+     {"audit", ?CUTS, ["--whole", "--parts"], fun audit/1},
+     {"chart", ["--svg", "--html" | ?CUTS], ["--parts"], fun chart/1},
+     {"why", ["--event" | ?CUTS], ["--effects"], fun why/1}].
 
 help() ->
     "usage: seqaudit-node COMMAND\n"
@@ -55,11 +59,17 @@ help() ->
     "  convert FILE .. -o NAME\n"
     "      makes NAME.seqtrace, NAME.terms and NAME.notes of files of events: NAME.events,\n"
     "      term_to_binary of a list, a trace file of dbg or ttb, or text\n"
-    "  audit NAME [--whole]\n"
-    "      has seqaudit audit NAME.seqtrace, keeps its answer in NAME.answer and explains it\n"
-    "  chart NAME --label TERM [--svg FILE]\n"
-    "      prints the chart of a label with names and terms, and draws it\n"
-    "status: 0 done or fits, 1 unfit or no such label, 2 a file isn't understood,\n"
+    "  audit NAME [--whole] [--parts]\n"
+    "      says whether a run has NAME.seqtrace and what it lacks, and keeps what shows it in\n"
+    "      NAME.answer; --whole prints the events and acts, --parts all of each part between resets\n"
+    "  chart NAME --label TERM [--svg FILE] [--html FILE]\n"
+    "      prints the chart of a label with names and terms, and draws it, for a document or as a\n"
+    "      page to look at; the page alone needs no label\n"
+    "  why NAME --event PROCESS#N [--effects]\n"
+    "      tells the chain from an event back to its beginning, and what came of it\n"
+    "  audit, chart and why cut the trace first: --label TERM .. --process NAME ..\n"
+    "      --from SECONDS --to SECONDS (after the first event; needs NAME.times)\n"
+    "status: 0 done or fits, 1 unfit or not there, 2 a file isn't understood,\n"
     "        3 the command isn't, 4 a file, a node or the program can't be had\n".
 
 usage(Format, Values) ->
@@ -164,40 +174,27 @@ read_all([File | Files], Collections) ->
         {error, Reason} -> {error, Reason}
     end.
 
-audit(#{"" := [Name]} = Options) ->
+%% What `audit', `chart' and `why' have of a trace, once it is cut as was asked.
+with_trace(Name, Wish, Do) ->
     with_legend(Name, fun(Legend) ->
-        answered(["audit"], Name, fun(Status, Answer) ->
-            Show = case Options of
-                       #{"--whole" := _} -> fun seqaudit_explain:explain/2;
-                       #{} -> fun seqaudit_explain:summary/2
-                   end,
-            io:put_chars(Show(Answer, Legend)),
-            keep(Name ++ ".answer", Answer, Status)
-        end)
-    end);
-audit(_) ->
-    usage("audit needs the NAME of a bundle", []).
-
-chart(#{"" := [Name], "--label" := [Label]} = Options) ->
-    with_legend(Name, fun(Legend) ->
-        case seqaudit_legend:find_label(Label, Legend) of
-            {ok, Number} ->
-                answered(["chart", "--label", binary_to_list(Number)], Name, fun(Status, Answer) ->
-                    io:put_chars(seqaudit_explain:explain(Answer, Legend)),
-                    draw(Status, Answer, Legend, maps:get("--svg", Options, []))
-                end);
+        Times = seqaudit_times:read(Name ++ ".times"),
+        case seqaudit_bundle:read(Name ++ ".seqtrace") of
+            {ok, Streams} ->
+                Trace = #{name => Name, legend => Legend, times => Times, notes => notes(Name),
+                          whole => Streams},
+                with_cut(Trace, Wish, Do);
+            {error, {file, _, _} = Reason} ->
+                failed(?SYSTEM, seqaudit_bundle:format_error(Reason));
             {error, Reason} ->
-                failed(?UNFIT, seqaudit_legend:format_error(Reason))
+                failed(?INPUT, seqaudit_bundle:format_error(Reason))
         end
-    end);
-chart(_) ->
-    usage("chart needs the NAME of a bundle and --label", []).
+    end).
 
-draw(?FITS, Answer, Legend, [File | _]) ->
-    {ok, Chart} = seqaudit_chart:read(Answer),
-    keep(File, unicode:characters_to_binary(seqaudit_draw:svg(Chart, Legend)), ?FITS);
-draw(Status, _Answer, _Legend, _Files) ->
-    Status.
+with_cut(#{whole := Streams, legend := Legend, times := Times} = Trace, Wish, Do) ->
+    case seqaudit_cut:cut(Streams, Wish, Legend, Times) of
+        {ok, Cut, Note} -> Do(Trace#{streams => Cut, cut => Note});
+        {error, Reason} -> failed(?UNFIT, seqaudit_cut:format_error(Reason))
+    end.
 
 with_legend(Name, Do) ->
     case seqaudit_legend:read(Name ++ ".terms") of
@@ -206,16 +203,215 @@ with_legend(Name, Do) ->
         {error, Reason} -> failed(?INPUT, seqaudit_legend:format_error(Reason))
     end.
 
-%% What the program answers. Status 3 comes from one that hasn't the command yet.
-answered(Words, Name, Do) ->
-    case seqaudit_program:ask(Words, Name ++ ".seqtrace") of
-        {ok, {?USAGE, _}} ->
-            failed(?USAGE, "this seqaudit has no " ++ hd(Words) ++ " yet; build a later one");
-        {ok, {Status, Answer}} ->
-            Do(Status, Answer);
+notes(Name) ->
+    case file:read_file(Name ++ ".notes") of
+        {ok, Text} -> binary:split(Text, <<"\n">>, [global, trim]);
+        {error, _} -> []
+    end.
+
+%% What the options cut the trace to.
+wish(Options, Cuts) ->
+    maps:from_list([{Cut, Words} || {Option, Cut, Which} <- [{"--label", labels, all},
+                                                             {"--process", processes, all},
+                                                             {"--from", from, last},
+                                                             {"--to", to, last}],
+                                    lists:member(Cut, Cuts), #{Option := Given} <- [Options],
+                                    Words <- case Which of
+                                                 all -> [lists:reverse(Given)];
+                                                 last -> [hd(Given)]
+                                             end]).
+
+%% The outcome of the audit, and of each part between resets if there are any.
+with_outcome(#{streams := Streams} = Trace, Do) ->
+    case seqaudit_outcome:ask(Streams) of
+        {ok, #{said := never} = Outcome} ->
+            case seqaudit_parts:split(Streams) of
+                [_] -> Do(Trace#{outcome => Outcome, parts => []});
+                Parts -> with_parts(Parts, [], Trace#{outcome => Outcome}, Do)
+            end;
+        {ok, Outcome} ->
+            Do(Trace#{outcome => Outcome, parts => []});
         {error, Reason} ->
             failed(?SYSTEM, seqaudit_program:format_error(Reason))
     end.
+
+with_parts([], Outcomes, Trace, Do) ->
+    Do(Trace#{parts => lists:reverse(Outcomes)});
+with_parts([Part | Parts], Outcomes, Trace, Do) ->
+    case seqaudit_outcome:ask(Part) of
+        {ok, Outcome} -> with_parts(Parts, [{Part, Outcome} | Outcomes], Trace, Do);
+        {error, Reason} -> failed(?SYSTEM, seqaudit_program:format_error(Reason))
+    end.
+
+audit(#{"" := [Name]} = Options) ->
+    with_trace(Name, wish(Options, [labels, processes, from, to]), fun(Trace) ->
+        with_outcome(Trace, fun(Audited) -> audit(Audited, Options) end)
+    end);
+audit(_) ->
+    usage("audit needs the NAME of a bundle", []).
+
+audit(#{name := Name, legend := Legend, notes := Notes, cut := Cut, outcome := Outcome,
+        parts := Parts}, Options) ->
+    #{said := Said, answer := Answer} = Outcome,
+    io:put_chars([Cut, seqaudit_explain:outcome(Outcome, Notes, Legend),
+                  audited_parts(Parts, Options, Legend),
+                  case Options of
+                      #{"--whole" := _} -> seqaudit_explain:whole(Outcome, Legend);
+                      #{} -> ""
+                  end]),
+    Kept = [{Name ++ ".answer", Answer}
+            | [{Name ++ ".part" ++ integer_to_list(Which) ++ ".answer", PartAnswer}
+               || {Which, {_, #{answer := PartAnswer}}} <- lists:enumerate(Parts)]],
+    lists:max([keep(File, Text, status(Said)) || {File, Text} <- Kept]).
+
+status(Said) when Said =:= fits; Said =:= completed -> ?FITS;
+status(fault) -> ?INPUT;
+status(_) -> ?UNFIT.
+
+audited_parts([], _Options, _Legend) ->
+    "";
+audited_parts(Parts, #{"--parts" := _}, Legend) ->
+    [seqaudit_explain:reset_places([Part || {Part, _} <- Parts], Legend),
+     [[part_title(Which, Parts), seqaudit_explain:outcome(Outcome, [], Legend)]
+      || {Which, {_, Outcome}} <- lists:enumerate(Parts)]];
+audited_parts(Parts, _Options, Legend) ->
+    {Streams, Outcomes} = lists:unzip(Parts),
+    seqaudit_explain:parts(Outcomes, Streams, Legend).
+
+part_title(Which, Parts) ->
+    io_lib:format("part ~b of ~b: ", [Which, length(Parts)]).
+
+chart(#{"" := [Name], "--label" := [Label | _]} = Options) ->
+    with_trace(Name, wish(Options, [processes, from, to]), fun(#{legend := Legend} = Trace) ->
+        case seqaudit_legend:find_label(Label, Legend) of
+            {ok, Number} -> chart_label(Number, Label, Trace, Options);
+            {error, Reason} -> failed(?UNFIT, seqaudit_legend:format_error(Reason))
+        end
+    end);
+chart(#{"" := [Name], "--html" := _} = Options) ->
+    with_trace(Name, wish(Options, [processes, from, to]), fun(Trace) ->
+        with_outcome(Trace, fun(Audited) ->
+            io:put_chars(charted(Audited)),
+            page(Audited, Options, <<"">>, ?FITS)
+        end)
+    end);
+chart(_) ->
+    usage("chart needs the NAME of a bundle and --label, or --html", []).
+
+%% A trace that the programs don't take as a whole may be taken when it is cut to the label.
+chart_label(Number, Label, #{streams := Streams, legend := Legend, times := Times} = Trace, Options) ->
+    with_outcome(Trace, fun
+        (#{outcome := #{said := fault}}) ->
+            {ok, Cut, Note} = seqaudit_cut:cut(Streams, #{labels => [Label]}, Legend, Times),
+            with_outcome(Trace#{streams := Cut, cut := Note}, fun(Audited) ->
+                charts(Number, Audited, Options)
+            end);
+        (Audited) ->
+            charts(Number, Audited, Options)
+    end).
+
+charts(Number, #{parts := Parts, outcome := #{streams := Streams}} = Audited, Options) ->
+    io:put_chars(charted(Audited)),
+    Drawn = case Parts of
+                [] -> [{"", Streams, ""}];
+                _ -> [{integer_to_list(Which), maps:get(streams, Outcome), part_title(Which, Parts)}
+                      || {Which, {_, Outcome}} <- lists:enumerate(Parts)]
+            end,
+    Statuses = [chart_streams(Number, Which, Part, Title, Audited, Options)
+                || {Which, Part, Title} <- Drawn],
+    Status = case lists:member(?FITS, Statuses) of
+                 true -> ?FITS;
+                 false -> lists:max(Statuses)
+             end,
+    page(Audited, Options, Number, Status).
+
+%% What stands above a chart.
+charted(#{cut := Cut, outcome := Outcome, notes := Notes, parts := Parts, legend := Legend}) ->
+    [Cut, seqaudit_explain:headline(Outcome, Legend), seqaudit_explain:losses(Notes),
+     [seqaudit_explain:reset_places([Part || {Part, _} <- Parts], Legend) || Parts =/= []]].
+
+chart_streams(Number, Which, Streams, Title, #{legend := Legend} = Audited, Options) ->
+    Text = seqaudit_bundle:text(Streams),
+    Asked = seqaudit_program:with_text(Text, fun(File) ->
+                seqaudit_program:ask(["chart", "--label", binary_to_list(Number)], File)
+            end),
+    case Asked of
+        {ok, {?FITS, Answer}} ->
+            {ok, Read} = seqaudit_chart:read(Answer),
+            Chart = seqaudit_chart:identify(Read, seqaudit_causes:rows(Streams)),
+            io:put_chars([[Title, $\n] || Title =/= ""]),
+            io:put_chars(seqaudit_chart:text(Chart, Legend)),
+            draw(Chart, Which, Audited, maps:get("--svg", Options, []));
+        {ok, {?UNFIT, <<"no label", _/binary>>}} ->
+            io:put_chars([[Title, "nothing has the label ", seqaudit_legend:label(Number, Legend), $\n]]),
+            ?UNFIT;
+        {ok, {Status, _}} when Status =:= ?UNFIT; Status =:= ?INPUT ->
+            Status;
+        {ok, {?USAGE, _}} ->
+            failed(?USAGE, "this seqaudit has no chart yet; build a later one");
+        {ok, {Status, Fault}} ->
+            failed(Status, Fault);
+        {error, Reason} ->
+            failed(?SYSTEM, seqaudit_program:format_error(Reason))
+    end.
+
+draw(Chart, Which, #{legend := Legend} = Audited, [File | _]) ->
+    Heading = unicode:characters_to_list(seqaudit_explain:headline(maps:get(outcome, Audited), Legend)),
+    case seqaudit_draw:svg(Chart, string:trim(Heading), Legend) of
+        {ok, Drawing} ->
+            keep(part_file(File, Which), unicode:characters_to_binary(Drawing), ?FITS);
+        {error, Reason} ->
+            failed(?INPUT, seqaudit_draw:format_error(Reason))
+    end;
+draw(_Chart, _Which, _Audited, []) ->
+    ?FITS.
+
+part_file(File, "") -> File;
+part_file(File, Which) ->
+    filename:rootname(File) ++ "-" ++ Which ++ filename:extension(File).
+
+page(_Audited, Options, _Label, Status) when not is_map_key("--html", Options) ->
+    Status;
+page(Audited, #{"--html" := [File | _]}, Label, Status) ->
+    case seqaudit_page:html(Audited, Label) of
+        {ok, Page} -> keep(File, Page, Status);
+        {error, Reason} -> failed(?SYSTEM, seqaudit_page:format_error(Reason))
+    end.
+
+why(#{"" := [Name], "--event" := [Event | _]} = Options) ->
+    with_trace(Name, wish(Options, [labels, processes, from, to]), fun(#{legend := Legend} = Trace) ->
+        with_outcome(Trace, fun(#{cut := Cut, outcome := Outcome} = Audited) ->
+            io:put_chars([Cut, doubt(Outcome, Legend)]),
+            why(Event, shown(Audited), Options, Legend)
+        end)
+    end);
+why(_) ->
+    usage("why needs the NAME of a bundle and --event", []).
+
+why(Event, Shown, Options, Legend) ->
+    Found = [{Place, Streams} || Streams <- Shown,
+                                 {ok, Place} <- [seqaudit_bundle:find(Event, Streams, Legend)]],
+    case Found of
+        [{Place, Streams} | _] ->
+            Rows = seqaudit_causes:rows(Streams),
+            Tell = case Options of
+                       #{"--effects" := _} -> fun seqaudit_why:effects/3;
+                       #{} -> fun seqaudit_why:chain/3
+                   end,
+            io:put_chars(Tell(Place, Rows, Legend)),
+            ?FITS;
+        [] ->
+            {error, Reason} = seqaudit_bundle:find(Event, lists:append(Shown), Legend),
+            failed(?UNFIT, seqaudit_bundle:format_error(Reason))
+    end.
+
+%% The streams that are shown: the whole, or each part between resets.
+shown(#{parts := [], outcome := #{streams := Streams}}) -> [Streams];
+shown(#{parts := Parts}) -> [Streams || {_, #{streams := Streams}} <- Parts].
+
+%% Causes of a trace that doesn't fit are told with the doubt first.
+doubt(#{said := Said}, _Legend) when Said =:= fits; Said =:= completed -> "";
+doubt(Outcome, Legend) -> seqaudit_explain:headline(Outcome, Legend).
 
 keep(File, Text, Status) ->
     case file:write_file(File, Text) of

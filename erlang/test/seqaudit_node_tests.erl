@@ -10,7 +10,7 @@ usage_test_() ->
         {_, _} = binary:match(Help, <<"usage: seqaudit-node COMMAND">>),
         {0, Help} = command("audit --help"),
         [{3, _} = command(Words)
-         || Words <- ["", "frobnicate", "audit", "audit a b", "audit a --label", "chart a",
+         || Words <- ["", "frobnicate", "audit", "audit a b", "audit a --label", "chart a", "why a", "why --event x#1",
                       "convert x", "collect --node a@h -o x", "convert -o"]],
         {3, Text} = command("collect --node a@h --seconds ten -o x"),
         {_, _} = binary:match(Text, <<"--seconds and --limit take whole numbers">>)
@@ -57,6 +57,7 @@ asked(Name, Program) ->
     {_, _} = binary:match(Whole, <<", label {request,<<\"abc\">>}">>),
     {0, Chart} = command(["chart ", Name, " --label '{request, <<\"abc\">>}' --svg ", Name, ".svg"], Program),
     {_, _} = binary:match(Chart, <<"label {request,<<\"abc\">>}\n">>),
+    {_, _} = binary:match(Chart, <<"fits: 12 events of 2 processes are a run; nothing was left out\nlabel">>),
     {_, _} = binary:match(Chart, <<" call 1  start\n">>),
     {ok, <<"<?xml", _/binary>>} = file:read_file(Name ++ ".svg"),
     {1, Other} = command(["chart ", Name, " --label other"], Program),
@@ -66,7 +67,8 @@ asked(Name, Program) ->
     Unfit = Name ++ "_unfit",
     {0, _} = command(["convert ", capture("exclude_idiom_after_receive"), " -o ", Unfit]),
     {1, Why} = command(["audit ", Unfit], Program),
-    {_, _} = binary:match(Why, <<"(uncaused)">>).
+    {_, _} = binary:match(Why, <<"(uncaused)">>),
+    {_, _} = binary:match(Why, <<"seqtool is needed, and it isn't there">>).
 
 %% A program that knows no audit is said to be one.
 no_program_test_() ->
@@ -75,8 +77,8 @@ no_program_test_() ->
         {0, _} = command(["convert ", capture("ring10"), " -o ", Name]),
         ok = file:write_file(Name ++ ".sh", <<"#!/bin/sh\necho usage: seqaudit check\nexit 3\n">>),
         ok = file:change_mode(Name ++ ".sh", 8#755),
-        {3, Old} = command(["audit ", Name], Name ++ ".sh"),
-        {_, _} = binary:match(Old, <<"this seqaudit has no audit yet; build a later one">>)
+        {2, Old} = command(["audit ", Name], Name ++ ".sh"),
+        {_, _} = binary:match(Old, <<"usage: seqaudit check: ">>)
     end}.
 
 %% The command traces another node, where nothing of it is installed.
@@ -127,7 +129,7 @@ command(Words, Program) ->
                                 code:which(seqaudit_node)))), "seqaudit-node"),
     Port = open_port({spawn_executable, "/bin/sh"},
                      [{args, ["-c", lists:flatten([Command, " ", Words, " 2>&1"])]},
-                      {env, [{"SEQAUDIT", Program}]}, binary, exit_status]),
+                      {env, [{"SEQAUDIT", Program}, {"SEQTOOL", "/no/such/seqtool"}]}, binary, exit_status]),
     output(Port, <<>>).
 
 output(Port, Output) ->
