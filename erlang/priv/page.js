@@ -11,7 +11,7 @@
   // What is drawn. Each colour has a shape or a dash of its own beside it.
   const INK = { message: "#333333", cause: "#0072b2", effect: "#d55e00", unreported: "#7a3e9d",
                 dim: "#c8c8c8", life: "#b5b5b5", reset: "#aa0000" };
-  const LIST = 330, MOST_ARROWS = 3000, MOST_LISTED = 500;
+  const LIST = 330, ABOVE = 10, MOST_ARROWS = 3000, MOST_LISTED = 500;
   // Browsers take elements up to some 17 million pixels high; a longer trace is scrolled in larger steps.
   const TALLEST = 15e6;
   const VERBS = { s: "sends", h: "sends", r: "receives", p: "prints" };
@@ -88,7 +88,7 @@
   }
 
   function layOutSpace(columns) {
-    const height = Math.max(1, shown.length * rowHeight + 40);
+    const height = Math.max(1, shown.length * rowHeight + ABOVE + 40);
     step = Math.min(1, TALLEST / height);
     byId("space").style.height = height * step + top() + "px";
     byId("space").style.width = listWidth() + Math.max(1, columns) * laneWidth + 60 + "px";
@@ -137,7 +137,7 @@
   }
 
   const x = lane => listWidth() + column[lane] * laneWidth + laneWidth / 2 - byId("view").scrollLeft;
-  const y = at => top() + at * rowHeight + rowHeight / 2 - byId("view").scrollTop / step;
+  const y = at => top() + ABOVE + at * rowHeight + rowHeight / 2 - byId("view").scrollTop / step;
 
   function sight() {
     const view = byId("view");
@@ -562,7 +562,7 @@
   });
   byId("canvas").addEventListener("click", event => {
     const box = byId("canvas").getBoundingClientRect();
-    const at = Math.floor((event.clientY - box.top - top() + byId("view").scrollTop / step) / rowHeight);
+    const at = Math.floor((event.clientY - box.top - top() - ABOVE + byId("view").scrollTop / step) / rowHeight);
     choose(at >= 0 && at < shown.length ? shown[at] : -1);
   });
 
