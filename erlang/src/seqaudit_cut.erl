@@ -109,20 +109,20 @@ note(Streams, Cut) ->
                             is_map_key(Id, Kept), is_cut(Cause, Kept)]),
     Receives = length([cut || #{id := Id, cause := {sent, Send}} <- Rows,
                               is_map_key(Send, Kept), not is_map_key(Id, Kept)]),
-    io_lib:format("cut: ~b of ~b events are looked at~ts~n",
-                  [seqaudit_bundle:events(Cut), seqaudit_bundle:events(Streams),
-                   open([{Sends, "~b receives whose sends were cut"},
-                         {Receives, "~b sends whose receives were cut"},
-                         {Causes, "~b events that follow a receive that was cut"}])]).
+    Open = [seqaudit_explain:count(Count, Thing) ++ Lacks
+            || {Count, Thing, Lacks} <- [{Sends, "receive", " whose send was cut"},
+                                         {Receives, "send", " whose receive was cut"},
+                                         {Causes, "event", " whose cause was cut"}], Count > 0],
+    io_lib:format("cut: ~ts of ~ts; ~ts~n",
+                  [seqaudit_explain:number(seqaudit_bundle:events(Cut)),
+                   seqaudit_explain:count(seqaudit_bundle:events(Streams), "event"),
+                   case Open of
+                       [] -> "the cut leaves nothing open";
+                       _ -> ["it leaves open ", lists:join(", ", Open)]
+                   end]).
 
 is_cut({sent_to, _}, _Kept) -> false;
 is_cut(Id, Kept) -> not is_map_key(Id, Kept).
-
-open(Counts) ->
-    case [io_lib:format(Format, [Count]) || {Count, Format} <- Counts, Count > 0] of
-        [] -> "; the cut leaves nothing open";
-        Texts -> ["; it leaves open ", lists:join(", ", Texts)]
-    end.
 
 %% @doc A reason of this module in words, with what to do about it.
 -spec format_error(term()) -> string().

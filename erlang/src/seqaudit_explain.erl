@@ -2,7 +2,7 @@
 %% what to look at.
 -module(seqaudit_explain).
 
--export([headline/2, outcome/3, parts/3, whole/2, sentence/2, reset_places/2, losses/1]).
+-export([count/2, number/1, headline/2, outcome/3, parts/3, whole/2, sentence/2, reset_places/2, losses/1]).
 
 -import(seqaudit_legend, [process/2, label/2, value/2]).
 
@@ -17,10 +17,10 @@
 
 %% @doc The outcome in one line.
 -spec headline(seqaudit_outcome:outcome(), seqaudit_legend:legend()) -> unicode:chardata().
-headline(#{said := fits, streams := Streams} = Outcome, _Legend) ->
-    [fits(Streams), "; ", left_out(missing(Outcome)), $\n];
-headline(#{said := completed, streams := Streams} = Outcome, _Legend) ->
-    [fits(reported(Streams)), " if what follows happened too: ", left_out(missing(Outcome)), $\n];
+headline(#{said := Said, streams := Streams} = Outcome, _Legend) when Said =:= fits; Said =:= completed ->
+    [format("fits: ~ts of ~ts are a run", [count(length(reported(Streams)), "event"),
+                                           count(length(Streams), "process")]),
+     left_out(missing(Outcome)), $\n];
 headline(#{said := never, finding := {Reason, Found}}, Legend) ->
     format("doesn't fit: no run without a reset has it~ts (~ts)~n", [about(Found, Legend), Reason]);
 headline(#{said := open, finding := {_, Found}}, Legend) ->
@@ -31,12 +31,8 @@ headline(#{said := unexplained, finding := {Reason, Found}}, Legend) ->
 headline(#{said := fault, fault := Fault}, _Legend) ->
     format("~ts: ~ts~n", [Fault, fault(Fault)]).
 
-fits(Streams) ->
-    format("fits: ~ts of ~ts are a run",
-           [count(seqaudit_bundle:events(Streams), "event"), count(length(Streams), "process")]).
-
 reported(Streams) ->
-    [{Pid, [Event || #{at := At} = Event <- Events, is_integer(At)]} || {Pid, Events} <- Streams].
+    [Event || {_, Events} <- Streams, #{at := At} = Event <- Events, is_integer(At)].
 
 about([], _Legend) -> "";
 about([{{Pid, At}, _} | _], Legend) -> [", because of ", seqaudit_bundle:name(Pid, At, Legend)].
@@ -58,16 +54,20 @@ unreported(Streams) ->
     [{added, Row} || #{hidden := false, id := {_, {_, _}}} = Row <- seqaudit_causes:rows(Streams)].
 
 left_out(#{events := [], stamps := 0}) ->
-    "nothing was left out";
+    "; nothing was left out";
 left_out(#{events := Events, stamps := Stamps}) ->
-    lists:join(" and ", [count(length(Events), "event") ++ " that nobody reported" || Events =/= []]
-               ++ [count(Stamps, "stamp") ++ " without a trace" || Stamps > 0]).
+    [", with ",
+     lists:join(" and ", [[count(length(Events), "event"), " that nobody reported"] || Events =/= []]
+                ++ [count(Stamps, "silent stamp") || Stamps > 0])].
 
+%% @doc How many of a thing there are, in words.
+-spec count(non_neg_integer(), string()) -> string().
 count(1, Thing) -> "1 " ++ Thing;
 count(N, "process") -> number(N) ++ " processes";
 count(N, Thing) -> number(N) ++ " " ++ Thing ++ "s".
 
-%% With commas between thousands.
+%% @doc A number with commas between thousands.
+-spec number(non_neg_integer()) -> string().
 number(N) when N < 1000 -> integer_to_list(N);
 number(N) -> number(N div 1000) ++ lists:flatten(io_lib:format(",~3..0b", [N rem 1000])).
 
@@ -80,9 +80,12 @@ outcome(Outcome, Notes, Legend) ->
 
 details(#{said := Said} = Outcome, Legend) when Said =:= fits; Said =:= completed ->
     #{events := Events, silent := Silent, before := Before, spawns := Spawns} = missing(Outcome),
-    [[["  ", missing_event(Event, Legend), $\n] || Event <- lists:sublist(Events, ?LISTED)],
-     [["  and ", count(length(Events) - ?LISTED, "event"), " more\n"] || length(Events) > ?LISTED],
-     [["Stamps that no event tells of: ", counted(Silent, Legend),
+    [["What nobody reported:\n" || Events =/= []],
+     [["  ", missing_event(Event, Legend), $\n] || Event <- lists:sublist(Events, ?LISTED)],
+     [["  and ", number(length(Events) - ?LISTED), " more\n"] || length(Events) > ?LISTED],
+     ["Nothing tells what the messages were that aren't known, nor whether others sent them.\n"
+      || lists:any(fun is_invented/1, Events)],
+     [["Silent stamps are counts that no event has: ", counted(Silent, Legend),
        ". They were prints, or sends whose receives weren't reported either.\n"] || Silent =/= []],
      [["Counters go on from trace to trace. Before its first send or print here, that of ",
        listed(Before, " stood at ", Legend), ".\n"] || Before =/= []],
@@ -120,6 +123,9 @@ listed(Counts, Word, Legend) ->
     More = [["of ", number(length(Counts) - ?LISTED), " more elsewhere"] || length(Counts) > ?LISTED],
     lists:join(", ", Texts ++ More).
 
+is_invented({added, #{invented := Invented}}) -> Invented;
+is_invented(_) -> false.
+
 missing_event({added, #{id := {Pid, At}} = Row}, Legend) ->
     [seqaudit_bundle:name(Pid, At, Legend), ": ", sentence(Row, Legend)];
 missing_event({hidden, #{id := {sent_to, {Pid, At}}} = Row}, Legend) ->
@@ -135,7 +141,7 @@ found({{Pid, At}, Event}, Legend) ->
 -spec sentence(seqaudit_bundle:event() | seqaudit_causes:row(), seqaudit_legend:legend()) ->
           unicode:chardata().
 sentence(#{invented := true, event := #{kind := Kind, from := From, to := To} = Event}, Legend) ->
-    [sentence(Kind, process(From, Legend), process(To, Legend), "a message"), serial(Event, Legend)];
+    [sentence(Kind, process(From, Legend), process(To, Legend), "a message that isn't known"), serial(Event, Legend)];
 sentence(#{event := Event}, Legend) ->
     sentence(Event, Legend);
 sentence(#{kind := Kind, from := From, to := To, value := Value} = Event, Legend) ->
@@ -176,10 +182,19 @@ parts(Outcomes, Parts, Legend) ->
 %% @doc Where the resets between the parts stand.
 -spec reset_places([seqaudit_bundle:streams()], seqaudit_legend:legend()) -> unicode:chardata().
 reset_places(Parts, Legend) ->
-    [["A reset explains it, or a second run in the same trace. It stands ",
-      lists:join(", ", [reset_place(Place, Legend) || {_, Last, First} = Place <- Places,
-                                                      Last =/= none, First =/= none]), ".\n"]
-     || Places <- seqaudit_parts:places(Parts)].
+    case seqaudit_parts:places(Parts) of
+        [Places] ->
+            ["A reset explains it, or a second run in the same trace. It stands ",
+             reset_at(Places, Legend), ".\n"];
+        Several ->
+            ["Resets explain it, or several runs in the same trace:\n",
+             [format("  ~b. ~ts~n", [Which, reset_at(Places, Legend)])
+              || {Which, Places} <- lists:enumerate(Several)]]
+    end.
+
+reset_at(Places, Legend) ->
+    lists:join(", ", [reset_place(Place, Legend) || {_, Last, First} = Place <- Places,
+                                                    Last =/= none, First =/= none]).
 
 reset_place({Pid, Last, First}, Legend) ->
     ["after ", seqaudit_bundle:name(Pid, Last, Legend), " and before ",

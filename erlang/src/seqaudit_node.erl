@@ -272,14 +272,14 @@ audited_parts([], _Options, _Legend) ->
     "";
 audited_parts(Parts, #{"--parts" := _}, Legend) ->
     [seqaudit_explain:reset_places([Part || {Part, _} <- Parts], Legend),
-     [[part_title(Which, Parts), seqaudit_explain:outcome(Outcome, [], Legend)]
+     [[part_title(Which, Parts), ": ", seqaudit_explain:outcome(Outcome, [], Legend)]
       || {Which, {_, Outcome}} <- lists:enumerate(Parts)]];
 audited_parts(Parts, _Options, Legend) ->
     {Streams, Outcomes} = lists:unzip(Parts),
     seqaudit_explain:parts(Outcomes, Streams, Legend).
 
 part_title(Which, Parts) ->
-    io_lib:format("part ~b of ~b: ", [Which, length(Parts)]).
+    io_lib:format("part ~b of ~b", [Which, length(Parts)]).
 
 chart(#{"" := [Name], "--label" := [Label | _]} = Options) ->
     with_trace(Name, wish(Options, [processes, from, to]), fun(#{legend := Legend} = Trace) ->
@@ -343,7 +343,8 @@ chart_streams(Number, Which, Streams, Title, #{legend := Legend} = Audited, Opti
             io:put_chars(seqaudit_chart:text(Chart, Legend)),
             draw(Chart, Which, Audited, maps:get("--svg", Options, []));
         {ok, {?UNFIT, <<"no label", _/binary>>}} ->
-            io:put_chars([[Title, "nothing has the label ", seqaudit_legend:label(Number, Legend), $\n]]),
+            io:put_chars([[Title, ": "] || Title =/= ""]),
+            io:put_chars(["nothing has the label ", seqaudit_legend:label(Number, Legend), $\n]),
             ?UNFIT;
         {ok, {Status, _}} when Status =:= ?UNFIT; Status =:= ?INPUT ->
             Status;

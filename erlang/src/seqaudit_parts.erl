@@ -62,9 +62,64 @@ take(Streams) ->
                         [Event || {_, Events} <- Streams, #{kind := send} = Event <- Events]),
     Pids = [Pid || {Pid, _} <- Streams],
     #part{processes = Taken} = run(Pids, #part{processes = Processes, sends = Sends}),
-    Part = [{Pid, lists:reverse((maps:get(Pid, Taken))#process.taken)} || Pid <- Pids],
-    Rest = [{Pid, (maps:get(Pid, Taken))#process.events} || Pid <- Pids],
+    Longest = [{Pid, lists:reverse((maps:get(Pid, Taken))#process.taken)} || Pid <- Pids],
+    Kept = kept(Longest, maps:map(fun(_, #process{events = Events}) -> Events end, Taken)),
+    Split = [{Pid, lists:split(maps:get(Pid, Kept), Events)} || {Pid, Events} <- Longest],
+    Part = [{Pid, Before} || {Pid, {Before, _}} <- Split],
+    Rest = [{Pid, After ++ (maps:get(Pid, Taken))#process.events} || {Pid, {_, After}} <- Split],
     {Part, Rest, seqaudit_bundle:events(Part)}.
+
+%% How many events of each process stay in the part. What a process does next may follow a receive
+%% that was taken last; a reset makes a process forget what it received, so that receive belongs to
+%% the next part, with all behind it, the send of each such receive, and the receive of each such
+%% send.
+kept(Longest, Next) ->
+    Tuples = maps:from_list([{Pid, list_to_tuple(Events)} || {Pid, Events} <- Longest]),
+    Ends = lists:foldl(fun learn_ends/2, #{},
+                       [{Pid, Place, Event} || {Pid, Events} <- Longest,
+                                               {Place, Event} <- lists:enumerate(0, Events)]),
+    Sizes = maps:map(fun(_, Tuple) -> tuple_size(Tuple) end, Tuples),
+    Firsts = [{Pid, caused_from(Size, first_stamp(maps:get(Pid, Next)), maps:get(Pid, Tuples))}
+              || {Pid, Size} <- maps:to_list(Sizes)],
+    give_back(Firsts, Sizes, Tuples, Ends).
+
+learn_ends({Pid, Place, #{kind := 'receive', from := From, this := This}}, Ends) ->
+    Ends#{{received, From, This} => {Pid, Place}};
+learn_ends({Pid, Place, #{this := This}}, Ends) ->
+    Ends#{{stamped, Pid, This} => {Pid, Place}}.
+
+first_stamp([#{kind := Kind} = Event | _]) when Kind =/= 'receive' -> Event;
+first_stamp(_) -> none.
+
+%% The place of the receive that a stamp behind so many events follows, if only receives stand
+%% between; else that many.
+caused_from(Size, none, _Events) -> Size;
+caused_from(Size, Stamp, Events) -> caused_from(Size, Size - 1, Stamp, Events).
+
+caused_from(Size, Place, _Stamp, _Events) when Place < 0 -> Size;
+caused_from(Size, Place, #{prev := Prev} = Stamp, Events) ->
+    case element(Place + 1, Events) of
+        #{kind := 'receive', this := Prev} -> Place;
+        #{kind := 'receive'} -> caused_from(Size, Place - 1, Stamp, Events);
+        _ -> Size
+    end.
+
+give_back([], Kept, _Events, _Ends) ->
+    Kept;
+give_back([{Pid, Place} | Cuts], Kept, Events, Ends) ->
+    case Kept of
+        #{Pid := Size} when Place < Size ->
+            Own = maps:get(Pid, Events),
+            Given = [element(N + 1, Own) || N <- lists:seq(Place, Size - 1)],
+            More = [Cut || Event <- Given, {ok, Cut} <- [maps:find(other_end(Event), Ends)]],
+            Before = {Pid, caused_from(Place, first_stamp(Given), Own)},
+            give_back([Before | More ++ Cuts], Kept#{Pid := Place}, Events, Ends);
+        #{} ->
+            give_back(Cuts, Kept, Events, Ends)
+    end.
+
+other_end(#{kind := 'receive', from := From, this := This}) -> {stamped, From, This};
+other_end(#{from := From, this := This}) -> {received, From, This}.
 
 count(Key, By, Counts) ->
     maps:update_with(Key, fun(Count) -> Count + By end, By, Counts).
@@ -83,7 +138,7 @@ run([Pid | Pids], #part{processes = Processes} = Part) ->
         [Event | Rest] ->
             case next(Event, Process, Part) of
                 taken -> go_on(Pid, Event, Rest, Process, Pids, Part);
-                ends -> run(Pids, Part#part{processes = Processes#{Pid := give_back(Event, Process, Part)}});
+                ends -> run(Pids, Part);
                 waits -> run(Pids, Part#part{waiting = wait(message(Event), Pid, Part#part.waiting)})
             end
     end.
@@ -136,24 +191,3 @@ sent(#{kind := send} = Event, #part{waiting = Waiting, sends = Sends}) ->
 sent(_Print, #part{waiting = Waiting, sends = Sends}) ->
     {[], Waiting, Sends}.
 
-%% The event that begins the next part may follow receives whose sends nobody reported; they belong
-%% to it then, and not to the part that they were taken into.
-give_back(#{kind := 'receive'}, Process, _Part) ->
-    Process;
-give_back(#{prev := Prev}, #process{events = Events, taken = Taken} = Process, Part) ->
-    {Receives, Before} = lists:splitwith(fun(Event) -> is_unsent(Event, Part) end, Taken),
-    case lists:splitwith(fun(#{this := This}) -> This =/= Prev end, Receives) of
-        {_, []} ->
-            Process;
-        {Later, [Cause | Earlier]} ->
-            Process#process{events = [Cause | lists:reverse(Later)] ++ Events,
-                            taken = Earlier ++ Before}
-    end.
-
-is_unsent(#{kind := 'receive', from := From, this := This}, #part{processes = Processes}) ->
-    case Processes of
-        #{From := #process{stamps = #{This := _}}} -> false;
-        #{} -> true
-    end;
-is_unsent(_Stamp, _Part) ->
-    false.

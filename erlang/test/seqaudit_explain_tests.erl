@@ -52,9 +52,9 @@ fits_test() ->
            "{seq_trace,17,{'receive',{0,3},<0.30.0>,<0.31.0>,6}}\n"
            "{seq_trace,17,{send,{63,64},<0.31.0>,<0.30.0>,7}}\n",
     has(said((outcome(fits, streams(Gaps)))#{renumbered := true}),
-        ["fits: 4 events of 2 processes are a run; 1 event that nobody reported and 2 stamps without a trace",
+        ["fits: 4 events of 2 processes are a run, with 1 event that nobody reported and 2 silent stamps",
          "  alice sends {ok,six} to bob & <co>, serial {0,3}, label 17, which is received as bob & <co>#0\n",
-         "Stamps that no event tells of: 2 in alice",
+         "counts that no event has: 2 in alice",
          "Before its first send or print here, that of alice stood at 4,999.\n",
          "It did so bob & <co> once.\n", "serials stand here as the node had them"]).
 
@@ -74,10 +74,10 @@ completed_test() ->
     Completed = seqaudit_bundle:complete(Streams, {Added, [{<<"<0.30.0>">>, 1}, {<<"<0.31.0>">>, 1},
                                                            {<<"<0.31.0>">>, 3}]}),
     has(said(outcome(completed, Completed)),
-        ["fits: 3 events of 2 processes are a run if what follows happened too: 3 events that nobody reported",
-         "  alice#1~1: alice sends a message to bob & <co>, serial {0,2}, label 17\n",
+        ["fits: 3 events of 2 processes are a run, with 3 events that nobody reported",
+         "  alice#1~1: alice sends a message that isn't known to bob & <co>, serial {0,2}, label 17\n",
          "  bob & <co>#1~1: bob & <co> receives start from alice, serial {0,1}, label 17\n",
-         "  bob & <co>#2~1: bob & <co> receives a message from alice"]),
+         "  bob & <co>#2~1: bob & <co> receives a message that isn't known from alice"]),
     [{ok, {<<"<0.31.0>">>, {2, 1}}}, {ok, {<<"<0.30.0>">>, 0}}] =
         [seqaudit_bundle:find(Name, Completed, legend()) || Name <- ["bob & <co>#2~1", "<0.30.0>#0"]],
     [{error, {no_event_name, "alice"}}, {error, {no_process, <<"carol">>, _}}, {error, {no_event, "alice#9", [0]}}] =
