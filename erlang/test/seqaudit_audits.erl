@@ -2,7 +2,7 @@
 %% the program where it is built and has the command; then both must write the same.
 -module(seqaudit_audits).
 
--export([file/1, fits/1, audit/1, has/1, has/2, tools/0, model/0]).
+-export([file/1, fits/1, audit/1, answer/2, has/1, has/2, tools/0, model/0]).
 
 %% A name for files of a test, in a folder that git ignores.
 file(Name) ->
