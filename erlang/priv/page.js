@@ -66,10 +66,10 @@
   // Which rows and lanes are shown, and where.
 
   function layOut() {
-    const columns = order.filter(lane => !hiddenLanes.has(lane));
+    const inChain = row => !chainOnly || chosen < 0 || row === chosen || causes.has(row) || effects.has(row);
+    const columns = order.filter(lane => !hiddenLanes.has(lane) && (!chainOnly || chosen < 0 || chainLanes().has(lane)));
     column.fill(-1);
     columns.forEach((lane, at) => { column[lane] = at; });
-    const inChain = row => !chainOnly || chosen < 0 || row === chosen || causes.has(row) || effects.has(row);
     const kept = [];
     place.fill(-1);
     for (let row = 0; row < count; row++)
@@ -85,6 +85,16 @@
       + " events, " + columns.length.toLocaleString("en") + " of " + lanes.length.toLocaleString("en") + " processes";
     find(byId("search").value, false);
     redraw();
+  }
+
+  // The lanes on which the chain of the chosen event has rows.
+  let chainOf = -1, lanesOfChain = new Set();
+  function chainLanes() {
+    if (chainOf !== chosen) {
+      chainOf = chosen;
+      lanesOfChain = new Set([chosen, ...causes, ...effects].map(row => rows.lane[row]));
+    }
+    return lanesOfChain;
   }
 
   function layOutSpace(columns) {
@@ -378,6 +388,7 @@
           if (!effects.has(after) && after !== row) { effects.add(after); open.push(after); }
     }
     byId("chain").disabled = row < 0;
+    chainOf = -1;
     if (chainOnly) layOut();
     if (row >= 0) reveal(row);
     showPanel();
@@ -502,10 +513,24 @@
     layOut();
   }
 
+  // Lanes in the order of their first events that are shown, so that arrows go mostly to the right.
+  function orderByFirst() {
+    const first = new Map();
+    for (const row of shown) for (const lane of [rows.lane[row], rows.other[row]])
+      if (lane >= 0 && !first.has(lane)) first.set(lane, first.size);
+    const rank = lane => first.has(lane) ? first.get(lane) : lanes.length + lane;
+    order = [...order].sort((a, b) => rank(a) - rank(b));
+    layOut();
+  }
+
   drawer("labels", section => boxes(section, "Labels", () => [...labels.keys()], label => visible(labels[label]), hiddenLabels, () => []));
-  drawer("lanes", section => boxes(section, "Lanes", () => order, laneName, hiddenLanes, (lane, fill) => [
-    element("button", { type: "button", "aria-label": "Move " + laneName(lane) + " left", onclick: () => { move(lane, -1); fill(); } }, "\u2190"),
-    element("button", { type: "button", "aria-label": "Move " + laneName(lane) + " right", onclick: () => { move(lane, 1); fill(); } }, "\u2192")]));
+  drawer("lanes", function fillLanes(section) {
+    boxes(section, "Lanes", () => order, laneName, hiddenLanes, (lane, fill) => [
+      element("button", { type: "button", "aria-label": "Move " + laneName(lane) + " left", onclick: () => { move(lane, -1); fill(); } }, "\u2190"),
+      element("button", { type: "button", "aria-label": "Move " + laneName(lane) + " right", onclick: () => { move(lane, 1); fill(); } }, "\u2192")]);
+    section.querySelector("ul").before(element("button", { type: "button", id: "by-first",
+      onclick: () => { orderByFirst(); fillLanes(section); } }, "Order by first event"));
+  });
   drawer("help", section => section.replaceChildren(
     element("h2", {}, "Key"),
     element("ul", {}, ...[

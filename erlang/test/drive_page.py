@@ -171,6 +171,7 @@ def chain(browser, checks):
     checks.same("an unreported cause", browser.texts("#list .row.cause .event"), ["the send of carol#2"])
     browser.click("#chain")
     checks.same("its chain alone", browser.texts("#list .event"), ["the send of carol#2", "carol#2"])
+    checks.same("the lanes of the chain", browser.texts("#names .name"), ["alice", "carol"])
     browser.click("#chain")
     browser.key("Escape")
     # A label is a filter, a search goes from match to match.
@@ -197,6 +198,9 @@ def chain(browser, checks):
     browser.click("#lanes [data-one='1']")
     browser.click("#lanes [aria-label='Move carol left']")
     checks.same("moved", browser.texts("#names .name"), ["alice", "carol", "bob"])
+    browser.click("#by-first")
+    checks.same("in the order of their events", browser.texts("#names .name"), ["alice", "bob", "carol"])
+    browser.click("#lanes [aria-label='Move carol left']")
     browser.click("#lanes-button")
     browser.ask("document.querySelector('#names [data-lane=\"0\"]').focus()")
     browser.key("Delete")
@@ -247,9 +251,7 @@ def large(browser, checks):
       }
       return frames;
     })()""")
-    frames.sort()
-    print(f"frames: median {frames[60]:.1f} ms, longest {frames[-1]:.1f} ms")
-    checks.true(f"frames within 100 ms: {frames[-5:]}", frames[-4] < 100)
+    within(checks, "frames", frames)
     checks.true("few elements", browser.ask("document.querySelectorAll('*').length") < 1000)
     # Choosing the last event, from which a long chain goes back.
     begin = time.monotonic()
@@ -276,9 +278,14 @@ def large(browser, checks):
       }
       return frames;
     })()""")
+    within(checks, "frames zoomed out", frames)
+
+
+def within(checks, what, frames):
+    """Nine of ten frames, as a machine that does other things too may keep the browser waiting."""
     frames.sort()
-    print(f"zoomed out: median {frames[15]:.1f} ms, longest {frames[-1]:.1f} ms")
-    checks.true(f"zoomed out frames within 100 ms: {frames[-5:]}", frames[-4] < 100)
+    print(f"{what}: median {frames[len(frames) // 2]:.1f} ms, longest {frames[-1]:.1f} ms")
+    checks.true(f"{what} within 100 ms: {frames[-5:]}", frames[len(frames) * 9 // 10] < 100)
 
 
 def reset(browser, checks):

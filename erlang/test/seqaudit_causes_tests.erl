@@ -18,7 +18,7 @@ as_the_charts_test_() ->
                 Captures = filelib:wildcard(filename:join([filename:dirname(code:which(?MODULE)), "..", "captures", "*.txt"])),
                 true = Captures =/= [],
                 [as_the_charts(captured(Capture)) || Capture <- Captures],
-                [as_the_charts(streams(text(run([all, some])))) || _ <- lists:seq(1, 40)];
+                [as_the_charts(streams(text(run([all, some])))) || _ <- lists:seq(1, 20)];
             false ->
                 skipped
         end
@@ -94,7 +94,7 @@ resets_test() ->
              end || _ <- lists:seq(1, 300)],
     %% Where the clocks of the first run stayed low, the second may go on from it as well.
     Exact = length([exact || exact <- Found]),
-    {true, _} = {Exact >= 240, Exact}.
+    {true, _} = {Exact >= 290, Exact}.
 
 right([Before, _After], Sizes) ->
     case [Pid || {Pid, Events} <- Before, length(Events) =/= maps:get(Pid, Sizes)] of
