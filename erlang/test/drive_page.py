@@ -259,12 +259,14 @@ def large(browser, checks):
     browser.key("End")
     print(f"the last event chosen in {1000 * (time.monotonic() - begin):.0f} ms")
     checks.same("the last row", browser.ask("document.querySelector('#list .chosen').ariaRowIndex"), "100000")
+    panel = browser.ask("document.querySelector('#panel').textContent")
+    checks.true(f"a chain of 20,000 events: {panel[-300:]}", "Causes: 19999, effects: 0" in panel)
     begin = time.monotonic()
     browser.click("#search")
-    browser.call("Input.insertText", text="message 77")
+    browser.call("Input.insertText", text="MESSAGE,77")
     browser.frame()
     print(f"searched in {1000 * (time.monotonic() - begin):.0f} ms")
-    checks.true("found", "found" in browser.texts("#found")[0])
+    checks.same("found", browser.texts("#found"), ["1,100 found"])
     for _ in range(12):
         browser.click("#smaller")
     frames = browser.ask("""(async () => {

@@ -88,7 +88,6 @@ pictures_test_() ->
          || {Lanes, Rows} <- [{3, 60}, {10, 300}, {50, 2_000}, {1_000, 20_000}]]
     end}.
 
-%% Tokens that go from process to process, each on a way of its own.
 large(Lanes, Rows) ->
     Sends = lists:seq(0, Rows div 2 - 1),
     Events = lists:append([hop(N, Lanes) || N <- Sends]),
@@ -102,12 +101,16 @@ large(Lanes, Rows) ->
 
 pid(K) -> lists:flatten(io_lib:format("<0.~b.0>", [100 + K])).
 
+%% Five tokens take turns; each goes on from where it is.
 hop(N, Lanes) ->
-    From = (N * 7) rem Lanes,
-    To = (From + 1 + (N * 31) rem (Lanes - 1)) rem Lanes,
-    Serial = io_lib:format("{~b,~b}", [max(0, 2 * N - 1 - N rem 2), 2 * N + 1]),
-    [{Actor, io_lib:format("{seq_trace,~b,{~ts,~ts,~ts,~ts,~b}}~n",
-                           [N rem 5, Kind, Serial, pid(From), pid(To), N rem 1000])}
+    {Token, Hop} = {N rem 5, N div 5},
+    [From, To] = [(Token * 11 + Hops * (2 + Token)) rem Lanes || Hops <- [Hop, Hop + 1]],
+    Prev = case Hop of
+               0 -> 0;
+               _ -> 2 * (N - 5) + 1
+           end,
+    [{Actor, io_lib:format("{seq_trace,~b,{~ts,{~b,~b},~ts,~ts,~b}}~n",
+                           [Token, Kind, Prev, 2 * N + 1, pid(From), pid(To), N rem 1000])}
      || {Actor, Kind} <- [{From, "send"}, {To, "'receive'"}]].
 
 %% Parts between resets stand one below the other.
