@@ -42,19 +42,26 @@ run([]) ->
 
 %% Each command with its options that have a value, and those that have none.
 commands() ->
-    [{"collect", ["--node", "--cookie", "--seconds", "--limit", "-o"], ["--reset"], fun collect/1},
+    [{"collect", ["--node", "--cookie", "--cookie-file", "--seconds", "--bytes", "--limit", "--folder",
+                  "--trigger", "--label", "-o"], ["--reset", "--times"], fun collect/1},
      {"convert", ["-o"], [], fun convert/1},
      {"audit", [], ["--whole"], fun audit/1},
      {"chart", ["--label", "--svg"], [], fun chart/1}].
 
 help() ->
     "usage: seqaudit-node COMMAND\n"
-    "  collect --node N@H .. --seconds S -o NAME [--cookie C] [--limit EVENTS] [--reset]\n"
-    "      traces the nodes for so long and writes NAME.events and what convert writes;\n"
-    "      --reset takes all tokens off first, so that clocks begin at 0\n"
+    "  collect --node N@H .. -o NAME [--seconds S] [--trigger M:F/A --label TERM [--times]]\n"
+    "          [--bytes BYTES] [--limit EVENTS] [--folder FOLDER] [--reset]\n"
+    "          [--cookie-file FILE | --cookie C]\n"
+    "      traces the nodes for so long, or until Ctrl-C, and writes NAME.events and what convert\n"
+    "      writes; --trigger sets a token with this label wherever the function is called, --times\n"
+    "      with timestamps; --bytes is the total size of each node's files, which stand in --folder\n"
+    "      there; --reset takes all tokens off first, so that clocks begin at 0. The cookie may\n"
+    "      stand in the variable SEQAUDIT_COOKIE too; on the command line others can see it\n"
     "  convert FILE .. -o NAME\n"
-    "      makes NAME.seqtrace, NAME.terms and NAME.notes of files of events: NAME.events,\n"
-    "      term_to_binary of a list, a trace file of dbg or ttb, or text\n"
+    "      makes NAME.seqtrace, NAME.terms, NAME.notes, and NAME.times if there are timestamps, of\n"
+    "      files of events: NAME.events, a collector's folder, term_to_binary of a list, a trace\n"
+    "      file of dbg or ttb, or text\n"
     "  audit NAME [--whole]\n"
     "      has seqaudit audit NAME.seqtrace, keeps its answer in NAME.answer and explains it\n"
     "  chart NAME --label TERM [--svg FILE]\n"
@@ -90,52 +97,142 @@ options([Word | Words], Valued, Flags, Options) ->
 add(Option, Value, Options) ->
     maps:update_with(Option, fun(Values) -> [Value | Values] end, [Value], Options).
 
-collect(#{"--node" := Nodes, "--seconds" := [Seconds], "-o" := [Name]} = Options)
-  when not is_map_key("", Options) ->
-    Limits = maps:get("--limit", Options, ["1000000"]),
-    case {string:to_integer(Seconds), string:to_integer(hd(Limits))} of
-        {{S, ""}, {Limit, ""}} when S > 0, Limit >= 0 ->
-            Start = #{nodes => [list_to_atom(Node) || Node <- Nodes], name => Name,
-                      limit => Limit, reset => is_map_key("--reset", Options)},
-            collect(connect(hd(Nodes), Options), Start, S);
-        _ ->
-            usage("--seconds and --limit take whole numbers", [])
+collect(#{"--node" := Nodes, "-o" := [Name]} = Options) when not is_map_key("", Options) ->
+    case collect_options(lists:reverse(Nodes), Options) of
+        {ok, Wait, Start} -> collect(connect(hd(Nodes), Options), Start#{name => Name}, Wait);
+        {error, Text} -> usage("~ts", [Text])
     end;
 collect(_) ->
-    usage("collect needs --node, --seconds and -o", []).
+    usage("collect needs --node and -o", []).
 
-collect({error, Reason}, _Start, _Seconds) ->
+%% How long to collect, and what seqaudit_trace:start/1 takes.
+collect_options(Nodes, Options) ->
+    try
+        Wait = case whole("--seconds", 1, Options) of
+                   none -> infinity;
+                   Seconds -> 1000 * Seconds
+               end,
+        Given = [{nodes, [node_name(Node) || Node <- Nodes]},
+                 {reset, is_map_key("--reset", Options)},
+                 {trigger, trigger(Options)}]
+            ++ [{limit, Limit} || Limit <- [whole("--limit", 0, Options)], Limit =/= none]
+            ++ [{bytes, Bytes} || Bytes <- [whole("--bytes", 1, Options)], Bytes =/= none]
+            ++ [{folder, Folder} || #{"--folder" := [Folder | _]} <- [Options]],
+        {ok, Wait, maps:from_list(Given)}
+    catch
+        throw:Text -> {error, Text}
+    end.
+
+whole(Option, Least, Options) ->
+    case Options of
+        #{Option := [Word | _]} ->
+            case string:to_integer(Word) of
+                {Number, ""} when is_integer(Number), Number >= Least -> Number;
+                _ -> throw("--seconds and --limit take whole numbers, and so does --bytes: "
+                           ++ Option ++ " can't be " ++ Word)
+            end;
+        #{} -> none
+    end.
+
+%% The words of the command line may become atoms: there are few of them, and they are the user's own.
+node_name(Word) ->
+    case {string:split(Word, "@", all), length(Word) =< 255} of
+        {[[_ | _], [_ | _]], true} -> list_to_atom(Word);
+        _ -> throw(Word ++ " is no name of a node; it is written name@host")
+    end.
+
+trigger(#{"--trigger" := [Function | _], "--label" := [Label | _]} = Options) ->
+    #{function => function(Function), label => label(Label), times => is_map_key("--times", Options)};
+trigger(Options) when is_map_key("--trigger", Options); is_map_key("--label", Options) ->
+    throw("--trigger and --label go together");
+trigger(#{"--times" := _}) ->
+    throw("--times goes with --trigger; a token that a program sets has a flag for it");
+trigger(_) ->
+    none.
+
+function(Word) ->
+    case re:run(Word, "^([^:]+):([^:]+)/([0-9]{1,3})$", [unicode, {capture, all_but_first, list}]) of
+        {match, [Module, Function, Arity]} ->
+            {list_to_atom(Module), list_to_atom(Function), list_to_integer(Arity)};
+        nomatch -> throw(Word ++ " is no function; it is written module:function/2")
+    end.
+
+label(Word) ->
+    case erl_scan:string(Word ++ ".") of
+        {ok, Tokens, _} ->
+            case erl_parse:parse_term(Tokens) of
+                {ok, Label} -> Label;
+                {error, _} -> throw(Word ++ " is no Erlang term")
+            end;
+        {error, _, _} -> throw(Word ++ " is no Erlang term")
+    end.
+
+collect({error, {cookie, Reason}}, _Start, _Wait) ->
+    failed(?SYSTEM, ["the cookie can't be had: ", Reason]);
+collect({error, Reason}, _Start, _Wait) ->
     failed(?SYSTEM, io_lib:format("this Erlang can't take part in distribution; it needs a home "
                                   "folder for its cookie, and epmd: ~0tp", [Reason]));
-collect(ok, #{nodes := Nodes} = Start, Seconds) ->
+collect(ok, #{nodes := Nodes} = Start, Wait) ->
     case seqaudit_trace:start(Start) of
         ok ->
-            io:format("tracing ~ts for ~b s; set tokens there, as with~n"
-                      "  seqaudit_trace:with_trace(17, fun() -> .. end).~n",
-                      [lists:join(", ", [atom_to_list(Node) || Node <- Nodes]), Seconds]),
-            timer:sleep(1000 * Seconds),
+            io:format("tracing ~ts ~ts~ts",
+                      [lists:join(", ", [atom_to_list(Node) || Node <- Nodes]), how_long(Wait),
+                       advice(Start)]),
+            [io:format("  events of ~ts go to ~ts there~n", [Node, Folder])
+             || {Node, Folder} <- seqaudit_trace:folders()],
+            _ = seqaudit_signals:wait(Wait),
             written(seqaudit_trace:stop(), fun seqaudit_trace:format_error/1);
         {error, Reason} ->
             failed(?SYSTEM, seqaudit_trace:format_error(Reason))
     end.
 
+how_long(infinity) -> "until Ctrl-C";
+how_long(Milliseconds) -> io_lib:format("for ~b s", [Milliseconds div 1000]).
+
+advice(#{trigger := #{function := {Module, Function, Arity}}}) ->
+    io_lib:format("; calls of ~ts:~ts/~b set the token~n", [Module, Function, Arity]);
+advice(_) ->
+    "; set tokens there, as with\n  seqaudit_trace:with_trace(17, fun() -> .. end).\n".
+
 %% Makes this a hidden node that listens to nobody, in the name domain of the node.
 connect(Node, Options) ->
+    case cookie(Options) of
+        {error, Reason} -> {error, {cookie, Reason}};
+        Cookie -> connect_with(Node, Cookie)
+    end.
+
+connect_with(Node, Cookie) ->
     [_ | Host] = string:split(Node, "@"),
     Domain = case lists:member($., lists:append(Host)) of
                  true -> longnames;
                  false -> shortnames
              end,
     Own = list_to_atom("seqaudit_" ++ os:getpid()),
-    case is_alive() orelse net_kernel:start(Own, #{name_domain => Domain, dist_listen => false}) of
+    case is_alive() orelse net_kernel:start(Own, #{name_domain => Domain, dist_listen => false,
+                                                   hidden => true}) of
         {error, Reason} ->
             {error, Reason};
         _ ->
-            lists:foreach(fun(Cookie) ->
-                                  erlang:set_cookie(list_to_atom(Cookie))
-                          end, maps:get("--cookie", Options, [])),
+            Cookie =:= none orelse erlang:set_cookie(list_to_atom(Cookie)),
             ok
     end.
+
+%% Words of a command line are seen by all users of the machine; a file and a variable aren't.
+cookie(#{"--cookie" := [Cookie | _]}) ->
+    checked(Cookie);
+cookie(#{"--cookie-file" := [File | _]}) ->
+    case file:read_file(File) of
+        {ok, Text} -> checked(string:trim(unicode:characters_to_list(Text)));
+        {error, Reason} -> {error, [File, ": ", file:format_error(Reason)]}
+    end;
+cookie(_) ->
+    case os:getenv("SEQAUDIT_COOKIE") of
+        false -> none;
+        Cookie -> checked(Cookie)
+    end.
+
+checked([_ | _] = Cookie) when length(Cookie) =< 255 -> Cookie;
+checked(_) -> {error, "it is empty, or longer than 255 characters"}.
 
 written({ok, #{events := Events, processes := Processes, notes := Notes, files := Files}}, _) ->
     io:format("~b events of ~b processes: ~ts~n", [Events, Processes, lists:join(" ", Files)]),
@@ -145,9 +242,9 @@ written({error, Reason}, FormatError) ->
     failed(?SYSTEM, FormatError(Reason)).
 
 convert(#{"" := Files, "-o" := [Name]}) ->
-    case read_all(lists:reverse(Files), []) of
-        {ok, Collections} ->
-            written(seqaudit_convert:files(Collections, Name), fun seqaudit_convert:format_error/1);
+    case seqaudit_convert:from_files(lists:reverse(Files), Name) of
+        {ok, Summary} ->
+            written({ok, Summary}, fun seqaudit_convert:format_error/1);
         {error, {file, _, _} = Reason} ->
             failed(?SYSTEM, seqaudit_events:format_error(Reason));
         {error, Reason} ->
@@ -155,14 +252,6 @@ convert(#{"" := Files, "-o" := [Name]}) ->
     end;
 convert(_) ->
     usage("convert needs a file of events and -o", []).
-
-read_all([], Collections) ->
-    {ok, Collections};
-read_all([File | Files], Collections) ->
-    case seqaudit_events:read(File) of
-        {ok, More} -> read_all(Files, Collections ++ More);
-        {error, Reason} -> {error, Reason}
-    end.
 
 audit(#{"" := [Name]} = Options) ->
     with_legend(Name, fun(Legend) ->

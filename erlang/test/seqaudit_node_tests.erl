@@ -11,7 +11,7 @@ usage_test_() ->
         {0, Help} = command("audit --help"),
         [{3, _} = command(Words)
          || Words <- ["", "frobnicate", "audit", "audit a b", "audit a --label", "chart a",
-                      "convert x", "collect --node a@h -o x", "convert -o"]],
+                      "convert x", "collect --node a@h", "collect -o x", "convert -o"]],
         {3, Text} = command("collect --node a@h --seconds ten -o x"),
         {_, _} = binary:match(Text, <<"--seconds and --limit take whole numbers">>)
     end}.
