@@ -34,7 +34,7 @@
   const whole = row => rows.term[row] < 0 ? "(an unknown message)" : visible(terms[rows.term[row]].at(-1));
   const brief = row => rows.term[row] < 0 ? "(an unknown message)" : visible(terms[rows.term[row]][0]);
   const isPlain = row => rows.plain[row] === "1";
-  const seconds = micros => (micros / 1e6).toFixed(6) + " s";
+  const seconds = nanos => (nanos / 1e9).toFixed(6) + " s";
 
   // The effects of each row: row r's are listed from offset[r] to offset[r + 1].
   const offset = new Int32Array(count + 1), listed = new Int32Array(count);

@@ -5,14 +5,17 @@
 -module(seqaudit_cut).
 
 -export([cut/4, format_error/1]).
--export_type([wish/0]).
+-export_type([wish/0, times/0]).
 
 -type wish() :: #{labels => [string()], processes => [string()], from => string(), to => string()}.
 %% Labels and processes as `seqaudit-node' prints them, and seconds after the first event.
 
+-type times() :: #{seqaudit_bundle:place() => integer()}.
+%% Nanoseconds since the first event.
+
 %% @doc The streams that are left, with a note of what was cut and what that leaves open; the note is
 %% empty where nothing was asked for.
--spec cut(seqaudit_bundle:streams(), wish(), seqaudit_legend:legend(), seqaudit_times:times()) ->
+-spec cut(seqaudit_bundle:streams(), wish(), seqaudit_legend:legend(), times()) ->
           {ok, seqaudit_bundle:streams(), unicode:chardata()} | {error, term()}.
 cut(Streams, Wish, _Legend, _Times) when map_size(Wish) =:= 0 ->
     {ok, Streams, ""};
@@ -64,7 +67,7 @@ want(to, Word, _Streams, _Legend, Times) ->
 
 %% An event without a time is left out.
 at_time(Word, Compare, Times) ->
-    case microseconds(Word) of
+    case nanoseconds(Word) of
         none ->
             {error, {no_seconds, Word}};
         Limit ->
@@ -76,10 +79,10 @@ at_time(Word, Compare, Times) ->
                  end}
     end.
 
-microseconds(Word) ->
+nanoseconds(Word) ->
     case {string:to_float(Word), string:to_integer(Word)} of
-        {{Seconds, ""}, _} when is_float(Seconds) -> round(Seconds * 1_000_000);
-        {_, {Seconds, ""}} when is_integer(Seconds) -> Seconds * 1_000_000;
+        {{Seconds, ""}, _} when is_float(Seconds) -> round(Seconds * 1_000_000_000);
+        {_, {Seconds, ""}} when is_integer(Seconds) -> Seconds * 1_000_000_000;
         _ -> none
     end.
 

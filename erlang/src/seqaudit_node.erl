@@ -45,20 +45,37 @@ run([]) ->
 
 %% Each command with its options that have a value, and those that have none.
 commands() ->
-    [{"collect", ["--node", "--cookie", "--seconds", "--limit", "-o"], ["--reset"], fun collect/1},
+    [{"collect", ["--node", "--cookie", "--cookie-file", "--seconds", "--bytes", "--limit", "--folder",
+                  "--trigger", "--label", "-o"], ["--reset", "--times"], fun collect/1},
      {"convert", ["-o"], [], fun convert/1},
-     {"audit", ?CUTS, ["--whole", "--parts"], fun audit/1},
-     {"chart", ["--svg", "--html" | ?CUTS], ["--parts"], fun chart/1},
-     {"why", ["--event" | ?CUTS], ["--effects"], fun why/1}].
+     {"audit", ?CUTS, ["--whole", "--parts"], fun(Options) -> answer(fun seqaudit_answer:audit/1, Options) end},
+     {"chart", ["--svg", "--html" | ?CUTS], ["--parts"],
+      fun(Options) -> answer(fun seqaudit_answer:chart/1, Options) end},
+     {"why", ["--event" | ?CUTS], ["--effects"],
+      fun(Options) -> answer(fun seqaudit_answer:why/1, Options) end}].
+
+%% The commands on a trace that was collected stand in a module of their own.
+answer(Command, Options) ->
+    case Command(Options) of
+        {usage, Text} -> usage(Text, []);
+        {Status, Complaint} -> failed(Status, Complaint);
+        Status -> Status
+    end.
 
 help() ->
     "usage: seqaudit-node COMMAND\n"
-    "  collect --node N@H .. --seconds S -o NAME [--cookie C] [--limit EVENTS] [--reset]\n"
-    "      traces the nodes for so long and writes NAME.events and what convert writes;\n"
-    "      --reset takes all tokens off first, so that clocks begin at 0\n"
+    "  collect --node N@H .. -o NAME [--seconds S] [--trigger M:F/A --label TERM [--times]]\n"
+    "          [--bytes BYTES] [--limit EVENTS] [--folder FOLDER] [--reset]\n"
+    "          [--cookie-file FILE | --cookie C]\n"
+    "      traces the nodes for so long, or until Ctrl-C, and writes NAME.events and what convert\n"
+    "      writes; --trigger sets a token with this label wherever the function is called, --times\n"
+    "      with timestamps; --bytes is the total size of each node's files, which stand in --folder\n"
+    "      there; --reset takes all tokens off first, so that clocks begin at 0. The cookie may\n"
+    "      stand in the variable SEQAUDIT_COOKIE too; on the command line others can see it\n"
     "  convert FILE .. -o NAME\n"
-    "      makes NAME.seqtrace, NAME.terms and NAME.notes of files of events: NAME.events,\n"
-    "      term_to_binary of a list, a trace file of dbg or ttb, or text\n"
+    "      makes NAME.seqtrace, NAME.terms, NAME.notes, and NAME.times if there are timestamps, of\n"
+    "      files of events: NAME.events, a collector's folder, term_to_binary of a list, a trace\n"
+    "      file of dbg or ttb, or text\n"
     "  audit NAME [--whole] [--parts]\n"
     "      says whether a run has NAME.seqtrace and what it lacks, and keeps what shows it in\n"
     "      NAME.answer; --whole prints the events and acts, --parts all of each part between resets\n"
@@ -100,52 +117,142 @@ options([Word | Words], Valued, Flags, Options) ->
 add(Option, Value, Options) ->
     maps:update_with(Option, fun(Values) -> [Value | Values] end, [Value], Options).
 
-collect(#{"--node" := Nodes, "--seconds" := [Seconds], "-o" := [Name]} = Options)
-  when not is_map_key("", Options) ->
-    Limits = maps:get("--limit", Options, ["1000000"]),
-    case {string:to_integer(Seconds), string:to_integer(hd(Limits))} of
-        {{S, ""}, {Limit, ""}} when S > 0, Limit >= 0 ->
-            Start = #{nodes => [list_to_atom(Node) || Node <- Nodes], name => Name,
-                      limit => Limit, reset => is_map_key("--reset", Options)},
-            collect(connect(hd(Nodes), Options), Start, S);
-        _ ->
-            usage("--seconds and --limit take whole numbers", [])
+collect(#{"--node" := Nodes, "-o" := [Name]} = Options) when not is_map_key("", Options) ->
+    case collect_options(lists:reverse(Nodes), Options) of
+        {ok, Wait, Start} -> collect(connect(hd(Nodes), Options), Start#{name => Name}, Wait);
+        {error, Text} -> usage("~ts", [Text])
     end;
 collect(_) ->
-    usage("collect needs --node, --seconds and -o", []).
+    usage("collect needs --node and -o", []).
 
-collect({error, Reason}, _Start, _Seconds) ->
+%% How long to collect, and what seqaudit_trace:start/1 takes.
+collect_options(Nodes, Options) ->
+    try
+        Wait = case whole("--seconds", 1, Options) of
+                   none -> infinity;
+                   Seconds -> 1000 * Seconds
+               end,
+        Given = [{nodes, [node_name(Node) || Node <- Nodes]},
+                 {reset, is_map_key("--reset", Options)},
+                 {trigger, trigger(Options)}]
+            ++ [{limit, Limit} || Limit <- [whole("--limit", 0, Options)], Limit =/= none]
+            ++ [{bytes, Bytes} || Bytes <- [whole("--bytes", 1, Options)], Bytes =/= none]
+            ++ [{folder, Folder} || #{"--folder" := [Folder | _]} <- [Options]],
+        {ok, Wait, maps:from_list(Given)}
+    catch
+        throw:Text -> {error, Text}
+    end.
+
+whole(Option, Least, Options) ->
+    case Options of
+        #{Option := [Word | _]} ->
+            case string:to_integer(Word) of
+                {Number, ""} when is_integer(Number), Number >= Least -> Number;
+                _ -> throw("--seconds and --limit take whole numbers, and so does --bytes: "
+                           ++ Option ++ " can't be " ++ Word)
+            end;
+        #{} -> none
+    end.
+
+%% The words of the command line may become atoms: there are few of them, and they are the user's own.
+node_name(Word) ->
+    case {string:split(Word, "@", all), length(Word) =< 255} of
+        {[[_ | _], [_ | _]], true} -> list_to_atom(Word);
+        _ -> throw(Word ++ " is no name of a node; it is written name@host")
+    end.
+
+trigger(#{"--trigger" := [Function | _], "--label" := [Label | _]} = Options) ->
+    #{function => function(Function), label => label(Label), times => is_map_key("--times", Options)};
+trigger(Options) when is_map_key("--trigger", Options); is_map_key("--label", Options) ->
+    throw("--trigger and --label go together");
+trigger(#{"--times" := _}) ->
+    throw("--times goes with --trigger; a token that a program sets has a flag for it");
+trigger(_) ->
+    none.
+
+function(Word) ->
+    case re:run(Word, "^([^:]+):([^:]+)/([0-9]{1,3})$", [unicode, {capture, all_but_first, list}]) of
+        {match, [Module, Function, Arity]} ->
+            {list_to_atom(Module), list_to_atom(Function), list_to_integer(Arity)};
+        nomatch -> throw(Word ++ " is no function; it is written module:function/2")
+    end.
+
+label(Word) ->
+    case erl_scan:string(Word ++ ".") of
+        {ok, Tokens, _} ->
+            case erl_parse:parse_term(Tokens) of
+                {ok, Label} -> Label;
+                {error, _} -> throw(Word ++ " is no Erlang term")
+            end;
+        {error, _, _} -> throw(Word ++ " is no Erlang term")
+    end.
+
+collect({error, {cookie, Reason}}, _Start, _Wait) ->
+    failed(?SYSTEM, ["the cookie can't be had: ", Reason]);
+collect({error, Reason}, _Start, _Wait) ->
     failed(?SYSTEM, io_lib:format("this Erlang can't take part in distribution; it needs a home "
                                   "folder for its cookie, and epmd: ~0tp", [Reason]));
-collect(ok, #{nodes := Nodes} = Start, Seconds) ->
+collect(ok, #{nodes := Nodes} = Start, Wait) ->
     case seqaudit_trace:start(Start) of
         ok ->
-            io:format("tracing ~ts for ~b s; set tokens there, as with~n"
-                      "  seqaudit_trace:with_trace(17, fun() -> .. end).~n",
-                      [lists:join(", ", [atom_to_list(Node) || Node <- Nodes]), Seconds]),
-            timer:sleep(1000 * Seconds),
+            io:format("tracing ~ts ~ts~ts",
+                      [lists:join(", ", [atom_to_list(Node) || Node <- Nodes]), how_long(Wait),
+                       advice(Start)]),
+            [io:format("  events of ~ts go to ~ts there~n", [Node, Folder])
+             || {Node, Folder} <- seqaudit_trace:folders()],
+            _ = seqaudit_signals:wait(Wait),
             written(seqaudit_trace:stop(), fun seqaudit_trace:format_error/1);
         {error, Reason} ->
             failed(?SYSTEM, seqaudit_trace:format_error(Reason))
     end.
 
+how_long(infinity) -> "until Ctrl-C";
+how_long(Milliseconds) -> io_lib:format("for ~b s", [Milliseconds div 1000]).
+
+advice(#{trigger := #{function := {Module, Function, Arity}}}) ->
+    io_lib:format("; calls of ~ts:~ts/~b set the token~n", [Module, Function, Arity]);
+advice(_) ->
+    "; set tokens there, as with\n  seqaudit_trace:with_trace(17, fun() -> .. end).\n".
+
 %% Makes this a hidden node that listens to nobody, in the name domain of the node.
 connect(Node, Options) ->
+    case cookie(Options) of
+        {error, Reason} -> {error, {cookie, Reason}};
+        Cookie -> connect_with(Node, Cookie)
+    end.
+
+connect_with(Node, Cookie) ->
     [_ | Host] = string:split(Node, "@"),
     Domain = case lists:member($., lists:append(Host)) of
                  true -> longnames;
                  false -> shortnames
              end,
     Own = list_to_atom("seqaudit_" ++ os:getpid()),
-    case is_alive() orelse net_kernel:start(Own, #{name_domain => Domain, dist_listen => false}) of
+    case is_alive() orelse net_kernel:start(Own, #{name_domain => Domain, dist_listen => false,
+                                                   hidden => true}) of
         {error, Reason} ->
             {error, Reason};
         _ ->
-            lists:foreach(fun(Cookie) ->
-                                  erlang:set_cookie(list_to_atom(Cookie))
-                          end, maps:get("--cookie", Options, [])),
+            Cookie =:= none orelse erlang:set_cookie(list_to_atom(Cookie)),
             ok
     end.
+
+%% Words of a command line are seen by all users of the machine; a file and a variable aren't.
+cookie(#{"--cookie" := [Cookie | _]}) ->
+    checked(Cookie);
+cookie(#{"--cookie-file" := [File | _]}) ->
+    case file:read_file(File) of
+        {ok, Text} -> checked(string:trim(unicode:characters_to_list(Text)));
+        {error, Reason} -> {error, [File, ": ", file:format_error(Reason)]}
+    end;
+cookie(_) ->
+    case os:getenv("SEQAUDIT_COOKIE") of
+        false -> none;
+        Cookie -> checked(Cookie)
+    end.
+
+checked([_ | _] = Cookie) when length(Cookie) =< 255 -> Cookie;
+checked(_) -> {error, "it is empty, or longer than 255 characters"}.
 
 written({ok, #{events := Events, processes := Processes, notes := Notes, files := Files}}, _) ->
     io:format("~b events of ~b processes: ~ts~n", [Events, Processes, lists:join(" ", Files)]),
@@ -155,9 +262,9 @@ written({error, Reason}, FormatError) ->
     failed(?SYSTEM, FormatError(Reason)).
 
 convert(#{"" := Files, "-o" := [Name]}) ->
-    case read_all(lists:reverse(Files), []) of
-        {ok, Collections} ->
-            written(seqaudit_convert:files(Collections, Name), fun seqaudit_convert:format_error/1);
+    case seqaudit_convert:from_files(lists:reverse(Files), Name) of
+        {ok, Summary} ->
+            written({ok, Summary}, fun seqaudit_convert:format_error/1);
         {error, {file, _, _} = Reason} ->
             failed(?SYSTEM, seqaudit_events:format_error(Reason));
         {error, Reason} ->
@@ -165,257 +272,3 @@ convert(#{"" := Files, "-o" := [Name]}) ->
     end;
 convert(_) ->
     usage("convert needs a file of events and -o", []).
-
-read_all([], Collections) ->
-    {ok, Collections};
-read_all([File | Files], Collections) ->
-    case seqaudit_events:read(File) of
-        {ok, More} -> read_all(Files, Collections ++ More);
-        {error, Reason} -> {error, Reason}
-    end.
-
-%% What `audit', `chart' and `why' have of a trace, once it is cut as was asked.
-with_trace(Name, Wish, Do) ->
-    with_legend(Name, fun(Legend) ->
-        Times = seqaudit_times:read(Name ++ ".times"),
-        case seqaudit_bundle:read(Name ++ ".seqtrace") of
-            {ok, Streams} ->
-                Trace = #{name => Name, legend => Legend, times => Times, notes => notes(Name),
-                          whole => Streams},
-                with_cut(Trace, Wish, Do);
-            {error, {file, _, _} = Reason} ->
-                failed(?SYSTEM, seqaudit_bundle:format_error(Reason));
-            {error, Reason} ->
-                failed(?INPUT, seqaudit_bundle:format_error(Reason))
-        end
-    end).
-
-with_cut(#{whole := Streams, legend := Legend, times := Times} = Trace, Wish, Do) ->
-    case seqaudit_cut:cut(Streams, Wish, Legend, Times) of
-        {ok, Cut, Note} -> Do(Trace#{streams => Cut, cut => Note});
-        {error, Reason} -> failed(?UNFIT, seqaudit_cut:format_error(Reason))
-    end.
-
-with_legend(Name, Do) ->
-    case seqaudit_legend:read(Name ++ ".terms") of
-        {ok, Legend} -> Do(Legend);
-        {error, {file, _, _} = Reason} -> failed(?SYSTEM, seqaudit_legend:format_error(Reason));
-        {error, Reason} -> failed(?INPUT, seqaudit_legend:format_error(Reason))
-    end.
-
-notes(Name) ->
-    case file:read_file(Name ++ ".notes") of
-        {ok, Text} -> binary:split(Text, <<"\n">>, [global, trim]);
-        {error, _} -> []
-    end.
-
-%% What the options cut the trace to.
-wish(Options, Cuts) ->
-    maps:from_list([{Cut, Words} || {Option, Cut, Which} <- [{"--label", labels, all},
-                                                             {"--process", processes, all},
-                                                             {"--from", from, last},
-                                                             {"--to", to, last}],
-                                    lists:member(Cut, Cuts), #{Option := Given} <- [Options],
-                                    Words <- case Which of
-                                                 all -> [lists:reverse(Given)];
-                                                 last -> [hd(Given)]
-                                             end]).
-
-%% The outcome of the audit, and of each part between resets if there are any.
-with_outcome(#{streams := Streams} = Trace, Do) ->
-    case seqaudit_outcome:ask(Streams) of
-        {ok, #{said := never} = Outcome} ->
-            case seqaudit_parts:split(Streams) of
-                [_] -> Do(Trace#{outcome => Outcome, parts => []});
-                Parts -> with_parts(Parts, [], Trace#{outcome => Outcome}, Do)
-            end;
-        {ok, Outcome} ->
-            Do(Trace#{outcome => Outcome, parts => []});
-        {error, Reason} ->
-            failed(?SYSTEM, seqaudit_program:format_error(Reason))
-    end.
-
-with_parts([], Outcomes, Trace, Do) ->
-    Do(Trace#{parts => lists:reverse(Outcomes)});
-with_parts([Part | Parts], Outcomes, Trace, Do) ->
-    case seqaudit_outcome:ask(Part) of
-        {ok, Outcome} -> with_parts(Parts, [{Part, Outcome} | Outcomes], Trace, Do);
-        {error, Reason} -> failed(?SYSTEM, seqaudit_program:format_error(Reason))
-    end.
-
-audit(#{"" := [Name]} = Options) ->
-    with_trace(Name, wish(Options, [labels, processes, from, to]), fun(Trace) ->
-        with_outcome(Trace, fun(Audited) -> audit(Audited, Options) end)
-    end);
-audit(_) ->
-    usage("audit needs the NAME of a bundle", []).
-
-audit(#{name := Name, legend := Legend, notes := Notes, cut := Cut, outcome := Outcome,
-        parts := Parts}, Options) ->
-    #{said := Said, answer := Answer} = Outcome,
-    io:put_chars([Cut, seqaudit_explain:outcome(Outcome, Notes, Legend),
-                  audited_parts(Parts, Options, Legend),
-                  case Options of
-                      #{"--whole" := _} -> seqaudit_explain:whole(Outcome, Legend);
-                      #{} -> ""
-                  end]),
-    Kept = [{Name ++ ".answer", Answer}
-            | [{Name ++ ".part" ++ integer_to_list(Which) ++ ".answer", PartAnswer}
-               || {Which, {_, #{answer := PartAnswer}}} <- lists:enumerate(Parts)]],
-    lists:max([keep(File, Text, status(Said)) || {File, Text} <- Kept]).
-
-status(Said) when Said =:= fits; Said =:= completed -> ?FITS;
-status(fault) -> ?INPUT;
-status(_) -> ?UNFIT.
-
-audited_parts([], _Options, _Legend) ->
-    "";
-audited_parts(Parts, #{"--parts" := _}, Legend) ->
-    [seqaudit_explain:reset_places([Part || {Part, _} <- Parts], Legend),
-     [[part_title(Which, Parts), ": ", seqaudit_explain:outcome(Outcome, [], Legend)]
-      || {Which, {_, Outcome}} <- lists:enumerate(Parts)]];
-audited_parts(Parts, _Options, Legend) ->
-    {Streams, Outcomes} = lists:unzip(Parts),
-    seqaudit_explain:parts(Outcomes, Streams, Legend).
-
-part_title(Which, Parts) ->
-    io_lib:format("part ~b of ~b", [Which, length(Parts)]).
-
-chart(#{"" := [Name], "--label" := [Label | _]} = Options) ->
-    with_trace(Name, wish(Options, [processes, from, to]), fun(#{legend := Legend} = Trace) ->
-        case seqaudit_legend:find_label(Label, Legend) of
-            {ok, Number} -> chart_label(Number, Label, Trace, Options);
-            {error, Reason} -> failed(?UNFIT, seqaudit_legend:format_error(Reason))
-        end
-    end);
-chart(#{"" := [Name], "--html" := _} = Options) ->
-    with_trace(Name, wish(Options, [processes, from, to]), fun(Trace) ->
-        with_outcome(Trace, fun(Audited) ->
-            io:put_chars(charted(Audited)),
-            page(Audited, Options, <<"">>, ?FITS)
-        end)
-    end);
-chart(_) ->
-    usage("chart needs the NAME of a bundle and --label, or --html", []).
-
-%% A trace that the programs don't take as a whole may be taken when it is cut to the label.
-chart_label(Number, Label, #{streams := Streams, legend := Legend, times := Times} = Trace, Options) ->
-    with_outcome(Trace, fun
-        (#{outcome := #{said := fault}}) ->
-            {ok, Cut, Note} = seqaudit_cut:cut(Streams, #{labels => [Label]}, Legend, Times),
-            with_outcome(Trace#{streams := Cut, cut := Note}, fun(Audited) ->
-                charts(Number, Audited, Options)
-            end);
-        (Audited) ->
-            charts(Number, Audited, Options)
-    end).
-
-charts(Number, #{parts := Parts, outcome := #{streams := Streams}} = Audited, Options) ->
-    io:put_chars(charted(Audited)),
-    Drawn = case Parts of
-                [] -> [{"", Streams, ""}];
-                _ -> [{integer_to_list(Which), maps:get(streams, Outcome), part_title(Which, Parts)}
-                      || {Which, {_, Outcome}} <- lists:enumerate(Parts)]
-            end,
-    Statuses = [chart_streams(Number, Which, Part, Title, Audited, Options)
-                || {Which, Part, Title} <- Drawn],
-    Status = case lists:member(?FITS, Statuses) of
-                 true -> ?FITS;
-                 false -> lists:max(Statuses)
-             end,
-    page(Audited, Options, Number, Status).
-
-%% What stands above a chart.
-charted(#{cut := Cut, outcome := Outcome, notes := Notes, parts := Parts, legend := Legend}) ->
-    [Cut, seqaudit_explain:headline(Outcome, Legend), seqaudit_explain:losses(Notes),
-     [seqaudit_explain:reset_places([Part || {Part, _} <- Parts], Legend) || Parts =/= []]].
-
-chart_streams(Number, Which, Streams, Title, #{legend := Legend} = Audited, Options) ->
-    Text = seqaudit_bundle:text(Streams),
-    Asked = seqaudit_program:with_text(Text, fun(File) ->
-                seqaudit_program:ask(["chart", "--label", binary_to_list(Number)], File)
-            end),
-    case Asked of
-        {ok, {?FITS, Answer}} ->
-            {ok, Read} = seqaudit_chart:read(Answer),
-            Chart = seqaudit_chart:identify(Read, seqaudit_causes:rows(Streams)),
-            io:put_chars([[Title, $\n] || Title =/= ""]),
-            io:put_chars(seqaudit_chart:text(Chart, Legend)),
-            draw(Chart, Which, Audited, maps:get("--svg", Options, []));
-        {ok, {?UNFIT, <<"no label", _/binary>>}} ->
-            io:put_chars([[Title, ": "] || Title =/= ""]),
-            io:put_chars(["nothing has the label ", seqaudit_legend:label(Number, Legend), $\n]),
-            ?UNFIT;
-        {ok, {Status, _}} when Status =:= ?UNFIT; Status =:= ?INPUT ->
-            Status;
-        {ok, {?USAGE, _}} ->
-            failed(?USAGE, "this seqaudit has no chart yet; build a later one");
-        {ok, {Status, Fault}} ->
-            failed(Status, Fault);
-        {error, Reason} ->
-            failed(?SYSTEM, seqaudit_program:format_error(Reason))
-    end.
-
-draw(Chart, Which, #{legend := Legend} = Audited, [File | _]) ->
-    Heading = unicode:characters_to_list(seqaudit_explain:headline(maps:get(outcome, Audited), Legend)),
-    case seqaudit_draw:svg(Chart, string:trim(Heading), Legend) of
-        {ok, Drawing} ->
-            keep(part_file(File, Which), unicode:characters_to_binary(Drawing), ?FITS);
-        {error, Reason} ->
-            failed(?INPUT, seqaudit_draw:format_error(Reason))
-    end;
-draw(_Chart, _Which, _Audited, []) ->
-    ?FITS.
-
-part_file(File, "") -> File;
-part_file(File, Which) ->
-    filename:rootname(File) ++ "-" ++ Which ++ filename:extension(File).
-
-page(_Audited, Options, _Label, Status) when not is_map_key("--html", Options) ->
-    Status;
-page(Audited, #{"--html" := [File | _]}, Label, Status) ->
-    case seqaudit_page:html(Audited, Label) of
-        {ok, Page} -> keep(File, Page, Status);
-        {error, Reason} -> failed(?SYSTEM, seqaudit_page:format_error(Reason))
-    end.
-
-why(#{"" := [Name], "--event" := [Event | _]} = Options) ->
-    with_trace(Name, wish(Options, [labels, processes, from, to]), fun(#{legend := Legend} = Trace) ->
-        with_outcome(Trace, fun(#{cut := Cut, outcome := Outcome} = Audited) ->
-            io:put_chars([Cut, doubt(Outcome, Legend)]),
-            why(Event, shown(Audited), Options, Legend)
-        end)
-    end);
-why(_) ->
-    usage("why needs the NAME of a bundle and --event", []).
-
-why(Event, Shown, Options, Legend) ->
-    Found = [{Place, Streams} || Streams <- Shown,
-                                 {ok, Place} <- [seqaudit_bundle:find(Event, Streams, Legend)]],
-    case Found of
-        [{Place, Streams} | _] ->
-            Rows = seqaudit_causes:rows(Streams),
-            Tell = case Options of
-                       #{"--effects" := _} -> fun seqaudit_why:effects/3;
-                       #{} -> fun seqaudit_why:chain/3
-                   end,
-            io:put_chars(Tell(Place, Rows, Legend)),
-            ?FITS;
-        [] ->
-            {error, Reason} = seqaudit_bundle:find(Event, lists:append(Shown), Legend),
-            failed(?UNFIT, seqaudit_bundle:format_error(Reason))
-    end.
-
-%% The streams that are shown: the whole, or each part between resets.
-shown(#{parts := [], outcome := #{streams := Streams}}) -> [Streams];
-shown(#{parts := Parts}) -> [Streams || {_, #{streams := Streams}} <- Parts].
-
-%% Causes of a trace that doesn't fit are told with the doubt first.
-doubt(#{said := Said}, _Legend) when Said =:= fits; Said =:= completed -> "";
-doubt(Outcome, Legend) -> seqaudit_explain:headline(Outcome, Legend).
-
-keep(File, Text, Status) ->
-    case file:write_file(File, Text) of
-        ok -> Status;
-        {error, Reason} -> failed(?SYSTEM, seqaudit_convert:format_error({file, File, Reason}))
-    end.

@@ -161,8 +161,9 @@ cut_test_() ->
         {ok, Streams} = seqaudit_bundle:read(Name ++ ".seqtrace"),
         Rows = seqaudit_causes:rows(Streams),
         ok = file:write_file(Name ++ ".times",
-                             [io_lib:format("~ts ~b ~b~n", [Pid, At, 1_700_000_000_000_000 + 1_000 * Row])
-                              || {Row, #{id := {Pid, At}}} <- lists:enumerate(0, Rows)])
+                             ["seqaudit times 1\nbegin 1700000000000000000\n" |
+                              [io_lib:format("event ~ts ~b ~b~n", [Pid, At, 1_000_000 * Row])
+                               || {Row, #{id := {Pid, At}}} <- lists:enumerate(0, Rows)]])
     end, [["audit", "--label", "{order,2}"], ["audit", "--process", "shop"],
           ["audit", "--from", "0.002", "--to", "0.0125"], ["chart", "--label", "{order,2}", "--from", "0.012"],
           ["audit", "--process", "nobody"], ["why", "--event", "ann#9"]]).
@@ -192,12 +193,9 @@ with_shop(Do) ->
     {ok, shop, Binary} = compile:file(Source, [binary]),
     {module, shop} = code:load_binary(shop, Source, Binary),
     ok = erlang:apply(shop, start, []),
-    try
-        Do(),
-        settled()
-    after
-        [gen_server:stop(Server) || Server <- [shop, stock, post]]
-    end.
+    put(servers, [shop, stock, post]),
+    Do(),
+    settled().
 
 order(Thing, Count) -> erlang:apply(shop, order, [Thing, Count]).
 
@@ -229,6 +227,7 @@ stopped() ->
     Monitors = [begin Pid ! leave, monitor(process, Pid) end || Pid <- staying()],
     [receive {'DOWN', Monitor, process, _, _} -> ok end || Monitor <- Monitors],
     erase(staying),
+    [gen_server:stop(Server) || Server <- case erase(servers) of undefined -> []; Servers -> Servers end],
     ok.
 
 said(Case, Trace, Commands) ->

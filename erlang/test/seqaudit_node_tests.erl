@@ -10,8 +10,8 @@ usage_test_() ->
         {_, _} = binary:match(Help, <<"usage: seqaudit-node COMMAND">>),
         {0, Help} = command("audit --help"),
         [{3, _} = command(Words)
-         || Words <- ["", "frobnicate", "audit", "audit a b", "audit a --label", "chart a", "why a", "why --event x#1",
-                      "convert x", "collect --node a@h -o x", "convert -o"]],
+         || Words <- ["", "frobnicate", "audit", "audit a b", "audit a --label", "chart a", "why a",
+                      "convert x", "collect --node a@h", "collect -o x", "convert -o"]],
         {3, Text} = command("collect --node a@h --seconds ten -o x"),
         {_, _} = binary:match(Text, <<"--seconds and --limit take whole numbers">>)
     end}.

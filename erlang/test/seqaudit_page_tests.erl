@@ -8,7 +8,7 @@ chain_test_() ->
 
 %% Alice asks bob, who asks carol; and under another label a receive whose send nobody reported.
 chain() ->
-    Times = [{"<0.1.0>", 0, 0}, {"<0.2.0>", 0, 100}, {"<0.2.0>", 1, 200}, {"<0.3.0>", 0, 300}],
+    Times = [{"<0.1.0>", 0, 0}, {"<0.2.0>", 0, 100_000}, {"<0.2.0>", 1, 200_000}, {"<0.3.0>", 0, 300_000}],
     audited("chain", "seqtrace 1\nprocess <0.1.0>\n"
             "{seq_trace,7,{send,{0,1},<0.1.0>,<0.2.0>,0}}\n"
             "{seq_trace,7,{'receive',{4,5},<0.2.0>,<0.1.0>,3}}\n"
