@@ -113,11 +113,13 @@ audit(#{name := Name, legend := Legend, notes := Notes, cut := Cut, outcome := O
     Kept = [{Name ++ ".answer", Answer}
             | [{Name ++ ".part" ++ integer_to_list(Which) ++ ".answer", PartAnswer}
                || {Which, {_, #{answer := PartAnswer}}} <- lists:enumerate(Parts)]],
-    lists:max([keep(File, Text, status(Said)) || {File, Text} <- Kept]).
+    lists:max([keep(File, Text, status(Said, Answer)) || {File, Text} <- Kept]).
 
-status(Said) when Said =:= fits; Said =:= completed -> ?FITS;
-status(fault) -> ?INPUT;
-status(_) -> ?UNFIT.
+status(Said, _Answer) when Said =:= fits; Said =:= completed -> ?FITS;
+status(fault, <<"fault memory", _/binary>>) -> ?SYSTEM;
+status(fault, <<"fault device", _/binary>>) -> ?SYSTEM;
+status(fault, _Answer) -> ?INPUT;
+status(_, _Answer) -> ?UNFIT.
 
 audited_parts([], _Options, _Legend) ->
     "";

@@ -100,8 +100,15 @@ details(#{finding := {Reason, Found}} = Outcome, Legend) ->
     [[["  ", found(One, Legend), $\n] || One <- Found],
      format("What it means: ~ts~nWhat to look at: ~ts~n", [Meaning, Look]),
      renumbered(Outcome),
-     ["For what the trace lacks, seqtool is needed, and it isn't there: `make program' builds it, and "
-      "the variable SEQTOOL says where it is.\n" || not maps:get(tool, Outcome)]].
+     tool(maps:get(tool, Outcome))].
+
+tool(there) ->
+    "";
+tool(not_there) ->
+    "For what the trace lacks, seqtool is needed, and it isn't there: `make program' builds it, and the "
+    "variable SEQTOOL says where it is.\n";
+tool({failed, Fault}) ->
+    format("For what the trace lacks, seqtool was asked; it said: ~ts~n", [Fault]).
 
 renumbered(#{renumbered := true}) ->
     "The audit counts from the first event on, which changes no answer; serials stand here as the "

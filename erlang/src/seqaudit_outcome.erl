@@ -15,7 +15,7 @@
         #{said := fits | completed | never | open | unexplained | fault,
           streams := seqaudit_bundle:streams(),
           renumbered := boolean(),
-          tool := boolean(),
+          tool := there | not_there | {failed, Fault :: binary()},
           answer := binary(),
           finding => finding(),
           fault => binary()}.
@@ -29,7 +29,8 @@
 %% <dt>`unexplained'</dt><dd>`seqaudit' found no run, and there is no `seqtool' to ask</dd>
 %% <dt>`fault'</dt><dd>a program didn't take the bundle</dd>
 %% </dl>
-%% `answer' is otherwise what the program said. `renumbered' says whether counts were replaced, and `tool' whether `seqtool' was there.
+%% `answer' is otherwise what the program said. `renumbered' says whether counts were replaced, and `tool' whether `seqtool' was
+%% there and did what it was asked.
 
 -define(FITS, 0).
 -define(UNFIT, 1).
@@ -43,16 +44,17 @@ ask(Streams) ->
     seqaudit_program:with_text(Text, fun(File) -> ask(Streams, Text, File) end).
 
 ask(Streams, Text, File) ->
-    Outcome = #{streams => Streams, renumbered => false, tool => false, answer => <<>>},
+    Outcome = #{streams => Streams, renumbered => false, tool => not_there, answer => <<>>},
     case seqaudit_program:ask("seqtool", ["renumber"], File) of
         {ok, {?FITS, Text}} ->
-            audit(File, File, Outcome#{tool := true});
+            audit(File, File, Outcome#{tool := there});
         {ok, {?FITS, Ranks}} ->
             seqaudit_program:with_text(Ranks, fun(RanksFile) ->
-                audit(RanksFile, File, Outcome#{tool := true, renumbered := true})
+                audit(RanksFile, File, Outcome#{tool := there, renumbered := true})
             end);
         {ok, {_, Fault}} ->
-            {ok, fault(Fault, Outcome)};
+            %% What it doesn't read, seqaudit doesn't either, and says so.
+            audit(File, File, Outcome#{tool := {failed, line(Fault)}});
         {error, {no_program, _, _}} ->
             audit(File, File, Outcome);
         {error, Reason} ->
@@ -60,32 +62,38 @@ ask(Streams, Text, File) ->
     end.
 
 fault(Answer, Outcome) ->
-    [Fault | _] = binary:split(Answer, <<"\n">>),
-    Outcome#{said => fault, fault => Fault, answer => Answer}.
+    Outcome#{said => fault, fault => line(Answer), answer => Answer}.
+
+line(Answer) ->
+    hd(binary:split(Answer, <<"\n">>)).
 
 %% `Ranks' has the renumbered streams.
 audit(Ranks, File, Outcome) ->
     case {seqaudit_program:ask("seqaudit", ["audit"], Ranks), Outcome} of
         {{ok, {?FITS, Answer}}, _} ->
             {ok, Outcome#{said => fits, answer := Answer}};
-        {{ok, {?UNFIT, _}}, #{tool := true}} ->
-            complete(Ranks, File, Outcome);
-        {{ok, {?UNFIT, Report}}, #{streams := Streams}} ->
-            {Reason, _} = Finding = finding(Report, Streams),
-            Said = case lists:member(Reason, ?FINAL) of
-                       true -> never;
-                       false -> unexplained
-                   end,
-            {ok, Outcome#{said => Said, finding => Finding, answer := Report}};
+        {{ok, {?UNFIT, Report}}, #{tool := there}} ->
+            complete(Ranks, File, Report, Outcome);
+        {{ok, {?UNFIT, Report}}, _} ->
+            {ok, unfit(Report, Outcome)};
         {{ok, {_, Fault}}, _} ->
             {ok, fault(Fault, Outcome)};
         {{error, Reason}, _} ->
             {error, Reason}
     end.
 
+%% What seqaudit says alone.
+unfit(Report, #{streams := Streams} = Outcome) ->
+    {Reason, _} = Finding = finding(Report, Streams),
+    Said = case lists:member(Reason, ?FINAL) of
+               true -> never;
+               false -> unexplained
+           end,
+    Outcome#{said => Said, finding => Finding, answer := Report}.
+
 %% The streams are completed with the node's own counts, so that what is added has them too; the
 %% acts are those of the renumbered streams, which need no more of them than there are events.
-complete(Ranks, File, #{streams := Streams} = Outcome) ->
+complete(Ranks, File, Unfit, #{streams := Streams} = Outcome) ->
     {ok, Added} = seqaudit_program:ask("seqtool", ["complete", "--as", "added"], File),
     case Added of
         {?FITS, AddedText} ->
@@ -104,7 +112,7 @@ complete(Ranks, File, #{streams := Streams} = Outcome) ->
         {?UNFIT, <<"open ", _/binary>> = Report} ->
             {ok, Outcome#{said => open, finding => finding(Report, Streams), answer := Report}};
         {_, Fault} ->
-            {ok, fault(Fault, Outcome)}
+            {ok, unfit(Unfit, Outcome#{tool := {failed, line(Fault)}})}
     end.
 
 added(Text) ->

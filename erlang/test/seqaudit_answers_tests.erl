@@ -47,11 +47,9 @@ supervisor_test_() ->
         {module, _} = code:ensure_loaded(seqaudit_test_server),
         ok = seqaudit_trace:start(#{name => Name}),
         as(owner, fun() ->
-            {ok, Pid} = seqaudit_trace:with_trace(boot, fun() ->
+            {ok, _} = seqaudit_trace:with_trace(boot, fun() ->
                                                     supervisor:start_link({local, tree}, ?MODULE, [])
-                                                end),
-            unlink(Pid),
-            exit(Pid, shutdown)
+                                                end)
         end),
         stopped()
     end, [["audit"], ["why", "--event", "owner#2"]]).
@@ -140,8 +138,13 @@ lost_node_test_() ->
                 [begin Echo ! {self(), N}, receive {echo, N} -> ok end end || N <- [1, 2]]
             end)
         end),
-        Stop(),
-        stopped()
+        %% What the collector there was sent is on its disk by then.
+        timer:sleep(1_500),
+        true = monitor_node(There, true),
+        ok = erpc:cast(There, erlang, halt, []),
+        receive {nodedown, There} -> ok after 10_000 -> error(still_there) end,
+        stopped(),
+        catch Stop()
     end, [["audit"], ["chart", "--label", "ask"]]).
 
 echo() ->
@@ -258,13 +261,19 @@ auditor() ->
         {_, []} -> none
     end.
 
-%% The model stands in where the program isn't built.
+%% The model stands in where the program isn't built, or can't complete yet.
 tool() ->
-    case {seqaudit_program:find("seqtool"), seqaudit_audits:model()} of
-        {{ok, Program}, _} -> Program;
-        {_, [Model]} -> filename:join(filename:dirname(Model), "slow_seqtool.py");
-        {_, []} -> none
+    case {[Program || {ok, Program} <- [seqaudit_program:find("seqtool")], completes(Program)],
+          seqaudit_audits:model()} of
+        {[Program], _} -> Program;
+        {[], [Model]} -> filename:join(filename:dirname(Model), "slow_seqtool.py");
+        {[], []} -> none
     end.
+
+completes(Program) ->
+    seqaudit_program:with_text("seqtrace 1\n", fun(File) ->
+        {ok, {0, <<"added 0\n">>}} =:= seqaudit_program:run(Program, ["complete"], File)
+    end).
 
 command([Command | Words], Name, Tool) ->
     Home = filename:dirname(filename:dirname(filename:absname(code:which(seqaudit_node)))),

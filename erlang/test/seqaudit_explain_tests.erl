@@ -25,7 +25,7 @@ streams(Text) ->
     Streams.
 
 outcome(Said, Streams) ->
-    #{said => Said, streams => Streams, renumbered => false, tool => true, answer => <<>>}.
+    #{said => Said, streams => Streams, renumbered => false, tool => there, answer => <<>>}.
 
 %% A print is one only where the token has the flag; else it moves a clock.
 whole_test() ->
@@ -100,7 +100,7 @@ reasons_test() ->
 
 %% Where there is no seqtool it says so, and what it would be good for.
 no_tool_test() ->
-    has(said((outcome(unexplained, []))#{tool := false, finding => {<<"uncaused">>, []}}),
+    has(said((outcome(unexplained, []))#{tool := not_there, finding => {<<"uncaused">>, []}}),
         ["For what the trace lacks, seqtool is needed, and it isn't there"]).
 
 faults_test() ->

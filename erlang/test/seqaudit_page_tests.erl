@@ -33,7 +33,7 @@ audited(Name, Bundle, Names, Labels, Values, Times) ->
     {ok, Legend} = seqaudit_legend:read(File),
     {ok, Streams} = seqaudit_bundle:parse(iolist_to_binary(Bundle)),
     #{name => Name, legend => Legend, times => Times, notes => [], cut => "", parts => [],
-      outcome => #{said => fits, streams => Streams, renumbered => false, tool => true, answer => <<>>}}.
+      outcome => #{said => fits, streams => Streams, renumbered => false, tool => there, answer => <<>>}}.
 
 driven(Check, Name, Audited) ->
     driven(Check, Name, Audited, <<>>).
