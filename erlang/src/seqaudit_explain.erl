@@ -39,7 +39,7 @@ about([{{Pid, At}, _} | _], Legend) -> [", because of ", seqaudit_bundle:name(Pi
 
 %% The unreported events, each as a function of the legend, and how many stamps more.
 missing(#{said := Said, streams := Streams}) ->
-    #{hidden := Hidden, unreceived := Unreceived, silent := Silent} = Gaps =
+    #{hidden := Hidden, unreceived := Unreceived, silent := Silent, jumps := Jumps} = Gaps =
         seqaudit_gaps:find(Streams),
     Added = case Said of
                 completed -> unreported(Streams);
@@ -47,23 +47,26 @@ missing(#{said := Said, streams := Streams}) ->
             end,
     Gaps#{events => Added ++ [{hidden, Row} || Row <- Hidden]
               ++ [{unreceived, Row} || Row <- Unreceived],
-          stamps => lists:sum([Count || {_, Count} <- Silent])}.
+          stamps => lists:sum([Count || {_, Count} <- Silent]),
+          leaps => lists:sum([Count || {_, Count} <- Jumps])}.
 
 %% The events that were added.
 unreported(Streams) ->
     [{added, Row} || #{hidden := false, id := {_, {_, _}}} = Row <- seqaudit_causes:rows(Streams)].
 
-left_out(#{events := [], stamps := 0}) ->
+left_out(#{events := [], stamps := 0, leaps := 0}) ->
     "; nothing was left out";
-left_out(#{events := Events, stamps := Stamps}) ->
+left_out(#{events := Events, stamps := Stamps, leaps := Leaps}) ->
     [", with ",
-     lists:join(" and ", [[count(length(Events), "event"), " that nobody reported"] || Events =/= []]
-                ++ [count(Stamps, "silent stamp") || Stamps > 0])].
+     lists:join(", ", [[count(length(Events), "event"), " that nobody reported"] || Events =/= []]
+                ++ [count(Stamps, "silent stamp") || Stamps > 0]
+                ++ [count(Leaps, "jump of a counter") || Leaps > 0])].
 
 %% @doc How many of a thing there are, in words.
 -spec count(non_neg_integer(), string()) -> string().
 count(1, Thing) -> "1 " ++ Thing;
 count(N, "process") -> number(N) ++ " processes";
+count(N, "jump of a counter") -> number(N) ++ " jumps of counters";
 count(N, Thing) -> number(N) ++ " " ++ Thing ++ "s".
 
 %% @doc A number with commas between thousands.
@@ -79,7 +82,8 @@ outcome(Outcome, Notes, Legend) ->
     [headline(Outcome, Legend), details(Outcome, Legend), losses(Notes)].
 
 details(#{said := Said} = Outcome, Legend) when Said =:= fits; Said =:= completed ->
-    #{events := Events, silent := Silent, before := Before, spawns := Spawns} = missing(Outcome),
+    #{events := Events, silent := Silent, before := Before, spawns := Spawns, jumps := Jumps} =
+        missing(Outcome),
     [["What nobody reported:\n" || Events =/= []],
      [["  ", missing_event(Event, Legend), $\n] || Event <- lists:sublist(Events, ?LISTED)],
      [["  and ", number(length(Events) - ?LISTED), " more\n"] || length(Events) > ?LISTED],
@@ -87,8 +91,10 @@ details(#{said := Said} = Outcome, Legend) when Said =:= fits; Said =:= complete
       || lists:any(fun is_invented/1, Events)],
      [["Silent stamps are counts that no event has: ", counted(Silent, Legend),
        ". They were prints, or sends whose receives weren't reported either.\n"] || Silent =/= []],
-     [["Counters go on from trace to trace. Before its first send or print here, that of ",
-       listed(Before, " stood at ", Legend), ".\n"] || Before =/= []],
+     [["Counters stood higher than anything reported tells: ", counted(Jumps, Legend),
+       ". Something was received there, or stamped, that wasn't reported.\n"] || Jumps =/= []],
+     [["Counters go on from trace to trace, and past what isn't reported. Before its first send or "
+       "print here, that of ", listed(Before, " stood at ", Legend), ".\n"] || Before =/= []],
      [["As it answers a spawn, OTP moves the counter of the spawning process on. It did so ",
        listed([{Pid, times(Count)} || {Pid, Count} <- Spawns], " ", Legend), ".\n"]
       || Spawns =/= []],
@@ -111,8 +117,8 @@ tool({failed, Fault}) ->
     format("For what the trace lacks, seqtool was asked; it said: ~ts~n", [Fault]).
 
 renumbered(#{renumbered := true}) ->
-    "The audit counts from the first event on, which changes no answer; serials stand here as the "
-    "node had them.\n";
+    "The counts were renumbered for the audit, which changes no answer; serials stand here as the node "
+    "had them.\n";
 renumbered(#{}) -> "".
 
 times(1) -> "once";

@@ -48,11 +48,13 @@ fits_test() ->
                                    "{seq_trace,17,{'receive',{0,1},<0.30.0>,<0.31.0>,7}}\n"))),
     Gaps = "seqtrace 1\nprocess <0.30.0>\n"
            "{seq_trace,17,{print,{4999,5000},<0.30.0>,[],7}}\n"
-           "{seq_trace,17,{print,{4999,5003},<0.30.0>,[],7}}\nprocess <0.31.0>\n"
+           "{seq_trace,17,{print,{4999,5003},<0.30.0>,[],7}}\n"
+           "{seq_trace,17,{print,{6000,6001},<0.30.0>,[],7}}\nprocess <0.31.0>\n"
            "{seq_trace,17,{'receive',{0,3},<0.30.0>,<0.31.0>,6}}\n"
            "{seq_trace,17,{send,{63,64},<0.31.0>,<0.30.0>,7}}\n",
     has(said((outcome(fits, streams(Gaps)))#{renumbered := true}),
-        ["fits: 4 events of 2 processes are a run, with 1 event that nobody reported and 2 silent stamps",
+        ["fits: 5 events of 2 processes are a run, with 1 event that nobody reported, 2 silent stamps, 1 jump of a counter",
+         "Counters stood higher than anything reported tells: 1 in alice.",
          "  alice sends {ok,six} to bob & <co>, serial {0,3}, label 17, which is received as bob & <co>#0\n",
          "counts that no event has: 2 in alice",
          "Before its first send or print here, that of alice stood at 4,999.\n",
