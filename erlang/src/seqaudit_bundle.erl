@@ -123,13 +123,16 @@ actor(#{from := From}) -> From.
 
 %% @doc The streams with the unreported events that `seqtool complete' found: its streams of all
 %% events, in which those of these streams stand in their order, with their numbers.
+%%
+%% The tool looks at counts alone. Where several reported messages have the count that a process
+%% needs, any of them will do, so one with the label of the event that needs it is taken.
 -spec complete(streams(), {All :: streams(), Added :: [{pid_text(), non_neg_integer()}]}) ->
           streams().
 complete(Streams, {All, Added}) ->
     Unreported = maps:from_keys(Added, unreported),
     Reported = maps:from_list(Streams),
-    [{Pid, place_events(Events, Pid, Unreported, maps:get(Pid, Reported, []), 1)}
-     || {Pid, Events} <- All].
+    match_labels([{Pid, place_events(Events, Pid, Unreported, maps:get(Pid, Reported, []), 1)}
+                  || {Pid, Events} <- All]).
 
 %% `Which' counts the unreported events since the last reported one.
 place_events([], _Pid, _Unreported, _Reported, _Which) ->
@@ -146,6 +149,61 @@ place_events([_ | Events], Pid, Unreported, [Event | Reported], _Which) ->
 next_at([#{at := At} | _]) -> At;
 next_at({behind, #{at := At}}) -> At + 1;
 next_at([]) -> 0.
+
+match_labels(Streams) ->
+    Sends = lists:foldr(fun(#{to := To, this := This} = Send, Found) ->
+                                maps:update_with({To, This}, fun(Others) -> [Send | Others] end, [Send],
+                                                 Found)
+                        end, #{}, unreceived(Streams)),
+    [{Pid, match_labels(Events, maps:from_list(matches(needs(Events), Sends)))}
+     || {Pid, Events} <- Streams].
+
+%% The reported sends that no reported receive is of.
+unreceived(Streams) ->
+    Received = maps:from_keys([{From, This}
+                               || {_, Events} <- Streams,
+                                  #{kind := 'receive', from := From, this := This, at := At} <- Events,
+                                  is_integer(At)], received),
+    [Send || {_, Events} <- Streams, #{kind := send, from := From, this := This, at := At} = Send <- Events,
+             is_integer(At), not is_map_key({From, This}, Received)].
+
+%% The unreported receives, with the labels of the stamps behind them, by what they receive.
+needs(Events) ->
+    {Needs, _} = lists:foldr(fun need/2, {#{}, none}, Events),
+    Needs.
+
+need(#{kind := 'receive', at := {_, _}, to := To, this := This} = Event, {Needs, Label}) ->
+    {maps:update_with({To, This}, fun(Others) -> [{Label, Event} | Others] end, [{Label, Event}], Needs),
+     Label};
+need(#{kind := 'receive'}, Known) ->
+    Known;
+need(#{label := Label}, {Needs, _}) ->
+    {Needs, Label}.
+
+%% Which send each of these receives is of.
+matches(Needs, Sends) ->
+    lists:append([match(Wanting, maps:get(Key, Sends, [])) || {Key, Wanting} <- maps:to_list(Needs)]).
+
+%% Receives of messages that were added keep them.
+match(Wanting, Sends) ->
+    Known = maps:from_keys([From || #{from := From} <- Sends], known),
+    Own = [Need || {_, #{from := From}} = Need <- Wanting, is_map_key(From, Known)],
+    {Alike, Others} = lists:foldl(fun({Label, #{at := At}} = Need, {Matched, {Left, Open}}) ->
+                                          case lists:partition(fun(#{label := One}) -> One =:= Label end, Left) of
+                                              {[Send | More], Rest} -> {[{At, Send} | Matched], {More ++ Rest, Open}};
+                                              {[], _} -> {Matched, {Left, [Need | Open]}}
+                                          end
+                                  end, {[], {Sends, []}}, Own),
+    {Left, Open} = Others,
+    Alike ++ lists:zip([At || {_, #{at := At}} <- lists:reverse(Open)], lists:sublist(Left, length(Open))).
+
+match_labels(Events, Matches) ->
+    [case Event of
+         #{kind := 'receive', at := {_, _} = At} when is_map_key(At, Matches) ->
+             (maps:get(At, Matches))#{kind := 'receive', at := At};
+         #{} ->
+             Event
+     end || Event <- Events].
 
 %% @doc What an event is called: its process's name and its place there.
 -spec name(pid_text(), at(), seqaudit_legend:legend()) -> iolist().

@@ -55,17 +55,18 @@ mark_invented(Rows) ->
      end || Row <- Rows].
 
 
-%% The sends that no reported receive is of, by receiver and count.
+%% The sends that no reported receive is of, with their labels, by receiver and count.
 unpaired(Streams) ->
     Received = maps:from_list([{{From, This}, []}
                                || {_, Events} <- Streams,
                                   #{kind := 'receive', from := From, this := This} <- Events]),
-    lists:foldr(fun({Key, Id}, Sends) ->
-                        maps:update_with(Key, fun(Ids) -> [Id | Ids] end, [Id], Sends)
+    lists:foldr(fun({Key, Send}, Sends) ->
+                        maps:update_with(Key, fun(Others) -> [Send | Others] end, [Send], Sends)
                 end, #{},
-                [{{To, This}, {Pid, At}}
+                [{{To, This}, {Label, {Pid, At}}}
                  || {Pid, Events} <- Streams,
-                    #{kind := send, from := From, to := To, this := This, at := At} <- Events,
+                    #{kind := send, from := From, to := To, this := This, label := Label,
+                      at := At} <- Events,
                     not is_map_key({From, This}, Received)]).
 
 %% What is known at an event of what its process did before: the greatest count, what the next
@@ -90,9 +91,9 @@ keyed_event(#{kind := 'receive', from := From, this := This, at := At} = Event,
               || {sent_to, _} <- [Send]],
     {[{{Height, 1, maps:get(Pid, Ranks), Position}, Row} | Hidden],
      Known#{clock := Height, last := This, receives := Receives#{This => Id}, newest := {This, Id}}};
-keyed_event(#{prev := Prev, this := This, at := At} = Event, {Pid, Position},
+keyed_event(#{this := This, prev := Prev, at := At} = Event, {Pid, Position},
             #{clock := Clock} = Known, {Ranks, _, Unpaired}) ->
-    Cause = stamp_cause(Pid, Prev, This, Known, Unpaired),
+    Cause = stamp_cause(Pid, Event, Known, Unpaired),
     Height = max(Clock, This),
     {[{{Height, 0, maps:get(Pid, Ranks), Position}, row({Pid, At}, Event, Pid, Cause)}],
      Known#{clock := Height, last := Prev, cause := Cause}}.
@@ -100,22 +101,24 @@ keyed_event(#{prev := Prev, this := This, at := At} = Event, {Pid, Position},
 row(Id, Event, Actor, Cause) ->
     #{id => Id, event => Event, actor => Actor, hidden => false, invented => false, cause => Cause}.
 
-%% After an answered spawn OTP puts the counters to 16 T + 15, T being the answer's count.
-stamp_cause(_Pid, Prev, _This, #{receives := Receives}, _) when is_map_key(Prev, Receives) ->
+%% After an answered spawn OTP puts the counters to 16 T + 15, T being the answer's count. Of several
+%% messages that an event may follow, one with its label is taken: a token keeps its label.
+stamp_cause(_Pid, #{prev := Prev}, #{receives := Receives}, _) when is_map_key(Prev, Receives) ->
     {received, maps:get(Prev, Receives)};
-stamp_cause(_Pid, 0, _This, _Known, _) ->
+stamp_cause(_Pid, #{prev := 0}, _Known, _) ->
     start;
-stamp_cause(_Pid, Prev, _This, #{last := Prev, cause := Cause}, _) ->
+stamp_cause(_Pid, #{prev := Prev}, #{last := Prev, cause := Cause}, _) ->
     Cause;
-stamp_cause(_Pid, Prev, _This, #{newest := {Count, Id}}, _) when Prev =:= 16 * Count + 15 ->
+stamp_cause(_Pid, #{prev := Prev}, #{newest := {Count, Id}}, _) when Prev =:= 16 * Count + 15 ->
     {spawned, Id};
-stamp_cause(Pid, Prev, _This, _Known, Unpaired) when is_map_key({Pid, Prev}, Unpaired) ->
-    {unreported, hd(maps:get({Pid, Prev}, Unpaired))};
-stamp_cause(_Pid, Prev, _This, #{clock := Clock}, _) when Prev < Clock ->
+stamp_cause(Pid, #{prev := Prev, label := Label}, _Known, Unpaired) when is_map_key({Pid, Prev}, Unpaired) ->
+    [{_, First} | _] = Sends = maps:get({Pid, Prev}, Unpaired),
+    {unreported, proplists:get_value(Label, Sends, First)};
+stamp_cause(_Pid, #{prev := Prev}, #{clock := Clock}, _) when Prev < Clock ->
     missing;
-stamp_cause(_Pid, Clock, _This, #{clock := Clock}, _) ->
+stamp_cause(_Pid, #{prev := Clock}, #{clock := Clock}, _) ->
     start;
-stamp_cause(_Pid, _Prev, _This, _Known, _) ->
+stamp_cause(_Pid, _Event, _Known, _) ->
     open.
 
 %% @doc The rows by what they are called.

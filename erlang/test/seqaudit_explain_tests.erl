@@ -1,7 +1,7 @@
 %% Answers and charts with names and terms in the place of numbers.
 -module(seqaudit_explain_tests).
 
--export([whole_test/0, fits_test/0, completed_test/0, reasons_test/0, no_tool_test/0, faults_test/0,
+-export([whole_test/0, fits_test/0, completed_test/0, labels_test/0, reasons_test/0, no_tool_test/0, faults_test/0,
          losses_test/0, chart_test/0, drawing_test/0, drawing_is_safe_test/0, large_drawing_test_/0,
          too_large_drawing_test/0, brief_test/0, legend_test/0]).
 
@@ -84,6 +84,21 @@ completed_test() ->
         [seqaudit_bundle:find(Name, Completed, legend()) || Name <- ["bob & <co>#2~1", "<0.30.0>#0"]],
     [{error, {no_event_name, "alice"}}, {error, {no_process, <<"carol">>, _}}, {error, {no_event, "alice#9", [0]}}] =
         [seqaudit_bundle:find(Name, Completed, legend()) || Name <- ["alice", "carol#1", "alice#9"]].
+
+%% Of two messages with the count that two events need, each gets the one with its label.
+labels_test() ->
+    Sends = "process <0.30.0>\n{seq_trace,1,{send,{0,1},<0.30.0>,<0.32.0>,5}}\n"
+            "process <0.31.0>\n{seq_trace,2,{send,{0,1},<0.31.0>,<0.32.0>,6}}\nprocess <0.32.0>\n",
+    Print = fun(Label, Serial) -> ["{seq_trace,", Label, ",{print,", Serial, ",<0.32.0>,[],7}}\n"] end,
+    Receive = fun(Label, From, Value) ->
+                      ["{seq_trace,", Label, ",{'receive',{0,1},", From, ",<0.32.0>,", Value, "}}\n"]
+              end,
+    Streams = streams(["seqtrace 1\n", Sends, Print("9", "{0,3}"), Print("2", "{1,4}"), Print("9", "{0,5}"), Print("1", "{1,6}")]),
+    All = streams(["seqtrace 1\n", Sends, Print("9", "{0,3}"), Receive("1", "<0.30.0>", "5"), Print("2", "{1,4}"),
+                   Print("9", "{0,5}"), Receive("2", "<0.31.0>", "6"), Print("1", "{1,6}")]),
+    {_, Events} = lists:last(seqaudit_bundle:complete(Streams, {All, [{<<"<0.32.0>">>, 1}, {<<"<0.32.0>">>, 4}]})),
+    [{<<"2">>, <<"<0.31.0>">>, <<"6">>, {1, 1}}, {<<"1">>, <<"<0.30.0>">>, <<"5">>, {3, 1}}] =
+        [{Label, From, Value, At} || #{kind := 'receive', label := Label, from := From, value := Value, at := At} <- Events].
 
 reasons_test() ->
     Event = #{kind => 'receive', label => <<"17">>, prev => 2, this => 4, from => <<"<0.30.0>">>,
