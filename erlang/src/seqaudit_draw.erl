@@ -222,15 +222,18 @@ short(Text, Length) ->
 
 tip(Lines) -> lists:join("\n", Lines).
 
-%% What XML doesn't allow stands as a question mark.
+%% What XML doesn't allow, and what turns the direction of text, stands as its number.
 escape(Text) ->
     [case C of
          $& -> "&amp;";
          $< -> "&lt;";
          $> -> "&gt;";
          $" -> "&quot;";
-         _ when C >= 16#20, C =< 16#D7FF; C >= 16#E000, C =< 16#FFFD; C >= 16#10000; C =:= $\n -> C;
-         _ -> $?
+         $\n -> C;
+         _ when C < 16#20; C >= 16#7F, C < 16#A0; C =:= 16#61C; C >= 16#200B, C =< 16#200F;
+                C >= 16#2028, C =< 16#202E; C >= 16#2060, C =< 16#206F; C =:= 16#FEFF;
+                C =:= 16#FFFE; C =:= 16#FFFF -> io_lib:format("\\x{~.16B}", [C]);
+         _ -> C
      end || C <- unicode:characters_to_list(Text)].
 
 format(Format, Values) -> io_lib:format(Format, Values).

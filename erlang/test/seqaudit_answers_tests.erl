@@ -5,7 +5,7 @@
 -module(seqaudit_answers_tests).
 
 -export([second_trace_test_/0, workers_test_/0, supervisor_test_/0, flags_test_/0, reset_test_/0,
-         lost_node_test_/0, cut_test_/0, no_tool_test_/0]).
+         lost_node_test_/0, cut_test_/0, files_test_/0, no_tool_test_/0]).
 -export([init/1, echo/0]).
 
 -define(ALL, [send, 'receive', print]).
@@ -171,6 +171,44 @@ cut_test_() ->
           ["audit", "--from", "0.002", "--to", "0.0125"], ["chart", "--label", "{order,2}", "--from", "0.012"],
           ["audit", "--process", "nobody"], ["why", "--event", "ann#9"]]).
 
+%% A trace beyond the reader's limits is answered for a label of it, and its drawings are in parts or
+%% refused, with a way out.
+files_test_() ->
+    {timeout, 180, fun() ->
+        case seqaudit_program:find("seqaudit") of
+            {ok, _} -> files(seqaudit_audits:file("files"));
+            {error, _} -> io:format(user, "files: skipped, seqaudit isn't built~n", [])
+        end
+    end}.
+
+files(Name) ->
+    Tool = tool(),
+    Print = fun(Label, This, Pid) ->
+                    io_lib:format("{seq_trace,~b,{print,{~b,~b},<0.~b.0>,[],0}}~n", [Label, This - 1, This, Pid])
+            end,
+    Many = lists:seq(100, 1_300),
+    ok = file:write_file(Name ++ ".seqtrace", ["seqtrace 1\n", [["process <0.", integer_to_list(Pid), ".0>\n", Print(Pid rem 600, 1, Pid)]
+                                                               || Pid <- Many]]),
+    ok = file:write_file(Name ++ ".terms", ["seqaudit terms 1\n", [io_lib:format("label\t~b\tl~b\n", [N, N]) || N <- lists:seq(0, 599)]]),
+    has(command(["audit"], Name, Tool), ["fault too many", "cut it with --label", "(status 2)"]),
+    has(command(["audit", "--label", "l7", "--label", "l8"], Name, Tool), ["cut: 4 of 1,201 events; the cut leaves nothing open\nfits: 4 events of 4 processes"]),
+    has(command(["chart", "--label", "l7"], Name, Tool), ["cut: 2 of 1,201 events", "fits: 2 events of 2 processes", "<0.607.0>#0"]),
+    %% One label, in which a reset stands.
+    ok = file:write_file(Name ++ ".seqtrace", ["seqtrace 1\nprocess <0.100.0>\n", [Print(7, This, 100) || This <- [1, 2, 1]]]),
+    has(command(["chart", "--label", "l7", "--svg", Name ++ ".svg", "--html", Name ++ ".html"], Name, Tool), ["part 1 of 2\n", "part 2 of 2\n"]),
+    [{ok, <<"<?xml", _/binary>>} = file:read_file(Name ++ Which ++ ".svg") || Which <- ["-1", "-2"]],
+    {ok, <<"<!doctype html>", Page/binary>>} = file:read_file(Name ++ ".html"),
+    has(Page, ["doesn't fit: no run without a reset has it"]),
+    %% More rows than a drawing takes.
+    ok = file:write_file(Name ++ ".seqtrace", ["seqtrace 1\nprocess <0.100.0>\n", [Print(7, This, 100) || This <- lists:seq(1, 2_001)]]),
+    has(command(["chart", "--label", "l7", "--svg", Name ++ ".svg", "--html", Name ++ ".html"], Name, Tool),
+        ["the chart has 2001 rows, and a drawing takes 2000; use the page (--html FILE)", "(status 2)"]),
+    has(command(["chart", "--html", Name ++ ".html"], Name, Tool), ["fits: 2,001 events of 1 process", "(status 0)"]),
+    has(command(["chart", "--html", "/no/such/folder/x.html"], Name, Tool), ["/no/such/folder/x.html can't be written", "(status 4)"]).
+
+has(Text, Parts) ->
+    [] = [{Part, Text} || Part <- Parts, binary:match(Text, unicode:characters_to_binary(Part)) =:= nomatch].
+
 %% Without seqtool the commands do what they can, and say what it would be good for.
 no_tool_test_() ->
     {timeout, 120, fun() ->
@@ -236,7 +274,7 @@ stopped() ->
 said(Case, Trace, Commands) ->
     {Case, {timeout, 180, fun() ->
         Name = seqaudit_audits:file(Case),
-        [file:delete(Name ++ "." ++ Extension) || Extension <- ["times", "notes"]],
+        [file:delete(File) || File <- filelib:wildcard(Name ++ ".*")],
         Trace(Name),
         case {auditor(), tool()} of
             {none, _} -> io:format(user, "~ts: skipped, there is no auditor~n", [Case]);
@@ -244,9 +282,17 @@ said(Case, Trace, Commands) ->
             {_, Tool} ->
                 Said = [[$$, $\s, lists:join(" ", ["seqaudit-node", hd(Words), Case | [quoted(Word) || Word <- tl(Words)]]),
                          $\n, command(Words, Name, Tool)] || Words <- Commands],
+                checked(Name),
                 compare(Case, normal(unicode:characters_to_binary(Said)))
         end
     end}}.
+
+%% What audit keeps is a run, as the checker confirms.
+checked(Name) ->
+    Answers = [File || File <- [Name ++ ".answer" | filelib:wildcard(Name ++ ".part*.answer")],
+                       {ok, <<"seqtrace", _/binary>>} <- [file:read_file(File)]],
+    {true, _} = {Answers =/= [], Name},
+    [{ok, {0, <<"yes\n", _/binary>>}} = seqaudit_program:run(auditor(), ["check"], File) || File <- Answers].
 
 quoted(Word) ->
     case re:run(Word, "[{#]") of
@@ -271,8 +317,10 @@ tool() ->
     end.
 
 completes(Program) ->
-    seqaudit_program:with_text("seqtrace 1\n", fun(File) ->
-        {ok, {0, <<"added 0\n">>}} =:= seqaudit_program:run(Program, ["complete"], File)
+    Late = "seqtrace 1\nprocess <0.1.0>\n{seq_trace,1,{print,{0,5},<0.1.0>,[],0}}\n",
+    seqaudit_program:with_text(Late, fun(File) ->
+        [0, 0] =:= [Status || Words <- [["complete"], ["renumber"]],
+                              {ok, {Status, _}} <- [seqaudit_program:run(Program, Words, File)]]
     end).
 
 command([Command | Words], Name, Tool) ->
