@@ -3,8 +3,8 @@
 
     slow_seqtool.py renumber | complete [--as added|streams|acts]    < BUNDLE
 
-`renumber` is exact. `complete` puts each hidden send before all receives of its stretch and tries no
-other place: where that leaves a need without a sender, it says `open`.
+`renumber` is exact. `complete` puts each hidden send at the first place at which it needs nothing, and
+tries no other choice: where that leaves a need without a sender, it says `open`.
 """
 
 import sys
@@ -41,7 +41,8 @@ def renumbered(streams):
 
 
 def with_hidden(streams, source):
-    """The streams with their hidden sends, each right behind the reported stamp before it."""
+    """The streams with their hidden sends, each at the first place of its stretch, no earlier than the
+    hidden send before it, at which it needs nothing; at the earliest place if there is none."""
     whole = {pid: [Item(event, True, (pid, i)) for i, event in enumerate(events)]
              for pid, events in streams.items()}
     hidden = sorted(((streams[p][i], (p, i)) for (p, i), sent in source.items() if sent is None),
@@ -50,8 +51,22 @@ def with_hidden(streams, source):
         items = whole[event.sender]
         behind = [k for k, item in enumerate(items)
                   if item.event.kind != "receive" and item.event.this < event.this]
-        items.insert(behind[-1] + 1 if behind else 0, Item(replace(event, kind="send"), False, place))
+        least = most = behind[-1] + 1 if behind else 0
+        while most < len(items) and items[most].event.kind == "receive" and items[most].event.this < event.this:
+            most += 1
+        free = [k for k in range(least, most + 1) if not needs_at(items[:k], event)]
+        items.insert((free or [least])[0], Item(replace(event, kind="send"), False, place))
     return whole
+
+
+def needs_at(before, event):
+    """Whether the stamp behind these is a need."""
+    clock = max([item.event.this for item in before], default=0)
+    left = 0
+    if before:
+        last = before[-1].event
+        left = last.this if last.kind == "receive" else last.prev
+    return event.prev != left and event.prev < clock
 
 
 def late(streams):
