@@ -124,27 +124,61 @@ actor(#{from := From}) -> From.
 %% @doc The streams with the unreported events that `seqtool complete' found: its streams of all
 %% events, in which those of these streams stand in their order, with their numbers.
 %%
-%% The tool looks at counts alone. Where several reported messages have the count that a process
-%% needs, any of them will do, so one with the label of the event that needs it is taken.
+%% The tool looks at counts alone. Where they leave a choice, what an engineer would expect is taken:
+%% of several messages with the count that an event needs one with its label, and of the places where
+%% an unreported send may have been the one behind the receive that it says it follows.
 -spec complete(streams(), {All :: streams(), Added :: [{pid_text(), non_neg_integer()}]}) ->
           streams().
 complete(Streams, {All, Added}) ->
     Unreported = maps:from_keys(Added, unreported),
     Reported = maps:from_list(Streams),
-    match_labels([{Pid, place_events(Events, Pid, Unreported, maps:get(Pid, Reported, []), 1)}
+    Received = maps:from_keys([{From, This} || {_, Events} <- Streams,
+                                               #{kind := 'receive', from := From, this := This} <- Events],
+                              received),
+    match_labels([{Pid, place_events(follow(mark(Pid, Events, Unreported), Received),
+                                     maps:get(Pid, Reported, []), 1)}
                   || {Pid, Events} <- All]).
 
+mark(Pid, Events, Unreported) ->
+    [{case Unreported of
+          #{{Pid, Position} := _} -> unreported;
+          #{} -> reported
+      end, Event} || #{at := Position} = Event <- Events].
+
+%% Moves each unreported send whose receive was reported behind the receive whose count is its prev,
+%% if that stands between it and the next stamp. What it leaves for the next event is the same there.
+follow(Marked, Received) ->
+    {Known, _} = lists:mapfoldl(fun({_, #{prev := Prev} = Event} = One, Counts) ->
+                                        {{is_map_key(Prev, Counts), One}, counts(Event, Counts)}
+                                end, #{}, Marked),
+    lists:foldr(fun({false, {unreported, #{kind := send, from := From, this := This}} = One}, After)
+                      when is_map_key({From, This}, Received) ->
+                        move(One, After, []);
+                   ({_, One}, After) ->
+                        [One | After]
+                end, [], Known).
+
+%% The counts that were received.
+counts(#{kind := 'receive', this := This}, Counts) -> Counts#{This => received};
+counts(_, Counts) -> Counts.
+
+move({_, #{prev := Prev}} = Send, [{reported, #{kind := 'receive', this := Prev}} = Cause | After], Passed) ->
+    lists:reverse(Passed, [Cause, Send | After]);
+move({_, #{this := This}} = Send, [{_, #{kind := 'receive', this := Count}} = Other | After], Passed)
+  when Count < This ->
+    move(Send, After, [Other | Passed]);
+move(Send, After, Passed) ->
+    [Send | lists:reverse(Passed, After)].
+
 %% `Which' counts the unreported events since the last reported one.
-place_events([], _Pid, _Unreported, _Reported, _Which) ->
+place_events([], _Reported, _Which) ->
     [];
-place_events([#{at := Position} = Event | Events], Pid, Unreported, Reported, Which)
-  when is_map_key({Pid, Position}, Unreported) ->
-    [Event#{at => {next_at(Reported), Which}}
-     | place_events(Events, Pid, Unreported, Reported, Which + 1)];
-place_events([_ | Events], Pid, Unreported, [Event], _Which) ->
-    [Event | place_events(Events, Pid, Unreported, {behind, Event}, 1)];
-place_events([_ | Events], Pid, Unreported, [Event | Reported], _Which) ->
-    [Event | place_events(Events, Pid, Unreported, Reported, 1)].
+place_events([{unreported, Event} | Events], Reported, Which) ->
+    [Event#{at => {next_at(Reported), Which}} | place_events(Events, Reported, Which + 1)];
+place_events([_ | Events], [Event], _Which) ->
+    [Event | place_events(Events, {behind, Event}, 1)];
+place_events([_ | Events], [Event | Reported], _Which) ->
+    [Event | place_events(Events, Reported, 1)].
 
 next_at([#{at := At} | _]) -> At;
 next_at({behind, #{at := At}}) -> At + 1;

@@ -6,6 +6,7 @@
 
 -export([second_trace_test_/0, workers_test_/0, supervisor_test_/0, flags_test_/0, reset_test_/0,
          lost_node_test_/0, cut_test_/0, files_test_/0, no_tool_test_/0]).
+-export([tool/0]).
 -export([init/1, echo/0]).
 
 -define(ALL, [send, 'receive', print]).

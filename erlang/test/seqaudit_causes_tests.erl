@@ -3,7 +3,7 @@
 -module(seqaudit_causes_tests).
 
 -export([as_the_charts_test_/0, spawned_test/0, unreported_test/0, beginnings_test/0, resets_test/0,
-         hidden_reset_test/0, no_reset_test/0]).
+         hidden_reset_test/0, no_reset_test/0, completed_test_/0]).
 
 streams(Text) ->
     {ok, Streams} = seqaudit_bundle:parse(iolist_to_binary(Text)),
@@ -116,6 +116,46 @@ hidden_reset_test() ->
 no_reset_test() ->
     _ = rand:seed(exsss, {4, 5, 6}),
     [[_] = seqaudit_parts:split(streams(text(run([all, all])))) || _ <- lists:seq(1, 100)].
+
+%% What is shown of completed streams, with other messages and places than the tool chose, lacks
+%% nothing more: the tool adds nothing to it. And no run without a reset is said to be none.
+completed_test_() ->
+    {timeout, 300, fun() ->
+        case {seqaudit_program:find("seqaudit"), seqaudit_answers_tests:tool()} of
+            {{ok, _}, Tool} when Tool =/= none ->
+                Before = os:getenv("SEQTOOL"),
+                true = os:putenv("SEQTOOL", Tool),
+                try
+                    _ = rand:seed(exsss, {7, 8, 9}),
+                    Said = [completed(streams(text(thinned(run([all, some]))))) || _ <- lists:seq(1, 20)],
+                    true = length([completed || completed <- Said]) >= 5
+                after
+                    case Before of
+                        false -> os:unsetenv("SEQTOOL");
+                        _ -> os:putenv("SEQTOOL", Before)
+                    end
+                end;
+            _ ->
+                skipped
+        end
+    end}.
+
+thinned(Streams) ->
+    [{Pid, [Line || Line <- Lines, string:find(Line, "'receive'") =:= nomatch orelse rand:uniform(3) > 1]}
+     || {Pid, Lines} <- Streams].
+
+completed(Streams) ->
+    {ok, #{said := Said, streams := Shown}} = seqaudit_outcome:ask(Streams),
+    true = Said =:= fits orelse Said =:= completed orelse Said =:= open,
+    Said =:= completed andalso
+        begin
+            {ok, {0, <<"added 0\n">>}} = seqaudit_program:with_text(seqaudit_bundle:text(Shown), fun(File) ->
+                                              seqaudit_program:ask("seqtool", ["complete"], File)
+                                          end),
+            %% What was reported is there, in its order.
+            Streams = [{Pid, [Event || #{at := At} = Event <- Events, is_integer(At)]} || {Pid, Events} <- Shown]
+        end,
+    Said.
 
 %% A machine of three processes that goes at random; each stream's lines, last first while it runs.
 

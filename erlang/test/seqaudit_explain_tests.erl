@@ -1,7 +1,7 @@
 %% Answers and charts with names and terms in the place of numbers.
 -module(seqaudit_explain_tests).
 
--export([whole_test/0, fits_test/0, completed_test/0, labels_test/0, reasons_test/0, no_tool_test/0, faults_test/0,
+-export([whole_test/0, fits_test/0, completed_test/0, labels_test/0, places_test/0, reasons_test/0, no_tool_test/0, faults_test/0,
          losses_test/0, chart_test/0, drawing_test/0, drawing_is_safe_test/0, large_drawing_test_/0,
          too_large_drawing_test/0, brief_test/0, legend_test/0]).
 
@@ -99,6 +99,17 @@ labels_test() ->
     {_, Events} = lists:last(seqaudit_bundle:complete(Streams, {All, [{<<"<0.32.0>">>, 1}, {<<"<0.32.0>">>, 4}]})),
     [{<<"2">>, <<"<0.31.0>">>, <<"6">>, {1, 1}}, {<<"1">>, <<"<0.30.0>">>, <<"5">>, {3, 1}}] =
         [{Label, From, Value, At} || #{kind := 'receive', label := Label, from := From, value := Value, at := At} <- Events].
+
+%% An unreported send stands behind the receive that it follows, if one is there before the next stamp.
+places_test() ->
+    Receive = fun(Serial, This) -> ["{seq_trace,1,{'receive',{", Serial, ",", This, "},<0.30.0>,<0.32.0>,5}}\n"] end,
+    Hidden = "{seq_trace,1,{send,{3,9},<0.32.0>,<0.30.0>,6}}\n",
+    Last = ["{seq_trace,1,{print,{4,10},<0.32.0>,[],6}}\n"],
+    First = "seqtrace 1\nprocess <0.30.0>\n{seq_trace,1,{'receive',{3,9},<0.32.0>,<0.30.0>,6}}\nprocess <0.32.0>\n",
+    Streams = streams([First, Receive("0", "1"), Receive("1", "3"), Receive("3", "4"), Last]),
+    All = streams([First, Hidden, Receive("0", "1"), Receive("1", "3"), Receive("3", "4"), Last]),
+    [_, {_, Events}] = seqaudit_bundle:complete(Streams, {All, [{<<"<0.32.0>">>, 0}]}),
+    [0, 1, {2, 1}, 2, 3] = [At || #{at := At} <- Events].
 
 reasons_test() ->
     Event = #{kind => 'receive', label => <<"17">>, prev => 2, this => 4, from => <<"<0.30.0>">>,
