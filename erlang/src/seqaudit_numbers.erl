@@ -39,7 +39,7 @@ size(Table) ->
 -spec part(non_neg_integer(), non_neg_integer(), table()) -> [seqaudit_external:encoded()].
 part(First, Count, Table) ->
     [ets:lookup_element(Table, Number, 2)
-     || Number <- lists:seq(First, min(First + Count, size(Table)) - 1)].
+     || Number <- lists:seq(First, max(First, min(First + Count, size(Table))) - 1)].
 
 %% @doc All terms in the order of their numbers.
 -spec listed(table()) -> [seqaudit_external:encoded()].
