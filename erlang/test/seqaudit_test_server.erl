@@ -2,7 +2,7 @@
 -module(seqaudit_test_server).
 -behaviour(gen_server).
 
--export([start/1, start/2, init/1, handle_call/3, handle_cast/2]).
+-export([start/1, start/2, print/2, load/2, init/1, handle_call/3, handle_cast/2]).
 
 start(Fun) ->
     {ok, Pid} = gen_server:start(?MODULE, Fun, []),
@@ -21,3 +21,39 @@ handle_call(Request, _From, Fun) ->
 handle_cast(Request, Fun) ->
     Fun(Request),
     {noreply, Fun}.
+
+%% Prints under a token, in this process.
+print(Label, What) ->
+    seqaudit_trace:with_trace(Label, fun() -> seq_trace:print(What), ok end).
+
+%% So many pairs write lists of 500 numbers to each other for so long, all under tokens; how many
+%% messages that was.
+load(Pairs, Milliseconds) ->
+    End = erlang:monotonic_time(millisecond) + Milliseconds,
+    Started = [spawn_monitor(fun() -> exit({sent, pair(Label, End)}) end)
+               || Label <- lists:seq(1, Pairs)],
+    lists:sum([receive {'DOWN', Monitor, process, _, {sent, Count}} -> Count end
+               || {_, Monitor} <- Started]).
+
+pair(Label, End) ->
+    Self = self(),
+    Numbers = lists:seq(1, 500),
+    Other = spawn_link(fun() -> echo(Self) end),
+    seq_trace:set_token(label, Label),
+    [seq_trace:set_token(Flag, true) || Flag <- [send, 'receive', print]],
+    Count = write(Other, Numbers, End, 0),
+    seq_trace:set_token([]),
+    unlink(Other),
+    exit(Other, kill),
+    Count.
+
+write(Other, Numbers, End, Count) ->
+    Other ! {Count, Numbers},
+    receive {back, {Count, _}} -> ok end,
+    case Count rem 100 =:= 0 andalso erlang:monotonic_time(millisecond) > End of
+        true -> 2 * Count;
+        false -> write(Other, Numbers, End, Count + 1)
+    end.
+
+echo(To) ->
+    receive Message -> To ! {back, Message}, echo(To) end.
