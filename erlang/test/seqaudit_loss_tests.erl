@@ -14,7 +14,8 @@ on_two(Test) ->
                 try Test(There)
                 after
                     _ = seqaudit_trace:stop(),
-                    Stop()
+                    %% The test may have killed the node.
+                    try Stop() catch exit:noproc -> net_kernel:stop() end
                 end;
             {error, Reason} ->
                 io:format(user, "a second node: skipped, ~0tp~n", [Reason])
