@@ -2,7 +2,8 @@
 -module(seqaudit_test_server).
 -behaviour(gen_server).
 
--export([start/1, start/2, print/2, load/2, init/1, handle_call/3, handle_cast/2]).
+-export([start/1, start/2, print/2, load/2, without_runtime_tools/0, begin_shop/0, order/1,
+         shop_token/0, init/1, handle_call/3, handle_cast/2]).
 
 start(Fun) ->
     {ok, Pid} = gen_server:start(?MODULE, Fun, []),
@@ -57,3 +58,21 @@ write(Other, Numbers, End, Count) ->
 
 echo(To) ->
     receive Message -> To ! {back, Message}, echo(To) end.
+
+%% As if the node had no runtime_tools.
+without_runtime_tools() ->
+    _ = code:purge(dbg),
+    _ = code:delete(dbg),
+    true = code:del_path(runtime_tools),
+    ok.
+
+%% A server that is called by what somebody may trace.
+begin_shop() ->
+    _ = start(seqaudit_test_shop, fun(Order) -> Order end),
+    ok.
+
+order(Order) ->
+    gen_server:call(seqaudit_test_shop, Order).
+
+shop_token() ->
+    process_info(whereis(seqaudit_test_shop), sequential_trace_token).
