@@ -85,9 +85,8 @@ scan(Bytes, {Text, Place, Prefixed, Fault} = Scan, Do, {_Last, Acc} = State) ->
     end.
 
 scan_term(Begin, {_Text, Place, _, _} = Scan, Do, {Last, Acc}) ->
-    try term(Begin, Place, 0) of
-        {Term, Rest0} ->
-            Rest = ended(Rest0, Begin),
+    try ended_term(Begin, Place) of
+        {Term, Rest} ->
             Opened = opened(Place#place.node, Last, Do, Acc),
             scan(Rest, Scan, Do, {Place#place.node, Do({event, Term}, Opened)})
     catch
@@ -152,6 +151,10 @@ comment(_, Place) ->
 is_name(Name) ->
     byte_size(Name) =< 4 * ?ATOM_CHARACTERS
         andalso length(unicode:characters_to_list(Name)) =< ?ATOM_CHARACTERS.
+
+ended_term(Begin, Place) ->
+    {Term, Rest} = term(Begin, Place, 0),
+    {Term, ended(Rest, Begin)}.
 
 %% Behind a term comes the end of its line, or a full stop.
 ended(Rest, Begin) ->

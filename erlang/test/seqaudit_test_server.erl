@@ -3,7 +3,7 @@
 -behaviour(gen_server).
 
 -export([start/1, start/2, print/2, load/2, without_runtime_tools/0, begin_shop/0, order/1,
-         shop_token/0, init/1, handle_call/3, handle_cast/2]).
+         shop_token/0, with_token/1, init/1, handle_call/3, handle_cast/2]).
 
 start(Fun) ->
     {ok, Pid} = gen_server:start(?MODULE, Fun, []),
@@ -76,3 +76,11 @@ order(Order) ->
 
 shop_token() ->
     process_info(whereis(seqaudit_test_shop), sequential_trace_token).
+
+%% Calls the function under a token, whoever traces.
+with_token(Fun) ->
+    seq_trace:set_token(label, 1),
+    [seq_trace:set_token(Flag, true) || Flag <- [send, 'receive', print]],
+    _ = Fun(7),
+    seq_trace:set_token([]),
+    true.
