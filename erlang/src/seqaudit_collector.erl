@@ -33,11 +33,15 @@
 %% The wrapped files share the total size.
 -define(FILES, 8).
 -define(BYTES, 268_435_456).
-%% The tracer is taken off when its queue holds about so many bytes. An event in a queue takes about
+%% Where the collector itself is the tracer it runs before others, as it has to see that it falls
+%% behind. The tracer is taken off when its queue holds about so many bytes. An event in a queue takes about
 %% eight times the bytes that it has in a file.
--define(QUEUE_BYTES, 33_554_432).
+-define(QUEUE_BYTES, 8_388_608).
 -define(QUEUE_FACTOR, 8).
--define(LOOK_EVERY, 32).
+-define(LOOK_EVERY, 1).
+%% It writes so many bytes at once. (`delayed_write' would wait for a process that runs with all
+%% others.)
+-define(BUFFER_BYTES, 65_536).
 %% The owner's node may come back within this time, as after a net split.
 -define(GRACE_MS, 60_000).
 
@@ -63,6 +67,7 @@
                 trigger :: trigger() | none,
                 former :: tracer(),
                 by :: {port, port()} | {device, file:io_device()} | closed,
+                buffer = {0, []} :: {non_neg_integer(), iolist()},
                 kept = 0 :: non_neg_integer(),
                 written = 0 :: non_neg_integer(),
                 dropped = 0 :: non_neg_integer(),
@@ -175,8 +180,9 @@ open(true, #state{folder = Folder, bytes = Bytes} = State) ->
     end;
 open(false, #state{folder = Folder}) ->
     {Base, Suffix} = seqaudit_spool:base(Folder),
+    _ = process_flag(priority, high),
     {ok, Device} = file:open(Base ++ "0" ++ Suffix,
-                             [append, raw, binary, {delayed_write, 65_536, ?TICK_MS}]),
+                             [append, raw, binary]),
     {device, Device}.
 
 %% Sets the token by a match specification, which sends no message. Calls are traced for this process,
@@ -281,18 +287,36 @@ ended(Why, #state{ended = no} = State) -> State#state{ended = {Why, erlang:unive
 ended(_Why, State) -> State.
 
 %% Where the collector itself is the tracer, it writes the event.
-event(Event, Info, #state{by = {device, Device}, kept = Kept, written = Written} = State) ->
+event(Event, Info, #state{by = {device, _}, kept = Kept, written = Written} = State) ->
     Bytes = term_to_binary(Event),
     Size = byte_size(Bytes) + 5,
     case Kept < State#state.limit andalso Written + Size =< State#state.bytes of
         true ->
-            ok = file:write(Device, [<<0, (byte_size(Bytes)):32>>, Bytes]),
-            look_at_queue(meet([Info], State#state{kept = Kept + 1, written = Written + Size}));
+            Buffered = buffer([<<0, (byte_size(Bytes)):32>>, Bytes], Size, State),
+            look_at_queue(meet([Info], Buffered#state{kept = Kept + 1, written = Written + Size}));
         false ->
             look_at_queue(State#state{dropped = State#state.dropped + 1})
     end;
 event(_Event, _Info, State) ->
     State#state{strays = State#state.strays + 1}.
+
+buffer(Entry, Size, #state{buffer = {Before, Entries}} = State) ->
+    Buffered = State#state{buffer = {Before + Size, [Entries, Entry]}},
+    case Before + Size > ?BUFFER_BYTES of
+        true -> flush(Buffered);
+        false -> Buffered
+    end.
+
+%% A disk that is full ends the collecting.
+flush(#state{by = {device, Device}, buffer = {_, Entries}} = State) ->
+    case file:write(Device, Entries) of
+        ok -> State#state{buffer = {0, []}};
+        {error, Reason} ->
+            _ = file:close(Device),
+            ended({disk, Reason}, (take_off(State))#state{by = closed, buffer = {0, []}})
+    end;
+flush(State) ->
+    State.
 
 look_at_queue(#state{tracer = on, kept = Kept, dropped = Dropped, written = Written} = State)
   when (Kept + Dropped) rem ?LOOK_EVERY =:= 0, Kept > 0 ->
@@ -312,7 +336,7 @@ tick(#state{by = {port, Port}} = State) ->
         error:badarg -> State
     end;
 tick(State) ->
-    State.
+    flush(State).
 
 %% How much came is noted for each file's worth, so that it is known roughly of a killed node too.
 note_written(Now, #state{written = Noted, bytes = Bytes} = State) when Now - Noted > Bytes div ?FILES ->
@@ -408,9 +432,13 @@ close(#state{by = {port, Port}} = State) ->
     _ = (catch erlang:port_control(Port, $f, "")),
     _ = (catch port_close(Port)),
     close(State#state{by = closed, written = Written});
-close(#state{by = {device, Device}} = State) ->
-    _ = file:close(Device),
-    close(State#state{by = closed}).
+close(#state{by = {device, _}} = State) ->
+    case flush(State) of
+        #state{by = {device, Device}} = Flushed ->
+            _ = file:close(Device),
+            close(Flushed#state{by = closed});
+        Closed -> close(Closed)
+    end.
 
 %% All that came to the port, once no more comes.
 written(Port) ->

@@ -29,6 +29,10 @@
                        [seqaudit_events:facts()]).
 %% What the processes of each node are called that nobody asked yet.
 
+%% So many lines are made at once, and the texts of so many values.
+-define(AT_ONCE, 1_000).
+-define(SHARE, 5_000).
+
 %% The parts of a bundle, each a function that hands its text on piece by piece.
 -type part() :: fun((fun((iodata()) -> ok)) -> ok).
 
@@ -83,7 +87,7 @@ text(Part) ->
 
 %% The tables of a conversion, and what it leaves on the heap, end with a process of its own.
 alone(Do) ->
-    {Worker, Monitor} = spawn_monitor(fun() -> exit({done, Do()}) end),
+    {Worker, Monitor} = spawn_opt(fun() -> exit({done, Do()}) end, [monitor, {fullsweep_after, 10}]),
     receive
         {'DOWN', Monitor, process, Worker, {done, Result}} -> Result;
         {'DOWN', Monitor, process, Worker, Reason} -> error(Reason)
@@ -106,6 +110,8 @@ asked(#build{actors = Actors, known = Known} = Build, Ask) ->
 
 write(Build, Name) ->
     {Parts, Facts} = parts(Build),
+    %% What was needed until here may be large.
+    true = garbage_collect(),
     case write_parts([{Name ++ Suffix, maps:get(Part, Parts)}
                       || {Part, Suffix} <- [{seqtrace, ".seqtrace"}, {terms, ".terms"},
                                             {times, ".times"}],
@@ -132,7 +138,7 @@ write_parts([{File, Part} | Parts], Done) ->
 
 %% The owner alone may read the file, from before anything stands in it.
 write_file(File, Part) ->
-    case file:open(File, [write, raw, binary, {delayed_write, 1_048_576, 2_000}]) of
+    case file:open(File, [write, raw, binary]) of
         {ok, Device} ->
             try
                 ok = file:change_mode(File, 8#600),
@@ -151,6 +157,7 @@ write_file(File, Part) ->
 -spec parts(seqaudit_build:build()) -> {#{atom() => part()}, map()}.
 parts(#build{actors = Actors, others = Others} = Build) ->
     {Packed, Resolved} = seqaudit_resolve:resolve(Build),
+    Kept = byte_size(Packed) div ?PACKED_SIZE,
     Listed = {seqaudit_numbers:listed(Actors), seqaudit_numbers:listed(Others)},
     Used = used(Packed, Listed),
     Numbers = seqaudit_processes:number(Used),
@@ -163,12 +170,14 @@ parts(#build{actors = Actors, others = Others} = Build) ->
     Counts = maps:merge(Build#build.counts, Resolved#{nameless => Nameless}),
     ByLabel = lists:sort([{Number, Label} || {Label, Number} <- maps:to_list(LabelNumbers)]),
     Bundle = fun(Out) -> bundle(Sorted, Streams, Packed, {Spelled, LabelTexts}, Out) end,
-    Terms = fun(Out) -> terms(Sorted, ByLabel, Build, Numbers, Out) end,
+    Known = Build#build.known,
+    Values = Build#build.values,
+    Terms = fun(Out) -> terms(Sorted, ByLabel, {Known, Values}, Numbers, Out) end,
     Times = fun(Out) -> seqaudit_times:write(Sorted, Streams, Packed, Out) end,
     {maps:from_list([{seqtrace, Bundle}, {terms, Terms}]
                     ++ [{times, Times} || is_map_key(timestamps, Counts)]),
      #{collections => lists:reverse(Build#build.collections), counts => Counts, listed => Sorted,
-       labels => ByLabel, events => Placed, kept => byte_size(Packed) div ?PACKED_SIZE}}.
+       labels => ByLabel, events => Placed, kept => Kept}}.
 
 notes(Bytes, #{listed := Listed, collections := Collections, counts := Counts} = Facts) ->
     Sizes = #{bytes => Bytes, processes => length(Listed), events => maps:get(events, Facts)},
@@ -243,11 +252,14 @@ bundle(Sorted, Streams, Packed, Texts, Out) ->
                           lines(maps:get(Spelled, Streams, <<>>), Packed, Texts, Out)
                   end, Sorted).
 
-lines(<<Place:32, Places/binary>>, Packed, Texts, Out) ->
-    ok = Out(line(binary:part(Packed, Place * ?PACKED_SIZE, ?PACKED_SIZE), Texts)),
-    lines(Places, Packed, Texts, Out);
 lines(<<>>, _Packed, _Texts, _Out) ->
-    ok.
+    ok;
+lines(Places, Packed, Texts, Out) ->
+    Size = min(byte_size(Places), 4 * ?AT_ONCE),
+    <<Now:Size/binary, Later/binary>> = Places,
+    ok = Out([line(binary:part(Packed, Place * ?PACKED_SIZE, ?PACKED_SIZE), Texts)
+              || <<Place:32>> <= Now]),
+    lines(Later, Packed, Texts, Out).
 
 line(<<?PACKED(Kind, Label, Prev, This, From, To, Value, _Time)>>, {Spelled, Labels}) ->
     [<<"{seq_trace,">>, element(Label + 1, Labels), word(Kind), integer_to_binary(Prev), $,,
@@ -260,14 +272,33 @@ word(?PRINT) -> <<",{print,{">>.
 
 %% The legend, whose first lines `seqaudit_legend' makes. The values may be many, so they are handed
 %% on one by one.
-terms(Sorted, Labels, #build{values = Values} = Build, Numbers, Out) ->
-    ok = Out(seqaudit_legend:text(named(Sorted, Build#build.known), [], [], #{})),
-    lists:foreach(fun({Number, Label}) -> ok = Out(entry("label", Number, Label, Numbers)) end, Labels),
-    _ = lists:foldl(fun(Value, Number) ->
-                            ok = Out(entry("value", Number, Value, Numbers)),
-                            Number + 1
-                    end, 0, seqaudit_numbers:listed(Values)),
-    ok.
+terms(Sorted, Labels, {Known, Values}, Numbers, Out) ->
+    ok = Out(seqaudit_legend:text(named(Sorted, Known), [], [], #{})),
+    ok = Out([entry("label", Number, Label, Numbers) || {Number, Label} <- Labels]),
+    values(0, Values, Numbers, Out).
+
+%% The texts of so many values are made by one process, as many at a time as there are schedulers.
+values(First, Values, Numbers, Out) ->
+    Starts = [First + ?SHARE * N || N <- lists:seq(0, erlang:system_info(schedulers_online) - 1)],
+    Parts = [{Start, Part} || Start <- Starts,
+                              [_ | _] = Part <- [seqaudit_numbers:part(Start, ?SHARE, Values)]],
+    Workers = [spawn_monitor(fun() -> exit({text, entries(Part, Start, Numbers)}) end)
+               || {Start, Part} <- Parts],
+    lists:foreach(fun({_, Monitor}) ->
+                          receive
+                              {'DOWN', Monitor, process, _, {text, Text}} -> ok = Out(Text);
+                              {'DOWN', Monitor, process, _, Reason} -> error(Reason)
+                          end
+                  end, Workers),
+    case Parts of
+        [] -> ok;
+        _ -> values(First + ?SHARE * length(Starts), Values, Numbers, Out)
+    end.
+
+entries(Values, First, Numbers) ->
+    iolist_to_binary([entry("value", Number, Value, Numbers)
+                      || {Number, Value} <- lists:zip(lists:seq(First, First + length(Values) - 1),
+                                                      Values)]).
 
 entry(Kind, Number, Term, Numbers) ->
     unicode:characters_to_binary([Kind, $\t, integer_to_list(Number), $\t,

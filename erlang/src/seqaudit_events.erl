@@ -392,7 +392,7 @@ actor(_) -> [].
 -spec open(file:filename()) -> {ok, file:io_device()} | {error, {file, file:filename(), term()}}.
 open(Name) ->
     File = Name ++ ".events",
-    case file:open(File, [write, raw, binary, {delayed_write, ?PIECE, 1_000}]) of
+    case file:open(File, [write, raw, binary]) of
         {ok, Device} ->
             case {file:change_mode(File, 8#600), file:write(Device, ?HEADER)} of
                 {ok, ok} -> {ok, Device};
@@ -446,7 +446,7 @@ whole_entries(Rest, _Limit, Done, Counts) ->
 facts(Facts) ->
     read_facts(seqaudit_external:from_term(Facts)).
 
-%% @doc Closes the file; with `delayed_write' an error of a write may come only here.
+%% @doc Closes the file, once the disk has it.
 -spec close(file:io_device()) -> ok | {error, term()}.
 close(Device) ->
     case file:datasync(Device) of

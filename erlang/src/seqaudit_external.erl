@@ -351,33 +351,56 @@ atom_name(_) -> none.
 %% @doc The event that the bytes of a term are; `other' where they are another term.
 -spec event(binary()) -> {ok, event()} | other | damaged.
 event(Bytes) ->
-    try event_head(Bytes)
+    try event_of(Bytes)
     catch throw:damaged -> damaged
     end.
 
-event_head(<<?SMALL_TUPLE, Arity, Rest0/binary>> = Bytes) when Arity =:= 3; Arity =:= 4 ->
-    case one(Rest0) of
-        {<<?ATOM, 9:16, "seq_trace">>, Rest1} ->
-            {Label, Rest2} = one(Rest1),
-            event_body(Rest2, Arity, Label, Bytes);
-        _ -> other(Bytes)
+event_of(<<?SMALL_TUPLE, _, ?SMALL_ATOM_UTF8, _/binary>> = Bytes) ->
+    case one(Bytes) of
+        {Event, <<>>} -> event_head(Event);
+        _ -> damaged
+    end;
+event_of(Bytes) ->
+    event_head(Bytes).
+
+%% As OTP 25 writes it; what another release wrote is put into that form first.
+event_head(<<?SMALL_TUPLE, Arity, ?ATOM, 9:16, "seq_trace", Rest0/binary>> = Bytes)
+  when Arity =:= 3; Arity =:= 4 ->
+    {Label, Rest1} = one(Rest0),
+    case Rest1 of
+        <<?SMALL_TUPLE, 5, ?ATOM, 4:16, "send", Rest2/binary>> ->
+            event_body(send, Rest2, Arity, Label, Bytes);
+        <<?SMALL_TUPLE, 5, ?ATOM, 7:16, "receive", Rest2/binary>> ->
+            event_body('receive', Rest2, Arity, Label, Bytes);
+        <<?SMALL_TUPLE, 5, ?ATOM, 5:16, "print", Rest2/binary>> ->
+            event_body(print, Rest2, Arity, Label, Bytes);
+        _ ->
+            other(Bytes)
     end;
 event_head(Bytes) ->
     other(Bytes).
 
-event_body(<<?SMALL_TUPLE, 5, Rest0/binary>>, Arity, Label, Bytes) ->
-    {Kind, Rest1} = one(Rest0),
-    {Serial, Rest2} = one(Rest1),
+event_body(Kind, <<?SMALL_TUPLE, 2, Rest0/binary>>, Arity, Label, Bytes) ->
+    {Prev, Rest1} = count(Rest0),
+    {This, Rest2} = count(Rest1),
     {From, Rest3} = one(Rest2),
     {To, Rest4} = one(Rest3),
     {Message, Rest5} = one(Rest4),
-    case {kind(Kind), serial(Serial), time(Arity, Rest5)} of
-        {other, _, _} -> other(Bytes);
-        {_, other, _} -> other(Bytes);
-        {Known, Counts, Time} -> {ok, {Known, Label, Counts, From, To, Message, Time}}
+    Time = time(Arity, Rest5),
+    case Prev =:= other orelse This =:= other of
+        true -> other(Bytes);
+        false -> {ok, {Kind, Label, {Prev, This}, From, To, Message, Time}}
     end;
-event_body(_, _Arity, _Label, Bytes) ->
+event_body(_Kind, _, _Arity, _Label, Bytes) ->
     other(Bytes).
+
+%% A number of a serial.
+count(<<?SMALL_INTEGER, N, Rest/binary>>) -> {N, Rest};
+count(<<?INTEGER, N:32/signed, Rest/binary>>) when N >= 0 -> {N, Rest};
+count(<<?SMALL_BIG, Size, 0, N:Size/little-unit:8, Rest/binary>>) -> {N, Rest};
+count(Bytes) ->
+    {_, Rest} = one(Bytes),
+    {other, Rest}.
 
 other(Bytes) ->
     case one(Bytes) of
@@ -392,19 +415,6 @@ time(4, Bytes) ->
         _ -> throw(damaged)
     end;
 time(_, _) -> throw(damaged).
-
-kind(<<?ATOM, 4:16, "send">>) -> send;
-kind(<<?ATOM, 7:16, "receive">>) -> 'receive';
-kind(<<?ATOM, 5:16, "print">>) -> print;
-kind(_) -> other.
-
-serial(<<?SMALL_TUPLE, 2, Rest/binary>>) ->
-    {Prev, After} = one(Rest),
-    case {number(Prev), number(After)} of
-        {P, T} when is_integer(P), is_integer(T), P >= 0, T >= 0 -> {P, T};
-        _ -> other
-    end;
-serial(_) -> other.
 
 %% @doc The whole number of at most 64 bits that this is.
 -spec number(encoded()) -> integer() | other.

@@ -1,11 +1,13 @@
 %% @doc Gives each different term a number, from 0 in the order of first sight.
 %%
-%% The terms are bytes and stand in a table beside the heap, so that a million of them are neither
+%% The terms are bytes and stand, both ways, in a table beside the heap, so that a million of them are neither
 %% copied nor looked through whenever memory is tidied.
 -module(seqaudit_numbers).
 
--export([new/0, number/2, size/1, listed/1, delete/1]).
+-export([new/0, number/2, size/1, part/3, listed/1, delete/1]).
 -export_type([table/0]).
+
+-compile({no_auto_import, [size/1]}).
 
 -opaque table() :: ets:table().
 
@@ -22,20 +24,27 @@ number(Term, Table) ->
         [{_, Number}] ->
             Number;
         [] ->
-            Number = ets:info(Table, size),
-            true = ets:insert_new(Table, {binary:copy(Term), Number}),
+            Number = size(Table),
+            Copy = binary:copy(Term),
+            true = ets:insert_new(Table, [{Copy, Number}, {Number, Copy}]),
             Number
     end.
 
 %% @doc How many terms have a number.
 -spec size(table()) -> non_neg_integer().
 size(Table) ->
-    ets:info(Table, size).
+    ets:info(Table, size) div 2.
 
-%% @doc The terms in the order of their numbers.
+%% @doc So many terms from this number on, in the order of their numbers.
+-spec part(non_neg_integer(), non_neg_integer(), table()) -> [seqaudit_external:encoded()].
+part(First, Count, Table) ->
+    [ets:lookup_element(Table, Number, 2)
+     || Number <- lists:seq(First, max(First, min(First + Count, size(Table))) - 1)].
+
+%% @doc All terms in the order of their numbers.
 -spec listed(table()) -> [seqaudit_external:encoded()].
 listed(Table) ->
-    [Term || {_, Term} <- lists:sort([{Number, Term} || {Term, Number} <- ets:tab2list(Table)])].
+    part(0, size(Table), Table).
 
 %% @doc Ends the table.
 -spec delete(table()) -> ok.

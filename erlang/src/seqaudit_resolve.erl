@@ -13,6 +13,9 @@
 -export([resolve/1]).
 -export_type([counts/0]).
 
+%% So many messages are taken from their table at once.
+-define(AT_ONCE, 1_000).
+
 -type counts() :: #{by_receive | by_request | ambiguous | unresolved => non_neg_integer()}.
 
 %% @doc The events with their receivers, and what was decided, by kind.
@@ -63,14 +66,17 @@ unreceived(Packed, Received) ->
 owners(Wanted, _Build) when map_size(Wanted) =:= 0 ->
     Wanted;
 owners(Wanted, #build{values = Values, others = Others, actors = Actors}) ->
-    lists:foldl(fun(Message, Owners) ->
-                        case seqaudit_external:request(Message) of
-                            {<<88, _/binary>> = Owner, Alias} ->
-                                own(?OTHER bor seqaudit_numbers:number(Alias, Others),
-                                    seqaudit_numbers:number(Owner, Actors), Owners);
-                            _ -> Owners
-                        end
-                end, Wanted, seqaudit_numbers:listed(Values)).
+    Ask = fun(Message, Owners) ->
+                  case seqaudit_external:request(Message) of
+                      {<<88, _/binary>> = Owner, Alias} ->
+                          own(?OTHER bor seqaudit_numbers:number(Alias, Others),
+                              seqaudit_numbers:number(Owner, Actors), Owners);
+                      _ -> Owners
+                  end
+          end,
+    lists:foldl(fun(First, Owners) ->
+                        lists:foldl(Ask, Owners, seqaudit_numbers:part(First, ?AT_ONCE, Values))
+                end, Wanted, lists:seq(0, seqaudit_numbers:size(Values), ?AT_ONCE)).
 
 own(Alias, Owner, Owners) ->
     case Owners of

@@ -136,7 +136,7 @@ print_string(Bytes, Parts) ->
             [$[, [[integer_to_list(Byte), $,] || Byte <- lists:sublist(Bytes, Parts)], "...]"]
     end.
 
-print_map(Pairs, Bytes, Depth, Parts, Numbers) when Pairs =< ?ORDERED ->
+print_map(Pairs, Bytes, Depth, Parts, Numbers) when Pairs > 1, Pairs =< ?ORDERED ->
     {Keyed, Rest} = pairs(Pairs, Bytes, []),
     {Text, Left} = print_pairs([{Key, Value} || {_, Key, Value} <- lists:sort(Keyed)], Depth, Parts,
                                Numbers, []),

@@ -28,6 +28,9 @@
 %% Between the angles of a pid or a fun stand at most so many bytes.
 -define(INNER, 2_000).
 
+%% Of what isn't understood so many characters are shown.
+-define(SHOWN, 30).
+
 -record(place, {node = ?NOWHERE :: binary(), channels = #{} :: #{binary() => binary()}}).
 
 -type scan() :: {Text :: binary(), #place{}, Prefixed :: boolean(),
@@ -85,9 +88,8 @@ scan(Bytes, {Text, Place, Prefixed, Fault} = Scan, Do, {_Last, Acc} = State) ->
     end.
 
 scan_term(Begin, {_Text, Place, _, _} = Scan, Do, {Last, Acc}) ->
-    try term(Begin, Place, 0) of
-        {Term, Rest0} ->
-            Rest = ended(Rest0, Begin),
+    try ended_term(Begin, Place) of
+        {Term, Rest} ->
             Opened = opened(Place#place.node, Last, Do, Acc),
             scan(Rest, Scan, Do, {Place#place.node, Do({event, Term}, Opened)})
     catch
@@ -153,6 +155,10 @@ is_name(Name) ->
     byte_size(Name) =< 4 * ?ATOM_CHARACTERS
         andalso length(unicode:characters_to_list(Name)) =< ?ATOM_CHARACTERS.
 
+ended_term(Begin, Place) ->
+    {Term, Rest} = term(Begin, Place, 0),
+    {Term, ended(Rest, Begin)}.
+
 %% Behind a term comes the end of its line, or a full stop.
 ended(Rest, Begin) ->
     case line_blanks(Rest) of
@@ -184,8 +190,13 @@ syntax(Bytes, _Begin) ->
     {Before, _} = line(Bytes),
     fault("this is no Erlang term: syntax error before: " ++ shown(Before)).
 
+%% The first characters; a cut one isn't shown.
 shown(Bytes) ->
-    lists:flatten(io_lib:write_string(seqaudit_terms:short(unicode:characters_to_list(Bytes), 30))).
+    Begin = case unicode:characters_to_list(binary:part(Bytes, 0, min(byte_size(Bytes), 4 * ?SHOWN))) of
+                {incomplete, Characters, _} -> Characters;
+                Characters -> Characters
+            end,
+    lists:flatten(io_lib:write_string(seqaudit_terms:short(Begin, ?SHOWN))).
 
 %% The bytes of the first term of a text, and what stands behind it.
 term(_Bytes, _Place, ?DEPTH) ->
@@ -206,7 +217,7 @@ term(Bytes, Place, Depth) ->
         <<"#Ref<", Rest/binary>> -> opaque(reference, Rest, Place);
         <<"#Port<", Rest/binary>> -> opaque(port, Rest, Place);
         <<"#Fun<", Rest/binary>> -> function(Rest);
-        <<"\"", Rest/binary>> -> strings(Rest, []);
+        <<"\"", Rest/binary>> -> strings(Rest, <<>>);
         <<"'", Rest/binary>> ->
             {Name, After} = quoted(Rest, $', <<>>),
             {atom(Name), After};
@@ -421,10 +432,10 @@ name(Bytes) -> bare(Bytes).
 
 %% Strings one behind the other are one.
 strings(Bytes, Before) ->
-    {Text, Rest} = quoted(Bytes, $", <<>>),
+    {Text, Rest} = quoted(Bytes, $", Before),
     case between(Rest) of
-        <<"\"", More/binary>> -> strings(More, [Text | Before]);
-        _ -> {text_list(unicode:characters_to_list(lists:reverse(Before, [Text]))), Rest}
+        <<"\"", More/binary>> -> strings(More, Text);
+        _ -> {text_list(unicode:characters_to_list(Text)), Rest}
     end.
 
 text_list([]) -> <<106>>;

@@ -36,39 +36,39 @@ write(Sorted, Streams, Packed, Out) ->
                   || {Number, _} <- Sorted,
                      Spelled <- [list_to_binary(seqaudit_processes:spell(Number))]],
         Each = fun(Do) ->
-                       lists:foreach(fun({Spelled, Places}) -> each(Places, 0, Spelled, Packed, Do) end,
+                       lists:foreach(fun({Spelled, Places}) -> each(Places, Spelled, Packed, Do, Out) end,
                                      Listed)
                end,
-        Each(fun(Event, Record) -> event(Event, Record, First, Sends, Out) end),
-        Each(fun(Event, Record) -> message(Event, Record, Sends, Out) end)
+        Each(fun(Event, Record) -> event(Event, Record, First, Sends) end),
+        Each(fun(Event, Record) -> message(Event, Record, Sends) end)
     after
         ets:delete(Sends)
     end.
 
-each(<<Place:32, Places/binary>>, I, Spelled, Packed, Do) ->
-    ok = Do({Spelled, I}, binary:part(Packed, Place * ?PACKED_SIZE, ?PACKED_SIZE)),
-    each(Places, I + 1, Spelled, Packed, Do);
-each(<<>>, _I, _Spelled, _Packed, _Do) ->
-    ok.
+%% The lines of a process are handed on together.
+each(Places, Spelled, Packed, Do, Out) ->
+    Numbered = lists:zip(lists:seq(0, byte_size(Places) div 4 - 1), [Place || <<Place:32>> <= Places]),
+    ok = Out([Do({Spelled, I}, binary:part(Packed, Place * ?PACKED_SIZE, ?PACKED_SIZE))
+              || {I, Place} <- Numbered]).
 
-event(_Event, <<?PACKED(_K, _L, _P, _T, _F, _O, _V, ?NO_TIME)>>, _First, _Sends, _Out) ->
-    ok;
-event({Spelled, I}, <<?PACKED(Kind, Label, Prev, This, From, _To, Value, Time)>>, First, Sends, Out) ->
+event(_Event, <<?PACKED(_K, _L, _P, _T, _F, _O, _V, ?NO_TIME)>>, _First, _Sends) ->
+    [];
+event({Spelled, I}, <<?PACKED(Kind, Label, Prev, This, From, _To, Value, Time)>>, First, Sends) ->
     _ = Kind =:= ?SEND andalso
         ets:insert(Sends, {{Label, Prev, This, From, Value}, Spelled, I, Time}),
-    Out([<<"event ">>, Spelled, $\s, integer_to_binary(I), $\s, integer_to_binary(Time - First), $\n]).
+    [<<"event ">>, Spelled, $\s, integer_to_binary(I), $\s, integer_to_binary(Time - First), $\n].
 
-message(_Event, <<?PACKED(_K, _L, _P, _T, _F, _O, _V, ?NO_TIME)>>, _Sends, _Out) ->
-    ok;
-message({Spelled, J}, <<?PACKED(?RECEIVE, Label, Prev, This, From, _To, Value, Time)>>, Sends, Out) ->
+message(_Event, <<?PACKED(_K, _L, _P, _T, _F, _O, _V, ?NO_TIME)>>, _Sends) ->
+    [];
+message({Spelled, J}, <<?PACKED(?RECEIVE, Label, Prev, This, From, _To, Value, Time)>>, Sends) ->
     case ets:lookup(Sends, {Label, Prev, This, From, Value}) of
         [{_, Sender, I, Sent}] ->
-            Out([<<"message ">>, Sender, $\s, integer_to_binary(I), $\s, Spelled, $\s,
-                 integer_to_binary(J), $\s, integer_to_binary(Time - Sent), $\n]);
-        [] -> ok
+            [<<"message ">>, Sender, $\s, integer_to_binary(I), $\s, Spelled, $\s,
+             integer_to_binary(J), $\s, integer_to_binary(Time - Sent), $\n];
+        [] -> []
     end;
-message(_Event, _Record, _Sends, _Out) ->
-    ok.
+message(_Event, _Record, _Sends) ->
+    [].
 
 %% @doc Reads the file.
 -spec read(file:filename()) -> {ok, times()} | {error, term()}.

@@ -417,9 +417,11 @@ remove(#node{folder = Folder} = Node) ->
         end,
     ok.
 
-%% The folder's name is random: if it is here, this is the disk that the collector wrote to.
+%% The folder's name is random: if it is here, this is the disk that the collector wrote to. (Tests
+%% say that it isn't.)
 at(#node{node = Node, folder = Folder}) ->
-    case {filelib:is_dir(Folder), connected(Node)} of
+    Shared = application:get_env(seqaudit, shared_disk, true),
+    case {Shared andalso filelib:is_dir(Folder), connected(Node)} of
         {true, _} -> here;
         {false, true} -> there;
         {false, false} -> nowhere
@@ -430,7 +432,7 @@ fetch(#node{node = Node, folder = Folder, is = {gone, Reason}, split = Split} = 
     At = at(Of),
     ok = seqaudit_events:begin_collection(Device, maps:from_list(
              [{node, Node}] ++ [{lost, Reason} || Reason =/= normal]
-             ++ [{where, list_to_binary(io_lib:format("~ts", [Folder]))} || At =:= nowhere]
+             ++ [{where, Folder} || At =:= nowhere]
              ++ [{split, Split} || Split =/= {0, 0}])),
     case At of
         nowhere ->
