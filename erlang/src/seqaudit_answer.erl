@@ -13,8 +13,8 @@
 -type options() :: #{string() => [string()]}.
 %% The words after each option, the last one first; the words without one stand under "".
 
--type status() :: ?FITS..?SYSTEM.
--type result() :: status() | {status(), Complaint :: unicode:chardata()} | {usage, string()}.
+-type status() :: ?FITS..?INPUT | ?SYSTEM.
+-type result() :: status() | {status() | ?USAGE, Complaint :: unicode:chardata()} | {usage, string()}.
 
 %% What `audit', `chart' and `why' have of a trace, once it is cut as was asked.
 with_trace(Name, Wish, Do) ->
