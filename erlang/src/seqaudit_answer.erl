@@ -73,7 +73,7 @@ wish(Options, Cuts) ->
 %% The outcome of the audit, and of each part between resets if there are any.
 with_outcome(#{streams := Streams} = Trace, Do) ->
     case seqaudit_outcome:ask(Streams) of
-        {ok, #{said := never} = Outcome} ->
+        {ok, #{said := never, finding := {Reason, _}} = Outcome} when Reason =/= <<"prevnotbefore">> ->
             case seqaudit_parts:split(Streams) of
                 [_] -> Do(Trace#{outcome => Outcome, parts => []});
                 Parts -> with_parts(Parts, [], Trace#{outcome => Outcome}, Do)

@@ -21,6 +21,8 @@ headline(#{said := Said, streams := Streams} = Outcome, _Legend) when Said =:= f
     [format("fits: ~ts of ~ts are a run", [count(length(reported(Streams)), "event"),
                                            count(length(Streams), "process")]),
      left_out(missing(Outcome)), $\n];
+headline(#{said := never, finding := {<<"prevnotbefore">> = Reason, Found}}, Legend) ->
+    format("doesn't fit: no run has it~ts (~ts)~n", [about(Found, Legend), Reason]);
 headline(#{said := never, finding := {Reason, Found}}, Legend) ->
     format("doesn't fit: no run without a reset has it~ts (~ts)~n", [about(Found, Legend), Reason]);
 headline(#{said := open, finding := {_, Found}}, Legend) ->
@@ -180,9 +182,11 @@ losses(Notes) ->
         Lost -> ["The trace isn't whole:\n", [["  ", Note, $\n] || Note <- Lost]]
     end.
 
+%% Names and labels, which may say anything, stand in notes of their own.
 is_loss(Note) ->
-    re:run(Note, "dropped|lost|went down|took the collector's place|won't take|no events came",
-           [unicode]) =/= nomatch.
+    re:run(Note, "^(labels that|numbered, as|nodes are numbered)", [unicode]) =:= nomatch
+        andalso re:run(Note, "dropped|lost|went down|ended early|written over|cut or damaged|"
+                       "took the collector's place|won't take|no events came", [unicode]) =/= nomatch.
 
 %% @doc Where the resets between the parts stand, and the outcome of each part.
 -spec parts([seqaudit_outcome:outcome()], [seqaudit_bundle:streams()], seqaudit_legend:legend()) ->

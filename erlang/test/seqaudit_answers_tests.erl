@@ -145,7 +145,8 @@ lost_node_test_() ->
         ok = erpc:cast(There, erlang, halt, []),
         receive {nodedown, There} -> ok after 10_000 -> error(still_there) end,
         stopped(),
-        catch Stop()
+        catch Stop(),
+        _ = net_kernel:stop()
     end, [["audit"], ["chart", "--label", "ask"]]).
 
 echo() ->

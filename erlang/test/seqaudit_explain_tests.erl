@@ -118,8 +118,9 @@ reasons_test() ->
          [Begin, "because of bob & <co>#3",
           "  bob & <co>#3: bob & <co> receives {ok,six} from alice, serial {2,4}, label 17\n",
           "What it means: ", "What to look at: "])
-     || {Said, Begin, Reasons} <- [{never, "doesn't fit: no run without a reset has it",
-                                    [<<"prevnotbefore">>, <<"notrising">>, <<"repeated">>, <<"mismatch">>,
+     || {Said, Begin, Reasons} <- [{never, "doesn't fit: no run has it", [<<"prevnotbefore">>]},
+                                   {never, "doesn't fit: no run without a reset has it",
+                                    [<<"notrising">>, <<"repeated">>, <<"mismatch">>,
                                      <<"late">>, <<"unfounded">>, <<"unsent">>]},
                                    {open, "not known", [<<"open">>]},
                                    {unexplained, "not explained",
@@ -141,10 +142,12 @@ losses_test() ->
     Lost = <<"a@h: its collector went down (noconnection), and all of its events are lost">>,
     Text = unicode:characters_to_binary(
              seqaudit_explain:losses([<<"4 timestamps were left out">>, Lost,
+                                      <<"labels that are no whole numbers in range: 1000000 is lost">>,
+                                      <<"a@h: more came than the files hold, and the oldest 9 bytes were written over">>,
                                       <<"a@h: 7 events came beyond the limit and were dropped">>])),
     <<"The trace isn't whole:\n  a@h: its", _/binary>> = Text,
-    has(Text, ["7 events came beyond"]),
-    nomatch = binary:match(Text, <<"timestamps">>).
+    has(Text, ["7 events came beyond", "the oldest 9 bytes"]),
+    [nomatch, nomatch] = [binary:match(Text, Part) || Part <- [<<"timestamps">>, <<"labels">>]].
 
 chart() ->
     chart(<<"label 1000000\nlane 1 <0.30.0>\nlane 2 <0.31.0>\n"
