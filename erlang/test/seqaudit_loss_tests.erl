@@ -3,7 +3,7 @@
 
 -export([net_split_test_/0, killed_node_test_/0, out_of_reach_test_/0, killed_collector_test_/0,
          killed_leader_test_/0, lost_owner_test_/0, stray_calls_test_/0, other_disk_test_/0,
-         late_events_test/0, stray_tokens_test_/0, own_events_test/0, late_names_test_/0,
+         late_events_test/0, broken_port_test/0, stray_tokens_test_/0, own_events_test/0, late_names_test_/0,
          refused_options_test/0]).
 
 %% Runs a test on a second node.
@@ -174,6 +174,18 @@ stray_calls_test_() ->
         [before, behind] = printed(File),
         ok = one_note("1 messages to the collector were no trace events", Notes)
     end).
+
+%% A trace file that can't be written any more, as on a full disk, ends the collecting with a note.
+broken_port_test() ->
+    Name = seqaudit_audits:file("broken_port"),
+    ok = seqaudit_trace:start(#{name => Name}),
+    ok = seqaudit_test_server:print(1, before),
+    receive after 200 -> ok end,
+    exit(seq_trace:get_system_tracer(), enospc),
+    receive after 100 -> ok end,
+    false = seq_trace:get_system_tracer(),
+    {ok, #{events := 1, notes := Notes}} = seqaudit_trace:stop(),
+    ok = one_note("the trace file couldn't be written (enospc)", Notes).
 
 %% What is on its way when the tracer is taken off is waited for.
 late_events_test() ->
