@@ -211,13 +211,14 @@ stray_tokens_test_() ->
     [fun() ->
          ok = seqaudit_trace:start(#{name => seqaudit_audits:file("tokens"), port => Port}),
          Collector = whereis(seqaudit_collector),
-         seqaudit_trace:with_trace(1, fun() ->
-             Collector ! stray,
-             gen_server:cast(Collector, stray),
-             {error, unknown_call} = gen_server:call(Collector, stray)
-         end),
-         until(fun() -> element(2, process_info(Collector, message_queue_len)) =:= 0 end),
-         {sequential_trace_token, []} = process_info(Collector, sequential_trace_token),
+         %% Looked at before the next message, which would take the token away anyhow.
+         [begin
+              seqaudit_trace:with_trace(1, fun() -> Stray(Collector) end),
+              until(fun() -> element(2, process_info(Collector, message_queue_len)) =:= 0 end),
+              {sequential_trace_token, []} = process_info(Collector, sequential_trace_token)
+          end || Stray <- [fun(To) -> To ! stray end,
+                           fun(To) -> gen_server:cast(To, stray) end,
+                           fun(To) -> {error, unknown_call} = gen_server:call(To, stray) end]],
          {ok, #{notes := Notes}} = seqaudit_trace:stop(),
          ok = one_note("3 messages to the collector were no trace events", Notes)
      end || Port <- [true, false]].
