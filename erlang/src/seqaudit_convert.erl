@@ -87,10 +87,16 @@ text(Part) ->
 
 %% The tables of a conversion, and what it leaves on the heap, end with a process of its own.
 alone(Do) ->
-    {Worker, Monitor} = spawn_opt(fun() -> exit({done, Do()}) end, [monitor, {fullsweep_after, 10}]),
+    Self = self(),
+    result(spawn_opt(fun() -> Self ! {self(), Do()} end, [monitor, {fullsweep_after, 10}])).
+
+result({Worker, Monitor}) ->
     receive
-        {'DOWN', Monitor, process, Worker, {done, Result}} -> Result;
-        {'DOWN', Monitor, process, Worker, Reason} -> error(Reason)
+        {Worker, Result} ->
+            demonitor(Monitor, [flush]),
+            Result;
+        {'DOWN', Monitor, process, Worker, Reason} ->
+            error(Reason)
     end.
 
 %% The local processes that nobody asked yet are asked now.
@@ -282,14 +288,10 @@ values(First, Values, Numbers, Out) ->
     Starts = [First + ?SHARE * N || N <- lists:seq(0, erlang:system_info(schedulers_online) - 1)],
     Parts = [{Start, Part} || Start <- Starts,
                               [_ | _] = Part <- [seqaudit_numbers:part(Start, ?SHARE, Values)]],
-    Workers = [spawn_monitor(fun() -> exit({text, entries(Part, Start, Numbers)}) end)
+    Self = self(),
+    Workers = [spawn_monitor(fun() -> Self ! {self(), entries(Part, Start, Numbers)} end)
                || {Start, Part} <- Parts],
-    lists:foreach(fun({_, Monitor}) ->
-                          receive
-                              {'DOWN', Monitor, process, _, {text, Text}} -> ok = Out(Text);
-                              {'DOWN', Monitor, process, _, Reason} -> error(Reason)
-                          end
-                  end, Workers),
+    lists:foreach(fun(Worker) -> ok = Out(result(Worker)) end, Workers),
     case Parts of
         [] -> ok;
         _ -> values(First + ?SHARE * length(Starts), Values, Numbers, Out)

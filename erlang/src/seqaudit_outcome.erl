@@ -55,7 +55,7 @@ ask(Streams, Text, File) ->
         {ok, {_, Fault}} ->
             %% What it doesn't read, seqaudit doesn't either, and says so.
             audit(File, File, Outcome#{tool := {failed, line(Fault)}});
-        {error, {no_program, _, _}} ->
+        {error, {Lacks, _, _}} when Lacks =:= no_program; Lacks =:= missing ->
             audit(File, File, Outcome);
         {error, Reason} ->
             {error, Reason}
@@ -94,9 +94,8 @@ unfit(Report, #{streams := Streams} = Outcome) ->
 %% The streams are completed with the node's own counts, so that what is added has them too; the
 %% acts are those of the renumbered streams, which need no more of them than there are events.
 complete(Ranks, File, Unfit, #{streams := Streams} = Outcome) ->
-    {ok, Added} = seqaudit_program:ask("seqtool", ["complete", "--as", "added"], File),
-    case Added of
-        {?FITS, AddedText} ->
+    case seqaudit_program:ask("seqtool", ["complete", "--as", "added"], File) of
+        {ok, {?FITS, AddedText}} ->
             {ok, {?FITS, AllText}} =
                 seqaudit_program:ask("seqtool", ["complete", "--as", "streams"], File),
             {ok, All} = seqaudit_bundle:parse(AllText),
@@ -107,11 +106,13 @@ complete(Ranks, File, Unfit, #{streams := Streams} = Outcome) ->
                          _ -> AddedText
                      end,
             {ok, Outcome#{said => completed, streams := Completed, answer := Answer}};
-        {?UNFIT, <<"never ", _/binary>> = Report} ->
+        {ok, {?UNFIT, <<"never ", _/binary>> = Report}} ->
             {ok, Outcome#{said => never, finding => finding(Report, Streams), answer := Report}};
-        {?UNFIT, <<"open ", _/binary>> = Report} ->
+        {ok, {?UNFIT, <<"open ", _/binary>> = Report}} ->
             {ok, Outcome#{said => open, finding => finding(Report, Streams), answer := Report}};
-        {_, Fault} ->
+        {error, Reason} ->
+            {error, Reason};
+        {ok, {_, Fault}} ->
             {ok, unfit(Unfit, Outcome#{tool := {failed, line(Fault)}})}
     end.
 

@@ -62,7 +62,7 @@ note(Folder, Facts) ->
     file:write_file(filename:join(Folder, ?FACTS), entry(Facts), [append]).
 
 %% @doc Facts as they stand in a file.
--spec entry(facts()) -> iodata().
+-spec entry(facts()) -> iolist().
 entry(Facts) ->
     Term = term_to_binary(Facts),
     [<<?FACTS_ENTRY, (byte_size(Term)):32>>, Term].

@@ -185,6 +185,7 @@ between(Bytes) ->
 -spec fault(string()) -> no_return().
 fault(Reason) -> throw({fault, Reason}).
 
+-spec syntax(binary(), binary()) -> no_return().
 syntax(<<>>, _Begin) -> fault("this is no Erlang term: it isn't closed");
 syntax(Bytes, _Begin) ->
     {Before, _} = line(Bytes),

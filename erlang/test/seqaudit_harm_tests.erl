@@ -225,8 +225,7 @@ collect_errors_test_() ->
     end}.
 
 command() ->
-    filename:join(filename:dirname(filename:dirname(filename:absname(code:which(seqaudit_node)))),
-                  "seqaudit-node").
+    filename:join(seqaudit_audits:home(), "seqaudit-node").
 
 %% The status of a command of the shell and what it wrote, errors too.
 run(Words, Variables) ->

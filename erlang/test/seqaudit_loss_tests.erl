@@ -3,7 +3,7 @@
 
 -export([net_split_test_/0, killed_node_test_/0, out_of_reach_test_/0, killed_collector_test_/0,
          killed_leader_test_/0, lost_owner_test_/0, stray_calls_test_/0, other_disk_test_/0,
-         late_events_test/0, stray_tokens_test_/0, own_events_test/0, late_names_test_/0,
+         late_events_test/0, broken_port_test/0, stray_tokens_test_/0, own_events_test/0, late_names_test_/0,
          refused_options_test/0]).
 
 %% Runs a test on a second node.
@@ -175,6 +175,18 @@ stray_calls_test_() ->
         ok = one_note("1 messages to the collector were no trace events", Notes)
     end).
 
+%% A trace file that can't be written any more, as on a full disk, ends the collecting with a note.
+broken_port_test() ->
+    Name = seqaudit_audits:file("broken_port"),
+    ok = seqaudit_trace:start(#{name => Name}),
+    ok = seqaudit_test_server:print(1, before),
+    receive after 200 -> ok end,
+    exit(seq_trace:get_system_tracer(), enospc),
+    receive after 100 -> ok end,
+    false = seq_trace:get_system_tracer(),
+    {ok, #{events := 1, notes := Notes}} = seqaudit_trace:stop(),
+    ok = one_note("the trace file couldn't be written (enospc)", Notes).
+
 %% What is on its way when the tracer is taken off is waited for.
 late_events_test() ->
     Name = seqaudit_audits:file("late"),
@@ -199,13 +211,14 @@ stray_tokens_test_() ->
     [fun() ->
          ok = seqaudit_trace:start(#{name => seqaudit_audits:file("tokens"), port => Port}),
          Collector = whereis(seqaudit_collector),
-         seqaudit_trace:with_trace(1, fun() ->
-             Collector ! stray,
-             gen_server:cast(Collector, stray),
-             {error, unknown_call} = gen_server:call(Collector, stray)
-         end),
-         until(fun() -> element(2, process_info(Collector, message_queue_len)) =:= 0 end),
-         {sequential_trace_token, []} = process_info(Collector, sequential_trace_token),
+         %% Looked at before the next message, which would take the token away anyhow.
+         [begin
+              seqaudit_trace:with_trace(1, fun() -> Stray(Collector) end),
+              until(fun() -> element(2, process_info(Collector, message_queue_len)) =:= 0 end),
+              {sequential_trace_token, []} = process_info(Collector, sequential_trace_token)
+          end || Stray <- [fun(To) -> To ! stray end,
+                           fun(To) -> gen_server:cast(To, stray) end,
+                           fun(To) -> {error, unknown_call} = gen_server:call(To, stray) end]],
          {ok, #{notes := Notes}} = seqaudit_trace:stop(),
          ok = one_note("3 messages to the collector were no trace events", Notes)
      end || Port <- [true, false]].

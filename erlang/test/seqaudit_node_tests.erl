@@ -1,7 +1,7 @@
 %% The command, run as a program of its own.
 -module(seqaudit_node_tests).
 
--export([usage_test_/0, convert_test_/0, audit_and_chart_test_/0, no_program_test_/0, collect_test_/0,
+-export([usage_test_/0, convert_test_/0, audit_and_chart_test_/0, no_program_test_/0, failing_program_test_/0, collect_test_/0,
          printing/0]).
 
 usage_test_() ->
@@ -81,6 +81,26 @@ no_program_test_() ->
         {_, _} = binary:match(Old, <<"usage: seqaudit check: ">>)
     end}.
 
+%% A program that writes nothing, writes a part, is killed, or can't be run: a sentence and a status.
+failing_program_test_() ->
+    {timeout, 60, fun() ->
+        Name = seqaudit_audits:file("failing"),
+        {0, _} = command(["convert ", capture("ring10"), " -o ", Name]),
+        [begin
+             ok = file:write_file(Name ++ ".sh", Script),
+             ok = file:change_mode(Name ++ ".sh", 8#755),
+             {4, Said} = command(["audit ", Name], Name ++ ".sh"),
+             {_, _} = binary:match(Said, Sentence),
+             nomatch = binary:match(Said, [<<"{error">>, <<"badmatch">>])
+         end || {Script, Sentence} <- [{<<"#!/bin/sh\n">>, <<".sh wrote nothing; is it seqaudit?">>},
+                                       {<<"#!/bin/sh\nprintf 'seqtrace 1'\n">>, <<".sh wrote is cut">>},
+                                       {<<"#!/bin/sh\necho seqtrace\nkill -9 $$\n">>,
+                                        <<".sh (signal 9), perhaps because memory ran out">>},
+                                       {<<"#!/no/such/shell\n">>, <<".sh can't be run">>}]],
+        {4, Missing} = command(["audit ", Name], "/no/such/program"),
+        {_, _} = binary:match(Missing, <<"there is no /no/such/program, which the variable SEQAUDIT names">>)
+    end}.
+
 %% The command traces another node, where nothing of it is installed.
 collect_test_() ->
     {timeout, 120, fun() ->
@@ -125,8 +145,7 @@ command(Words) ->
 
 %% Its status and what it wrote, errors too; `Program' stands for seqaudit.
 command(Words, Program) ->
-    Command = filename:join(filename:dirname(filename:dirname(filename:absname(
-                                code:which(seqaudit_node)))), "seqaudit-node"),
+    Command = filename:join(seqaudit_audits:home(), "seqaudit-node"),
     Port = open_port({spawn_executable, "/bin/sh"},
                      [{args, ["-c", lists:flatten([Command, " ", Words, " 2>&1"])]},
                       {env, [{"SEQAUDIT", Program}, {"SEQTOOL", "/no/such/seqtool"}]}, binary, exit_status]),
