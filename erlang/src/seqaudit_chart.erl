@@ -1,15 +1,19 @@
-%% @doc Reads the text of a chart, as `seqaudit chart' writes it.
+%% @doc Reads the text of a chart, as `seqaudit chart' writes it, and prints it with names and terms.
 -module(seqaudit_chart).
 
--export([read/1, row/1]).
+-export([read/1, row/1, identify/2, text/2, lane/2, other/1, term/2]).
 -export_type([chart/0, row/0]).
+
+%% Characters of a term in a row, and of an event's name.
+-define(CHARACTERS, 80).
+-define(NAME, 40).
 
 %% Each mark stands at the right of so many places.
 -define(PLACES, 4).
 
--type row() :: #{head := binary(), marks := [byte()], kind := binary(), serial := binary(),
-                 value := binary(), cause := [binary()]}.
-%% `head': the line up to the serial; `marks': one for each lane; `cause': its words.
+-type row() :: #{marks := [byte()], kind := binary(), serial := binary(), value := binary(),
+                 cause := [binary()], shown => seqaudit_causes:row()}.
+%% `marks': one for each lane; `cause': its words; `shown': which event it is, once that is known.
 
 -type chart() :: #{label := binary(), lanes := [binary()], rows := [row()]}.
 %% `lanes': the processes from left to right.
@@ -40,13 +44,80 @@ row(Line) ->
             <<Marks:(Start - 2)/binary, "  ", Rest/binary>> = Line,
             case binary:split(Rest, <<" ">>, [global, trim_all]) of
                 [Kind, Serial, Value | Cause] ->
-                    {Length, _} = binary:match(Line, <<"}">>),
-                    #{head => binary:part(Line, 0, Length + 1), kind => Kind, serial => Serial,
-                      marks => [Mark || <<_:(?PLACES - 1)/binary, Mark>> <= Marks],
-                      value => Value, cause => Cause};
+                    #{kind => Kind, serial => Serial, value => Value, cause => Cause,
+                      marks => [Mark || <<_:(?PLACES - 1)/binary, Mark>> <= Marks]};
                 _ ->
                     none
             end;
         _ ->
             none
     end.
+
+%% @doc The chart with the event that each row is of. A process stamps a count once, and receives
+%% what another stamped once, so the lanes and the count of a row say which event it is.
+-spec identify(chart(), [seqaudit_causes:row()]) -> chart().
+identify(#{lanes := Lanes, rows := Rows} = Chart, Known) ->
+    Index = maps:from_list([{key(Event), Row} || #{event := Event} = Row <- Known]),
+    Pids = list_to_tuple(Lanes),
+    Chart#{rows := [Row#{shown => maps:get(row_key(Row, Pids), Index)} || Row <- Rows]}.
+
+key(#{kind := 'receive', from := From, this := This}) -> {received, From, This};
+key(#{from := From, this := This}) -> {stamped, From, This}.
+
+row_key(#{kind := Kind, serial := Serial} = Row, Pids) ->
+    [_, This] = binary:split(binary:part(Serial, 1, byte_size(Serial) - 2), <<",">>),
+    Count = binary_to_integer(This),
+    case Kind of
+        <<"receive">> -> {received, element(other(Row), Pids), Count};
+        <<"hidden">> -> {stamped, element(lane($H, Row), Pids), Count};
+        <<"send">> -> {stamped, element(lane($S, Row), Pids), Count};
+        <<"print">> -> {stamped, element(lane($P, Row), Pids), Count}
+    end.
+
+%% @doc The lane with this mark.
+-spec lane(byte(), row()) -> pos_integer().
+lane(Mark, #{marks := Marks}) -> index(fun(One) -> One =:= Mark end, Marks, 1).
+
+%% @doc The lane at the other end: the same where a process sends to itself.
+-spec other(row()) -> pos_integer().
+other(#{marks := Marks}) ->
+    case lists:member($., Marks) of
+        true -> index(fun(Mark) -> Mark =:= $. end, Marks, 1);
+        false -> index(fun(Mark) -> Mark =/= $| end, Marks, 1)
+    end.
+
+index(Is, [Mark | Marks], Place) ->
+    case Is(Mark) of
+        true -> Place;
+        false -> index(Is, Marks, Place + 1)
+    end.
+
+%% @doc The chart as text: each event by its name, with its term and what it follows by. The marks of
+%% unreported events are small letters.
+-spec text(chart(), seqaudit_legend:legend()) -> unicode:chardata().
+text(#{label := Label, lanes := Lanes, rows := Rows}, Legend) ->
+    Named = [{row_name(Row, Legend), Row} || Row <- Rows],
+    Width = lists:max([0 | [string:length(Name) || {Name, _} <- Named]]),
+    [["label ", seqaudit_legend:label(Label, Legend), $\n],
+     [io_lib:format("lane ~b ~ts~n", [Lane, seqaudit_legend:process(Pid, Legend)])
+      || {Lane, Pid} <- lists:enumerate(Lanes)],
+     [[row_marks(Row), "  ", string:pad(Name, Width), "  ",
+       row_words(Row, Legend), $\n] || {Name, Row} <- Named]].
+
+row_name(#{shown := #{hidden := true}}, _Legend) -> "unreported";
+row_name(#{shown := #{id := Id}}, Legend) ->
+    seqaudit_terms:short(unicode:characters_to_list(seqaudit_why:name(Id, Legend)), ?NAME).
+
+row_marks(#{marks := Marks, shown := #{hidden := false, id := {_, {_, _}}}}) ->
+    [string:pad([string:lowercase([Mark])], ?PLACES, leading) || Mark <- Marks];
+row_marks(#{marks := Marks}) ->
+    [string:pad([Mark], ?PLACES, leading) || Mark <- Marks].
+
+row_words(#{kind := Kind, serial := Serial, shown := #{cause := Cause}} = Row, Legend) ->
+    Term = seqaudit_terms:short(unicode:characters_to_list(term(Row, Legend)), ?CHARACTERS),
+    [string:pad(Kind, 8), " ", Serial, " ", Term, "  ", seqaudit_why:cause(Cause, Legend)].
+
+%% @doc The message of a row, without what every call and reply of OTP's servers has.
+-spec term(row(), seqaudit_legend:legend()) -> unicode:chardata().
+term(#{shown := #{invented := true}}, _Legend) -> "(an unknown message)";
+term(#{value := Value}, Legend) -> seqaudit_legend:brief(Value, Legend).

@@ -1,97 +1,238 @@
-%% @doc The system tracer of one node: keeps the events that the node sends it.
+%% @doc Collects the events of one node on its own disk, in memory that is bounded.
 %%
 %% A collector takes the place of the node's system tracer when it starts, and puts the former one
-%% back when it stops, when its owner ends or when the owner's node is lost. It keeps the first
-%% events up to its limit and counts those beyond. A traced process pays for the send of its events
-%% and waits for nothing. When a process is first seen, the collector asks once what it is called.
+%% back when it stops, when its owner ends, or when the owner's node was lost and isn't back in a
+%% minute. Events go to files of {@link seqaudit_spool} as they come, by one of two ways:
+%% <ul>
+%% <li>A trace port of `runtime_tools' writes wrapped files: once they have their total size, the
+%% oldest events are written over. How many bytes came is known, so what was lost is known too.</li>
+%% <li>Where `runtime_tools' isn't there, the collector itself is the tracer. It writes the first
+%% events up to the total size and counts those beyond. It looks at its own queue, and takes itself
+%% off when that grows faster than it writes.</li>
+%% </ul>
+%% A traced process pays for the write or the send of its events and waits for nothing. What a
+%% process is called is asked at the start, when the process is first seen, and at the end.
 %%
-%% The collector has no token of its own: it drops one that a stray message brings, and events that
-%% name the collector are counted and not kept.
+%% The collector has no token of its own: it drops one that a stray message brings.
 -module(seqaudit_collector).
 -behaviour(gen_server).
 
--export([start/1, stop_all/1, events/3, release/1]).
--export([init/1, handle_call/3, handle_cast/2, handle_info/2, terminate/2]).
--export_type([options/0, summary/0, about/0]).
+-export([start/1, folder/1, stop_all/1, adopt/2, names/1]).
+-export([init/1, handle_continue/2, handle_call/3, handle_cast/2, handle_info/2, terminate/2]).
+-export_type([options/0, trigger/0]).
 
 %% Trace messages that are on their way when the tracer is taken off come within this time.
 -define(SETTLE_MS, 50).
+%% The port's buffer goes to the disk, and new processes are looked for, in these steps.
+-define(TICK_MS, 100).
+%% So many bytes of new events are looked through for processes in one step: of a busy node the
+%% collector looks at a part, and never works more than a few milliseconds in each tick.
+-define(LOOK_BYTES, 262_144).
+%% So many processes are asked what they are called; a node may have millions.
+-define(PROCESSES, 20_000).
+%% The wrapped files share the total size.
+-define(FILES, 8).
+-define(BYTES, 268_435_456).
+%% Where the collector itself is the tracer it runs before others, as it has to see that it falls
+%% behind. The tracer is taken off when its queue holds about so many bytes. An event in a queue takes about
+%% eight times the bytes that it has in a file.
+-define(QUEUE_BYTES, 8_388_608).
+-define(QUEUE_FACTOR, 8).
+-define(LOOK_EVERY, 1).
+%% It writes so many bytes at once. (`delayed_write' would wait for a process that runs with all
+%% others.)
+-define(BUFFER_BYTES, 65_536).
+%% The owner's node may come back within this time, as after a net split.
+-define(GRACE_MS, 60_000).
 
--type options() :: #{owner := pid(), limit := non_neg_integer(), reset := boolean()}.
-%% `owner': the process whose end ends the collector; `limit': how many events are kept;
-%% `reset': whether `seq_trace:reset_trace/0' is called first, so that all clocks begin at 0.
+-type trigger() :: #{function := mfa(), label := term(), times := boolean()}.
+%% Whoever calls the function gets a token with this label.
 
--type about() :: #{name => atom(), call => mfa()}.
-%% What is known of a process: its registered name and its initial call.
-
--type summary() :: #{node := node(), events := non_neg_integer(), dropped := non_neg_integer(),
-                     own := non_neg_integer(), strays := non_neg_integer(),
-                     processes := #{pid() => about()}, tracer := put_back | taken | gone}.
-%% `events' were kept, `dropped' came beyond the limit, `own' named the collector, `strays' were no
-%% trace events. `tracer' says whether the former system tracer was put back, or another had taken
-%% the collector's place meanwhile, or the former one is there no more.
+-type options() :: #{owner := pid(), limit => non_neg_integer(), reset => boolean(),
+                     bytes => pos_integer(), port => boolean(), folder => file:filename() | default,
+                     trigger => trigger() | none, grace => non_neg_integer()}.
+%% `owner': the process whose end ends the collector; `limit': how many events are kept, where the
+%% collector itself is the tracer; `reset': whether `seq_trace:reset_trace/0' is called first, so
+%% that all clocks begin at 0; `bytes': the total size of the files; `port': whether to use a trace
+%% port, if there is one; `folder': in which folder the files' own folder is made; `grace': how many
+%% milliseconds an owner may be out of reach.
 
 -type tracer() :: pid() | port() | {module(), term()} | false.
 
 -record(state, {owner :: reference(),
-                limit :: non_neg_integer(),
+                folder :: file:filename(),
+                limit :: non_neg_integer() | infinity,
+                bytes :: pos_integer(),
+                grace :: non_neg_integer(),
+                trigger :: trigger() | none,
                 former :: tracer(),
-                table :: ets:table(),
+                by :: {port, port()} | {device, file:io_device()} | closed,
+                buffer = {0, []} :: {non_neg_integer(), iolist()},
                 kept = 0 :: non_neg_integer(),
+                written = 0 :: non_neg_integer(),
                 dropped = 0 :: non_neg_integer(),
-                own = 0 :: non_neg_integer(),
                 strays = 0 :: non_neg_integer(),
-                processes = #{} :: #{pid() => about()},
+                look = {0, 0} :: {File :: non_neg_integer(), Offset :: non_neg_integer()},
+                processes = #{} :: #{pid() => seqaudit_spool:about()},
                 tracer = on :: on | put_back | taken | gone,
+                ended = no :: no | {term(), calendar:datetime()},
+                lost :: reference() | undefined,
                 asked :: gen_server:from() | undefined}).
 
 -type gone_on() :: {noreply, #state{}} | {noreply, #state{}, timeout()}.
 
-%% @doc Starts the collector of this node and makes it the system tracer.
+%% @doc Starts the collector of this node and makes it, or its port, the system tracer.
 -spec start(options()) -> gen_server:start_ret().
 start(Options) ->
     gen_server:start({local, ?MODULE}, ?MODULE, Options,
                      [{spawn_opt, [{message_queue_data, off_heap}]}]).
 
-%% @doc Takes the collectors off, all at the same time: each puts the former tracer back and waits
-%% for events on their way. In the place of a collector that is gone stands why.
--spec stop_all([pid()]) -> [{ok, summary()} | {error, term()}].
+%% @doc The folder to which the events go.
+-spec folder(pid()) -> file:filename().
+folder(Collector) ->
+    gen_server:call(Collector, folder).
+
+%% @doc Takes the collectors off, all at the same time: each puts the former tracer back, waits for
+%% events on their way, and ends. Its facts are in its folder. In the place of a collector that is
+%% gone stands why.
+-spec stop_all([pid()]) -> [ok | {error, term()}].
 stop_all(Collectors) ->
     Requests = [gen_server:send_request(Collector, stop) || Collector <- Collectors],
     [case gen_server:receive_response(Request, infinity) of
-         {reply, Summary} -> {ok, Summary};
+         {reply, ok} -> ok;
          {error, {Reason, _}} -> {error, Reason}
      end || Request <- Requests].
 
-%% @doc The kept events from number `First' to `Last', counted from 1, in the order they came.
--spec events(pid(), pos_integer(), non_neg_integer()) -> [term()].
-events(Collector, First, Last) ->
-    gen_server:call(Collector, {events, First, Last}, infinity).
+%% @doc Makes this process the owner of a collector whose owner, or the way to it, was lost.
+-spec adopt(pid(), pid()) -> ok.
+adopt(Collector, Owner) ->
+    gen_server:call(Collector, {adopt, Owner}).
 
-%% @doc Ends the collector and forgets its events.
--spec release(pid()) -> ok.
-release(Collector) ->
-    gen_server:stop(Collector).
+%% @doc What these processes of this node are called, each given by its bytes in the external term
+%% format.
+-spec names([binary()]) -> #{pid() => seqaudit_spool:about()}.
+names(Processes) ->
+    maps:from_list([{Pid, About} || Bytes <- Processes, Pid <- local(Bytes),
+                                    About <- [seqaudit_spool:about(Pid)], About =/= #{}]).
+
+local(Bytes) ->
+    try binary_to_term(<<131, Bytes/binary>>, [safe]) of
+        Pid when is_pid(Pid), node(Pid) =:= node() -> [Pid];
+        _ -> []
+    catch
+        error:badarg -> []
+    end.
 
 %% @private
--spec init(options()) -> {ok, #state{}}.
-init(#{owner := Owner, limit := Limit, reset := Reset}) ->
+-spec init(options()) -> {ok, #state{}, {continue, names}} | {stop, {shutdown, term()}}.
+init(#{owner := Owner} = Options) ->
     process_flag(trap_exit, true),
     group_leader(whereis(init), self()),
     _ = seq_trace:set_token([]),
-    Table = ets:new(?MODULE, [ordered_set, private]),
-    _ = Reset andalso seq_trace:reset_trace(),
-    Former = seq_trace:set_system_tracer(self()),
-    {ok, #state{owner = monitor(process, Owner), limit = Limit, former = Former, table = Table}}.
+    case seqaudit_spool:create(maps:get(folder, Options, default)) of
+        {ok, Folder} ->
+            State = #state{owner = monitor(process, Owner), folder = Folder,
+                           limit = maps:get(limit, Options, infinity),
+                           bytes = maps:get(bytes, Options, ?BYTES),
+                           grace = maps:get(grace, Options, ?GRACE_MS),
+                           trigger = maps:get(trigger, Options, none),
+                           former = seq_trace:get_system_tracer(), by = closed},
+            begin_tracing(State, Options);
+        {error, Reason} ->
+            {stop, {shutdown, Reason}}
+    end.
+
+begin_tracing(#state{folder = Folder} = State, Options) ->
+    try
+        By = open(maps:get(port, Options, false), State),
+        ok = seqaudit_spool:note(Folder, first_facts(By, State)),
+        _ = maps:get(reset, Options, false) andalso seq_trace:reset_trace(),
+        _ = seq_trace:set_system_tracer(case By of {port, Port} -> Port; _ -> self() end),
+        Opened = State#state{by = By},
+        case pull_trigger(State#state.trigger) of
+            ok ->
+                erlang:send_after(?TICK_MS, self(), tick),
+                {ok, Opened, {continue, names}};
+            {error, Reason} ->
+                _ = close(take_off(Opened)),
+                _ = seqaudit_spool:remove(Folder),
+                {stop, {shutdown, Reason}}
+        end
+    catch
+        error:{badmatch, {error, Fault}} ->
+            _ = seqaudit_spool:remove(Folder),
+            {stop, {shutdown, {file, Folder, Fault}}}
+    end.
+
+first_facts(By, #state{bytes = Bytes}) ->
+    #{node => node(), collector => self(), since => erlang:universaltime(), bytes => Bytes,
+      by => case By of {port, _} -> port; _ -> process end,
+      clock => {erlang:time_offset(), erlang:convert_time_unit(1, second, native)}}.
+
+%% The port is made by whoever calls the function of `dbg', and ends with that process.
+open(true, #state{folder = Folder, bytes = Bytes} = State) ->
+    {Base, Suffix} = seqaudit_spool:base(Folder),
+    Size = max(1, Bytes div ?FILES),
+    try (dbg:trace_port(file, {Base, wrap, Suffix, Size, ?FILES}))() of
+        Port when is_port(Port) -> {port, Port}
+    catch
+        _:_ -> open(false, State)
+    end;
+open(false, #state{folder = Folder}) ->
+    {Base, Suffix} = seqaudit_spool:base(Folder),
+    _ = process_flag(priority, high),
+    {ok, Device} = file:open(Base ++ "0" ++ Suffix,
+                             [append, raw, binary]),
+    {device, Device}.
+
+%% Sets the token by a match specification, which sends no message. Calls are traced for this process,
+%% so that a killed collector leaves nothing that acts.
+pull_trigger(none) ->
+    ok;
+pull_trigger(#{function := {Module, _, _} = Function, label := Label, times := Times}) ->
+    _ = code:ensure_loaded(Module),
+    Flags = [send, 'receive', print] ++ [strict_monotonic_timestamp || Times],
+    Acts = [{set_seq_token, label, {const, Label}} | [{set_seq_token, Flag, true} || Flag <- Flags]],
+    case erlang:trace_pattern(Function, [{'_', [], Acts ++ [{message, false}]}], [local]) of
+        0 ->
+            {error, {no_function, Function}};
+        _ ->
+            _ = erlang:trace(all, true, [call]),
+            ok
+    end.
+
+%% Tokens that the trigger set would stay with their processes; where nobody else traces, all are
+%% taken off.
+release_trigger(#state{trigger = none}) ->
+    ok;
+release_trigger(#state{trigger = #{function := Function}, former = Former}) ->
+    _ = erlang:trace(all, false, [call]),
+    _ = erlang:trace_pattern(Function, false, [local]),
+    _ = Former =:= false andalso seq_trace:reset_trace(),
+    ok.
 
 %% @private
--spec handle_call(stop | {events, pos_integer(), non_neg_integer()}, gen_server:from(), #state{}) ->
-          {noreply, #state{}, timeout()} | {reply, [term()], #state{}}.
+-spec handle_continue(names, #state{}) -> {noreply, #state{}}.
+handle_continue(names, State) ->
+    case erlang:system_info(process_count) =< ?PROCESSES of
+        true -> {noreply, noted(processes(), State)};
+        false -> {noreply, noted([Pid || Name <- registered(), Pid <- [whereis(Name)],
+                                         is_pid(Pid)], State)}
+    end.
+
+%% @private
+-spec handle_call(term(), gen_server:from(), #state{}) ->
+          {noreply, #state{}, timeout()} | {reply, term(), #state{}}.
+handle_call(folder, _From, State) ->
+    {reply, State#state.folder, State};
+handle_call({adopt, Owner}, _From, State) ->
+    demonitor(State#state.owner, [flush]),
+    {reply, ok, State#state{owner = monitor(process, Owner), lost = undefined}};
 handle_call(stop, From, State) ->
     {noreply, (take_off(State))#state{asked = From}, ?SETTLE_MS};
-handle_call({events, First, Last}, _From, State) ->
-    Events = [ets:lookup_element(State#state.table, N, 2) || N <- lists:seq(First, Last)],
-    {reply, Events, State}.
+handle_call(_Stray, _From, State) ->
+    _ = seq_trace:set_token([]),
+    {reply, {error, unknown_call}, State#state{strays = State#state.strays + 1}}.
 
 %% @private
 -spec handle_cast(term(), #state{}) -> gone_on().
@@ -105,17 +246,33 @@ handle_info({seq_trace, _Label, Info} = Event, State) ->
 handle_info({seq_trace, _Label, Info, _Time} = Event, State) ->
     go_on(event(Event, Info, State));
 handle_info(timeout, #state{asked = From} = State) when From =/= undefined ->
-    gen_server:reply(From, summary(State)),
-    {noreply, State#state{asked = undefined}};
-handle_info({'DOWN', Owner, process, _, _}, #state{owner = Owner} = State) ->
-    {stop, normal, State};
+    Closed = close(State),
+    gen_server:reply(From, ok),
+    {stop, normal, Closed#state{asked = undefined}};
+handle_info(tick, State) ->
+    erlang:send_after(?TICK_MS, self(), tick),
+    go_on(tick(State));
+handle_info({'DOWN', Owner, process, _, noconnection}, #state{owner = Owner} = State) ->
+    go_on(State#state{lost = erlang:start_timer(State#state.grace, self(), owner)});
+handle_info({timeout, Lost, owner}, #state{lost = Lost} = State) ->
+    {stop, normal, close(take_off(ended(owner_out_of_reach, State)))};
+handle_info({'DOWN', Owner, process, _, Reason}, #state{owner = Owner} = State) ->
+    {stop, normal, close(take_off(ended({owner, Reason}, State)))};
+handle_info({'EXIT', Port, Reason}, #state{by = {port, Port}} = State) ->
+    go_on(ended({disk, Reason}, (take_off(State))#state{by = closed}));
+handle_info({timeout, _, owner}, State) ->
+    go_on(State);
 handle_info(_Stray, State) ->
     stray(State).
 
 %% @private
--spec terminate(term(), #state{}) -> #state{}.
-terminate(_Reason, State) ->
-    take_off(State).
+-spec terminate(term(), #state{}) -> ok.
+terminate(Reason, State) ->
+    _ = close(take_off(case State#state.by of
+                           closed -> State;
+                           _ -> ended({terminated, Reason}, State)
+                       end)),
+    ok.
 
 %% While a stop waits for the last events, each message begins the wait anew.
 go_on(#state{asked = undefined} = State) -> {noreply, State};
@@ -125,64 +282,135 @@ stray(State) ->
     _ = seq_trace:set_token([]),
     go_on(State#state{strays = State#state.strays + 1}).
 
-event(Event, Info, State) ->
-    case is_own(Info) of
+%% Only the first end is one.
+ended(Why, #state{ended = no} = State) -> State#state{ended = {Why, erlang:universaltime()}};
+ended(_Why, State) -> State.
+
+%% Where the collector itself is the tracer, it writes the event.
+event(Event, Info, #state{by = {device, _}, kept = Kept, written = Written} = State) ->
+    Bytes = term_to_binary(Event),
+    Size = byte_size(Bytes) + 5,
+    case Kept < State#state.limit andalso Written + Size =< State#state.bytes of
         true ->
-            State#state{own = State#state.own + 1};
-        false when State#state.kept < State#state.limit ->
-            Kept = State#state.kept + 1,
-            ets:insert(State#state.table, {Kept, Event}),
-            meet(Info, State#state{kept = Kept});
+            Buffered = buffer([<<0, (byte_size(Bytes)):32>>, Bytes], Size, State),
+            look_at_queue(meet([Info], Buffered#state{kept = Kept + 1, written = Written + Size}));
         false ->
-            State#state{dropped = State#state.dropped + 1}
+            look_at_queue(State#state{dropped = State#state.dropped + 1})
+    end;
+event(_Event, _Info, State) ->
+    State#state{strays = State#state.strays + 1}.
+
+buffer(Entry, Size, #state{buffer = {Before, Entries}} = State) ->
+    Buffered = State#state{buffer = {Before + Size, [Entries, Entry]}},
+    case Before + Size > ?BUFFER_BYTES of
+        true -> flush(Buffered);
+        false -> Buffered
     end.
 
-is_own({_Kind, _Serial, From, To, _Message}) -> From =:= self() orelse To =:= self();
-is_own(_) -> false.
-
-%% Asks what the event's processes are called, once each.
-meet({_Kind, _Serial, From, To, _Message}, #state{processes = Processes} = State) ->
-    State#state{processes = meet_process(To, meet_process(From, Processes))};
-meet(_, State) ->
+%% A disk that is full ends the collecting.
+flush(#state{by = {device, Device}, buffer = {_, Entries}} = State) ->
+    case file:write(Device, Entries) of
+        ok -> State#state{buffer = {0, []}};
+        {error, Reason} ->
+            _ = file:close(Device),
+            ended({disk, Reason}, (take_off(State))#state{by = closed, buffer = {0, []}})
+    end;
+flush(State) ->
     State.
 
-meet_process(Pid, Processes) when is_pid(Pid), node(Pid) =:= node(),
-                                  not is_map_key(Pid, Processes) ->
-    Processes#{Pid => about(Pid)};
-meet_process(_, Processes) ->
-    Processes.
+look_at_queue(#state{tracer = on, kept = Kept, dropped = Dropped, written = Written} = State)
+  when (Kept + Dropped) rem ?LOOK_EVERY =:= 0, Kept > 0 ->
+    {message_queue_len, Length} = process_info(self(), message_queue_len),
+    case Length * (Written div Kept) * ?QUEUE_FACTOR > ?QUEUE_BYTES of
+        true -> take_off(ended(fell_behind, State));
+        false -> State
+    end;
+look_at_queue(State) ->
+    State.
 
-about(Pid) ->
-    case process_info(Pid, [registered_name, initial_call]) of
-        [{registered_name, []}, {initial_call, {proc_lib, init_p, _}}] -> started(Pid);
-        [{registered_name, []}, {initial_call, Call}] -> #{call => Call};
-        [{registered_name, Name}, {initial_call, {proc_lib, init_p, _}}] -> #{name => Name};
-        [{registered_name, Name}, {initial_call, Call}] -> #{name => Name, call => Call};
-        undefined -> #{}
-    end.
+%% What the port has goes to the disk, so that a node that is killed leaves it there.
+tick(#state{by = {port, Port}} = State) ->
+    try erlang:port_control(Port, $f, "") of
+        _ -> look(note_written(written(Port), State))
+    catch
+        error:badarg -> State
+    end;
+tick(State) ->
+    flush(State).
 
-%% A process made by proc_lib has in its dictionary what was really called. The dictionary may be
-%% large, so one with a name is asked for it only when nothing is traced any more.
-complete(Pid, #{name := _} = About) when not is_map_key(call, About) ->
-    maps:merge(started(Pid), About);
-complete(_Pid, About) ->
-    About.
+%% How much came is noted for each file's worth, so that it is known roughly of a killed node too.
+note_written(Now, #state{written = Noted, bytes = Bytes} = State) when Now - Noted > Bytes div ?FILES ->
+    _ = seqaudit_spool:note(State#state.folder, #{written => Now}),
+    State#state{written = Now};
+note_written(_Now, State) ->
+    State.
 
-started(Pid) ->
-    case process_info(Pid, dictionary) of
-        {dictionary, Dictionary} ->
-            maps:from_list([{call, Call} || {'$initial_call', Call} <- Dictionary]);
-        undefined ->
-            #{}
-    end.
+%% Looks through new events for processes that weren't seen. The file behind the last one is always
+%% missing, so whenever the next one is there, the port has gone on to it.
+look(#state{look = {File, Offset}, folder = Folder} = State) ->
+    {Base, Suffix} = seqaudit_spool:base(Folder),
+    Name = fun(Number) -> Base ++ integer_to_list(Number) ++ Suffix end,
+    {Infos, Used} = case seqaudit_spool:read(Name(File), Offset, ?LOOK_BYTES) of
+                        {ok, Bytes} -> infos(Bytes, 0, []);
+                        _ -> {[], 0}
+                    end,
+    Next = (File + 1) rem (?FILES + 1),
+    Place = case Used =:= 0 orelse Used > ?LOOK_BYTES div 2 of
+                true ->
+                    case filelib:is_regular(Name(Next)) of
+                        true -> {Next, 0};
+                        false -> {File, Offset + Used}
+                    end;
+                false -> {File, Offset + Used}
+            end,
+    meet(Infos, State#state{look = Place}).
+
+infos(<<0, Size:32, Bytes:Size/binary, Rest/binary>>, Used, Infos) ->
+    infos(Rest, Used + 5 + Size, case binary_to_term(Bytes) of
+                                     {seq_trace, _, Info} -> [Info | Infos];
+                                     {seq_trace, _, Info, _} -> [Info | Infos];
+                                     _ -> Infos
+                                 end);
+infos(<<1, _:32, Rest/binary>>, Used, Infos) ->
+    infos(Rest, Used + 5, Infos);
+infos(_, Used, Infos) ->
+    {Infos, Used}.
+
+%% Asks what the events' processes are called, once each.
+meet(Infos, #state{processes = Known} = State) ->
+    New = lists:usort([Pid || {_Kind, _Serial, From, To, _Message} <- Infos, Pid <- [From, To],
+                              is_pid(Pid), node(Pid) =:= node(), not is_map_key(Pid, Known)]),
+    noted(New, State).
+
+noted([], State) ->
+    State;
+noted(Pids, #state{processes = Known} = State) when map_size(Known) < ?PROCESSES ->
+    New = maps:from_list([{Pid, seqaudit_spool:about(Pid)} || Pid <- Pids]),
+    _ = seqaudit_spool:note(State#state.folder, #{processes => New}),
+    State#state{processes = maps:merge(Known, New)};
+noted(_Pids, State) ->
+    State.
+
+%% Those that had no name when they were first seen may have one now.
+named_late(#state{processes = Known} = State) ->
+    Nameless = [Pid || {Pid, About} <- maps:to_list(Known), not is_map_key(name, About)],
+    Late = maps:from_list([{Pid, About} || Pid <- Nameless, About <- [seqaudit_spool:about(Pid)],
+                                           is_map_key(name, About)]),
+    State#state{processes = Late}.
 
 %% Puts the former tracer back, unless somebody else's stands in the collector's place.
 take_off(#state{tracer = on} = State) ->
-    Self = self(),
-    case seq_trace:get_system_tracer() of
-        Self -> State#state{tracer = put_back(State#state.former)};
-        _ -> State#state{tracer = taken}
-    end;
+    ok = release_trigger(State),
+    State#state{tracer = case {seq_trace:get_system_tracer(), State#state.by} of
+                             {Port, {port, Port}} -> put_back(State#state.former);
+                             {Self, _} when Self =:= self() -> put_back(State#state.former);
+                             {false, {port, Port}} ->
+                                 case erlang:port_info(Port, id) of
+                                     undefined -> put_back(State#state.former);
+                                     _ -> taken
+                                 end;
+                             _ -> taken
+                         end};
 take_off(State) ->
     State.
 
@@ -195,7 +423,35 @@ put_back(Former) ->
             gone
     end.
 
-summary(State) ->
-    #{node => node(), events => State#state.kept, dropped => State#state.dropped,
-      own => State#state.own, strays => State#state.strays,
-      processes => maps:map(fun complete/2, State#state.processes), tracer => State#state.tracer}.
+%% Closes the files and writes the last facts beside them.
+close(#state{by = closed, folder = Folder} = State) ->
+    _ = seqaudit_spool:note(Folder, last_facts(State)),
+    State;
+close(#state{by = {port, Port}} = State) ->
+    Written = written(Port),
+    _ = (catch erlang:port_control(Port, $f, "")),
+    _ = (catch port_close(Port)),
+    close(State#state{by = closed, written = Written});
+close(#state{by = {device, _}} = State) ->
+    case flush(State) of
+        #state{by = {device, Device}} = Flushed ->
+            _ = file:close(Device),
+            close(Flushed#state{by = closed});
+        Closed -> close(Closed)
+    end.
+
+%% All that came to the port, once no more comes.
+written(Port) ->
+    case erlang:port_info(Port, output) of
+        {output, Written} -> Written;
+        undefined -> 0
+    end.
+
+last_facts(State) ->
+    Facts = #{written => State#state.written, dropped => State#state.dropped,
+              strays => State#state.strays, tracer => State#state.tracer,
+              processes => (named_late(State))#state.processes},
+    case State#state.ended of
+        no -> Facts;
+        Ended -> Facts#{ended => Ended}
+    end.

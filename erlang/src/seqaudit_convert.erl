@@ -4,10 +4,15 @@
 %% <dt>`NAME.seqtrace'</dt><dd>the text of the bundle: the stream of each process</dd>
 %% <dt>`NAME.terms'</dt><dd>what each number stands for ({@link seqaudit_legend})</dd>
 %% <dt>`NAME.notes'</dt><dd>what was decided, dropped or can't be represented, a line each</dd>
+%% <dt>`NAME.times'</dt><dd>when each event happened, if the events say it
+%% ({@link seqaudit_times})</dd>
 %% </dl>
+%% Only their owner may read them, since they have the contents of messages.
 -module(seqaudit_convert).
 
--export([save/2, files/2, convert/1, format_error/1]).
+-include("seqaudit_packed.hrl").
+
+-export([from_files/2, from_files/3, files/2, convert/1, format_error/1]).
 -export_type([bundle/0, summary/0]).
 
 -type bundle() :: #{seqtrace := binary(), terms := iodata(), notes := [string()],
@@ -17,136 +22,307 @@
 -type summary() :: #{events := non_neg_integer(), processes := non_neg_integer(),
                      dropped := non_neg_integer(), notes := [string()],
                      files := [file:filename()]}.
-%% `events' are in the bundle; `dropped' are in none of the files, and `notes' say why.
+%% `events' are in the bundle; `dropped' are in none of the files, and `notes' say why. Of events
+%% that were written over only the bytes are known; their number is estimated.
 
-%% @doc Writes `NAME.events', the collections as they came, and what {@link files/2} writes.
--spec save([seqaudit_events:collection()], file:filename()) ->
+-type ask() :: fun((#{Node :: binary() => [seqaudit_external:encoded()]}) ->
+                       [seqaudit_events:facts()]).
+%% What the processes of each node are called that nobody asked yet.
+
+%% So many lines are made at once, and the texts of so many values.
+-define(AT_ONCE, 1_000).
+-define(SHARE, 5_000).
+
+%% The parts of a bundle, each a function that hands its text on piece by piece.
+-type part() :: fun((fun((iodata()) -> ok)) -> ok).
+
+%% @doc Converts files of events.
+-spec from_files([file:filename()], file:filename()) -> {ok, summary()} | {error, term()}.
+from_files(Files, Name) ->
+    from_files(Files, Name, fun(_) -> [] end).
+
+%% @doc Converts files of events, and asks what processes are called of which the files don't say it.
+-spec from_files([file:filename()], file:filename(), ask()) -> {ok, summary()} | {error, term()}.
+from_files(Files, Name, Ask) ->
+    alone(fun() ->
+        case fold_files(Files, seqaudit_build:new()) of
+            {ok, Build} -> write(asked(Build, Ask), Name);
+            {error, Reason} -> {error, Reason}
+        end
+    end).
+
+fold_files([], Build) ->
+    {ok, Build};
+fold_files([File | Files], Build) ->
+    case seqaudit_events:fold(File, fun seqaudit_build:item/2, Build) of
+        {ok, More} -> fold_files(Files, More);
+        {error, Reason} -> {error, Reason}
+    end.
+
+%% @doc Converts collections: writes `NAME.seqtrace', `NAME.terms' and `NAME.notes', and `NAME.times'
+%% if there are times.
+-spec files([seqaudit_events:collection()], file:filename()) ->
           {ok, summary()} | {error, {file, file:filename(), term()}}.
-save(Collections, Name) ->
-    case seqaudit_events:write(Collections, Name) of
-        ok ->
-            case files(Collections, Name) of
-                {ok, #{files := Files} = Summary} ->
-                    {ok, Summary#{files := [Name ++ ".events" | Files]}};
-                {error, Reason} ->
+files(Collections, Name) ->
+    alone(fun() -> write(taken(Collections), Name) end).
+
+%% @doc The bundle, its legend and the notes.
+-spec convert([seqaudit_events:collection()]) -> bundle().
+convert(Collections) ->
+    alone(fun() ->
+        {Parts, Facts} = parts(taken(Collections)),
+        Texts = maps:map(fun(_, Part) -> iolist_to_binary(text(Part)) end, Parts),
+        {Sizes, Notes} = notes(byte_size(maps:get(seqtrace, Texts)), Facts),
+        maps:merge(maps:with([seqtrace, terms], Texts), Sizes#{notes => Notes})
+    end).
+
+taken(Collections) ->
+    seqaudit_events:fold_list(Collections, fun seqaudit_build:item/2, seqaudit_build:new()).
+
+text(Part) ->
+    Key = make_ref(),
+    put(Key, []),
+    ok = Part(fun(Piece) -> put(Key, [get(Key), Piece]), ok end),
+    erase(Key).
+
+%% The tables of a conversion, and what it leaves on the heap, end with a process of its own.
+alone(Do) ->
+    Self = self(),
+    result(spawn_opt(fun() -> Self ! {self(), Do()} end, [monitor, {fullsweep_after, 10}])).
+
+result({Worker, Monitor}) ->
+    receive
+        {Worker, Result} ->
+            demonitor(Monitor, [flush]),
+            Result;
+        {'DOWN', Monitor, process, Worker, Reason} ->
+            error(Reason)
+    end.
+
+%% The local processes that nobody asked yet are asked now.
+asked(#build{actors = Actors, known = Known} = Build, Ask) ->
+    Wanted = lists:foldl(fun(Actor, Wanted) ->
+                                 case seqaudit_external:view(Actor) of
+                                     {process, Node, _, _} when not is_map_key(Actor, Known) ->
+                                         Wanted#{Node => [Actor | maps:get(Node, Wanted, [])]};
+                                     _ -> Wanted
+                                 end
+                         end, #{}, seqaudit_numbers:listed(Actors)),
+    lists:foldl(fun(Facts, Sum) -> seqaudit_build:item({facts, Facts}, Sum) end, Build,
+                case Build#build.collections of
+                    [] -> [];
+                    _ -> Ask(Wanted)
+                end).
+
+write(Build, Name) ->
+    {Parts, Facts} = parts(Build),
+    %% What was needed until here may be large.
+    true = garbage_collect(),
+    case write_parts([{Name ++ Suffix, maps:get(Part, Parts)}
+                      || {Part, Suffix} <- [{seqtrace, ".seqtrace"}, {terms, ".terms"},
+                                            {times, ".times"}],
+                         is_map_key(Part, Parts)], []) of
+        {ok, Files} ->
+            {Sizes, Notes} = notes(filelib:file_size(Name ++ ".seqtrace"), Facts),
+            NotesFile = Name ++ ".notes",
+            Lines = unicode:characters_to_binary([[Note, $\n] || Note <- Notes]),
+            case write_parts([{NotesFile, fun(Out) -> Out(Lines) end}], Files) of
+                {ok, All} -> {ok, Sizes#{notes => Notes, files => lists:reverse(All)}};
+                {error, Reason} -> {error, Reason}
+            end;
+        {error, Reason} ->
+            {error, Reason}
+    end.
+
+write_parts([], Done) ->
+    {ok, Done};
+write_parts([{File, Part} | Parts], Done) ->
+    case write_file(File, Part) of
+        ok -> write_parts(Parts, [File | Done]);
+        {error, Reason} -> {error, {file, File, Reason}}
+    end.
+
+%% The owner alone may read the file, from before anything stands in it.
+write_file(File, Part) ->
+    case file:open(File, [write, raw, binary]) of
+        {ok, Device} ->
+            try
+                ok = file:change_mode(File, 8#600),
+                ok = Part(fun(Piece) -> ok = file:write(Device, Piece) end),
+                file:close(Device)
+            catch
+                error:{badmatch, {error, Reason}} ->
+                    _ = file:close(Device),
                     {error, Reason}
             end;
         {error, Reason} ->
             {error, Reason}
     end.
 
-%% @doc Writes `NAME.seqtrace', `NAME.terms' and `NAME.notes'.
--spec files([seqaudit_events:collection()], file:filename()) ->
-          {ok, summary()} | {error, {file, file:filename(), term()}}.
-files(Collections, Name) ->
-    #{seqtrace := Text, terms := Terms, notes := Notes} = Bundle = convert(Collections),
-    NotesText = unicode:characters_to_binary([[Note, $\n] || Note <- Notes]),
-    Files = [{Name ++ ".seqtrace", Text}, {Name ++ ".terms", Terms}, {Name ++ ".notes", NotesText}],
-    case write(Files) of
-        ok ->
-            Summary = maps:with([events, processes, dropped, notes], Bundle),
-            {ok, Summary#{files => [File || {File, _} <- Files]}};
-        {error, Reason} ->
-            {error, Reason}
-    end.
+%% What is written, and what the notes are made of.
+-spec parts(seqaudit_build:build()) -> {#{atom() => part()}, map()}.
+parts(#build{actors = Actors, others = Others} = Build) ->
+    {Packed, Resolved} = seqaudit_resolve:resolve(Build),
+    Kept = byte_size(Packed) div ?PACKED_SIZE,
+    Listed = {seqaudit_numbers:listed(Actors), seqaudit_numbers:listed(Others)},
+    Used = used(Packed, Listed),
+    Numbers = seqaudit_processes:number(Used),
+    Spelled = spelled(Listed, Numbers),
+    Labels = seqaudit_numbers:listed(Build#build.labels),
+    LabelNumbers = seqaudit_terms:label_numbers(Labels),
+    LabelTexts = list_to_tuple([integer_to_binary(maps:get(Label, LabelNumbers)) || Label <- Labels]),
+    {Streams, Nameless, Placed} = streams(Packed, Spelled),
+    Sorted = lists:sort([{Number, Party} || {Party, Number} <- maps:to_list(Numbers)]),
+    Counts = maps:merge(Build#build.counts, Resolved#{nameless => Nameless}),
+    ByLabel = lists:sort([{Number, Label} || {Label, Number} <- maps:to_list(LabelNumbers)]),
+    Bundle = fun(Out) -> bundle(Sorted, Streams, Packed, {Spelled, LabelTexts}, Out) end,
+    Known = Build#build.known,
+    Values = Build#build.values,
+    Terms = fun(Out) -> terms(Sorted, ByLabel, {Known, Values}, Numbers, Out) end,
+    Times = fun(Out) -> seqaudit_times:write(Sorted, Streams, Packed, Out) end,
+    {maps:from_list([{seqtrace, Bundle}, {terms, Terms}]
+                    ++ [{times, Times} || is_map_key(timestamps, Counts)]),
+     #{collections => lists:reverse(Build#build.collections), counts => Counts, listed => Sorted,
+       labels => ByLabel, events => Placed, kept => Kept}}.
 
-write([]) ->
-    ok;
-write([{File, Text} | Files]) ->
-    case file:write_file(File, Text) of
-        ok -> write(Files);
-        {error, Reason} -> {error, {file, File, Reason}}
-    end.
+notes(Bytes, #{listed := Listed, collections := Collections, counts := Counts} = Facts) ->
+    Sizes = #{bytes => Bytes, processes => length(Listed), events => maps:get(events, Facts)},
+    Dropped = seqaudit_notes:dropped(Collections, Counts, maps:get(kept, Facts)),
+    {#{events => maps:get(events, Facts), processes => length(Listed), dropped => Dropped},
+     seqaudit_notes:notes(Facts, Sizes)}.
 
-%% @doc The bundle, its legend and the notes.
--spec convert([seqaudit_events:collection()]) -> bundle().
-convert(Collections) ->
-    {Events, Counts} = seqaudit_resolve:events(Collections),
-    Parties = distinct(lists:append([parties(Event) || Event <- Events])),
-    Numbers = seqaudit_processes:number(Parties),
-    {Placed, Nameless} = lists:partition(fun(Event) -> is_placed(Event, Numbers) end, Events),
-    Labels = seqaudit_terms:label_numbers(distinct([Label || {_, Label, _, _, _, _} <- Placed])),
-    {Lines, Values} = lists:mapfoldl(fun(Event, Values) -> line(Event, Numbers, Labels, Values) end,
-                                     #{}, Placed),
-    Listed = lists:sort([{Number, Party} || {Party, Number} <- maps:to_list(Numbers)]),
-    Text = iolist_to_binary(bundle_text([Number || {Number, _} <- Listed], Lines)),
-    Sizes = #{bytes => byte_size(Text), processes => length(Listed), events => length(Lines)},
-    Left = Counts#{nameless => length(Nameless)},
-    #{seqtrace => Text,
-      terms => seqaudit_legend:text(named(Listed, Collections), by_number(Labels),
-                                    by_number(Values), Numbers),
-      notes => seqaudit_notes:notes(Collections, Left, Listed, by_number(Labels), Sizes),
-      events => length(Lines), processes => length(Listed),
-      dropped => seqaudit_notes:dropped(Collections, Left)}.
+%% The parties that events name, in the order of their first events.
+used(Packed, {Actors, Others}) ->
+    Seen = {atomics:new(length(Actors) + 1, []), atomics:new(length(Others) + 1, [])},
+    ok = seqaudit_build:fold(fun({_, _, _, _, From, To, _, _}, ok) ->
+                                     use(From, Seen),
+                                     use(To, Seen)
+                             end, ok, Packed),
+    {SeenActors, SeenOthers} = Seen,
+    seen(Actors, SeenActors) ++ seen(Others, SeenOthers).
 
-parties({print, _, _, From, none, _}) -> [From];
-parties({_, _, _, From, To, _}) -> [From, To].
+use(?NOBODY, _) -> ok;
+use(Party, {_, Others}) when Party >= ?OTHER -> atomics:put(Others, Party - ?OTHER + 1, 1);
+use(Party, {Actors, _}) -> atomics:put(Actors, Party + 1, 1).
 
-%% The different terms of a list, each at its first place.
-distinct(Terms) ->
-    {Distinct, _} = lists:foldl(fun(Term, {Done, Seen}) when is_map_key(Term, Seen) -> {Done, Seen};
-                                   (Term, {Done, Seen}) -> {[Term | Done], Seen#{Term => seen}}
-                                end, {[], #{}}, Terms),
-    lists:reverse(Distinct).
+seen(Parties, Seen) ->
+    [Party || {Place, Party} <- lists:zip(lists:seq(1, length(Parties)), Parties),
+              atomics:get(Seen, Place) =:= 1].
 
-is_placed(Event, Numbers) ->
-    lists:all(fun(Party) -> is_map_key(Party, Numbers) end, parties(Event)).
-
-%% The line of an event with the process in whose stream it stands, and the values so far.
-line({Kind, Label, {Prev, This}, From, To, Message}, Numbers, Labels, Values0) ->
-    {Value, Values} = value(Message, Values0),
-    Words = [<<"{seq_trace,">>, integer_to_list(maps:get(Label, Labels)), <<",{">>, word(Kind),
-             <<",{">>, integer_to_list(Prev), $,, integer_to_list(This), <<"},">>,
-             spell(From, Numbers), $,, spell(To, Numbers), $,, integer_to_list(Value), <<"}}\n">>],
-    Actor = case Kind of
-                'receive' -> To;
-                _ -> From
+%% Each party in the spelling of the bundle; `none' where no number was left for it.
+spelled({Actors, Others}, Numbers) ->
+    Spell = fun(Party) ->
+                    case Numbers of
+                        #{Party := Number} -> list_to_binary(seqaudit_processes:spell(Number));
+                        #{} -> none
+                    end
             end,
-    {{maps:get(Actor, Numbers), iolist_to_binary(Words)}, Values}.
+    {list_to_tuple([Spell(Actor) || Actor <- Actors]),
+     list_to_tuple([Spell(Other) || Other <- Others])}.
 
-value(Message, Values) ->
-    case Values of
-        #{Message := Number} -> {Number, Values};
-        #{} -> {map_size(Values), Values#{Message => map_size(Values)}}
+spell(?NOBODY, _) -> <<"[]">>;
+spell(Party, {_, Others}) when Party >= ?OTHER -> element(Party - ?OTHER + 1, Others);
+spell(Party, {Actors, _}) -> element(Party + 1, Actors).
+
+%% The places of each process's events in the records, by its spelling; how many events name a party
+%% without a number, and how many don't.
+streams(Packed, Spelled) ->
+    {Streams, Nameless, Places} =
+        seqaudit_build:fold(
+          fun({Kind, _, _, _, From, To, _, _}, {Streams, Nameless, Place}) ->
+                  case {spell(From, Spelled), spell(To, Spelled)} of
+                      {none, _} -> {Streams, Nameless + 1, Place + 1};
+                      {_, none} -> {Streams, Nameless + 1, Place + 1};
+                      {_, Receiver} when Kind =:= ?RECEIVE ->
+                          {placed(Receiver, Place, Streams), Nameless, Place + 1};
+                      {Sender, _} ->
+                          {placed(Sender, Place, Streams), Nameless, Place + 1}
+                  end
+          end, {#{}, 0, 0}, Packed),
+    {Streams, Nameless, Places - Nameless}.
+
+placed(Actor, Place, Streams) ->
+    case Streams of
+        #{Actor := Places} -> Streams#{Actor := <<Places/binary, Place:32>>};
+        #{} -> Streams#{Actor => <<Place:32>>}
     end.
 
-word('receive') -> <<"'receive'">>;
-word(Kind) -> atom_to_list(Kind).
-
-spell(none, _Numbers) -> <<"[]">>;
-spell(Party, Numbers) -> seqaudit_processes:spell(maps:get(Party, Numbers)).
-
-bundle_text(Listed, Lines) ->
-    Streams = lists:foldr(fun({Actor, Line}, Streams) ->
-                                  maps:update_with(Actor, fun(Rest) -> [Line | Rest] end, [Line],
-                                                   Streams)
-                          end, #{}, Lines),
-    Header = case lists:any(fun({Node, _}) -> Node > 0 end, Listed) of
+bundle(Sorted, Streams, Packed, Texts, Out) ->
+    ok = Out(case lists:any(fun({{Node, _}, _}) -> Node > 0 end, Sorted) of
                  true -> <<"seqtrace 2\n">>;
                  false -> <<"seqtrace 1\n">>
-             end,
-    [Header | [[<<"process ">>, seqaudit_processes:spell(Number), $\n,
-                maps:get(Number, Streams, [])] || Number <- Listed]].
+             end),
+    lists:foreach(fun({Number, _Party}) ->
+                          Spelled = list_to_binary(seqaudit_processes:spell(Number)),
+                          ok = Out([<<"process ">>, Spelled, $\n]),
+                          lines(maps:get(Spelled, Streams, <<>>), Packed, Texts, Out)
+                  end, Sorted).
+
+lines(<<>>, _Packed, _Texts, _Out) ->
+    ok;
+lines(Places, Packed, Texts, Out) ->
+    Size = min(byte_size(Places), 4 * ?AT_ONCE),
+    <<Now:Size/binary, Later/binary>> = Places,
+    ok = Out([line(binary:part(Packed, Place * ?PACKED_SIZE, ?PACKED_SIZE), Texts)
+              || <<Place:32>> <= Now]),
+    lines(Later, Packed, Texts, Out).
+
+line(<<?PACKED(Kind, Label, Prev, This, From, To, Value, _Time)>>, {Spelled, Labels}) ->
+    [<<"{seq_trace,">>, element(Label + 1, Labels), word(Kind), integer_to_binary(Prev), $,,
+     integer_to_binary(This), <<"},">>, spell(From, Spelled), $,, spell(To, Spelled), $,,
+     integer_to_binary(Value), <<"}}\n">>].
+
+word(?SEND) -> <<",{send,{">>;
+word(?RECEIVE) -> <<",{'receive',{">>;
+word(?PRINT) -> <<",{print,{">>.
+
+%% The legend, whose first lines `seqaudit_legend' makes. The values may be many, so they are handed
+%% on one by one.
+terms(Sorted, Labels, {Known, Values}, Numbers, Out) ->
+    ok = Out(seqaudit_legend:text(named(Sorted, Known), [], [], #{})),
+    ok = Out([entry("label", Number, Label, Numbers) || {Number, Label} <- Labels]),
+    values(0, Values, Numbers, Out).
+
+%% The texts of so many values are made by one process, as many at a time as there are schedulers.
+values(First, Values, Numbers, Out) ->
+    Starts = [First + ?SHARE * N || N <- lists:seq(0, erlang:system_info(schedulers_online) - 1)],
+    Parts = [{Start, Part} || Start <- Starts,
+                              [_ | _] = Part <- [seqaudit_numbers:part(Start, ?SHARE, Values)]],
+    Self = self(),
+    Workers = [spawn_monitor(fun() -> Self ! {self(), entries(Part, Start, Numbers)} end)
+               || {Start, Part} <- Parts],
+    lists:foreach(fun(Worker) -> ok = Out(result(Worker)) end, Workers),
+    case Parts of
+        [] -> ok;
+        _ -> values(First + ?SHARE * length(Starts), Values, Numbers, Out)
+    end.
+
+entries(Values, First, Numbers) ->
+    iolist_to_binary([entry("value", Number, Value, Numbers)
+                      || {Number, Value} <- lists:zip(lists:seq(First, First + length(Values) - 1),
+                                                      Values)]).
+
+entry(Kind, Number, Term, Numbers) ->
+    unicode:characters_to_binary([Kind, $\t, integer_to_list(Number), $\t,
+                                  seqaudit_terms:encoded(Term, Numbers), $\n]).
 
 %% What the legend says of each process. A name that several had, one after the other, is told apart
 %% by the number.
-named(Listed, Collections) ->
-    About = lists:foldl(fun maps:merge/2, #{}, [Known || #{processes := Known} <- Collections]),
-    Many = length(lists:usort([Node || {{Node, _}, _} <- Listed])) > 1,
+named(Listed, Known) ->
+    Homes = [seqaudit_processes:home(Party) || {_, Party} <- Listed],
+    Many = length(lists:usort(Homes)) > 1,
     Named = [begin
-                 Known = maps:get(Party, About, #{}),
+                 About = maps:get(Party, Known, #{}),
                  {seqaudit_processes:spell(Number),
-                  seqaudit_processes:name({Party, Number}, Known, Many),
-                  seqaudit_processes:what(Party, Known)}
+                  seqaudit_processes:name({Party, Number}, About, Many),
+                  seqaudit_processes:what(Party, About)}
              end || {Number, Party} <- Listed],
-    Repeated = [Name || {_, Name, _} <- Named] -- lists:usort([Name || {_, Name, _} <- Named]),
-    [{Pid, case lists:member(Name, Repeated) of
-               true -> Name ++ " " ++ Pid;
-               false -> Name
+    Count = lists:foldl(fun({_, Name, _}, Count) -> Count#{Name => maps:get(Name, Count, 0) + 1} end,
+                        #{}, Named),
+    [{Pid, case Count of
+               #{Name := 1} -> Name;
+               #{} -> Name ++ " " ++ Pid
            end, What} || {Pid, Name, What} <- Named].
-
-by_number(Numbers) ->
-    lists:sort([{Number, Term} || {Term, Number} <- maps:to_list(Numbers)]).
 
 %% @doc A reason of this module in words, with what to do about it.
 -spec format_error({file, file:filename(), term()}) -> string().

@@ -1,24 +1,29 @@
-%% @doc Draws a chart as a sequence diagram in SVG.
+%% @doc Draws a chart as a sequence diagram in SVG, for a document.
 %%
-%% A lane for each process under its name, time downwards by the chart's rows. An arrow goes from
-%% each send to its receive; it is dashed where nobody reported the send, and ends in a bar where
-%% the chart has no receive. Prints are diamonds. What is shortened beside a mark is whole in its
-%% tooltip, with the serial and the cause.
+%% A lane for each process under its name, time downwards by the chart's rows, each under the name of
+%% its event. An arrow goes from each send to its receive; what nobody reported is dashed, and an
+%% arrow ends in a bar where the chart has no receive. Prints are diamonds. An event whose cause
+%% wasn't reported has a question mark. What is shortened beside a mark is whole in its tooltip, with
+%% the serial and the cause.
 -module(seqaudit_draw).
 
--export([svg/2]).
+-export([svg/3, format_error/1]).
+
+%% A drawing with more rows is no picture for a document; the page shows only what is in sight.
+-define(MOST_ROWS, 2_000).
 
 %% Distances in pixels. A row is high enough for one line of text, so texts never meet; a lane is
 %% as wide as the text of most messages. The names stand again after so many rows, about a screen.
 -define(LANE, 170).
 -define(ROW, 22).
--define(LEFT, 110).
--define(TOP, 90).
+-define(LEFT, 190).
+-define(TOP, 120).
 -define(NAMES, 34).
 -define(ROWS_A_BLOCK, 40).
-%% Characters beside a mark, and of a name above a lane.
+%% Characters beside a mark, of a name above a lane or beside a row, and of the heading.
 -define(TEXT, 44).
 -define(NAME, 24).
+-define(HEADING, 200).
 
 -define(STYLE,
         "text{font:11px 'DejaVu Sans',Verdana,sans-serif;fill:#222}"
@@ -27,21 +32,23 @@
         ".l{stroke:#cbd5e0}.z{fill:#fafbfc}"
         ".s{stroke:#1a5fb4;fill:none;stroke-width:1.4}.s circle,.r{fill:#1a5fb4}"
         ".d{stroke:#b35900;fill:none;stroke-width:1.4;stroke-dasharray:6 4}.d circle{fill:#fff}"
-        ".p{fill:#26803b}"
+        ".u{fill:#fff;stroke:#b35900;stroke-width:1.4;stroke-dasharray:2 2}"
+        ".q{fill:#b35900;font-weight:bold}.p{fill:#26803b}"
         "g:hover>.s,g:hover>.d{stroke-width:3}g:hover>.t{font-weight:bold}").
 
 -type place() :: {Lane :: pos_integer(), Row :: non_neg_integer()}.
 
-%% @doc The text of the drawing.
--spec svg(seqaudit_chart:chart(), seqaudit_legend:legend()) -> unicode:chardata().
-svg(#{label := Label, lanes := Lanes, rows := Rows}, Legend) ->
+%% @doc The text of the drawing, with what the audit says above it.
+-spec svg(seqaudit_chart:chart(), unicode:chardata(), seqaudit_legend:legend()) ->
+          {ok, unicode:chardata()} | {error, {too_many_rows, pos_integer()}}.
+svg(#{rows := Rows}, _Heading, _Legend) when length(Rows) > ?MOST_ROWS ->
+    {error, {too_many_rows, length(Rows)}};
+svg(#{label := Label, lanes := Lanes, rows := Rows}, Heading, Legend) ->
     Numbered = lists:zip(lists:seq(0, length(Rows) - 1), Rows),
-    Received = maps:from_list([{{other(Row), Serial}, {lane($R, Row), Number}}
-                               || {Number, #{kind := <<"receive">>, serial := Serial} = Row}
-                                      <- Numbered]),
-    Width = ?LEFT + ?LANE * length(Lanes) + ?LANE,
+    Arrivals = arrivals(Numbered),
+    Width = ?LEFT + ?LANE * max(4, length(Lanes)) + ?LANE,
     Height = y(length(Rows)) + ?ROW,
-    ["<?xml version=\"1.0\" encoding=\"UTF-8\"?>\n",
+    {ok, ["<?xml version=\"1.0\" encoding=\"UTF-8\"?>\n",
      format("<svg xmlns=\"http://www.w3.org/2000/svg\" width=\"~b\" height=\"~b\" "
             "viewBox=\"0 0 ~b ~b\">\n", [Width, Height, Width, Height]),
      "<style>", ?STYLE, "</style>\n",
@@ -50,18 +57,55 @@ svg(#{label := Label, lanes := Lanes, rows := Rows}, Legend) ->
      "markerHeight=\"10\" orient=\"auto\"><path d=\"M2 0V10\" stroke=\"#1a5fb4\" "
      "stroke-width=\"2\"/></marker></defs>\n",
      "<rect width=\"100%\" height=\"100%\" fill=\"#fff\"/>\n",
-     format("<text class=\"h\" x=\"12\" y=\"28\">label ~ts: ~b rows, ~b processes</text>\n",
+     format("<text class=\"h\" x=\"12\" y=\"26\">label ~ts: ~b rows, ~b processes</text>\n",
             [escape(label(Label, Legend)), length(Rows), length(Lanes)]),
+     format("<text x=\"12\" y=\"46\">~ts</text>\n", [escape(short(Heading, ?HEADING))]),
+     key(Rows),
      zebra(length(Rows), Width),
      [life_line(Lane, Height) || Lane <- lists:seq(1, length(Lanes))],
      %% Texts and names come last, so that no arrow hides them.
-     [tipped(Row, Legend, mark(Number, Row, Received)) || {Number, Row} <- Numbered],
+     [tipped(Row, Legend, mark(Number, Row, Arrivals)) || {Number, Row} <- Numbered],
      [tipped(Row, Legend, text(Number, Row, Legend)) || {Number, Row} <- Numbered],
      [names(Block, Lanes, Legend) || Block <- lists:seq(0, max(0, length(Rows) - 1)
                                                                 div ?ROWS_A_BLOCK)],
-     [format("<text class=\"n\" x=\"~b\" y=\"~b\">~b</text>\n", [?LEFT - 50, y(Number) + 4, Number])
-      || {Number, _} <- Numbered],
-     "</svg>\n"].
+     [format("<text class=\"n\" x=\"~b\" y=\"~b\">~ts</text>\n",
+             [?LEFT - 20, y(Number) + 4, escape(short(row_name(Row, Legend), ?NAME))])
+      || {Number, Row} <- Numbered],
+     "</svg>\n"]}.
+
+%% @doc A reason of this module in words, with what to do about it.
+-spec format_error({too_many_rows, pos_integer()}) -> string().
+format_error({too_many_rows, Rows}) ->
+    lists:flatten(format("the chart has ~b rows, and a drawing takes ~b; use the page (--html FILE), "
+                         "or cut the trace (--process, --from, --to)", [Rows, ?MOST_ROWS])).
+
+%% Where each send arrives: at its receive, or at the event that follows a receive nobody reported.
+arrivals(Numbered) ->
+    Guessed = [{Send, {{mark_lane(Row), Number}, unreported}}
+               || {Number, #{shown := #{cause := {unreported, Send}}} = Row} <- lists:reverse(Numbered)],
+    Received = [{Send, {{lane($R, Row), Number}, reported(Id)}}
+                || {Number, #{shown := #{id := Id, cause := {sent, Send}}} = Row} <- Numbered],
+    maps:merge(maps:from_list(Guessed), maps:from_list(Received)).
+
+reported({sent_to, _}) -> unreported;
+reported({_, {_, _}}) -> unreported;
+reported(_) -> reported.
+
+row_name(#{shown := #{hidden := true}}, _Legend) -> "unreported";
+row_name(#{shown := #{id := Id}}, Legend) -> seqaudit_why:name(Id, Legend).
+
+%% What the drawing has that isn't plain.
+key(Rows) ->
+    Unreported = [Row || #{shown := #{id := Id}} = Row <- Rows, reported(Id) =:= unreported],
+    Doubtful = [Row || #{shown := #{cause := Cause}} = Row <- Rows, is_doubtful(Cause)],
+    [["<g class=\"d\"><path d=\"M12 62H48\"/></g><circle class=\"u\" cx=\"30\" cy=\"62\" r=\"4\"/>"
+      "<text x=\"56\" y=\"66\">unreported: nobody reported it, but it happened</text>\n"
+      || Unreported =/= []],
+     ["<text class=\"q\" x=\"352\" y=\"66\">?</text>"
+      "<text x=\"364\" y=\"66\">its cause may not have been reported</text>\n" || Doubtful =/= []]].
+
+is_doubtful({unreported, _}) -> true;
+is_doubtful(Cause) -> Cause =:= open orelse Cause =:= missing.
 
 arrow_head(Id, Colour) ->
     format("<marker id=\"~ts\" viewBox=\"0 0 10 10\" refX=\"9\" refY=\"5\" markerWidth=\"8\" "
@@ -89,36 +133,52 @@ names(Block, Lanes, Legend) ->
      || {Lane, Pid} <- lists:zip(lists:seq(1, length(Lanes)), Lanes)].
 
 %% What is drawn of a row, with the tooltip of the row.
-tipped(#{value := Value} = Row, Legend, Drawn) ->
-    ["<g><title>", escape(tip([title(Row, Legend), seqaudit_legend:value(Value, Legend)])),
+tipped(#{value := Value, shown := #{invented := Invented}} = Row, Legend, Drawn) ->
+    Whole = case Invented of
+                true -> seqaudit_chart:term(Row, Legend);
+                false -> seqaudit_legend:value(Value, Legend)
+            end,
+    ["<g><title>", escape(tip([title(Row, Legend), Whole])),
      "</title>", Drawn, "</g>\n"].
 
-title(#{kind := Kind, serial := Serial, cause := Cause}, Legend) ->
-    [Kind, " ", Serial, ", ", cause(Cause, Legend)].
+title(#{kind := Kind, serial := Serial, shown := #{cause := Cause}} = Row, Legend) ->
+    [row_name(Row, Legend), ": ", Kind, " ", Serial, ", ", seqaudit_why:cause(Cause, Legend)].
 
-cause([<<"after">>, <<"hidden">>], _) -> "caused by a send that nobody reported";
-cause([<<"after">>, Pid, Place], Legend) ->
-    ["caused by event ", Place, " of ", seqaudit_legend:process(Pid, Legend)];
-cause([<<"start">>], _) -> "begins a trace, or its cause wasn't reported";
-cause([<<"unseen">>], _) -> "nobody reported this send";
-cause(Words, _) -> lists:join(" ", Words).
+mark(Number, #{shown := #{cause := Cause}} = Row, Arrivals) ->
+    [case is_doubtful(Cause) of
+         true -> format("<text class=\"q\" x=\"~b\" y=\"~b\">?</text>",
+                        [x(mark_lane(Row)) - 14, y(Number) + 4]);
+         false -> ""
+     end, symbol(Number, Row, Arrivals)].
 
-mark(Number, #{kind := <<"print">>} = Row, _Received) ->
+symbol(Number, #{kind := <<"print">>} = Row, _Arrivals) ->
     format("<path class=\"p\" d=\"M~b ~bl5 5l-5 5l-5 -5z\"/>", [x(lane($P, Row)), y(Number) - 5]);
-mark(Number, #{kind := <<"receive">>} = Row, _Received) ->
-    format("<circle class=\"s r\" cx=\"~b\" cy=\"~b\" r=\"3.5\"/>", [x(lane($R, Row)), y(Number)]);
-mark(Number, #{serial := Serial} = Row, Received) ->
-    {Sender, Class} = sender(Row),
-    {End, To} = case Received of
-                    #{{Sender, Serial} := Place} -> {Class, Place};
-                    #{} -> {"x", {other(Row), Number}}
-                end,
+symbol(Number, #{kind := <<"receive">>, shown := #{id := Id}} = Row, _Arrivals) ->
+    Class = case reported(Id) of
+                reported -> "s r";
+                unreported -> "u"
+            end,
+    format("<circle class=\"~ts\" cx=\"~b\" cy=\"~b\" r=\"3.5\"/>",
+           [Class, x(lane($R, Row)), y(Number)]);
+symbol(Number, #{shown := #{id := Id}} = Row, Arrivals) ->
+    Sender = mark_lane(Row),
+    {To, Reported} = maps:get(Id, Arrivals, {none, reported(Id)}),
+    Class = case {reported(Id), Reported} of
+                {reported, reported} -> "s";
+                _ -> "d"
+            end,
     From = {Sender, Number},
+    {End, Target} = case To of
+                        none -> {"x", {other(Row), Number}};
+                        _ -> {Class, To}
+                    end,
     format("<g class=\"~ts\"><circle cx=\"~b\" cy=\"~b\" r=\"3\"/><path d=\"~ts\" "
-           "marker-end=\"url(#~ts)\"/></g>", [Class, x(From), y(From), path(From, To), End]).
+           "marker-end=\"url(#~ts)\"/></g>", [Class, x(From), y(From), path(From, Target), End]).
 
-sender(#{kind := <<"hidden">>} = Row) -> {lane($H, Row), "d"};
-sender(#{kind := <<"send">>} = Row) -> {lane($S, Row), "s"}.
+mark_lane(#{kind := <<"hidden">>} = Row) -> lane($H, Row);
+mark_lane(#{kind := <<"send">>} = Row) -> lane($S, Row);
+mark_lane(#{kind := <<"receive">>} = Row) -> lane($R, Row);
+mark_lane(#{kind := <<"print">>} = Row) -> lane($P, Row).
 
 %% A straight line, or for a send to itself a bow to the right.
 -spec path(place(), place()) -> iolist().
@@ -136,15 +196,15 @@ text(_Number, #{kind := <<"receive">>}, _Legend) ->
 text(Number, #{kind := <<"print">>} = Row, Legend) ->
     text(x(lane($P, Row)) + 10, y(Number) + 4, "start", Row, Legend);
 text(Number, Row, Legend) ->
-    {Sender, _} = sender(Row),
+    Sender = mark_lane(Row),
     case other(Row) >= Sender of
         true -> text(x(Sender) + 10, y(Number) - 3, "start", Row, Legend);
         false -> text(x(Sender) - 10, y(Number) - 3, "end", Row, Legend)
     end.
 
-text(X, Y, Anchor, #{value := Value}, Legend) ->
+text(X, Y, Anchor, Row, Legend) ->
     format("<text class=\"t\" x=\"~b\" y=\"~b\" text-anchor=\"~ts\">~ts</text>",
-           [X, Y, Anchor, escape(short(seqaudit_legend:brief(Value, Legend), ?TEXT))]).
+           [X, Y, Anchor, escape(short(seqaudit_chart:term(Row, Legend), ?TEXT))]).
 
 x({Lane, _Row}) -> x(Lane);
 x(Lane) -> ?LEFT + ?LANE * (Lane - 1) + ?LANE div 2.
@@ -152,18 +212,8 @@ x(Lane) -> ?LEFT + ?LANE * (Lane - 1) + ?LANE div 2.
 y({_Lane, Row}) -> y(Row);
 y(Row) -> ?TOP + ?NAMES div 2 + Row * ?ROW + (Row div ?ROWS_A_BLOCK) * ?NAMES.
 
-%% The lane with this mark, and the one at the other end: the same where a process sends to itself.
-lane(Mark, #{marks := Marks}) -> index(Mark, Marks, 1).
-
-other(#{marks := Marks} = Row) ->
-    case lists:member($., Marks) of
-        true -> lane($., Row);
-        false -> index(not_a_bar, Marks, 1)
-    end.
-
-index(not_a_bar, [Mark | _], Place) when Mark =/= $| -> Place;
-index(Mark, [Mark | _], Place) -> Place;
-index(Mark, [_ | Marks], Place) -> index(Mark, Marks, Place + 1).
+lane(Mark, Row) -> seqaudit_chart:lane(Mark, Row).
+other(Row) -> seqaudit_chart:other(Row).
 
 label(Number, Legend) -> seqaudit_legend:label(Number, Legend).
 
@@ -172,15 +222,18 @@ short(Text, Length) ->
 
 tip(Lines) -> lists:join("\n", Lines).
 
-%% What XML doesn't allow stands as a question mark.
+%% What XML doesn't allow, and what turns the direction of text, stands as its number.
 escape(Text) ->
     [case C of
          $& -> "&amp;";
          $< -> "&lt;";
          $> -> "&gt;";
          $" -> "&quot;";
-         _ when C >= 16#20, C =< 16#D7FF; C >= 16#E000, C =< 16#FFFD; C >= 16#10000; C =:= $\n -> C;
-         _ -> $?
+         $\n -> C;
+         _ when C < 16#20; C >= 16#7F, C < 16#A0; C =:= 16#61C; C >= 16#200B, C =< 16#200F;
+                C >= 16#2028, C =< 16#202E; C >= 16#2060, C =< 16#206F; C =:= 16#FEFF;
+                C =:= 16#FFFE; C =:= 16#FFFF -> io_lib:format("\\x{~.16B}", [C]);
+         _ -> C
      end || C <- unicode:characters_to_list(Text)].
 
 format(Format, Values) -> io_lib:format(Format, Values).

@@ -11,11 +11,14 @@
 
 -define(HEADER, <<"seqaudit terms 1">>).
 
-%% Messages of gen_server: a call, a cast, and the replies to an alias and to a reference.
+%% Messages of gen_server: a call, a cast, and the replies to an alias and to a reference; and those
+%% by which OTP spawns a process. What is captured is shown.
 -define(TAG, "(?:\\[alias\\|#Ref<[0-9.]*>\\]|#Ref<[0-9.]*>)").
--define(BRIEF, [{"^\\{'\\$gen_call',\\{[^,]*," ?TAG "\\},(.*)\\}$", <<"call ">>},
-                {"^\\{'\\$gen_cast',(.*)\\}$", <<"cast ">>},
-                {"^\\{" ?TAG ",(.*)\\}$", <<"reply ">>}]).
+-define(BRIEF, [{"^\\{'\\$gen_call',\\{[^,]*," ?TAG "\\},(.*)\\}$", "call "},
+                {"^\\{'\\$gen_cast',(.*)\\}$", "cast "},
+                {"^\\{spawn_request,#Ref<[0-9.]*>,[^,]*,[^,]*,\\{(.*)$", "spawn {"},
+                {"^\\{spawn_reply,#Ref<[0-9.]*>,ok,(.*)\\}$", "spawned "},
+                {"^\\{" ?TAG ",(.*)\\}$", "reply "}]).
 
 -opaque legend() :: #{{process | about | label | value, binary()} => binary()}.
 
@@ -88,7 +91,7 @@ brief_text(Text, []) ->
     Text;
 brief_text(Text, [{Pattern, Word} | Patterns]) ->
     case re:run(Text, Pattern, [unicode, dotall, {capture, [1], binary}]) of
-        {match, [Inner]} -> <<Word/binary, Inner/binary>>;
+        {match, [Inner]} -> iolist_to_binary([Word, Inner]);
         nomatch -> brief_text(Text, Patterns)
     end.
 

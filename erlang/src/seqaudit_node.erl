@@ -10,6 +10,9 @@
 -define(USAGE, 3).
 -define(SYSTEM, 4).
 
+%% Options that cut a trace down before it is looked at.
+-define(CUTS, ["--label", "--process", "--from", "--to"]).
+
 -type options() :: #{string() => [string()]}.
 %% The words after each option, the last one first; the words without one stand under "".
 
@@ -42,24 +45,48 @@ run([]) ->
 
 %% Each command with its options that have a value, and those that have none.
 commands() ->
-    [{"collect", ["--node", "--cookie", "--seconds", "--limit", "-o"], ["--reset"], fun collect/1},
+    [{"collect", ["--node", "--cookie", "--cookie-file", "--seconds", "--bytes", "--limit", "--folder",
+                  "--trigger", "--label", "-o"], ["--reset", "--times"], fun collect/1},
      {"convert", ["-o"], [], fun convert/1},
-     {"audit", [], ["--whole"], fun audit/1},
-     {"chart", ["--label", "--svg"], [], fun chart/1}].
+     {"audit", ?CUTS, ["--whole", "--parts"], fun(Options) -> answer(fun seqaudit_answer:audit/1, Options) end},
+     {"chart", ["--svg", "--html" | ?CUTS], ["--parts"],
+      fun(Options) -> answer(fun seqaudit_answer:chart/1, Options) end},
+     {"why", ["--event" | ?CUTS], ["--effects"],
+      fun(Options) -> answer(fun seqaudit_answer:why/1, Options) end}].
+
+%% The commands on a trace that was collected stand in a module of their own.
+answer(Command, Options) ->
+    case Command(Options) of
+        {usage, Text} -> usage(Text, []);
+        {Status, Complaint} -> failed(Status, Complaint);
+        Status -> Status
+    end.
 
 help() ->
     "usage: seqaudit-node COMMAND\n"
-    "  collect --node N@H .. --seconds S -o NAME [--cookie C] [--limit EVENTS] [--reset]\n"
-    "      traces the nodes for so long and writes NAME.events and what convert writes;\n"
-    "      --reset takes all tokens off first, so that clocks begin at 0\n"
+    "  collect --node N@H .. -o NAME [--seconds S] [--trigger M:F/A --label TERM [--times]]\n"
+    "          [--bytes BYTES] [--limit EVENTS] [--folder FOLDER] [--reset]\n"
+    "          [--cookie-file FILE | --cookie C]\n"
+    "      traces the nodes for so long, or until Ctrl-C, and writes NAME.events and what convert\n"
+    "      writes; --trigger sets a token with this label wherever the function is called, --times\n"
+    "      with timestamps; --bytes is the total size of each node's files, which stand in --folder\n"
+    "      there; --reset takes all tokens off first, so that clocks begin at 0. The cookie may\n"
+    "      stand in the variable SEQAUDIT_COOKIE too; on the command line others can see it\n"
     "  convert FILE .. -o NAME\n"
-    "      makes NAME.seqtrace, NAME.terms and NAME.notes of files of events: NAME.events,\n"
-    "      term_to_binary of a list, a trace file of dbg or ttb, or text\n"
-    "  audit NAME [--whole]\n"
-    "      has seqaudit audit NAME.seqtrace, keeps its answer in NAME.answer and explains it\n"
-    "  chart NAME --label TERM [--svg FILE]\n"
-    "      prints the chart of a label with names and terms, and draws it\n"
-    "status: 0 done or fits, 1 unfit or no such label, 2 a file isn't understood,\n"
+    "      makes NAME.seqtrace, NAME.terms, NAME.notes, and NAME.times if there are timestamps, of\n"
+    "      files of events: NAME.events, a collector's folder, term_to_binary of a list, a trace\n"
+    "      file of dbg or ttb, or text\n"
+    "  audit NAME [--whole] [--parts]\n"
+    "      says whether a run has NAME.seqtrace and what it lacks, and keeps what shows it in\n"
+    "      NAME.answer; --whole prints the events and acts, --parts all of each part between resets\n"
+    "  chart NAME --label TERM [--svg FILE] [--html FILE]\n"
+    "      prints the chart of a label with names and terms, and draws it, for a document or as a\n"
+    "      page to look at; the page alone needs no label\n"
+    "  why NAME --event PROCESS#N [--effects]\n"
+    "      tells the chain from an event back to its beginning, and what came of it\n"
+    "  audit, chart and why cut the trace first: --label TERM .. --process NAME ..\n"
+    "      --from SECONDS --to SECONDS (after the first event; needs NAME.times)\n"
+    "status: 0 done or fits, 1 unfit or not there, 2 a file isn't understood,\n"
     "        3 the command isn't, 4 a file, a node or the program can't be had\n".
 
 usage(Format, Values) ->
@@ -90,52 +117,142 @@ options([Word | Words], Valued, Flags, Options) ->
 add(Option, Value, Options) ->
     maps:update_with(Option, fun(Values) -> [Value | Values] end, [Value], Options).
 
-collect(#{"--node" := Nodes, "--seconds" := [Seconds], "-o" := [Name]} = Options)
-  when not is_map_key("", Options) ->
-    Limits = maps:get("--limit", Options, ["1000000"]),
-    case {string:to_integer(Seconds), string:to_integer(hd(Limits))} of
-        {{S, ""}, {Limit, ""}} when S > 0, Limit >= 0 ->
-            Start = #{nodes => [list_to_atom(Node) || Node <- Nodes], name => Name,
-                      limit => Limit, reset => is_map_key("--reset", Options)},
-            collect(connect(hd(Nodes), Options), Start, S);
-        _ ->
-            usage("--seconds and --limit take whole numbers", [])
+collect(#{"--node" := Nodes, "-o" := [Name]} = Options) when not is_map_key("", Options) ->
+    case collect_options(lists:reverse(Nodes), Options) of
+        {ok, Wait, Start} -> collect(connect(hd(Nodes), Options), Start#{name => Name}, Wait);
+        {error, Text} -> usage("~ts", [Text])
     end;
 collect(_) ->
-    usage("collect needs --node, --seconds and -o", []).
+    usage("collect needs --node and -o", []).
 
-collect({error, Reason}, _Start, _Seconds) ->
+%% How long to collect, and what seqaudit_trace:start/1 takes.
+collect_options(Nodes, Options) ->
+    try
+        Wait = case whole("--seconds", 1, Options) of
+                   none -> infinity;
+                   Seconds -> 1000 * Seconds
+               end,
+        Given = [{nodes, [node_name(Node) || Node <- Nodes]},
+                 {reset, is_map_key("--reset", Options)},
+                 {trigger, trigger(Options)}]
+            ++ [{limit, Limit} || Limit <- [whole("--limit", 0, Options)], Limit =/= none]
+            ++ [{bytes, Bytes} || Bytes <- [whole("--bytes", 1, Options)], Bytes =/= none]
+            ++ [{folder, Folder} || #{"--folder" := [Folder | _]} <- [Options]],
+        {ok, Wait, maps:from_list(Given)}
+    catch
+        throw:Text -> {error, Text}
+    end.
+
+whole(Option, Least, Options) ->
+    case Options of
+        #{Option := [Word | _]} ->
+            case string:to_integer(Word) of
+                {Number, ""} when is_integer(Number), Number >= Least -> Number;
+                _ -> throw("--seconds and --limit take whole numbers, and so does --bytes: "
+                           ++ Option ++ " can't be " ++ Word)
+            end;
+        #{} -> none
+    end.
+
+%% The words of the command line may become atoms: there are few of them, and they are the user's own.
+node_name(Word) ->
+    case {string:split(Word, "@", all), length(Word) =< 255} of
+        {[[_ | _], [_ | _]], true} -> list_to_atom(Word);
+        _ -> throw(Word ++ " is no name of a node; it is written name@host")
+    end.
+
+trigger(#{"--trigger" := [Function | _], "--label" := [Label | _]} = Options) ->
+    #{function => function(Function), label => label(Label), times => is_map_key("--times", Options)};
+trigger(Options) when is_map_key("--trigger", Options); is_map_key("--label", Options) ->
+    throw("--trigger and --label go together");
+trigger(#{"--times" := _}) ->
+    throw("--times goes with --trigger; a token that a program sets has a flag for it");
+trigger(_) ->
+    none.
+
+function(Word) ->
+    case re:run(Word, "^([^:]+):([^:]+)/([0-9]{1,3})$", [unicode, {capture, all_but_first, list}]) of
+        {match, [Module, Function, Arity]} ->
+            {list_to_atom(Module), list_to_atom(Function), list_to_integer(Arity)};
+        nomatch -> throw(Word ++ " is no function; it is written module:function/2")
+    end.
+
+label(Word) ->
+    case erl_scan:string(Word ++ ".") of
+        {ok, Tokens, _} ->
+            case erl_parse:parse_term(Tokens) of
+                {ok, Label} -> Label;
+                {error, _} -> throw(Word ++ " is no Erlang term")
+            end;
+        {error, _, _} -> throw(Word ++ " is no Erlang term")
+    end.
+
+collect({error, {cookie, Reason}}, _Start, _Wait) ->
+    failed(?SYSTEM, ["the cookie can't be had: ", Reason]);
+collect({error, Reason}, _Start, _Wait) ->
     failed(?SYSTEM, io_lib:format("this Erlang can't take part in distribution; it needs a home "
                                   "folder for its cookie, and epmd: ~0tp", [Reason]));
-collect(ok, #{nodes := Nodes} = Start, Seconds) ->
+collect(ok, #{nodes := Nodes} = Start, Wait) ->
     case seqaudit_trace:start(Start) of
         ok ->
-            io:format("tracing ~ts for ~b s; set tokens there, as with~n"
-                      "  seqaudit_trace:with_trace(17, fun() -> .. end).~n",
-                      [lists:join(", ", [atom_to_list(Node) || Node <- Nodes]), Seconds]),
-            timer:sleep(1000 * Seconds),
+            io:format("tracing ~ts ~ts~ts",
+                      [lists:join(", ", [atom_to_list(Node) || Node <- Nodes]), how_long(Wait),
+                       advice(Start)]),
+            [io:format("  events of ~ts go to ~ts there~n", [Node, Folder])
+             || {Node, Folder} <- seqaudit_trace:folders()],
+            _ = seqaudit_signals:wait(Wait),
             written(seqaudit_trace:stop(), fun seqaudit_trace:format_error/1);
         {error, Reason} ->
             failed(?SYSTEM, seqaudit_trace:format_error(Reason))
     end.
 
+how_long(infinity) -> "until Ctrl-C";
+how_long(Milliseconds) -> io_lib:format("for ~b s", [Milliseconds div 1000]).
+
+advice(#{trigger := #{function := {Module, Function, Arity}}}) ->
+    io_lib:format("; calls of ~ts:~ts/~b set the token~n", [Module, Function, Arity]);
+advice(_) ->
+    "; set tokens there, as with\n  seqaudit_trace:with_trace(17, fun() -> .. end).\n".
+
 %% Makes this a hidden node that listens to nobody, in the name domain of the node.
 connect(Node, Options) ->
+    case cookie(Options) of
+        {error, Reason} -> {error, {cookie, Reason}};
+        Cookie -> connect_with(Node, Cookie)
+    end.
+
+connect_with(Node, Cookie) ->
     [_ | Host] = string:split(Node, "@"),
     Domain = case lists:member($., lists:append(Host)) of
                  true -> longnames;
                  false -> shortnames
              end,
     Own = list_to_atom("seqaudit_" ++ os:getpid()),
-    case is_alive() orelse net_kernel:start(Own, #{name_domain => Domain, dist_listen => false}) of
+    case is_alive() orelse net_kernel:start(Own, #{name_domain => Domain, dist_listen => false,
+                                                   hidden => true}) of
         {error, Reason} ->
             {error, Reason};
         _ ->
-            lists:foreach(fun(Cookie) ->
-                                  erlang:set_cookie(list_to_atom(Cookie))
-                          end, maps:get("--cookie", Options, [])),
+            Cookie =:= none orelse erlang:set_cookie(list_to_atom(Cookie)),
             ok
     end.
+
+%% Words of a command line are seen by all users of the machine; a file and a variable aren't.
+cookie(#{"--cookie" := [Cookie | _]}) ->
+    checked(Cookie);
+cookie(#{"--cookie-file" := [File | _]}) ->
+    case file:read_file(File) of
+        {ok, Text} -> checked(string:trim(unicode:characters_to_list(Text)));
+        {error, Reason} -> {error, [File, ": ", file:format_error(Reason)]}
+    end;
+cookie(_) ->
+    case os:getenv("SEQAUDIT_COOKIE") of
+        false -> none;
+        Cookie -> checked(Cookie)
+    end.
+
+checked([_ | _] = Cookie) when length(Cookie) =< 255 -> Cookie;
+checked(_) -> {error, "it is empty, or longer than 255 characters"}.
 
 written({ok, #{events := Events, processes := Processes, notes := Notes, files := Files}}, _) ->
     io:format("~b events of ~b processes: ~ts~n", [Events, Processes, lists:join(" ", Files)]),
@@ -145,9 +262,9 @@ written({error, Reason}, FormatError) ->
     failed(?SYSTEM, FormatError(Reason)).
 
 convert(#{"" := Files, "-o" := [Name]}) ->
-    case read_all(lists:reverse(Files), []) of
-        {ok, Collections} ->
-            written(seqaudit_convert:files(Collections, Name), fun seqaudit_convert:format_error/1);
+    case seqaudit_convert:from_files(lists:reverse(Files), Name) of
+        {ok, Summary} ->
+            written({ok, Summary}, fun seqaudit_convert:format_error/1);
         {error, {file, _, _} = Reason} ->
             failed(?SYSTEM, seqaudit_events:format_error(Reason));
         {error, Reason} ->
@@ -155,70 +272,3 @@ convert(#{"" := Files, "-o" := [Name]}) ->
     end;
 convert(_) ->
     usage("convert needs a file of events and -o", []).
-
-read_all([], Collections) ->
-    {ok, Collections};
-read_all([File | Files], Collections) ->
-    case seqaudit_events:read(File) of
-        {ok, More} -> read_all(Files, Collections ++ More);
-        {error, Reason} -> {error, Reason}
-    end.
-
-audit(#{"" := [Name]} = Options) ->
-    with_legend(Name, fun(Legend) ->
-        answered(["audit"], Name, fun(Status, Answer) ->
-            Show = case Options of
-                       #{"--whole" := _} -> fun seqaudit_explain:explain/2;
-                       #{} -> fun seqaudit_explain:summary/2
-                   end,
-            io:put_chars(Show(Answer, Legend)),
-            keep(Name ++ ".answer", Answer, Status)
-        end)
-    end);
-audit(_) ->
-    usage("audit needs the NAME of a bundle", []).
-
-chart(#{"" := [Name], "--label" := [Label]} = Options) ->
-    with_legend(Name, fun(Legend) ->
-        case seqaudit_legend:find_label(Label, Legend) of
-            {ok, Number} ->
-                answered(["chart", "--label", binary_to_list(Number)], Name, fun(Status, Answer) ->
-                    io:put_chars(seqaudit_explain:explain(Answer, Legend)),
-                    draw(Status, Answer, Legend, maps:get("--svg", Options, []))
-                end);
-            {error, Reason} ->
-                failed(?UNFIT, seqaudit_legend:format_error(Reason))
-        end
-    end);
-chart(_) ->
-    usage("chart needs the NAME of a bundle and --label", []).
-
-draw(?FITS, Answer, Legend, [File | _]) ->
-    {ok, Chart} = seqaudit_chart:read(Answer),
-    keep(File, unicode:characters_to_binary(seqaudit_draw:svg(Chart, Legend)), ?FITS);
-draw(Status, _Answer, _Legend, _Files) ->
-    Status.
-
-with_legend(Name, Do) ->
-    case seqaudit_legend:read(Name ++ ".terms") of
-        {ok, Legend} -> Do(Legend);
-        {error, {file, _, _} = Reason} -> failed(?SYSTEM, seqaudit_legend:format_error(Reason));
-        {error, Reason} -> failed(?INPUT, seqaudit_legend:format_error(Reason))
-    end.
-
-%% What the program answers. Status 3 comes from one that hasn't the command yet.
-answered(Words, Name, Do) ->
-    case seqaudit_program:ask(Words, Name ++ ".seqtrace") of
-        {ok, {?USAGE, _}} ->
-            failed(?USAGE, "this seqaudit has no " ++ hd(Words) ++ " yet; build a later one");
-        {ok, {Status, Answer}} ->
-            Do(Status, Answer);
-        {error, Reason} ->
-            failed(?SYSTEM, seqaudit_program:format_error(Reason))
-    end.
-
-keep(File, Text, Status) ->
-    case file:write_file(File, Text) of
-        ok -> Status;
-        {error, Reason} -> failed(?SYSTEM, seqaudit_convert:format_error({file, File, Reason}))
-    end.

@@ -1,7 +1,7 @@
 %% @doc `NAME.notes': what the conversion decided, what it left out, and what `seqaudit' won't take.
 -module(seqaudit_notes).
 
--export([notes/5, dropped/2]).
+-export([notes/2, dropped/3]).
 
 %% The limits of the program's reader.
 -define(MOST_BYTES, 67_108_864).
@@ -9,24 +9,50 @@
 -define(MOST_EVENTS, 1_000_000).
 %% This many entries of one kind are listed; `NAME.terms' has them all.
 -define(LISTED, 50).
+%% Reasons come from files, so little of them is shown.
+-define(REASON, 200).
 
 -type sizes() :: #{bytes | processes | events => non_neg_integer()}.
--type listed() :: [{seqaudit_processes:pid_number(), seqaudit_resolve:party()}].
 
-%% @doc How many events came and are not in the bundle.
--spec dropped([seqaudit_events:collection()], #{atom() => non_neg_integer()}) -> non_neg_integer().
-dropped(Collections, Counts) ->
+%% @doc How many events came and are not in the bundle. Of events that a port wrote over only their
+%% bytes are known: they are taken to be as large as the kept ones.
+-spec dropped([seqaudit_build:collected()], #{atom() => non_neg_integer()}, non_neg_integer()) ->
+          non_neg_integer().
+dropped(Collections, Counts, _Kept) ->
     count(nameless, Counts) + count(strays, Counts)
-        + lists:sum([count(Kind, Collection) || Collection <- Collections,
-                                                Kind <- [dropped, own, strays]]).
+        + lists:sum([known(Kind, Collection) || Collection <- Collections,
+                                                Kind <- [dropped, own, strays]])
+        + lists:sum([Events || Collection <- Collections, {_, Events} <- [over(Collection)]]).
 
 count(Kind, Counts) ->
     maps:get(Kind, Counts, 0).
 
+%% What a collection says of itself and what was found in it.
+known(dropped, #{facts := Facts} = Collection) ->
+    count(dropped, Facts) + count(dropped_here, Facts) + count(dropped, Collection);
+known(left, #{facts := Facts} = Collection) ->
+    count(cut, Facts) + count(left, Collection);
+known(Kind, #{facts := Facts} = Collection) ->
+    count(Kind, Facts) + count(Kind, Collection).
+
+%% The bytes that a port wrote over, and about how many events they were: all that came to the port
+%% without what its files have.
+over(#{facts := #{by := port, written := Written, came := Came, kept := Kept, kept_bytes := Size,
+                  cut := Cut}}) when Written > Came + Cut ->
+    Over = Written - Came - Cut,
+    {Over, case Size of
+               0 -> 0;
+               _ -> max(1, Over * Kept div Size)
+           end};
+over(_) ->
+    {0, 0}.
+
 %% @doc The notes, a line each; nothing where there is nothing to say.
--spec notes([seqaudit_events:collection()], #{atom() => non_neg_integer()}, listed(),
-            [{non_neg_integer(), term()}], sizes()) -> [string()].
-notes(Collections, Counts, Listed, Labels, Sizes) ->
+-spec notes(#{collections := [seqaudit_build:collected()], counts := #{atom() => non_neg_integer()},
+              listed := [{seqaudit_processes:pid_number(), seqaudit_processes:party()}],
+              labels := [{non_neg_integer(), seqaudit_external:encoded()}], atom() => term()},
+            sizes()) -> [string()].
+notes(#{collections := Collections, counts := Counts, listed := Listed, labels := Labels}, Sizes) ->
     lists:append([nothing(Sizes),
                   lists:append([collected(Collection) || Collection <- Collections]),
                   converted(Counts),
@@ -42,16 +68,94 @@ nothing(#{events := 0}) ->
 nothing(_) ->
     [].
 
-collected(#{node := Node, lost := Reason}) ->
-    [text("~ts: its collector went down (~0tp), and all of its events are lost", [Node, Reason])];
-collected(#{node := Node} = Collection) ->
-    [text(Format, [Node, count(Kind, Collection)])
-     || {Kind, Format} <- [{dropped, "~ts: ~b events came beyond the limit and were dropped; raise "
-                            "the limit or trace for a shorter time"},
-                           {own, "~ts: ~b events that named the collector were left out"},
-                           {strays, "~ts: ~b messages to the collector were no trace events"}],
-        count(Kind, Collection) > 0]
-        ++ tracer(Node, maps:get(tracer, Collection, put_back)).
+collected(#{facts := Facts} = Collection) ->
+    Node = seqaudit_terms:plain(maps:get(node, Facts, <<"a node">>)),
+    lost(Node, Facts) ++ ended(Node, Facts) ++ split(Node, Facts)
+        ++ [text(Format, [Node, known(Kind, Collection)])
+            || {Kind, Format} <-
+                   [{dropped, "~ts: ~b events came beyond the limit and were dropped; raise "
+                     "the limit or trace for a shorter time"},
+                    {own, "~ts: ~b events that named the collector were left out"},
+                    {strays, "~ts: ~b messages to the collector were no trace events"},
+                    {left, "~ts: ~b bytes of the file are cut or damaged, and were left out"}],
+               known(Kind, Collection) > 0]
+        ++ written_over(Node, Collection)
+        ++ tracer(Node, maps:get(tracer, Facts, put_back)).
+
+%% A collector that wrote its last facts ended as it should, though nobody asked it.
+lost(_Node, #{lost := _, tracer := _}) ->
+    [];
+lost(Node, #{lost := Reason} = Facts) ->
+    [case Facts of
+         #{where := Where} ->
+             text("~ts: its collector went down (~ts); its events are in ~ts there, and "
+                  "`seqaudit-node convert' takes that folder", [Node, reason(Reason), reason(Where)]);
+         #{kept := Kept} ->
+             text("~ts: its collector went down (~ts); what came before, ~b events, is here",
+                  [Node, reason(Reason), Kept]);
+         #{} ->
+             text("~ts: its collector went down (~ts), and all of its events are lost",
+                  [Node, reason(Reason)])
+     end];
+lost(_Node, _Facts) ->
+    [].
+
+ended(Node, #{ended := Ended}) ->
+    case seqaudit_external:tuple(Ended) of
+        [Why, When] -> [text("~ts: collecting ended early, at ~ts: ~ts",
+                             [Node, date(seqaudit_external:to_term(When)), why(Why)])];
+        _ -> [text("~ts: collecting ended early", [Node])]
+    end;
+ended(_Node, _Facts) ->
+    [].
+
+date({{Year, Month, Day}, {Hour, Minute, Second}})
+  when is_integer(Year), is_integer(Month), is_integer(Day), is_integer(Hour), is_integer(Minute),
+       is_integer(Second) ->
+    text("~4..0b-~2..0b-~2..0b ~2..0b:~2..0b:~2..0b UTC", [Year, Month, Day, Hour, Minute, Second]);
+date(_) ->
+    "a time that isn't known".
+
+why(Why) ->
+    case [seqaudit_external:view(Part) || Part <- parts(Why)] of
+        [{atom, <<"fell_behind">>}] ->
+            "events came faster than they could be written without runtime_tools; what came until "
+                "then is here";
+        [{atom, <<"owner_out_of_reach">>}] ->
+            "the node that led the collection was out of reach for too long";
+        [{atom, <<"owner">>}, _] ->
+            text("the process that led the collection ended (~ts)", [reason(lists:last(parts(Why)))]);
+        [{atom, <<"disk">>}, _] ->
+            text("the trace file couldn't be written (~ts)", [reason(lists:last(parts(Why)))]);
+        _ -> reason(Why)
+    end.
+
+parts(Why) ->
+    case seqaudit_external:tuple(Why) of
+        other -> [Why];
+        Parts -> Parts
+    end.
+
+reason(Term) ->
+    seqaudit_terms:short(seqaudit_terms:encoded(Term), ?REASON).
+
+split(Node, #{split := Split}) ->
+    case [seqaudit_external:number(Part) || Part <- parts(Split)] of
+        [Times, Milliseconds] when is_integer(Times), is_integer(Milliseconds) ->
+            [text("~ts: the connection was lost ~b times, for ~b ms in all; collecting went on",
+                  [Node, Times, Milliseconds])];
+        _ -> []
+    end;
+split(_Node, _Facts) ->
+    [].
+
+written_over(Node, Collection) ->
+    case over(Collection) of
+        {0, _} -> [];
+        {Bytes, Events} ->
+            [text("~ts: more came than the files hold, and the oldest ~b bytes were written over, about "
+                  "~b events; raise --bytes or trace for a shorter time", [Node, Bytes, Events])]
+    end.
 
 tracer(_Node, put_back) -> [];
 tracer(Node, taken) ->
@@ -66,6 +170,8 @@ converted(Counts) ->
             [{timestamps, "~b timestamps were left out"},
              {by_receive, "~b sends to an alias or a name: their receive says which process it is"},
              {by_request, "~b sends to an alias: the request that handed it out says whose it is"},
+             {ambiguous, "~b sends to an alias or a name that two receives or requests fit: it isn't "
+              "known whose it was, and it stands as a process of its own"},
              {unresolved, "~b sends to an alias or a name that nothing resolves; it stands as a "
               "process of its own"},
              {strays, "~b entries were no events of seq_trace and were left out"},
@@ -81,7 +187,8 @@ limits(Sizes) ->
 
 nodes_of(Listed) ->
     case lists:usort([{Node, seqaudit_processes:home(Party)} || {{Node, _}, Party} <- Listed]) of
-        [_, _ | _] = Nodes -> [text("~b is ~ts", [Number, Node]) || {Number, Node} <- Nodes];
+        [_, _ | _] = Nodes -> [text("~b is ~ts", [Number, seqaudit_terms:plain(Node)])
+                               || {Number, Node} <- Nodes];
         _ -> []
     end.
 
@@ -90,8 +197,8 @@ renumbered(Listed) ->
      || {Number, Party} <- Listed, not seqaudit_processes:is_own(Party, Number)].
 
 labels(Labels) ->
-    [text("~b is ~ts", [Number, seqaudit_terms:short(seqaudit_terms:text(Term), 100)])
-     || {Number, Term} <- Labels, Number =/= Term].
+    [text("~b is ~ts", [Number, seqaudit_terms:short(seqaudit_terms:encoded(Term), 100)])
+     || {Number, Term} <- Labels, Number =/= seqaudit_external:number(Term)].
 
 several(_What, []) -> [];
 several(What, Entries) when length(Entries) =< ?LISTED ->

@@ -7,24 +7,29 @@
 -module(seqaudit_processes).
 
 -export([number/1, is_own/2, home/1, spell/1, name/3, what/2]).
--export_type([pid_number/0, numbers/0]).
+-export_type([party/0, pid_number/0, numbers/0]).
 
 -define(GREATEST, 65_535).
 
+-type party() :: seqaudit_external:encoded().
+%% Who sends or receives, by its bytes: a process, a port, an alias that nothing resolves, or a name
+%% with its node.
+
 -type pid_number() :: {Node :: 0..?GREATEST, Number :: 0..?GREATEST}.
--type numbers() :: #{seqaudit_resolve:party() => pid_number()}.
+-type numbers() :: #{party() => pid_number()}.
 
 %% @doc The numbers of the parties, which are given in the order of their first events. A party that
 %% no number is left for has none.
--spec number([seqaudit_resolve:party()]) -> numbers().
+-spec number([party()]) -> numbers().
 number(Parties) ->
     Names = lists:usort([home(Party) || Party <- Parties]),
     Nodes = maps:from_list(lists:zip(lists:sublist(Names, ?GREATEST + 1),
                                      lists:seq(0, min(length(Names) - 1, ?GREATEST)))),
     Here = [Party || Party <- Parties, is_map_key(home(Party), Nodes)],
-    {Own, Rest} = own_numbers(lists:usort([{maps:get(node(Pid), Nodes), split(Pid), Pid}
-                                           || Pid <- Here, is_pid(Pid)])),
-    Others = [Party || Party <- Here, not is_pid(Party)],
+    {Own, Rest} = own_numbers(lists:usort([{maps:get(Node, Nodes), {Number, Serial}, Pid}
+                                           || Pid <- Here,
+                                              {process, Node, Number, Serial} <- [view(Pid)]])),
+    Others = [Party || Party <- Here, element(1, view(Party)) =/= process],
     Wanting = Rest ++ [{maps:get(home(Party), Nodes), Party} || Party <- Others],
     {Numbers, _} = lists:foldl(fun free_number/2, {Own, {taken(Own), #{}}}, Wanting),
     Numbers.
@@ -54,20 +59,25 @@ free(_Node, N, _Taken) when N < 0 -> none;
 free(Node, N, Taken) when is_map_key({Node, N}, Taken) -> free(Node, N - 1, Taken);
 free(_Node, N, _Taken) -> N.
 
-%% @doc The node of a party.
--spec home(seqaudit_resolve:party()) -> node().
-home({_Name, Node}) -> Node;
-home(Party) -> node(Party).
+%% @doc The name of a party's node.
+-spec home(party()) -> binary().
+home(Party) ->
+    case view(Party) of
+        {name, _, Node} -> Node;
+        Other -> element(2, Other)
+    end.
 
 %% @doc Whether the party is a process that kept its number.
--spec is_own(seqaudit_resolve:party(), pid_number()) -> boolean().
+-spec is_own(party(), pid_number()) -> boolean().
 is_own(Party, {_, Number}) ->
-    is_pid(Party) andalso element(1, split(Party)) =:= Number.
+    case view(Party) of
+        {process, _, Number, _} -> true;
+        _ -> false
+    end.
 
-%% The second and third number of a pid as Erlang prints it.
-split(Pid) ->
-    [_, Number, Serial] = string:lexemes(pid_to_list(Pid), "<.>"),
-    {list_to_integer(Number), list_to_integer(Serial)}.
+%% A party may also be given as a term of this Erlang.
+view(Party) when is_binary(Party) -> seqaudit_external:view(Party);
+view(Party) -> seqaudit_external:view(seqaudit_external:from_term(Party)).
 
 %% @doc A pid of the bundle in its one spelling.
 -spec spell(pid_number()) -> string().
@@ -76,37 +86,35 @@ spell({Node, Number}) ->
 
 %% @doc A short name for people: the registered name, else what was called first and the number.
 %% `Many' says whether there are several nodes, and the name is to say which one is meant.
--spec name({seqaudit_resolve:party(), pid_number()}, seqaudit_collector:about(), boolean()) ->
-          string().
+-spec name({party(), pid_number()}, seqaudit_events:about(), boolean()) -> string().
 name({Party, Number}, About, Many) ->
-    case {Party, About} of
-        {_, #{name := Name}} -> seqaudit_terms:text(Name) ++ on(Party, Many);
-        {_, #{call := {erlang, apply, 2}}} -> spell(Number);
-        {_, #{call := Call}} -> call(Call) ++ " " ++ spell(Number);
-        {{Name, _}, _} -> seqaudit_terms:text(Name) ++ on(Party, true);
-        {Port, _} when is_port(Port) -> "port " ++ spell(Number);
-        {Alias, _} when is_reference(Alias) -> "alias " ++ spell(Number);
+    case {view(Party), About} of
+        {_, #{name := Name}} -> seqaudit_terms:atom(Name) ++ on(Party, Many);
+        {_, #{call := Call}} -> called(seqaudit_terms:call(Call), Number);
+        {{name, Name, _}, _} -> seqaudit_terms:atom(Name) ++ on(Party, true);
+        {{port, _, _}, _} -> "port " ++ spell(Number);
+        {{reference, _, _}, _} -> "alias " ++ spell(Number);
         {_, _} -> spell(Number)
     end.
 
+%% That a process was spawned with a fun says nothing.
+called("erlang:apply/2", Number) -> spell(Number);
+called(Call, Number) -> Call ++ " " ++ spell(Number).
+
 on(_Party, false) -> "";
-on(Party, true) -> " on " ++ atom_to_list(home(Party)).
+on(Party, true) -> " on " ++ seqaudit_terms:plain(home(Party)).
 
 %% @doc All that is known of a party, in words.
--spec what(seqaudit_resolve:party(), seqaudit_collector:about()) -> iolist().
+-spec what(party(), seqaudit_events:about()) -> iolist().
 what(Party, About) ->
-    kind(Party) ++ " of node " ++ atom_to_list(home(Party)) ++ known(About).
+    [kind(view(Party)), " of node ", seqaudit_terms:plain(home(Party)), known(About)].
 
-kind(Pid) when is_pid(Pid) ->
-    {Number, Serial} = split(Pid),
-    lists:flatten(io_lib:format("process <0.~b.~b>", [Number, Serial]));
-kind(Port) when is_port(Port) -> "port " ++ port_to_list(Port);
-kind(Alias) when is_reference(Alias) -> "alias " ++ ref_to_list(Alias) ++ " of an unknown process";
-kind({Name, _}) -> "name " ++ seqaudit_terms:text(Name).
+kind({process, _, Number, Serial}) -> io_lib:format("process <0.~b.~b>", [Number, Serial]);
+kind({port, _, Number}) -> io_lib:format("port #Port<0.~b>", [Number]);
+kind({reference, _, Ids}) ->
+    ["alias #Ref<0.", lists:join($., [integer_to_list(Id) || Id <- Ids]), "> of an unknown process"];
+kind({name, Name, _}) -> ["name ", seqaudit_terms:atom(Name)].
 
 known(About) ->
-    [[", registered as ", seqaudit_terms:text(Name)] || #{name := Name} <- [About]]
-        ++ [[", started by ", call(Call)] || #{call := Call} <- [About]].
-
-call({Module, Function, Arity}) ->
-    lists:flatten(io_lib:format("~tw:~tw/~b", [Module, Function, Arity])).
+    [[", registered as ", seqaudit_terms:atom(Name)] || #{name := Name} <- [About]]
+        ++ [[", started by ", seqaudit_terms:call(Call)] || #{call := Call} <- [About]].

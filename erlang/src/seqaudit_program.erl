@@ -1,37 +1,53 @@
-%% @doc Runs the program `seqaudit'.
+%% @doc Runs the programs `seqaudit' and `seqtool'.
 -module(seqaudit_program).
 
--export([ask/2, find/0, run/3, format_error/1]).
+-export([ask/2, ask/3, find/0, find/1, run/3, with_text/2, format_error/1]).
 
 %% The file goes to the program's standard input, which a port can't close.
 -define(SHELL, "exec \"$0\" \"$@\" <\"$SEQAUDIT_INPUT\"").
 
-%% @doc What the program answers to these words on this file: its exit status and what it wrote.
+%% @equiv ask("seqaudit", Words, Input)
 -spec ask([string()], file:filename()) ->
           {ok, {non_neg_integer(), binary()}} | {error, term()}.
 ask(Words, Input) ->
-    case find() of
-        {ok, Program} -> run(Program, Words, Input);
+    ask("seqaudit", Words, Input).
+
+%% @doc What a program says to these words about this file: its exit status and what it wrote.
+-spec ask(string(), [string()], file:filename()) ->
+          {ok, {non_neg_integer(), binary()}} | {error, term()}.
+ask(Name, Words, Input) ->
+    case find(Name) of
+        {ok, Program} -> answered(Program, run(Program, Words, Input));
         {error, Reason} -> {error, Reason}
     end.
 
-%% @doc Where the program is: where the variable SEQAUDIT says, beside this application (in its
-%% folder or in `bin' beside that), or on the path.
--spec find() -> {ok, file:filename()} | {error, {no_program, [file:filename()]}}.
+answered(Program, {ok, {_, <<>>}}) -> {error, {empty, Program}};
+answered(_Program, Answer) -> Answer.
+
+%% @equiv find("seqaudit")
+-spec find() -> {ok, file:filename()} | {error, {no_program, string(), [file:filename()]}
+                                               | {missing, string(), file:filename()}}.
 find() ->
+    find("seqaudit").
+
+%% @doc Where a program is: where the variable of its name in capitals says, beside this application
+%% (in its folder or in `bin' beside that), or on the path.
+-spec find(string()) -> {ok, file:filename()} | {error, {no_program, string(), [file:filename()]}
+                                                       | {missing, string(), file:filename()}}.
+find(Name) ->
     Home = filename:dirname(filename:dirname(filename:absname(code:which(?MODULE)))),
-    Beside = [filename:join(Home, "seqaudit"),
-              filename:join([filename:dirname(Home), "bin", "seqaudit"])],
-    Said = [File || File <- [os:getenv("SEQAUDIT")], File =/= false],
-    OnPath = [File || File <- [os:find_executable("seqaudit")], File =/= false],
+    Beside = [filename:join(Home, Name), filename:join([filename:dirname(Home), "bin", Name])],
+    Said = [File || File <- [os:getenv(string:uppercase(Name))], File =/= false],
+    OnPath = [File || File <- [os:find_executable(Name)], File =/= false],
     case [File || File <- Said ++ Beside ++ OnPath, filelib:is_regular(File)] of
-        [File | _] -> {ok, File};
-        [] -> {error, {no_program, Beside}}
+        [File | _] when Said =:= []; [File] =:= Said -> {ok, File};
+        _ when Said =/= [] -> {error, {missing, Name, hd(Said)}};
+        [] -> {error, {no_program, Name, Beside}}
     end.
 
 %% @doc Runs a program with these words on this file: its exit status and what it wrote.
 -spec run(file:filename(), [string()], file:filename()) ->
-          {ok, {non_neg_integer(), binary()}} | {error, {file, file:filename(), term()}}.
+          {ok, {non_neg_integer(), binary()}} | {error, term()}.
 run(Program, Words, Input) ->
     case file:open(Input, [read, raw]) of
         {ok, Device} ->
@@ -39,10 +55,21 @@ run(Program, Words, Input) ->
             Port = open_port({spawn_executable, "/bin/sh"},
                              [{args, ["-c", ?SHELL, Program | Words]},
                               {env, [{"SEQAUDIT_INPUT", Input}]}, binary, exit_status]),
-            {ok, output(Port, [])};
+            whole(Program, output(Port, []));
         {error, Reason} ->
             {error, {file, Input, Reason}}
     end.
+
+%% What the programs say ends with a newline. The shell's statuses say that a program couldn't be
+%% run (126 and 127), or which signal ended it (from 129 on).
+whole(Program, {Status, _}) when Status > 128 -> {error, {ended, Program, Status - 128}};
+whole(Program, {Status, _}) when Status >= 126 -> {error, {not_run, Program}};
+whole(Program, {Status, Output}) when Status < 2, Output =/= <<>> ->
+    case binary:last(Output) of
+        $\n -> {ok, {Status, Output}};
+        _ -> {error, {cut, Program}}
+    end;
+whole(_Program, Answer) -> {ok, Answer}.
 
 output(Port, Output) ->
     receive
@@ -50,12 +77,38 @@ output(Port, Output) ->
         {Port, {exit_status, Status}} -> {Status, iolist_to_binary(lists:reverse(Output))}
     end.
 
+%% @doc Calls the function with a file that has this text, and deletes the file.
+-spec with_text(iodata(), fun((file:filename()) -> Result)) ->
+          Result | {error, {file, file:filename(), term()}}.
+with_text(Text, Do) ->
+    Unique = [os:getpid(), $-, integer_to_list(erlang:unique_integer([positive]))],
+    File = filename:join(os:getenv("TMPDIR", "/tmp"), lists:flatten(["seqaudit-", Unique])),
+    case file:write_file(File, Text, [exclusive]) of
+        ok ->
+            try Do(File) after file:delete(File) end;
+        {error, Reason} ->
+            {error, {file, File, Reason}}
+    end.
+
 %% @doc A reason of this module in words, with what to do about it.
 -spec format_error(term()) -> string().
-format_error({no_program, Beside}) ->
-    lists:flatten(io_lib:format("there is no seqaudit on the path, nor at ~ts; build it with "
-                                "`make program' in the repository, or say where it is in the "
-                                "variable SEQAUDIT", [lists:join(" or ", Beside)]));
+format_error({ended, Program, Signal}) ->
+    text("the system ended ~ts (signal ~b)~ts",
+         [Program, Signal, case Signal of 9 -> ", perhaps because memory ran out"; _ -> "" end]);
+format_error({not_run, Program}) ->
+    text("~ts can't be run; is it a program for this machine, and may you run it?", [Program]);
+format_error({empty, Program}) ->
+    text("~ts wrote nothing; is it seqaudit?", [Program]);
+format_error({cut, Program}) ->
+    text("what ~ts wrote is cut", [Program]);
+format_error({missing, Name, Program}) ->
+    text("there is no ~ts, which the variable ~ts names", [Program, string:uppercase(Name)]);
+format_error({no_program, Name, Beside}) ->
+    text("there is no ~ts on the path, nor at ~ts; build it with `make program' in the repository, "
+         "or say where it is in the variable ~ts",
+         [Name, lists:join(" or ", Beside), string:uppercase(Name)]);
 format_error({file, File, Reason}) ->
-    lists:flatten(io_lib:format("~ts: ~ts; `seqaudit-node convert' writes it",
-                                [File, file:format_error(Reason)])).
+    text("~ts: ~ts; `seqaudit-node convert' writes it", [File, file:format_error(Reason)]).
+
+text(Format, Values) ->
+    lists:flatten(io_lib:format(Format, Values)).

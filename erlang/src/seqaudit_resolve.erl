@@ -1,102 +1,110 @@
-%% @doc Makes plain events of collected ones, each with its sender and its true receiver.
+%% @doc Finds the true receiver of each send.
 %%
 %% A node reports the `to' of a send as the program wrote it: a process, its alias (the replies of
 %% `gen_server' since OTP 24), a name on another node. Its receive names the process. So a send to
-%% an alias or a name is resolved by the receive with the same from and serial; else, for an alias,
-%% by the request that handed the alias out; else it stays a party of its own.
+%% an alias or a name is resolved by the receive with the same from, serial, label and message; else,
+%% for an alias, by the request that handed the alias out. Where two processes fit, as after a reset,
+%% it isn't known who received it; then, and where nothing fits, the alias or the name stays a party
+%% of its own.
 -module(seqaudit_resolve).
 
--export([events/1]).
--export_type([event/0, party/0, counts/0]).
+-include("seqaudit_packed.hrl").
 
--type party() :: pid() | port() | reference() | {Name :: atom(), node()}.
-%% Who sends or receives: a process, a port, an alias that nothing resolves, or a name.
+-export([resolve/1]).
+-export_type([counts/0]).
 
--type event() :: {send | 'receive' | print, Label :: term(),
-                  Serial :: {non_neg_integer(), non_neg_integer()},
-                  From :: party(), To :: party() | none, Message :: term()}.
+%% So many messages are taken from their table at once.
+-define(AT_ONCE, 1_000).
 
--type counts() :: #{by_receive | by_request | unresolved | timestamps | strays
-                    => non_neg_integer()}.
+-type counts() :: #{by_receive | by_request | ambiguous | unresolved => non_neg_integer()}.
 
-%% The greatest serial number that the text of a bundle has.
--define(GREATEST, 16#FFFF_FFFF_FFFF_FFFF).
--define(IS_COUNT(N), is_integer(N), N >= 0, N =< ?GREATEST).
+%% @doc The events with their receivers, and what was decided, by kind.
+-spec resolve(seqaudit_build:build()) -> {seqaudit_build:packed(), counts()}.
+resolve(#build{packed = Packed} = Build) ->
+    Received = ets:new(received, [set, private]),
+    try
+        _ = seqaudit_build:fold(fun(Event, ok) -> want(Event, Received) end, ok, Packed),
+        case ets:info(Received, size) of
+            0 ->
+                {Packed, #{}};
+            _ ->
+                _ = seqaudit_build:fold(fun(Event, ok) -> receiver(Event, Received) end, ok, Packed),
+                rewrite(Build, Received, owners(unreceived(Packed, Received), Build))
+        end
+    after
+        ets:delete(Received)
+    end.
 
-%% @doc The events of all collections, in their order, and what was decided, by kind. What is no
-%% event of `seq_trace' is counted as a stray.
--spec events([seqaudit_events:collection()]) -> {[event()], counts()}.
-events(Collections) ->
-    {Plain, Counts} = lists:foldl(fun plain_all/2, {[], #{}}, Collections),
-    Events = lists:reverse(Plain),
-    {Received, Handed} = lists:foldl(fun learn/2, {#{}, #{}}, Events),
-    lists:mapfoldl(fun(Event, Sum) -> resolve(Event, Received, Handed, Sum) end, Counts, Events).
+want({?SEND, Label, Prev, This, From, To, Value, _}, Received) when ?IS_OTHER(To) ->
+    true = ets:insert(Received, {{From, Prev, This, Label, Value}, none}),
+    ok;
+want(_, _Received) ->
+    ok.
 
-plain_all(#{node := Node, events := Collected}, Done) ->
-    lists:foldl(fun(Event, {Plain, Counts}) ->
-                        case plain(Event, Node) of
-                            {timed, One} -> {[One | Plain], count(timestamps, Counts)};
-                            stray -> {Plain, count(strays, Counts)};
-                            One -> {[One | Plain], Counts}
-                        end
-                end, Done, Collected);
-plain_all(#{lost := _}, Done) ->
-    Done.
+receiver({?RECEIVE, Label, Prev, This, From, To, Value, _}, Received) when To < ?OTHER ->
+    Key = {From, Prev, This, Label, Value},
+    case ets:lookup(Received, Key) of
+        [{_, none}] -> true = ets:insert(Received, {Key, To});
+        [{_, Other}] when Other =/= To -> true = ets:insert(Received, {Key, several});
+        _ -> true
+    end,
+    ok;
+receiver(_, _Received) ->
+    ok.
 
-plain({seq_trace, Label, Info, _Time}, Node) ->
-    case plain({seq_trace, Label, Info}, Node) of
-        stray -> stray;
-        Event -> {timed, Event}
+%% The aliases and names of sends that no receive resolves.
+unreceived(Packed, Received) ->
+    seqaudit_build:fold(fun({?SEND, Label, Prev, This, From, To, Value, _}, Wanted) when ?IS_OTHER(To) ->
+                                case ets:lookup_element(Received, {From, Prev, This, Label, Value}, 2) of
+                                    none -> Wanted#{To => none};
+                                    _ -> Wanted
+                                end;
+                           (_, Wanted) -> Wanted
+                        end, #{}, Packed).
+
+%% Whose the wanted aliases are, by the requests that hand them out.
+owners(Wanted, _Build) when map_size(Wanted) =:= 0 ->
+    Wanted;
+owners(Wanted, #build{values = Values, others = Others, actors = Actors}) ->
+    Ask = fun(Message, Owners) ->
+                  case seqaudit_external:request(Message) of
+                      {<<88, _/binary>> = Owner, Alias} ->
+                          own(?OTHER bor seqaudit_numbers:number(Alias, Others),
+                              seqaudit_numbers:number(Owner, Actors), Owners);
+                      _ -> Owners
+                  end
+          end,
+    lists:foldl(fun(First, Owners) ->
+                        lists:foldl(Ask, Owners, seqaudit_numbers:part(First, ?AT_ONCE, Values))
+                end, Wanted, lists:seq(0, seqaudit_numbers:size(Values), ?AT_ONCE)).
+
+own(Alias, Owner, Owners) ->
+    case Owners of
+        #{Alias := none} -> Owners#{Alias := Owner};
+        #{Alias := Other} when Other =/= Owner -> Owners#{Alias := several};
+        #{} -> Owners
+    end.
+
+rewrite(#build{packed = Packed}, Received, Owners) ->
+    {Counts, Records} =
+        seqaudit_build:fold(
+          fun({Kind, Label, Prev, This, From, To0, Value, Time}, {Counts, Records}) ->
+                  {To, How} = resolved(Kind, {From, Prev, This, Label, Value}, To0, Received, Owners),
+                  {count(How, Counts),
+                   <<Records/binary, ?PACKED(Kind, Label, Prev, This, From, To, Value, Time)>>}
+          end, {#{}, <<>>}, Packed),
+    {Records, Counts}.
+
+resolved(?SEND, Key, To, Received, Owners) when ?IS_OTHER(To) ->
+    case {ets:lookup_element(Received, Key, 2), Owners} of
+        {several, _} -> {To, ambiguous};
+        {none, #{To := Owner}} when is_integer(Owner) -> {Owner, by_request};
+        {none, #{To := several}} -> {To, ambiguous};
+        {none, _} -> {To, unresolved};
+        {Receiver, _} -> {Receiver, by_receive}
     end;
-plain({seq_trace, Label, {print, {Prev, This}, From, _, Message}}, Node)
-  when ?IS_COUNT(Prev), ?IS_COUNT(This) ->
-    whole({print, Label, {Prev, This}, party(From, Node), none, Message});
-plain({seq_trace, Label, {Kind, {Prev, This}, From, To, Message}}, Node)
-  when Kind =:= send orelse Kind =:= 'receive', ?IS_COUNT(Prev), ?IS_COUNT(This) ->
-    whole({Kind, Label, {Prev, This}, party(From, Node), party(To, Node), Message});
-plain(_, _Node) ->
-    stray.
+resolved(_Kind, _Key, To, _Received, _Owners) ->
+    {To, plain}.
 
-whole({_, _, _, From, To, _}) when From =:= stray; To =:= stray -> stray;
-whole(Event) -> Event.
-
-%% A name without a node is one of the node that reports it. `ttb' writes a process as a triple.
-party(Party, _) when is_pid(Party); is_port(Party); is_reference(Party) -> Party;
-party({Party, _, _}, _) when is_pid(Party); is_port(Party) -> Party;
-party({Name, Node}, _) when is_atom(Name), is_atom(Node) -> {Name, Node};
-party(Name, Node) when is_atom(Name) -> {Name, Node};
-party(_, _) -> stray.
-
-%% Who received what was stamped so, and whose the aliases are that requests hand out.
-learn({'receive', _, Serial, From, To, Message}, {Received, Handed}) ->
-    {keep({From, Serial}, To, Received), handed(Message, Handed)};
-learn({send, _, _, _, _, Message}, {Received, Handed}) ->
-    {Received, handed(Message, Handed)};
-learn(_, Learnt) ->
-    Learnt.
-
-handed({'$gen_call', {Owner, [alias | Alias]}, _}, Handed) when is_reference(Alias) ->
-    keep(Alias, Owner, Handed);
-handed({'$gen_call', {Owner, [[alias | Alias] | _]}, _}, Handed) when is_reference(Alias) ->
-    keep(Alias, Owner, Handed);
-handed(_, Handed) ->
-    Handed.
-
-keep(Key, Value, Map) when is_map_key(Key, Map); not is_pid(Value) -> Map;
-keep(Key, Value, Map) -> Map#{Key => Value}.
-
-resolve({send, Label, Serial, From, To, Message} = Event, Received, Handed, Counts)
-  when not is_pid(To), not is_port(To) ->
-    case {Received, Handed} of
-        {#{{From, Serial} := Pid}, _} ->
-            {{send, Label, Serial, From, Pid, Message}, count(by_receive, Counts)};
-        {_, #{To := Pid}} ->
-            {{send, Label, Serial, From, Pid, Message}, count(by_request, Counts)};
-        _ ->
-            {Event, count(unresolved, Counts)}
-    end;
-resolve(Event, _Received, _Handed, Counts) ->
-    {Event, Counts}.
-
-count(What, Counts) ->
-    maps:update_with(What, fun(N) -> N + 1 end, 1, Counts).
+count(plain, Counts) -> Counts;
+count(How, Counts) -> Counts#{How => maps:get(How, Counts, 0) + 1}.

@@ -1,10 +1,11 @@
 %% @doc Numbers for labels, and the text of terms.
 %%
 %% Terms are compared whole and printed cut: whatever a program sends, its text is made in time that
-%% grows no faster than the term, and isn't longer than a person reads.
+%% grows no faster than the term, and isn't longer than a person reads. It is made of a term's bytes
+%% ({@link seqaudit_external}), so that a term of a file is printed and never made.
 -module(seqaudit_terms).
 
--export([label_numbers/1, text/1, text/2, short/2]).
+-export([label_numbers/1, text/1, text/2, encoded/1, encoded/2, atom/1, plain/1, call/1, short/2]).
 
 -define(GREATEST_LABEL, 4_294_967_295).
 %% Labels that are no whole numbers in range are numbered from here.
@@ -17,23 +18,32 @@
 -define(DEPTH, 40).
 -define(BYTES, 500).
 -define(CHARACTERS, 2_000).
+%% Maps of this size are printed in the order of their keys.
+-define(ORDERED, 32).
+
+-type numbers() :: seqaudit_processes:numbers().
 
 %% @doc A number for each different label: its own where it is a whole number in range, else one
 %% that no label has.
--spec label_numbers([term()]) -> #{term() => 0..?GREATEST_LABEL}.
+-spec label_numbers([seqaudit_external:encoded()]) ->
+          #{seqaudit_external:encoded() => 0..?GREATEST_LABEL}.
 label_numbers(Labels) ->
     {Own, Others} = lists:partition(fun is_own/1, Labels),
-    Kept = maps:from_list([{Label, Label} || Label <- Own]),
-    {Numbers, _} = lists:foldl(fun number_label/2, {Kept, ?FIRST_LABEL}, Others),
+    Kept = maps:from_list([{Label, seqaudit_external:number(Label)} || Label <- Own]),
+    Taken = maps:from_list([{Number, taken} || Number <- maps:values(Kept)]),
+    {Numbers, _, _} = lists:foldl(fun number_label/2, {Kept, ?FIRST_LABEL, Taken}, Others),
     Numbers.
 
 is_own(Label) ->
-    is_integer(Label) andalso Label >= 0 andalso Label =< ?GREATEST_LABEL.
+    case seqaudit_external:number(Label) of
+        other -> false;
+        Number -> Number >= 0 andalso Number =< ?GREATEST_LABEL
+    end.
 
-number_label(Label, {Numbers, Next}) when is_map_key(Label, Numbers) -> {Numbers, Next};
-number_label(Label, {Numbers, Next}) when is_map_key(Next, Numbers) ->
-    number_label(Label, {Numbers, Next + 1});
-number_label(Label, {Numbers, Next}) -> {Numbers#{Label => Next}, Next + 1}.
+number_label(Label, {Numbers, Next, Taken}) when is_map_key(Label, Numbers) -> {Numbers, Next, Taken};
+number_label(Label, {Numbers, Next, Taken}) when is_map_key(Next, Taken) ->
+    number_label(Label, {Numbers, Next + 1, Taken});
+number_label(Label, {Numbers, Next, Taken}) -> {Numbers#{Label => Next}, Next + 1, Taken}.
 
 %% @equiv text(Term, #{})
 -spec text(term()) -> string().
@@ -42,12 +52,20 @@ text(Term) ->
 
 %% @doc The term as Erlang prints it, on one line, cut where it is large. A process with a number in
 %% the bundle is spelled by it: how Erlang prints one of another node differs from node to node.
--spec text(term(), seqaudit_processes:numbers()) -> string().
+-spec text(term(), numbers()) -> string().
 text(Term, Numbers) ->
-    {Cut, _} = cut(Term, ?DEPTH, ?PARTS, Numbers),
-    Text = lists:flatten(io_lib:format("~0tp", [Cut])),
-    short(re:replace(Text, "'(<[0-9]+\\.[0-9]+\\.0>)'", "\\1",
-                     [global, unicode, {return, list}]), ?CHARACTERS).
+    encoded(seqaudit_external:from_term(Term), Numbers).
+
+%% @equiv encoded(Term, #{})
+-spec encoded(seqaudit_external:encoded()) -> string().
+encoded(Term) ->
+    encoded(Term, #{}).
+
+%% @doc The text of a term that is given by its bytes.
+-spec encoded(seqaudit_external:encoded(), numbers()) -> string().
+encoded(Term, Numbers) ->
+    {Text, _, _} = print(Term, ?DEPTH, ?PARTS, Numbers),
+    short(lists:flatten(Text), ?CHARACTERS).
 
 %% @doc The text, or its first characters and three dots.
 -spec short(string(), pos_integer()) -> string().
@@ -57,55 +75,179 @@ short(Text, Length) ->
         false -> lists:sublist(Text, Length - 3) ++ "..."
     end.
 
-%% The term with at most so many parts; '...' stands for what is left out, and an atom for a process
-%% with a number. Answers how many parts are left for what follows.
-cut(_Term, _Depth, 0, _) -> {'...', 0};
-cut(_Term, 0, Parts, _) -> {'...', Parts};
-cut([_ | _] = List, Depth, Parts, Numbers) ->
-    Begin = begin_of(List, ?BYTES + 1),
-    case io_lib:printable_unicode_list(Begin) of
-        true -> {short(Begin, ?BYTES), Parts - 1};
-        false -> cut_list(List, Depth - 1, Parts - 1, Numbers, [])
-    end;
-cut(Tuple, Depth, Parts, Numbers) when is_tuple(Tuple) ->
-    {Cut, Left} = cut_tuple(Tuple, 1, Depth - 1, Parts - 1, Numbers, []),
-    {list_to_tuple(Cut), Left};
-cut(Map, Depth, Parts, Numbers) when is_map(Map) ->
-    cut_map(maps:next(maps:iterator(Map)), Depth - 1, Parts - 1, Numbers, #{});
-cut(Bits, _Depth, Parts, _) when bit_size(Bits) > 8 * ?BYTES ->
+%% The text of the first term of the bytes, how many parts are left for what follows, and the bytes
+%% behind the term. Where no parts are left nothing is read any more; dots stand for what is left out.
+print(Bytes, _Depth, 0, _) -> {"...", 0, Bytes};
+print(Bytes, 0, Parts, _) ->
+    {ok, _, Rest} = seqaudit_external:take(Bytes),
+    {"...", Parts, Rest};
+print(Bytes, Depth, Parts, Numbers) ->
+    case seqaudit_external:part(Bytes) of
+        {tuple, Arity, Rest} ->
+            {Text, Left, After} = print_parts(Arity, Rest, Depth - 1, Parts - 1, Numbers, []),
+            {[${, Text, $}], Left, After};
+        {list, Length, Rest} ->
+            print_list(Length, Rest, Bytes, Depth, Parts, Numbers);
+        {string, String, Rest} ->
+            {print_string(binary_to_list(String), Parts - 1), max(0, Parts - 1), Rest};
+        {map, Pairs, Rest} ->
+            {Text, Left, After} = print_map(Pairs, Rest, Depth - 1, Parts - 1, Numbers),
+            {["#{", Text, $}], Left, After};
+        {leaf, Leaf, Rest} ->
+            {leaf(Leaf, Numbers), Parts - 1, Rest}
+    end.
+
+print_parts(0, Rest, _Depth, Parts, _, Done) -> {separated(Done), Parts, Rest};
+print_parts(_, Rest, _Depth, 0, _, Done) -> {separated(["..." | Done]), 0, Rest};
+print_parts(Left, Bytes, Depth, Parts, Numbers, Done) ->
+    {Text, PartsLeft, Rest} = print(Bytes, Depth, Parts, Numbers),
+    print_parts(Left - 1, Rest, Depth, PartsLeft, Numbers, [Text | Done]).
+
+separated(Last) -> lists:join($,, lists:reverse(Last)).
+
+%% A list of characters is a text, of which the first are shown.
+print_list(Length, Elements, Bytes, Depth, Parts, Numbers) ->
+    case seqaudit_external:characters(Length, Elements, ?BYTES + 1) of
+        {ok, Characters} ->
+            {ok, _, Rest} = seqaudit_external:take(Bytes),
+            {io_lib:write_string(short(Characters, ?BYTES)), Parts - 1, Rest};
+        other ->
+            {Text, Left, Tail} = print_parts(Length, Elements, Depth - 1, Parts - 1, Numbers, []),
+            print_tail(Text, Tail, Depth - 1, Left, Numbers)
+    end.
+
+print_tail(Text, Bytes, _Depth, 0, _Numbers) -> {[$[, Text, $]], 0, Bytes};
+print_tail(Text, Bytes, Depth, Parts, Numbers) ->
+    case seqaudit_external:part(Bytes) of
+        {leaf, nil, Rest} ->
+            {[$[, Text, $]], Parts, Rest};
+        _ ->
+            {Tail, Left, Rest} = print(Bytes, Depth, Parts, Numbers),
+            {[$[, Text, $|, Tail, $]], Left, Rest}
+    end.
+
+%% Bytes that are no characters are a list of numbers.
+print_string(Bytes, Parts) ->
+    Begin = lists:sublist(Bytes, ?BYTES + 1),
+    case {io_lib:printable_unicode_list(Begin), length(Bytes) =< Parts} of
+        {true, _} -> io_lib:write_string(short(Begin, ?BYTES));
+        {false, true} -> [$[, lists:join($,, [integer_to_list(Byte) || Byte <- Bytes]), $]];
+        {false, false} ->
+            [$[, [[integer_to_list(Byte), $,] || Byte <- lists:sublist(Bytes, Parts)], "...]"]
+    end.
+
+print_map(Pairs, Bytes, Depth, Parts, Numbers) when Pairs > 1, Pairs =< ?ORDERED ->
+    {Keyed, Rest} = pairs(Pairs, Bytes, []),
+    {Text, Left} = print_pairs([{Key, Value} || {_, Key, Value} <- lists:sort(Keyed)], Depth, Parts,
+                               Numbers, []),
+    {Text, Left, Rest};
+print_map(Pairs, Bytes, Depth, Parts, Numbers) ->
+    print_pairs(Pairs, Bytes, Depth, Parts, Numbers, []).
+
+pairs(0, Rest, Done) -> {Done, Rest};
+pairs(Left, Bytes, Done) ->
+    {ok, Key, Rest0} = seqaudit_external:take(Bytes),
+    {ok, Value, Rest} = seqaudit_external:take(Rest0),
+    pairs(Left - 1, Rest, [{order(Key), Key, Value} | Done]).
+
+%% Numbers stand before atoms, and these before all else, as Erlang orders them.
+order(Key) ->
+    case {seqaudit_external:number(Key), seqaudit_external:view(Key)} of
+        {Number, _} when is_integer(Number) -> {0, Number};
+        {_, {atom, Name}} -> {1, Name};
+        _ -> {2, Key}
+    end.
+
+print_pairs([], _Depth, Parts, _, Done) -> {separated(Done), Parts};
+print_pairs(_, _Depth, 0, _, Done) -> {separated(["..." | Done]), 0};
+print_pairs([{Key, Value} | Pairs], Depth, Parts, Numbers, Done) ->
+    {KeyText, Left, _} = print(Key, Depth, Parts, Numbers),
+    {ValueText, Left1, _} = print(Value, Depth, Left, Numbers),
+    print_pairs(Pairs, Depth, Left1, Numbers, [[KeyText, " => ", ValueText] | Done]).
+
+print_pairs(0, Rest, _Depth, Parts, _, Done) -> {separated(Done), Parts, Rest};
+print_pairs(_, Rest, _Depth, 0, _, Done) -> {separated(["..." | Done]), 0, Rest};
+print_pairs(Left, Bytes, Depth, Parts, Numbers, Done) ->
+    {Key, Left0, Rest0} = print(Bytes, Depth, Parts, Numbers),
+    {Value, Left1, Rest} = print(Rest0, Depth, Left0, Numbers),
+    print_pairs(Left - 1, Rest, Depth, Left1, Numbers, [[Key, " => ", Value] | Done]).
+
+leaf(nil, _) -> "[]";
+leaf({atom, Name}, _) -> atom(Name);
+leaf({integer, Number}, _) -> integer_to_list(Number);
+leaf({large_integer, Size}, _) -> ["{...,{number_of_bytes,", integer_to_list(Size), "}}"];
+leaf({float, Float}, _) -> io_lib:format("~0tp", [Float]);
+leaf({bits, Bits}, _) when bit_size(Bits) > 8 * ?BYTES ->
     <<Begin:?BYTES/binary, _/bitstring>> = Bits,
-    {{Begin, '...', {bytes, byte_size(Bits)}}, Parts - 1};
-cut(Number, _Depth, Parts, _) when is_integer(Number), abs(Number) >= 1 bsl (8 * ?BYTES) ->
-    {{'...', {number_of_bytes, byte_size(binary:encode_unsigned(abs(Number)))}}, Parts - 1};
-cut(Pid, _Depth, Parts, Numbers) when is_map_key(Pid, Numbers), is_pid(Pid) ->
-    {list_to_atom(seqaudit_processes:spell(maps:get(Pid, Numbers))), Parts - 1};
-cut(Term, _Depth, Parts, _) ->
-    {Term, Parts - 1}.
+    io_lib:format("{~0tp,...,{bytes,~b}}", [Begin, byte_size(Bits)]);
+leaf({bits, Bits}, _) -> io_lib:format("~0tp", [Bits]);
+leaf({process, Process}, Numbers) -> process(Process, Numbers);
+leaf({port, Number}, _) -> ["#Port<0.", integer_to_list(Number), $>];
+leaf({reference, Ids}, _) -> ["#Ref<0.", lists:join($., [integer_to_list(Id) || Id <- Ids]), $>];
+leaf({function, Module, Index, Unique}, _) ->
+    ["#Fun<", atom(Module), $., integer_to_list(Index), $., integer_to_list(Unique), $>];
+leaf({export, Call}, _) -> ["fun ", call(Call)];
+leaf(other, _) -> "#Unknown<>".
 
-%% The first elements of a list; of one that doesn't end in [] something that is no text.
-begin_of([Head | Tail], Count) when Count > 0 -> [Head | begin_of(Tail, Count - 1)];
-begin_of(Tail, Count) when Tail =:= []; Count =:= 0 -> [];
-begin_of(_, _) -> [improper].
+process(Process, Numbers) ->
+    case Numbers of
+        #{Process := Number} ->
+            seqaudit_processes:spell(Number);
+        #{} ->
+            {process, Node, Number, Serial} = seqaudit_external:view(Process),
+            Home = case map_size(Numbers) of
+                       0 -> "0";
+                       _ -> plain(Node)
+                   end,
+            io_lib:format("<~ts.~b.~b>", [Home, Number, Serial])
+    end.
 
-cut_list([_ | _], _Depth, 0, _, Done) -> {lists:reverse(Done, ['...']), 0};
-cut_list([Head | Tail], Depth, Parts, Numbers, Done) ->
-    {Cut, Left} = cut(Head, Depth, Parts, Numbers),
-    cut_list(Tail, Depth, Left, Numbers, [Cut | Done]);
-cut_list([], _Depth, Parts, _, Done) -> {lists:reverse(Done), Parts};
-cut_list(Tail, Depth, Parts, Numbers, Done) ->
-    {Cut, Left} = cut(Tail, Depth, Parts, Numbers),
-    {lists:reverse(Done, Cut), Left}.
+%% @doc What a process was started with, as `module:function/3'.
+-spec call(seqaudit_external:encoded()) -> string().
+call(Call) ->
+    case [seqaudit_external:view(Part) || Part <- tl(seqaudit_external:tuple(Call))] of
+        [{atom, Function}, _] ->
+            [First, _, Arity] = seqaudit_external:tuple(Call),
+            case {seqaudit_external:view(First), seqaudit_external:number(Arity)} of
+                {{atom, Module}, Number} when is_integer(Number) ->
+                    lists:flatten([atom(Module), $:, atom(Function), $/, integer_to_list(Number)]);
+                _ ->
+                    encoded(Call)
+            end;
+        _ ->
+            encoded(Call)
+    end.
 
-cut_tuple(Tuple, Place, _Depth, Parts, _, Done) when Place > tuple_size(Tuple) ->
-    {lists:reverse(Done), Parts};
-cut_tuple(_Tuple, _Place, _Depth, 0, _, Done) -> {lists:reverse(Done, ['...']), 0};
-cut_tuple(Tuple, Place, Depth, Parts, Numbers, Done) ->
-    {Cut, Left} = cut(element(Place, Tuple), Depth, Parts, Numbers),
-    cut_tuple(Tuple, Place + 1, Depth, Left, Numbers, [Cut | Done]).
+%% @doc An atom's text, in quotes where Erlang needs them. The atom isn't made.
+-spec atom(binary()) -> string().
+atom(Name) ->
+    Characters = unicode:characters_to_list(Name),
+    case is_plain(Characters) andalso not is_reserved(Name) of
+        true -> Characters;
+        false -> lists:flatten(io_lib:write_string(Characters, $'))
+    end.
 
-cut_map(none, _Depth, Parts, _, Done) -> {Done, Parts};
-cut_map(_, _Depth, 0, _, Done) -> {Done#{'...' => '...'}, 0};
-cut_map({Key, Value, Rest}, Depth, Parts, Numbers, Done) ->
-    {CutKey, Left} = cut(Key, Depth, Parts, Numbers),
-    {CutValue, Left1} = cut(Value, Depth, Left, Numbers),
-    cut_map(maps:next(Rest), Depth, Left1, Numbers, Done#{CutKey => CutValue}).
+is_plain([First | Rest]) -> is_small(First) andalso lists:all(fun is_in_atom/1, Rest);
+is_plain([]) -> false.
+
+is_small(C) -> C >= $a andalso C =< $z orelse C >= 16#DF andalso C =< 16#FF andalso C =/= 16#F7.
+
+is_in_atom(C) ->
+    is_small(C) orelse C >= $A andalso C =< $Z orelse C >= $0 andalso C =< $9
+        orelse C =:= $_ orelse C =:= $@ orelse C >= 16#C0 andalso C =< 16#DE andalso C =/= 16#D7.
+
+is_reserved(Name) ->
+    lists:member(Name, [<<"after">>, <<"and">>, <<"andalso">>, <<"band">>, <<"begin">>, <<"bnot">>,
+                        <<"bor">>, <<"bsl">>, <<"bsr">>, <<"bxor">>, <<"case">>, <<"catch">>,
+                        <<"cond">>, <<"div">>, <<"else">>, <<"end">>, <<"fun">>, <<"if">>, <<"let">>,
+                        <<"maybe">>, <<"not">>, <<"of">>, <<"or">>, <<"orelse">>, <<"receive">>,
+                        <<"rem">>, <<"try">>, <<"when">>, <<"xor">>]).
+
+%% @doc A name as it is, with an escape for each character that could begin a line, or that no
+%% reader sees.
+-spec plain(binary()) -> string().
+plain(Name) ->
+    lists:flatten([case io_lib:printable_unicode_list([C]) andalso C >= 32 of
+                       true -> C;
+                       false -> io_lib:format("\\x{~.16b}", [C])
+                   end || C <- unicode:characters_to_list(Name)]).

@@ -6,38 +6,61 @@
 %% {ok, Summary} = seqaudit_trace:stop().
 %% '''
 %%
-%% `start' puts a {@link seqaudit_collector. collector} on each node, and `stop' takes them off and
-%% writes `NAME.events' (what came, as it came) and the files of {@link seqaudit_convert}. Both take
-%% the caller's own token off first, so that nothing of this module enters the trace.
+%% `start' puts a {@link seqaudit_collector. collector} on each node, which writes to that node's own
+%% disk. `stop' takes them off, fetches what they wrote into `NAME.events', and writes the files of
+%% {@link seqaudit_convert}. Both take the caller's own token off first, so that nothing of this
+%% module enters the trace.
+%%
+%% A collection survives what happens to its nodes. A node that was out of reach is led on when it is
+%% back; of one that went down, of a collector and of a leader that were killed, what came before is
+%% read from the disk, and the notes say when and why it ended.
 -module(seqaudit_trace).
 -behaviour(gen_server).
 
--export([start/0, start/1, stop/0, with_trace/2, with_trace/3, format_error/1]).
+-export([start/0, start/1, stop/0, folders/0, with_trace/2, with_trace/3, format_error/1]).
 -export([init/1, handle_call/3, handle_cast/2, handle_info/2]).
 -export_type([options/0, flag/0]).
 
--define(LIMIT, 1_000_000).
-%% How many events travel in one message from a collector.
--define(PIECE, 10_000).
+-define(BYTES, 268_435_456).
+%% A trace file smaller than this is no use: a message is often as large.
+-define(LEAST_BYTES, 65_536).
 -define(FLAGS, [send, 'receive', print, timestamp, strict_monotonic_timestamp,
                 monotonic_timestamp]).
-%% Modules that another node needs: the collector, and this one for `with_trace'.
--define(MODULES, [seqaudit_collector, ?MODULE]).
+%% Modules that another node needs: the collector, what it stands on, and this one for `with_trace'.
+-define(MODULES, [seqaudit_spool, seqaudit_collector, ?MODULE]).
 -define(REMOTE_MS, 15_000).
+%% A node that is out of reach is tried again in these steps.
+-define(REACH_MS, 500).
+%% Pieces of files that are fetched from another node.
+-define(PIECE, 1_048_576).
+%% The first release of OTP that has what collecting needs, and the first that the tests don't know.
+-define(LEAST_OTP, 25).
 
 -type options() :: #{nodes => [node()], name => file:filename(), limit => non_neg_integer(),
-                     reset => boolean()}.
+                     reset => boolean(), bytes => pos_integer(), folder => file:filename() | default,
+                     trigger => seqaudit_collector:trigger() | none, port => boolean()}.
 %% `nodes': where to trace, this node alone if it isn't given; `name': the files' name without
-%% extension, `"seqaudit"' if it isn't given; `limit': how many events each collector keeps,
-%% 1,000,000 if it isn't given; `reset': whether `seq_trace:reset_trace/0' is called on each node
-%% first, which takes the tokens of all its users.
+%% extension, `"seqaudit"' if it isn't given; `bytes': the total size of each node's files, 268,435,456
+%% if it isn't given; `limit': how many events of each node are kept, all if it isn't given; `reset':
+%% whether `seq_trace:reset_trace/0' is called on each node first, which takes the tokens of all its
+%% users; `folder': where each node makes the folder for its files, its folder for temporary files
+%% if it isn't given; `trigger': a function whose callers get a token; `port': whether a trace port
+%% may be used, true if it isn't given.
 
 -type flag() :: send | 'receive' | print
               | timestamp | strict_monotonic_timestamp | monotonic_timestamp.
 
+-record(node, {node :: node(),
+               collector :: pid(),
+               monitor :: reference() | undefined,
+               folder :: file:filename(),
+               %% Whether the collector is led from here, is out of reach since this time, or is gone.
+               is = on :: on | {away, integer()} | {gone, term()},
+               split = {0, 0} :: {Times :: non_neg_integer(), Milliseconds :: non_neg_integer()}}).
+
 -record(state, {name :: file:filename(),
-                collectors :: [{node(), pid(), reference()}],
-                gathered = [] :: [seqaudit_events:collection()]}).
+                limit :: non_neg_integer() | infinity,
+                nodes :: [#node{}]}).
 
 %% @equiv start(#{})
 -spec start() -> ok | {error, term()}.
@@ -48,28 +71,64 @@ start() ->
 -spec start(options()) -> ok | {error, term()}.
 start(Options) ->
     _ = seq_trace:set_token([]),
-    Defaults = #{nodes => [node()], name => "seqaudit", limit => ?LIMIT, reset => false},
-    case maps:keys(maps:without(maps:keys(Defaults), Options)) of
-        [] ->
-            case gen_server:start({local, ?MODULE}, ?MODULE, maps:merge(Defaults, Options), []) of
-                {ok, _} -> ok;
-                {error, {shutdown, Reason}} -> {error, Reason};
-                {error, Reason} -> {error, Reason}
-            end;
-        Unknown ->
-            {error, {unknown_options, Unknown}}
+    Defaults = #{nodes => [node()], name => "seqaudit", limit => infinity, reset => false,
+                 bytes => ?BYTES, folder => default, trigger => none, port => true},
+    All = maps:merge(Defaults, Options),
+    Wrong = [{Option, Value} || {Option, Value} <- maps:to_list(All), not is_valid(Option, Value)],
+    case {maps:keys(maps:without(maps:keys(Defaults), Options)), Wrong, left_over()} of
+        {[], [], none} -> started(gen_server:start({local, ?MODULE}, ?MODULE, All, []));
+        {[], [], _} -> {error, left_over};
+        {[], [{Option, Value} | _], _} -> {error, {option, Option, Value}};
+        {Unknown, _, _} -> {error, {unknown_options, Unknown}}
     end.
 
+started({ok, _}) -> ok;
+started({error, {shutdown, Reason}}) -> {error, Reason};
+started({error, Reason}) -> {error, Reason}.
+
+is_valid(nodes, Nodes) -> is_list(Nodes) andalso Nodes =/= [] andalso lists:all(fun is_atom/1, Nodes);
+is_valid(name, Name) -> io_lib:char_list(Name) andalso Name =/= [];
+is_valid(limit, Limit) -> Limit =:= infinity orelse is_integer(Limit) andalso Limit >= 0;
+is_valid(bytes, Bytes) -> is_integer(Bytes) andalso Bytes >= ?LEAST_BYTES;
+is_valid(folder, Folder) -> Folder =:= default orelse io_lib:char_list(Folder);
+is_valid(trigger, #{function := {M, F, A}, label := _, times := Times}) ->
+    is_atom(M) andalso is_atom(F) andalso is_integer(A) andalso A >= 0 andalso is_boolean(Times);
+is_valid(trigger, Trigger) -> Trigger =:= none;
+is_valid(Option, Value) when Option =:= reset; Option =:= port -> is_boolean(Value);
+is_valid(_, _) -> true.
+
 %% @doc Takes the collectors off and writes the files. Answers how many events were kept and
-%% dropped, and which files were written.
+%% dropped, and which files were written. Where the process that led the collection was killed, it
+%% writes what came until then.
 -spec stop() -> {ok, seqaudit_convert:summary()} | {error, term()}.
 stop() ->
     _ = seq_trace:set_token([]),
     try
         gen_server:call(?MODULE, stop, infinity)
     catch
-        exit:{noproc, _} -> {error, not_started}
+        exit:{noproc, _} -> recover(left_over())
     end.
+
+recover(none) ->
+    {error, not_started};
+recover(State) ->
+    case gen_server:start({local, ?MODULE}, ?MODULE, {recover, State}, []) of
+        {ok, _} -> stop();
+        {error, {already_started, _}} -> stop();
+        {error, Reason} -> {error, Reason}
+    end.
+
+%% What is collected now is noted beside the process that leads it, which may be killed.
+left_over() ->
+    case {whereis(?MODULE), application:get_env(seqaudit, collection)} of
+        {undefined, {ok, State}} -> State;
+        _ -> none
+    end.
+
+%% @doc Where each node's events go while they are collected.
+-spec folders() -> [{node(), file:filename()}].
+folders() ->
+    gen_server:call(?MODULE, folders).
 
 %% @equiv with_trace(Label, [send, 'receive', print], Fun)
 -spec with_trace(term(), fun(() -> Result)) -> Result.
@@ -97,7 +156,22 @@ format_error({already_started, _}) ->
 format_error(not_started) ->
     "no trace is being collected; begin one: seqaudit_trace:start()";
 format_error({unknown_options, Names}) ->
-    text("start doesn't know the options ~0tp; it takes nodes, name, limit and reset", [Names]);
+    text("start doesn't know the options ~0tp; it takes nodes, name, bytes, limit, reset, folder, "
+         "trigger and port", [Names]);
+format_error({option, Option, Value}) ->
+    text("~ts can't be ~0tP: ~ts", [Option, Value, 10, allowed(Option)]);
+format_error(left_over) ->
+    "a collection whose leader was killed isn't written yet; write it first: seqaudit_trace:stop()";
+format_error({otp, Release}) ->
+    text("this Erlang is OTP ~ts, and collecting needs OTP ~b or later", [Release, ?LEAST_OTP]);
+format_error({node, Node, {otp, Release}}) ->
+    text("node ~ts is OTP ~ts, and collecting needs OTP ~b or later", [Node, Release, ?LEAST_OTP]);
+format_error({node, Node, {no_function, {Module, Function, Arity}}}) ->
+    text("node ~ts has no function ~ts:~ts/~b; is its module loaded there, and is it spelled so?",
+         [Node, Module, Function, Arity]);
+format_error({node, Node, {file, File, Reason}}) ->
+    text("node ~ts can't write to ~ts: ~ts; say another folder (--folder)",
+         [Node, File, file:format_error(Reason)]);
 format_error({node, Node, {already_started, _}}) ->
     text("node ~ts already has a collector; end the trace that uses it, with "
          "seqaudit_trace:stop() where it was started", [Node]);
@@ -115,34 +189,57 @@ format_error({file, File, Reason}) ->
 format_error(Reason) ->
     text("~0tp", [Reason]).
 
+allowed(nodes) -> "it is a list of one or more node names";
+allowed(name) -> "it is the name of a file";
+allowed(limit) -> "it is a whole number of events, 0 or more";
+allowed(bytes) -> text("it is a whole number of bytes, ~b or more", [?LEAST_BYTES]);
+allowed(folder) -> "it is the name of a folder";
+allowed(trigger) -> "it is a map with function, label and times";
+allowed(_) -> "it is true or false".
+
 text(Format, Values) ->
     lists:flatten(io_lib:format(Format, Values)).
 
 %% @private
--spec init(options()) -> {ok, #state{}} | {stop, {shutdown, term()}}.
-init(#{nodes := Nodes, name := Name, limit := Limit, reset := Reset}) ->
-    Options = #{owner => self(), limit => Limit, reset => Reset},
-    maybe_start(seqaudit_events:writable(Name), lists:usort(Nodes), Options, Name).
+-spec init(options() | {recover, #state{}}) -> {ok, #state{}} | {stop, {shutdown, term()}}.
+init({recover, #state{nodes = Nodes} = State}) ->
+    {ok, State#state{nodes = [Node#node{monitor = monitor(process, Node#node.collector)}
+                              || Node <- Nodes]}};
+init(#{nodes := Nodes, name := Name, limit := Limit} = Options) ->
+    Each = (maps:with([reset, bytes, folder, trigger, port, limit], Options))#{owner => self()},
+    case {erlang:system_info(otp_release), seqaudit_events:writable(Name)} of
+        {Release, ok} ->
+            case is_enough(Release) andalso start_all(lists:usort(Nodes), Each, []) of
+                {ok, Started} ->
+                    State = #state{name = Name, limit = Limit, nodes = Started},
+                    ok = application:set_env(seqaudit, collection, State),
+                    {ok, State};
+                {error, Reason} -> {stop, {shutdown, Reason}};
+                false -> {stop, {shutdown, {otp, Release}}}
+            end;
+        {_, {error, Reason}} ->
+            {stop, {shutdown, Reason}}
+    end.
 
-maybe_start(ok, Nodes, Options, Name) ->
-    case start_all(Nodes, Options, []) of
-        {ok, Collectors} -> {ok, #state{name = Name, collectors = Collectors}};
-        {error, Reason} -> {stop, {shutdown, Reason}}
-    end;
-maybe_start({error, Reason}, _Nodes, _Options, _Name) ->
-    {stop, {shutdown, Reason}}.
+is_enough(Release) -> list_to_integer(Release) >= ?LEAST_OTP.
 
 %% @private
--spec handle_call(stop, gen_server:from(), #state{}) ->
+-spec handle_call(term(), gen_server:from(), #state{}) ->
           {stop, normal, {ok, seqaudit_convert:summary()}, #state{}}
-        | {reply, {error, term()}, #state{}}.
-handle_call(stop, _From, #state{gathered = Before, collectors = Collectors} = State) ->
-    Gathered = Before ++ gather(Collectors),
-    case seqaudit_convert:save(Gathered, State#state.name) of
-        {ok, Summary} -> {stop, normal, {ok, Summary}, State};
-        {error, Reason} -> {reply, {error, Reason}, State#state{gathered = Gathered,
-                                                                collectors = []}}
-    end.
+        | {reply, term(), #state{}}.
+handle_call(stop, _From, State0) ->
+    State = stopped(State0),
+    case gather(State) of
+        {ok, Summary} ->
+            ok = application:unset_env(seqaudit, collection),
+            {stop, normal, {ok, Summary}, State};
+        {error, Reason} ->
+            {reply, {error, Reason}, State}
+    end;
+handle_call(folders, _From, #state{nodes = Nodes} = State) ->
+    {reply, [{Node, Folder} || #node{node = Node, folder = Folder} <- Nodes], State};
+handle_call(_Stray, _From, State) ->
+    {reply, {error, unknown_call}, State}.
 
 %% @private
 -spec handle_cast(term(), #state{}) -> {noreply, #state{}}.
@@ -151,30 +248,78 @@ handle_cast(_Stray, State) ->
 
 %% @private
 -spec handle_info(term(), #state{}) -> {noreply, #state{}}.
-handle_info({'DOWN', Monitor, process, _, Reason}, #state{collectors = All} = State) ->
-    case lists:keytake(Monitor, 3, All) of
-        {value, {Node, _, _}, Rest} ->
-            Gathered = [#{node => Node, lost => Reason} | State#state.gathered],
-            {noreply, State#state{collectors = Rest, gathered = Gathered}};
-        false ->
+handle_info({'DOWN', Monitor, process, _, Reason}, #state{nodes = Nodes} = State) ->
+    case lists:keyfind(Monitor, #node.monitor, Nodes) of
+        #node{} = Node -> {noreply, put_node(down(Node, Reason), State)};
+        false -> {noreply, State}
+    end;
+handle_info({reach, Name}, #state{nodes = Nodes} = State) ->
+    case lists:keyfind(Name, #node.node, Nodes) of
+        #node{is = {away, _}} = Node ->
+            Self = self(),
+            _ = spawn(fun() -> Self ! {reached, Name, connected(Node#node.node)} end),
+            {noreply, State};
+        _ ->
             {noreply, State}
+    end;
+handle_info({reached, Name, Connected}, #state{nodes = Nodes} = State) ->
+    case lists:keyfind(Name, #node.node, Nodes) of
+        #node{is = {away, _}} = Node when Connected -> {noreply, put_node(lead_on(Node), State)};
+        #node{is = {away, _}} = Node -> {noreply, put_node(try_later(Node), State)};
+        _ -> {noreply, State}
     end;
 handle_info(_Stray, State) ->
     {noreply, State}.
+
+put_node(#node{node = Name} = Node, #state{nodes = Nodes} = State) ->
+    State#state{nodes = lists:keyreplace(Name, #node.node, Nodes, Node)}.
+
+%% A node that is out of reach may be back soon: its collector goes on and waits for that.
+down(Node, noconnection) -> try_later(Node#node{is = {away, erlang:monotonic_time(millisecond)}});
+down(Node, Reason) -> Node#node{is = {gone, Reason}}.
+
+try_later(Node) ->
+    _ = erlang:send_after(?REACH_MS, self(), {reach, Node#node.node}),
+    Node.
+
+connected(Node) -> net_kernel:connect_node(Node) =:= true.
+
+%% Leads a collector again that was out of reach.
+lead_on(#node{collector = Collector, is = {away, Since}, split = {Times, Sum}} = Node) ->
+    try seqaudit_collector:adopt(Collector, self()) of
+        ok ->
+            Away = erlang:monotonic_time(millisecond) - Since,
+            Node#node{is = on, monitor = monitor(process, Collector), split = {Times + 1, Sum + Away}}
+    catch
+        exit:{Reason, _} when Reason =:= noproc; Reason =:= normal -> Node#node{is = {gone, noproc}};
+        exit:_ -> try_later(Node)
+    end.
 
 %% Where one node fails, the collectors that are on already end with their owner, this process.
 start_all([], _Options, Started) ->
     {ok, lists:reverse(Started)};
 start_all([Node | Nodes], Options, Started) ->
     case start_on(Node, Options) of
-        {ok, Pid} -> start_all(Nodes, Options, [{Node, Pid, monitor(process, Pid)} | Started]);
-        {error, Reason} -> {error, {node, Node, Reason}}
+        {ok, Pid} ->
+            On = #node{node = Node, collector = Pid, monitor = monitor(process, Pid),
+                       folder = seqaudit_collector:folder(Pid)},
+            start_all(Nodes, Options, [On | Started]);
+        {error, {shutdown, Reason}} -> failed(Node, Reason, Started);
+        {error, Reason} -> failed(Node, Reason, Started)
     end.
+
+%% Nothing was asked of the nodes that are on, so what they have is removed.
+failed(Node, Reason, Started) ->
+    _ = seqaudit_collector:stop_all([Collector || #node{collector = Collector} <- Started]),
+    lists:foreach(fun remove/1, Started),
+    {error, {node, Node, Reason}}.
 
 start_on(Node, Options) when Node =:= node() ->
     seqaudit_collector:start(Options);
 start_on(Node, Options) ->
     try
+        Release = erpc:call(Node, erlang, system_info, [otp_release], ?REMOTE_MS),
+        is_enough(Release) orelse throw({otp, Release}),
         lists:foreach(fun(Module) -> load(Node, Module) end, ?MODULES),
         erpc:call(Node, seqaudit_collector, start, [Options], ?REMOTE_MS)
     catch
@@ -197,20 +342,143 @@ load_binary(Node, {Module, Binary, File}) ->
         {error, Reason} -> throw({load, Module, Reason})
     end.
 
-%% Stops all collectors at once and takes their events over.
-gather(Collectors) ->
-    Pids = [Pid || {_, Pid, _} <- Collectors],
-    lists:zipwith(fun gather/2, Collectors, seqaudit_collector:stop_all(Pids)).
+%% Stops all collectors at once. One that is out of reach is tried a last time.
+stopped(#state{nodes = Nodes0} = State) ->
+    Nodes = [case Node of
+                 #node{is = {away, _}} ->
+                     case connected(Node#node.node) of
+                         true -> lead_on(Node);
+                         false -> Node
+                     end;
+                 _ -> Node
+             end || Node <- Nodes0],
+    On = [Node || #node{is = on} = Node <- Nodes],
+    Ends = lists:zip([Node#node.node || Node <- On],
+                     seqaudit_collector:stop_all([Node#node.collector || Node <- On])),
+    State#state{nodes = [stopped_node(Node, lists:keyfind(Node#node.node, 1, Ends)) || Node <- Nodes]}.
 
-gather({Node, Collector, Monitor}, {ok, #{events := Count} = Summary}) ->
-    try
-        Events = [seqaudit_collector:events(Collector, First, min(First + ?PIECE - 1, Count))
-                  || First <- lists:seq(1, Count, ?PIECE)],
-        demonitor(Monitor, [flush]),
-        seqaudit_collector:release(Collector),
-        Summary#{events := lists:append(Events)}
-    catch
-        exit:Reason -> #{node => Node, lost => Reason}
-    end;
-gather({Node, _, _}, {error, Reason}) ->
-    #{node => Node, lost => Reason}.
+stopped_node(Node, {_, ok}) ->
+    demonitor(Node#node.monitor, [flush]),
+    Node#node{is = {gone, normal}};
+stopped_node(Node, {_, {error, Reason}}) -> Node#node{is = {gone, Reason}};
+stopped_node(#node{is = {away, _}} = Node, false) -> Node#node{is = {gone, noconnection}};
+stopped_node(Node, false) -> Node.
+
+%% Fetches what the collectors wrote, converts it, and removes it where it was.
+gather(#state{name = Name, limit = Limit, nodes = Nodes}) ->
+    case seqaudit_events:open(Name) of
+        {ok, Device} ->
+            try
+                Fetched = [{Node, fetch(Node, Limit, Device)} || Node <- Nodes],
+                ok = seqaudit_events:close(Device),
+                convert(Name, Fetched)
+            catch
+                error:{badmatch, {error, Reason}} ->
+                    _ = file:close(Device),
+                    {error, {file, Name ++ ".events", Reason}}
+            end;
+        {error, Reason} ->
+            {error, Reason}
+    end.
+
+convert(Name, Fetched) ->
+    Ask = fun(Wanted) -> ask(Wanted, [Node || {#node{node = Node}, _} <- Fetched], Name) end,
+    case seqaudit_convert:from_files([Name ++ ".events"], Name, Ask) of
+        {ok, #{files := Files} = Summary} ->
+            _ = [remove(Node) || {Node, fetched} <- Fetched],
+            {ok, Summary#{files => [Name ++ ".events" | Files]}};
+        {error, Reason} ->
+            {error, Reason}
+    end.
+
+%% What processes are called of which nobody saw an event yet. It is noted in NAME.events too.
+ask(Wanted, Nodes, Name) ->
+    Facts = [#{processes => Names}
+             || Node <- Nodes,
+                #{} = Names <- [names(Node, maps:get(atom_to_binary(Node), Wanted, []))],
+                map_size(Names) > 0],
+    _ = file:write_file(Name ++ ".events", [seqaudit_spool:entry(Fact) || Fact <- Facts], [append]),
+    [seqaudit_events:facts(Fact) || Fact <- Facts].
+
+names(_Node, []) ->
+    #{};
+names(Node, Wanted) ->
+    try erpc:call(Node, seqaudit_collector, names, [Wanted], ?REMOTE_MS)
+    catch _:_ -> #{}
+    end.
+
+remove(#node{folder = Folder} = Node) ->
+    _ = case at(Node) of
+            here -> seqaudit_spool:remove(Folder);
+            there -> try erpc:call(Node#node.node, seqaudit_spool, remove, [Folder], ?REMOTE_MS)
+                     catch _:_ -> ok
+                     end;
+            nowhere -> ok
+        end,
+    ok.
+
+%% The folder's name is random: if it is here, this is the disk that the collector wrote to. (Tests
+%% say that it isn't.)
+at(#node{node = Node, folder = Folder}) ->
+    Shared = application:get_env(seqaudit, shared_disk, true),
+    case {Shared andalso filelib:is_dir(Folder), connected(Node)} of
+        {true, _} -> here;
+        {false, true} -> there;
+        {false, false} -> nowhere
+    end.
+
+%% One node's part of NAME.events.
+fetch(#node{node = Node, folder = Folder, is = {gone, Reason}, split = Split} = Of, Limit, Device) ->
+    At = at(Of),
+    ok = seqaudit_events:begin_collection(Device, maps:from_list(
+             [{node, Node}] ++ [{lost, Reason} || Reason =/= normal]
+             ++ [{where, Folder} || At =:= nowhere]
+             ++ [{split, Split} || Split =/= {0, 0}])),
+    case At of
+        nowhere ->
+            lost;
+        _ ->
+            Read = reader(At, Node),
+            case files(At, Node, Folder) of
+                {ok, Files} ->
+                    Copied = lists:foldl(fun(File, Sum) -> copy(File, Read, Limit, Device, Sum) end,
+                                         #{kept => 0, kept_bytes => 0, dropped_here => 0, came => 0},
+                                         Files),
+                    ok = seqaudit_events:append(Device, seqaudit_spool:entry(Copied)),
+                    fetched;
+                {error, Fault} ->
+                    ok = seqaudit_events:append(Device, seqaudit_spool:entry(#{lost => Fault})),
+                    lost
+            end
+    end.
+
+reader(here, _Node) -> fun seqaudit_spool:read/3;
+reader(there, Node) ->
+    fun(File, Offset, Size) ->
+            try erpc:call(Node, seqaudit_spool, read, [File, Offset, Size], ?REMOTE_MS)
+            catch _:_ -> {error, noconnection}
+            end
+    end.
+
+files(here, _Node, Folder) -> seqaudit_spool:files(Folder);
+files(there, Node, Folder) ->
+    try erpc:call(Node, seqaudit_spool, files, [Folder], ?REMOTE_MS)
+    catch _:_ -> {error, noconnection}
+    end.
+
+%% Copies the whole entries of a file, events up to the limit.
+copy({File, Size}, Read, Limit, Device, Sum) ->
+    copy(File, 0, Size, <<>>, Read, Limit, Device, Sum).
+
+copy(_File, Offset, Size, Begun, _Read, _Limit, _Device, Sum) when Offset >= Size ->
+    Sum#{cut => maps:get(cut, Sum, 0) + byte_size(Begun)};
+copy(File, Offset, Size, Begun, Read, Limit, Device, Sum) ->
+    case Read(File, Offset, ?PIECE) of
+        {ok, Piece} ->
+            Bytes = <<Begun/binary, Piece/binary>>,
+            {Whole, Rest, More} = seqaudit_events:whole_entries(Bytes, Limit, Sum),
+            ok = seqaudit_events:append(Device, Whole),
+            copy(File, Offset + byte_size(Piece), Size, Rest, Read, Limit, Device, More);
+        _ ->
+            Sum#{cut => maps:get(cut, Sum, 0) + Size - Offset + byte_size(Begun)}
+    end.

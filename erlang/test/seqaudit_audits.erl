@@ -2,7 +2,7 @@
 %% the program where it is built and has the command; then both must write the same.
 -module(seqaudit_audits).
 
--export([file/1, fits/1, audit/1, has/1, has/2, tools/0, model/0]).
+-export([file/1, home/0, fits/1, audit/1, answer/2, has/1, has/2, tools/0, model/0]).
 
 %% A name for files of a test, in a folder that git ignores.
 file(Name) ->
@@ -10,8 +10,16 @@ file(Name) ->
     ok = filelib:ensure_dir(File),
     File.
 
+%% The folder of the application, above what make or rebar3 compiled.
 home() ->
-    filename:dirname(filename:dirname(filename:absname(code:which(seqaudit_trace)))).
+    home(filename:dirname(filename:dirname(filename:absname(code:which(seqaudit_trace))))).
+
+home(Folder) ->
+    case filelib:is_regular(filename:join([Folder, "test", "run"]))
+        andalso filelib:is_regular(filename:join(Folder, "seqaudit-node")) of
+        true -> Folder;
+        false -> home(filename:dirname(Folder))
+    end.
 
 %% The auditor says that the bundle fits, and the checker confirms its answer.
 fits(Name) ->

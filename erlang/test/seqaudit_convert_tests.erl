@@ -2,6 +2,7 @@
 -module(seqaudit_convert_tests).
 
 -export([captures_test_/0, equal_terms_test/0, numbers_test/0, parties_test/0, aliases_test/0,
+         reset_aliases_test/0, ambiguous_aliases_test/0,
          repeated_names_test/0,
          counts_test/0, limits_test/0, too_many_test_/0,
          lost_test/0, hostile_test_/0, hostile_trace_test_/0,
@@ -69,14 +70,62 @@ aliases_test() ->
     [A, B, C] = [pid(node(), N, 0) || N <- [30, 31, 32]],
     [R1, R2] = [make_ref(), make_ref()],
     Request = fun(Owner, Alias) -> {'$gen_call', {Owner, [alias | Alias]}, x} end,
-    {Events, #{by_receive := 1, by_request := 1}} =
-        seqaudit_resolve:events([#{node => node(), events => [
-            {seq_trace, 0, {send, {0, 1}, A, B, Request(A, R1)}},
-            {seq_trace, 0, {send, {0, 2}, A, B, Request(A, R2)}},
-            {seq_trace, 0, {send, {1, 2}, B, R1, {R1, ok}}},
-            {seq_trace, 0, {send, {1, 3}, B, R2, {R2, ok}}},
-            {seq_trace, 0, {'receive', {1, 2}, B, C, {R1, ok}}}]}]),
-    [B, B, C, A, C] = [element(5, Event) || Event <- Events].
+    Bundle = convert([{seq_trace, 0, {send, {0, 1}, A, B, Request(A, R1)}},
+                      {seq_trace, 0, {send, {0, 2}, A, B, Request(A, R2)}},
+                      {seq_trace, 0, {send, {1, 2}, B, R1, {R1, ok}}},
+                      {seq_trace, 0, {send, {1, 3}, B, R2, {R2, ok}}},
+                      {seq_trace, 0, {'receive', {1, 2}, B, C, {R1, ok}}}]),
+    ["<0.31.0>", "<0.31.0>", "<0.32.0>", "<0.30.0>"] = receivers(send, Bundle),
+    true = noted("1 sends to an alias or a name: their receive says", Bundle),
+    true = noted("1 sends to an alias: the request that handed it out", Bundle).
+
+%% After a reset a server stamps its replies as before: label and message tell them apart, whichever
+%% client comes first.
+reset_aliases_test() ->
+    [S, A, B] = [pid(node(), N, 0) || N <- [30, 31, 32]],
+    Reply = fun(Label, To, Alias, Result) ->
+                    [{seq_trace, Label, {send, {1, 2}, S, Alias, {Alias, Result}}},
+                     {seq_trace, Label, {'receive', {1, 2}, S, To, {Alias, Result}}}]
+            end,
+    [R1, R2] = [make_ref(), make_ref()],
+    First = Reply(one, A, R1, ok) ++ Reply(two, B, R2, ok),
+    ["<0.31.0>", "<0.32.0>"] = receivers(send, convert(First)),
+    ["<0.32.0>", "<0.31.0>"] = receivers(send, convert(Reply(two, B, R2, ok) ++ Reply(one, A, R1, ok))),
+    %% The same label: the message tells them apart.
+    ["<0.31.0>", "<0.32.0>"] = receivers(send, convert(Reply(one, A, R1, ok) ++ Reply(one, B, R2, ok))),
+    %% The same message: the label does.
+    ["<0.31.0>", "<0.32.0>"] = receivers(send, convert(Reply(one, A, R1, ok) ++ Reply(two, B, R1, ok))).
+
+%% Where two receives or two requests fit, nobody is named.
+ambiguous_aliases_test() ->
+    [S, A, B] = [pid(node(), N, 0) || N <- [30, 31, 32]],
+    R = make_ref(),
+    Send = {seq_trace, 1, {send, {1, 2}, S, R, {R, ok}}},
+    Received = fun(To) -> {seq_trace, 1, {'receive', {1, 2}, S, To, {R, ok}}} end,
+    Two = convert([Send, Received(A), Received(B)]),
+    ["<0.65535.0>"] = receivers(send, Two),
+    true = noted("1 sends to an alias or a name that two receives or requests fit", Two),
+    ["<0.31.0>"] = receivers(send, convert([Send, Received(A), Received(A)])),
+    Asks = fun(Owner) ->
+                   {seq_trace, 1, {'receive', {0, 1}, Owner, S, {'$gen_call', {Owner, [alias | R]}, x}}}
+           end,
+    ["<0.65535.0>"] = receivers(send, convert([Asks(A), Asks(B), Send])),
+    ["<0.32.0>"] = receivers(send, convert([Asks(B), Asks(B), Send])),
+    %% A number that a whole label has isn't given to another one.
+    #{terms := Terms} = convert([{seq_trace, Label, {print, {0, 1}, A, [], x}}
+                                 || Label <- [term, 1_000_000, other, 1_000_001]]),
+    [_, _, _, _] = [found || Line <- ["label\t1000000\t1000000", "label\t1000001\t1000001",
+                                      "label\t1000002\tterm", "label\t1000003\tother"],
+                             binary:match(iolist_to_binary(Terms), list_to_binary(Line)) =/= nomatch].
+
+%% The receivers of the sends, or of other events, in the order of the bundle.
+receivers(Kind, #{seqtrace := Text}) ->
+    {match, Found} = re:run(Text, ["\\{", atom_to_list(Kind), ",\\{[0-9,]*\\},<[0-9.]*>,(<[0-9.]*>)"],
+                            [global, {capture, [1], list}]),
+    [To || [To] <- Found].
+
+noted(Part, #{notes := Notes}) ->
+    lists:any(fun(Note) -> has(Note, Part) end, Notes).
 
 %% A name that two processes had is told apart.
 repeated_names_test() ->

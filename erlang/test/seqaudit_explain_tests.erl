@@ -1,8 +1,9 @@
 %% Answers and charts with names and terms in the place of numbers.
 -module(seqaudit_explain_tests).
 
--export([fits_test/0, reasons_test/0, verdicts_test/0, faults_test/0, chart_test/0, drawing_test/0,
-         drawing_is_safe_test/0, large_drawing_test_/0, brief_test/0, legend_test/0]).
+-export([whole_test/0, fits_test/0, completed_test/0, labels_test/0, places_test/0, reasons_test/0, no_tool_test/0, faults_test/0,
+         losses_test/0, chart_test/0, drawing_test/0, drawing_is_safe_test/0, large_drawing_test_/0,
+         too_large_drawing_test/0, brief_test/0, legend_test/0]).
 
 legend() ->
     File = seqaudit_audits:file("explain.terms"),
@@ -14,72 +15,188 @@ legend() ->
     {ok, Legend} = seqaudit_legend:read(File),
     Legend.
 
-explained(Answer) -> unicode:characters_to_binary(seqaudit_explain:explain(Answer, legend())).
+said(Outcome) -> unicode:characters_to_binary(seqaudit_explain:outcome(Outcome, [], legend())).
 
 has(Text, Parts) ->
     [] = [Part || Part <- Parts, binary:match(Text, unicode:characters_to_binary(Part)) =:= nomatch].
 
+streams(Text) ->
+    {ok, Streams} = seqaudit_bundle:parse(iolist_to_binary(Text)),
+    Streams.
+
+outcome(Said, Streams) ->
+    #{said => Said, streams => Streams, renumbered => false, tool => there, answer => <<>>}.
+
 %% A print is one only where the token has the flag; else it moves a clock.
-fits_test() ->
-    has(explained(<<"seqtrace 1\nprocess <0.30.0>\n{seq_trace,1000000,{print,{1,2},<0.30.0>,[],7}}\n"
-                    "process <0.31.0>\nacts\ntracer <0.30.0> true\n"
-                    "restore <0.30.0> 1000000 false false false 0 0 <0.30.0>\nprint <0.30.0> 0\n"
-                    "clear <0.30.0>\nset <0.30.0> label 1000000\n"
-                    "restore <0.30.0> 1000000 false false true 0 0 <0.30.0>\nprint <0.30.0> 7\n">>),
-        ["fits: 1 events of 2 processes are a run, which the answer gives as 7 acts",
-         "alice prints start, serial {1,2}, label {order,7}", "     2  alice's clock moves",
+whole_test() ->
+    Answer = <<"seqtrace 1\nprocess <0.30.0>\n{seq_trace,1000000,{print,{1,2},<0.30.0>,[],7}}\n"
+               "process <0.31.0>\nacts\ntracer <0.30.0> true\n"
+               "restore <0.30.0> 1000000 false false false 0 0 <0.30.0>\nprint <0.30.0> 0\n"
+               "clear <0.30.0>\nset <0.30.0> label 1000000\n"
+               "restore <0.30.0> 1000000 false false true 0 0 <0.30.0>\nprint <0.30.0> 7\n">>,
+    Outcome = (outcome(fits, streams(Answer)))#{answer := Answer},
+    has(unicode:characters_to_binary(seqaudit_explain:whole(Outcome, legend())),
+        ["alice#0: alice prints start, serial {1,2}, label {order,7}", "     2  alice's clock moves",
          "     3  alice has no token any more", "     4  alice begins a trace with label {order,7}",
          "     5  alice has label {order,7}, flags [print]", "     6  alice prints start\n"]).
 
-reasons_test() ->
-    Event = "event <0.31.0> 3 {seq_trace,17,{'receive',{2,4},<0.30.0>,<0.31.0>,6}}\n",
-    [begin
-         Text = explained(unicode:characters_to_binary(["unfit <0.31.0> 3 ", Reason, $\n, Event])),
-         has(Text, ["unfit: event 3 of bob & <co> stands against the trace (", Reason,
-                    "event 3 of bob & <co>: bob & <co> receives {ok,six} from alice, serial {2,4}, label 17",
-                    "What it means: ", "What to look at: "])
-     end || Reason <- ["prevnotbefore", "notrising <0.31.0> 1", "repeated <0.30.0> 0",
-                       "mismatch <0.30.0> 2", "uncaused", "toowide", "notreplayed left <0.31.0>"]].
+%% What a fits says of hidden sends, of counters that stood high, of silent stamps and of spawns.
+fits_test() ->
+    <<"fits: 2 events of 2 processes are a run; nothing was left out\n">> =
+        said(outcome(fits, streams("seqtrace 1\nprocess <0.30.0>\n"
+                                   "{seq_trace,17,{send,{0,1},<0.30.0>,<0.31.0>,7}}\nprocess <0.31.0>\n"
+                                   "{seq_trace,17,{'receive',{0,1},<0.30.0>,<0.31.0>,7}}\n"))),
+    Gaps = "seqtrace 1\nprocess <0.30.0>\n"
+           "{seq_trace,17,{print,{4999,5000},<0.30.0>,[],7}}\n"
+           "{seq_trace,17,{print,{4999,5003},<0.30.0>,[],7}}\n"
+           "{seq_trace,17,{print,{6000,6001},<0.30.0>,[],7}}\nprocess <0.31.0>\n"
+           "{seq_trace,17,{'receive',{0,3},<0.30.0>,<0.31.0>,6}}\n"
+           "{seq_trace,17,{send,{63,64},<0.31.0>,<0.30.0>,7}}\n",
+    has(said((outcome(fits, streams(Gaps)))#{renumbered := true}),
+        ["fits: 5 events of 2 processes are a run, with 1 event that nobody reported, 2 silent stamps, 1 jump of a counter",
+         "Counters stood higher than anything reported tells: 1 in alice.",
+         "  alice sends {ok,six} to bob & <co>, serial {0,3}, label 17, which is received as bob & <co>#0\n",
+         "counts that no event has: 2 in alice",
+         "Before its first send or print here, that of alice stood at 4,999.\n",
+         "It did so bob & <co> once.\n", "serials stand here as the node had them"]).
 
-verdicts_test() ->
-    has(explained(<<"yes\npair 5 4\n">>), ["yes: the acts are a run", "act 5 took the message that act 4 sent"]),
-    has(explained(<<"no left <0.30.0>\n">>), ["no: the acts leave events of alice unreported"]),
-    has(explained(<<"no stuck 3\n">>), ["no: act 3 can't be done"]),
-    has(explained(<<"no differs 3\n">>), ["no: act 3 reports something else"]),
-    has(explained(<<"no label 1000000\n">>), ["no event has the label {order,7}"]).
+%% Added events stand under the event before which they happened; an invented message isn't shown.
+completed_test() ->
+    Streams = streams("seqtrace 1\nprocess <0.30.0>\n"
+                      "{seq_trace,17,{send,{0,1},<0.30.0>,<0.31.0>,7}}\n"
+                      "process <0.31.0>\n{seq_trace,17,{print,{0,5},<0.31.0>,[],7}}\n"
+                      "{seq_trace,17,{print,{1,6},<0.31.0>,[],7}}\n"),
+    Added = streams("seqtrace 1\nprocess <0.30.0>\n"
+                    "{seq_trace,17,{send,{0,1},<0.30.0>,<0.31.0>,7}}\n"
+                    "{seq_trace,17,{send,{0,2},<0.30.0>,<0.31.0>,0}}\n"
+                    "process <0.31.0>\n{seq_trace,17,{print,{0,5},<0.31.0>,[],7}}\n"
+                    "{seq_trace,17,{'receive',{0,1},<0.30.0>,<0.31.0>,7}}\n"
+                    "{seq_trace,17,{print,{1,6},<0.31.0>,[],7}}\n"
+                    "{seq_trace,17,{'receive',{0,2},<0.30.0>,<0.31.0>,0}}\n"),
+    Completed = seqaudit_bundle:complete(Streams, {Added, [{<<"<0.30.0>">>, 1}, {<<"<0.31.0>">>, 1},
+                                                           {<<"<0.31.0>">>, 3}]}),
+    has(said(outcome(completed, Completed)),
+        ["fits: 3 events of 2 processes are a run, with 3 events that nobody reported",
+         "  alice#1~1: alice sends a message that isn't known to bob & <co>, serial {0,2}, label 17\n",
+         "  bob & <co>#1~1: bob & <co> receives start from alice, serial {0,1}, label 17\n",
+         "  bob & <co>#2~1: bob & <co> receives a message that isn't known from alice"]),
+    [{ok, {<<"<0.31.0>">>, {2, 1}}}, {ok, {<<"<0.30.0>">>, 0}}] =
+        [seqaudit_bundle:find(Name, Completed, legend()) || Name <- ["bob & <co>#2~1", "<0.30.0>#0"]],
+    [{error, {no_event_name, "alice"}}, {error, {no_process, <<"carol">>, _}}, {error, {no_event, "alice#9", [0]}}] =
+        [seqaudit_bundle:find(Name, Completed, legend()) || Name <- ["alice", "carol#1", "alice#9"]].
+
+%% Of two messages with the count that two events need, each gets the one with its label.
+labels_test() ->
+    Sends = "process <0.30.0>\n{seq_trace,1,{send,{0,1},<0.30.0>,<0.32.0>,5}}\n"
+            "process <0.31.0>\n{seq_trace,2,{send,{0,1},<0.31.0>,<0.32.0>,6}}\nprocess <0.32.0>\n",
+    Print = fun(Label, Serial) -> ["{seq_trace,", Label, ",{print,", Serial, ",<0.32.0>,[],7}}\n"] end,
+    Receive = fun(Label, From, Value) ->
+                      ["{seq_trace,", Label, ",{'receive',{0,1},", From, ",<0.32.0>,", Value, "}}\n"]
+              end,
+    Streams = streams(["seqtrace 1\n", Sends, Print("9", "{0,3}"), Print("2", "{1,4}"), Print("9", "{0,5}"), Print("1", "{1,6}")]),
+    All = streams(["seqtrace 1\n", Sends, Print("9", "{0,3}"), Receive("1", "<0.30.0>", "5"), Print("2", "{1,4}"),
+                   Print("9", "{0,5}"), Receive("2", "<0.31.0>", "6"), Print("1", "{1,6}")]),
+    {_, Events} = lists:last(seqaudit_bundle:complete(Streams, {All, [{<<"<0.32.0>">>, 1}, {<<"<0.32.0>">>, 4}]})),
+    [{<<"2">>, <<"<0.31.0>">>, <<"6">>, {1, 1}}, {<<"1">>, <<"<0.30.0>">>, <<"5">>, {3, 1}}] =
+        [{Label, From, Value, At} || #{kind := 'receive', label := Label, from := From, value := Value, at := At} <- Events].
+
+%% An unreported send stands behind the receive that it follows, if one is there before the next stamp.
+places_test() ->
+    Receive = fun(Serial, This) -> ["{seq_trace,1,{'receive',{", Serial, ",", This, "},<0.30.0>,<0.32.0>,5}}\n"] end,
+    Hidden = "{seq_trace,1,{send,{3,9},<0.32.0>,<0.30.0>,6}}\n",
+    Last = ["{seq_trace,1,{print,{4,10},<0.32.0>,[],6}}\n"],
+    First = "seqtrace 1\nprocess <0.30.0>\n{seq_trace,1,{'receive',{3,9},<0.32.0>,<0.30.0>,6}}\nprocess <0.32.0>\n",
+    Streams = streams([First, Receive("0", "1"), Receive("1", "3"), Receive("3", "4"), Last]),
+    All = streams([First, Hidden, Receive("0", "1"), Receive("1", "3"), Receive("3", "4"), Last]),
+    [_, {_, Events}] = seqaudit_bundle:complete(Streams, {All, [{<<"<0.32.0>">>, 0}]}),
+    [0, 1, {2, 1}, 2, 3] = [At || #{at := At} <- Events].
+
+reasons_test() ->
+    Event = #{kind => 'receive', label => <<"17">>, prev => 2, this => 4, from => <<"<0.30.0>">>,
+              to => <<"<0.31.0>">>, value => <<"6">>, at => 3},
+    [has(said((outcome(Said, []))#{finding => {Reason, [{{<<"<0.31.0>">>, 3}, Event}]}}),
+         [Begin, "because of bob & <co>#3",
+          "  bob & <co>#3: bob & <co> receives {ok,six} from alice, serial {2,4}, label 17\n",
+          "What it means: ", "What to look at: "])
+     || {Said, Begin, Reasons} <- [{never, "doesn't fit: no run has it", [<<"prevnotbefore">>]},
+                                   {never, "doesn't fit: no run without a reset has it",
+                                    [<<"notrising">>, <<"repeated">>, <<"mismatch">>,
+                                     <<"late">>, <<"unfounded">>, <<"unsent">>]},
+                                   {open, "not known", [<<"open">>]},
+                                   {unexplained, "not explained",
+                                    [<<"uncaused">>, <<"toowide">>, <<"notreplayed">>]}],
+        Reason <- Reasons].
+
+%% Where there is no seqtool it says so, and what it would be good for.
+no_tool_test() ->
+    has(said((outcome(unexplained, []))#{tool := not_there, finding => {<<"uncaused">>, []}}),
+        ["For what the trace lacks, seqtool is needed, and it isn't there"]).
 
 faults_test() ->
-    has(explained(<<"fault too large\n">>), ["fault too large: the bundle has more than 67,108,864 bytes"]),
-    has(explained(<<"fault line 3\n">>), ["fault line 3: this isn't a bundle"]),
-    has(explained(<<"usage: seqaudit check\n">>), ["build a later one"]).
+    has(said((outcome(fault, []))#{fault => <<"fault too large">>}),
+        ["fault too large: the bundle has more than 67,108,864 bytes; cut it"]),
+    has(said((outcome(fault, []))#{fault => <<"fault line 3">>}), ["fault line 3: this isn't a bundle"]).
+
+%% Notes that tell of losses stand in the answer.
+losses_test() ->
+    Lost = <<"a@h: its collector went down (noconnection), and all of its events are lost">>,
+    Text = unicode:characters_to_binary(
+             seqaudit_explain:losses([<<"4 timestamps were left out">>, Lost,
+                                      <<"labels that are no whole numbers in range: 1000000 is lost">>,
+                                      <<"a@h: more came than the files hold, and the oldest 9 bytes were written over">>,
+                                      <<"a@h: 7 events came beyond the limit and were dropped">>])),
+    <<"The trace isn't whole:\n  a@h: its", _/binary>> = Text,
+    has(Text, ["7 events came beyond", "the oldest 9 bytes"]),
+    [nomatch, nomatch] = [binary:match(Text, Part) || Part <- [<<"timestamps">>, <<"labels">>]].
 
 chart() ->
-    <<"label 1000000\nlane 1 <0.30.0>\nlane 2 <0.31.0>\n"
-      "   P   |  print    {0,1} 7 start\n"
-      "   H   .  hidden   {0,2} 5 unseen\n"
-      "   .   R  receive  {0,2} 5 after hidden\n"
-      "   .   S  send     {2,3} 6 after <0.31.0> 0\n"
-      "   R   .  receive  {2,3} 6 after <0.31.0> 1\n"
-      "   S   |  send     {3,4} 7 after <0.30.0> 1\n"
-      "   S   .  send     {3,5} 9 after <0.30.0> 1\n">>.
+    chart(<<"label 1000000\nlane 1 <0.30.0>\nlane 2 <0.31.0>\n"
+            "   P   |  print    {0,1} 7 start\n"
+            "   H   .  hidden   {0,2} 5 unseen\n"
+            "   .   R  receive  {0,2} 5 after hidden\n"
+            "   .   S  send     {2,3} 6 after <0.31.0> 0\n"
+            "   R   .  receive  {2,3} 6 after <0.31.0> 1\n"
+            "   S   |  send     {3,4} 7 after <0.30.0> 1\n"
+            "   S   .  send     {3,5} 9 after <0.30.0> 1\n"
+            "   |   P  print    {4,6} 7 start\n">>,
+          "seqtrace 1\nprocess <0.30.0>\n"
+          "{seq_trace,1000000,{print,{0,1},<0.30.0>,[],7}}\n"
+          "{seq_trace,1000000,{'receive',{2,3},<0.31.0>,<0.30.0>,6}}\n"
+          "{seq_trace,1000000,{send,{3,4},<0.30.0>,<0.30.0>,7}}\n"
+          "{seq_trace,1000000,{send,{3,5},<0.30.0>,<0.31.0>,9}}\n"
+          "process <0.31.0>\n"
+          "{seq_trace,1000000,{'receive',{0,2},<0.30.0>,<0.31.0>,5}}\n"
+          "{seq_trace,1000000,{send,{2,3},<0.31.0>,<0.30.0>,6}}\n"
+          "{seq_trace,1000000,{print,{4,6},<0.31.0>,[],7}}\n").
+
+chart(Text, Bundle) ->
+    {ok, Chart} = seqaudit_chart:read(Text),
+    seqaudit_chart:identify(Chart, seqaudit_causes:rows(streams(Bundle))).
 
 chart_test() ->
-    has(explained(chart()), ["label {order,7}\nlane 1 alice\nlane 2 bob & <co>\n",
-                             "   H   .  hidden   {0,2} call {get,\"5 < 6\"}  unseen\n",
-                             "   .   S  send     {2,3} {ok,six}  after event 0 of bob & <co>\n",
-                             "   S   .  send     {3,5} #9  after event 1 of alice\n"]),
+    Text = unicode:characters_to_binary(seqaudit_chart:text(chart(), legend())),
+    has(Text, ["label {order,7}\nlane 1 alice\nlane 2 bob & <co>\n",
+               "   H   .  unreported    hidden   {0,2} call {get,\"5 < 6\"}  unreported\n",
+               "   .   R  bob & <co>#0  receive  {0,2} call {get,\"5 < 6\"}  after an unreported send\n",
+               "   .   S  bob & <co>#1  send     {2,3} {ok,six}  after bob & <co>#0\n",
+               "   S   .  alice#3       send     {3,5} #9  after alice#1\n",
+               "   |   P  bob & <co>#2  print    {4,6} start  start, or cause unreported\n"]),
     {error, {no_chart, <<"no label 18">>}} = seqaudit_chart:read(<<"no label 18\n">>),
     {error, {no_chart, <<"   P x">>}} = seqaudit_chart:read(<<"label 1\nlane 1 <0.30.0>\n   P x\n">>).
 
 drawing_test() ->
-    Drawing = draw(chart()),
-    has(Drawing, ["label {order,7}: 7 rows, 2 processes", ">alice<", "bob &amp; &lt;co&gt;",
-                  ">call {get,&quot;5 &lt; 6&quot;}</text>", "registered as alice",
-                  "send {2,3}, caused by event 0 of bob &amp; &lt;co&gt;\n{ok,six}",
-                  "hidden {0,2}, nobody reported this send\n"]),
-    %% One dashed arrow, one that arrives, and two whose receives nobody reported.
-    [1, 1, 2, 1] = [length(binary:matches(Drawing, Part))
-                    || Part <- [<<"url(#d)">>, <<"url(#s)">>, <<"url(#x)">>, <<"class=\"p\"">>]].
+    Drawing = drawn(chart()),
+    has(Drawing, ["label {order,7}: 8 rows, 2 processes", ">alice<", "bob &amp; &lt;co&gt;",
+                  ">call {get,&quot;5 &lt; 6&quot;}</text>", "registered as alice", "the audit's line",
+                  "bob &amp; &lt;co&gt;#1: send {2,3}, after bob &amp; &lt;co&gt;#0\n{ok,six}",
+                  "unreported: hidden {0,2}, unreported\n", "its cause may not have been reported"]),
+    %% One dashed arrow, one that arrives, and two whose receives nobody reported; one question mark.
+    [1, 1, 2, 2, 2] = [length(binary:matches(Drawing, Part))
+                       || Part <- [<<"url(#d)">>, <<"url(#s)">>, <<"url(#x)">>, <<"class=\"p\"">>, <<">?<">>]].
+
+drawn(Chart) ->
+    {ok, Drawing} = seqaudit_draw:svg(Chart, "the audit's line", legend()),
+    unicode:characters_to_binary(Drawing).
 
 %% No character that XML doesn't allow comes into a drawing, whatever the names are.
 drawing_is_safe_test() ->
@@ -87,31 +204,48 @@ drawing_is_safe_test() ->
     File = seqaudit_audits:file("safe.terms"),
     ok = file:write_file(File, seqaudit_legend:text([{"<0.30.0>", Name, Name}], [], [{7, Name}], #{})),
     {ok, Legend} = seqaudit_legend:read(File),
-    {ok, Chart} = seqaudit_chart:read(<<"label 1\nlane 1 <0.30.0>\n   P  print    {0,1} 7 start\n">>),
-    Drawing = unicode:characters_to_list(seqaudit_draw:svg(Chart, Legend)),
+    Chart = chart(<<"label 1\nlane 1 <0.30.0>\n   P  print    {0,1} 7 start\n">>,
+                  "seqtrace 1\nprocess <0.30.0>\n{seq_trace,1,{print,{0,1},<0.30.0>,[],7}}\n"),
+    {ok, Text} = seqaudit_draw:svg(Chart, Name, Legend),
+    Drawing = unicode:characters_to_list(Text),
     [] = [C || C <- Drawing, C < 16#20 andalso C =/= $\n orelse C =:= 16#FFFF].
 
 %% 20 lanes and 500 rows are drawn, with the names above each forty rows.
 large_drawing_test_() ->
     {timeout, 60, fun() ->
-        Pids = [pid(K) || K <- lists:seq(1, 20)],
-        Rows = [row(N) || N <- lists:seq(0, 499)],
-        Text = unicode:characters_to_binary(
-                 ["label 1\n", [["lane ", integer_to_list(K), $\s, Pid, $\n]
-                                || {K, Pid} <- lists:enumerate(Pids)], Rows]),
-        {Microseconds, Drawing} = timer:tc(fun() -> draw(Text) end),
+        {Microseconds, Drawing} = timer:tc(fun() -> drawn(large(500)) end),
         true = Microseconds < 5_000_000,
         ok = file:write_file(seqaudit_audits:file("large.svg"), Drawing),
         260 = length(binary:matches(Drawing, <<"class=\"b\"">>)),
         250 = length(binary:matches(Drawing, <<"url(#s)">>))
     end}.
 
+too_large_drawing_test() ->
+    {error, {too_many_rows, 2002} = Reason} = seqaudit_draw:svg(large(2002), "", legend()),
+    has(unicode:characters_to_binary(seqaudit_draw:format_error(Reason)), ["use the page (--html FILE)"]).
+
+%% Sends and their receives, from lane to lane.
+large(Rows) ->
+    Events = lists:append([sent(Sent) || Sent <- lists:seq(0, Rows div 2 - 1)]),
+    Bundle = ["seqtrace 1\n", [["process ", pid(K), $\n, [Line || {Actor, Line} <- Events, Actor =:= K]]
+                               || K <- lists:seq(1, 20)]],
+    Text = iolist_to_binary(["label 1\n", [["lane ", integer_to_list(K), $\s, pid(K), $\n]
+                                           || K <- lists:seq(1, 20)],
+                             [row(N) || N <- lists:seq(0, Rows - 1)]]),
+    chart(Text, Bundle).
+
 pid(K) -> io_lib:format("<0.~b.0>", [100 + K]).
 
-%% Rows of sends and their receives, from lane to lane.
+ends(Sent) -> [1 + Sent * 7 rem 20, 1 + (Sent * 7 + 1 + Sent rem 5) rem 20].
+
+sent(Sent) ->
+    [From, To] = ends(Sent),
+    [{Actor, io_lib:format("{seq_trace,1,{~ts,{~b,~b},~ts,~ts,6}}~n", [Kind, Sent, Sent + 1, pid(From), pid(To)])}
+     || {Actor, Kind} <- [{From, "send"}, {To, "'receive'"}]].
+
 row(N) ->
     Sent = N div 2,
-    [From, To] = [1 + Sent * 7 rem 20, 1 + (Sent * 7 + 1 + Sent rem 5) rem 20],
+    [From, To] = ends(Sent),
     Sends = N rem 2 =:= 0,
     Mark = fun(K) when K =:= From, Sends -> "   S";
               (K) when K =:= To, not Sends -> "   R";
@@ -122,20 +256,19 @@ row(N) ->
                   [[Mark(K) || K <- lists:seq(1, 20)],
                    case Sends of true -> "send"; false -> "receive" end, Sent, Sent + 1]).
 
-draw(Text) ->
-    {ok, Chart} = seqaudit_chart:read(Text),
-    unicode:characters_to_binary(seqaudit_draw:svg(Chart, legend())).
-
 brief_test() ->
     Ref = make_ref(),
     Texts = [{'$gen_call', {self(), [alias | Ref]}, {get, 1}}, {'$gen_call', {self(), Ref}, {get, 1}},
-             {'$gen_cast', {put, 1}}, {[alias | Ref], {ok, 1}}, {Ref, {ok, 1}}, {ok, Ref}],
+             {'$gen_cast', {put, 1}}, {[alias | Ref], {ok, 1}}, {Ref, {ok, 1}},
+             {spawn_request, Ref, self(), self(), {m, f, 1}, [link], spawn_reply, [x]},
+             {spawn_reply, Ref, ok, self()}, {ok, Ref}],
     File = seqaudit_audits:file("brief.terms"),
     ok = file:write_file(File, seqaudit_legend:text([], [], lists:enumerate(Texts), #{})),
     {ok, Legend} = seqaudit_legend:read(File),
     [<<"call {get,1}">>, <<"call {get,1}">>, <<"cast {put,1}">>, <<"reply {ok,1}">>,
-     <<"reply {ok,1}">>, <<"{ok,#Ref<", _/binary>>] =
-        [seqaudit_legend:brief(integer_to_binary(K), Legend) || K <- lists:seq(1, 6)].
+     <<"reply {ok,1}">>, <<"spawn {m,f,1},[link],spawn_reply,[x]}">>, <<"spawned <", _/binary>>,
+     <<"{ok,#Ref<", _/binary>>] =
+        [seqaudit_legend:brief(integer_to_binary(K), Legend) || K <- lists:seq(1, 8)].
 
 legend_test() ->
     File = seqaudit_audits:file("broken.terms"),

@@ -1,7 +1,7 @@
 %% The command, run as a program of its own.
 -module(seqaudit_node_tests).
 
--export([usage_test_/0, convert_test_/0, audit_and_chart_test_/0, no_program_test_/0, collect_test_/0,
+-export([usage_test_/0, convert_test_/0, audit_and_chart_test_/0, no_program_test_/0, failing_program_test_/0, collect_test_/0,
          printing/0]).
 
 usage_test_() ->
@@ -10,8 +10,8 @@ usage_test_() ->
         {_, _} = binary:match(Help, <<"usage: seqaudit-node COMMAND">>),
         {0, Help} = command("audit --help"),
         [{3, _} = command(Words)
-         || Words <- ["", "frobnicate", "audit", "audit a b", "audit a --label", "chart a",
-                      "convert x", "collect --node a@h -o x", "convert -o"]],
+         || Words <- ["", "frobnicate", "audit", "audit a b", "audit a --label", "chart a", "why a",
+                      "convert x", "collect --node a@h", "collect -o x", "convert -o"]],
         {3, Text} = command("collect --node a@h --seconds ten -o x"),
         {_, _} = binary:match(Text, <<"--seconds and --limit take whole numbers">>)
     end}.
@@ -57,6 +57,7 @@ asked(Name, Program) ->
     {_, _} = binary:match(Whole, <<", label {request,<<\"abc\">>}">>),
     {0, Chart} = command(["chart ", Name, " --label '{request, <<\"abc\">>}' --svg ", Name, ".svg"], Program),
     {_, _} = binary:match(Chart, <<"label {request,<<\"abc\">>}\n">>),
+    {_, _} = binary:match(Chart, <<"fits: 12 events of 2 processes are a run; nothing was left out\nlabel">>),
     {_, _} = binary:match(Chart, <<" call 1  start\n">>),
     {ok, <<"<?xml", _/binary>>} = file:read_file(Name ++ ".svg"),
     {1, Other} = command(["chart ", Name, " --label other"], Program),
@@ -66,7 +67,8 @@ asked(Name, Program) ->
     Unfit = Name ++ "_unfit",
     {0, _} = command(["convert ", capture("exclude_idiom_after_receive"), " -o ", Unfit]),
     {1, Why} = command(["audit ", Unfit], Program),
-    {_, _} = binary:match(Why, <<"(uncaused)">>).
+    {_, _} = binary:match(Why, <<"(uncaused)">>),
+    {_, _} = binary:match(Why, <<"seqtool is needed, and it isn't there">>).
 
 %% A program that knows no audit is said to be one.
 no_program_test_() ->
@@ -75,8 +77,28 @@ no_program_test_() ->
         {0, _} = command(["convert ", capture("ring10"), " -o ", Name]),
         ok = file:write_file(Name ++ ".sh", <<"#!/bin/sh\necho usage: seqaudit check\nexit 3\n">>),
         ok = file:change_mode(Name ++ ".sh", 8#755),
-        {3, Old} = command(["audit ", Name], Name ++ ".sh"),
-        {_, _} = binary:match(Old, <<"this seqaudit has no audit yet; build a later one">>)
+        {2, Old} = command(["audit ", Name], Name ++ ".sh"),
+        {_, _} = binary:match(Old, <<"usage: seqaudit check: ">>)
+    end}.
+
+%% A program that writes nothing, writes a part, is killed, or can't be run: a sentence and a status.
+failing_program_test_() ->
+    {timeout, 60, fun() ->
+        Name = seqaudit_audits:file("failing"),
+        {0, _} = command(["convert ", capture("ring10"), " -o ", Name]),
+        [begin
+             ok = file:write_file(Name ++ ".sh", Script),
+             ok = file:change_mode(Name ++ ".sh", 8#755),
+             {4, Said} = command(["audit ", Name], Name ++ ".sh"),
+             {_, _} = binary:match(Said, Sentence),
+             nomatch = binary:match(Said, [<<"{error">>, <<"badmatch">>])
+         end || {Script, Sentence} <- [{<<"#!/bin/sh\n">>, <<".sh wrote nothing; is it seqaudit?">>},
+                                       {<<"#!/bin/sh\nprintf 'seqtrace 1'\n">>, <<".sh wrote is cut">>},
+                                       {<<"#!/bin/sh\necho seqtrace\nkill -9 $$\n">>,
+                                        <<".sh (signal 9), perhaps because memory ran out">>},
+                                       {<<"#!/no/such/shell\n">>, <<".sh can't be run">>}]],
+        {4, Missing} = command(["audit ", Name], "/no/such/program"),
+        {_, _} = binary:match(Missing, <<"there is no /no/such/program, which the variable SEQAUDIT names">>)
     end}.
 
 %% The command traces another node, where nothing of it is installed.
@@ -123,11 +145,10 @@ command(Words) ->
 
 %% Its status and what it wrote, errors too; `Program' stands for seqaudit.
 command(Words, Program) ->
-    Command = filename:join(filename:dirname(filename:dirname(filename:absname(
-                                code:which(seqaudit_node)))), "seqaudit-node"),
+    Command = filename:join(seqaudit_audits:home(), "seqaudit-node"),
     Port = open_port({spawn_executable, "/bin/sh"},
                      [{args, ["-c", lists:flatten([Command, " ", Words, " 2>&1"])]},
-                      {env, [{"SEQAUDIT", Program}]}, binary, exit_status]),
+                      {env, [{"SEQAUDIT", Program}, {"SEQTOOL", "/no/such/seqtool"}]}, binary, exit_status]),
     output(Port, <<>>).
 
 output(Port, Output) ->

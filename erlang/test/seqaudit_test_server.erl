@@ -2,7 +2,8 @@
 -module(seqaudit_test_server).
 -behaviour(gen_server).
 
--export([start/1, start/2, init/1, handle_call/3, handle_cast/2]).
+-export([start/1, start/2, print/2, load/2, without_runtime_tools/0, begin_shop/0, order/1,
+         shop_token/0, with_token/1, init/1, handle_call/3, handle_cast/2]).
 
 start(Fun) ->
     {ok, Pid} = gen_server:start(?MODULE, Fun, []),
@@ -21,3 +22,65 @@ handle_call(Request, _From, Fun) ->
 handle_cast(Request, Fun) ->
     Fun(Request),
     {noreply, Fun}.
+
+%% Prints under a token, in this process.
+print(Label, What) ->
+    seqaudit_trace:with_trace(Label, fun() -> seq_trace:print(What), ok end).
+
+%% So many pairs write lists of 500 numbers to each other for so long, all under tokens; how many
+%% messages that was.
+load(Pairs, Milliseconds) ->
+    End = erlang:monotonic_time(millisecond) + Milliseconds,
+    Started = [spawn_monitor(fun() -> exit({sent, pair(Label, End)}) end)
+               || Label <- lists:seq(1, Pairs)],
+    lists:sum([receive {'DOWN', Monitor, process, _, {sent, Count}} -> Count end
+               || {_, Monitor} <- Started]).
+
+pair(Label, End) ->
+    Self = self(),
+    Numbers = lists:seq(1, 500),
+    Other = spawn_link(fun() -> echo(Self) end),
+    seq_trace:set_token(label, Label),
+    [seq_trace:set_token(Flag, true) || Flag <- [send, 'receive', print]],
+    Count = write(Other, Numbers, End, 0),
+    seq_trace:set_token([]),
+    unlink(Other),
+    exit(Other, kill),
+    Count.
+
+write(Other, Numbers, End, Count) ->
+    Other ! {Count, Numbers},
+    receive {back, {Count, _}} -> ok end,
+    case Count rem 100 =:= 0 andalso erlang:monotonic_time(millisecond) > End of
+        true -> 2 * Count;
+        false -> write(Other, Numbers, End, Count + 1)
+    end.
+
+echo(To) ->
+    receive Message -> To ! {back, Message}, echo(To) end.
+
+%% As if the node had no runtime_tools.
+without_runtime_tools() ->
+    _ = code:purge(dbg),
+    _ = code:delete(dbg),
+    true = code:del_path(runtime_tools),
+    ok.
+
+%% A server that is called by what somebody may trace.
+begin_shop() ->
+    _ = start(seqaudit_test_shop, fun(Order) -> Order end),
+    ok.
+
+order(Order) ->
+    gen_server:call(seqaudit_test_shop, Order).
+
+shop_token() ->
+    process_info(whereis(seqaudit_test_shop), sequential_trace_token).
+
+%% Calls the function under a token, whoever traces.
+with_token(Fun) ->
+    seq_trace:set_token(label, 1),
+    [seq_trace:set_token(Flag, true) || Flag <- [send, 'receive', print]],
+    _ = Fun(7),
+    seq_trace:set_token([]),
+    true.

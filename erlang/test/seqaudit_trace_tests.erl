@@ -6,7 +6,7 @@
          full_collector_test/0, former_tracer_is_put_back_test/0,
          former_tracer_is_gone_test/0, second_tracer_stays_test/0,
          owner_ends_test/0, collector_stays_out_test/0, token_is_taken_off_test/0,
-         nothing_is_lost_test_/0, start_refuses_test/0, unfit_is_unfit_test/0]).
+         nothing_is_lost_test_/0, reset_between_clients_test/0, start_refuses_test/0, unfit_is_unfit_test/0]).
 
 -define(FLAGS, [send, 'receive', print]).
 
@@ -214,6 +214,30 @@ start_refuses_test() ->
                                nodes => [node(), 'nobody@localhost']}),
     false = seq_trace:get_system_tracer(),
     ok.
+
+%% After a reset a server stamps its reply to the second client as that to the first; each reply goes
+%% to whoever received it.
+reset_between_clients_test() ->
+    Server = seqaudit_test_server:start(fun(X) -> X end),
+    Clients = [{Label, spawn(fun() ->
+                    receive {go, From} -> ok end,
+                    From ! {seqaudit_trace:with_trace(Label, fun() -> gen_server:call(Server, same) end), Label},
+                    receive stop -> ok end
+                end)} || Label <- [1, 2]],
+    {8, _} = traced("reset_between", #{}, fun() ->
+        [begin
+             Client ! {go, self()},
+             receive {same, Label} -> ok end,
+             seq_trace:reset_trace()
+         end || {Label, Client} <- Clients]
+    end),
+    {ok, Bundle} = file:read_file(seqaudit_audits:file("reset_between.seqtrace")),
+    [begin
+         Reply = ["\\{seq_trace,", integer_to_list(Label), ",\\{send,\\{1,2\\},", pid_to_list(Server), $,,
+                  pid_to_list(Client), $,],
+         {match, [_]} = re:run(Bundle, Reply, [global]),
+         exit(Client, kill)
+     end || {Label, Client} <- Clients].
 
 %% A token that is put back after a receive moves the clock of a standard node.
 unfit_is_unfit_test() ->

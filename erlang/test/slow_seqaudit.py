@@ -78,12 +78,13 @@ def read(text):
 
 
 def write(streams, acts):
-    """The text of a bundle, line by line."""
+    """The text of a bundle, with acts or without (None), line by line."""
     yield f"seqtrace {2 if any(node for node, _ in streams) else 1}"
     for pid, events in streams.items():
         yield f"process {show(pid)}"
         yield from map(str, events)
-    yield from write_acts(acts)
+    if acts is not None:
+        yield from write_acts(acts)
 
 
 def write_acts(acts):

@@ -1,0 +1,279 @@
+%% @doc The commands `audit', `chart' and `why' on a trace that was converted.
+-module(seqaudit_answer).
+
+-export([audit/1, chart/1, why/1]).
+
+%% Exit statuses, as those of `seqaudit'.
+-define(FITS, 0).
+-define(UNFIT, 1).
+-define(INPUT, 2).
+-define(USAGE, 3).
+-define(SYSTEM, 4).
+
+-type options() :: #{string() => [string()]}.
+%% The words after each option, the last one first; the words without one stand under "".
+
+-type status() :: ?FITS..?INPUT | ?SYSTEM.
+-type result() :: status() | {status() | ?USAGE, Complaint :: unicode:chardata()} | {usage, string()}.
+
+%% What `audit', `chart' and `why' have of a trace, once it is cut as was asked.
+with_trace(Name, Wish, Do) ->
+    with_legend(Name, fun(Legend) ->
+        Times = times(Name),
+        case seqaudit_bundle:read(Name ++ ".seqtrace") of
+            {ok, Streams} ->
+                Trace = #{name => Name, legend => Legend, times => Times, notes => notes(Name),
+                          whole => Streams},
+                with_cut(Trace, Wish, Do);
+            {error, {file, _, _} = Reason} ->
+                {?SYSTEM, seqaudit_bundle:format_error(Reason)};
+            {error, Reason} ->
+                {?INPUT, seqaudit_bundle:format_error(Reason)}
+        end
+    end).
+
+with_cut(#{whole := Streams, legend := Legend, times := Times} = Trace, Wish, Do) ->
+    case seqaudit_cut:cut(Streams, Wish, Legend, Times) of
+        {ok, Cut, Note} -> Do(Trace#{streams => Cut, cut => Note});
+        {error, Reason} -> {?UNFIT, seqaudit_cut:format_error(Reason)}
+    end.
+
+with_legend(Name, Do) ->
+    case seqaudit_legend:read(Name ++ ".terms") of
+        {ok, Legend} -> Do(Legend);
+        {error, {file, _, _} = Reason} -> {?SYSTEM, seqaudit_legend:format_error(Reason)};
+        {error, Reason} -> {?INPUT, seqaudit_legend:format_error(Reason)}
+    end.
+
+notes(Name) ->
+    case file:read_file(Name ++ ".notes") of
+        {ok, Text} -> binary:split(Text, <<"\n">>, [global, trim]);
+        {error, _} -> []
+    end.
+
+%% Nanoseconds since the first event, of each event that has a time.
+times(Name) ->
+    case seqaudit_times:read(Name ++ ".times") of
+        {ok, #{events := Times}} -> Times;
+        {error, _} -> #{}
+    end.
+
+%% What the options cut the trace to.
+wish(Options, Cuts) ->
+    maps:from_list([{Cut, Words} || {Option, Cut, Which} <- [{"--label", labels, all},
+                                                             {"--process", processes, all},
+                                                             {"--from", from, last},
+                                                             {"--to", to, last}],
+                                    lists:member(Cut, Cuts), #{Option := Given} <- [Options],
+                                    Words <- case Which of
+                                                 all -> [lists:reverse(Given)];
+                                                 last -> [hd(Given)]
+                                             end]).
+
+%% The outcome of the audit, and of each part between resets if there are any.
+with_outcome(#{streams := Streams} = Trace, Do) ->
+    case seqaudit_outcome:ask(Streams) of
+        {ok, #{said := never, finding := {Reason, _}} = Outcome} when Reason =/= <<"prevnotbefore">> ->
+            case seqaudit_parts:split(Streams) of
+                [_] -> Do(Trace#{outcome => Outcome, parts => []});
+                Parts -> with_parts(Parts, [], Trace#{outcome => Outcome}, Do)
+            end;
+        {ok, Outcome} ->
+            Do(Trace#{outcome => Outcome, parts => []});
+        {error, Reason} ->
+            {?SYSTEM, seqaudit_program:format_error(Reason)}
+    end.
+
+with_parts([], Outcomes, Trace, Do) ->
+    Do(Trace#{parts => lists:reverse(Outcomes)});
+with_parts([Part | Parts], Outcomes, Trace, Do) ->
+    case seqaudit_outcome:ask(Part) of
+        {ok, Outcome} -> with_parts(Parts, [{Part, Outcome} | Outcomes], Trace, Do);
+        {error, Reason} -> {?SYSTEM, seqaudit_program:format_error(Reason)}
+    end.
+
+%% @doc Says whether a run has the trace and what it lacks, and keeps what shows it.
+-spec audit(options()) -> result().
+audit(#{"" := [Name]} = Options) ->
+    with_trace(Name, wish(Options, [labels, processes, from, to]), fun(Trace) ->
+        with_outcome(Trace, fun(Audited) -> audit(Audited, Options) end)
+    end);
+audit(_) ->
+    {usage, "audit needs the NAME of a bundle"}.
+
+audit(#{name := Name, legend := Legend, notes := Notes, cut := Cut, outcome := Outcome,
+        parts := Parts}, Options) ->
+    #{said := Said, answer := Answer} = Outcome,
+    io:put_chars([Cut, seqaudit_explain:outcome(Outcome, Notes, Legend),
+                  audited_parts(Parts, Options, Legend),
+                  case Options of
+                      #{"--whole" := _} -> seqaudit_explain:whole(Outcome, Legend);
+                      #{} -> ""
+                  end]),
+    Kept = [{Name ++ ".answer", Answer}
+            | [{Name ++ ".part" ++ integer_to_list(Which) ++ ".answer", PartAnswer}
+               || {Which, {_, #{answer := PartAnswer}}} <- lists:enumerate(Parts)]],
+    lists:max([keep(File, Text, status(Said, Answer)) || {File, Text} <- Kept]).
+
+status(Said, _Answer) when Said =:= fits; Said =:= completed -> ?FITS;
+status(fault, <<"fault memory", _/binary>>) -> ?SYSTEM;
+status(fault, <<"fault device", _/binary>>) -> ?SYSTEM;
+status(fault, _Answer) -> ?INPUT;
+status(_, _Answer) -> ?UNFIT.
+
+audited_parts([], _Options, _Legend) ->
+    "";
+audited_parts(Parts, #{"--parts" := _}, Legend) ->
+    [seqaudit_explain:reset_places([Part || {Part, _} <- Parts], Legend),
+     [[part_title(Which, Parts), ": ", seqaudit_explain:outcome(Outcome, [], Legend)]
+      || {Which, {_, Outcome}} <- lists:enumerate(Parts)]];
+audited_parts(Parts, _Options, Legend) ->
+    {Streams, Outcomes} = lists:unzip(Parts),
+    seqaudit_explain:parts(Outcomes, Streams, Legend).
+
+part_title(Which, Parts) ->
+    io_lib:format("part ~b of ~b", [Which, length(Parts)]).
+
+%% @doc Prints the chart of a label, and draws it or the page.
+-spec chart(options()) -> result().
+chart(#{"" := [Name], "--label" := [Label | _]} = Options) ->
+    with_trace(Name, wish(Options, [processes, from, to]), fun(#{legend := Legend} = Trace) ->
+        case seqaudit_legend:find_label(Label, Legend) of
+            {ok, Number} -> chart_label(Number, Label, Trace, Options);
+            {error, Reason} -> {?UNFIT, seqaudit_legend:format_error(Reason)}
+        end
+    end);
+chart(#{"" := [Name], "--html" := _} = Options) ->
+    with_trace(Name, wish(Options, [processes, from, to]), fun(Trace) ->
+        with_outcome(Trace, fun(Audited) ->
+            io:put_chars(charted(Audited)),
+            page(Audited, Options, <<"">>, ?FITS)
+        end)
+    end);
+chart(_) ->
+    {usage, "chart needs the NAME of a bundle and --label, or --html"}.
+
+%% A trace that the programs don't take as a whole may be taken when it is cut to the label.
+chart_label(Number, Label, #{streams := Streams, legend := Legend, times := Times} = Trace, Options) ->
+    with_outcome(Trace, fun
+        (#{outcome := #{said := fault}}) ->
+            {ok, Cut, Note} = seqaudit_cut:cut(Streams, #{labels => [Label]}, Legend, Times),
+            with_outcome(Trace#{streams := Cut, cut := Note}, fun(Audited) ->
+                charts(Number, Audited, Options)
+            end);
+        (Audited) ->
+            charts(Number, Audited, Options)
+    end).
+
+charts(Number, #{parts := Parts, outcome := #{streams := Streams}} = Audited, Options) ->
+    io:put_chars(charted(Audited)),
+    Drawn = case Parts of
+                [] -> [{"", Streams, ""}];
+                _ -> [{integer_to_list(Which), maps:get(streams, Outcome), part_title(Which, Parts)}
+                      || {Which, {_, Outcome}} <- lists:enumerate(Parts)]
+            end,
+    Statuses = [chart_streams(Number, Which, Part, Title, Audited, Options)
+                || {Which, Part, Title} <- Drawn],
+    %% A complaint comes before a status, and a part that is drawn before one that has no such label.
+    Status = case [Complaint || {_, _} = Complaint <- Statuses] of
+                 [Complaint | _] -> Complaint;
+                 [] -> lists:min(Statuses)
+             end,
+    page(Audited, Options, Number, Status).
+
+%% What stands above a chart.
+charted(#{cut := Cut, outcome := Outcome, notes := Notes, parts := Parts, legend := Legend}) ->
+    [Cut, seqaudit_explain:headline(Outcome, Legend), seqaudit_explain:losses(Notes),
+     [seqaudit_explain:reset_places([Part || {Part, _} <- Parts], Legend) || Parts =/= []]].
+
+chart_streams(Number, Which, Streams, Title, #{legend := Legend} = Audited, Options) ->
+    Text = seqaudit_bundle:text(Streams),
+    Asked = seqaudit_program:with_text(Text, fun(File) ->
+                seqaudit_program:ask(["chart", "--label", binary_to_list(Number)], File)
+            end),
+    case Asked of
+        {ok, {?FITS, Answer}} ->
+            {ok, Read} = seqaudit_chart:read(Answer),
+            Chart = seqaudit_chart:identify(Read, seqaudit_causes:rows(Streams)),
+            io:put_chars([[Title, $\n] || Title =/= ""]),
+            io:put_chars(seqaudit_chart:text(Chart, Legend)),
+            draw(Chart, Which, Audited, maps:get("--svg", Options, []));
+        {ok, {?UNFIT, <<"no label", _/binary>>}} ->
+            io:put_chars([[Title, ": "] || Title =/= ""]),
+            io:put_chars(["nothing has the label ", seqaudit_legend:label(Number, Legend), $\n]),
+            ?UNFIT;
+        {ok, {Status, _}} when Status =:= ?UNFIT; Status =:= ?INPUT ->
+            Status;
+        {ok, {?USAGE, _}} ->
+            {?USAGE, "this seqaudit has no chart yet; build a later one"};
+        {ok, {Status, Fault}} ->
+            {Status, Fault};
+        {error, Reason} ->
+            {?SYSTEM, seqaudit_program:format_error(Reason)}
+    end.
+
+draw(Chart, Which, #{legend := Legend} = Audited, [File | _]) ->
+    Heading = unicode:characters_to_list(seqaudit_explain:headline(maps:get(outcome, Audited), Legend)),
+    case seqaudit_draw:svg(Chart, string:trim(Heading), Legend) of
+        {ok, Drawing} ->
+            keep(part_file(File, Which), unicode:characters_to_binary(Drawing), ?FITS);
+        {error, Reason} ->
+            {?INPUT, seqaudit_draw:format_error(Reason)}
+    end;
+draw(_Chart, _Which, _Audited, []) ->
+    ?FITS.
+
+part_file(File, "") -> File;
+part_file(File, Which) ->
+    filename:rootname(File) ++ "-" ++ Which ++ filename:extension(File).
+
+page(_Audited, Options, _Label, Status) when not is_map_key("--html", Options) ->
+    Status;
+page(Audited, #{"--html" := [File | _]}, Label, Status) ->
+    case seqaudit_page:html(Audited, Label) of
+        {ok, Page} -> keep(File, Page, Status);
+        {error, Reason} -> {?SYSTEM, seqaudit_page:format_error(Reason)}
+    end.
+
+%% @doc Tells the chain from an event back to its beginning, or what came of it.
+-spec why(options()) -> result().
+why(#{"" := [Name], "--event" := [Event | _]} = Options) ->
+    with_trace(Name, wish(Options, [labels, processes, from, to]), fun(#{legend := Legend} = Trace) ->
+        with_outcome(Trace, fun(#{cut := Cut, outcome := Outcome} = Audited) ->
+            io:put_chars([Cut, doubt(Outcome, Legend)]),
+            why(Event, shown(Audited), Options, Legend)
+        end)
+    end);
+why(_) ->
+    {usage, "why needs the NAME of a bundle and --event"}.
+
+why(Event, Shown, Options, Legend) ->
+    Found = [{Place, Streams} || Streams <- Shown,
+                                 {ok, Place} <- [seqaudit_bundle:find(Event, Streams, Legend)]],
+    case Found of
+        [{Place, Streams} | _] ->
+            Rows = seqaudit_causes:rows(Streams),
+            Tell = case Options of
+                       #{"--effects" := _} -> fun seqaudit_why:effects/3;
+                       #{} -> fun seqaudit_why:chain/3
+                   end,
+            io:put_chars(Tell(Place, Rows, Legend)),
+            ?FITS;
+        [] ->
+            {error, Reason} = seqaudit_bundle:find(Event, lists:append(Shown), Legend),
+            {?UNFIT, seqaudit_bundle:format_error(Reason)}
+    end.
+
+%% The streams that are shown: the whole, or each part between resets.
+shown(#{parts := [], outcome := #{streams := Streams}}) -> [Streams];
+shown(#{parts := Parts}) -> [Streams || {_, #{streams := Streams}} <- Parts].
+
+%% Causes of a trace that doesn't fit are told with the doubt first.
+doubt(#{said := Said}, _Legend) when Said =:= fits; Said =:= completed -> "";
+doubt(Outcome, Legend) -> seqaudit_explain:headline(Outcome, Legend).
+
+keep(File, Text, Status) ->
+    case file:write_file(File, Text) of
+        ok -> Status;
+        {error, Reason} -> {?SYSTEM, seqaudit_convert:format_error({file, File, Reason})}
+    end.

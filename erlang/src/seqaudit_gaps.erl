@@ -1,0 +1,73 @@
+%% @doc What streams leave out, as far as counts tell.
+-module(seqaudit_gaps).
+
+-export([find/1]).
+-export_type([gaps/0]).
+
+-type counted() :: [{seqaudit_bundle:pid_text(), pos_integer()}].
+
+-type gaps() :: #{hidden := [seqaudit_causes:row()], unreceived := [seqaudit_causes:row()],
+                  before := counted(), spawns := counted(), silent := counted(),
+                  jumps := counted()}.
+%% <dl>
+%% <dt>`hidden'</dt><dd>the sends that only their receives tell of</dd>
+%% <dt>`unreceived'</dt><dd>the first event that follows each message whose receive wasn't reported</dd>
+%% <dt>`before'</dt><dd>where the counter of a process stood before its first stamp, if not at 0</dd>
+%% <dt>`spawns'</dt><dd>how often OTP moved a counter on as it answered a spawn</dd>
+%% <dt>`silent'</dt><dd>how many stamps came between a process's events and were not reported</dd>
+%% <dt>`jumps'</dt><dd>how often a counter stood higher than anything reported tells</dd>
+%% </dl>
+
+%% @doc What they leave out; unreported events that stand in the streams count as theirs.
+-spec find(seqaudit_bundle:streams()) -> gaps().
+find(Streams) ->
+    Rows = seqaudit_causes:rows(Streams),
+    Index = seqaudit_causes:index(Rows),
+    Counted = [{Pid, counters(Pid, Events, Index)} || {Pid, Events} <- Streams],
+    #{hidden => [Row || #{hidden := true} = Row <- Rows],
+      unreceived => firsts([Row || #{cause := {unreported, _}} = Row <- Rows]),
+      before => counted(before, Counted), spawns => counted(spawns, Counted),
+      silent => counted(silent, Counted),
+      jumps => counted(jumps, Counted)}.
+
+firsts(Rows) ->
+    {Firsts, _} = lists:foldl(fun(#{cause := Cause} = Row, {Found, Seen}) ->
+                                      case Seen of
+                                          #{Cause := _} -> {Found, Seen};
+                                          #{} -> {[Row | Found], Seen#{Cause => seen}}
+                                      end
+                              end, {[], #{}}, Rows),
+    lists:reverse(Firsts).
+
+counted(What, Counted) ->
+    [{Pid, Count} || {Pid, #{What := Count}} <- Counted, Count > 0].
+
+%% `answers' are the counts received since the last stamp, of which one may be a spawn's answer.
+counters(Pid, Events, Index) ->
+    lists:foldl(fun(#{at := At} = Event, Known) ->
+                        #{cause := Cause} = maps:get({Pid, At}, Index),
+                        counter(Event, Cause, Known)
+                end, #{clock => 0, stamped => false, answers => [],
+                       before => 0, spawns => 0, silent => 0, jumps => 0}, Events).
+
+counter(#{kind := 'receive', this := This}, _Cause, #{clock := Clock, answers := Answers} = Known) ->
+    Known#{clock := max(Clock, This), answers := [This | Answers]};
+counter(#{prev := Prev, this := This}, Cause, #{clock := Reported, answers := Answers} = Known) ->
+    Clock = case Cause of
+                {unreported, _} -> max(Reported, Prev);
+                _ -> Reported
+            end,
+    Spawned = lists:any(fun(Count) -> 16 * Count + 15 =:= This - 1 end, Answers),
+    Counted = gap(This - 1, Clock, Prev, Spawned, Known),
+    Counted#{clock := max(Clock, This), stamped := true, answers := []}.
+
+gap(Stood, Clock, _Prev, _Spawned, Known) when Stood =< Clock ->
+    Known;
+gap(_Stood, _Clock, _Prev, true, #{spawns := Spawns} = Known) ->
+    Known#{spawns := Spawns + 1};
+gap(Stood, _Clock, _Prev, false, #{stamped := false} = Known) ->
+    Known#{before := Stood};
+gap(Stood, Clock, Prev, false, #{silent := Silent, jumps := Jumps} = Known) when Prev > Clock ->
+    Known#{silent := Silent + Stood - Prev, jumps := Jumps + 1};
+gap(Stood, Clock, _Prev, false, #{silent := Silent} = Known) ->
+    Known#{silent := Silent + Stood - Clock}.

@@ -1,0 +1,139 @@
+%% @doc Whether a run has some streams, as the two programs say.
+%%
+%% The counters of a node go on from trace to trace, so the counts are first replaced by their ranks
+%% (`seqtool renumber'): that changes no answer, and no count is too high any more. What `seqaudit
+%% audit' doesn't explain, `seqtool complete' completes, or says that no run without a reset has it.
+-module(seqaudit_outcome).
+
+-export([ask/1]).
+-export_type([outcome/0, finding/0]).
+
+-type finding() :: {Reason :: binary(), [{seqaudit_bundle:place(), seqaudit_bundle:event()}]}.
+%% A reason's word, and the events that it is about.
+
+-type outcome() ::
+        #{said := fits | completed | never | open | unexplained | fault,
+          streams := seqaudit_bundle:streams(),
+          renumbered := boolean(),
+          tool := there | not_there | {failed, Fault :: binary()},
+          answer := binary(),
+          finding => finding(),
+          fault => binary()}.
+%% What is said:
+%% <dl>
+%% <dt>`fits'</dt><dd>a run has the streams, and `answer' is the bundle that shows it</dd>
+%% <dt>`completed'</dt><dd>a run has them, with unreported events, which stand in `streams'; `answer'
+%% is the bundle that shows it, or the list of the events if it has too many acts for one</dd>
+%% <dt>`never'</dt><dd>no run without a reset has them; `finding' says why</dd>
+%% <dt>`open'</dt><dd>it isn't known; `finding' is an event that no choice was found for</dd>
+%% <dt>`unexplained'</dt><dd>`seqaudit' found no run, and there is no `seqtool' to ask</dd>
+%% <dt>`fault'</dt><dd>a program didn't take the bundle</dd>
+%% </dl>
+%% `answer' is otherwise what the program said. `renumbered' says whether counts were replaced, and `tool' whether `seqtool' was
+%% there and did what it was asked.
+
+-define(FITS, 0).
+-define(UNFIT, 1).
+%% Reasons after which no run without a reset is left.
+-define(FINAL, [<<"prevnotbefore">>, <<"notrising">>, <<"repeated">>, <<"mismatch">>]).
+
+%% @doc Asks the programs.
+-spec ask(seqaudit_bundle:streams()) -> {ok, outcome()} | {error, term()}.
+ask(Streams) ->
+    Text = iolist_to_binary(seqaudit_bundle:text(Streams)),
+    seqaudit_program:with_text(Text, fun(File) -> ask(Streams, Text, File) end).
+
+ask(Streams, Text, File) ->
+    Outcome = #{streams => Streams, renumbered => false, tool => not_there, answer => <<>>},
+    case seqaudit_program:ask("seqtool", ["renumber"], File) of
+        {ok, {?FITS, Text}} ->
+            audit(File, File, Outcome#{tool := there});
+        {ok, {?FITS, Ranks}} ->
+            seqaudit_program:with_text(Ranks, fun(RanksFile) ->
+                audit(RanksFile, File, Outcome#{tool := there, renumbered := true})
+            end);
+        {ok, {_, Fault}} ->
+            %% What it doesn't read, seqaudit doesn't either, and says so.
+            audit(File, File, Outcome#{tool := {failed, line(Fault)}});
+        {error, {Lacks, _, _}} when Lacks =:= no_program; Lacks =:= missing ->
+            audit(File, File, Outcome);
+        {error, Reason} ->
+            {error, Reason}
+    end.
+
+fault(Answer, Outcome) ->
+    Outcome#{said => fault, fault => line(Answer), answer => Answer}.
+
+line(Answer) ->
+    hd(binary:split(Answer, <<"\n">>)).
+
+%% `Ranks' has the renumbered streams.
+audit(Ranks, File, Outcome) ->
+    case {seqaudit_program:ask("seqaudit", ["audit"], Ranks), Outcome} of
+        {{ok, {?FITS, Answer}}, _} ->
+            {ok, Outcome#{said => fits, answer := Answer}};
+        {{ok, {?UNFIT, Report}}, #{tool := there}} ->
+            complete(Ranks, File, Report, Outcome);
+        {{ok, {?UNFIT, Report}}, _} ->
+            {ok, unfit(Report, Outcome)};
+        {{ok, {_, Fault}}, _} ->
+            {ok, fault(Fault, Outcome)};
+        {{error, Reason}, _} ->
+            {error, Reason}
+    end.
+
+%% What seqaudit says alone.
+unfit(Report, #{streams := Streams} = Outcome) ->
+    {Reason, _} = Finding = finding(Report, Streams),
+    Said = case lists:member(Reason, ?FINAL) of
+               true -> never;
+               false -> unexplained
+           end,
+    Outcome#{said => Said, finding => Finding, answer := Report}.
+
+%% The streams are completed with the node's own counts, so that what is added has them too; the
+%% acts are those of the renumbered streams, which need no more of them than there are events.
+complete(Ranks, File, Unfit, #{streams := Streams} = Outcome) ->
+    case seqaudit_program:ask("seqtool", ["complete", "--as", "added"], File) of
+        {ok, {?FITS, AddedText}} ->
+            {ok, {?FITS, AllText}} =
+                seqaudit_program:ask("seqtool", ["complete", "--as", "streams"], File),
+            {ok, All} = seqaudit_bundle:parse(AllText),
+            Completed = seqaudit_bundle:complete(Streams, {All, added(AddedText)}),
+            {ok, Acts} = seqaudit_program:ask("seqtool", ["complete", "--as", "acts"], Ranks),
+            Answer = case Acts of
+                         {?FITS, Shown} -> Shown;
+                         _ -> AddedText
+                     end,
+            {ok, Outcome#{said => completed, streams := Completed, answer := Answer}};
+        {ok, {?UNFIT, <<"never ", _/binary>> = Report}} ->
+            {ok, Outcome#{said => never, finding => finding(Report, Streams), answer := Report}};
+        {ok, {?UNFIT, <<"open ", _/binary>> = Report}} ->
+            {ok, Outcome#{said => open, finding => finding(Report, Streams), answer := Report}};
+        {error, Reason} ->
+            {error, Reason};
+        {ok, {_, Fault}} ->
+            {ok, unfit(Unfit, Outcome#{tool := {failed, line(Fault)}})}
+    end.
+
+added(Text) ->
+    [begin
+         [<<"added">>, Pid, Position | _] = binary:split(Line, <<" ">>, [global]),
+         {Pid, binary_to_integer(Position)}
+     end || <<"added <", _/binary>> = Line <- binary:split(Text, <<"\n">>, [global, trim])].
+
+%% The reason, and the events that the report lists, under their numbers in the whole trace and with
+%% the node's own counts.
+finding(Report, Streams) ->
+    [First | Lines] = binary:split(Report, <<"\n">>, [global, trim]),
+    Reason = case binary:split(First, <<" ">>, [global]) of
+                 [_, _, _, Word | _] -> Word;
+                 _ -> <<"open">>
+             end,
+    {Reason, [found(Line, Streams) || <<"event ", _/binary>> = Line <- Lines]}.
+
+found(Line, Streams) ->
+    [<<"event">>, Pid, Position | _] = binary:split(Line, <<" ">>, [global]),
+    {Pid, Events} = lists:keyfind(Pid, 1, Streams),
+    #{at := At} = Event = lists:nth(binary_to_integer(Position) + 1, Events),
+    {{Pid, At}, Event}.

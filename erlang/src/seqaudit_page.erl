@@ -1,0 +1,223 @@
+%% @doc Draws a trace as one page to look at, of all labels, however many rows it has.
+%%
+%% The page needs no network and takes none: its policy allows its own script and style and nothing
+%% else. What came from the trace stands in it as data, in which no character can end the element
+%% that it is in, and the script puts it into the page as text. The sources are in `priv'.
+-module(seqaudit_page).
+
+-export([html/2, format_error/1]).
+
+-define(NONCE_BYTES, 18).
+
+%% @doc The text of the page. `Label' is the number of the one that is shown at first, `<<>>' for all
+%% of them.
+-spec html(map(), binary()) -> {ok, iodata()} | {error, term()}.
+html(Audited, Label) ->
+    case sources(["page.html", "page.css", "page.js"], []) of
+        {ok, [Frame, Style, Script]} ->
+            case nonce() of
+                {ok, Nonce} ->
+                    #{name := Name} = Audited,
+                    Title = escape(filename:basename(Name)),
+                    {ok, fill(Frame, #{<<"NONCE">> => Nonce, <<"STYLE">> => Style,
+                                       <<"SCRIPT">> => Script, <<"TITLE">> => Title,
+                                       <<"DATA">> => data(Audited, Label)})};
+                {error, Reason} ->
+                    {error, Reason}
+            end;
+        {error, Reason} ->
+            {error, Reason}
+    end.
+
+sources([], Texts) ->
+    {ok, lists:reverse(Texts)};
+sources([Source | Sources], Texts) ->
+    Home = filename:dirname(filename:dirname(filename:absname(code:which(?MODULE)))),
+    File = filename:join([Home, "priv", Source]),
+    case file:read_file(File) of
+        {ok, Text} -> sources(Sources, [Text | Texts]);
+        {error, Reason} -> {error, {file, File, Reason}}
+    end.
+
+%% The policy lets a script run that has this word, which nobody knew when the messages were sent.
+nonce() ->
+    File = "/dev/urandom",
+    case file:open(File, [read, raw, binary]) of
+        {ok, Device} ->
+            {ok, Random} = file:read(Device, ?NONCE_BYTES),
+            ok = file:close(Device),
+            {ok, base64:encode(Random)};
+        {error, Reason} ->
+            {error, {file, File, Reason}}
+    end.
+
+%% The frame with a text for each word between two at signs. Nothing is put into what was put in.
+fill(Frame, Texts) ->
+    [case Texts of
+         #{Part := Text} -> Text;
+         #{} -> Part
+     end || Part <- binary:split(Frame, <<"@">>, [global])].
+
+escape(Text) ->
+    [case C of
+         $& -> "&amp;";
+         $< -> "&lt;";
+         $> -> "&gt;";
+         $" -> "&quot;";
+         _ when C < 128 -> C;
+         _ -> io_lib:format("&#~b;", [C])
+     end || C <- unicode:characters_to_list(Text)].
+
+%% @doc A reason of this module in words, with what to do about it.
+-spec format_error({file, file:filename(), term()}) -> string().
+format_error({file, File, Reason}) ->
+    lists:flatten(io_lib:format("~ts: ~ts; a page is made of what stands there",
+                                [File, file:format_error(Reason)])).
+
+data(#{name := Name, legend := Legend, notes := Notes, cut := Cut, outcome := Outcome,
+       parts := Parts, times := Times}, Label) ->
+    Shown = case Parts of
+                [] -> [maps:get(streams, Outcome)];
+                _ -> [Streams || {_, #{streams := Streams}} <- Parts]
+            end,
+    PartRows = [seqaudit_causes:rows(Streams) || Streams <- Shown],
+    Resets = lists:droplast(sums([length(Rows) || Rows <- PartRows], 0)),
+    Rows = lists:append([[{Part, Row} || Row <- Rows] || {Part, Rows} <- lists:enumerate(PartRows)]),
+    Pids = lanes(hd(Shown), Rows),
+    Labels = distinct([Number || {_, #{event := #{label := Number}}} <- Rows]),
+    Values = distinct([Value || {_, #{event := #{value := Value}, invented := false}} <- Rows]),
+    Said = maps:get(said, Outcome),
+    object([{"title", text(filename:basename(Name))},
+            {"headline", text(string:trim(unicode:characters_to_list(
+                                            seqaudit_explain:headline(Outcome, Legend))))},
+            {"fits", atom_to_binary(Said =:= fits orelse Said =:= completed)},
+            {"notes", array([text(Line) || Line <- lines([Cut, seqaudit_explain:losses(Notes),
+                                                          resets(Parts, Legend)])])},
+            {"only", only(Label, Labels)},
+            {"resets", array([integer_to_binary(Row) || Row <- Resets])},
+            {"lanes", array([lane(Pid, Legend) || Pid <- Pids])},
+            {"labels", array([text(seqaudit_legend:label(Number, Legend)) || Number <- Labels])},
+            {"terms", array([term(Value, Legend) || Value <- Values])},
+            {"rows", columns(Rows, numbers(Pids), numbers(Labels), numbers(Values), Times)}]).
+
+%% The number of the first row of each part after the first; the last one is the number of all rows.
+sums([], _Sum) -> [];
+sums([Count | Counts], Sum) -> [Sum + Count | sums(Counts, Sum + Count)].
+
+lanes(Streams, Rows) ->
+    Named = maps:from_keys(lists:append([[From, To] || {_, #{event := #{from := From, to := To}}} <- Rows]),
+                           named),
+    [Pid || {Pid, _} <- Streams, is_map_key(Pid, Named)].
+
+resets([], _Legend) -> "";
+resets(Parts, Legend) -> seqaudit_explain:reset_places([Streams || {Streams, _} <- Parts], Legend).
+
+lines(Text) ->
+    string:lexemes(unicode:characters_to_list(Text), "\n").
+
+only(Label, Labels) ->
+    case numbers(Labels) of
+        #{Label := Number} -> integer_to_binary(Number);
+        #{} -> <<"null">>
+    end.
+
+distinct(Things) ->
+    {Distinct, _} = lists:foldl(fun(Thing, {Done, Seen}) when is_map_key(Thing, Seen) -> {Done, Seen};
+                                   (Thing, {Done, Seen}) -> {[Thing | Done], Seen#{Thing => seen}}
+                                end, {[], #{}}, Things),
+    lists:reverse(Distinct).
+
+numbers(Things) ->
+    maps:from_list(lists:zip(Things, lists:seq(0, length(Things) - 1))).
+
+lane(Pid, Legend) ->
+    object([{"name", text(seqaudit_legend:process(Pid, Legend))}, {"pid", text(Pid)},
+            {"about", text(seqaudit_legend:about(Pid, Legend))}]).
+
+%% What is shown beside a mark, and the whole term if that is another.
+term(Value, Legend) ->
+    case {seqaudit_legend:brief(Value, Legend), seqaudit_legend:value(Value, Legend)} of
+        {Whole, Whole} -> array([text(Whole)]);
+        {Brief, Whole} -> array([text(Brief), text(Whole)])
+    end.
+
+%% The rows, a list for each thing that is known of them.
+columns(Rows, Lanes, Labels, Values, Times) ->
+    Places = maps:from_list([{{Part, Id}, Number}
+                             || {Number, {Part, #{id := Id}}} <- lists:zip(lists:seq(0, length(Rows) - 1), Rows)]),
+    Column = fun(Value) -> array([Value(Row) || Row <- Rows]) end,
+    object([{"lane", Column(fun({_, #{actor := Actor}}) -> integer_to_binary(maps:get(Actor, Lanes)) end)},
+            {"other", Column(fun({_, Row}) -> integer_to_binary(other(Row, Lanes)) end)},
+            {"kind", [$", [kind(Row) || {_, Row} <- Rows], $"]},
+            {"plain", [$", [plain(Row) || {_, Row} <- Rows], $"]},
+            {"how", [$", [how(Row) || {_, Row} <- Rows], $"]},
+            {"label", Column(fun({_, #{event := #{label := Label}}}) ->
+                                     integer_to_binary(maps:get(Label, Labels))
+                             end)},
+            {"term", Column(fun({_, Row}) -> integer_to_binary(value(Row, Values)) end)},
+            {"serial", Column(fun({_, #{event := #{prev := Prev, this := This}}}) ->
+                                      [$", integer_to_binary(Prev), $,, integer_to_binary(This), $"]
+                              end)},
+            {"at", Column(fun({_, Row}) -> at(Row) end)},
+            {"cause", Column(fun({Part, Row}) -> integer_to_binary(cause(Part, Row, Places)) end)},
+            {"time", case map_size(Times) of
+                         0 -> <<"null">>;
+                         _ -> Column(fun({_, #{id := Id}}) -> time(Id, Times) end)
+                     end}]).
+
+other(#{event := #{to := none}}, _Lanes) -> -1;
+other(#{actor := Actor, event := #{from := From, to := Actor}}, Lanes) -> maps:get(From, Lanes);
+other(#{event := #{to := To}}, Lanes) -> maps:get(To, Lanes).
+
+kind(#{hidden := true}) -> $h;
+kind(#{event := #{kind := send}}) -> $s;
+kind(#{event := #{kind := 'receive'}}) -> $r;
+kind(#{event := #{kind := print}}) -> $p.
+
+plain(#{hidden := false, id := {_, At}}) when is_integer(At) -> $1;
+plain(_) -> $0.
+
+how(#{cause := {sent, _}}) -> $s;
+how(#{cause := {received, _}}) -> $r;
+how(#{cause := {spawned, _}}) -> $w;
+how(#{cause := {unreported, _}}) -> $u;
+how(#{cause := start}) -> $b;
+how(#{cause := open}) -> $o;
+how(#{cause := missing}) -> $m;
+how(#{cause := unseen}) -> $h.
+
+value(#{invented := true}, _Values) -> -1;
+value(#{event := #{value := Value}}, Values) -> maps:get(Value, Values).
+
+at(#{hidden := true}) -> <<"\"\"">>;
+at(#{id := {_, {Before, Which}}}) -> [$", integer_to_binary(Before), $~, integer_to_binary(Which), $"];
+at(#{id := {_, At}}) -> [$", integer_to_binary(At), $"].
+
+cause(Part, #{cause := {_, Id}}, Places) -> maps:get({Part, Id}, Places, -1);
+cause(_Part, _Row, _Places) -> -1.
+
+time(Id, Times) ->
+    case Times of
+        #{Id := Time} -> integer_to_binary(Time);
+        #{} -> <<"null">>
+    end.
+
+%% Data as JSON
+
+object(Fields) ->
+    [${, lists:join($,, [[$", Name, $", $: | Value] || {Name, Value} <- Fields]), $}].
+
+array(Values) ->
+    [$[, lists:join($,, Values), $]].
+
+%% A text as JSON writes it, with a number for each character that a page or its reader could take
+%% for something else.
+text(Text) ->
+    [$", [character(C) || C <- unicode:characters_to_list(Text)], $"].
+
+character(C) when C >= $a, C =< $z; C >= $A, C =< $Z; C >= $0, C =< $9 -> C;
+character(C) when C >= 16#20, C < 16#7F, C =/= $", C =/= $\\, C =/= $<, C =/= $>, C =/= $& -> C;
+character(C) when C < 16#10000 -> io_lib:format("\\u~4.16.0b", [C]);
+character(C) ->
+    io_lib:format("\\u~4.16.0b\\u~4.16.0b", [16#D800 + ((C - 16#10000) bsr 10),
+                                             16#DC00 + ((C - 16#10000) band 16#3FF)]).

@@ -1,0 +1,41 @@
+%% @doc Ends a wait when the operating system asks the program to end.
+%%
+%% `seqaudit-node' passes Ctrl-C on as the same signal as `kill' sends. The first one ends the
+%% collecting, and what came is written; a second one ends the program at once.
+-module(seqaudit_signals).
+-behaviour(gen_event).
+
+-export([wait/1]).
+-export([init/1, handle_event/2, handle_call/2]).
+
+%% @doc Waits so many milliseconds, or for ever, or until the signal.
+-spec wait(timeout()) -> elapsed | asked.
+wait(Time) ->
+    Asked = make_ref(),
+    ok = gen_event:swap_handler(erl_signal_server, {erl_signal_handler, []},
+                                {?MODULE, {self(), Asked}}),
+    receive
+        Asked -> asked
+    after Time ->
+        elapsed
+    end.
+
+%% @private
+-spec init({{pid(), reference()}, term()}) -> {ok, {pid(), reference()} | asked}.
+init({Waiting, _Former}) ->
+    {ok, Waiting}.
+
+%% @private
+-spec handle_event(atom(), {pid(), reference()} | asked) -> {ok, {pid(), reference()} | asked}.
+handle_event(sigterm, {Waiting, Asked}) ->
+    Waiting ! Asked,
+    {ok, asked};
+handle_event(sigterm, asked) ->
+    halt(143, [{flush, false}]);
+handle_event(_Signal, State) ->
+    {ok, State}.
+
+%% @private
+-spec handle_call(term(), State) -> {ok, unknown_call, State}.
+handle_call(_Stray, State) ->
+    {ok, unknown_call, State}.

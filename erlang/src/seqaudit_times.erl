@@ -1,0 +1,131 @@
+%% @doc `NAME.times': when each event happened, where the token had a flag for timestamps.
+%%
+%% It is text, a line an entry, behind the first line `seqaudit times 1':
+%% <ul>
+%% <li>`begin NANOSECONDS': since 1970, by the clock of the node, when the first event happened;</li>
+%% <li>`event PID I NANOSECONDS': how much later event I of this process happened;</li>
+%% <li>`message PID I PID J NANOSECONDS': how long the message of send I took to its receive J.</li>
+%% </ul>
+%% Events without a time have no line. A message between two nodes may seem to take less than no
+%% time, as far as their clocks differ.
+-module(seqaudit_times).
+
+-include("seqaudit_packed.hrl").
+
+-export([write/4, read/1, summary/1, format_error/1]).
+-export_type([times/0]).
+
+-define(HEADER, <<"seqaudit times 1">>).
+
+-type event() :: {Process :: binary(), I :: non_neg_integer()}.
+-type times() :: #{start := integer(), events := #{event() => integer()},
+                   messages := #{event() => {event(), integer()}}}.
+%% Nanoseconds since `start' of each event; for each receive its send, and how long the message took.
+
+%% @doc Hands the text of the file on, piece by piece.
+-spec write([{seqaudit_processes:pid_number(), term()}], #{binary() => binary()},
+            seqaudit_build:packed(), fun((iodata()) -> ok)) -> ok.
+write(Sorted, Streams, Packed, Out) ->
+    First = seqaudit_build:fold(fun({_, _, _, _, _, _, _, ?NO_TIME}, First) -> First;
+                                   ({_, _, _, _, _, _, _, Time}, First) -> min(Time, First)
+                                end, infinity, Packed),
+    ok = Out([?HEADER, <<"\nbegin ">>, integer_to_binary(First), $\n]),
+    Sends = ets:new(sends, [set, private]),
+    try
+        Listed = [{Spelled, maps:get(Spelled, Streams, <<>>)}
+                  || {Number, _} <- Sorted,
+                     Spelled <- [list_to_binary(seqaudit_processes:spell(Number))]],
+        Each = fun(Do) ->
+                       lists:foreach(fun({Spelled, Places}) -> each(Places, Spelled, Packed, Do, Out) end,
+                                     Listed)
+               end,
+        Each(fun(Event, Record) -> event(Event, Record, First, Sends) end),
+        Each(fun(Event, Record) -> message(Event, Record, Sends) end)
+    after
+        ets:delete(Sends)
+    end.
+
+%% The lines of a process are handed on together.
+each(Places, Spelled, Packed, Do, Out) ->
+    Numbered = lists:zip(lists:seq(0, byte_size(Places) div 4 - 1), [Place || <<Place:32>> <= Places]),
+    ok = Out([Do({Spelled, I}, binary:part(Packed, Place * ?PACKED_SIZE, ?PACKED_SIZE))
+              || {I, Place} <- Numbered]).
+
+event(_Event, <<?PACKED(_K, _L, _P, _T, _F, _O, _V, ?NO_TIME)>>, _First, _Sends) ->
+    [];
+event({Spelled, I}, <<?PACKED(Kind, Label, Prev, This, From, _To, Value, Time)>>, First, Sends) ->
+    _ = Kind =:= ?SEND andalso
+        ets:insert(Sends, {{Label, Prev, This, From, Value}, Spelled, I, Time}),
+    [<<"event ">>, Spelled, $\s, integer_to_binary(I), $\s, integer_to_binary(Time - First), $\n].
+
+message(_Event, <<?PACKED(_K, _L, _P, _T, _F, _O, _V, ?NO_TIME)>>, _Sends) ->
+    [];
+message({Spelled, J}, <<?PACKED(?RECEIVE, Label, Prev, This, From, _To, Value, Time)>>, Sends) ->
+    case ets:lookup(Sends, {Label, Prev, This, From, Value}) of
+        [{_, Sender, I, Sent}] ->
+            [<<"message ">>, Sender, $\s, integer_to_binary(I), $\s, Spelled, $\s,
+             integer_to_binary(J), $\s, integer_to_binary(Time - Sent), $\n];
+        [] -> []
+    end;
+message(_Event, _Record, _Sends) ->
+    [].
+
+%% @doc Reads the file.
+-spec read(file:filename()) -> {ok, times()} | {error, term()}.
+read(File) ->
+    case file:read_file(File) of
+        {ok, Text} ->
+            case binary:split(Text, <<"\n">>, [global, trim]) of
+                [?HEADER | Lines] -> read_lines(Lines, 2, #{start => 0, events => #{}, messages => #{}}, File);
+                _ -> {error, {not_times, File, 1}}
+            end;
+        {error, Reason} ->
+            {error, {file, File, Reason}}
+    end.
+
+read_lines([], _Line, Times, _File) ->
+    {ok, Times};
+read_lines([Line | Lines], Number, #{events := Events, messages := Messages} = Times, File) ->
+    try
+        case binary:split(Line, <<" ">>, [global]) of
+            [<<"begin">>, Start] ->
+                Times#{start := binary_to_integer(Start)};
+            [<<"event">>, Pid, I, Time] ->
+                Times#{events := Events#{{Pid, binary_to_integer(I)} => binary_to_integer(Time)}};
+            [<<"message">>, From, I, To, J, Time] ->
+                Took = {{From, binary_to_integer(I)}, binary_to_integer(Time)},
+                Times#{messages := Messages#{{To, binary_to_integer(J)} => Took}}
+        end
+    of
+        More -> read_lines(Lines, Number + 1, More, File)
+    catch
+        error:_ -> {error, {not_times, File, Number}}
+    end.
+
+%% @doc Over which time the events stretch, and how long messages took, in a line.
+-spec summary(times()) -> string().
+summary(#{events := Events, messages := Messages}) ->
+    Last = lists:max([0 | maps:values(Events)]),
+    Took = lists:sort([Time || {_, Time} <- maps:values(Messages)]),
+    text("~ts from the first event to the last", [span(Last)])
+        ++ case Took of
+               [] -> "";
+               _ -> text("; of ~b messages half took less than ~ts, the slowest ~ts",
+                         [length(Took), span(lists:nth(length(Took) div 2 + 1, Took)),
+                          span(lists:last(Took))])
+           end.
+
+span(Nanoseconds) when Nanoseconds < 10_000 -> text("~b ns", [Nanoseconds]);
+span(Nanoseconds) when Nanoseconds < 10_000_000 -> text("~b us", [Nanoseconds div 1_000]);
+span(Nanoseconds) when Nanoseconds < 10_000_000_000 -> text("~b ms", [Nanoseconds div 1_000_000]);
+span(Nanoseconds) -> text("~b s", [Nanoseconds div 1_000_000_000]).
+
+%% @doc A reason of this module in words, with what to do about it.
+-spec format_error(term()) -> string().
+format_error({file, File, Reason}) ->
+    text("~ts: ~ts", [File, file:format_error(Reason)]);
+format_error({not_times, File, Line}) ->
+    text("~ts, line ~b, is no entry of NAME.times; `seqaudit-node convert' writes it anew", [File, Line]).
+
+text(Format, Values) ->
+    lists:flatten(io_lib:format(Format, Values)).

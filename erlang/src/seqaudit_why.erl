@@ -1,0 +1,72 @@
+%% @doc Why an event came about, and what came of it, in words.
+-module(seqaudit_why).
+
+-export([chain/3, effects/3, name/2, cause/2]).
+
+%% So many effects are listed; the rest are counted.
+-define(LISTED, 1_000).
+
+%% @doc The chain from an event back to where it begins, a line each.
+-spec chain(seqaudit_bundle:place(), [seqaudit_causes:row()], seqaudit_legend:legend()) ->
+          unicode:chardata().
+chain(Place, Rows, Legend) ->
+    [Row | Before] = Chain = seqaudit_causes:back(Place, seqaudit_causes:index(Rows)),
+    [line("", Row, Legend),
+     [line(["because ", by(Cause)], One, Legend)
+      || {#{cause := Cause}, One} <- lists:zip(lists:droplast(Chain), Before)],
+     ending(lists:last(Chain))].
+
+line(Begin, #{id := Id} = Row, Legend) ->
+    [Begin, name(Id, Legend), ": ", seqaudit_explain:sentence(Row, Legend), $\n].
+
+by({spawned, _}) -> "(OTP moved its counter on as it answered a spawn) ";
+by({unreported, _}) -> "(by a receive that nobody reported) ";
+by({_, {sent_to, _}}) -> "(nobody reported it) ";
+by({_, {_, {_, _}}}) -> "(nobody reported it) ";
+by(_) -> "".
+
+ending(#{cause := start}) ->
+    "There the trace begins.\n";
+ending(#{cause := open, event := #{prev := Prev}}) ->
+    io_lib:format("There the trace begins, with the counter at ~b, or the event follows something that "
+                  "nobody reported.~n", [Prev]);
+ending(#{cause := missing}) ->
+    "What that follows, nobody reported.\n";
+ending(#{cause := unseen}) ->
+    "Nobody reported that send, so what it follows isn't known.\n";
+ending(_) ->
+    "There the chain runs into itself: these events don't fit.\n".
+
+%% @doc What an event caused, at one remove or more, a line each.
+-spec effects(seqaudit_bundle:place(), [seqaudit_causes:row()], seqaudit_legend:legend()) ->
+          unicode:chardata().
+effects(Place, Rows, Legend) ->
+    case seqaudit_causes:effects(Place, Rows) of
+        [] ->
+            [name(Place, Legend), " caused nothing that was reported.\n"];
+        Effects ->
+            [io_lib:format("~ts caused ~b, in an order that may have been theirs:~n",
+                           [name(Place, Legend), length(Effects)]),
+             [["  ", name(Id, Legend), ": ", seqaudit_explain:sentence(Row, Legend), ", ",
+               cause(Cause, Legend), $\n]
+              || #{id := Id, cause := Cause} = Row <- lists:sublist(Effects, ?LISTED)],
+             [io_lib:format("  and ~b more~n", [length(Effects) - ?LISTED])
+              || length(Effects) > ?LISTED]]
+    end.
+
+%% @doc What a row is called.
+-spec name(seqaudit_causes:id(), seqaudit_legend:legend()) -> unicode:chardata().
+name({sent_to, {Pid, At}}, Legend) -> ["the send of ", seqaudit_bundle:name(Pid, At, Legend)];
+name({Pid, At}, Legend) -> seqaudit_bundle:name(Pid, At, Legend).
+
+%% @doc What a row follows by, in a few words.
+-spec cause(seqaudit_causes:cause(), seqaudit_legend:legend()) -> unicode:chardata().
+cause({sent, {sent_to, _}}, _Legend) -> "after an unreported send";
+cause({spawned, Id}, Legend) -> ["after ", name(Id, Legend), ", a spawn's answer"];
+cause({unreported, Id}, Legend) -> ["after ", name(Id, Legend), ", whose receive is unreported"];
+cause({_, {_, {_, _}} = Id}, Legend) -> ["after ", name(Id, Legend), ", unreported"];
+cause({_, Id}, Legend) -> ["after ", name(Id, Legend)];
+cause(start, _Legend) -> "start";
+cause(open, _Legend) -> "start, or cause unreported";
+cause(missing, _Legend) -> "cause unreported";
+cause(unseen, _Legend) -> "unreported".

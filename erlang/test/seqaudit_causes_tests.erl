@@ -1,0 +1,207 @@
+%% Causes, against the charts of the program and the model; and where resets are found to stand, in
+%% random runs of a machine whose resets are known.
+-module(seqaudit_causes_tests).
+
+-export([as_the_charts_test_/0, spawned_test/0, unreported_test/0, beginnings_test/0, resets_test/0,
+         hidden_reset_test/0, no_reset_test/0, completed_test_/0]).
+
+streams(Text) ->
+    {ok, Streams} = seqaudit_bundle:parse(iolist_to_binary(Text)),
+    Streams.
+
+%% The rows of each label and their causes are those that the chart of it has.
+as_the_charts_test_() ->
+    {timeout, 300, fun() ->
+        case seqaudit_audits:has("chart") of
+            true ->
+                _ = rand:seed(exsss, {3, 14, 15}),
+                Captures = filelib:wildcard(filename:join([filename:dirname(code:which(?MODULE)), "..", "captures", "*.txt"])),
+                true = Captures =/= [],
+                [as_the_charts(captured(Capture)) || Capture <- Captures],
+                [as_the_charts(streams(text(run([all, some])))) || _ <- lists:seq(1, 20)];
+            false ->
+                skipped
+        end
+    end}.
+
+captured(File) ->
+    {ok, Collections} = seqaudit_events:read(File),
+    #{seqtrace := Text} = seqaudit_convert:convert(Collections),
+    streams(Text).
+
+as_the_charts(Streams) ->
+    Name = seqaudit_audits:file("causes"),
+    ok = file:write_file(Name ++ ".seqtrace", seqaudit_bundle:text(Streams)),
+    Rows = seqaudit_causes:rows(Streams),
+    Labels = lists:usort([Label || #{event := #{label := Label}} <- Rows]),
+    [as_the_chart(Label, [Row || #{event := #{label := One}} = Row <- Rows, One =:= Label], Name) || Label <- Labels].
+
+as_the_chart(Label, Rows, Name) ->
+    case seqaudit_audits:answer(["chart", "--label", binary_to_list(Label)], Name) of
+        {0, Answer} ->
+            {ok, Chart} = seqaudit_chart:read(Answer),
+            #{rows := Drawn} = seqaudit_chart:identify(Chart, Rows),
+            Rows = [Row || #{shown := Row} <- Drawn],
+            [ok = same_cause(Cause, Words) || #{cause := Words, shown := #{cause := Cause}} <- Drawn];
+        {1, _} ->
+            unpaired
+    end.
+
+same_cause({sent, {sent_to, _}}, [<<"after">>, <<"hidden">>]) -> ok;
+same_cause({How, {Pid, At}}, [<<"after">>, Pid, Number]) when How =:= sent; How =:= received ->
+    At = binary_to_integer(Number),
+    ok;
+same_cause(unseen, [<<"unseen">>]) -> ok;
+same_cause({spawned, _}, [<<"start">>]) -> ok;
+same_cause({unreported, _}, [<<"start">>]) -> ok;
+same_cause(Cause, [<<"start">>]) when Cause =:= start; Cause =:= open; Cause =:= missing -> ok;
+same_cause(Cause, Words) -> {Cause, Words}.
+
+%% After the answer of a spawn OTP's counter stands at 16 T + 15.
+spawned_test() ->
+    [#{cause := {sent, {sent_to, _}}}, #{cause := {spawned, {<<"<0.1.0>">>, 0}}},
+     #{cause := {spawned, {<<"<0.1.0>">>, 0}}}] =
+        [Row || #{hidden := false} = Row <-
+                    seqaudit_causes:rows(streams("seqtrace 1\nprocess <0.1.0>\n"
+                                                 "{seq_trace,1,{'receive',{2,3},<0.2.0>,<0.1.0>,0}}\n"
+                                                 "{seq_trace,1,{print,{63,64},<0.1.0>,[],1}}\n"
+                                                 "{seq_trace,1,{print,{63,65},<0.1.0>,[],1}}\nprocess <0.2.0>\n"))].
+
+%% An event whose prev was received by nobody follows the send that it fits, where there is one.
+unreported_test() ->
+    [#{cause := start}, #{cause := {unreported, {<<"<0.1.0>">>, 0}}}, #{cause := missing}] =
+        seqaudit_causes:rows(streams("seqtrace 1\nprocess <0.1.0>\n"
+                                     "{seq_trace,1,{send,{0,4},<0.1.0>,<0.2.0>,0}}\nprocess <0.2.0>\n"
+                                     "{seq_trace,1,{print,{4,5},<0.2.0>,[],1}}\n"
+                                     "{seq_trace,1,{print,{3,6},<0.2.0>,[],1}}\n")).
+
+beginnings_test() ->
+    [#{cause := start}, #{cause := start}, #{cause := open}] =
+        seqaudit_causes:rows(streams("seqtrace 1\nprocess <0.1.0>\n"
+                                     "{seq_trace,1,{print,{0,1},<0.1.0>,[],1}}\n"
+                                     "{seq_trace,2,{print,{1,2},<0.1.0>,[],1}}\n"
+                                     "{seq_trace,3,{print,{9,10},<0.1.0>,[],1}}\n")).
+
+%% Where all is reported, the parts begin exactly where the reset stood, for each process for which
+%% an event tells; and what isn't told by any is never cut off a message that it belongs to.
+resets_test() ->
+    _ = rand:seed(exsss, {1, 2, 3}),
+    Found = [begin
+                 Before = run([all, all]),
+                 After = run([all, all]),
+                 Both = streams(text([{Pid, Events ++ proplists:get_value(Pid, After)} || {Pid, Events} <- Before])),
+                 right(seqaudit_parts:split(Both), maps:from_list([{bin(Pid), length(Events)} || {Pid, Events} <- Before]))
+             end || _ <- lists:seq(1, 300)],
+    %% Where the clocks of the first run stayed low, the second may go on from it as well.
+    Exact = length([exact || exact <- Found]),
+    {true, _} = {Exact >= 290, Exact}.
+
+right([Before, _After], Sizes) ->
+    case [Pid || {Pid, Events} <- Before, length(Events) =/= maps:get(Pid, Sizes)] of
+        [] -> exact;
+        _ -> near
+    end;
+right(_, _) -> other.
+
+%% A receive whose send nobody reported goes with what follows it.
+hidden_reset_test() ->
+    Parts = seqaudit_parts:split(streams("seqtrace 1\nprocess <0.1.0>\n"
+                                         "{seq_trace,1,{print,{0,1},<0.1.0>,[],1}}\n"
+                                         "{seq_trace,1,{print,{0,2},<0.1.0>,[],1}}\n"
+                                         "{seq_trace,1,{'receive',{0,1},<0.2.0>,<0.1.0>,1}}\n"
+                                         "{seq_trace,1,{print,{1,2},<0.1.0>,[],1}}\nprocess <0.2.0>\n")),
+    [[{_, [_, _]}, _], [{_, [_, _]}, _]] = Parts,
+    [[{<<"<0.1.0>">>, 1, 2}]] = seqaudit_parts:places(Parts).
+
+no_reset_test() ->
+    _ = rand:seed(exsss, {4, 5, 6}),
+    [[_] = seqaudit_parts:split(streams(text(run([all, all])))) || _ <- lists:seq(1, 100)].
+
+%% What is shown of completed streams, with other messages and places than the tool chose, lacks
+%% nothing more: the tool adds nothing to it. And no run without a reset is said to be none.
+completed_test_() ->
+    {timeout, 300, fun() ->
+        case {seqaudit_program:find("seqaudit"), seqaudit_answers_tests:tool()} of
+            {{ok, _}, Tool} when Tool =/= none ->
+                Before = os:getenv("SEQTOOL"),
+                true = os:putenv("SEQTOOL", Tool),
+                try
+                    _ = rand:seed(exsss, {7, 8, 9}),
+                    Said = [completed(streams(text(thinned(run([all, some]))))) || _ <- lists:seq(1, 20)],
+                    true = length([completed || completed <- Said]) >= 5
+                after
+                    case Before of
+                        false -> os:unsetenv("SEQTOOL");
+                        _ -> os:putenv("SEQTOOL", Before)
+                    end
+                end;
+            _ ->
+                skipped
+        end
+    end}.
+
+thinned(Streams) ->
+    [{Pid, [Line || Line <- Lines, string:find(Line, "'receive'") =:= nomatch orelse rand:uniform(3) > 1]}
+     || {Pid, Lines} <- Streams].
+
+completed(Streams) ->
+    {ok, #{said := Said, streams := Shown}} = seqaudit_outcome:ask(Streams),
+    true = Said =:= fits orelse Said =:= completed orelse Said =:= open,
+    Said =:= completed andalso
+        begin
+            {ok, {0, <<"added 0\n">>}} = seqaudit_program:with_text(seqaudit_bundle:text(Shown), fun(File) ->
+                                              seqaudit_program:ask("seqtool", ["complete"], File)
+                                          end),
+            %% What was reported is there, in its order.
+            Streams = [{Pid, [Event || #{at := At} = Event <- Events, is_integer(At)]} || {Pid, Events} <- Shown]
+        end,
+    Said.
+
+%% A machine of three processes that goes at random; each stream's lines, last first while it runs.
+
+run([_, Flags]) ->
+    Pids = [1, 2, 3],
+    World = maps:from_list([{Pid, #{clock => 0, last => 0, token => none, queue => [], lines => []}} || Pid <- Pids]),
+    Ran = lists:foldl(fun(_, Now) -> act(lists:nth(rand:uniform(3), Pids), rand:uniform(10), Now, Flags) end,
+                      World, lists:seq(1, 60)),
+    [{Pid, lists:reverse(maps:get(lines, maps:get(Pid, Ran)))} || Pid <- Pids].
+
+act(Pid, Which, World, Flags) ->
+    case {maps:get(Pid, World), Which} of
+        {#{token := none, clock := Clock} = One, 1} ->
+            World#{Pid := One#{token := rand:uniform(2), last := Clock}};
+        {#{token := none}, Which} when Which =< 6 ->
+            World;
+        {One, Which} when Which =< 2 ->
+            {_, Now} = stamp(One, Pid, "print", "[]", Flags),
+            World#{Pid := Now};
+        {One, Which} when Which =< 6 ->
+            To = 1 + (Pid + rand:uniform(2) - 1) rem 3,
+            {Message, Now} = stamp(One, Pid, "send", pid(To), Flags),
+            #{queue := Queue} = Other = maps:get(To, World#{Pid := Now}),
+            (World#{Pid := Now})#{To := Other#{queue := Queue ++ [Message]}};
+        {#{queue := [_ | _] = Queue} = One, _} ->
+            Taken = lists:nth(rand:uniform(length(Queue)), Queue),
+            World#{Pid := taken(Taken, One#{queue := lists:delete(Taken, Queue)}, Pid)};
+        _ ->
+            World
+    end.
+
+stamp(#{clock := Clock, last := Last, token := Label, lines := Lines} = One, Pid, Kind, To, Flags) ->
+    Value = erlang:unique_integer([positive]) rem 1_000_000,
+    Line = io_lib:format("{seq_trace,~b,{~ts,{~b,~b},~ts,~ts,~b}}~n", [Label, Kind, Last, Clock + 1, pid(Pid), To, Value]),
+    Told = case Flags =:= all orelse rand:uniform(4) > 1 of
+               true -> [Line | Lines];
+               false -> Lines
+           end,
+    {{Pid, Label, Last, Clock + 1, Value}, One#{clock := Clock + 1, lines := Told}}.
+
+taken({From, Label, Prev, This, Value}, #{clock := Clock, lines := Lines} = One, Pid) ->
+    Line = io_lib:format("{seq_trace,~b,{'receive',{~b,~b},~ts,~ts,~b}}~n", [Label, Prev, This, pid(From), pid(Pid), Value]),
+    One#{clock := max(Clock, This), last := This, token := Label, lines := [Line | Lines]}.
+
+text(Streams) ->
+    ["seqtrace 1\n", [["process ", pid(Pid), $\n, Lines] || {Pid, Lines} <- Streams]].
+
+pid(N) -> "<0." ++ integer_to_list(N) ++ ".0>".
+bin(N) -> list_to_binary(pid(N)).

@@ -1,0 +1,241 @@
+%% Collecting from a node under load, and by the command: bounded, hidden, ended by a signal.
+-module(seqaudit_harm_tests).
+
+-export([load_test_/0, load_without_port_test_/0, written_over_test/0, collect_until_ctrl_c_test_/0,
+         collect_until_kill_test_/0, trigger_test_/0, cookies_test_/0, file_modes_test/0,
+         collect_errors_test_/0]).
+
+-define(PAIRS, 200).
+-define(MEGABYTE, 1024).
+
+%% 200 pairs that write lists of 500 numbers to each other under tokens: the node takes less than 200
+%% MB more than without a tracer. LONG=1 has them write for 5 s, else for 2.
+load_test_() ->
+    {timeout, 240, fun() ->
+        Without = peak(fun(_) -> ok end, fun() -> ok end),
+        With = peak(fun(There) ->
+                            ok = seqaudit_trace:start(#{nodes => [There], bytes => 8_000_000,
+                                                        name => seqaudit_audits:file("load")})
+                    end,
+                    fun() ->
+                            {ok, #{events := Events, dropped := Dropped, notes := Notes}} =
+                                seqaudit_trace:stop(),
+                            true = Events > 1_000 andalso Dropped > 1_000,
+                            [_] = [Note || Note <- Notes, string:find(Note, "were written over, about") =/= nomatch],
+                            true = filelib:file_size(seqaudit_audits:file("load.events")) < 10_000_000
+                    end),
+        io:format(user, "load: ~b MB without a tracer, ~b MB with~n",
+                  [Without div ?MEGABYTE, With div ?MEGABYTE]),
+        true = With - Without < 200 * ?MEGABYTE
+    end}.
+
+%% Without runtime_tools the collector takes itself off in time. How far its queue grows until it
+%% runs depends on the machine's load, so the bound is wider.
+load_without_port_test_() ->
+    {timeout, 240, fun() ->
+        With = peak(fun(There) ->
+                            ok = erpc:call(There, seqaudit_test_server, without_runtime_tools, []),
+                            ok = seqaudit_trace:start(#{nodes => [There], bytes => 8_000_000,
+                                                        name => seqaudit_audits:file("load_without")})
+                    end,
+                    fun() ->
+                            {ok, #{events := Events, notes := Notes}} = seqaudit_trace:stop(),
+                            true = Events > 100,
+                            [_] = [Note || Note <- Notes,
+                                           string:find(Note, "collecting ended early, at 2") =/= nomatch,
+                                           string:find(Note, "without runtime_tools") =/= nomatch]
+                    end),
+        io:format(user, "load without a port: ~b MB~n", [With div ?MEGABYTE]),
+        true = With < 1_000 * ?MEGABYTE
+    end}.
+
+%% The greatest memory that a node of its own took under the load, in kB.
+peak(Begin, End) ->
+    {ok, Stop, There} = seqaudit_test_nodes:start(),
+    try
+        Begin(There),
+        Milliseconds = case os:getenv("LONG") of false -> 2_000; _ -> 5_000 end,
+        Sent = erpc:call(There, seqaudit_test_server, load, [?PAIRS, Milliseconds]),
+        true = Sent > ?PAIRS,
+        {ok, Status} = file:read_file(filename:join(["/proc", erpc:call(There, os, getpid, []), "status"])),
+        {match, [Peak]} = re:run(Status, "VmHWM:\\s+([0-9]+) kB", [{capture, [1], list}]),
+        End(),
+        list_to_integer(Peak)
+    after
+        Stop()
+    end.
+
+%% Of events that were written over the bytes are counted. Their number is taken from the size of the
+%% kept ones, whose numbers are larger here and take some bytes more.
+written_over_test() ->
+    Name = seqaudit_audits:file("over"),
+    ok = seqaudit_trace:start(#{name => Name, bytes => 65_536}),
+    seqaudit_trace:with_trace(1, fun() -> [seq_trace:print({number, K}) || K <- lists:seq(1, 20_000)] end),
+    {ok, #{events := Events, dropped := Dropped}} = seqaudit_trace:stop(),
+    true = abs(Events + Dropped - 20_000) < 2_000,
+    {ok, [#{events := Kept}]} = seqaudit_events:read(Name ++ ".events"),
+    {seq_trace, 1, {print, _, _, _, {number, 20_000}}} = lists:last(Kept),
+    {seq_trace, 1, {print, _, _, _, {number, First}}} = hd(Kept),
+    First = 20_001 - Events.
+
+on_another(Test) ->
+    {timeout, 120, fun() ->
+        case seqaudit_test_nodes:start() of
+            {ok, Stop, There} ->
+                try Test(There, ["--node ", atom_to_list(There)]) after Stop() end;
+            {error, Reason} ->
+                io:format(user, "a second node: skipped, ~0tp~n", [Reason])
+        end
+    end}.
+
+print_when_traced(There) ->
+    case erpc:call(There, seq_trace, get_system_tracer, []) of
+        false -> receive after 50 -> print_when_traced(There) end;
+        _ -> ok = erpc:call(There, seqaudit_test_server, print, [1, seen])
+    end.
+
+%% On a terminal, Ctrl-C ends the collecting as --seconds does. Meanwhile the command is a hidden node.
+collect_until_ctrl_c_test_() ->
+    on_another(fun(There, Node) ->
+        case os:find_executable("python3") of
+            false -> io:format(user, "Ctrl-C: skipped, there is no python3 to press it~n", []);
+            _ ->
+                Name = seqaudit_audits:file("ctrl_c"),
+                Self = self(),
+                spawn_link(fun() -> Self ! {ended, run([press(), "tracing 60 ", command(), " collect ", Node,
+                                                         " -o ", Name], cookie())} end),
+                print_when_traced(There),
+                Hidden = erpc:call(There, erlang, nodes, [hidden]),
+                [_] = [N || N <- Hidden, string:prefix(atom_to_list(N), "seqaudit_") =/= nomatch,
+                            N =/= node()],
+                Here = node(),
+                [Here] = erpc:call(There, erlang, nodes, []),
+                {0, Said} = receive {ended, Answer} -> Answer end,
+                {_, _} = binary:match(Said, <<"until Ctrl-C">>),
+                {_, _} = binary:match(Said, <<"1 events of 1 processes">>),
+                false = erpc:call(There, seq_trace, get_system_tracer, [])
+        end
+    end).
+
+press() ->
+    filename:join(filename:dirname(filename:dirname(seqaudit_audits:file("x"))), "press_ctrl_c.py ").
+
+%% SIGTERM too.
+collect_until_kill_test_() ->
+    on_another(fun(There, Node) ->
+        Name = seqaudit_audits:file("sigterm"),
+        Self = self(),
+        spawn_link(fun() -> Self ! {ended, run(["echo $$ >", Name, ".pid; exec ", command(), " collect ", Node,
+                                                 " -o ", Name], cookie())} end),
+        print_when_traced(There),
+        receive after 300 -> ok end,
+        {ok, Pid} = file:read_file(Name ++ ".pid"),
+        [] = os:cmd("kill -TERM " ++ string:trim(binary_to_list(Pid))),
+        {0, Said} = receive {ended, Answer} -> Answer end,
+        {_, _} = binary:match(Said, <<"1 events of 1 processes">>),
+        false = erpc:call(There, seq_trace, get_system_tracer, [])
+    end).
+
+%% Calls of a function set the token, with timestamps, until the end; the program has no word of it.
+trigger_test_() ->
+    on_another(fun(There, Node) ->
+        ok = erpc:call(There, seqaudit_test_server, begin_shop, []),
+        Name = seqaudit_audits:file("trigger"),
+        Self = self(),
+        spawn_link(fun() -> Self ! {ended, run([command(), " collect ", Node, " --trigger ",
+                                                 "'seqaudit_test_server:order/1' --label '{order, 7}' --times ",
+                                                 "--seconds 4 -o ", Name], cookie())} end),
+        traced(There),
+        7 = erpc:call(There, seqaudit_test_server, order, [7]),
+        {0, Said} = receive {ended, Answer} -> Answer end,
+        {_, _} = binary:match(Said, <<"; calls of seqaudit_test_server:order/1 set the token">>),
+        {ok, Legend} = seqaudit_legend:read(Name ++ ".terms"),
+        {ok, _} = seqaudit_legend:find_label("{order,7}", Legend),
+        {ok, #{events := Times, messages := Messages} = Read} = seqaudit_times:read(Name ++ ".times"),
+        true = map_size(Times) >= 4 andalso map_size(Messages) >= 2,
+        [] = [Took || {_, Took} <- maps:values(Messages), Took < 0 orelse Took > 4_000_000_000],
+        {match, _} = re:run(seqaudit_times:summary(Read), "from the first event to the last; of [0-9]+ messages half"),
+        seqaudit_audits:fits(Name),
+        %% Afterwards nothing is traced, and no token is left.
+        {flags, []} = erpc:call(There, erlang, trace_info, [new, flags]),
+        {traced, false} = erpc:call(There, erlang, trace_info, [{seqaudit_test_server, order, 1}, traced]),
+        {sequential_trace_token, []} = erpc:call(There, seqaudit_test_server, shop_token, [])
+    end).
+
+traced(There) ->
+    case erpc:call(There, seq_trace, get_system_tracer, []) of
+        false -> receive after 50 -> traced(There) end;
+        _ -> receive after 300 -> ok end
+    end.
+
+%% A cookie comes from a file or a variable too, so that nobody sees it on the command line.
+cookies_test_() ->
+    on_another(fun(_There, Node) ->
+        Name = seqaudit_audits:file("cookies"),
+        Cookie = atom_to_list(erlang:get_cookie()),
+        ok = file:write_file(Name ++ ".cookie", [Cookie, $\n]),
+        Collect = [command(), " collect ", Node, " --seconds 1 -o ", Name],
+        {0, _} = run([Collect, " --cookie-file ", Name, ".cookie"], []),
+        {0, _} = run([Collect, " --cookie ", Cookie], [{"SEQAUDIT_COOKIE", "wrong"}]),
+        {4, Wrong} = run(Collect, [{"SEQAUDIT_COOKIE", "wrong"}]),
+        {_, _} = binary:match(Wrong, <<"is the cookie the same?">>),
+        {4, NoFile} = run([Collect, " --cookie-file /no/such/file"], []),
+        {_, _} = binary:match(NoFile, <<"the cookie can't be had: /no/such/file: no such file">>)
+    end).
+
+cookie() -> [{"SEQAUDIT_COOKIE", atom_to_list(erlang:get_cookie())}].
+
+%% Files with the contents of messages are their owner's alone, and so is the folder on the node.
+file_modes_test() ->
+    Name = seqaudit_audits:file("modes"),
+    [ok = file:write_file(Name ++ Suffix, "") || Suffix <- [".events", ".terms"]],
+    [ok = file:change_mode(Name ++ Suffix, 8#644) || Suffix <- [".events", ".terms"]],
+    ok = seqaudit_trace:start(#{name => Name}),
+    [{_, Folder}] = seqaudit_trace:folders(),
+    8#700 = mode(Folder),
+    seqaudit_trace:with_trace(1, [print, timestamp], fun() -> seq_trace:print(x) end),
+    {ok, #{files := Files}} = seqaudit_trace:stop(),
+    5 = length(Files),
+    [8#600 = mode(File) || File <- Files].
+
+mode(File) ->
+    {ok, Info} = file:read_file_info(File),
+    element(8, Info) band 8#777.
+
+%% What can't be understood is said in a sentence, without a stack.
+collect_errors_test_() ->
+    {timeout, 60, fun() ->
+        Name = seqaudit_audits:file("errors"),
+        [begin
+             {3, Text} = run([command(), " collect -o ", Name, $\s, Words], []),
+             {_, _} = binary:match(Text, Part),
+             nomatch = binary:match(Text, [<<"erl:">>, <<"badmatch">>, <<"{error">>])
+         end || {Words, Part} <- [{"--node nohost", <<"nohost is no name of a node; it is written name@host">>},
+                                  {"--node @h", <<"@h is no name of a node">>},
+                                  {"--node a@h --limit -5", <<"--limit can't be -5">>},
+                                  {"--node a@h --bytes many", <<"--bytes can't be many">>},
+                                  {"--node a@h --seconds 0", <<"--seconds can't be 0">>},
+                                  {"--node a@h --trigger shop --label 1", <<"shop is no function">>},
+                                  {"--node a@h --trigger shop:order/2", <<"--trigger and --label go together">>},
+                                  {"--node a@h --trigger a:b/1 --label '{x'", <<"{x is no Erlang term">>},
+                                  {"--node a@h --times", <<"--times goes with --trigger">>},
+                                  {"--node a@h --frobnicate", <<"collect doesn't know --frobnicate">>}]],
+        {4, Small} = run([command(), " collect --node nobody@localhost --cookie c --bytes 10 -o ", Name], []),
+        {_, _} = binary:match(Small, <<"bytes can't be 10: it is a whole number of bytes, 65536 or more">>)
+    end}.
+
+command() ->
+    filename:join(seqaudit_audits:home(), "seqaudit-node").
+
+%% The status of a command of the shell and what it wrote, errors too.
+run(Words, Variables) ->
+    Port = open_port({spawn_executable, "/bin/sh"},
+                     [{args, ["-c", lists:flatten(["{ ", Words, "; } 2>&1"])]},
+                      {env, Variables}, binary, exit_status]),
+    output(Port, <<>>).
+
+output(Port, Output) ->
+    receive
+        {Port, {data, Data}} -> output(Port, <<Output/binary, Data/binary>>);
+        {Port, {exit_status, Status}} -> {Status, Output}
+    end.

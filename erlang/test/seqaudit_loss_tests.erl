@@ -1,0 +1,278 @@
+%% What happens to nodes and processes while a trace is collected: nothing that came is lost.
+-module(seqaudit_loss_tests).
+
+-export([net_split_test_/0, killed_node_test_/0, out_of_reach_test_/0, killed_collector_test_/0,
+         killed_leader_test_/0, lost_owner_test_/0, stray_calls_test_/0, other_disk_test_/0,
+         late_events_test/0, broken_port_test/0, stray_tokens_test_/0, own_events_test/0, late_names_test_/0,
+         refused_options_test/0]).
+
+%% Runs a test on a second node.
+on_two(Test) ->
+    {timeout, 60, fun() ->
+        case seqaudit_test_nodes:start() of
+            {ok, Stop, There} ->
+                try Test(There)
+                after
+                    _ = seqaudit_trace:stop(),
+                    %% The test may have killed the node.
+                    try Stop() catch exit:noproc -> net_kernel:stop() end
+                end;
+            {error, Reason} ->
+                io:format(user, "a second node: skipped, ~0tp~n", [Reason])
+        end
+    end}.
+
+begin_on(There, Name, Options) ->
+    File = seqaudit_audits:file(Name),
+    ok = seqaudit_trace:start(Options#{name => File, nodes => [node(), There]}),
+    [_, _] = Folders = seqaudit_trace:folders(),
+    {File, [Folder || {_, Folder} <- Folders]}.
+
+print(There, What) ->
+    ok = erpc:call(There, seqaudit_test_server, print, [1, What]).
+
+%% The messages of the prints in a file of events.
+printed(File) ->
+    {ok, Collections} = seqaudit_events:read(File ++ ".events"),
+    [What || #{events := Events} <- Collections,
+             {seq_trace, 1, {print, _, _, _, What}} <- Events].
+
+one_note(Part, Notes) ->
+    [_] = [Note || Note <- Notes, string:find(Note, Part) =/= nomatch],
+    ok.
+
+removed(Folders) ->
+    [] = [Folder || Folder <- Folders, filelib:is_dir(Folder)].
+
+net_split_test_() ->
+    on_two(fun(There) ->
+        {File, Folders} = begin_on(There, "split", #{}),
+        ok = print(There, before),
+        true = erlang:disconnect_node(There),
+        receive after 300 -> ok end,
+        true = net_kernel:connect_node(There),
+        ok = print(There, behind),
+        receive after 1_000 -> ok end,
+        true = is_port(erpc:call(There, seq_trace, get_system_tracer, [])),
+        {ok, #{events := 2, dropped := 0, notes := Notes}} = seqaudit_trace:stop(),
+        [before, behind] = printed(File),
+        ok = one_note("the connection was lost 1 times", Notes),
+        false = erpc:call(There, seq_trace, get_system_tracer, []),
+        removed(Folders)
+    end).
+
+%% A node that is killed leaves on the disk what came until a tick before.
+killed_node_test_() ->
+    on_two(fun(There) ->
+        {File, Folders} = begin_on(There, "killed_node", #{}),
+        ok = print(There, before),
+        seqaudit_test_server:print(1, here),
+        receive after 400 -> ok end,
+        [] = os:cmd("kill -9 " ++ erpc:call(There, os, getpid, [])),
+        receive after 300 -> ok end,
+        {ok, #{events := 2, notes := Notes}} = seqaudit_trace:stop(),
+        [before, here] = lists:sort(printed(File)),
+        ok = one_note("its collector went down", Notes),
+        ok = one_note("what came before, 1 events, is here", Notes),
+        removed(Folders)
+    end).
+
+%% Of a node that is gone with its disk the notes say where the events are.
+out_of_reach_test_() ->
+    on_two(fun(There) ->
+        {File, Folders} = begin_on(There, "no_reach", #{}),
+        ok = print(There, away),
+        receive after 300 -> ok end,
+        [] = os:cmd("kill -9 " ++ erpc:call(There, os, getpid, [])),
+        {ok, #{events := 0, notes := Notes}} = apart(fun seqaudit_trace:stop/0),
+        [Left] = [Folder || Folder <- Folders, filelib:is_dir(Folder),
+                            [] =/= [Note || Note <- Notes, string:find(Note, Folder) =/= nomatch]],
+        ok = one_note("`seqaudit-node convert' takes that folder", Notes),
+        {ok, #{events := 1}} = seqaudit_convert:from_files([Left], File),
+        [ok = seqaudit_spool:remove(Folder) || Folder <- Folders, filelib:is_dir(Folder)]
+    end).
+
+%% As if the nodes had no disk in common.
+apart(Do) ->
+    ok = application:set_env(seqaudit, shared_disk, false),
+    try Do() after application:unset_env(seqaudit, shared_disk) end.
+
+other_disk_test_() ->
+    on_two(fun(There) ->
+        {File, Folders} = begin_on(There, "other_disk", #{}),
+        [ok = print(There, {K, lists:duplicate(1_000, K)}) || K <- lists:seq(1, 3_000)],
+        {ok, #{events := 3_000}} = apart(fun seqaudit_trace:stop/0),
+        3_000 = length(printed(File)),
+        removed(Folders)
+    end).
+
+killed_collector_test_() ->
+    on_two(fun(There) ->
+        {File, Folders} = begin_on(There, "killed_collector", #{}),
+        ok = print(There, before),
+        exit(erpc:call(There, erlang, whereis, [seqaudit_collector]), kill),
+        receive after 200 -> ok end,
+        false = erpc:call(There, seq_trace, get_system_tracer, []),
+        ok = print(There, behind),
+        {ok, #{events := 1, notes := Notes}} = seqaudit_trace:stop(),
+        [before] = printed(File),
+        ok = one_note("its collector went down (killed)", Notes),
+        removed(Folders)
+    end).
+
+%% Whoever leads the collection is killed: `stop' writes what came until then.
+killed_leader_test_() ->
+    on_two(fun(There) ->
+        {File, Folders} = begin_on(There, "killed_leader", #{}),
+        ok = print(There, before),
+        exit(whereis(seqaudit_trace), kill),
+        receive after 300 -> ok end,
+        false = erpc:call(There, seq_trace, get_system_tracer, []),
+        {error, left_over} = seqaudit_trace:start(#{name => File}),
+        true = is_list(seqaudit_trace:format_error(left_over)),
+        {ok, #{events := 1, notes := Notes}} = seqaudit_trace:stop(),
+        [before] = printed(File),
+        [_, _] = [Note || Note <- Notes,
+                          string:find(Note, "the process that led the collection ended (killed)") =/= nomatch],
+        {error, not_started} = seqaudit_trace:stop(),
+        removed(Folders)
+    end).
+
+%% A collector whose owner's node doesn't come back ends by itself, and leaves what it has.
+lost_owner_test_() ->
+    on_two(fun(There) ->
+        Folder = filename:dirname(seqaudit_audits:file("x")),
+        Owner = spawn(fun() -> receive stop -> ok end end),
+        ok = seqaudit_trace:start(#{name => seqaudit_audits:file("x"), nodes => [There]}),
+        {ok, _} = seqaudit_trace:stop(),
+        {ok, Collector} = erpc:call(There, seqaudit_collector, start,
+                                    [#{owner => Owner, port => true, grace => 300, folder => Folder}]),
+        Spool = seqaudit_collector:folder(Collector),
+        ok = print(There, before),
+        true = erlang:disconnect_node(There),
+        receive after 800 -> ok end,
+        true = net_kernel:connect_node(There),
+        false = erpc:call(There, erlang, is_process_alive, [Collector]),
+        false = erpc:call(There, seq_trace, get_system_tracer, []),
+        {ok, #{events := 1, notes := Notes}} =
+            seqaudit_convert:from_files([Spool], seqaudit_audits:file("lost_owner")),
+        ok = one_note("out of reach for too long", Notes),
+        ok = seqaudit_spool:remove(Spool),
+        exit(Owner, kill)
+    end).
+
+stray_calls_test_() ->
+    on_two(fun(There) ->
+        {File, _} = begin_on(There, "stray_calls", #{}),
+        ok = print(There, before),
+        {error, unknown_call} = gen_server:call(seqaudit_trace, stray),
+        {error, unknown_call} = gen_server:call({seqaudit_collector, There}, stray),
+        ok = gen_server:cast(seqaudit_trace, stray),
+        seqaudit_trace ! stray,
+        ok = print(There, behind),
+        {ok, #{events := 2, notes := Notes}} = seqaudit_trace:stop(),
+        [before, behind] = printed(File),
+        ok = one_note("1 messages to the collector were no trace events", Notes)
+    end).
+
+%% A trace file that can't be written any more, as on a full disk, ends the collecting with a note.
+broken_port_test() ->
+    Name = seqaudit_audits:file("broken_port"),
+    ok = seqaudit_trace:start(#{name => Name}),
+    ok = seqaudit_test_server:print(1, before),
+    receive after 200 -> ok end,
+    exit(seq_trace:get_system_tracer(), enospc),
+    receive after 100 -> ok end,
+    false = seq_trace:get_system_tracer(),
+    {ok, #{events := 1, notes := Notes}} = seqaudit_trace:stop(),
+    ok = one_note("the trace file couldn't be written (enospc)", Notes).
+
+%% What is on its way when the tracer is taken off is waited for.
+late_events_test() ->
+    Name = seqaudit_audits:file("late"),
+    ok = seqaudit_trace:start(#{name => Name, port => false}),
+    Collector = whereis(seqaudit_collector),
+    _ = spawn(fun() ->
+                      until(fun() -> seq_trace:get_system_tracer() =:= false end),
+                      receive after 20 -> ok end,
+                      Collector ! {seq_trace, 1, {print, {0, 1}, self(), [], late}}
+              end),
+    {ok, #{events := 1}} = seqaudit_trace:stop(),
+    [late] = printed(Name).
+
+until(Done) ->
+    case Done() of
+        true -> ok;
+        false -> receive after 1 -> until(Done) end
+    end.
+
+%% A stray message with a token leaves the collector without one.
+stray_tokens_test_() ->
+    [fun() ->
+         ok = seqaudit_trace:start(#{name => seqaudit_audits:file("tokens"), port => Port}),
+         Collector = whereis(seqaudit_collector),
+         %% Looked at before the next message, which would take the token away anyhow.
+         [begin
+              seqaudit_trace:with_trace(1, fun() -> Stray(Collector) end),
+              until(fun() -> element(2, process_info(Collector, message_queue_len)) =:= 0 end),
+              {sequential_trace_token, []} = process_info(Collector, sequential_trace_token)
+          end || Stray <- [fun(To) -> To ! stray end,
+                           fun(To) -> gen_server:cast(To, stray) end,
+                           fun(To) -> {error, unknown_call} = gen_server:call(To, stray) end]],
+         {ok, #{notes := Notes}} = seqaudit_trace:stop(),
+         ok = one_note("3 messages to the collector were no trace events", Notes)
+     end || Port <- [true, false]].
+
+%% Events that name the collector are counted and left out.
+own_events_test() ->
+    Name = seqaudit_audits:file("own"),
+    ok = seqaudit_trace:start(#{name => Name}),
+    Collector = whereis(seqaudit_collector),
+    seqaudit_trace:with_trace(1, fun() -> Collector ! one, Collector ! two, seq_trace:print(kept) end),
+    until(fun() -> element(2, process_info(Collector, message_queue_len)) =:= 0 end),
+    {ok, #{events := 1, dropped := Dropped, notes := Notes}} = seqaudit_trace:stop(),
+    true = Dropped >= 2 + 2,
+    [Own] = [Note || Note <- Notes, string:find(Note, "events that named the collector") =/= nomatch],
+    {match, [Count]} = re:run(Own, ": ([0-9]+) events", [{capture, [1], list}]),
+    true = list_to_integer(Count) >= 2.
+
+%% A process that is named only after it was seen has its name at the end; one that came and went has
+%% what it was started with.
+late_names_test_() ->
+    {timeout, 30, fun() ->
+        Name = seqaudit_audits:file("late_names"),
+        ok = seqaudit_trace:start(#{name => Name}),
+        Self = self(),
+        Late = spawn(fun() -> receive go -> Self ! gone, receive stop -> ok end end end),
+        Short = seqaudit_test_server:start(fun(X) -> X end),
+        seqaudit_trace:with_trace(1, fun() ->
+            Late ! go,
+            receive gone -> ok end,
+            ok = gen_server:call(Short, ok)
+        end),
+        receive after 400 -> ok end,
+        ok = gen_server:stop(Short),
+        true = register(seqaudit_test_late, Late),
+        {ok, _} = seqaudit_trace:stop(),
+        {ok, Legend} = seqaudit_legend:read(Name ++ ".terms"),
+        <<"seqaudit_test_late">> = seqaudit_legend:process(list_to_binary(pid_to_list(Late)), Legend),
+        {_, _} = binary:match(seqaudit_legend:process(list_to_binary(pid_to_list(Short)), Legend),
+                              <<"seqaudit_test_server:init/1 <0.">>),
+        exit(Late, kill)
+    end}.
+
+refused_options_test() ->
+    [begin
+         {error, {option, Option, Value} = Reason} = seqaudit_trace:start(#{Option => Value}),
+         true = is_list(seqaudit_trace:format_error(Reason)),
+         undefined = whereis(seqaudit_trace)
+     end || {Option, Value} <- [{limit, -5}, {limit, x}, {nodes, []}, {nodes, here}, {name, 17}, {name, ""},
+                                {bytes, 0}, {reset, yes}, {folder, 1}, {trigger, {a, b, 1}}]],
+    {error, {node, _, {no_function, {shop, nothing, 9}} = Missing}} =
+        seqaudit_trace:start(#{name => seqaudit_audits:file("refused"),
+                               trigger => #{function => {shop, nothing, 9}, label => 1, times => false}}),
+    true = is_list(seqaudit_trace:format_error({node, node(), Missing})),
+    {error, {node, _, {file, _, enoent}}} =
+        seqaudit_trace:start(#{name => seqaudit_audits:file("refused"), folder => "/no/such/folder"}),
+    false = seq_trace:get_system_tracer(),
+    ok.

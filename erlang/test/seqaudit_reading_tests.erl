@@ -1,0 +1,311 @@
+%% Files of events are damaged, hostile or strange: each gives a bundle or a sentence.
+-module(seqaudit_reading_tests).
+
+-export([damaged_files_test_/0, swapped_files_test_/0, no_atoms_test/0, forged_names_test/0,
+         log_lines_test/0, out_of_range_test/0, unpacked_size_test/0, old_release_test/0,
+         equal_maps_test/0, version_1_test/0, ttb_names_test_/0, million_events_test_/0]).
+
+%% 1,000 files with bytes flipped, cut, doubled or exchanged, by a fixed seed. Nothing crashes, no
+%% atom is made, and memory stays below ten times the file's size and 100 MB.
+damaged_files_test_() ->
+    {timeout, 300, fun() ->
+        Originals = [{Suffix, Bytes} || {Suffix, File} <- originals(), {ok, Bytes} <- [file:read_file(File)]],
+        [_, _, _, _] = Originals,
+        _ = rand:seed(exsss, {35, 1, 2026}),
+        _ = [converted(Suffix, Bytes) || {Suffix, Bytes} <- Originals],
+        Atoms = erlang:system_info(atom_count),
+        Results = [begin
+                       {Suffix, Bytes} = lists:nth(N rem length(Originals) + 1, Originals),
+                       converted(Suffix, damaged(Bytes))
+                   end || N <- lists:seq(1, 1_000)],
+        Atoms = erlang:system_info(atom_count),
+        1_000 = length(Results),
+        true = length([bundle || bundle <- Results]) > 100,
+        true = length([sentence || sentence <- Results]) > 100
+    end}.
+
+%% Each form of file, of the same events.
+originals() ->
+    Name = seqaudit_audits:file("whole"),
+    Server = seqaudit_test_server:start(fun(X) -> X end),
+    ok = seqaudit_trace:start(#{name => Name}),
+    [seqaudit_trace:with_trace({label, K}, [send, 'receive', print, timestamp], fun() ->
+         K = gen_server:call(Server, K),
+         seq_trace:print(#{k => K, 2.5 => "text", <<"b">> => [a | b]})
+     end) || K <- lists:seq(1, 20)],
+    {ok, _} = seqaudit_trace:stop(),
+    {ok, [#{events := Events}]} = seqaudit_events:read(Name ++ ".events"),
+    ok = file:write_file(Name ++ ".txt", unicode:characters_to_binary(
+        [io_lib:format("~tp~n", [Event]) || Event <- Events])),
+    ok = file:write_file(Name ++ ".bin", term_to_binary(Events)),
+    %% As ttb writes it: a process is a triple.
+    Triple = fun(Pid) when is_pid(Pid) -> {Pid, {erlang, apply, 2}, node()}; (Other) -> Other end,
+    ok = file:write_file(Name ++ ".trace",
+        [[<<0, (byte_size(Bytes)):32>>, Bytes]
+         || {seq_trace, Label, {Kind, Serial, From, To, Message}, Time} <- Events,
+            Bytes <- [term_to_binary({seq_trace, Label, {Kind, Serial, Triple(From), Triple(To), Message},
+                                      Time})]]),
+    [{Suffix, Name ++ Suffix} || Suffix <- [".events", ".txt", ".bin", ".trace"]].
+
+damaged(Bytes) ->
+    lists:foldl(fun(_, Now) -> damage(rand:uniform(4), Now) end, Bytes, lists:seq(1, rand:uniform(3))).
+
+damage(_, Bytes) when byte_size(Bytes) < 8 ->
+    Bytes;
+damage(1, Bytes) ->
+    At = rand:uniform(byte_size(Bytes)) - 1,
+    <<Before:At/binary, _, Behind/binary>> = Bytes,
+    <<Before/binary, (rand:uniform(256) - 1), Behind/binary>>;
+damage(2, Bytes) ->
+    binary:part(Bytes, 0, rand:uniform(byte_size(Bytes)));
+damage(3, Bytes) ->
+    %% Two stretches change places.
+    [A, B] = lists:sort([rand:uniform(byte_size(Bytes)), rand:uniform(byte_size(Bytes))]),
+    Size = min(rand:uniform(40), min(B - A, byte_size(Bytes) - B)),
+    <<Begin:A/binary, First:Size/binary, Rest/binary>> = Bytes,
+    Middle = B - A - Size,
+    <<Between:Middle/binary, Second:Size/binary, End/binary>> = Rest,
+    <<Begin/binary, Second/binary, Between/binary, First/binary, End/binary>>;
+damage(4, Bytes) ->
+    %% Four bytes of a length become great.
+    At = rand:uniform(byte_size(Bytes) - 4),
+    <<Before:At/binary, _:4/binary, Behind/binary>> = Bytes,
+    <<Before/binary, (rand:uniform(16#FFFF_FFFF)):32, Behind/binary>>.
+
+%% Whether the file became a bundle, or which sentence says why it didn't.
+converted(Suffix, Bytes) ->
+    File = seqaudit_audits:file("damaged" ++ Suffix),
+    ok = file:write_file(File, Bytes),
+    {Peak, Result} = watched(fun() ->
+        seqaudit_convert:from_files([File], seqaudit_audits:file("damaged_out"))
+    end),
+    true = Peak < 10 * byte_size(Bytes) + 100_000_000,
+    case Result of
+        {ok, #{notes := Notes}} ->
+            [] = [Note || Note <- Notes, lists:member($\n, Note)],
+            bundle;
+        {error, Reason} ->
+            Sentence = seqaudit_events:format_error(Reason),
+            false = lists:member($\n, Sentence),
+            sentence
+    end.
+
+%% By how much the memory grew at most, looked at again and again.
+watched(Do) ->
+    garbage_collect(),
+    Base = erlang:memory(total),
+    Watcher = spawn(fun() -> watch(0) end),
+    Result = Do(),
+    Watcher ! {self(), peak},
+    receive {Watcher, Peak} -> {max(0, Peak - Base), Result} end.
+
+watch(Peak) ->
+    receive
+        {Asker, peak} -> Asker ! {self(), max(Peak, erlang:memory(total))}
+    after 1 ->
+        watch(max(Peak, erlang:memory(total)))
+    end.
+
+%% Files that claim much, or that are large and say little: 10 times their size and 100 MB are enough.
+swapped_files_test_() ->
+    {timeout, 300, fun() ->
+        Event = fun(Message) ->
+                        <<131, Rest/binary>> = term_to_binary({seq_trace, 1, {print, {0, 1}, self(), [], x}}),
+                        Size = byte_size(Rest) - 4,
+                        <<Head:Size/binary, 100, 1:16, $x>> = Rest,
+                        Bytes = <<131, Head/binary, Message/binary>>,
+                        <<0, (byte_size(Bytes)):32, Bytes/binary>>
+                end,
+        Million = 2_000_000,
+        [_ = converted(".trace", Bytes)
+         || Bytes <- [Event(<<108, 16#FFFF_FFFF:32>>), Event(<<105, 16#FFFF_FFFF:32>>),
+                      Event(<<116, 16#FFFF_FFFF:32>>), Event(<<111, 16#FFFF_FFFF:32, 0, 1>>),
+                      Event(<<(binary:copy(<<104, 1>>, Million))/binary, 106>>),
+                      Event(<<(binary:copy(<<108, 1:32>>, Million div 2))/binary,
+                              (binary:copy(<<106>>, Million div 2 + 1))/binary>>),
+                      Event(<<108, Million:32, (binary:copy(<<106>>, Million))/binary, 106>>),
+                      Event(<<116, Million:32, (binary:copy(<<97, 1, 106>>, Million))/binary>>),
+                      Event(<<(binary:copy(<<116, 1:32, 97, 1>>, Million div 4))/binary, 106>>),
+                      binary:copy(Event(<<107, 60_000:16, 0:480_000>>), 100),
+                      binary:copy(<<1, 5:32>>, Million)]],
+        [_ = converted(".txt", Bytes)
+         || Bytes <- [binary:copy(<<"[">>, Million), binary:copy(<<"{">>, Million),
+                      binary:copy(<<"1,">>, Million), <<"[", (binary:copy(<<"1,">>, Million))/binary, "1]">>,
+                      binary:copy(<<"{\n">>, Million div 2), binary:copy(<<"<0<">>, Million div 4),
+                      <<"{", (binary:copy(<<"9">>, Million))/binary, "}">>,
+                      binary:copy(<<"\"">>, Million), binary:copy(<<"#{">>, Million div 2)]]
+    end}.
+
+%% Atoms of a file that this Erlang doesn't have are printed, and not made.
+no_atoms_test() ->
+    Word = "never_seen_" ++ [$a + rand:uniform(26) - 1 || _ <- lists:seq(1, 20)],
+    File = seqaudit_audits:file("no_atoms.txt"),
+    ok = file:write_file(File, ["%% node ", Word, "@h\n{seq_trace,{", Word, ",'", Word,
+                                " quoted'},{print,{0,1},<0.80.0>,[],#{", Word, " => ", Word, "}}}\n"]),
+    Name = seqaudit_audits:file("no_atoms"),
+    {ok, #{events := 1}} = seqaudit_convert:from_files([File], Name),
+    _ = (catch list_to_existing_atom("warm up the exception path")),
+    Atoms = erlang:system_info(atom_count),
+    {ok, #{events := 1}} = seqaudit_convert:from_files([File], Name),
+    Atoms = erlang:system_info(atom_count),
+    {'EXIT', {badarg, _}} = (catch list_to_existing_atom(Word)),
+    {ok, Terms} = file:read_file(Name ++ ".terms"),
+    {_, _} = binary:match(Terms, list_to_binary(["{", Word, ",'", Word, " quoted'}"])),
+    {_, _} = binary:match(Terms, list_to_binary(["#{", Word, " => ", Word, "}"])),
+    {_, _} = binary:match(Terms, list_to_binary(["process <0.80.0> of node ", Word, "@h"])).
+
+%% A name of a node or a process makes no line of its own in any output.
+forged_names_test() ->
+    Node = 'a@h\nprocess\t<0.1.0>\tforged\tforged',
+    Name = 'srv\nvalue\t0\tforged',
+    #{seqtrace := Bundle, terms := Terms, notes := Notes} =
+        seqaudit_convert:convert(
+          [#{node => Node, dropped => 3, processes => #{pid(Node, 80) => #{name => Name}},
+             events => [{seq_trace, 'l\nlabel', {print, {0, 1}, pid(Node, 80), [], 'm\nvalue\t1\tforged'}},
+                        {seq_trace, 1, {send, {0, 1}, pid('b@h', 80), {Name, Node}, x}}]}]),
+    [] = [Note || Note <- Notes, lists:member($\n, Note)],
+    Lines = binary:split(iolist_to_binary(Terms), <<"\n">>, [global, trim]),
+    [] = [Line || Line <- Lines, binary:match(Line, <<"\tforged\tforged">>) =/= nomatch],
+    ["l", "l", "p", "p", "p", "s", "v", "v"] = lists:sort([[hd(binary_to_list(Line))] || Line <- Lines]),
+    {match, _} = re:run(Bundle, "^seqtrace 2\nprocess [^\n]*\n(.*\n)*$").
+
+pid(Node, Number) ->
+    <<131, Atom/binary>> = term_to_binary(Node),
+    binary_to_term(<<131, 88, Atom/binary, Number:32, 0:32, 0:32>>).
+
+%% What logger and others write in front of an event is passed over, with lines of other things.
+log_lines_test() ->
+    Event = fun(K) -> io_lib:format("~p", [{seq_trace, 1, {print, {K, K + 1}, self(), [], {a, "long text", K}}}]) end,
+    Text = iolist_to_binary(["2026-11-23T10:00:00.123456+00:00 notice: application started\n",
+                             "2026-11-23T10:00:00.123456+00:00 info: ", Event(0), "\n",
+                             "[info] <0.99.0> ", Event(1), "\n", Event(2), ".\n",
+                             "=INFO REPORT==== 23-Nov-2026::10:00:00 ===\n",
+                             "10:00:00.000 [debug] {seq_trace,1,\n   {print,{3,4},<0.80.0>,\n     [],x}} trailing\n"]),
+    {ok, [{_, [_, _, _, {seq_trace, 1, {print, {3, 4}, _, [], x}}]}]} = seqaudit_text:read(Text),
+    %% Without any event the first line that isn't understood is the answer.
+    {error, {1, "this is no Erlang term" ++ _}} = seqaudit_text:read(<<"2026-11-23 info: started\nok\n">>),
+    {error, {2, _}} = seqaudit_text:read(<<"ok\n2026-11-23 info: {seq_trace,1,\n">>).
+
+out_of_range_test() ->
+    [{error, {1, Reason}} = seqaudit_text:read(Text)
+     || {Text, Reason} <- [{<<"<0.4294967296.0>">>, "the pid <0.4294967296.0> is out of range: its numbers have 32 bits"},
+                           {<<"<0.1.99999999999>">>, "the pid <0.1.99999999999> is out of range: its numbers have 32 bits"},
+                           {<<"#Port<0.18446744073709551616>">>,
+                            "the port #Port<0.18446744073709551616> is out of range: its number has 64 bits"},
+                           {<<"#Ref<0.1.4294967296>">>, "a reference is out of range: its numbers have 32 bits"}]],
+    {ok, [_]} = seqaudit_text:read(<<"<0.4294967295.4294967295>">>).
+
+%% A small file that unpacks to much is refused before it is unpacked, and one that lies too.
+unpacked_size_test() ->
+    File = seqaudit_audits:file("unpacks.bin"),
+    ok = file:write_file(File, term_to_binary([binary:copy(<<0>>, 100_000_000)], [{compressed, 9}])),
+    {error, {{unpacks, _}, File} = Reason} = seqaudit_events:read(File),
+    true = is_list(seqaudit_events:format_error(Reason)),
+    <<131, 80, _:32, Packed/binary>> = term_to_binary([binary:copy(<<0>>, 1_000_000)], [{compressed, 9}]),
+    ok = file:write_file(File, <<131, 80, 1_000:32, Packed/binary>>),
+    {error, {not_events, File}} = seqaudit_events:read(File).
+
+%% Equal terms have equal bytes, whatever release wrote them: atoms, pids, references and ports of
+%% older and of later ones.
+old_release_test() ->
+    Read = fun(Bytes) -> {ok, Term} = seqaudit_external:read(Bytes), Term end,
+    Node = <<100, 3:16, "a@h">>,
+    [Old, Old] = [Read(<<131, 100, 2:16, "ok">>), Read(<<131, 119, 2, "ok">>)],
+    [Latin, Latin] = [Read(<<131, 100, 1:16, 228>>), Read(<<131, 119, 2, "ä"/utf8>>)],
+    [Pid, Pid] = [Read(<<131, 103, Node/binary, 80:32, 1:32, 2>>), Read(<<131, 88, 119, 3, "a@h", 80:32, 1:32, 2:32>>)],
+    [Ref, Ref] = [Read(<<131, 114, 1:16, Node/binary, 2, 7:32>>), Read(<<131, 90, 1:16, 119, 3, "a@h", 2:32, 7:32>>)],
+    [Port, Port, Port] = [Read(<<131, 102, Node/binary, 5:32, 2>>), Read(<<131, 89, Node/binary, 5:32, 2:32>>),
+                          Read(<<131, 120, 119, 3, "a@h", 5:64, 2:32>>)],
+    [Float, Float] = [Read(<<131, 99, "2.50000000000000000000e+00", 0:40>>), Read(<<131, 70, 2.5/float>>)],
+    Events = [{seq_trace, K, {print, {0, 1}, self(), [], {ok, #{a => [K]}}}} || K <- [1, 2]],
+    [begin
+         File = seqaudit_audits:file("release.bin"),
+         ok = file:write_file(File, term_to_binary(Events, [{minor_version, Minor}])),
+         {ok, [#{events := Events}]} = seqaudit_events:read(File)
+     end || Minor <- [1, 2]].
+
+%% Maps are equal in whichever order a node writes their pairs.
+equal_maps_test() ->
+    Read = fun(Bytes) -> {ok, Term} = seqaudit_external:read(Bytes), Term end,
+    [Same, Same] = [Read(<<131, 116, 2:32, 97, 1, 97, 2, 97, 3, 106>>), Read(<<131, 116, 2:32, 97, 3, 106, 97, 1, 97, 2>>)],
+    "#{1 => 2,3 => []}" = seqaudit_terms:encoded(Same),
+    Nested = fun(Inner) -> Read(<<131, 104, 1, 116, 2:32, 97, 9, Inner/binary, 97, 1, 97, 2>>) end,
+    [Deep, Deep] = [Nested(<<116, 2:32, 97, 1, 97, 2, 97, 3, 106>>), Nested(<<116, 2:32, 97, 3, 106, 97, 1, 97, 2>>)].
+
+%% What version 1.0 wrote is read.
+version_1_test() ->
+    File = seqaudit_audits:file("version_1.events"),
+    Event = {seq_trace, 1, {print, {0, 1}, self(), [], x}},
+    ok = file:write_file(File, term_to_binary(
+        {seqaudit_events_1, [#{node => node(), events => [Event, Event], dropped => 2, own => 0, strays => 0,
+                               processes => #{self() => #{name => tester}}, tracer => put_back}]})),
+    Name = seqaudit_audits:file("version_1"),
+    {ok, #{events := 2, dropped := 2}} = seqaudit_convert:from_files([File], Name),
+    {ok, Legend} = seqaudit_legend:read(Name ++ ".terms"),
+    <<"tester">> = seqaudit_legend:process(list_to_binary(pid_to_list(self())), Legend).
+
+%% A trace of ttb has names beside it.
+ttb_names_test_() ->
+    {timeout, 60, fun() ->
+        case {code:ensure_loaded(ttb), seqaudit_test_nodes:start()} of
+            {{module, ttb}, {ok, Stop, There}} -> try ttb(There) after Stop() end;
+            {_, {ok, Stop, _}} -> Stop(), io:format(user, "ttb: skipped, it isn't here (erlang-observer)~n", []);
+            {_, {error, Reason}} -> io:format(user, "ttb: skipped, ~0tp~n", [Reason])
+        end
+    end}.
+
+ttb(There) ->
+    Folder = filename:dirname(seqaudit_audits:file("x")),
+    ok = erpc:call(There, file, set_cwd, [Folder]),
+    [ok = file:delete(File) || File <- filelib:wildcard(filename:join(Folder, "*ttb_names*"))],
+    ok = erpc:call(There, seqaudit_test_server, begin_shop, []),
+    {ok, _} = erpc:call(There, ttb, tracer, [There, [{file, filename:join(Folder, "ttb_names")}]]),
+    {ok, _} = erpc:call(There, ttb, p, [all, [call]]),
+    true = erpc:call(There, seqaudit_test_server, with_token, [fun seqaudit_test_server:order/1]),
+    _ = erpc:call(There, ttb, stop, [nofetch]),
+    [File] = [File || File <- filelib:wildcard(filename:join(Folder, "*ttb_names*")),
+                      filename:extension(File) =/= ".ti"],
+    Name = seqaudit_audits:file("ttb"),
+    {ok, #{events := Events}} = seqaudit_convert:from_files([File], Name),
+    true = Events >= 4,
+    {ok, Terms} = file:read_file(Name ++ ".terms"),
+    {_, _} = binary:match(Terms, <<"\tseqaudit_test_shop\t">>).
+
+%% 1,000,000 events convert in 10 s and 600 MB; that takes a machine with nothing else to do, so
+%% LONG=1 asks for it. Else 100,000 events in a tenth of the memory and some of the time.
+million_events_test_() ->
+    {timeout, 300, fun() ->
+        {Calls, Seconds, Bytes} = case os:getenv("LONG") of
+                                      false -> {25_000, 20, 150_000_000};
+                                      _ -> {250_000, 10, 600_000_000}
+                                  end,
+        File = seqaudit_audits:file("many.trace"),
+        ok = many_calls(File, Calls),
+        Self = self(),
+        {Peak, {Microseconds, {ok, #{events := Events}}}} = watched(fun() ->
+            timer:tc(fun() -> seqaudit_convert:from_files([File], seqaudit_audits:file("many_events")) end)
+        end),
+        Events = 4 * Calls,
+        io:format(user, "~b events: ~b ms, ~b MB~n", [Events, Microseconds div 1_000, Peak div 1_000_000]),
+        Self = self(),
+        true = Peak < Bytes,
+        true = Microseconds < Seconds * 1_000_000
+    end}.
+
+many_calls(File, Calls) ->
+    Pids = list_to_tuple([pid('many@h', N) || N <- lists:seq(100, 149)]),
+    {ok, Device} = file:open(File, [write, raw, binary, {delayed_write, 1_000_000, 1_000}]),
+    lists:foreach(fun(K) ->
+        Client = element(K rem 25 + 1, Pids),
+        Server = element(K rem 25 + 26, Pids),
+        [Alias, At] = [make_ref(), 2 * (K div 25)],
+        Call = {'$gen_call', {Client, [alias | Alias]}, {order, apple, K}},
+        Reply = {Alias, {left, K}},
+        [begin
+             Bytes = term_to_binary({seq_trace, K rem 100, Info}),
+             ok = file:write(Device, [<<0, (byte_size(Bytes)):32>>, Bytes])
+         end || Info <- [{send, {At, At + 1}, Client, Server, Call}, {'receive', {At, At + 1}, Client, Server, Call},
+                         {send, {At + 1, At + 2}, Server, Alias, Reply},
+                         {'receive', {At + 1, At + 2}, Server, Client, Reply}]]
+    end, lists:seq(1, Calls)),
+    file:close(Device).
