@@ -26,13 +26,6 @@ pub(crate) const COMPLETE_EXAMPLE: &str = "Example:
 Status 1: `never PID I WORD` and the events that it names; `open PID I`, undecided.
 Status 5, with --as acts: `long`, there is a run, of more acts than the reader takes.";
 
-pub(crate) const RENUMBER: &str =
-    "Writes the streams with each count replaced by its rank; they have a run just if the given ones have";
-
-pub(crate) const RENUMBER_EXAMPLE: &str =
-    "Example, for a tracer that came on when the clocks were high:
-  seqtool renumber trace.txt | seqtool audit";
-
 pub(crate) const WHY: &str = "Shows what caused an event, back to where its trace starts";
 
 pub(crate) const WHY_EXAMPLE: &str = "Example:

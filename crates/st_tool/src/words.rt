@@ -24,7 +24,8 @@ pub enum Form {
 pub enum Task {
     /// `complete`: what do the streams lack?
     Complete(Form),
-    /// `renumber`: the streams with small counts.
+    /// The streams with small counts: no command line asks for it while `st_complete::renumbered` isn't
+    /// written.
     Renumber,
     /// `why PID I`: what caused event I of this process?
     Why(Pid, u64),
@@ -108,15 +109,13 @@ fn command_line<'a>(alloc: Global) -> Result<Command<'a>, AllocError> {
     let check = plain_command(alloc, "check", help::CHECK, help::CHECK_EXAMPLE)?;
     let explain = plain_command(alloc, "explain", help::EXPLAIN, help::EXPLAIN_EXAMPLE)?;
     let lint = plain_command(alloc, "lint", help::LINT, help::LINT_EXAMPLE)?;
-    let renumber = plain_command(alloc, "renumber", help::RENUMBER, help::RENUMBER_EXAMPLE)?;
     program
         .subcommand(audit)?
         .subcommand(complete_command(alloc)?)?
         .subcommand(why_command(alloc)?)?
         .subcommand(lint)?
         .subcommand(check)?
-        .subcommand(explain)?
-        .subcommand(renumber)
+        .subcommand(explain)
 }
 
 /// The form of this name.
@@ -161,9 +160,6 @@ fn why_of(found: &ArgMatches) -> Option<Task> {
 fn task_of(name: &str, found: &ArgMatches) -> Option<Task> {
     if name == "complete" {
         return Some(Task::Complete(form_of(found.get_str("FORM"))));
-    }
-    if name == "renumber" {
-        return Some(Task::Renumber);
     }
     if name == "why" {
         return why_of(found);

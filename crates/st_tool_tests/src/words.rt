@@ -72,13 +72,6 @@ fn words_ask_for_commands(rt: HostRuntime) {
         Task::Audit,
         None,
     );
-    assert_asks(
-        &rt,
-        alloc,
-        ["seqtool", "renumber"].as_slice(),
-        Task::Renumber,
-        None,
-    );
 }
 
 /// The forms of a completion; the added events are the default.
