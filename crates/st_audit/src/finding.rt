@@ -39,7 +39,7 @@ pub enum Finding {
 /// Why there is no finding.
 #[derive(Clone, Copy, Debug, PartialEq, Eq, Error)]
 pub enum AuditFault {
-    /// Refusal 1: a growth was refused.
+    /// Refusal 1: no memory.
     #[error("no memory")]
     Memory,
 }

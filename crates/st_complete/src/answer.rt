@@ -44,7 +44,7 @@ pub enum Answer {
 /// Why there is no answer.
 #[derive(Clone, Copy, Debug, PartialEq, Eq, Error)]
 pub enum CompleteFault {
-    /// Refusal 1: a growth was refused.
+    /// Refusal 1: no memory.
     #[error("no memory")]
     Memory,
 }
@@ -61,7 +61,7 @@ pub struct Certificate {
 /// Why there is no certificate.
 #[derive(Clone, Copy, Debug, PartialEq, Eq, Error)]
 pub enum CertificateFault {
-    /// Refusal 1, after the other: a growth was refused.
+    /// Refusal 1, after the other: no memory.
     #[error("no memory")]
     Memory,
     /// Refusal 2: more acts are needed than the caller takes.

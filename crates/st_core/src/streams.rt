@@ -23,7 +23,7 @@ use thiserror::Error;
 /// Why a process wasn't opened.
 #[derive(Clone, Copy, Debug, PartialEq, Eq, Error)]
 pub enum OpenFault {
-    /// Refusal 1: a growth was refused.
+    /// Refusal 1: no memory.
     #[error("no memory")]
     Memory,
     /// Refusal 2, before 1: the pid isn't above all that were opened.

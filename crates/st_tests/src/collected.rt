@@ -31,7 +31,7 @@ fn streams_of(alloc: Global, text: &str) -> Option<Streams> {
     Some(bundle.streams)
 }
 
-/// The streams of a text. Where memory is refused a second try has it, so that a test of one refused growth gets to
+/// The streams of a text. If memory runs out it is asked for again, so that a test in which that happens once gets to
 /// what it tests.
 pub(crate) fn made(rt: &impl Abort, alloc: Global, text: &str) -> Streams {
     match streams_of(alloc, text) {

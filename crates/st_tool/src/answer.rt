@@ -89,7 +89,7 @@ pub(crate) fn tell_fault<W: ByteSink>(writer: &mut W, fault: ReadFault) -> u8
     tell_line(writer, OutputLine::Fault(fault), fault_status(fault))
 }
 
-/// Tells that a growth was refused: `fault memory`, status 4.
+/// Tells that memory ran out: `fault memory`, status 4.
 pub fn tell_no_memory<W: ByteSink>(writer: &mut W) -> u8
     ensures { Delivers W.puts W.failed writer.old writer.new no_memory result }
 {

@@ -19,7 +19,7 @@ use st_pair::{PairFault, Pairing, pair};
 use st_text::{ReadFault, read};
 use std::alloc::Global;
 
-/// A reason of pairing as a finding; none if it is that a growth was refused.
+/// A reason of pairing as a finding; none if memory ran out.
 fn unfit_by(fault: PairFault) -> Option<Finding>
     ensures { result ≡ unfit_by fault }
 {

@@ -1,4 +1,4 @@
-//! Driven scripts: refusals, and what a refused growth leaves.
+//! Driven scripts: refusals, and what is left if memory runs out.
 
 use super::{drive, drive_on};
 use crate::fault::{ActFault, DriveFault};
