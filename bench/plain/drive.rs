@@ -4,7 +4,7 @@
 
 use std::collections::{HashMap, VecDeque};
 use std::fmt::{self, Display, Formatter};
-use std::io::{self, BufWriter, Read, Write};
+use std::io::{self, BufWriter, Write};
 
 #[derive(Clone, Copy, PartialEq, Eq, Hash)]
 struct Pid {
@@ -424,9 +424,9 @@ fn write_bundle(all: &[Process], entries: &[&Entry], out: &mut impl Write) -> io
     out.flush()
 }
 
-fn main() -> io::Result<()> {
-    let mut text = String::new();
-    io::stdin().read_to_string(&mut text)?;
+/// Makes the acts of a bundle's text, and writes their run.
+pub fn drive(bytes: &[u8]) -> io::Result<()> {
+    let text = std::str::from_utf8(bytes).map_err(|_| io::ErrorKind::InvalidData)?;
     let mut lines = text.lines().skip(1);
     let pids = lines.by_ref().take_while(|line| *line != "acts");
     let mut all: Vec<Process> = pids
