@@ -86,7 +86,7 @@ test-conformance: ## compares 200 random scripts with a real node (1 minute; nee
 	SEQAUDIT=$(BUILT) $(MAKE) --no-print-directory -C erlang conformance conformance-broken RUNS=200; \
 	else echo "There is no erl or no python3 here: the comparison with a real node is skipped."; fi
 
-bench: bin/seqaudit ## times the commands on bundles of 1,000,000 acts, beside wc -l (1 minute, after program)
+bench: bin/seqaudit ## times the commands on bundles of 600,000 events, beside plain Rust (5 minutes, after program; needs rustc)
 	bench/run
 
 hostile: bin/seqaudit ## faults, tampered text and inputs at the limits, docs/HOSTILE.md (1 minute, after program)

@@ -1,49 +1,39 @@
 #!/usr/bin/env python3
-"""Times the commands of the program on the bundles that bench/run made: measure.py PROGRAM PLAIN_DRIVE."""
+"""Times the commands of two programs on the bundles that bench/run made: measure.py PROGRAM PLAIN ROUNDS.
 
+The programs run in turn. Each cell is the program's median in seconds, the plain one's, the first as a part of the
+second, and the peaks of memory of both in megabytes. What both write must be the same, but for `drive`, whose run is the
+scheduler's choice; that output is only written."""
+
+import filecmp
 import os
+import statistics
 import subprocess
 import sys
 import time
 from collections import Counter
 
-RUNS = 5
+BUNDLES = {
+    "ordinary": "8 processes",
+    "two": "2 processes",
+    "sixty-four": "64 processes",
+    "thousand": "1,000 processes",
+    "labels": "64 processes, 10,000 labels",
+    "nodes": "256 processes on 256 nodes",
+}
+COMMANDS = {"check": "run", "replay": "run", "audit": "streams", "chart": "streams", "drive": "scripts"}
 
 
-def best_of(words, path):
-    """The least wall time of some runs, and the peak of memory of the last in megabytes."""
-    best = peak = 0
-    for turn in range(RUNS):
-        with open(path, "rb") as given:
-            begin = time.perf_counter()
-            child = subprocess.Popen(words, stdin=given, stdout=subprocess.DEVNULL)
-            _, status, usage = os.wait4(child.pid, 0)
-            taken = time.perf_counter() - begin
-        if status:
-            sys.exit(f"{' '.join(words)} < {path}: status {os.waitstatus_to_exitcode(status)}")
-        best = taken if turn == 0 else min(best, taken)
-        peak = usage.ru_maxrss // 1024
-    return best, peak
-
-
-def describe(path):
-    """The size of a bundle, its events and its other lines."""
-    events = others = 0
-    with open(path, encoding="ascii") as lines:
-        for line in lines:
-            if line.startswith("{"):
-                events += 1
-            else:
-                others += 1
-    size = os.path.getsize(path)
-    print(f"\n{path}: {size:,} bytes, {events:,} events, {others:,} other lines")
-    return size
-
-
-def acts_of(path):
-    """How many acts a bundle holds."""
-    with open(path, encoding="ascii") as text:
-        return text.read().partition("\nacts\n")[2].count("\n")
+def run_once(words, source, target):
+    """The seconds and the peak of memory, in megabytes. (What a child inherits counts, so this program stays small.)"""
+    with open(source, "rb") as given, open(target, "wb") as taken:
+        begin = time.perf_counter()
+        child = subprocess.Popen(words, stdin=given, stdout=taken)
+        _, status, usage = os.wait4(child.pid, 0)
+        seconds = time.perf_counter() - begin
+    if status:
+        sys.exit(f"{' '.join(words)} < {source}: status {os.waitstatus_to_exitcode(status)}")
+    return seconds, usage.ru_maxrss // 1024
 
 
 def commonest_label(path):
@@ -53,30 +43,29 @@ def commonest_label(path):
     return labels.most_common(1)[0][0]
 
 
-def show(words, path, size):
-    best, peak = best_of(words, path)
-    print(f"  {' '.join(os.path.basename(w) for w in words):28} {best:6.3f} s {size / best / 1e6:8.0f} MB/s {peak:6} MB")
-    return best, peak
+def compare(programs, words, source, rounds):
+    """The medians and the greatest peaks of both programs."""
+    runs = {program: [] for program in programs}
+    for _ in range(rounds):
+        for place, program in enumerate(programs):
+            runs[program].append(run_once([program, *words], source, f"bin/bench/{place}.written"))
+    if words != ["drive"] and not filecmp.cmp("bin/bench/0.written", "bin/bench/1.written", shallow=False):
+        sys.exit(f"{' '.join(words)} < {source}: the programs write different texts")
+    return [(statistics.median(seconds for seconds, _ in done), max(peak for _, peak in done)) for done in runs.values()]
 
 
 def main():
-    program, plain = sys.argv[1:]
-    size = describe("bin/bench.txt")
-    for words in (["wc", "-l"], [program, "check"], [program, "replay"]):
-        show(words, "bin/bench.txt", size)
-    size = describe("bin/collected.txt")
-    audited, _ = show([program, "audit"], "bin/collected.txt", size)
-    show([program, "chart", "--label", commonest_label("bin/collected.txt")], "bin/collected.txt", size)
-    size = describe("bin/fitted.txt")
-    checked, _ = show([program, "check"], "bin/fitted.txt", size)
-    print(f"  an audit takes {audited / checked:.1f} times the check of what it answers")
-    size = describe("bin/scripts.txt")
-    driven, peak = show([program, "drive"], "bin/scripts.txt", size)
-    replayed, _ = show([program, "replay"], "bin/scripts.txt", size)
-    acts = acts_of("bin/scripts.txt")
-    print(f"  {peak * 2**20 / acts:.0f} bytes of memory an act; {driven / replayed:.1f} times the replay on one thread")
-    if os.access(plain, os.X_OK):
-        show([plain], "bin/scripts.txt", size)
+    program, plain, rounds = sys.argv[1:]
+    print(f"| {int(rounds)} rounds | " + " | ".join(COMMANDS) + " |")
+    print("|---|" + "---|" * len(COMMANDS))
+    for name, title in BUNDLES.items():
+        cells = []
+        for command, kind in COMMANDS.items():
+            source = f"bin/bench/{name}.{kind}"
+            label = ["--label", commonest_label(source)] if command == "chart" else []
+            (ours, peak), (theirs, least) = compare([program, plain], [command, *label], source, int(rounds))
+            cells.append(f"{ours:.2f} / {theirs:.2f} s = {ours / theirs:.2f}, {peak} / {least} MB")
+        print(f"| {title} | " + " | ".join(cells) + " |", flush=True)
 
 
 main()
