@@ -1,4 +1,4 @@
--- Where one list changes, all others stay, since no two lists share a node: each fact on all lists is one on the list
+-- If one list changes, all others stay, since no two lists share a node: each fact on all lists is one on the list
 -- that changed beside one on slots that did not.
 use Rattle.std.proofs.Common.{◌≡◌, ◌≢◌, ℕ, zero, suc, ◌+◌, ◌<◌, ◌≤◌, cond, eqb, List, [], ◌∷◌, length, get_or}
 use Rattle.std.proofs.Common.{map, set, Option, sum_by, refl, sym, ap, ◌∙◌, inl, inr, arith}

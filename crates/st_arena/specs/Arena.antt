@@ -17,6 +17,6 @@ arena_code {T} code =
     (λ p. record { lists = p.0; spare = p.1 })
     (λ _. refl)
 
--- the list of this number, which is below the number of lists wherever a clause cites it
+-- the list of this number, which is below the number of lists whenever a clause cites it
 abbrev pub list_at : {T : Type 0} → Arena T → ℕ → List T
 list_at arena list = slice_index_or arena.lists list []

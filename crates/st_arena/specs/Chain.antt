@@ -19,7 +19,7 @@ abbrev pub ends_at : List Ends → ℕ → Ends
 ends_at ends list = slice_index_or ends list no_ends
 
 module _ {T : Type 0} where
-  -- what stands in a slot: its value, and the keys of its neighbours (0 where the slot is empty)
+  -- what stands in a slot: its value, and the keys of its neighbours (0 if the slot is empty)
   abbrev pub item_of : Option (Node T) → Option T
   item_of slot = option_map (λ node. node.value) slot
 
@@ -79,7 +79,7 @@ module _ {T : Type 0} (slots : ℕ → Option (Node T)) where
 
 -- how one change of the slots, from old to new, tells in them
 module _ {T : Type 0} (old new : ℕ → Option (Node T)) where
-  -- where the condition holds, the node under the key names another as its next, and nothing else changed
+  -- if the condition holds, the node under the key names another as its next, and nothing else changed
   pub record SetsNext (condition : Type 0) (key next : ℕ) : Type 0 where
     pub items_stay : (other : ℕ) → item_of (new other) ≡ item_of (old other)
     pub previous_stay : (other : ℕ) → previous_key (new other) ≡ previous_key (old other)

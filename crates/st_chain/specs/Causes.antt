@@ -35,7 +35,7 @@ abbrev pub cause_by : List Stream → Pid → ℕ → Event → Cause
 cause_by streams p i e = if is_stamp e then of_receive p
     (received_before (events_of streams p) e.serial.prev i) else of_source (source_of streams e)
 
--- what the event at (p, i) follows; none where there is no event
+-- what the event at (p, i) follows; none if there is no event
 abbrev pub cause_at : List Stream → Pid → ℕ → Option Cause
 cause_at streams p i = option_map (cause_by streams p i) (event_at streams p i)
 

@@ -117,8 +117,7 @@ impl<'a> Model for Chains<'a> {
 }
 
 impl<'a> Chains<'a> {
-    /// The chains of streams, by the pairing that was made from them. Refusal 1, the only one:
-    /// memory ran out.
+    /// The chains of streams, by the pairing that was made from them. Fails only if memory runs out.
     pub fn new(
         alloc: Global,
         streams: &'a Streams,
@@ -165,8 +164,8 @@ impl<'a> Chains<'a> {
     }
 
     /// The event at this place, its cause, and so on until a hidden send or a start; nothing if
-    /// there is no event. It ends: no cause counts more than its event. Refusal 1, the only one:
-    /// memory ran out.
+    /// there is no event. It ends: no cause counts more than its event. Fails only if memory runs
+    /// out.
     pub fn back(&self, alloc: Global, pid: Pid, index: u64) -> Result<Vec<(Pid, u64)>, AllocError>
         ensures { IfOk result (λ v. IsBackFrom self.now (place_at self.now pid index) v.items) }
     {

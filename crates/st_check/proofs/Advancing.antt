@@ -42,7 +42,7 @@ none_after : {A B : Type 0} (o : Option A) → (let none : Option B = None in op
 none_after None = refl
 none_after (Some x) = refl
 
--- an act that isn't refused for want of memory has no step
+-- an act that isn't refused because memory ran out has no step
 pub fault_stuck : (top : ℕ) (s : State) (a : Act) (f : StepFault) → IsFault top s a f
     → (f ≡ fault.Memory) ⊎ (step top s a ≡ None)
 fault_stuck top s a fault.Memory is = inl refl

@@ -21,7 +21,7 @@ front_more xs ys e front next =
     let found = first_is zs e (sym (slice_get_behind xs zs) ∙ ap (λ l. slice_get l (length xs)) front.1 ∙ next) in
     (found.0, append_assoc xs (e ∷ []) found.0 ∙ ap (λ l. xs ++ l) found.1 ∙ front.1)
 
--- and where it is a front, that is the next element
+-- and if it is a front, that is the next element
 pub front_next : {A : Type 0} (xs ys : List A) (e : A) → IsPrefix (xs ++ e ∷ []) ys → slice_get ys (length xs) ≡ Some e
 front_next xs ys e front =
     ap (λ l. slice_get l (length xs)) (sym front.1 ∙ append_assoc xs (e ∷ []) front.0)

@@ -80,7 +80,7 @@ unlisted_stuck top streams acts s counts tags ps a p apart =
 
 -- NO STEP
 
--- where the act has no step, the acts with it have no run
+-- if the act has no step, the acts with it have no run
 pub stuck_more : (top : ℕ) (streams : List Stream) (acts : List Act) (s : State) (counts : List ℕ)
     (tags : List (List ℕ)) (ps : List (ℕ × ℕ)) (a : Act) → IsPassed top streams acts s counts tags ps
     → step top s a ≡ None → run top (pids_of streams) (acts ++ a ∷ []) ≡ None
@@ -158,7 +158,7 @@ module _ (acts : List Act) (a : Act) (os : List Outcome) (o : Outcome) (even : l
         | false ↦ λ apart. subst (λ es. IsPrefix es x.events) (sym (stream_other x.pid apart)) front
       ] refl
 
--- the act passes where what it reports is the next event of its actor's stream
+-- the act passes if what it reports is the next event of its actor's stream
 pub passed_more : (top : ℕ) (streams : List Stream) (acts : List Act) (s : State) (counts : List ℕ)
     (tags : List (List ℕ)) (ps : List (ℕ × ℕ)) (a : Act) (o : Outcome) (i : ℕ) (n : ℕ) (later : List (List ℕ))
     → IsRising (pids_of streams) → slice_get (pids_of streams) i ≡ Some (actor a) → n ≡ length acts
@@ -197,7 +197,7 @@ passed_more top streams acts s counts tags ps a o i n later rising at number p h
           ∙ sym (pairs_from-append (λ q. []) 0 acts a os o even);
     }
 
--- and it differs where it reports another
+-- and it differs if it reports another
 pub differs_more : (top : ℕ) (streams : List Stream) (acts : List Act) (s : State) (counts : List ℕ)
     (tags : List (List ℕ)) (ps : List (ℕ × ℕ)) (a : Act) (o : Outcome) (i : ℕ) (e : Event)
     → IsRising (pids_of streams) → slice_get (pids_of streams) i ≡ Some (actor a)

@@ -9,7 +9,7 @@ use Rattle.st_core.specs.Run.{Stream, pids_of}
 use Rattle.st_core.specs.Streams.{stream_of, events_of}
 use Rattle.st_core.proofs.ForCallers.{pid_eq-same, IsBelow-apart, all_at, all_apart}
 
--- two lists agree where no pid is p
+-- two lists agree if no pid is p
 pub map_apart : {B : Type 0} (f g : Pid → B) (ps : List Pid) (p : Pid) → AllByRecursion (λ q. pid_eq q p ≡ false) ps
     → ((q : Pid) → pid_eq q p ≡ false → g q ≡ f q) → map g ps ≡ map f ps
 map_apart f g [] p apart same = refl

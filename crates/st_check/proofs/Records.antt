@@ -236,7 +236,7 @@ comes_last pids k d draft rising within are =
     (opened_last (take k pids) (get_or pids k d)
     (rising_at pids k (get_or pids k d) rising (slice_get-get_or pids k d within)))
 
--- a step that is refused, and not for want of memory, isn't there
+-- a step that is refused, and not because memory ran out, isn't there
 pub no_step_but : {P Q : Type 0} → P ⊎ Q → (P → ⊥) → Q
 no_step_but (inl p) other = absurd (other p)
 no_step_but (inr q) other = q

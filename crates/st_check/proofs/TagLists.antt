@@ -53,7 +53,7 @@ past_end xs k none =
       | inr past ↦ past
     ]
 
--- what a take leaves, also where nothing lay at the place
+-- what a take leaves, also if nothing lay at the place
 pub take_leaves : (old new : Arena ℕ) (list place : ℕ) (result : Option ℕ)
     → result ≡ slice_get (get_or old.lists list []) place
     → OnSome result (new.lists ≡ set old.lists list (remove (get_or old.lists list []) place))

@@ -1,4 +1,4 @@
--- Where all acts pass, the counts say which events are left, so they give the verdict; and what a yes shows holds in
+-- If all acts pass, the counts say which events are left, so they give the verdict; and what a yes shows holds in
 -- every run.
 use Rattle.std.proofs.Common.{◌≡◌, ℕ, ◌+◌, ◌<◌, ◌≤◌, zero, suc, Bool, true, false, cond, nat_lt, List, [], ◌∷◌, ◌++◌}
 use Rattle.std.proofs.Common.{length, get_or, find, Option, Some, None, option_to_list, All, refl, sym, ◌∙◌, ap}

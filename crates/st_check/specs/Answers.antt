@@ -1,4 +1,4 @@
--- What the checker's and the replay's answers mean.
+-- What the checker's and the replay's results mean.
 use Rattle.std.specs.Prelude.{◌≡◌, ℕ, ◌+◌, ◌<◌, List, length, map, take, Some, None, IsSome, All}
 use Rattle.st_core.specs.declared.types.Pid.{Pid}
 use Rattle.st_core.specs.declared.types.Act.{Act}
@@ -15,7 +15,7 @@ use Rattle.st_check.specs.declared.verdict.Replayed.TheVariants as replayed
 use Rattle.st_check.specs.declared.verdict.ReplayFault.{ReplayFault}
 use Rattle.st_check.specs.declared.verdict.ReplayFault.TheVariants as fault
 
--- the checker's answer as a verdict
+-- the checker's result as a verdict
 abbrev pub verdict_of : Verdict → verdicts.Verdict
 verdict_of (told.Stuck n) = verdicts.Stuck n
 verdict_of (told.Differs n) = verdicts.Differs n
@@ -61,17 +61,17 @@ pub record SticksAt (top : ℕ) (pids : List Pid) (acts : List Act) (n : ℕ) : 
   pub before : IsSome (run top pids (take n acts))
   pub none : run top pids (take (n + 1) acts) ≡ None
 
--- what a replay answers
+-- what a replay returns
 abbrev pub IsReplay : ℕ → List Pid → List Act → Replayed → Type 0
 IsReplay top pids acts (replayed.Ran streams replies) = RunsWith top pids acts streams replies
 IsReplay top pids acts (replayed.Stuck n) = SticksAt top pids acts n
 
--- when there is no replay: for want of memory only where the pids rise
+-- when there is no replay: the pids don't rise; or they do, and memory ran out
 abbrev pub IsReplayFault : List Pid → ReplayFault → Type 0
 IsReplayFault pids fault.Memory = IsRising pids
 IsReplayFault pids fault.NotRising = ¬ IsRising pids
 
--- where there is a run, the serials of its streams rise
+-- if there is a run, the serials of its streams rise
 abbrev pub RisesOnRun : Replayed → Type 0
 RisesOnRun (replayed.Ran streams replies) = AllRise streams
 RisesOnRun (replayed.Stuck n) = Unit {0}

@@ -1,4 +1,4 @@
--- What the checker keeps while acts pass. For the contracts of its parts alone: what it answers is in `Answers`.
+-- What the checker keeps while acts pass. For the contracts of its parts alone: what it returns is in `Answers`.
 use Rattle.std.specs.Prelude.{◌≡◌, ℕ, ◌+◌, ◌<◌, ◌≤◌, IsSome, slice_get, List, [], ◌∷◌, length, map, slice_set}
 use Rattle.std.specs.Prelude.{slice_index, slice_index_or, remove, Option, Some, None}
 use Rattle.st_core.specs.declared.types.Pid.{Pid}
@@ -34,7 +34,7 @@ tags_of acts os = tags_from (λ p. []) 0 acts os
 abbrev pub count_of : List Act → List Outcome → Pid → ℕ
 count_of acts os p = length (stream acts os p)
 
--- the counts after an act of the process at this place: one more for it where it reported an event
+-- the counts after an act of the process at this place: one more for it if it reported an event
 abbrev pub counted : List ℕ → ℕ → Option Event → List ℕ
 counted counts place None = counts
 counted counts place (Some e) = slice_set counts place (slice_index counts place + 1)
@@ -60,7 +60,7 @@ pub record IsPassed (top : ℕ) (streams : List Stream) (acts : List Act) (s : S
   pub are_tags : tags ≡ map (tags_of acts outcomes) (pids_of streams)
   pub are_pairs : ps ≡ pairs acts outcomes
 
--- an act stops for want of memory, or has no step
+-- an act stops because memory ran out, or has no step
 abbrev pub stop_of : StepFault → Stop
 stop_of fault.Memory = stop.Memory
 stop_of fault.Unknown = stop.Stuck

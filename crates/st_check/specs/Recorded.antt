@@ -1,4 +1,4 @@
--- What a replay records while acts have a run. For the contracts of its parts alone: what it answers is in `Answers`.
+-- What a replay records while acts have a run. For the contracts of its parts alone: what it returns is in `Answers`.
 use Rattle.std.specs.Prelude.{◌≡◌, ℕ, List, map, Option, Some, None}
 use Rattle.st_core.specs.declared.types.Pid.{Pid}
 use Rattle.st_core.specs.declared.types.Event.{Event}

@@ -22,7 +22,7 @@ pub enum Verdict {
 /// Why there is no verdict.
 #[derive(Clone, Copy, Debug, PartialEq, Eq, Error)]
 pub enum CheckFault {
-    /// Refusal 1: memory ran out.
+    /// Memory ran out.
     #[error("no memory")]
     Memory,
 }
@@ -39,10 +39,10 @@ pub enum Replayed {
 /// Why acts weren't replayed.
 #[derive(Clone, Copy, Debug, PartialEq, Eq, Error)]
 pub enum ReplayFault {
-    /// Refusal 1, after the other: memory ran out.
+    /// Memory ran out. Comes only if the pids rise.
     #[error("no memory")]
     Memory,
-    /// Refusal 2: the pids don't rise strictly.
+    /// The pids don't rise strictly. Looked at first.
     #[error("the pids don't rise")]
     NotRising,
 }

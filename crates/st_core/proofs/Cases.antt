@@ -1,6 +1,7 @@
 -- Worked cases: the definitions computed. Nothing cites this file; it shows that the definitions say what is meant.
 use Rattle.std.specs.Prelude.{◌≡◌, ℕ, Bool, true, false, List, [], ◌∷◌, map, take, Option, Some, None, option_map, refl}
-use Rattle.std.proofs.Common.{inl, inr}
+use Rattle.std.proofs.Common.{inl, inr, ap, arith}
+use Rattle.std.proofs.lemmas.Option.{same_Some}
 use Rattle.st_core.specs.declared.types.Pid.{Pid}
 use Rattle.st_core.specs.declared.types.Label.{Label}
 use Rattle.st_core.specs.declared.types.Token.{Token}
@@ -19,7 +20,7 @@ use Rattle.st_core.specs.State.{process, zero_state}
 use Rattle.st_core.specs.Pick.{pick}
 use Rattle.st_core.specs.Step.{Outcome}
 use Rattle.st_core.specs.Run.{Stream, run, stream}
-use Rattle.st_core.specs.Laws.{clock_in, GoesOnFrom, ReportsEverything}
+use Rattle.st_core.specs.Laws.{AreAllApart, clock_in, GoesOnFrom, ReportsEverything}
 use Rattle.st_core.specs.Verdict.{Stuck, Differs, Left, Yes, IsVerdict}
 use Rattle.st_core.proofs.Verdicts.{computed}
 
@@ -320,3 +321,29 @@ full_outcomes = elim (run top (a ∷ b ∷ []) full_acts) [ None ↦ [] | Some o
 everything_reported : ReportsEverything (zero_state (a ∷ b ∷ [])) full_acts full_outcomes
 everything_reported =
     (λ r is h. h, (λ r is h. h, (λ r is h. h, (λ r is h. refl, (λ r is h. refl, tt)))))
+
+-- a message that a stamped with this count
+abbrev waiting : ℕ → Message
+waiting n =
+    record {
+      from = a;
+      value = 5;
+      token = Some (record (token_of 7 true true true a) { serial = record { prev = 0; this = n } });
+    }
+
+-- two queues with stamps of one process share none if the counts differ
+queues_apart : AreAllApart (waiting 1 ∷ []) (waiting 2 ∷ [])
+queues_apart = (
+  (
+    λ t u has_t has_u from same.
+        let one = ap (λ (x : Token). x.serial.this) (same_Some _ t has_t) in
+        let two = ap (λ (x : Token). x.serial.this) (same_Some _ u has_u) in
+        omega (arith, one, two, same),
+    tt,
+  ),
+  tt,
+)
+
+-- and do if one count stands in both
+queues_share : ¬ AreAllApart (waiting 1 ∷ []) (waiting 2 ∷ waiting 1 ∷ [])
+queues_share apart = apart.0.1.0 _ _ refl refl refl refl

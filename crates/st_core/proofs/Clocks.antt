@@ -1,5 +1,6 @@
--- In a run without a reset a clock doesn't fall, since only a reset lowers one, and a stamp lifts its process's clock
--- to the stamp's count: so the count is above all that the clock was before.
+-- In a run without a reset a clock doesn't fall, since only a reset lowers one, and a stamp lifts
+-- its process's clock to the stamp's count: so the count is above all that the clock was before. A
+-- reported send or print, and a send that a reported receive follows, are stamps.
 use Rattle.std.proofs.Common.{◌≡◌, ℕ, ◌+◌, ◌<◌, ◌≤◌, ◌≢◌, ◌&&◌, zero, suc, Bool, true, false, cond, nat_lt, List, []}
 use Rattle.std.proofs.Common.{◌∷◌, ◌++◌, Option, Some, None, is_some, option_map, option_and_then, All, inl, inr}
 use Rattle.std.proofs.Common.{refl, sym, ◌∙◌, ap, subst, arith}
@@ -71,55 +72,32 @@ any_grows top p l m h = any_at top p l m l.token refl h
 
 -- THE ACTOR'S PART
 
--- an actor's part: its clock doesn't fall, and where it reports a send or a print it rises to the event's count
-record IsCounted (l : LocalState) (done : Acted) : Type 0 where
-  least : l.clock ≤ done.local.clock
-  stamp : (e : Event) → done.report ≡ Some e → e.kind ≢ kind.Receive
-      → (l.clock < e.serial.this) × (done.local.clock ≡ e.serial.this)
-
 -- the event of a token
 abbrev event_of : Kind → Token → Option Pid → ℕ → Event
 event_of k t to v = record { label = t.label; kind = k; serial = t.serial; from = t.from; to = to; value = v }
 
-report_counted : (p : Pid) (l m : LocalState) (traced : Bool) (k : Kind) (token : Option Token) (to : Option Pid)
-    (v : ℕ) (e : Event) → IsGrown p l m → m.token ≡ token → report traced k token to v ≡ Some e
-    → (l.clock < e.serial.this) × (m.clock ≡ e.serial.this)
-report_counted p l m traced k None to v e g is h = absurd (none-some e h)
-report_counted p l m traced k (Some t) to v e g is h =
-    let stamped = g.token t is in
-    subst (λ (x : Event). (l.clock < x.serial.this) × (m.clock ≡ x.serial.this))
-    (cond_some (traced && flag_of k t.flags) (event_of k t to v) e h).1 (stamped.above, stamped.reaches)
+-- an actor's part leaves its clock no lower
+abbrev IsNoLower : LocalState → Acted → Type 0
+IsNoLower l done = l.clock ≤ done.local.clock
 
-printed_counted : (r : Process) (v : ℕ) (stamped : Option LocalState) (done : Acted)
+printed_least : (r : Process) (v : ℕ) (stamped : Option LocalState) (done : Acted)
     → ((m : LocalState) → stamped ≡ Some m → IsGrown r.pid r.local m) → option_map (prints r v) stamped ≡ Some done
-    → IsCounted r.local done
-printed_counted r v stamped done grows h =
+    → IsNoLower r.local done
+printed_least r v stamped done grows h =
     let parts = mapped (prints r v) stamped done h in
-    let m = parts.0 in
-    let g = grows m parts.1 in
-    subst (IsCounted r.local) parts.2 (record {
-      least = g.least;
-      stamp = λ e is _. report_counted r.pid r.local m r.local.traced kind.Print m.token None v e g refl is;
-    })
+    subst (IsNoLower r.local) parts.2 (grows parts.0 parts.1).least
 
 silent : (r : Process) (l : LocalState) (y : Reply) (done : Acted) → Some (answers r l y) ≡ Some done
-    → r.local.clock ≤ l.clock → IsCounted r.local done
-silent r l y done h least =
-    subst (IsCounted r.local) (same_Some (answers r l y) done h)
-    (record { least = least; stamp = λ e is _. absurd (none-some e is) })
+    → r.local.clock ≤ l.clock → IsNoLower r.local done
+silent r l y done h least = subst (IsNoLower r.local) (same_Some (answers r l y) done h) least
 
-received_least : (l : LocalState) (token : Option Token) → l.clock ≤ (received l token).clock
-received_least l None = omega arith
-received_least l (Some t) = omega arith
+token_least : (l : LocalState) (token : Option Token) → l.clock ≤ (received l token).clock
+token_least l None = omega arith
+token_least l (Some t) = omega arith
 
-received_counted : (r : Process) (found : Option (ℕ × Message)) → IsCounted r.local (receives r found)
-received_counted r None = record { least = omega arith; stamp = λ e is _. absurd (none-some e is) }
-received_counted r (Some found) =
-    let m = found.1 in
-    record {
-      least = received_least r.local m.token;
-      stamp = λ e is other. absurd (other (report_kind r.local.traced kind.Receive m.token (Some r.pid) m.value e is));
-    }
+received_least : (r : Process) (found : Option (ℕ × Message)) → IsNoLower r.local (receives r found)
+received_least r None = omega arith
+received_least r (Some found) = let m = found.1 in token_least r.local m.token
 
 set_least : (p : Pid) (l : LocalState) (token : Option Token)
     → l.clock ≤ (let m : LocalState = elim token [
@@ -129,32 +107,27 @@ set_least : (p : Pid) (l : LocalState) (token : Option Token)
 set_least p l None = omega arith
 set_least p l (Some t) = omega arith
 
-acted_counted : (top : ℕ) (a : Act) (r : Process) (done : Acted) → acted top r a ≡ Some done → IsCounted r.local done
-acted_counted top (act.Send p q v) r done h =
+acted_least : (top : ℕ) (a : Act) (r : Process) (done : Acted) → acted top r a ≡ Some done → IsNoLower r.local done
+acted_least top (act.Send p q v) r done h =
     let parts = mapped (sends r q v) (stamp_any top r.pid r.local) done h in
-    let m = parts.0 in
-    let g = any_grows top r.pid r.local m parts.1 in
-    subst (IsCounted r.local) parts.2 (record {
-      least = g.least;
-      stamp = λ e is _. report_counted r.pid r.local m r.local.traced kind.Send m.token (Some q) v e g refl is;
-    })
-acted_counted top (act.Receive p w) r done h =
-    subst (IsCounted r.local) (same_Some _ done h) (received_counted r (pick w r.queue))
-acted_counted top (act.Print p v) r done h =
-    printed_counted r v (stamp_any top r.pid r.local) done (any_grows top r.pid r.local) h
-acted_counted top (act.PrintAt p n v) r done h =
+    subst (IsNoLower r.local) parts.2 (any_grows top r.pid r.local parts.0 parts.1).least
+acted_least top (act.Receive p w) r done h =
+    subst (IsNoLower r.local) (same_Some _ done h) (received_least r (pick w r.queue))
+acted_least top (act.Print p v) r done h =
+    printed_least r v (stamp_any top r.pid r.local) done (any_grows top r.pid r.local) h
+acted_least top (act.PrintAt p n v) r done h =
     elim (has_label n r.local.token) as (λ b.
     cond b (option_map (prints r v) (stamp top r.pid r.local)) (Some (answers r r.local reply.Done)) ≡ Some done
-    → IsCounted r.local done) [
-      | true ↦ printed_counted r v (stamp top r.pid r.local) done (stamp_grows top r.pid r.local)
+    → IsNoLower r.local done) [
+      | true ↦ printed_least r v (stamp top r.pid r.local) done (stamp_grows top r.pid r.local)
       | false ↦ λ h. silent r r.local reply.Done done h (omega arith)
     ] h
-acted_counted top (act.Set p c) r done h = silent r _ _ done h (set_least r.pid r.local r.local.token)
-acted_counted top (act.Clear p) r done h = silent r _ _ done h (omega arith)
-acted_counted top (act.Restore p t) r done h = silent r _ _ done h (omega arith)
-acted_counted top (act.Look p) r done h = silent r _ _ done h (omega arith)
-acted_counted top (act.Reset p) r done h = silent r _ _ done h (omega arith)
-acted_counted top (act.Tracer p b) r done h = silent r _ _ done h (omega arith)
+acted_least top (act.Set p c) r done h = silent r _ _ done h (set_least r.pid r.local r.local.token)
+acted_least top (act.Clear p) r done h = silent r _ _ done h (omega arith)
+acted_least top (act.Restore p t) r done h = silent r _ _ done h (omega arith)
+acted_least top (act.Look p) r done h = silent r _ _ done h (omega arith)
+acted_least top (act.Reset p) r done h = silent r _ _ done h (omega arith)
+acted_least top (act.Tracer p b) r done h = silent r _ _ done h (omega arith)
 
 -- EACH PROCESS
 
@@ -228,7 +201,7 @@ step_clock top s a o p h plain =
     let who : actor a ≡ p = sym (pid_eq-true r.pid (actor a) mine) ∙ process_pid s p r is_r in
     same_Some t.before r (sym t.is_before ∙ ap (process s) who ∙ is_r) in
     subst (λ found. clock_in s p ≤ clock_found found) (sym (process_after top s a o t p))
-    (found_clock a t.done t.before (process s p) plain (acted_counted top a t.before t.done t.is_done).least same)
+    (found_clock a t.done t.before (process s p) plain (acted_least top a t.before t.done t.is_done) same)
 
 -- A STEP THAT LIFTS A CLOCK
 
@@ -242,67 +215,6 @@ actor_clock top s a o t plain =
     ap clock_found (actor_after top s a o t)
     ∙ (changed_counts a t.done t.before true plain (actor_mine top s a o t)).clock
 
--- a reported send or print
-report_lifts : (top : ℕ) (s : State) (a : Act) (o : Outcome) (e : Event) → step top s a ≡ Some o → is_reset a ≡ false
-    → o.report ≡ Some e → e.kind ≢ kind.Receive → Lifts s o (actor a) e.serial.this
-report_lifts top s a o e h plain is other =
-    let t = step_parts top s a o h in
-    let counted = acted_counted top a t.before t.done t.is_done in
-    let rise = counted.stamp e (ap (λ (x : Outcome). x.report) t.is_outcome ∙ is) other in
-    let above = rise.0 in
-    let before : clock_in s (actor a) ≡ t.before.local.clock = ap clock_found t.is_before in
-    record { above = omega arith; reaches = actor_clock top s a o t plain ∙ rise.1 }
-
--- A SEND AND ITS TOKEN
-
--- a send after which its actor has this token: the actor had one before, the token is its stamp, which lifted its clock
--- to the token's count, and the report, if there is one, is the token's
-pub record Sends (s : State) (p q : Pid) (v : ℕ) (o : Outcome) (token : Token) : Type 0 where
-  pub had : (r : Process) → process s p ≡ Some r → is_some r.local.token ≡ true
-  pub from : token.from ≡ p
-  pub lifts : Lifts s o p token.serial.this
-  pub report : (e : Event) → o.report ≡ Some e → e ≡ event_of kind.Send token (Some q) v
-
-had_token : (top : ℕ) (p : Pid) (l m : LocalState) (t : Token) (token : Option Token) → l.token ≡ token
-    → cond (is_some token) (stamp top p l) (Some l) ≡ Some m → m.token ≡ Some t → is_some token ≡ true
-had_token top p l m t None e h has =
-    absurd (none-some t (sym e ∙ ap (λ (x : LocalState). x.token) (same_Some l m h) ∙ has))
-had_token top p l m t (Some x) e h has = refl
-
-pub sent : (top : ℕ) (s : State) (p q : Pid) (v : ℕ) (o : Outcome) (r : Process) (token : Token)
-    → step top s (act.Send p q v) ≡ Some o → process o.after p ≡ Some r → r.local.token ≡ Some token
-    → Sends s p q v o token
-sent top s p q v o r token h is has =
-    let a = act.Send p q v in
-    let t = step_parts top s a o h in
-    let x = t.before in
-    let parts = mapped (sends x q v) (stamp_any top x.pid x.local) t.done t.is_done in
-    let m = parts.0 in
-    let part : t.done.local ≡ m = ap (λ (d : Acted). d.local) (sym parts.2) in
-    let own : r.local ≡ m =
-    ap (λ (y : Process). y.local) (same_Some r _ (sym is ∙ actor_after top s a o t))
-    ∙ sent_local p q v t.done x (actor_mine top s a o t)
-    ∙ part in
-    let token_is : m.token ≡ Some token = ap (λ (l : LocalState). l.token) (sym own) ∙ has in
-    let stamped = (any_grows top x.pid x.local m parts.1).token token token_is in
-    let above = stamped.above in
-    let before : clock_in s p ≡ x.local.clock = ap clock_found t.is_before in
-    let had = had_token top x.pid x.local m token x.local.token refl parts.1 token_is in
-    record {
-      had = λ y there. ap (λ (z : Process). is_some z.local.token) (same_Some y x (sym there ∙ t.is_before)) ∙ had;
-      from = stamped.from ∙ process_pid s p x t.is_before;
-      lifts = record {
-        above = omega arith;
-        reaches = ap clock_found is ∙ ap (λ (l : LocalState). l.clock) own ∙ stamped.reaches;
-      };
-      report = λ e reported.
-          let told : report x.local.traced kind.Send m.token (Some q) v ≡ Some e =
-          ap (λ (d : Acted). d.report) parts.2 ∙ ap (λ (y : Outcome). y.report) t.is_outcome ∙ reported in
-          let event = event_of kind.Send token (Some q) v in
-          sym (cond_some (x.local.traced && token.flags.send) event e
-          (ap (λ k. report x.local.traced kind.Send k (Some q) v) (sym token_is) ∙ told)).1;
-    }
-
 -- A STAMP, REPORTED OR NOT
 
 -- the actor's part of a stamp: its token is p's, and lifted the clock
@@ -315,8 +227,9 @@ printed_stamp r v stamped done t grows h is =
     subst (λ l. IsStampAbove r.pid r.local.clock l t) local
     ((grows parts.0 parts.1).token t (ap (λ (l : LocalState). l.token) local ∙ is))
 
-stamp_label : (n : Label) (r : Process) (done : Acted) (t : Token) → Some (answers r r.local reply.Done) ≡ Some done → done.local.token ≡ Some t → has_label n r.local.token ≡ false
-    → has_label n (Some t) ≡ false
+stamp_label : (n : Label) (r : Process) (done : Acted) (t : Token)
+    → Some (answers r r.local reply.Done) ≡ Some done → done.local.token ≡ Some t
+    → has_label n r.local.token ≡ false → has_label n (Some t) ≡ false
 stamp_label n r done t h is none =
     let same : r.local.token ≡ Some t = ap (λ (d : Acted). d.local.token) (same_Some _ done h) ∙ is in
     ap (has_label n) (sym same) ∙ none
@@ -389,6 +302,147 @@ stamp_lifts top s a o r token h is there has =
     record {
       above = omega arith;
       reaches = actor_clock top s a o t (never_reset a token is) ∙ stamped.reaches;
+    }
+
+-- A REPORTED SEND OR PRINT
+
+-- the token that such an act stamped: its actor has it afterwards, and the report its serial
+record IsReported (a : Act) (local : LocalState) (e : Event) : Type 0 where
+  token : Token
+  stamped : stamps a token ≡ true
+  has : local.token ≡ Some token
+  serial : token.serial ≡ e.serial
+
+-- a report of the actor's token, if the act stamps each token that the actor has after it
+told_reported : (a : Act) (l : LocalState) (traced : Bool) (k : Kind) (token : Option Token) (to : Option Pid) (v : ℕ)
+    (e : Event) → ((t : Token) → token ≡ Some t → stamps a t ≡ true) → l.token ≡ token
+    → report traced k token to v ≡ Some e → IsReported a l e
+told_reported a l traced k None to v e stamped is h = absurd (none-some e h)
+told_reported a l traced k (Some t) to v e stamped is h = record {
+  token = t;
+  stamped = stamped t refl;
+  has = is;
+  serial = ap (λ (x : Event). x.serial) (cond_some (traced && flag_of k t.flags) (event_of k t to v) e h).1;
+}
+
+printed_reported : (a : Act) (r : Process) (v : ℕ) (stamped : Option LocalState) (done : Acted) (e : Event)
+    → ((m : LocalState) → stamped ≡ Some m → (t : Token) → m.token ≡ Some t → stamps a t ≡ true)
+    → option_map (prints r v) stamped ≡ Some done → done.report ≡ Some e → IsReported a done.local e
+printed_reported a r v stamped done e is_stamp h is =
+    let parts = mapped (prints r v) stamped done h in
+    let m = parts.0 in
+    let told = ap (λ (d : Acted). d.report) parts.2 ∙ is in
+    subst (λ (d : Acted). IsReported a d.local e) parts.2
+    (told_reported a m r.local.traced kind.Print m.token None v e (is_stamp m parts.1) refl told)
+
+-- a stamp keeps the label
+stamped_label : (top : ℕ) (p : Pid) (l m : LocalState) (n : Label) (t : Token) → stamp top p l ≡ Some m
+    → has_label n l.token ≡ true → m.token ≡ Some t → has_label n (Some t) ≡ true
+stamped_label top p l m n t h labelled is =
+    let made = λ (x : Token). record l { token = Some (stamped_token p l x); clock = l.clock + 1 } in
+    option_and_then_some (λ x. cond (nat_lt l.clock top) (Some (made x)) None) l.token m h (λ x had at.
+    let parts = cond_some (nat_lt l.clock top) (made x) m at in
+    let token : Some (stamped_token p l x) ≡ Some t = ap (λ (y : LocalState). y.token) parts.1 ∙ is in
+    ap (has_label n) (sym token) ∙ ap (has_label n) (sym had) ∙ labelled)
+
+silent_reported : (a : Act) (r : Process) (l : LocalState) (y : Reply) (done : Acted) (e : Event)
+    → Some (answers r l y) ≡ Some done → done.report ≡ Some e → IsReported a done.local e
+silent_reported a r l y done e h is =
+    absurd (none-some e (ap (λ (d : Acted). d.report) (same_Some (answers r l y) done h) ∙ is))
+
+received_reported : (a : Act) (r : Process) (found : Option (ℕ × Message)) (done : Acted) (e : Event)
+    → receives r found ≡ done → done.report ≡ Some e → e.kind ≢ kind.Receive → IsReported a done.local e
+received_reported a r None done e h is other = absurd (none-some e (ap (λ (d : Acted). d.report) h ∙ is))
+received_reported a r (Some found) done e h is other =
+    let m = found.1 in
+    let told = ap (λ (d : Acted). d.report) h ∙ is in
+    absurd (other (report_kind r.local.traced kind.Receive m.token (Some r.pid) m.value e told))
+
+acted_reported : (top : ℕ) (a : Act) (r : Process) (done : Acted) (e : Event) → acted top r a ≡ Some done
+    → done.report ≡ Some e → e.kind ≢ kind.Receive → IsReported a done.local e
+acted_reported top (act.Send p q v) r done e h is other =
+    let parts = mapped (sends r q v) (stamp_any top r.pid r.local) done h in
+    let m = parts.0 in
+    let told = ap (λ (d : Acted). d.report) parts.2 ∙ is in
+    subst (λ (d : Acted). IsReported (act.Send p q v) d.local e) parts.2
+    (told_reported (act.Send p q v) m r.local.traced kind.Send m.token (Some q) v e (λ t has. refl) refl told)
+acted_reported top (act.Receive p w) r done e h is other =
+    received_reported (act.Receive p w) r (pick w r.queue) done e (same_Some _ done h) is other
+acted_reported top (act.Print p v) r done e h is other =
+    printed_reported (act.Print p v) r v (stamp_any top r.pid r.local) done e (λ m at t has. refl) h is
+acted_reported top (act.PrintAt p n v) r done e h is other =
+    elim (has_label n r.local.token) as (λ b. has_label n r.local.token ≡ b
+    → cond b (option_map (prints r v) (stamp top r.pid r.local)) (Some (answers r r.local reply.Done)) ≡ Some done
+    → IsReported (act.PrintAt p n v) done.local e) [
+      | true ↦ λ labelled h.
+          printed_reported (act.PrintAt p n v) r v (stamp top r.pid r.local) done e
+          (λ m at t has. stamped_label top r.pid r.local m n t at labelled has) h is
+      | false ↦ λ _ h. silent_reported (act.PrintAt p n v) r r.local reply.Done done e h is
+    ] refl h
+acted_reported top (act.Set p c) r done e h is other = silent_reported (act.Set p c) r _ _ done e h is
+acted_reported top (act.Clear p) r done e h is other = silent_reported (act.Clear p) r _ _ done e h is
+acted_reported top (act.Restore p t) r done e h is other = silent_reported (act.Restore p t) r _ _ done e h is
+acted_reported top (act.Look p) r done e h is other = silent_reported (act.Look p) r _ _ done e h is
+acted_reported top (act.Reset p) r done e h is other = silent_reported (act.Reset p) r _ _ done e h is
+acted_reported top (act.Tracer p b) r done e h is other = silent_reported (act.Tracer p b) r _ _ done e h is
+
+-- and so in the state after the step
+reported_stamp : (top : ℕ) (s : State) (a : Act) (o : Outcome) (e : Event) → step top s a ≡ Some o
+    → o.report ≡ Some e → e.kind ≢ kind.Receive
+    → (r : Process) × (process o.after (actor a) ≡ Some r) × IsReported a r.local e
+reported_stamp top s a o e h is other =
+    let t = step_parts top s a o h in
+    let told = ap (λ (x : Outcome). x.report) t.is_outcome ∙ is in
+    let done = acted_reported top a t.before t.done e t.is_done told other in
+    let own = own_token a t.done t.before done.token done.stamped (actor_mine top s a o t) in (
+      changed a t.done t.before,
+      actor_after top s a o t,
+      record { token = done.token; stamped = done.stamped; has = own ∙ done.has; serial = done.serial },
+    )
+
+-- A SEND AND ITS TOKEN
+
+-- a send after which its actor has this token: the actor had one before, the token is its stamp, which lifted its clock
+-- to the token's count, and the report, if there is one, is the token's
+pub record Sends (s : State) (p q : Pid) (v : ℕ) (o : Outcome) (token : Token) : Type 0 where
+  pub had : (r : Process) → process s p ≡ Some r → is_some r.local.token ≡ true
+  pub from : token.from ≡ p
+  pub lifts : Lifts s o p token.serial.this
+  pub report : (e : Event) → o.report ≡ Some e → e ≡ event_of kind.Send token (Some q) v
+
+had_token : (top : ℕ) (p : Pid) (l m : LocalState) (t : Token) (token : Option Token) → l.token ≡ token
+    → cond (is_some token) (stamp top p l) (Some l) ≡ Some m → m.token ≡ Some t → is_some token ≡ true
+had_token top p l m t None e h has =
+    absurd (none-some t (sym e ∙ ap (λ (x : LocalState). x.token) (same_Some l m h) ∙ has))
+had_token top p l m t (Some x) e h has = refl
+
+pub sent : (top : ℕ) (s : State) (p q : Pid) (v : ℕ) (o : Outcome) (r : Process) (token : Token)
+    → step top s (act.Send p q v) ≡ Some o → process o.after p ≡ Some r → r.local.token ≡ Some token
+    → Sends s p q v o token
+sent top s p q v o r token h is has =
+    let a = act.Send p q v in
+    let t = step_parts top s a o h in
+    let x = t.before in
+    let parts = mapped (sends x q v) (stamp_any top x.pid x.local) t.done t.is_done in
+    let m = parts.0 in
+    let part : t.done.local ≡ m = ap (λ (d : Acted). d.local) (sym parts.2) in
+    let own : r.local ≡ m =
+    ap (λ (y : Process). y.local) (same_Some r _ (sym is ∙ actor_after top s a o t))
+    ∙ sent_local p q v t.done x (actor_mine top s a o t)
+    ∙ part in
+    let token_is : m.token ≡ Some token = ap (λ (l : LocalState). l.token) (sym own) ∙ has in
+    let stamped = (any_grows top x.pid x.local m parts.1).token token token_is in
+    let had = had_token top x.pid x.local m token x.local.token refl parts.1 token_is in
+    record {
+      had = λ y there. ap (λ (z : Process). is_some z.local.token) (same_Some y x (sym there ∙ t.is_before)) ∙ had;
+      from = stamped.from ∙ process_pid s p x t.is_before;
+      lifts = stamp_lifts top s a o r token h refl is has;
+      report = λ e reported.
+          let told : report x.local.traced kind.Send m.token (Some q) v ≡ Some e =
+          ap (λ (d : Acted). d.report) parts.2 ∙ ap (λ (y : Outcome). y.report) t.is_outcome ∙ reported in
+          let event = event_of kind.Send token (Some q) v in
+          sym (cond_some (x.local.traced && token.flags.send) event e
+          (ap (λ k. report x.local.traced kind.Send k (Some q) v) (sym token_is) ∙ told)).1;
     }
 
 -- RUNS
@@ -482,16 +536,6 @@ lifts_from top s (b ∷ acts) os p this (suc n) a o h none at out lifts =
     })
 
 -- in every run
-pub reported_stamps_lift : (top : ℕ) (pids : List Pid) (acts : List Act) (os : List Outcome)
-    → run top pids acts ≡ Some os → NoReset acts → (p : Pid) (n : ℕ) (e : Event) → Reports acts os p n e
-    → e.kind ≢ kind.Receive → LiftsClock os p e.serial.this n
-reported_stamps_lift top pids acts os h none p n e r other =
-    option_and_then_some (λ (o : Outcome). o.report) (slice_get os n) e r.report (λ o out is.
-    let lifts = λ (s : State) (stepped : step top s r.act ≡ Some o) (plain : is_reset r.act ≡ false).
-    subst (λ q. Lifts s o q e.serial.this) r.own (report_lifts top s r.act o e stepped plain is other) in
-    (lifts_from top (zero_state pids) acts os p e.serial.this n r.act o h none r.at out lifts).lifts)
-
--- in every run
 pub stamps_lift : (top : ℕ) (pids : List Pid) (acts : List Act) (os : List Outcome) → run top pids acts ≡ Some os
     → NoReset acts → (p : Pid) (n : ℕ) (t : Token) → StampsToken acts os p n t → LiftsClock os p t.serial.this n
 stamps_lift top pids acts os h none p n t r =
@@ -501,17 +545,42 @@ stamps_lift top pids acts os h none p n t r =
     (stamp_lifts top s r.act o r.after t stepped r.stamped (ap (process o.after) r.own ∙ is) r.token) in
     (lifts_from top (zero_state pids) acts os p t.serial.this n r.act o h none r.at out lifts).lifts)
 
+-- so does a stamp that is reported
+pub reported_stamps_lift : (top : ℕ) (pids : List Pid) (acts : List Act) (os : List Outcome)
+    → run top pids acts ≡ Some os → NoReset acts → (p : Pid) (n : ℕ) (e : Event) → Reports acts os p n e
+    → e.kind ≢ kind.Receive → LiftsClock os p e.serial.this n
+reported_stamps_lift top pids acts os h none p n e r other =
+    option_and_then_some (λ (o : Outcome). o.report) (slice_get os n) e r.report (λ o out is.
+    let at = step_in top (zero_state pids) acts os n r.act o h r.at out in
+    let after = reported_stamp top at.0 r.act o e at.1 is other in
+    let told = after.2 in
+    subst (λ count. LiftsClock os p count n) (ap (λ serial. serial.this) told.serial)
+    (stamps_lift top pids acts os h none p n told.token (record {
+      act = r.act;
+      at = r.at;
+      own = r.own;
+      stamped = told.stamped;
+      after = after.0;
+      is_after = ap (option_and_then (λ (x : Outcome). process x.after p)) out
+          ∙ ap (process o.after) (sym r.own) ∙ after.1;
+      token = told.has;
+    })))
+
 module _ (top : ℕ) (pids : List Pid) (acts : List Act) (os : List Outcome) (h : run top pids acts ≡ Some os)
     (r s : ℕ) (f : IsFollowing acts os r s) where
   pub followed_sends_lift : NoReset acts → LiftsClock os f.event.from f.event.serial.this s
   followed_sends_lift none =
       let e = f.event in
-      option_and_then_some (λ (o : Outcome). process o.after e.from) (slice_get os s) f.sender f.is_sender (λ o out is.
-      let lifts = λ (x : State) (stepped : step top x (act.Send e.from f.to e.value) ≡ Some o) (_ : false ≡ false).
-      (sent top x e.from f.to e.value o f.sender f.token stepped is f.stamped).lifts in
-      subst (λ t. LiftsClock os e.from t s) (ap (λ x. x.this) f.serial)
-      (lifts_from top (zero_state pids) acts os e.from f.token.serial.this s (act.Send e.from f.to e.value) o h none
-      f.sends out lifts).lifts)
+      subst (λ count. LiftsClock os e.from count s) (ap (λ serial. serial.this) f.serial)
+      (stamps_lift top pids acts os h none e.from s f.token (record {
+        act = act.Send e.from f.to e.value;
+        at = f.sends;
+        own = refl;
+        stamped = refl;
+        after = f.sender;
+        is_after = f.is_sender;
+        token = f.stamped;
+      }))
 
   pub reported_sends_agree : (e : Event) → option_and_then (λ o. o.report) (slice_get os s) ≡ Some e
       → e ≡ record f.event { kind = kind.Send }

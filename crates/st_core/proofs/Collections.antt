@@ -230,7 +230,7 @@ events_of-read ps es p i read even rising at is =
     let within : i < length es = omega arith in
     is ∙ get_or_default es i read [] within ∙ sym (events_of-found ps es p i even rising at)
 
--- the first failing of what is left, where the process at the front has none
+-- the first failing of what is left, if the process at the front has none
 pub first_failing-drop : (test : Event → Bool) (ps : List Pid) (es : List (List Event)) (k : ℕ) (read : List Event)
     → length es ≡ length ps → k < length es → read ≡ get_or es k read → position (λ e. not (test e)) read ≡ None
     → first_failing test (drop k ps) (drop k es) ≡ first_failing test (drop (suc k) ps) (drop (suc k) es)
@@ -253,7 +253,7 @@ pub all_apart : (ps : List Pid) (p : Pid) → AllByRecursion (IsBelow p) ps → 
 all_apart [] p all = tt
 all_apart (q ∷ ps) p all = (pid_eq-swap q p ∙ IsBelow-apart p q all.0, all_apart ps p all.1)
 
--- where no element passes a test, none has a position
+-- if no element passes a test, none has a position
 pub position_or_len-none : {A : Type 0} (test : A → Bool) (xs : List A) → AllByRecursion (λ x. test x ≡ false) xs
     → position_or_len test xs ≡ length xs
 position_or_len-none test [] all = refl

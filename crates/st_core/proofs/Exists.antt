@@ -196,7 +196,7 @@ whole_front xs ys front long =
     let size : length xs + length front.0 ≡ length ys = sym (length-append xs front.0) ∙ ap length front.1 in
     sym (append-nil xs) ∙ ap (λ zs. xs ++ zs) (sym (nil_from_length front.0 (omega arith))) ∙ front.1
 
--- where the acts pass and nothing is left over, the verdict is yes
+-- if the acts pass and nothing is left over, the verdict is yes
 pub passed_yes : (top : ℕ) (streams : List Stream) (acts : List Act) (os : List Outcome) → IsPassing top streams acts os
     → left_over streams acts os ≡ None → IsVerdict top streams acts (Yes (pairs acts os))
 passed_yes top streams acts os passing e =
@@ -224,7 +224,7 @@ a_verdict top streams acts = elim (passing_front top streams acts (length acts) 
       passed_verdict top streams acts whole.0 whole.1 (left_over streams acts whole.0) refl
 ]
 
--- the verdict is yes exactly where the acts show the streams
+-- the verdict is yes exactly if the acts show the streams
 pub yes_shows : (top : ℕ) (streams : List Stream) (acts : List Act)
     → ((ps : List (ℕ × ℕ)) × IsVerdict top streams acts (Yes ps)) → Shows top streams acts
 yes_shows top streams acts v = (v.1.0, v.1.1, v.1.2)

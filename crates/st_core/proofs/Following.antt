@@ -148,7 +148,7 @@ pair_of top acts os n s tags (act.Look p) o h out known are e reported = inl ref
 pair_of top acts os n s tags (act.Reset p) o h out known are e reported = inl refl
 pair_of top acts os n s tags (act.Tracer p b) o h out known are e reported = inl refl
 
--- the same where the act's report decides
+-- the same if the act's report decides
 reported_pair : (top : ℕ) (acts : List Act) (os : List Outcome) (n : ℕ) (s : State) (tags : Tags) (a : Act)
     (o : Outcome) → step top s a ≡ Some o → slice_get os n ≡ Some o → AreKnown acts n tags → AreTags acts os s tags
     → ((if is_some o.report then pair_at tags n a o.place else []) ≡ [])

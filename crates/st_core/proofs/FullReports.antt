@@ -1,4 +1,4 @@
--- Where every stamp and every receive of a token is reported, a process's events tell its counts: nothing else moves
+-- If every stamp and every receive of a token is reported, a process's events tell its counts: nothing else moves
 -- its clock without a reset, nor its last, but for a set on no token, which brings it to the clock.
 use Rattle.std.proofs.Common.{◌≡◌, ◌≢◌, ℕ, ◌+◌, ◌⊎◌, ◌&&◌, max, zero, suc, Bool, true, false, cond, nat_lt}
 use Rattle.std.proofs.Common.{List, [], ◌∷◌, ◌++◌, length, take, Option, Some, None, is_some, IsSome, option_map}

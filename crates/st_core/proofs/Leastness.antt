@@ -23,7 +23,7 @@ no_place : {X : Type 0} (b : Bool) (x : X) → cond b (Some x) None ≡ None →
 no_place true x h = absurd (none-some x (sym h))
 no_place false x h = refl
 
--- where no event fails the test, each passes
+-- if no event fails the test, each passes
 none_fails : (test : Event → Bool) (es : List Event) → position (λ e. not (test e)) es ≡ None
     → (i : ℕ) (e : Event) → slice_get es i ≡ Some e → test e ≡ true
 none_fails test es none i e at =
@@ -48,7 +48,7 @@ events_there : (x : Stream) (rest : List Stream) (q : Pid) → pid_eq x.pid q �
 unfolding taken
 events_there x rest q is = ap (λ b. taken (cond b (Some x) (stream_of rest q))) is
 
--- what holds of p's events at each place, where it holds of them in the first stream and in the rest
+-- what holds of p's events at each place, if it holds of them in the first stream and in the rest
 by_stream : (x : Stream) (rest : List Stream) (q : Pid) (i : ℕ) (e : Event) (P : Type 0)
     → (pid_eq x.pid q ≡ true → slice_get x.events i ≡ Some e → P)
     → (pid_eq x.pid q ≡ false → slice_get (events_of rest q) i ≡ Some e → P)

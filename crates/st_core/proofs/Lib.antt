@@ -17,6 +17,7 @@ pub mod Reports
 pub mod Clocks
 pub mod FullReports
 pub mod Once
+pub mod Apart
 mod Cases
 pub mod Pids
 pub mod RisingPids

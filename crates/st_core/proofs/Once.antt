@@ -1,9 +1,8 @@
 -- Without a reset no stamp stands twice in a queue: a send's new stamp is above its actor's clock, and all that this
 -- process stamped before is not. A receive takes a message out, and no other act touches a queue; and clocks don't fall.
-use Rattle.std.proofs.Common.{◌≡◌, ◌≢◌, ℕ, ◌<◌, ◌≤◌, zero, suc, Bool, true, false, cond, List, [], ◌∷◌, ◌++◌}
-use Rattle.std.proofs.Common.{Option, Some, None, map, option_map, All, refl, sym, ◌∙◌, ap, subst, arith}
+use Rattle.std.proofs.Common.{◌≡◌, ℕ, zero, suc, true, false, cond, List, [], ◌∷◌, ◌++◌}
+use Rattle.std.proofs.Common.{Option, Some, None, All, refl, sym, ◌∙◌, ap, subst, arith}
 use Rattle.std.specs.List.{AllByRecursion, remove}
-use Rattle.std.specs.Option.{ForSome}
 use Rattle.std.proofs.lemmas.Bool.{false≢true}
 use Rattle.std.proofs.lemmas.List.Elements.{All-nil, All-cons}
 use Rattle.std.proofs.lemmas.Option.{same_Some, none-some}
@@ -13,7 +12,6 @@ use Rattle.st_core.specs.declared.types.Message.{Message}
 use Rattle.st_core.specs.declared.types.Want.{Want}
 use Rattle.st_core.specs.declared.types.Act.{Act}
 use Rattle.st_core.specs.declared.types.Act.TheVariants as act
-use Rattle.st_core.specs.declared.types.Reply.TheVariants as reply
 use Rattle.st_core.specs.Pid.{pid_eq}
 use Rattle.st_core.specs.State.{LocalState, Process, State, process, zero_local, zero_state}
 use Rattle.st_core.specs.Pick.{pick}
@@ -23,22 +21,23 @@ use Rattle.st_core.specs.Laws.{AreApart, clock_in, HasStampsOnce, is_reset, IsSt
 use Rattle.st_core.proofs.Others.{actor_after, actor_is, actor_mine, mapped, process_after, run_parts, sent_local}
 use Rattle.st_core.proofs.Others.{step_parts, Stepped}
 use Rattle.st_core.proofs.Clocks.{sent, Sends, step_clock}
-use Rattle.st_core.proofs.Queues.{acted_queue, changed_queue, IsReceive, own_queue, queue_after}
+use Rattle.st_core.proofs.Queues.{changed_queue, IsReceive, own_queue, queue_after}
 
 -- LISTS
 
-all_push : {X : Type 0} (P : X → Type 0) (xs : List X) (y : X) → AllByRecursion P xs → P y
+pub all_push : {X : Type 0} (P : X → Type 0) (xs : List X) (y : X) → AllByRecursion P xs → P y
     → AllByRecursion P (xs ++ y ∷ [])
 all_push P [] y all new = (new, tt)
 all_push P (x ∷ xs) y all new = (all.0, all_push P xs y all.1 new)
 
-all_remove : {X : Type 0} (P : X → Type 0) (xs : List X) (k : ℕ) → AllByRecursion P xs → AllByRecursion P (remove xs k)
+pub all_remove : {X : Type 0} (P : X → Type 0) (xs : List X) (k : ℕ) → AllByRecursion P xs
+    → AllByRecursion P (remove xs k)
 all_remove P [] zero all = tt
 all_remove P [] (suc k) all = tt
 all_remove P (x ∷ xs) zero all = all.1
 all_remove P (x ∷ xs) (suc k) all = (all.0, all_remove P xs k all.1)
 
-all_weaker : {X : Type 0} (P Q : X → Type 0) → ((x : X) → P x → Q x) → (xs : List X) → AllByRecursion P xs
+pub all_weaker : {X : Type 0} (P Q : X → Type 0) → ((x : X) → P x → Q x) → (xs : List X) → AllByRecursion P xs
     → AllByRecursion Q xs
 all_weaker P Q to [] all = tt
 all_weaker P Q to (x ∷ xs) all = (to x all.0, all_weaker P Q to xs all.1)
@@ -82,7 +81,7 @@ module _ (top : ℕ) (s : State) (a : Act) (o : Outcome) (h : step top s a ≡ S
 
 module _ (top : ℕ) (s : State) (p q : Pid) (v : ℕ) (o : Outcome) (h : step top s (act.Send p q v) ≡ Some o)
     (t : Stepped top s (act.Send p q v) o) where
-  lifted : (token : Token) → t.done.local.token ≡ Some token → Sends s p q v o token
+  pub lifted : (token : Token) → t.done.local.token ≡ Some token → Sends s p q v o token
   lifted token is =
       sent top s p q v o (changed (act.Send p q v) t.done t.before) token h (actor_after top s (act.Send p q v) o t)
       (ap (λ (l : LocalState). l.token)
@@ -190,7 +189,7 @@ module _ (top : ℕ) (s : State) (a : Act) (o : Outcome) (h : step top s a ≡ S
     before = λ p x is_x. (after_step p x is_x).before;
   }
 
-zero_queue : (pids : List Pid) (p : Pid) (r : Process) → process (zero_state pids) p ≡ Some r → r.queue ≡ []
+pub zero_queue : (pids : List Pid) (p : Pid) (r : Process) → process (zero_state pids) p ≡ Some r → r.queue ≡ []
 zero_queue [] p r h = absurd (none-some r h)
 zero_queue (q ∷ pids) p r h =
     let zero : Process = record { pid = q; local = zero_local; queue = [] } in

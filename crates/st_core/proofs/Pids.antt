@@ -127,7 +127,7 @@ at_above [] q l i all at = absurd (cc)
 at_above (p ∷ ps) q l zero all at = subst (IsBelow q) (same_Some p l at) all.0
 at_above (p ∷ ps) q l (suc i) all at = at_above ps q l i all.1 at
 
--- where the last is below p, each is
+-- if the last is below p, each is
 pub below_last : (ps : List Pid) (k : ℕ) (l p : Pid) → length ps ≡ suc k → IsRising ps → slice_get ps k ≡ Some l
     → IsBelow l p → AllByRecursion (λ r. IsBelow r p) ps
 below_last [] k l p len rising at h = tt
@@ -137,7 +137,7 @@ below_last (q ∷ r ∷ ps) zero l p len rising at h = absurd (omega arith)
 below_last (q ∷ r ∷ ps) (suc k) l p len rising at h =
     (IsBelow-trans q l p (at_above (r ∷ ps) q l k rising.0 at) h, below_last (r ∷ ps) k l p (omega arith) rising.1 at h)
 
--- where each is below p, the one at a place is
+-- if each is below p, the one at a place is
 pub all_at : {A : Type 0} (P : A → Type 0) (xs : List A) (i : ℕ) (x : A) → AllByRecursion P xs → slice_get xs i ≡ Some x
     → P x
 all_at P [] i x all at = absurd (cc)
@@ -207,7 +207,7 @@ not_equal_apart p q h = elim (pid_eq p q) as (λ b. pid_eq p q ≡ b → b ≡ f
   | false ↦ λ e. refl
 ] refl
 
--- where each compares unequal, each is another pid
+-- if each compares unequal, each is another pid
 pub apart_from_unequal : (ps : List Pid) (x : Pid)
     → ((k : ℕ) (d : Pid) → k < length ps → ¬ (pid_cmp (get_or ps k d) x ≡ Equal))
     → AllByRecursion (λ p. pid_eq p x ≡ false) ps

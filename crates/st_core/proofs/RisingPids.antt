@@ -1,4 +1,4 @@
--- Pids rise where each is below the next, since their order is transitive.
+-- Pids rise if each is below the next, since their order is transitive.
 use Rattle.std.proofs.Common.{◌≡◌, ℕ, ◌<◌, ◌+◌, zero, suc, Bool, true, false, List, [], ◌∷◌, length, get_or, IsTrue}
 use Rattle.std.proofs.Common.{◌↔◌, refl, ap, arith}
 use Rattle.std.specs.List.{AllByRecursion, IsAllAdjacentAnswer}

@@ -48,7 +48,7 @@ is_front [] es = true
 is_front (d ∷ ds) [] = false
 is_front (d ∷ ds) (e ∷ es) = event_eq d e && is_front ds es
 
--- what each process reported stands at the front of its stream, where the acts run
+-- what each process reported stands at the front of its stream, if the acts run
 abbrev pub fronts : List Stream → List Act → Option (List Outcome) → Bool
 fronts streams acts None = false
 fronts streams acts (Some os) = list_all (λ x. is_front (stream acts os x.pid) x.events) streams
@@ -66,7 +66,7 @@ numbers_from n (a ∷ acts) = n ∷ numbers_from (n + 1) acts
 abbrev pub first_fault : ℕ → List Stream → List Act → Option ℕ
 first_fault top streams acts = find (λ n. not (passes top streams (take (n + 1) acts))) (numbers_from 0 acts)
 
--- the verdict where act n fails, by the run of the acts up to it
+-- the verdict if act n fails, by the run of the acts up to it
 abbrev pub failed : ℕ → Option (List Outcome) → Verdict
 failed n None = Stuck n
 failed n (Some os) = Differs n

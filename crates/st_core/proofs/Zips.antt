@@ -1,4 +1,4 @@
--- What holds of two lists place by place, or of all pairs of one, stays so where both lose the same place or gain one
+-- What holds of two lists place by place, or of all pairs of one, stays so if both lose the same place or gain one
 -- at the end, by induction over the lists.
 use Rattle.std.proofs.Common.{◌≡◌, ℕ, ◌+◌, ◌<◌, ◌≤◌, ◌≢◌, zero, suc, List, [], ◌∷◌, ◌++◌, length, take, drop, map}
 use Rattle.std.proofs.Common.{get_or, Some, All, AllPairs, refl, sym, ◌∙◌, ap, subst, arith, inl, inr}

@@ -25,8 +25,8 @@ through (Some left) n = min left n
 abbrev pub burnt : Option ℕ → ℕ → Option ℕ
 burnt fuse n = option_map (λ left. left - n) fuse
 
--- how much of a piece of n bytes gets through, where so much is let through; none where the call fails:
--- at a device that failed before, and where a piece that isn't empty meets a closed way
+-- how much of a piece of n bytes gets through, if so much is let through; none if the call fails:
+-- at a device that failed before, and if a piece that isn't empty meets a closed way
 abbrev pub let_through : Bool → ℕ → ℕ → Option ℕ
 let_through failed n most = if failed || (nat_lt 0 n && most == 0) then None else Some most
 
@@ -43,11 +43,11 @@ pub record MemoryOutput : Type 0 where
   pub fuse : Option ℕ
   pub failed : Bool
 
--- how many bytes a take with a piece of n places gives, none where it fails
+-- how many bytes a take with a piece of n places gives, none if it fails
 abbrev pub taken_count : MemoryInput → ℕ → Option ℕ
 taken_count s n = option_map (λ most. min most (length s.left)) (let_through s.failed n (through s.fuse n))
 
--- how many bytes of a piece of n a put writes, none where it fails
+-- how many bytes of a piece of n a put writes, none if it fails
 abbrev pub put_count : MemoryOutput → ℕ → Option ℕ
 put_count s n = let_through s.failed n (min (through s.fuse n) s.room)
 

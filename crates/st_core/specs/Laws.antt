@@ -71,7 +71,7 @@ is_reset a = false
 abbrev pub NoReset : List Act → Type 0
 NoReset acts = AllByRecursion (λ a. is_reset a ≡ false) acts
 
--- p's clock, 0 where p isn't there
+-- p's clock, 0 if p isn't there
 abbrev pub clock_in : State → Pid → ℕ
 clock_in s p = elim (process s p) [ None ↦ 0 | Some r ↦ r.local.clock ]
 
@@ -115,6 +115,15 @@ IsStampedBefore s m = ForSome m.token (λ t. t.serial.this ≤ clock_in s t.from
 pub record HasStampsOnce (s : State) : Type 0 where
   pub once : (p : Pid) (r : Process) → process s p ≡ Some r → StampsStandOnce r.queue
   pub before : (p : Pid) (r : Process) → process s p ≡ Some r → AllByRecursion (IsStampedBefore s) r.queue
+
+-- no message of the one queue bears a stamp that one of the other bears
+abbrev pub AreAllApart : List Message → List Message → Type 0
+AreAllApart ms ns = AllByRecursion (λ m. AllByRecursion (AreApart m) ns) ms
+
+-- no two queues hold one stamp
+abbrev pub HasQueuesApart : State → Type 0
+HasQueuesApart s = (p q : Pid) (x y : Process) → p ≢ q → process s p ≡ Some x → process s q ≡ Some y
+    → AreAllApart x.queue y.queue
 
 -- act n lifts p's clock to this count: the clock stands at it after the act, and below it after each earlier one. So
 -- one act at most lifts a clock to a count, and to a greater count a later act

@@ -22,7 +22,7 @@ stream_of streams p = find (λ x. pid_eq x.pid p) streams
 abbrev pub lists : List Stream → Pid → Bool
 lists streams p = is_some (stream_of streams p)
 
--- the events of p, none where p isn't listed
+-- the events of p, none if p isn't listed
 abbrev pub events_of : List Stream → Pid → List Event
 events_of streams p = elim (stream_of streams p) [ None ↦ [] | Some x ↦ x.events ]
 

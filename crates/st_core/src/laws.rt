@@ -11,7 +11,7 @@ ghost use Rattle.st_core.specs.declared.types.Pid.{Pid};
 ghost use Rattle.st_core.specs.declared.types.Token.{Token};
 ghost use Rattle.st_core.specs.Laws.{AreAllListed, IsLeastUnlisted, LeavesOthers, IsStamped, KeepsSound, ReportsAmong};
 ghost use Rattle.st_core.specs.Laws.{ClocksNeverFall, GoesOnFrom, LiftsClock, NoReset, Reports, ReportsEverything};
-ghost use Rattle.st_core.specs.Laws.{HasStampsOnce, ReportsEvent, StampsToken};
+ghost use Rattle.st_core.specs.Laws.{HasQueuesApart, HasStampsOnce, ReportsEvent, StampsToken};
 ghost use Rattle.st_core.specs.Pid.{IsRising};
 ghost use Rattle.st_core.specs.Streams.{unlisted};
 ghost use Rattle.st_core.specs.Pairs.{AllPaired, Follows, IsFollowing, pairs};
@@ -57,8 +57,8 @@ pub fn receives_are_paired()
         → run top pids acts ≡ Some os → AllPaired os (pairs acts os) }
 {}
 
-/// Where the send that a reported receive follows is reported too, its event is the receive's but
-/// for the kind.
+/// If the send that a reported receive follows is reported too, its event is the receive's but for
+/// the kind.
 pub fn reported_sends_agree()
     ensures { (top : ℕ) (pids : List Pid) (acts : List Act) (os : List Outcome)
         → run top pids acts ≡ Some os → (r s : ℕ) (follows : IsFollowing acts os r s) (e : Event)
@@ -107,6 +107,13 @@ pub fn queues_have_stamps_once()
         → run top pids acts ≡ Some os → NoReset acts → All (λ o. HasStampsOnce o.after) os }
 {}
 
+/// Nor do two queues: in a run without a reset no two tokens that wait anywhere, and that one process
+/// stamped, have the same count.
+pub fn queues_share_no_stamp()
+    ensures { (top : ℕ) (pids : List Pid) (acts : List Act) (os : List Outcome)
+        → run top pids acts ≡ Some os → NoReset acts → All (λ o. HasQueuesApart o.after) os }
+{}
+
 /// In a run without a reset each send that a reported receive follows, itself reported or not, lifts
 /// its process's clock to the receive's count: so a process sends no two messages with one count.
 pub fn followed_sends_lift_clocks()
@@ -136,7 +143,7 @@ pub fn a_verdict()
     ensures { (top : ℕ) (streams : List Stream) (acts : List Act) → (v : Verdict) × IsVerdict top streams acts v }
 {}
 
-/// The verdict is Yes exactly where the acts show the streams.
+/// The verdict is Yes exactly if the acts show the streams.
 pub fn yes_shows()
     ensures { (top : ℕ) (streams : List Stream) (acts : List Act)
         → ((ps : List (ℕ × ℕ)) × IsVerdict top streams acts (Verdict.Yes ps)) ↔ Shows top streams acts }
@@ -149,7 +156,7 @@ pub fn one_verdict()
 {}
 
 /// In streams by rising pid the unlisted place is the least one, by pid and then index, of an event
-/// that names a pid that isn't listed; where there is none, each pid that an event names is listed.
+/// that names a pid that isn't listed; if there is none, each pid that an event names is listed.
 pub fn unlisted_is_least()
     ensures { (streams : List Stream) → IsRising (pids_of streams)
         → MatchOption (unlisted streams) (AreAllListed streams)

@@ -12,7 +12,7 @@ use crate::types::{Component, Pid, Serial, Token};
 use std::marker::Model;
 use thiserror::Error;
 
-/// The clock is at TOP, so no token can be stamped (own profile). Refusal 1 of `advance`.
+/// The clock is at TOP, so `advance` can stamp no token (own profile).
 #[derive(Clone, Copy, Debug, PartialEq, Eq, PartialOrd, Ord, Hash, Error)]
 #[error("the clock is full")]
 pub struct ClockFull;
@@ -116,7 +116,7 @@ impl<const TOP: u64> Local<TOP> {
     }
 
     /// Takes over the token of a message that was received, or that it has none (manual). With a
-    /// token last becomes its count, and the clock too where that is greater (own profile).
+    /// token last becomes its count, and the clock too if that is greater (own profile).
     pub fn meet(&mut self, token: Option<Token>)
         requires { IsMeetable TOP token }
         ensures { self.new ≡ received self.old token }
@@ -128,7 +128,7 @@ impl<const TOP: u64> Local<TOP> {
         self.token = token;
     }
 
-    /// Sets a component of the token, and answers the one before. Without a token it answers none,
+    /// Sets a component of the token, and returns the one before. Without a token it returns none,
     /// and `me` makes one of the defaults first, which starts a new trace: last becomes the clock.
     pub fn set(&mut self, me: Pid, component: Component) -> Option<Component>
         ensures new { self.new ≡ with_set me component self.old }
@@ -147,7 +147,7 @@ impl<const TOP: u64> Local<TOP> {
         }
     }
 
-    /// Puts this token, or none, in the token's place, and answers the one before (manual of none,
+    /// Puts this token, or none, in the token's place, and returns the one before (manual of none,
     /// own profile of a token). Clock and last stay (own profile).
     pub fn restore(&mut self, token: Option<Token>) -> Option<Token>
         ensures new { self.new ≡ record self.old { token = token } }
@@ -167,7 +167,7 @@ impl<const TOP: u64> Local<TOP> {
         self.last = 0;
     }
 
-    /// Sets or removes the system tracer, and answers whether there was one (manual).
+    /// Sets or removes the system tracer, and returns whether there was one (manual).
     pub fn trace(&mut self, on: bool) -> bool
         ensures new { self.new ≡ record self.old { traced = on } }
         ensures old { result ≡ self.old.traced }

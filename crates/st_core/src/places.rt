@@ -1,8 +1,8 @@
 //! Where a pid stands among pids that rise.
 //!
 //! Each act and each event of a large bundle names pids, so that this is asked often. A table says
-//! where a pid may stand; a guess is tested before it is believed, so that no rule binds the table,
-//! and a wrong guess costs a binary search.
+//! where a pid may stand; a guess is tested before it is believed, so nothing has to hold of the
+//! table, and a wrong guess costs a binary search.
 
 ghost use Rattle.std.specs.Prelude.{◌≡◌, ◌<◌, false, Some, IfSome, IfNone, slice_get};
 ghost use Rattle.std.specs.List.{AllByRecursion};

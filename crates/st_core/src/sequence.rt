@@ -5,8 +5,8 @@ ghost use Rattle.std.specs.Prelude.{◌≡◌, [], ◌∷◌, ◌++◌, length, 
 use std::alloc::{AllocFailed, Global};
 use std::marker::Model;
 
-/// A growing list, which contracts see as its items alone: where a `Vec` also shows where it lies
-/// and how much room it has. Made from a `Vec` and turned into one without taking memory.
+/// A growing list, which contracts see as its items alone: a `Vec` also shows where it lies and how
+/// much room it has. Made from a `Vec` and turned into one without taking memory.
 #[derive(Debug, Drop)]
 pub struct Sequence<T> {
     items: Vec<T>,
@@ -45,7 +45,7 @@ impl<T> Sequence<T> {
         items
     }
 
-    /// Puts an item at the end. For want of memory the item comes back.
+    /// Puts an item at the end. If memory runs out, the item comes back.
     pub fn push(&mut self, item: T) -> Result<(), AllocFailed<T>>
         ensures ok { OnOk result (self.new ≡ self.old ++ item ∷ []) }
         ensures err { OnErr result (self.new ≡ self.old) }

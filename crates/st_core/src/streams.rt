@@ -23,10 +23,10 @@ use thiserror::Error;
 /// Why a process wasn't opened.
 #[derive(Clone, Copy, Debug, PartialEq, Eq, Error)]
 pub enum OpenFault {
-    /// Refusal 1: no memory.
+    /// Memory ran out.
     #[error("no memory")]
     Memory,
-    /// Refusal 2, before 1: the pid isn't above all that were opened.
+    /// The pid isn't above all that were opened. Looked at first.
     #[error("the pids don't rise")]
     NotRising,
 }
@@ -34,13 +34,13 @@ pub enum OpenFault {
 /// Why an event wasn't added.
 #[derive(Clone, Copy, Debug, PartialEq, Eq, Error)]
 pub enum AddFault {
-    /// Refusal 1, after the others: a growth was refused.
+    /// Memory ran out. Comes only if neither of the others does.
     #[error("no memory")]
     Memory,
-    /// Refusal 2, before the others: the process wasn't opened.
+    /// The process wasn't opened. Looked at first.
     #[error("the process isn't there")]
     Unknown,
-    /// Refusal 3: the event is another process's, or has a `to` against its kind or lacks one.
+    /// The event is another process's, or has a `to` against its kind or lacks one. Looked at next.
     #[error("the event isn't the process's own")]
     Foreign,
 }
@@ -127,7 +127,7 @@ impl Draft {
         Ok(())
     }
 
-    /// The streams, where each pid that an event names is listed. Else the draft comes back, with
+    /// The streams, if each pid that an event names is listed. Else the draft comes back, with
     /// the least place, by pid and then index, of an event that names one that isn't.
     pub fn close(self) -> Result<Streams, Unlisted>
         ensures ok { IfOk result (λ streams. streams ≡ self) }
@@ -161,7 +161,7 @@ impl Draft {
         self.pids.as_slice()
     }
 
-    /// The events of a process so far, in order; none where it isn't listed.
+    /// The events of a process so far, in order; none if it isn't listed.
     pub fn events(&self, pid: Pid) -> &[Event]
         ensures value { result.now ≡ events_of self.now pid }
         ensures draft { IsDraft self.now }
@@ -189,7 +189,7 @@ impl Draft {
 }
 
 /// Why a draft didn't close: it comes back, with the place of the first event that names a pid
-/// that isn't listed. Refusal 1, the only one.
+/// that isn't listed.
 #[derive(Debug, Drop)]
 pub struct Unlisted {
     /// The draft as it was.
@@ -228,7 +228,7 @@ impl Streams {
         self.draft.pids()
     }
 
-    /// Where the process stands in `pids`; none where it isn't listed. Constant time for most pids,
+    /// Where the process stands in `pids`; none if it isn't listed. Constant time for most pids,
     /// and at worst that of a binary search.
     pub fn place_of(&self, pid: Pid) -> Option<usize>
         ensures found { IfSome result (λ i. slice_get (pids_of self.now) i ≡ Some pid) }
@@ -237,7 +237,7 @@ impl Streams {
         self.draft.place_of(pid)
     }
 
-    /// The events of a process in order; none where it isn't listed.
+    /// The events of a process in order; none if it isn't listed.
     pub fn events(&self, pid: Pid) -> &[Event]
         ensures value { result.now ≡ events_of self.now pid }
         ensures streams { IsStreams self.now }
@@ -245,15 +245,15 @@ impl Streams {
         self.draft.events(pid)
     }
 
-    /// The number of a process's events; 0 where it isn't listed.
+    /// The number of a process's events; 0 if it isn't listed.
     pub fn len(&self, pid: Pid) -> u64
         ensures { result ≡ length (events_of self.now pid) }
     {
         self.events(pid).len() as u64
     }
 
-    /// A process's event at an index, counted from 0; none past the end or where the process
-    /// isn't listed.
+    /// A process's event at an index, counted from 0; none past the end or if the process isn't
+    /// listed.
     pub fn event(&self, pid: Pid, index: u64) -> Option<Event>
         ensures { result ≡ slice_get (events_of self.now pid) index }
     {

@@ -132,7 +132,7 @@ impl Token {
     }
 }
 
-/// A message in a queue. Values are numbers, where Erlang has any term (own profile).
+/// A message in a queue. Values are numbers; in Erlang they are any terms (own profile).
 #[derive(Clone, Copy, Debug, PartialEq, Eq, PartialOrd, Ord, Hash)]
 pub struct Message {
     /// Its sender.
@@ -175,7 +175,7 @@ pub struct Event {
 
 impl Event {
     /// Whether the event is one that this process reports: from it for a send or a print, to it for
-    /// a receive, and with a `to` exactly where it isn't a print.
+    /// a receive, and with a `to` exactly if it isn't a print.
     pub fn is_own(&self, pid: Pid) -> bool
         ensures { result ≡ is_own pid self.now }
     {
@@ -225,7 +225,7 @@ pub enum Act {
     Receive(Pid, Want),
     /// `seq_trace:print/1`.
     Print(Pid, u64),
-    /// `seq_trace:print/2`: a print where the token has this label.
+    /// `seq_trace:print/2`: a print if the token has this label.
     PrintAt(Pid, Label, u64),
     /// `seq_trace:set_token/2`.
     Set(Pid, Component),
@@ -261,12 +261,12 @@ impl Act {
     }
 }
 
-/// What an act answers its actor.
+/// What an act returns to its actor.
 #[derive(Clone, Copy, Debug, PartialEq, Eq, PartialOrd, Ord, Hash)]
 pub enum Reply {
     /// To a send, a print and a reset.
     Done,
-    /// To a set: the component before, none where there was no token (own profile).
+    /// To a set: the component before, none if there was no token (own profile).
     Old(Option<Component>),
     /// To a clear or a restore: the token before.
     Previous(Option<Token>),

@@ -14,7 +14,7 @@ use Rattle.st_mail.specs.Wiped.{front_wiped, fronts_wiped, AreFronts}
 use Rattle.st_mail.proofs.Fronts.{length-front, get-wiped, get-kept, wipe_all, front-push, remove-wiped, remove-kept}
 use Rattle.st_mail.proofs.Fronts.{IsBlind, position-blind, position-skips}
 
--- where nothing is found a list has ended
+-- if nothing is found a list has ended
 none_past : (ms : List Message) (k : ℕ) → slice_get ms k ≡ None → length ms ≤ k
 none_past [] k none = omega arith
 none_past (m ∷ ms) zero none = absurd (cc)

@@ -1,4 +1,4 @@
--- Where a pattern doesn't ask for a place, the message that pick gives stands at the first position that passes a
+-- If a pattern doesn't ask for a place, the message that pick gives stands at the first position that passes a
 -- test, and where it does, at that place: so a search by the test finds the place, and what stands there is what pick
 -- gives.
 use Rattle.std.proofs.Common.{◌≡◌, ℕ, ◌+◌, ◌<◌, ◌≤◌, suc, ◌==◌, Bool, true, false, cond, nat_lt, List, [], ◌∷◌}

@@ -56,7 +56,7 @@ pub fn event(
     }
 }
 
-/// What a process keeps after a send or a print: stamped if it has a token. Refusal 1: the clock is
+/// What a process keeps after a send or a print: stamped if it has a token. Fails if the clock is
 /// at `TOP`.
 pub fn stamped<const TOP: u64>(me: Pid, local: &Local<TOP>) -> Result<Local<TOP>, ClockFull>
     ensures stamp { result_ok result ≡ stamp_any TOP me local.now }
@@ -106,8 +106,8 @@ fn print_at<const TOP: u64>(
     }
 }
 
-/// An act that leaves all queues: no send, receive, reset or tracer change. Refusal 1: the clock is
-/// at `TOP`, and the act stamps.
+/// An act that leaves all queues: no send, receive, reset or tracer change. Fails if the clock is
+/// at `TOP` and the act stamps.
 pub fn inner<const TOP: u64>(
     me: Pid,
     local: &mut Local<TOP>,

@@ -56,7 +56,8 @@ fn is_stamp(from: Pid, this: u64, token: &Option<Token>) -> bool
 }
 
 impl Mailboxes {
-    /// As many empty mailboxes as `count`, with room for no message yet. Refusal 1: no memory.
+    /// As many empty mailboxes as `count`, with room for no message yet. Fails if memory runs
+    /// out.
     pub fn new(alloc: Global, count: usize) -> Result<Mailboxes, AllocError>
         ensures empty { IfOk result (λ mail. mail.boxes ≡ replicate count []) }
         ensures spare { IfOk result (λ mail. mail.spare ≡ 0) }
@@ -67,7 +68,7 @@ impl Mailboxes {
     }
 
     /// Makes room for `count` more messages, in any mailboxes. If there is room already, nothing
-    /// changes. Refusal 1: no memory, only if there isn't.
+    /// changes. Fails if memory runs out.
     pub fn reserve(&mut self, count: usize) -> Result<(), AllocError>
         ensures room { OnOk result (count ≤ self.new.spare) }
         ensures succeeds { count ≤ self.old.spare → IsOk result }
@@ -99,7 +100,7 @@ impl Mailboxes {
         }
     }
 
-    /// Puts a message at the end of the mailbox. Refusal 1: no memory, only if there is no room.
+    /// Puts a message at the end of the mailbox. Fails only if there is no room and memory runs out.
     pub fn put(&mut self, mailbox: usize, message: Message) -> Result<(), AllocError>
         requires { mailbox < length self.old.boxes }
         ensures ok { OnOk result (
@@ -222,7 +223,7 @@ impl Mailboxes {
     }
 
     /// The same if no two messages of the mailbox have such a token. It is looked for from both ends at
-    /// once, so that an answer that comes to a long queue is found as soon as the oldest message.
+    /// once, so that a reply at the end of a long queue is found as soon as the oldest message.
     pub fn place_of_one(&self, mailbox: usize, from: Pid, this: u64) -> Option<u64>
         requires within { mailbox < length self.now.boxes }
         requires one { PassesOnce (λ m. bears_stamp from this m.token) (queue_in self.now.boxes mailbox) }

@@ -123,7 +123,7 @@ passed = of a (sent 17 0 1 a b ∷ []) ∷ of b (got 17 0 1 a b ∷ []) ∷ []
 passed_is : order passed ≡ item.Reported a 0 ∷ item.Reported b 0 ∷ []
 passed_is = refl
 
--- where one process repeats a receive, the two hidden sends have one key, so nothing is an order
+-- if one process repeats a receive, the two hidden sends have one key, so nothing is an order
 abbrev repeats : List Stream
 repeats = of a [] ∷ of b (got 17 0 1 a b ∷ got 17 0 1 a b ∷ []) ∷ []
 

@@ -1,4 +1,4 @@
--- Where no receive repeats another, each receive is the first from its sender with its count: a first one that is
+-- If no receive repeats another, each receive is the first from its sender with its count: a first one that is
 -- another would be a repeat, and there is a first one, since the receive itself is there.
 use Rattle.std.proofs.Common.{◌≡◌, ℕ, ◌==◌, ◌&&◌, ◌||◌, true, false, cond, List, Some, None, option_and_then, refl}
 use Rattle.std.proofs.Common.{sym, ◌∙◌, ap, if◌then◌else◌}

@@ -6,7 +6,7 @@ use Rattle.st_order.specs.declared.item.Item.{Item}
 use Rattle.st_order.specs.declared.labels.Labelled.{Labelled}
 use Rattle.st_order.specs.Labels.{label_of}
 
--- an item with its label; none where nothing stands at its place
+-- an item with its label; none if nothing stands at its place
 abbrev pub with_label : List Stream → Item → Option Labelled
 with_label streams x = option_map (λ l. record { label = l; item = x }) (label_of streams x)
 
@@ -15,7 +15,7 @@ abbrev pub leading_with : Label → List Labelled → ℕ
 leading_with label [] = 0
 leading_with label (x ∷ xs) = if x.label.0 == label.0 then leading_with label xs + 1 else 0
 
--- an item before the groups: at the front of the first, where that has its label, else a group of its own
+-- an item before the groups: at the front of the first if that has its label, else a group of its own
 abbrev pub put_before : Labelled → List (Label × List Item) → List (Label × List Item)
 put_before x [] = (x.label, x.item ∷ []) ∷ []
 put_before x (g ∷ gs) =

@@ -45,7 +45,7 @@ items_among all (s ∷ rest) = items_from all s.pid 0 s.events ++ items_among al
 abbrev pub items : List Stream → List Item
 items streams = items_among streams streams
 
--- the event that an item is about: of a hidden send its receive; none where nothing stands at the item's place
+-- the event that an item is about: of a hidden send its receive; none if nothing stands at the item's place
 abbrev pub event_of : List Stream → Item → Option Event
 event_of streams (item.Reported p i) = event_at streams p i
 event_of streams (item.Hidden p i) = event_at streams p i

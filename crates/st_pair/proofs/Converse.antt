@@ -1,4 +1,4 @@
--- A receive's source is a send exactly where the send's receiver is that receive: the counts of a process's sends and
+-- A receive's source is a send exactly if the send's receiver is that receive: the counts of a process's sends and
 -- prints rise, so one at most has the receive's, and no other receive has its sender and count.
 use Rattle.std.proofs.Common.{◌≡◌, ℕ, ◌+◌, ◌<◌, ◌≤◌, ◌==◌, ◌&&◌, ◌||◌, zero, suc, nat_lt, Bool, true, false, not}
 use Rattle.std.proofs.Common.{cond}

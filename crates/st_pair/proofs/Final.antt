@@ -280,7 +280,7 @@ module _ (top : ℕ) (streams : List Stream) (acts : List Act) (os : List Outcom
 
 -- THE TWO STATEMENTS
 
--- where any reason stands
+-- if any reason stands
 pub refused_never_shown : (streams : List Stream) (f : PairFault) → refusal streams ≡ Some f
     → NeverShownInOneTrace streams
 refused_never_shown streams f h top acts none shows =
@@ -292,7 +292,7 @@ refused_never_shown streams f h top acts none shows =
       | reasons.ByMismatch found ↦ no_mismatch top streams acts os shows.1 shows.2 none f found
     ]
 
--- where it is PrevNotBefore, which its own rule alone gives
+-- if it is PrevNotBefore, which its own rule alone gives
 pub prev_never_shown : (streams : List Stream) (f : PairFault) → refusal streams ≡ Some f → IsPrevNotBefore f
     → NeverShown streams
 prev_never_shown streams f h prev top acts shows =

@@ -46,7 +46,7 @@ abbrev pub agrees : Event → Event → Bool
 agrees f e = is_send f &&
     (f.label.0 == e.label.0 && (f.serial.prev == e.serial.prev && (to_eq f.to e.to && f.value == e.value)))
 
--- A rule is a test on one event and its place, and gives the fault where it stands against the streams there. They
+-- A rule is a test on one event and its place, and gives the fault if it refuses the streams there. They
 -- are tried in the order of their numbers, each over all places.
 
 -- 2: prev isn't less than this
@@ -88,17 +88,17 @@ source_of streams e = elim (stamp_of streams e.from e.serial.this) [
   | Some f ↦ source.Event e.from f.0
 ]
 
--- the source of the receive at (p, i); none where there is no receive
+-- the source of the receive at (p, i); none if there is no receive
 abbrev pub source_at : List Stream → Pid → ℕ → Option Source
 source_at streams p i =
     option_and_then (λ e. if is_stamp e then None else Some (source_of streams e)) (event_at streams p i)
 
--- the place of the receive that is paired with the send at (q, j); none where there is no send or none is paired
+-- the place of the receive that is paired with the send at (q, j); none if there is no send or none is paired
 abbrev pub receiver_at : List Stream → Pid → ℕ → Option (Pid × ℕ)
 receiver_at streams q j =
     option_and_then (λ f. if is_send f then receive_of streams q f.serial.this else None) (event_at streams q j)
 
--- when streams aren't paired: for want of memory, or for the reason
+-- when streams aren't paired: because memory ran out, or for the reason
 abbrev pub IsPairFault : List Stream → PairFault → Type 0
 IsPairFault streams fault.Memory = Unit {0}
 IsPairFault streams f = refusal streams ≡ Some f

@@ -11,21 +11,21 @@ use thiserror::Error;
 /// acts without a reset, which sets the counts of a node's processes back to 0.
 #[derive(Clone, Copy, Debug, PartialEq, Eq, Error)]
 pub enum PairFault {
-    /// Refusal 1: memory ran out. It can replace any other result.
+    /// Memory ran out. It can come in place of any other result.
     #[error("no memory")]
     Memory,
-    /// Refusal 2: the serial of this event doesn't rise: its prev isn't less than its this.
+    /// The serial of this event doesn't rise: its prev isn't less than its this.
     #[error("a serial doesn't rise")]
     PrevNotBefore(Pid, u64),
-    /// Refusal 3: this send or print counts no higher than the last one of its process before it,
-    /// which is at the second index.
+    /// This send or print counts no higher than the last one of its process before it, which is at
+    /// the second index.
     #[error("the sends and prints of a process don't rise")]
     NotRising(Pid, u64, u64),
-    /// Refusal 4: this receive has the sender and the count of the earlier one at the second place.
+    /// This receive has the sender and the count of the earlier one at the second place.
     #[error("a message is received twice")]
     Repeated(Pid, u64, Pid, u64),
-    /// Refusal 5: the send or print at the second place has the count of this receive, and is not
-    /// the send of its message.
+    /// The send or print at the second place has the count of this receive, and is not the send of
+    /// its message.
     #[error("a receive differs from its send")]
     Mismatch(Pid, u64, Pid, u64),
 }

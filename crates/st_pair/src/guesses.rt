@@ -2,8 +2,8 @@
 //!
 //! Each receive is looked up several times, and a binary search in a large table waits for memory
 //! at each step. Counts mostly lie close together, so that a key's count and sender can name a slot
-//! that says where the search would end. That is tested before it is believed, so that no rule
-//! binds the slots, and a wrong guess costs a search.
+//! that says where the search would end. It is tested before it is believed, so nothing
+//! has to hold of the slots, and a wrong guess costs a search.
 
 use crate::tables::{Key, Row};
 use std::alloc::{AllocError, Global};

@@ -12,7 +12,7 @@ use crate::answer::PairFault;
 use crate::tables::Table;
 use st_core::{Event, Kind, Pid, Streams};
 
-/// Rule 2 in one stream.
+/// The first event of one stream whose prev isn't less than its this.
 fn prev_not_before_in(pid: Pid, events: &[Event]) -> Option<PairFault>
     ensures { result ≡ first_from prev_not_before pid 0 events.now }
 {
@@ -24,7 +24,7 @@ fn prev_not_before_in(pid: Pid, events: &[Event]) -> Option<PairFault>
     None
 }
 
-/// Rule 2: the least place of an event whose prev isn't less than its this.
+/// The least place of an event whose prev isn't less than its this.
 pub fn prev_not_before(streams: &Streams) -> Option<PairFault>
     ensures { result ≡ first prev_not_before streams.now }
 {
@@ -36,7 +36,7 @@ pub fn prev_not_before(streams: &Streams) -> Option<PairFault>
     None
 }
 
-/// Rule 3 in one stream.
+/// The first send or print of one stream that has no greater count than the one before it.
 fn not_rising_in(pid: Pid, events: &[Event]) -> Option<PairFault>
     ensures { result ≡ first_from (not_rising_in events.now) pid 0 events.now }
 {
@@ -58,7 +58,7 @@ fn not_rising_in(pid: Pid, events: &[Event]) -> Option<PairFault>
     None
 }
 
-/// Rule 3: the least place of a send or print that has no greater count than the one before it.
+/// The least place of a send or print that has no greater count than the one before it.
 pub fn not_rising(streams: &Streams) -> Option<PairFault>
     ensures { result ≡ first (not_rising streams.now) streams.now }
 {
@@ -77,7 +77,7 @@ fn is_place(first: Pid, place: u64, pid: Pid, index: u64) -> bool
     first == pid && place == index
 }
 
-/// Rule 4 at one event.
+/// Whether one event is a receive that isn't the first from its sender with its count.
 fn repeated_at(
     streams: &Streams,
     table: &Table,
@@ -103,7 +103,7 @@ fn repeated_at(
     }
 }
 
-/// Rule 4 in one stream.
+/// The first receive of one stream that isn't the first from its sender with its count.
 fn repeated_in(streams: &Streams, table: &Table, pid: Pid, events: &[Event]) -> Option<PairFault>
     requires { HasReceives streams.now (place_at_key table.now) }
     ensures { result ≡ first_from (repeated streams.now) pid 0 events.now }
@@ -116,7 +116,7 @@ fn repeated_in(streams: &Streams, table: &Table, pid: Pid, events: &[Event]) -> 
     None
 }
 
-/// Rule 4: the least place of a receive that isn't the first from its sender with its count.
+/// The least place of a receive that isn't the first from its sender with its count.
 pub fn repeated(streams: &Streams, table: &Table) -> Option<PairFault>
     requires { HasReceives streams.now (place_at_key table.now) }
     ensures { result ≡ first (repeated streams.now) streams.now }
@@ -156,7 +156,7 @@ fn is_send_of(sent: &Event, event: &Event) -> bool
     }
 }
 
-/// Rule 5 at one event.
+/// Whether one event is a receive whose sender has its count on an event that isn't its send.
 fn mismatch_at(
     streams: &Streams,
     table: &Table,
@@ -185,7 +185,7 @@ fn mismatch_at(
     }
 }
 
-/// Rule 5 in one stream.
+/// The first receive of one stream whose sender has its count on an event that isn't its send.
 fn mismatch_in(streams: &Streams, table: &Table, pid: Pid, events: &[Event]) -> Option<PairFault>
     requires { HasStamps streams.now (place_at_key table.now) }
     ensures { result ≡ first_from (mismatch streams.now) pid 0 events.now }
@@ -198,7 +198,7 @@ fn mismatch_in(streams: &Streams, table: &Table, pid: Pid, events: &[Event]) -> 
     None
 }
 
-/// Rule 5: the least place of a receive whose sender has its count on an event that isn't its send.
+/// The least place of a receive whose sender has its count on an event that isn't its send.
 pub fn mismatch(streams: &Streams, table: &Table) -> Option<PairFault>
     requires { HasStamps streams.now (place_at_key table.now) }
     ensures { result ≡ first (mismatch streams.now) streams.now }

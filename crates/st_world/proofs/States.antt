@@ -83,7 +83,7 @@ step_own top s a i r q done own apart stands there acts is =
     sym (map-map (reached a token) mine s) ∙ ap (map (reached a token)) written in
     rw (stands.found, there, acts) (rw after refl)
 
--- where the actor's part has no value, the act has no step
+-- if the actor's part has no value, the act has no step
 pub step_full : (top : ℕ) (s : State) (a : Act) (r : Process)
     → process s (actor a) ≡ Some r → acted top r a ≡ None → step top s a ≡ None
 step_full top s a r found full =

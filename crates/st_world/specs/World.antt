@@ -1,4 +1,4 @@
--- What the public calls of a world answer.
+-- What the public calls of a world return.
 use Rattle.std.specs.Prelude.{◌≡◌, ℕ, ◌<◌, ◌≤◌, Bool, true, false, ◌⊎◌, List, Option, Some, None, Result, Err}
 use Rattle.std.specs.Prelude.{IsSome, IfSome, IfOk, IfErr, OnErr, All, option_and_then, position}
 use Rattle.std.specs.Option.{ForSome}
@@ -23,7 +23,7 @@ use Rattle.st_world.specs.declared.outcome.StepFault.TheVariants as fault
 abbrev pub outcome_to : Told → State → Outcome
 outcome_to told new = record { reply = told.reply; report = told.report; place = told.place; after = new }
 
--- when a new world is refused: for its pids wherever these do not rise, else for want of memory
+-- when a new world is refused: for its pids if these don't rise, else because memory ran out
 abbrev pub IsNewFault : List Pid → NewFault → Type 0
 IsNewFault pids new_fault.Memory = IsRising pids
 IsNewFault pids new_fault.NotRising = ¬ IsRising pids

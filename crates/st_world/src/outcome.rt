@@ -3,19 +3,19 @@
 /// Why there is no new world.
 #[derive(Clone, Copy, Debug, PartialEq, Eq)]
 pub enum NewFault {
-    /// Refusal 1: no memory.
+    /// Memory ran out. Comes only if the pids rise.
     Memory,
-    /// Refusal 2: the pids do not rise strictly.
+    /// The pids don't rise strictly. Looked at first.
     NotRising,
 }
 
 /// Why an act has no step. The state stays as it was.
 #[derive(Clone, Copy, Debug, PartialEq, Eq)]
 pub enum StepFault {
-    /// Refusal 1: no memory for the message of a send.
+    /// Memory ran out for the message of a send. Comes only if the act has a step.
     Memory,
-    /// Refusal 2: the actor, or a send's receiver, is not there.
+    /// The actor, or a send's receiver, isn't there. Looked at first.
     Unknown,
-    /// Refusal 3: the actor's clock is at its greatest value, so its token can't be stamped.
+    /// The actor's clock is at its greatest value, so its token can't be stamped. Looked at next.
     ClockFull,
 }

@@ -148,7 +148,7 @@ impl Model for MemorySink {
 impl MemorySink {
     /// A sink with room for so many bytes, which it takes at once: no later call allocates. A fuse
     /// is the number of bytes after which it fails; `None` never fails before its room is full.
-    /// `AllocError` is refusal 1, for want of memory.
+    /// It fails only if memory runs out.
     pub fn new(alloc: Global, room: usize, fuse: Option<u64>) -> Result<MemorySink, AllocError>
         ensures ok { IfOk result (λ s. s ≡ record { written = []; room = room; fuse = fuse; failed = false }) }
         ensures no_room { room ≡ 0 → IsOk result }

@@ -11,7 +11,7 @@ use std::alloc::Global;
 use std::marker::Model;
 
 /// A source or sink over another, with all the bytes that passed. It takes memory at each call, and
-/// fails where that is refused, before the other device is called: no byte passes unrecorded.
+/// fails if there is none, before the other device is called: no byte passes unrecorded.
 #[derive(Drop)]
 pub struct Recorder<D> {
     device: D,

@@ -8,7 +8,7 @@ use crate::device::source::Failed;
 
 /// Takes bytes, in pieces.
 pub trait ByteSink {
-    // The bytes that were written, where the sink tells them.
+    // The bytes that were written, if the sink tells them.
     ghost written: { Self → Option (List ℕ) };
 
     // Whether a call has failed.
@@ -31,7 +31,7 @@ pub trait ByteSink {
             (λ _. puts self.old [] self.new) }
         ensures mark { Marks (failed self.old) (failed self.new) result };
 
-    // What was put stands at the end of what was written, where the sink tells it.
+    // What was put stands at the end of what was written, if the sink tells it.
     ghost puts_appends: { (a : Self) (bytes : List ℕ) (b : Self) → puts a bytes b
         → Appends (written a) (written b) bytes };
 }

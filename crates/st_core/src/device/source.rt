@@ -6,14 +6,14 @@ ghost use Rattle.st_core.specs.Device.{Marks, PassesEmpty};
 
 use thiserror::Error;
 
-/// The device failed, at this call or an earlier one. Refusal 1 of `take` and of `put`.
+/// The device failed, at this call of `take` or `put` or an earlier one.
 #[derive(Clone, Copy, Debug, PartialEq, Eq, Error)]
 #[error("the device failed")]
 pub struct Failed;
 
 /// Gives bytes, in pieces.
 pub trait ByteSource {
-    // The bytes that are left, where the source tells them.
+    // The bytes that are left, if the source tells them.
     ghost left: { Self → Option (List ℕ) };
 
     // Whether a call has failed.
@@ -26,9 +26,9 @@ pub trait ByteSource {
     // A call found the source at its end.
     ghost ended: { Self → Type 0 };
 
-    /// Writes the next bytes to the front of the piece, and says how many. None, for a piece with
-    /// room, means the end. A piece without room is no question: a source that hasn't failed answers
-    /// none of it and stays as it was. After a failure each call fails.
+    /// Writes the next bytes to the front of the piece, and returns how many. 0, for a piece with
+    /// room, means the end. For a piece without room a source that hasn't failed returns 0 and stays
+    /// as it was. After a failure each call fails.
     fn take(&mut self, piece: &mut [u8]) -> Result<usize, Failed>
         ensures bound { IfOk result (λ n. n ≤ length piece.new) }
         ensures bytes { ReadConsumes (left self.old) (left self.new) result piece.new }
@@ -39,7 +39,7 @@ pub trait ByteSource {
         ensures empty { PassesEmpty (failed self.old) piece.new self.old self.new result }
         ensures mark { Marks (failed self.old) (failed self.new) result };
 
-    // What was given stood at the front of what was left, where the source tells it.
+    // What was given stood at the front of what was left, if the source tells it.
     ghost gives_consumes: { (a : Self) (bytes : List ℕ) (b : Self) → gives a bytes b
         → Consumes (left a) (left b) bytes };
 }

@@ -1,4 +1,4 @@
--- A row that is noted at the end is its key's place only where no row before it has the key.
+-- A row that is noted at the end is its key's place only if no row before it has the key.
 use Rattle.st_pair.proofs.Noted.{place_in-push}
 use Rattle.st_pair.proofs.tables.note.Goals as goal
 

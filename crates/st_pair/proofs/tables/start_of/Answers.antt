@@ -1,4 +1,4 @@
--- The rows split at the index: a guess where both tests pass, else where the search by halves ends.
+-- The rows split at the index: a guess if both tests pass, else where the search by halves ends.
 use Rattle.std.proofs.Common.{rules}
 use Rattle.std.proofs.lemmas.List.Sorted.{IsPartitionPoint-from_clause}
 use Rattle.st_pair.specs.Tables.{is_below}

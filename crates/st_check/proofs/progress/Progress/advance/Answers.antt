@@ -1,4 +1,4 @@
--- An act stops where it is unlisted, refused or reports another event; else each part of what is kept moves with it.
+-- An act stops if it is unlisted, refused or reports another event; else each part of what is kept moves with it.
 use Rattle.std.proofs.Common.{ℕ, ◌+◌, List, ◌++◌, Option, take, sym, ◌∙◌, ap, subst, arith, refl}
 use Rattle.std.proofs.lemmas.Option.{slice_get_within}
 use Rattle.st_check.specs.Progress.{pair_to, IsPassed}

@@ -1,4 +1,4 @@
--- The world steps exactly where the definition does, and the report is added to the stream of its actor.
+-- The world steps exactly if the definition does, and the report is added to the stream of its actor.
 use Rattle.std.proofs.Common.{◌≡◌, sym, ◌∙◌, ap}
 use Rattle.st_core.specs.declared.types.Pid.{Pid}
 use Rattle.st_core.specs.Run.{pids_of}

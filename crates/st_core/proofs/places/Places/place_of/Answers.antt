@@ -1,4 +1,4 @@
--- The search looks at pids that rise, so where it finds none there is none.
+-- The search looks at pids that rise, so if it finds none there is none.
 use Rattle.st_core.proofs.Pids.{missing_from_search}
 use Rattle.st_core.proofs.places.Places.place_of.Goals as goal
 

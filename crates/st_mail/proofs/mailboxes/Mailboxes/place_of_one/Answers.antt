@@ -1,4 +1,4 @@
--- Where nothing was wiped, what is stored is the mailbox.
+-- If nothing was wiped, what is stored is the mailbox.
 use Rattle.std.proofs.Common.{◌≡◌, ℕ, rules, refl, ap, sym, ◌∙◌, arith, List, position, subst}
 use Rattle.st_core.specs.declared.types.Message.{Message}
 use Rattle.st_arena.specs.Calls.{PassesOnce}
