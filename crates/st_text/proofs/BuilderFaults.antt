@@ -9,6 +9,7 @@ use Rattle.st_core.specs.declared.types.Event.{Event}
 use Rattle.st_core.specs.declared.types.Act.{Act}
 use Rattle.st_core.specs.Pid.{pid_cmp}
 use Rattle.st_core.specs.Streams.{is_own}
+use Rattle.st_text.specs.declared.limits.Limits.{Limits}
 use Rattle.st_text.specs.declared.line.Line.{Line}
 use Rattle.st_text.specs.declared.line.Line.TheVariants as lines
 use Rattle.st_text.specs.declared.fault.ReadFault.{ReadFault}
@@ -38,42 +39,43 @@ stands_is ls b w begun o l e h p =
     ap (λ (x : List Line). may_stand x l) e
     ∙ rw (sym (ap has_acts e) ∙ h, sym (ap (λ (x : List Line). last_of (pids x)) e) ∙ p) refl
 
-pub fault_is : (p : BundleBuilder) (ls : List Line) (l : Line) → IsBuilt p ls
-    → line_fault ls (Some l) ≡ fault_by (p.lines + 1)
+pub fault_is : (limits : Limits) (p : BundleBuilder) (ls : List Line) (l : Line) → IsBuilt p ls
+    → line_fault limits ls (Some l) ≡ fault_by (p.lines + 1)
     (may_follow (is_some p.acts) p.last l && (p.wide || not (is_remote l))) (is_out_of_order p.last l)
-    (is_foreign p.last l) (is_one_too_many p.processes p.events (acts_len p.acts) l)
+    (is_foreign p.last l) (is_one_too_many limits p.processes p.events (acts_len p.acts) l)
 unfolding line_fault fault_by
-fault_is p ls l s =
+fault_is limits p ls l s =
     let stands = stands_is ls _ p.wide (is_some p.acts) p.last l s.lines (sym s.begun_is) (sym s.last_is) in
     rw (stands, ← s.last_is, ← s.count, ← s.processes_are, ← s.events_are, ← s.acts_are) refl
 
-pub open_fault : (p : BundleBuilder) (ls : List Line) (q : Pid) → IsBuilt p ls
-    → line_fault ls (Some (lines.Process q))
+pub open_fault : (limits : Limits) (p : BundleBuilder) (ls : List Line) (q : Pid) → IsBuilt p ls
+    → line_fault limits ls (Some (lines.Process q))
     ≡ fault_by (p.lines + 1) (not (is_some p.acts) && (p.wide || not (is_away q)))
-    (last_passes (λ r. not (is_lt (pid_cmp r q))) p.last) false (leb 1024 p.processes)
-open_fault p ls q s = fault_is p ls (lines.Process q) s ∙ rw (or_false (is_away q)) refl
+    (last_passes (λ r. not (is_lt (pid_cmp r q))) p.last) false (leb limits.processes p.processes)
+open_fault limits p ls q s = fault_is limits p ls (lines.Process q) s ∙ rw (or_false (is_away q)) refl
 
-pub report_fault : (p : BundleBuilder) (ls : List Line) (e : Event) → IsBuilt p ls
-    → line_fault ls (Some (lines.Event e))
+pub report_fault : (limits : Limits) (p : BundleBuilder) (ls : List Line) (e : Event) → IsBuilt p ls
+    → line_fault limits ls (Some (lines.Event e))
     ≡ fault_by (p.lines + 1) (not (is_some p.acts) && last_passes (λ r. true) p.last &&
-    (p.wide || not (is_event_remote e))) false (last_passes (λ r. not (is_own r e)) p.last) (leb 1000000 p.events)
-report_fault p ls e s = fault_is p ls (lines.Event e) s
+    (p.wide || not (is_event_remote e))) false (last_passes (λ r. not (is_own r e)) p.last) (leb limits.events p.events)
+report_fault limits p ls e s = fault_is limits p ls (lines.Event e) s
 
-pub begin_fault : (p : BundleBuilder) (ls : List Line) → IsBuilt p ls
-    → line_fault ls (Some lines.Acts) ≡ fault_by (p.lines + 1) (not (is_some p.acts) && (p.wide || true)) false false
+pub begin_fault : (limits : Limits) (p : BundleBuilder) (ls : List Line) → IsBuilt p ls
+    → line_fault limits ls (Some lines.Acts) ≡ fault_by (p.lines + 1) (not (is_some p.acts) && (p.wide || true)) false
     false
-begin_fault p ls s = fault_is p ls lines.Acts s
+    false
+begin_fault limits p ls s = fault_is limits p ls lines.Acts s
 
-pub act_fault : (p : BundleBuilder) (ls : List Line) (a : Act) → IsBuilt p ls
-    → line_fault ls (Some (lines.Act a))
+pub act_fault : (limits : Limits) (p : BundleBuilder) (ls : List Line) (a : Act) → IsBuilt p ls
+    → line_fault limits ls (Some (lines.Act a))
     ≡ fault_by (p.lines + 1) (is_some p.acts && (p.wide || not (is_act_remote a))) false false
-    (leb 4000000 (acts_len p.acts))
-act_fault p ls a s = fault_is p ls (lines.Act a) s
+    (leb limits.acts (acts_len p.acts))
+act_fault limits p ls a s = fault_is limits p ls (lines.Act a) s
 
-pub header_fault : (p : BundleBuilder) (ls : List Line) (b : Bool) → IsBuilt p ls
-    → line_fault ls (Some (lines.Header b)) ≡ Some (faults.Line (p.lines + 1))
+pub header_fault : (limits : Limits) (p : BundleBuilder) (ls : List Line) (b : Bool) → IsBuilt p ls
+    → line_fault limits ls (Some (lines.Header b)) ≡ Some (faults.Line (p.lines + 1))
 unfolding fault_by
-header_fault p ls b s = fault_is p ls (lines.Header b) s
+header_fault limits p ls b s = fault_is limits p ls (lines.Header b) s
 
 -- ---- the tests in a row
 
@@ -141,39 +143,44 @@ passes_none test o e = ap (last_passes test) e
 pub out_first : (a b x : Bool) → (a && b) ≡ false → (a && b && x) ≡ false
 out_first a b x e = rw e refl
 
-pub unsaid_fault : (p : BundleBuilder) (ls : List Line) → IsBuilt p ls
-    → line_fault ls None ≡ Some (faults.Line (p.lines + 1))
+pub unsaid_fault : (limits : Limits) (p : BundleBuilder) (ls : List Line) → IsBuilt p ls
+    → line_fault limits ls None ≡ Some (faults.Line (p.lines + 1))
 unfolding line_fault
-unsaid_fault p ls s = ap (λ n. Some (faults.Line (n + 1))) (sym s.count)
+unsaid_fault limits p ls s = ap (λ n. Some (faults.Line (n + 1))) (sym s.count)
 
 -- ---- a line that is kept
 
-pub open_good : (p : BundleBuilder) (ls : List Line) (q : Pid) → IsBuilt p ls → is_some p.acts ≡ false
+pub open_good : (limits : Limits) (p : BundleBuilder) (ls : List Line) (q : Pid) → IsBuilt p ls → is_some p.acts ≡ false
     → (is_away q && not p.wide) ≡ false
-    → last_passes (λ r. not (is_lt (pid_cmp r q))) p.last ≡ false → p.processes < 1024
-    → line_fault ls (Some (lines.Process q)) ≡ None
-open_good p ls q s begun out order few =
+    → last_passes (λ r. not (is_lt (pid_cmp r q))) p.last ≡ false → p.processes < limits.processes
+    → line_fault limits ls (Some (lines.Process q)) ≡ None
+open_good limits p ls q s begun out order few =
     let stands = let_in (not (is_some p.acts)) p.wide (is_away q) (not_begun _ begun) out in
-    open_fault p ls q s ∙ no_fault (p.lines + 1) _ _ _ _ stands order refl (below 1024 p.processes few)
+    open_fault limits p ls q s ∙ no_fault (p.lines + 1) _ _ _ _ stands order refl
+    (below limits.processes p.processes few)
 
-pub report_good : (p : BundleBuilder) (ls : List Line) (e : Event) (q : Pid) → IsBuilt p ls → is_some p.acts ≡ false
+pub report_good : (limits : Limits) (p : BundleBuilder) (ls : List Line) (e : Event) (q : Pid) → IsBuilt p ls
+    → is_some p.acts ≡ false
     → (is_event_remote e && not p.wide) ≡ false
-    → p.last ≡ Some q → is_own q e ≡ true → p.events < 1000000 → line_fault ls (Some (lines.Event e)) ≡ None
-report_good p ls e q s begun out at own few =
+    → p.last ≡ Some q → is_own q e ≡ true → p.events < limits.events
+    → line_fault limits ls (Some (lines.Event e)) ≡ None
+report_good limits p ls e q s begun out at own few =
     let follows =
     both_true (not (is_some p.acts)) _ (not_begun _ begun) (passes_at (λ r. true) p.last q true at refl) in
     let foreign = passes_at (λ r. not (is_own r e)) p.last q false at (ap not own) in
-    report_fault p ls e s
+    report_fault limits p ls e s
     ∙ no_fault (p.lines + 1) _ _ _ _ (let_in _ p.wide (is_event_remote e) follows out) refl foreign
-    (below 1000000 p.events few)
+    (below limits.events p.events few)
 
-pub act_good : (p : BundleBuilder) (ls : List Line) (a : Act) (list : List Act) → IsBuilt p ls → p.acts ≡ Some list
+pub act_good : (limits : Limits) (p : BundleBuilder) (ls : List Line) (a : Act) (list : List Act) → IsBuilt p ls
+    → p.acts ≡ Some list
     → (is_act_remote a && not p.wide) ≡ false
-    → acts_len p.acts < 4000000 → line_fault ls (Some (lines.Act a)) ≡ None
-act_good p ls a list s some out few =
-    act_fault p ls a s
+    → acts_len p.acts < limits.acts → line_fault limits ls (Some (lines.Act a)) ≡ None
+act_good limits p ls a list s some out few =
+    act_fault limits p ls a s
     ∙ no_fault (p.lines + 1) _ _ _ _ (let_in _ p.wide (is_act_remote a) (ap is_some some) out) refl refl
-    (below 4000000 (acts_len p.acts) few)
+    (below limits.acts (acts_len p.acts) few)
 
-pub needs_room : (ls : List Line) (l : Line) → line_fault ls (Some l) ≡ None → is_kept l ≡ true → NeedsRoom ls (Some l)
-needs_room ls l good kept = record { line = l; said_is = refl; good = good; kept = kept }
+pub needs_room : (limits : Limits) (ls : List Line) (l : Line) → line_fault limits ls (Some l) ≡ None
+    → is_kept l ≡ true → NeedsRoom limits ls (Some l)
+needs_room limits ls l good kept = record { line = l; said_is = refl; good = good; kept = kept }

@@ -122,7 +122,7 @@ place_of all n ss rest (Some x) =
     × (line_at_place (λ q. length (events_of all q)) n (pids_of ss) x.0 x.1 < n + length (flat_map process_lines ss))
     × (is_among (pids_of ss) x.0 ≡ true)
 
--- an event, where an index was found
+-- an event, if an index was found
 some_event : (all : List Stream) (es : List Event) (i : ℕ) → position (λ e. not (names_listed all e)) es ≡ Some i
     → Event
 some_event all [] i e = absurd cc

@@ -1,5 +1,5 @@
 -- At the end the lines are judged and the tail is what was kept, so that the answer is the bytes' bundle or fault.
-use Rattle.std.proofs.Common.{◌≡◌, ℕ, ◌^◌, ◌<◌, ◌≤◌, Bool, true, false, cond, eqb, List, [], ◌∷◌, ◌++◌, length}
+use Rattle.std.proofs.Common.{◌≡◌, ℕ, ◌+◌, ◌^◌, ◌<◌, ◌≤◌, Bool, true, false, cond, eqb, List, [], ◌∷◌, ◌++◌, length}
 use Rattle.std.proofs.Common.{map, Option, Some, None, refl, sym, ap, subst, ◌∙◌, arith}
 use Rattle.std.specs.Prelude.{Result, Ok, Err}
 use Rattle.std.specs.List.{flat_map, count_by}
@@ -15,10 +15,10 @@ use Rattle.st_text.specs.declared.fault.ReadFault.{ReadFault}
 use Rattle.st_text.specs.declared.fault.ReadFault.TheVariants as faults
 use Rattle.st_text.specs.declared.builder.BundleBuilder.{BundleBuilder}
 use Rattle.st_text.specs.Parsing.{line_of}
-use Rattle.st_text.specs.Parts.Counts.{acts_len}
+use Rattle.st_text.specs.Parts.Counts.{acts_len, acts_lines}
 use Rattle.st_text.specs.Text.{process_lines, act_lines, acts_or_none, body, ended, spelling}
 use Rattle.st_text.specs.Contents.{contents}
-use Rattle.st_text.specs.Fault.{cut, onto_first, sayings, fault, closing_fault, first_fault, is_event}
+use Rattle.st_text.specs.Fault.{cut, onto_first, sayings, fault_within, closing_fault, first_fault, is_event}
 use Rattle.st_text.specs.Parts.Builder.{so_far, IsBuilt}
 use Rattle.st_text.specs.Parts.Finish.{IsFinished, Finishes}
 use Rattle.st_text.specs.Parts.Cutter.{IsTail}
@@ -26,40 +26,45 @@ use Rattle.st_text.specs.Parts.CutterState.{HasTakenAs}
 use Rattle.st_text.specs.Answer.{Answers, IsAnswer, Reads}
 use Rattle.st_text.proofs.Newlines.{spelled_by, no_lines, fault_of_line, fault_truncated, fault_at_end, truncated_tail}
 use Rattle.st_text.proofs.Newlines.{truncated_nothing, truncated_none}
+use Rattle.st_text.proofs.Counted.{all_few}
 use Rattle.st_text.proofs.GoodLines.{count-append, count-cons}
 use Rattle.st_text.proofs.Headers.{spelled_whole, body_fits}
-use Rattle.st_text.specs.Limits.{most_bytes}
+use Rattle.st_text.specs.declared.limits.Limits.{Limits}
 
--- an answer without want of memory is one
-pub answers : (bytes : List ℕ) (r : Result Bundle ReadFault) → IsAnswer bytes r → Answers bytes r
-answers bytes (Ok b) h = h
-answers bytes (Err faults.Memory) h = tt
-answers bytes (Err faults.Device) h = h
-answers bytes (Err faults.TooLarge) h = h
-answers bytes (Err (faults.Line n)) h = h
-answers bytes (Err (faults.Order n)) h = h
-answers bytes (Err (faults.Foreign n)) h = h
-answers bytes (Err (faults.Unknown n)) h = h
-answers bytes (Err (faults.TooMany n)) h = h
-answers bytes (Err faults.Truncated) h = h
+-- an answer that isn't Memory is one
+pub answers : (limits : Limits) (bytes : List ℕ) (r : Result Bundle ReadFault) → IsAnswer limits bytes r
+    → Answers limits bytes r
+answers limits bytes (Ok b) h = h
+answers limits bytes (Err faults.Memory) h = tt
+answers limits bytes (Err faults.Device) h = h
+answers limits bytes (Err faults.TooLarge) h = h
+answers limits bytes (Err (faults.Line n)) h = h
+answers limits bytes (Err (faults.Order n)) h = h
+answers limits bytes (Err (faults.Foreign n)) h = h
+answers limits bytes (Err (faults.Unknown n)) h = h
+answers limits bytes (Err (faults.TooMany n)) h = h
+answers limits bytes (Err faults.Truncated) h = h
 
 -- a fault was met
-pub end_fault : (bytes : List ℕ) (out : Bool) (o : Option ReadFault) (long : Bool) (kept : List ℕ)
+pub end_fault : (limits : Limits) (bytes : List ℕ) (out : Bool) (o : Option ReadFault) (long : Bool) (kept : List ℕ)
     (p : Option BundleBuilder) (f : ReadFault)
-    → out ≡ false → o ≡ Some f → length bytes ≤ most_bytes → HasTakenAs out o bytes long kept p → fault bytes ≡ Some f
-end_fault bytes true o long kept p f eo ef few h = absurd cc
-end_fault bytes false None long kept p f eo ef few h = absurd cc
-end_fault bytes false (Some g) long kept p f eo ef few h =
+    → out ≡ false → o ≡ Some f → length bytes ≤ limits.bytes → HasTakenAs limits out o bytes long kept p
+    → fault_within limits bytes ≡ Some f
+end_fault limits bytes true o long kept p f eo ef few h = absurd cc
+end_fault limits bytes false None long kept p f eo ef few h = absurd cc
+end_fault limits bytes false (Some g) long kept p f eo ef few h =
     let same : g ≡ f =
-    cc in fault_of_line bytes f few (subst (λ (x : ReadFault). first_fault [] (sayings bytes) ≡ Some x) same h)
+    cc in fault_of_line limits bytes f few (subst (λ (x : ReadFault). first_fault limits [] (sayings bytes) ≡ Some x)
+    same h)
 
 -- none was met
-pub good : (bytes : List ℕ) (out : Bool) (o : Option ReadFault) (long : Bool) (kept : List ℕ)
+pub good : (limits : Limits) (bytes : List ℕ) (out : Bool) (o : Option ReadFault) (long : Bool) (kept : List ℕ)
     (p : Option BundleBuilder)
-    → out ≡ false → o ≡ None → HasTakenAs out o bytes long kept p → HasTakenAs false None bytes long kept p
-good bytes true o long kept p eo ef h = absurd cc
-good bytes false (Some g) long kept p eo ef h = absurd cc
-good bytes false None long kept p eo ef h = h
+    → out ≡ false → o ≡ None → HasTakenAs limits out o bytes long kept p
+    → HasTakenAs limits false None bytes long kept p
+good limits bytes true o long kept p eo ef h = absurd cc
+good limits bytes false (Some g) long kept p eo ef h = absurd cc
+good limits bytes false None long kept p eo ef h = h
 
 long_some : (long : Bool) (kept t : List ℕ) → long ≡ true → IsTail long kept t → 0 < length t
 long_some true kept t e h = omega arith
@@ -69,22 +74,25 @@ kept_some : (long : Bool) (kept t : List ℕ) → long ≡ false → IsTail long
 kept_some true kept t e h = absurd cc
 kept_some false kept t e h = h
 
-pub end_long : (bytes : List ℕ) (long : Bool) (kept : List ℕ) (p : Option BundleBuilder) → long ≡ true
-    → length bytes ≤ most_bytes → HasTakenAs false None bytes long kept p → fault bytes ≡ Some faults.Truncated
-end_long bytes long kept p e few h =
-    fault_truncated bytes few h.1.good (truncated_tail bytes (long_some long kept (cut bytes).1 e h.1.tail_is))
+pub end_long : (limits : Limits) (bytes : List ℕ) (long : Bool) (kept : List ℕ) (p : Option BundleBuilder) → long ≡ true
+    → length bytes ≤ limits.bytes → HasTakenAs limits false None bytes long kept p
+    → fault_within limits bytes ≡ Some faults.Truncated
+end_long limits bytes long kept p e few h =
+    fault_truncated limits bytes few h.1.good (truncated_tail bytes (long_some long kept (cut bytes).1 e h.1.tail_is))
 
-pub end_tail : (bytes : List ℕ) (long : Bool) (kept : List ℕ) (p : Option BundleBuilder) → long ≡ false
-    → 0 < length kept → length bytes ≤ most_bytes → HasTakenAs false None bytes long kept p
-    → fault bytes ≡ Some faults.Truncated
-end_tail bytes long kept p e some few h =
-    fault_truncated bytes few h.1.good (truncated_tail bytes
+pub end_tail : (limits : Limits) (bytes : List ℕ) (long : Bool) (kept : List ℕ) (p : Option BundleBuilder)
+    → long ≡ false
+    → 0 < length kept → length bytes ≤ limits.bytes → HasTakenAs limits false None bytes long kept p
+    → fault_within limits bytes ≡ Some faults.Truncated
+end_tail limits bytes long kept p e some few h =
+    fault_truncated limits bytes few h.1.good (truncated_tail bytes
     (omega (arith, some, ap length (kept_some long kept (cut bytes).1 e h.1.tail_is))))
 
-pub end_nothing : (bytes : List ℕ) (long : Bool) (kept : List ℕ) (p : Option BundleBuilder) → p ≡ None
-    → length bytes ≤ most_bytes → HasTakenAs false None bytes long kept p → fault bytes ≡ Some faults.Truncated
-end_nothing bytes long kept p e few h =
-    fault_truncated bytes few h.1.good (truncated_nothing bytes
+pub end_nothing : (limits : Limits) (bytes : List ℕ) (long : Bool) (kept : List ℕ) (p : Option BundleBuilder) → p ≡ None
+    → length bytes ≤ limits.bytes → HasTakenAs limits false None bytes long kept p
+    → fault_within limits bytes ≡ Some faults.Truncated
+end_nothing limits bytes long kept p e few h =
+    fault_truncated limits bytes few h.1.good (truncated_nothing bytes
     (no_lines bytes (h.1.said ∙ ap (map Some) (none_held p h.0 e h.1.held))))
 
 -- ---- a bundle
@@ -123,15 +131,17 @@ acts_are None = refl
 acts_are (Some list) = refl
 
 -- the finished lines are the text of a bundle within the limits
-reads : (bytes : List ℕ) (ls : List Line) (p : BundleBuilder) (b : Bundle) → length bytes ≤ most_bytes
-    → (cut bytes).1 ≡ [] → sayings bytes ≡ map Some ls → first_fault [] (sayings bytes) ≡ None → IsBuilt p ls
-    → IsFinished ls p b → Reads bytes (contents b)
-reads bytes ls p b few over said clean s fin =
+reads : (limits : Limits) (bytes : List ℕ) (ls : List Line) (p : BundleBuilder) (b : Bundle)
+    → length bytes ≤ limits.bytes
+    → (cut bytes).1 ≡ [] → sayings bytes ≡ map Some ls → first_fault limits [] (sayings bytes) ≡ None → IsBuilt p ls
+    → IsFinished ls p b → Reads limits bytes (contents b)
+reads limits bytes ls p b few over said clean s fin =
+    let counts = all_few limits ls (ap (first_fault limits []) (sym said) ∙ clean) in
     let whole : bytes ≡ flat_map ended ls =
     spelled_by bytes ls said ∙ ap (λ (x : List ℕ). flat_map ended ls ++ x) over ∙ append-nil (flat_map ended ls) in
     let says : sayings bytes ≡ map Some (lines.Header p.wide ∷ body (contents b)) = said ∙ ap (map Some) fin.lines in
     let spelled : bytes ≡ spelling (contents b) =
-    spelled_whole bytes p.wide (contents b) says clean (ap closing_fault (sym fin.lines) ∙ fin.closes)
+    spelled_whole limits bytes p.wide (contents b) says clean (ap closing_fault (sym fin.lines) ∙ fin.closes)
     (whole ∙ ap (flat_map ended) fin.lines) in
     let processes : length p.draft ≡ p.processes =
     omega (arith, s.processes_are, ap length s.pids_are, length-map p.draft (λ (x : Stream). x.pid)) in
@@ -145,51 +155,47 @@ reads bytes ls p b few over said clean s fin =
       };
       within = record {
         bytes = omega (arith, few, ap length spelled);
-        processes = omega (arith, processes, p.few_processes, ap length fin.draft);
+        processes = omega (arith, processes, counts.processes, s.processes_are, ap length fin.draft);
         events =
             omega (
               arith,
               events,
-              p.few_events,
+              counts.events,
+              s.events_are,
               ap
                   (λ (d : List Stream). length (flat_map {X = Stream} {A = Event} (λ s. s.events) d)) fin.draft,
             );
-        acts = omega (arith, p.few_acts, ap acts_len fin.acts, acts_are b.acts);
+        acts = omega (arith, counts.acts, s.acts_are, ap acts_len fin.acts, acts_are b.acts);
       };
     }
 
--- no text has more lines than bytes
-few_lines : (bytes : List ℕ) → length (cut bytes).0 ≤ length bytes
-few_lines [] = omega arith
-few_lines (b ∷ bytes) = by (eqb b 10) (few_lines bytes)
-  where
-    onto : (b : ℕ) (ls : List (List ℕ)) (t : List ℕ) → length (onto_first b ls t).0 ≤ length ls
-    onto b [] t = omega arith
-    onto b (l ∷ ls) t = omega arith
+-- the builder's counts are small, so that the lines are
+lines_of_acts : (o : Option (List Act)) → acts_lines o ≤ 1 + acts_len o
+lines_of_acts None = omega arith
+lines_of_acts (Some list) = omega arith
 
-    by : (t : Bool) → length (cut bytes).0 ≤ length bytes
-        → length (cond t ([] ∷ (cut bytes).0, (cut bytes).1) (onto_first b (cut bytes).0 (cut bytes).1)).0 ≤ length
-        (b ∷ bytes)
-    by true le = omega arith
-    by false le = omega (arith, onto b (cut bytes).0 (cut bytes).1)
+small_count : (ls : List Line) (p : BundleBuilder) → IsBuilt p ls → length ls < 2 ^ 64
+small_count ls p s =
+    omega (arith, s.count, p.counted, p.few_processes, p.few_events, p.few_acts, lines_of_acts p.acts)
 
-pub end_finish : (bytes : List ℕ) (long : Bool) (kept : List ℕ) (o : Option BundleBuilder) (p : BundleBuilder)
+pub end_finish : (limits : Limits) (bytes : List ℕ) (long : Bool) (kept : List ℕ) (o : Option BundleBuilder)
+    (p : BundleBuilder)
     (r : Result Bundle ReadFault)
-    → long ≡ false → kept ≡ [] → o ≡ Some p → length bytes ≤ most_bytes
+    → long ≡ false → kept ≡ [] → o ≡ Some p → length bytes ≤ limits.bytes
     → ((ls : List Line) → IsBuilt p ls → length ls < 2 ^ 64 → Finishes ls p r)
-    → HasTakenAs false None bytes long kept o → IsAnswer bytes r
-end_finish bytes long kept o p r el empty eo few fin h =
+    → HasTakenAs limits false None bytes long kept o → IsAnswer limits bytes r
+end_finish limits bytes long kept o p r el empty eo few fin h =
     let ls = h.0 in
     let s : IsBuilt p ls = some_held o p ls eo h.1.held in
     let over : (cut bytes).1 ≡ [] = sym (kept_some long kept (cut bytes).1 el h.1.tail_is) ∙ empty in
     let count : length (cut bytes).0 ≡ length ls =
     omega (arith, length-map (cut bytes).0 line_of, ap length h.1.said, length-map ls (λ (l : Line). Some l)) in
     let some : 0 < length (cut bytes).0 = omega (arith, count, ap length s.lines) in
-    let whole : fault bytes ≡ closing_fault ls =
-    fault_at_end bytes ls few h.1.good (truncated_none bytes over some) h.1.said in
-    by r (fin ls s (omega (arith, few, count, few_lines bytes))) s over whole
+    let whole : fault_within limits bytes ≡ closing_fault ls =
+    fault_at_end limits bytes ls few h.1.good (truncated_none bytes over some) h.1.said in
+    by r (fin ls s (small_count ls p s)) s over whole
   where
     by : (r : Result Bundle ReadFault) → Finishes h.0 p r → IsBuilt p h.0 → (cut bytes).1 ≡ []
-        → fault bytes ≡ closing_fault h.0 → IsAnswer bytes r
-    by (Ok b) f s over whole = reads bytes h.0 p b few over h.1.said h.1.good s f
+        → fault_within limits bytes ≡ closing_fault h.0 → IsAnswer limits bytes r
+    by (Ok b) f s over whole = reads limits bytes h.0 p b few over h.1.said h.1.good s f
     by (Err e) f s over whole = whole ∙ f

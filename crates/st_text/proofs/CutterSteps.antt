@@ -6,6 +6,7 @@ use Rattle.std.proofs.Common.{◌∙◌, append_assoc, inl, inr, arith}
 use Rattle.std.specs.Prelude.{is_some}
 use Rattle.std.proofs.lemmas.Bool.{eqb-true}
 use Rattle.std.proofs.lemmas.List.{append-nil, length-append, length_push, map_push, take_all, take-append-drop}
+use Rattle.st_text.specs.declared.limits.Limits.{Limits}
 use Rattle.st_text.specs.declared.line.Line.{Line}
 use Rattle.st_text.specs.declared.line.Line.TheVariants as lines
 use Rattle.st_text.specs.declared.fault.ReadFault.{ReadFault}
@@ -58,45 +59,47 @@ sayings_line bytes xs plain =
     ∙ rw (sayings_plain bytes xs plain, tail_plain bytes xs plain) refl
 
 -- a fault stays the first one
-fault_byte : (bytes : List ℕ) (b : ℕ) (f : ReadFault) → first_fault [] (sayings bytes) ≡ Some f
-    → first_fault [] (sayings (bytes ++ b ∷ [])) ≡ Some f
-fault_byte bytes b f e = by (eqb b 10) refl
+fault_byte : (limits : Limits) (bytes : List ℕ) (b : ℕ) (f : ReadFault) → first_fault limits [] (sayings bytes) ≡ Some f
+    → first_fault limits [] (sayings (bytes ++ b ∷ [])) ≡ Some f
+fault_byte limits bytes b f e = by (eqb b 10) refl
   where
-    by : (t : Bool) → eqb b 10 ≡ t → first_fault [] (sayings (bytes ++ b ∷ [])) ≡ Some f
+    by : (t : Bool) → eqb b 10 ≡ t → first_fault limits [] (sayings (bytes ++ b ∷ [])) ≡ Some f
     by true is =
         let ten : b ≡ 10 = eqb-true b 10 is in
-        ap (λ (x : ℕ). first_fault [] (sayings (bytes ++ x ∷ []))) ten ∙ ap (first_fault []) (sayings_newline bytes)
-        ∙ fault_stays [] (sayings bytes) (line_of (cut bytes).1 ∷ []) f e
-    by false is = ap (first_fault []) (sayings_byte bytes b is) ∙ e
+        ap (λ (x : ℕ). first_fault limits [] (sayings (bytes ++ x ∷ []))) ten
+        ∙ ap (first_fault limits []) (sayings_newline bytes)
+        ∙ fault_stays limits [] (sayings bytes) (line_of (cut bytes).1 ∷ []) f e
+    by false is = ap (first_fault limits []) (sayings_byte bytes b is) ∙ e
 
-pub fault_more : (bytes xs : List ℕ) (f : ReadFault) → first_fault [] (sayings bytes) ≡ Some f
-    → first_fault [] (sayings (bytes ++ xs)) ≡ Some f
-fault_more bytes [] f e = ap (λ (b : List ℕ). first_fault [] (sayings b)) (append-nil bytes) ∙ e
-fault_more bytes (x ∷ xs) f e =
-    ap (λ (b : List ℕ). first_fault [] (sayings b)) (one_by_one bytes xs x)
-    ∙ fault_more (bytes ++ x ∷ []) xs f (fault_byte bytes x f e)
+pub fault_more : (limits : Limits) (bytes xs : List ℕ) (f : ReadFault) → first_fault limits [] (sayings bytes) ≡ Some f
+    → first_fault limits [] (sayings (bytes ++ xs)) ≡ Some f
+fault_more limits bytes [] f e = ap (λ (b : List ℕ). first_fault limits [] (sayings b)) (append-nil bytes) ∙ e
+fault_more limits bytes (x ∷ xs) f e =
+    ap (λ (b : List ℕ). first_fault limits [] (sayings b)) (one_by_one bytes xs x)
+    ∙ fault_more limits (bytes ++ x ∷ []) xs f (fault_byte limits bytes x f e)
 
 -- ---- what is held
 
-pub holds_nothing : (kept : List ℕ) → kept ≡ [] → HasTakenAs false None [] false kept None
+pub holds_nothing : (limits : Limits) (kept : List ℕ) → kept ≡ [] → HasTakenAs limits false None [] false kept None
 unfolding first_fault
-holds_nothing kept e = ([], record { tail_is = e; held = refl; said = refl; good = refl })
+holds_nothing limits kept e = ([], record { tail_is = e; held = refl; said = refl; good = refl })
 
-pub holds_kept : (out : Bool) (fault : Option ReadFault) (bytes xs : List ℕ) (long long' : Bool) (kept kept' : List ℕ)
+pub holds_kept : (limits : Limits) (out : Bool) (fault : Option ReadFault) (bytes xs : List ℕ) (long long' : Bool)
+    (kept kept' : List ℕ)
     (p : Option BundleBuilder)
     → out ≡ false → fault ≡ None → HasNoNewline xs
     → (IsTail long kept (cut bytes).1 → IsTail long' kept' ((cut bytes).1 ++ xs))
-    → HasTakenAs out fault bytes long kept p → HasTakenAs out fault (bytes ++ xs) long' kept' p
-holds_kept true fault bytes xs long long' kept kept' p eo ef plain tail h = absurd cc
-holds_kept false (Some f) bytes xs long long' kept kept' p eo ef plain tail h = absurd cc
-holds_kept false None bytes xs long long' kept kept' p eo ef plain tail h =
+    → HasTakenAs limits out fault bytes long kept p → HasTakenAs limits out fault (bytes ++ xs) long' kept' p
+holds_kept limits true fault bytes xs long long' kept kept' p eo ef plain tail h = absurd cc
+holds_kept limits false (Some f) bytes xs long long' kept kept' p eo ef plain tail h = absurd cc
+holds_kept limits false None bytes xs long long' kept kept' p eo ef plain tail h =
     let same = sayings_plain bytes xs plain in (
       h.0,
       record {
         tail_is = subst (IsTail long' kept') (sym (tail_plain bytes xs plain)) (tail h.1.tail_is);
         held = h.1.held;
         said = same ∙ h.1.said;
-        good = ap (first_fault []) same ∙ h.1.good;
+        good = ap (first_fault limits []) same ∙ h.1.good;
       },
     )
 
@@ -132,18 +135,19 @@ kept_says false kept t xs whole s e w says h = says ∙ ap line_of (w ∙ ap (λ
 
 -- ---- a line
 
-pub said_by : (ls : List Line) (said : Option Line) (new : BundleBuilder) (step : Step) → TakesLine ls said new step
-    → TakesSaid ls said (Some new) step
-said_by ls (Some l) new Goes h = (l, record { said_is = refl; good = h.0; held = h.1 })
-said_by ls (Some l) new (Stops f) h = h
-said_by ls (Some l) new Halts h = h
-said_by ls None new Goes h = absurd h
-said_by ls None new (Stops f) h = h
-said_by ls None new Halts h = absurd h
+pub said_by : (limits : Limits) (ls : List Line) (said : Option Line) (new : BundleBuilder) (step : Step)
+    → TakesLine limits ls said new step
+    → TakesSaid limits ls said (Some new) step
+said_by limits ls (Some l) new Goes h = (l, record { said_is = refl; good = h.0; held = h.1 })
+said_by limits ls (Some l) new (Stops f) h = h
+said_by limits ls (Some l) new Halts h = h
+said_by limits ls None new Goes h = absurd h
+said_by limits ls None new (Stops f) h = h
+said_by limits ls None new Halts h = absurd h
 
-pub first_is_header : (wide : Bool) → line_fault [] (Some (lines.Header wide)) ≡ None
+pub first_is_header : (limits : Limits) (wide : Bool) → line_fault limits [] (Some (lines.Header wide)) ≡ None
 unfolding line_fault
-first_is_header wide = refl
+first_is_header limits wide = refl
 
 pub header_some : (said : Option Line) (wide : Bool) → header_of said ≡ Some wide → said ≡ Some (lines.Header wide)
 header_some None wide e = absurd cc
@@ -153,14 +157,15 @@ header_some (Some (lines.Event v)) wide e = absurd cc
 header_some (Some lines.Acts) wide e = absurd cc
 header_some (Some (lines.Act a)) wide e = absurd cc
 
-pub header_none : (said : Option Line) → header_of said ≡ None → line_fault [] said ≡ Some (faults.Line 1)
+pub header_none : (limits : Limits) (said : Option Line) → header_of said ≡ None
+    → line_fault limits [] said ≡ Some (faults.Line 1)
 unfolding line_fault
-header_none None e = refl
-header_none (Some (lines.Header w)) e = absurd cc
-header_none (Some (lines.Process p)) e = refl
-header_none (Some (lines.Event v)) e = refl
-header_none (Some lines.Acts) e = refl
-header_none (Some (lines.Act a)) e = refl
+header_none limits None e = refl
+header_none limits (Some (lines.Header w)) e = absurd cc
+header_none limits (Some (lines.Process p)) e = refl
+header_none limits (Some (lines.Event v)) e = refl
+header_none limits (Some lines.Acts) e = refl
+header_none limits (Some (lines.Act a)) e = refl
 
 pub none_held : (o : Option BundleBuilder) (ls : List Line) → o ≡ None → IsStateAfter o ls → ls ≡ []
 none_held None ls e h = h
@@ -170,122 +175,132 @@ pub some_held : (o : Option BundleBuilder) (p : BundleBuilder) (ls : List Line) 
     → IsBuilt p ls
 some_held o p ls e h = subst (λ (x : Option BundleBuilder). IsStateAfter x ls) e h
 
-pub said_some : (old : Option BundleBuilder) (p new : BundleBuilder) (ls : List Line) (said : Option Line)
+pub said_some : (limits : Limits) (old : Option BundleBuilder) (p new : BundleBuilder) (ls : List Line)
+    (said : Option Line)
     (step : Step)
-    → old ≡ Some p → ((ls : List Line) → IsBuilt p ls → TakesLine ls said new step) → IsStateAfter old ls
-    → TakesSaid ls said (Some new) step
-said_some old p new ls said step e takes h = said_by ls said new step (takes ls (some_held old p ls e h))
+    → old ≡ Some p → ((ls : List Line) → IsBuilt p ls → TakesLine limits ls said new step) → IsStateAfter old ls
+    → TakesSaid limits ls said (Some new) step
+said_some limits old p new ls said step e takes h = said_by limits ls said new step (takes ls (some_held old p ls e h))
 
-pub said_header : (old : Option BundleBuilder) (new : BundleBuilder) (ls : List Line) (said : Option Line)
+pub said_header : (limits : Limits) (old : Option BundleBuilder) (new : BundleBuilder) (ls : List Line)
+    (said : Option Line)
     (wide : Bool)
     → old ≡ None → header_of said ≡ Some wide → IsBuilt new (lines.Header wide ∷ []) → IsStateAfter old ls
-    → TakesSaid ls said (Some new) Goes
-said_header old new ls said wide e is sound h =
+    → TakesSaid limits ls said (Some new) Goes
+said_header limits old new ls said wide e is sound h =
     let none : ls ≡ [] = none_held old ls e h in (
       lines.Header wide,
       record {
         said_is = header_some said wide is;
-        good = rw none (first_is_header wide);
+        good = rw none (first_is_header limits wide);
         held = subst (λ (x : List Line). IsBuilt new (x ++ lines.Header wide ∷ [])) (sym none) sound;
       },
     )
 
-pub said_none : (old : Option BundleBuilder) (ls : List Line) (said : Option Line) → old ≡ None → header_of said ≡ None
-    → IsStateAfter old ls → line_fault ls said ≡ Some (faults.Line 1)
-said_none old ls said e is h = rw (none_held old ls e h) (header_none said is)
+pub said_none : (limits : Limits) (old : Option BundleBuilder) (ls : List Line) (said : Option Line) → old ≡ None
+    → header_of said ≡ None
+    → IsStateAfter old ls → line_fault limits ls said ≡ Some (faults.Line 1)
+said_none limits old ls said e is h = rw (none_held old ls e h) (header_none limits said is)
 
 -- a good line
-pub line_goes : (out : Bool) (fault : Option ReadFault) (bytes xs : List ℕ) (long long' : Bool) (kept kept' : List ℕ)
+pub line_goes : (limits : Limits) (out : Bool) (fault : Option ReadFault) (bytes xs : List ℕ) (long long' : Bool)
+    (kept kept' : List ℕ)
     (p new : Option BundleBuilder) (said : Option Line)
     → out ≡ false → fault ≡ None → long' ≡ false → HasNoNewline xs → kept' ≡ []
     → (IsTail long kept (cut bytes).1 → said ≡ line_of ((cut bytes).1 ++ xs))
-    → ((ls : List Line) → IsStateAfter p ls → TakesSaid ls said new Goes)
-    → HasTakenAs out fault bytes long kept p → HasTakenAs out fault (bytes ++ (xs ++ 10 ∷ [])) long' kept' new
-line_goes true fault bytes xs long long' kept kept' p new said eo ef el plain empty says takes h = absurd cc
-line_goes false (Some f) bytes xs long long' kept kept' p new said eo ef el plain empty says takes h = absurd cc
-line_goes false None bytes xs long true kept kept' p new said eo ef el plain empty says takes h = absurd cc
-line_goes false None bytes xs long false kept kept' p new said eo ef el plain empty says takes h =
+    → ((ls : List Line) → IsStateAfter p ls → TakesSaid limits ls said new Goes)
+    → HasTakenAs limits out fault bytes long kept p → HasTakenAs limits out fault (bytes ++ (xs ++ 10 ∷ [])) long'
+    kept' new
+line_goes limits true fault bytes xs long long' kept kept' p new said eo ef el plain empty says takes h = absurd cc
+line_goes limits false (Some f) bytes xs long long' kept kept' p new said eo ef el plain empty says takes h = absurd cc
+line_goes limits false None bytes xs long true kept kept' p new said eo ef el plain empty says takes h = absurd cc
+line_goes limits false None bytes xs long false kept kept' p new said eo ef el plain empty says takes h =
     let ls = h.0 in
     let t = takes ls h.1.held in
     let all : sayings (bytes ++ (xs ++ 10 ∷ [])) ≡ map Some ls ++ Some t.0 ∷ [] =
     sayings_line bytes xs plain ∙ rw (h.1.said, ← says h.1.tail_is, t.1.said_is) refl in
-    let at : first_fault [] (map Some ls ++ Some t.0 ∷ []) ≡ line_fault ls (Some t.0) =
-    fault_push [] ls (Some t.0) (ap (first_fault []) (sym h.1.said) ∙ h.1.good) in (
+    let at : first_fault limits [] (map Some ls ++ Some t.0 ∷ []) ≡ line_fault limits ls (Some t.0) =
+    fault_push limits [] ls (Some t.0) (ap (first_fault limits []) (sym h.1.said) ∙ h.1.good) in (
       ls ++ t.0 ∷ [],
       record {
         tail_is = empty ∙ sym (tail_line bytes xs);
         held = t.1.held;
         said = all ∙ sym (map_push Some ls t.0);
-        good = ap (first_fault []) all ∙ at ∙ t.1.good;
+        good = ap (first_fault limits []) all ∙ at ∙ t.1.good;
       },
     )
 
 -- a faulty line
-pub line_stops : (out : Bool) (fault : Option ReadFault) (bytes xs : List ℕ) (long long' : Bool) (kept kept' : List ℕ)
+pub line_stops : (limits : Limits) (out : Bool) (fault : Option ReadFault) (bytes xs : List ℕ) (long long' : Bool)
+    (kept kept' : List ℕ)
     (p new : Option BundleBuilder) (said : Option Line) (f : ReadFault)
     → out ≡ false → fault ≡ None → HasNoNewline xs
     → (IsTail long kept (cut bytes).1 → said ≡ line_of ((cut bytes).1 ++ xs))
-    → ((ls : List Line) → IsStateAfter p ls → TakesSaid ls said new (Stops f))
-    → HasTakenAs out fault bytes long kept p → HasTakenAs out (Some f) (bytes ++ (xs ++ 10 ∷ [])) long' kept' new
-line_stops true fault bytes xs long long' kept kept' p new said f eo ef plain says takes h = absurd cc
-line_stops false (Some g) bytes xs long long' kept kept' p new said f eo ef plain says takes h = absurd cc
-line_stops false None bytes xs long long' kept kept' p new said f eo ef plain says takes h =
+    → ((ls : List Line) → IsStateAfter p ls → TakesSaid limits ls said new (Stops f))
+    → HasTakenAs limits out fault bytes long kept p → HasTakenAs limits out (Some f) (bytes ++ (xs ++ 10 ∷ [])) long'
+    kept' new
+line_stops limits true fault bytes xs long long' kept kept' p new said f eo ef plain says takes h = absurd cc
+line_stops limits false (Some g) bytes xs long long' kept kept' p new said f eo ef plain says takes h = absurd cc
+line_stops limits false None bytes xs long long' kept kept' p new said f eo ef plain says takes h =
     let ls = h.0 in
-    let at : first_fault [] (map Some ls ++ said ∷ []) ≡ line_fault ls said =
-    fault_push [] ls said (ap (first_fault []) (sym h.1.said) ∙ h.1.good) in
+    let at : first_fault limits [] (map Some ls ++ said ∷ []) ≡ line_fault limits ls said =
+    fault_push limits [] ls said (ap (first_fault limits []) (sym h.1.said) ∙ h.1.good) in
     let all : sayings (bytes ++ (xs ++ 10 ∷ [])) ≡ map Some ls ++ said ∷ [] =
     sayings_line bytes xs plain ∙ rw (h.1.said, ← says h.1.tail_is) refl in
-    ap (first_fault []) all ∙ at ∙ takes ls h.1.held
+    ap (first_fault limits []) all ∙ at ∙ takes ls h.1.held
 
 -- a good line for which there was no room
-pub line_halts : (out : Bool) (fault : Option ReadFault) (bytes xs : List ℕ) (long : Bool) (kept : List ℕ)
+pub line_halts : (limits : Limits) (out : Bool) (fault : Option ReadFault) (bytes xs : List ℕ) (long : Bool)
+    (kept : List ℕ)
     (p new : Option BundleBuilder) (said : Option Line)
     → out ≡ false → fault ≡ None → HasNoNewline xs
     → (IsTail long kept (cut bytes).1 → said ≡ line_of ((cut bytes).1 ++ xs))
-    → ((ls : List Line) → IsStateAfter p ls → TakesSaid ls said new Halts)
-    → HasTakenAs out fault bytes long kept p → EndsKept (bytes ++ (xs ++ 10 ∷ []))
-line_halts true fault bytes xs long kept p new said eo ef plain says takes h = absurd cc
-line_halts false (Some f) bytes xs long kept p new said eo ef plain says takes h = absurd cc
-line_halts false None bytes xs long kept p new said eo ef plain says takes h =
+    → ((ls : List Line) → IsStateAfter p ls → TakesSaid limits ls said new Halts)
+    → HasTakenAs limits out fault bytes long kept p → EndsKept limits (bytes ++ (xs ++ 10 ∷ []))
+line_halts limits true fault bytes xs long kept p new said eo ef plain says takes h = absurd cc
+line_halts limits false (Some f) bytes xs long kept p new said eo ef plain says takes h = absurd cc
+line_halts limits false None bytes xs long kept p new said eo ef plain says takes h =
     let ls = h.0 in
     let t = takes ls h.1.held in
     let all : sayings (bytes ++ (xs ++ 10 ∷ [])) ≡ map Some ls ++ Some t.line ∷ [] =
     sayings_line bytes xs plain ∙ rw (h.1.said, ← says h.1.tail_is, t.said_is) refl in
-    let at : first_fault [] (map Some ls ++ Some t.line ∷ []) ≡ line_fault ls (Some t.line) =
-    fault_push [] ls (Some t.line) (ap (first_fault []) (sym h.1.said) ∙ h.1.good) in
+    let at : first_fault limits [] (map Some ls ++ Some t.line ∷ []) ≡ line_fault limits ls (Some t.line) =
+    fault_push limits [] ls (Some t.line) (ap (first_fault limits []) (sym h.1.said) ∙ h.1.good) in
     record {
       before = ls;
       line = t.line;
       lines = all ∙ sym (map_push Some ls t.line);
-      good = ap (first_fault []) all ∙ at ∙ t.good;
+      good = ap (first_fault limits []) all ∙ at ∙ t.good;
       kept = t.kept;
     }
 
 -- bytes join the unfinished line
-pub adds_bytes : (out : Bool) (fault : Option ReadFault) (bytes xs : List ℕ) (long : Bool) (kept : List ℕ)
+pub adds_bytes : (limits : Limits) (out : Bool) (fault : Option ReadFault) (bytes xs : List ℕ) (long : Bool)
+    (kept : List ℕ)
     (p : Option BundleBuilder)
     → out ≡ false → fault ≡ None → HasNoNewline xs → 0 < length xs
-    → HasTakenAs out fault bytes long kept p → AddsBytes bytes xs
-adds_bytes true fault bytes xs long kept p eo ef plain some h = absurd cc
-adds_bytes false (Some f) bytes xs long kept p eo ef plain some h = absurd cc
-adds_bytes false None bytes xs long kept p eo ef plain some h =
+    → HasTakenAs limits out fault bytes long kept p → AddsBytes limits bytes xs
+adds_bytes limits true fault bytes xs long kept p eo ef plain some h = absurd cc
+adds_bytes limits false (Some f) bytes xs long kept p eo ef plain some h = absurd cc
+adds_bytes limits false None bytes xs long kept p eo ef plain some h =
     record {
       within = record {
-        good = ap (first_fault []) (sayings_plain bytes xs plain) ∙ h.1.good;
+        good = ap (first_fault limits []) (sayings_plain bytes xs plain) ∙ h.1.good;
         some = omega (arith, some, ap length (tail_plain bytes xs plain), length-append (cut bytes).1 xs);
       };
       some = some;
     }
 
 -- a line that is kept so far has begun
-pub ends_within : (out : Bool) (fault : Option ReadFault) (bytes : List ℕ) (long : Bool) (kept : List ℕ)
+pub ends_within : (limits : Limits) (out : Bool) (fault : Option ReadFault) (bytes : List ℕ) (long : Bool)
+    (kept : List ℕ)
     (p : Option BundleBuilder)
     → out ≡ false → fault ≡ None → long ≡ false → 0 < length kept
-    → HasTakenAs out fault bytes long kept p → EndsWithin bytes
-ends_within true fault bytes long kept p eo ef el some h = absurd cc
-ends_within false (Some f) bytes long kept p eo ef el some h = absurd cc
-ends_within false None bytes true kept p eo ef el some h = absurd cc
-ends_within false None bytes false kept p eo ef el some h =
+    → HasTakenAs limits out fault bytes long kept p → EndsWithin limits bytes
+ends_within limits true fault bytes long kept p eo ef el some h = absurd cc
+ends_within limits false (Some f) bytes long kept p eo ef el some h = absurd cc
+ends_within limits false None bytes true kept p eo ef el some h = absurd cc
+ends_within limits false None bytes false kept p eo ef el some h =
     record { good = h.1.good; some = omega (arith, some, ap length h.1.tail_is) }
 
 -- memory didn't run out
@@ -294,13 +309,14 @@ not_out true e f = absurd cc
 not_out false e f = absurd cc
 
 -- after a fault, or without memory, more bytes change nothing
-pub holds_over : (out : Bool) (fault : Option ReadFault) (bytes xs : List ℕ) (long : Bool) (kept : List ℕ)
+pub holds_over : (limits : Limits) (out : Bool) (fault : Option ReadFault) (bytes xs : List ℕ) (long : Bool)
+    (kept : List ℕ)
     (p : Option BundleBuilder)
-    → (out || is_some fault) ≡ true → HasTakenAs out fault bytes long kept p
-    → HasTakenAs out fault (bytes ++ xs) long kept p
-holds_over true fault bytes xs long kept p over h = tt
-holds_over false (Some f) bytes xs long kept p over h = fault_more bytes xs f h
-holds_over false None bytes xs long kept p over h = absurd cc
+    → (out || is_some fault) ≡ true → HasTakenAs limits out fault bytes long kept p
+    → HasTakenAs limits out fault (bytes ++ xs) long kept p
+holds_over limits true fault bytes xs long kept p over h = tt
+holds_over limits false (Some f) bytes xs long kept p over h = fault_more limits bytes xs f h
+holds_over limits false None bytes xs long kept p over h = absurd cc
 
 pub going : (out : Bool) (fault : Option ReadFault) → (out || is_some fault) ≡ false → (out ≡ false) × (fault ≡ None)
 going true fault e = absurd cc
@@ -341,17 +357,18 @@ at_newline xs k lt e =
     ∙ sym (append_assoc (take k xs) (10 ∷ []) (drop 1 (drop k xs)))
 
 -- a piece under way: what is done of it is whole lines, and the rest of it is left
-pub record IsUnderWay (piece rest : List ℕ) (old now : Cutter) : Type 0 where
+pub record IsUnderWay (limits : Limits) (piece rest : List ℕ) (old now : Cutter) : Type 0 where
   pub done : List ℕ
   pub parts : piece ≡ done ++ rest
   pub whole : (bytes : List ℕ) → 0 < length (cut (bytes ++ done)).1 → done ≡ []
-  pub comes : (bytes : List ℕ) → HasTaken bytes old → Comes (bytes ++ done) now (old.out ≡ false → Grows bytes piece)
+  pub comes : (bytes : List ℕ) → HasTaken limits bytes old
+      → Comes limits (bytes ++ done) now (old.out ≡ false → Grows limits bytes piece)
 
 -- what a line's growth is for the piece
-pub grows_by : (bytes piece done xs more : List ℕ) → piece ≡ done ++ ((xs ++ 10 ∷ []) ++ more)
+pub grows_by : (limits : Limits) (bytes piece done xs more : List ℕ) → piece ≡ done ++ ((xs ++ 10 ∷ []) ++ more)
     → (0 < length (cut (bytes ++ done)).1 → done ≡ [])
-    → EndsOne (bytes ++ done) xs → Grows bytes piece
-grows_by bytes piece done xs more parts whole h = by h
+    → EndsOne limits (bytes ++ done) xs → Grows limits bytes piece
+grows_by limits bytes piece done xs more parts whole h = by h
   where
     some : 0 < length piece
     some =
@@ -364,15 +381,15 @@ grows_by bytes piece done xs more parts whole h = by h
           length_push xs 10,
         )
 
-    from_done : EndsWithin (bytes ++ done) → EndsWithin bytes
-    from_done w = subst EndsWithin (ap (λ (x : List ℕ). bytes ++ x) (whole w.some) ∙ append-nil bytes) w
+    from_done : EndsWithin limits (bytes ++ done) → EndsWithin limits bytes
+    from_done w = subst (EndsWithin limits) (ap (λ (x : List ℕ). bytes ++ x) (whole w.some) ∙ append-nil bytes) w
 
-    kept : EndsKept ((bytes ++ done) ++ (xs ++ 10 ∷ [])) → Grows bytes piece
+    kept : EndsKept limits ((bytes ++ done) ++ (xs ++ 10 ∷ [])) → Grows limits bytes piece
     kept k =
         KeepsLine (done ++ (xs ++ 10 ∷ [])) more (parts ∙ sym (append_assoc done (xs ++ 10 ∷ []) more))
-        (subst EndsKept (append_assoc bytes done (xs ++ 10 ∷ [])) k)
+        (subst (EndsKept limits) (append_assoc bytes done (xs ++ 10 ∷ [])) k)
 
-    by : EndsOne (bytes ++ done) xs → Grows bytes piece
+    by : EndsOne limits (bytes ++ done) xs → Grows limits bytes piece
     by (inl w) = EndsLine (from_done w) some
     by (inr k) = kept k
 
@@ -386,9 +403,11 @@ line_whole bytes done xs some =
     absurd (omega (arith, some, ap length at))
 
 -- what the rest's growth is for the piece
-pub grows_at_end : (bytes piece done rest : List ℕ) → piece ≡ done ++ rest → AddsBytes (bytes ++ done) rest
-    → Grows bytes piece
-grows_at_end bytes piece done rest parts h =
+pub grows_at_end : (limits : Limits) (bytes piece done rest : List ℕ) → piece ≡ done ++ rest
+    → AddsBytes limits (bytes ++ done) rest
+    → Grows limits bytes piece
+grows_at_end limits bytes piece done rest parts h =
     let all : (bytes ++ done) ++ rest ≡ bytes ++ piece =
     append_assoc bytes done rest ∙ ap (λ (x : List ℕ). bytes ++ x) (sym parts) in
-    LeavesBytes (subst EndsWithin all h.within) (omega (arith, ap length parts, length-append done rest, h.some))
+    LeavesBytes (subst (EndsWithin limits) all h.within)
+    (omega (arith, ap length parts, length-append done rest, h.some))

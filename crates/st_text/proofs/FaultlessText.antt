@@ -1,5 +1,5 @@
 -- Bytes without a fault are the text of a bundle: each good line adds a process, an event or an act to what the lines
--- before it spell, and where no pid is unlisted at the end, what was added up is a bundle.
+-- before it spell, and if no pid is unlisted at the end, what was added up is a bundle.
 use Rattle.std.proofs.Common.{◌≡◌, ℕ, ◌+◌, ◌<◌, ◌≤◌, Bool, true, false, not, ◌&&◌, ◌||◌, cond, eqb, leb, nat_lt}
 use Rattle.std.proofs.Common.{List, [], ◌∷◌, ◌++◌, length, map, Option, Some, None, refl, sym, ap, subst, ◌∙◌}
 use Rattle.std.proofs.Common.{append_assoc, arith}
@@ -32,10 +32,11 @@ use Rattle.st_text.specs.Fault.{cut, sayings, said, pids, pid_of, last_of, last_
 use Rattle.st_text.specs.Fault.{is_acts}
 use Rattle.st_text.specs.Fault.{may_stand, may_follow, is_out_of_order, is_foreign, is_one_too_many}
 use Rattle.st_text.specs.Fault.{line_fault, first_fault, first_of, truncated, needless, unknown_from, closing_fault}
-use Rattle.st_text.specs.Fault.{fault}
+use Rattle.st_text.specs.Fault.{fault_within}
 use Rattle.st_text.specs.Parts.Builder.{so_far}
 use Rattle.st_text.specs.Answer.{Reads}
 use Rattle.st_text.proofs.Newlines.{spelled_by, said_back, none_of}
+use Rattle.st_text.proofs.Counted.{Passes, passes, all_few}
 use Rattle.st_text.proofs.GoodLines.{count-append, count-cons}
 use Rattle.st_text.proofs.BuilderFaults.{stands_is}
 use Rattle.st_text.proofs.BuilderSteps.{so_far_open, so_far_event, so_far_begin, so_far_act, added_pids, last_cons}
@@ -46,47 +47,16 @@ use Rattle.st_text.proofs.ClosingFaults.{place_of, place_or, streams_place, acts
 use Rattle.st_text.proofs.CutterEnd.{all_of, all_events}
 use Rattle.st_text.proofs.GoodText.{process_pids, act_pids}
 use Rattle.st_core.proofs.ForCallers.{right_of}
-use Rattle.st_text.specs.Limits.{most_bytes}
+use Rattle.st_text.specs.declared.limits.Limits.{Limits}
 use Rattle.st_core.proofs.ForCallers.{own_push}
 
--- the lines are a header and what these streams and acts spell, within the limits on counts
+-- the lines are a header and what these streams and acts spell
 pub record Gathered (ls : List Line) : Type 0 where
   pub wide : Bool
   pub streams : List Stream
   pub acts : Option (List Act)
   pub lines : ls ≡ so_far wide streams acts
   pub draft : IsDraft streams
-  pub few_processes : length (pids ls) ≤ 1024
-  pub few_events : count_by is_event ls ≤ 1000000
-  pub few_acts : count_by is_act ls ≤ 4000000
-
--- ---- what a line without a fault passed
-
-record Passes (ls : List Line) (l : Line) : Type 0 where
-  stands : may_stand ls l ≡ true
-  order : is_out_of_order (last_of (pids ls)) l ≡ false
-  own : is_foreign (last_of (pids ls)) l ≡ false
-  few : is_one_too_many (length (pids ls)) (count_by is_event ls) (count_by is_act ls) l ≡ false
-
-passes : (ls : List Line) (l : Line) → line_fault ls (Some l) ≡ None → Passes ls l
-unfolding line_fault
-passes ls l e =
-    let many = is_one_too_many (length (pids ls)) (count_by is_event ls) (count_by is_act ls) l in
-    let p =
-    by (length ls + 1) (may_stand ls l) (is_out_of_order (last_of (pids ls)) l) (is_foreign (last_of (pids ls)) l) many
-    e in
-    record { stands = p.0; order = p.1; own = p.2; few = p.3 }
-  where
-    by : (n : ℕ) (a b c d : Bool)
-        → cond (not a) (Some (faults.Line n))
-        (cond b (Some (faults.Order n)) (cond c (Some (faults.Foreign n)) (cond d (Some (faults.TooMany n)) None)))
-        ≡ None
-        → (a ≡ true) × (b ≡ false) × (c ≡ false) × (d ≡ false)
-    by n true false false false e = (refl, refl, refl, refl)
-    by n true false false true e = absurd cc
-    by n true false true d e = absurd cc
-    by n true true c d e = absurd cc
-    by n false b c d e = absurd cc
 
 -- ---- what the lines so far tell
 
@@ -121,9 +91,9 @@ left_of : (a b : Bool) → (a && b) ≡ true → a ≡ true
 left_of true b e = refl
 left_of false b e = absurd cc
 
-follows : (ls : List Line) (l : Line) (g : Gathered ls) → Passes ls l
+follows : (limits : Limits) (ls : List Line) (l : Line) (g : Gathered ls) → Passes limits ls l
     → may_follow (is_some g.acts) (last_of (pids_of g.streams)) l ≡ true
-follows ls l g p =
+follows limits ls l g p =
     let open_to = g.wide || not (is_remote l) in
     let stands =
     stands_is ls _ g.wide (is_some g.acts) (last_of (pids_of g.streams)) l g.lines (begun_is ls g)
@@ -142,9 +112,6 @@ some_last : (o : Option Pid) → last_passes (λ q. true) o ≡ true → (p : Pi
 some_last None e = absurd cc
 some_last (Some p) e = (p, refl)
 
-below : (m n : ℕ) → leb m n ≡ false → n + 1 ≤ m
-below m n e = grind (arith, nat_tests)
-
 -- ---- a process
 
 is_less : (o : Ordering) → not (is_lt o) ≡ false → o ≡ Less
@@ -152,7 +119,7 @@ is_less Less e = refl
 is_less Equal e = absurd cc
 is_less Greater e = absurd cc
 
--- where the last of rising pids is below q, each is
+-- if the last of rising pids is below q, each is
 all_below : (ps : List Pid) (q : Pid) → IsRising ps → last_passes (λ r. not (is_lt (pid_cmp r q))) (last_of ps) ≡ false
     → AllByRecursion (λ r. IsBelow r q) ps
 all_below [] q rising e = tt
@@ -163,10 +130,10 @@ all_below (p ∷ r ∷ ps) q rising e =
     ∙ e) in
     (IsBelow-trans p r q rising.0.0 later.0, later)
 
-add_process : (ls : List Line) (g : Gathered ls) (q : Pid) → Passes ls (lines.Process q)
+add_process : (limits : Limits) (ls : List Line) (g : Gathered ls) (q : Pid) → Passes limits ls (lines.Process q)
     → Gathered (ls ++ lines.Process q ∷ [])
-add_process ls g q p =
-    let none : g.acts ≡ None = none_begun g.acts (follows ls (lines.Process q) g p) in
+add_process limits ls g q p =
+    let none : g.acts ≡ None = none_begun g.acts (follows limits ls (lines.Process q) g p) in
     let order =
     sym (ap (λ (o : Option Pid). last_passes (λ r. not (is_lt (pid_cmp r q))) o) (ap last_of (pids_are ls g)))
     ∙ p.order in
@@ -185,16 +152,6 @@ add_process ls g q p =
         rising = subst IsRising (sym new_pids) (IsRising-push (pids_of g.streams) q g.draft.rising above);
         own = own_push g.streams q g.draft.own;
       };
-      few_processes =
-          omega (
-            arith,
-            ap length (pids_push ls (lines.Process q)),
-            length_push (pids ls) q,
-            below 1024
-                (length (pids ls)) p.few,
-          );
-      few_events = omega (arith, count_push is_event ls (lines.Process q), g.few_events);
-      few_acts = omega (arith, count_push is_act ls (lines.Process q), g.few_acts);
     }
 
 -- ---- an event
@@ -226,10 +183,10 @@ is_mine o p e at own = by (is_own p e) (sym (ap (last_passes (λ q. not (is_own 
     by true e = refl
     by false e = absurd cc
 
-add_event : (ls : List Line) (g : Gathered ls) (e : Event) → Passes ls (lines.Event e)
+add_event : (limits : Limits) (ls : List Line) (g : Gathered ls) (e : Event) → Passes limits ls (lines.Event e)
     → Gathered (ls ++ lines.Event e ∷ [])
-add_event ls g e p =
-    let f = follows ls (lines.Event e) g p in
+add_event limits ls g e p =
+    let f = follows limits ls (lines.Event e) g p in
     let none : g.acts ≡ None =
     none_begun g.acts (left_of _ (last_passes (λ q. true) (last_of (pids_of g.streams))) f) in
     let at = some_last (last_of (pids_of g.streams)) (right_of (not (is_some g.acts)) _ f) in
@@ -246,16 +203,14 @@ add_event ls g e p =
         rising = subst IsRising (sym (added_pids g.streams at.0 e)) g.draft.rising;
         own = own_added g.streams at.0 e mine g.draft.own;
       };
-      few_processes = omega (arith, ap length same, g.few_processes);
-      few_events = omega (arith, count_push is_event ls (lines.Event e), below 1000000 (count_by is_event ls) p.few);
-      few_acts = omega (arith, count_push is_act ls (lines.Event e), g.few_acts);
     }
 
 -- ---- the word and an act
 
-add_word : (ls : List Line) (g : Gathered ls) → Passes ls lines.Acts → Gathered (ls ++ lines.Acts ∷ [])
-add_word ls g p =
-    let none : g.acts ≡ None = none_begun g.acts (follows ls lines.Acts g p) in
+add_word : (limits : Limits) (ls : List Line) (g : Gathered ls) → Passes limits ls lines.Acts
+    → Gathered (ls ++ lines.Acts ∷ [])
+add_word limits ls g p =
+    let none : g.acts ≡ None = none_begun g.acts (follows limits ls lines.Acts g p) in
     let same : pids (ls ++ lines.Acts ∷ []) ≡ pids ls = pids_push ls lines.Acts ∙ append-nil (pids ls) in
     record {
       wide = g.wide;
@@ -265,14 +220,12 @@ add_word ls g p =
           ap (λ (x : List Line). x ++ lines.Acts ∷ []) (g.lines ∙ ap (so_far g.wide g.streams) none)
           ∙ sym (so_far_begin g.wide g.streams);
       draft = g.draft;
-      few_processes = omega (arith, ap length same, g.few_processes);
-      few_events = omega (arith, count_push is_event ls lines.Acts, g.few_events);
-      few_acts = omega (arith, count_push is_act ls lines.Acts, g.few_acts);
     }
 
-add_act : (ls : List Line) (g : Gathered ls) (a : Act) → Passes ls (lines.Act a) → Gathered (ls ++ lines.Act a ∷ [])
-add_act ls g a p =
-    let begun = some_begun g.acts (follows ls (lines.Act a) g p) in
+add_act : (limits : Limits) (ls : List Line) (g : Gathered ls) (a : Act) → Passes limits ls (lines.Act a)
+    → Gathered (ls ++ lines.Act a ∷ [])
+add_act limits ls g a p =
+    let begun = some_begun g.acts (follows limits ls (lines.Act a) g p) in
     let same : pids (ls ++ lines.Act a ∷ []) ≡ pids ls = pids_push ls (lines.Act a) ∙ append-nil (pids ls) in
     record {
       wide = g.wide;
@@ -282,19 +235,17 @@ add_act ls g a p =
           ap (λ (x : List Line). x ++ lines.Act a ∷ []) (g.lines ∙ ap (so_far g.wide g.streams) begun.1)
           ∙ sym (so_far_act g.wide g.streams begun.0 a);
       draft = g.draft;
-      few_processes = omega (arith, ap length same, g.few_processes);
-      few_events = omega (arith, count_push is_event ls (lines.Act a), g.few_events);
-      few_acts = omega (arith, count_push is_act ls (lines.Act a), below 4000000 (count_by is_act ls) p.few);
     }
 
 -- ---- all lines
 
-add_line : (ls : List Line) (g : Gathered ls) (l : Line) → Passes ls l → Gathered (ls ++ l ∷ [])
-add_line ls g (lines.Header b) p = let no = follows ls (lines.Header b) g p in absurd cc
-add_line ls g (lines.Process q) p = add_process ls g q p
-add_line ls g (lines.Event e) p = add_event ls g e p
-add_line ls g lines.Acts p = add_word ls g p
-add_line ls g (lines.Act a) p = add_act ls g a p
+add_line : (limits : Limits) (ls : List Line) (g : Gathered ls) (l : Line) → Passes limits ls l
+    → Gathered (ls ++ l ∷ [])
+add_line limits ls g (lines.Header b) p = let no = follows limits ls (lines.Header b) g p in absurd cc
+add_line limits ls g (lines.Process q) p = add_process limits ls g q p
+add_line limits ls g (lines.Event e) p = add_event limits ls g e p
+add_line limits ls g lines.Acts p = add_word limits ls g p
+add_line limits ls g (lines.Act a) p = add_act limits ls g a p
 
 -- lines without a fault behind good ones
 record GoOn (ls : List Line) (rs : List (Option Line)) : Type 0 where
@@ -302,21 +253,22 @@ record GoOn (ls : List Line) (rs : List (Option Line)) : Type 0 where
   says : rs ≡ map Some more
   gathered : Gathered (ls ++ more)
 
-go_on : (ls : List Line) (rs : List (Option Line)) → Gathered ls → first_fault ls rs ≡ None → GoOn ls rs
+go_on : (limits : Limits) (ls : List Line) (rs : List (Option Line)) → Gathered ls → first_fault limits ls rs ≡ None
+    → GoOn ls rs
 unfolding first_fault line_fault
-go_on ls [] g e = record { more = []; says = refl; gathered = subst Gathered (sym (append-nil ls)) g }
-go_on ls (None ∷ rs) g e = absurd cc
-go_on ls (Some l ∷ rs) g e =
-    let p = none_of (line_fault ls (Some l)) (first_fault (ls ++ l ∷ []) rs) e in
-    let h = go_on (ls ++ l ∷ []) rs (add_line ls g l (passes ls l p.0)) p.1 in
+go_on limits ls [] g e = record { more = []; says = refl; gathered = subst Gathered (sym (append-nil ls)) g }
+go_on limits ls (None ∷ rs) g e = absurd cc
+go_on limits ls (Some l ∷ rs) g e =
+    let p = none_of (line_fault limits ls (Some l)) (first_fault limits (ls ++ l ∷ []) rs) e in
+    let h = go_on limits (ls ++ l ∷ []) rs (add_line limits ls g l (passes limits ls l p.0)) p.1 in
     record {
       more = l ∷ h.more;
       says = ap (λ (x : List (Option Line)). Some l ∷ x) h.says;
       gathered = subst Gathered (append_assoc ls (l ∷ []) h.more) h.gathered;
     }
 
-begin : (l : Line) → Passes [] l → Gathered (l ∷ [])
-begin (lines.Header b) p =
+begin : (limits : Limits) (l : Line) → Passes limits [] l → Gathered (l ∷ [])
+begin limits (lines.Header b) p =
     let none : List Stream = [] in
     record {
       wide = b;
@@ -324,22 +276,19 @@ begin (lines.Header b) p =
       acts = None;
       lines = refl;
       draft = record { rising = tt; own = tt };
-      few_processes = omega arith;
-      few_events = omega arith;
-      few_acts = omega arith;
     }
-begin (lines.Process q) p = let no = p.stands in absurd cc
-begin (lines.Event e) p = let no = p.stands in absurd cc
-begin lines.Acts p = let no = p.stands in absurd cc
-begin (lines.Act a) p = let no = p.stands in absurd cc
+begin limits (lines.Process q) p = let no = p.stands in absurd cc
+begin limits (lines.Event e) p = let no = p.stands in absurd cc
+begin limits lines.Acts p = let no = p.stands in absurd cc
+begin limits (lines.Act a) p = let no = p.stands in absurd cc
 
-gather : (rs : List (Option Line)) → first_fault [] rs ≡ None → 0 < length rs → GoOn [] rs
+gather : (limits : Limits) (rs : List (Option Line)) → first_fault limits [] rs ≡ None → 0 < length rs → GoOn [] rs
 unfolding first_fault line_fault
-gather [] e some = absurd (omega arith)
-gather (None ∷ rs) e some = absurd cc
-gather (Some l ∷ rs) e some =
-    let p = none_of (line_fault [] (Some l)) (first_fault (l ∷ []) rs) e in
-    let h = go_on (l ∷ []) rs (begin l (passes [] l p.0)) p.1 in
+gather limits [] e some = absurd (omega arith)
+gather limits (None ∷ rs) e some = absurd cc
+gather limits (Some l ∷ rs) e some =
+    let p = none_of (line_fault limits [] (Some l)) (first_fault limits (l ∷ []) rs) e in
+    let h = go_on limits (l ∷ []) rs (begin limits l (passes limits [] l p.0)) p.1 in
     record {
       more = l ∷ h.more;
       says = ap (λ (x : List (Option Line)). Some l ∷ x) h.says;
@@ -423,16 +372,19 @@ is_whole bytes e = by (eqb (length (cut bytes).1) 0) (eqb (length (cut bytes).0)
     by true true x y e = absurd cc
     by false b x y e = absurd cc
 
-bundle_of : (bytes : List ℕ) (ls : List Line) → length bytes ≤ most_bytes → IsWhole bytes → sayings bytes ≡ map Some ls
-    → first_fault [] (sayings bytes) ≡ None → closing_fault ls ≡ None → Gathered ls → (c : Contents) × Reads bytes c
-bundle_of bytes ls small whole says clean closed g =
+bundle_of : (limits : Limits) (bytes : List ℕ) (ls : List Line) → length bytes ≤ limits.bytes → IsWhole bytes
+    → sayings bytes ≡ map Some ls
+    → first_fault limits [] (sayings bytes) ≡ None → closing_fault ls ≡ None → Gathered ls
+    → (c : Contents) × Reads limits bytes c
+bundle_of limits bytes ls small whole says clean closed g =
+    let few = all_few limits ls (ap (first_fault limits []) (sym says) ∙ clean) in
     let c : Contents = record { streams = g.streams; acts = g.acts } in
     let spelt : sayings bytes ≡ map Some (lines.Header g.wide ∷ body c) = says ∙ ap (map Some) g.lines in
     let all : bytes ≡ flat_map ended ls =
     spelled_by bytes ls says ∙ ap (λ (x : List ℕ). flat_map ended ls ++ x) whole.over
     ∙ append-nil (flat_map ended ls) in
     let spelled : bytes ≡ spelling c =
-    spelled_whole bytes g.wide c spelt clean (ap closing_fault (sym g.lines) ∙ closed)
+    spelled_whole limits bytes g.wide c spelt clean (ap closing_fault (sym g.lines) ∙ closed)
     (all ∙ ap (flat_map ended) g.lines) in
     let known : unknown_from (pids ls) 1 ls ≡ None = (none_of (needless ls) (unknown_from (pids ls) 1 ls) closed).1 in
     let listed =
@@ -456,34 +408,35 @@ bundle_of bytes ls small whole says clean closed g =
         };
         within = record {
           bytes = omega (arith, small, ap length spelled);
-          processes = omega (arith, processes, g.few_processes);
-          events = omega (arith, events, g.few_events);
-          acts = omega (arith, acts, g.few_acts);
+          processes = omega (arith, processes, few.processes);
+          events = omega (arith, events, few.events);
+          acts = omega (arith, acts, few.acts);
         };
       },
     )
 
-pub readable : (bytes : List ℕ) → fault bytes ≡ None → (c : Contents) × Reads bytes c
-unfolding fault
-readable bytes e = by (nat_lt most_bytes (length bytes)) refl e
+pub readable : (limits : Limits) (bytes : List ℕ) → fault_within limits bytes ≡ None
+    → (c : Contents) × Reads limits bytes c
+unfolding fault_within
+readable limits bytes e = by (nat_lt limits.bytes (length bytes)) refl e
   where
     later : Option ReadFault
     later = first_of (truncated bytes) (closing_fault (said (sayings bytes)))
 
-    within : length bytes ≤ most_bytes → first_of (first_fault [] (sayings bytes)) later ≡ None
-        → (c : Contents) × Reads bytes c
+    within : length bytes ≤ limits.bytes → first_of (first_fault limits [] (sayings bytes)) later ≡ None
+        → (c : Contents) × Reads limits bytes c
     within small e =
-        let p = none_of (first_fault [] (sayings bytes)) later e in
+        let p = none_of (first_fault limits [] (sayings bytes)) later e in
         let q = none_of (truncated bytes) (closing_fault (said (sayings bytes))) p.1 in
         let whole = is_whole bytes q.0 in
-        let h = gather (sayings bytes) p.0 (omega (arith, whole.some, length-map (cut bytes).0 line_of)) in
+        let h = gather limits (sayings bytes) p.0 (omega (arith, whole.some, length-map (cut bytes).0 line_of)) in
         let closed : closing_fault h.more ≡ None =
         sym (ap (λ (x : List (Option Line)). closing_fault (said x)) h.says ∙ ap closing_fault (said_back h.more))
         ∙ q.1 in
-        bundle_of bytes h.more small whole h.says p.0 closed h.gathered
+        bundle_of limits bytes h.more small whole h.says p.0 closed h.gathered
 
-    by : (t : Bool) → nat_lt most_bytes (length bytes) ≡ t
-        → cond t (Some faults.TooLarge) (first_of (first_fault [] (sayings bytes)) later) ≡ None
-        → (c : Contents) × Reads bytes c
+    by : (t : Bool) → nat_lt limits.bytes (length bytes) ≡ t
+        → cond t (Some faults.TooLarge) (first_of (first_fault limits [] (sayings bytes)) later) ≡ None
+        → (c : Contents) × Reads limits bytes c
     by true large e = absurd cc
     by false small e = within (grind (arith, nat_tests)) e

@@ -5,6 +5,7 @@ use Rattle.std.proofs.Common.{Some, None}
 use Rattle.std.proofs.Common.{refl, sym, ap, ◌∙◌, append_assoc, arith}
 use Rattle.std.proofs.lemmas.List.{append-nil}
 use Rattle.st_core.specs.declared.types.Pid.{Pid}
+use Rattle.st_text.specs.declared.limits.Limits.{Limits}
 use Rattle.st_text.specs.declared.line.Line.{Line}
 use Rattle.st_text.specs.declared.fault.ReadFault.{ReadFault}
 use Rattle.st_text.specs.declared.fault.ReadFault.TheVariants as faults
@@ -12,55 +13,59 @@ use Rattle.st_text.specs.Fault.{line_fault, first_fault, first_of, is_unknown, u
 use Rattle.st_text.specs.Laws.{FailsFirst, IsFirstUnknown}
 
 -- the first faulty line behind good ones
-record Fails (ls : List Line) (rs : List (Option Line)) (f : ReadFault) : Type 0 where
+record Fails (limits : Limits) (ls : List Line) (rs : List (Option Line)) (f : ReadFault) : Type 0 where
   before : List Line
   here : Option Line
   after : List (Option Line)
   lines : rs ≡ map Some before ++ here ∷ after
-  good : first_fault ls (map Some before) ≡ None
-  fault : line_fault (ls ++ before) here ≡ Some f
+  good : first_fault limits ls (map Some before) ≡ None
+  fault : line_fault limits (ls ++ before) here ≡ Some f
 
-here_fails : (ls : List Line) (r : Option Line) (rs : List (Option Line)) (f : ReadFault) → line_fault ls r ≡ Some f
-    → Fails ls (r ∷ rs) f
+here_fails : (limits : Limits) (ls : List Line) (r : Option Line) (rs : List (Option Line)) (f : ReadFault)
+    → line_fault limits ls r ≡ Some f
+    → Fails limits ls (r ∷ rs) f
 unfolding first_fault
-here_fails ls r rs f e =
+here_fails limits ls r rs f e =
     record {
       before = [];
       here = r;
       after = rs;
       lines = refl;
       good = refl;
-      fault = ap (λ (x : List Line). line_fault x r) (append-nil ls) ∙ e;
+      fault = ap (λ (x : List Line). line_fault limits x r) (append-nil ls) ∙ e;
     }
 
-later_fails : (ls : List Line) (l : Line) (rs : List (Option Line)) (f : ReadFault) → line_fault ls (Some l) ≡ None
-    → Fails (ls ++ l ∷ []) rs f → Fails ls (Some l ∷ rs) f
+later_fails : (limits : Limits) (ls : List Line) (l : Line) (rs : List (Option Line)) (f : ReadFault)
+    → line_fault limits ls (Some l) ≡ None
+    → Fails limits (ls ++ l ∷ []) rs f → Fails limits ls (Some l ∷ rs) f
 unfolding first_fault
-later_fails ls l rs f good h =
+later_fails limits ls l rs f good h =
     record {
       before = l ∷ h.before;
       here = h.here;
       after = h.after;
       lines = ap (λ (x : List (Option Line)). Some l ∷ x) h.lines;
       good = rw good h.good;
-      fault = ap (λ (x : List Line). line_fault x h.here) (sym (append_assoc ls (l ∷ []) h.before)) ∙ h.fault;
+      fault = ap (λ (x : List Line). line_fault limits x h.here) (sym (append_assoc ls (l ∷ []) h.before)) ∙ h.fault;
     }
 
-fails : (ls : List Line) (rs : List (Option Line)) (f : ReadFault) → first_fault ls rs ≡ Some f → Fails ls rs f
+fails : (limits : Limits) (ls : List Line) (rs : List (Option Line)) (f : ReadFault)
+    → first_fault limits ls rs ≡ Some f → Fails limits ls rs f
 unfolding first_fault
-fails ls [] f e = absurd cc
-fails ls (None ∷ rs) f e = here_fails ls None rs f e
-fails ls (Some l ∷ rs) f e = by (line_fault ls (Some l)) refl (fails (ls ++ l ∷ []) rs f) e
+fails limits ls [] f e = absurd cc
+fails limits ls (None ∷ rs) f e = here_fails limits ls None rs f e
+fails limits ls (Some l ∷ rs) f e = by (line_fault limits ls (Some l)) refl (fails limits (ls ++ l ∷ []) rs f) e
   where
-    by : (o : Option ReadFault) → line_fault ls (Some l) ≡ o
-        → (first_fault (ls ++ l ∷ []) rs ≡ Some f → Fails (ls ++ l ∷ []) rs f)
-        → first_of o (first_fault (ls ++ l ∷ []) rs) ≡ Some f → Fails ls (Some l ∷ rs) f
-    by None good more e = later_fails ls l rs f good (more e)
-    by (Some g) bad more e = here_fails ls (Some l) rs f (bad ∙ e)
+    by : (o : Option ReadFault) → line_fault limits ls (Some l) ≡ o
+        → (first_fault limits (ls ++ l ∷ []) rs ≡ Some f → Fails limits (ls ++ l ∷ []) rs f)
+        → first_of o (first_fault limits (ls ++ l ∷ []) rs) ≡ Some f → Fails limits ls (Some l ∷ rs) f
+    by None good more e = later_fails limits ls l rs f good (more e)
+    by (Some g) bad more e = here_fails limits ls (Some l) rs f (bad ∙ e)
 
-pub fails_first : (rs : List (Option Line)) (f : ReadFault) → first_fault [] rs ≡ Some f → FailsFirst rs f
-fails_first rs f e =
-    let h = fails [] rs f e in
+pub fails_first : (limits : Limits) (rs : List (Option Line)) (f : ReadFault) → first_fault limits [] rs ≡ Some f
+    → FailsFirst limits rs f
+fails_first limits rs f e =
+    let h = fails limits [] rs f e in
     record { before = h.before; here = h.here; after = h.after; lines = h.lines; good = h.good; fault = h.fault }
 
 -- ---- unlisted pids

@@ -10,6 +10,7 @@ use Rattle.std.proofs.lemmas.List.Sums.{sum_by-append, sum_by-cons}
 use Rattle.st_core.specs.declared.types.Pid.{Pid}
 use Rattle.st_core.specs.declared.types.Event.{Event}
 use Rattle.st_core.specs.declared.types.Act.{Act}
+use Rattle.st_text.specs.declared.limits.Limits.{Limits}
 use Rattle.st_text.specs.declared.line.Line.{Line}
 use Rattle.st_text.specs.declared.line.Line.TheVariants as lines
 use Rattle.std.specs.Ordering.{is_lt}
@@ -51,15 +52,16 @@ came_more ls wide ps events acts begun l c =
     }
 
 -- a line that passes each test has no fault
-pub line_passes : (ls : List Line) (wide : Bool) (ps : List Pid) (events acts : ℕ) (begun : Bool) (l : Line)
+pub line_passes : (limits : Limits) (ls : List Line) (wide : Bool) (ps : List Pid) (events acts : ℕ) (begun : Bool)
+    (l : Line)
     → Came ls wide ps events acts begun
     → may_follow begun (last_of ps) l ≡ true → (wide || not (is_remote l)) ≡ true
     → is_out_of_order (last_of ps) l ≡ false
-    → is_foreign (last_of ps) l ≡ false → is_one_too_many (length ps) events acts l ≡ false
-    → line_fault ls (Some l) ≡ None
+    → is_foreign (last_of ps) l ≡ false → is_one_too_many limits (length ps) events acts l ≡ false
+    → line_fault limits ls (Some l) ≡ None
 unfolding line_fault
-line_passes ls wide ps events acts begun l c follows open_to order own few =
-    let P : List Line → Type 0 = λ x. fault_at (length ls + 1) x l ≡ None in
+line_passes limits ls wide ps events acts begun l c follows open_to order own few =
+    let P : List Line → Type 0 = λ x. fault_at limits (length ls + 1) x l ≡ None in
     let stands : may_stand ls l ≡ true = ap (λ (x : List Line). may_stand x l) c.header.2
     ∙ rw (
       sym (ap has_acts c.header.2) ∙ c.begun_is,
@@ -71,10 +73,10 @@ line_passes ls wide ps events acts begun l c follows open_to order own few =
     ) refl in
     rw (stands, c.pids_are, order, own, c.event_count, c.act_count, few) refl
 
-pub next : (ls more : List Line) (l : Line) → line_fault ls (Some l) ≡ None
-    → first_fault ls (map Some (l ∷ more)) ≡ first_fault (ls ++ l ∷ []) (map Some more)
+pub next : (limits : Limits) (ls more : List Line) (l : Line) → line_fault limits ls (Some l) ≡ None
+    → first_fault limits ls (map Some (l ∷ more)) ≡ first_fault limits (ls ++ l ∷ []) (map Some more)
 unfolding first_fault
-next ls more l e = rw e refl
+next limits ls more l e = rw e refl
 
 get_end : (ps : List Pid) (p : Pid) → slice_get (ps ++ p ∷ []) (length ps) ≡ Some p
 get_end [] p = refl
@@ -117,30 +119,34 @@ under false true b e = absurd cc
 under false false b e = (refl, e)
 
 -- the events of the last process
-pub events_pass : (es : List Event) (ls more : List Line) (wide : Bool) (ps : List Pid) (m k : ℕ) (p : Pid)
+pub events_pass : (limits : Limits) (es : List Event) (ls more : List Line) (wide : Bool) (ps : List Pid) (m k : ℕ)
+    (p : Pid)
     → Came ls wide ps m k false → last_of ps ≡ Some p → AllByRecursion (λ e. is_own p e ≡ true) es
-    → (wide || not (list_any is_remote (map lines.Event es))) ≡ true → m + length es ≤ 1000000
-    → (first_fault ls (map Some (map lines.Event es ++ more)) ≡ first_fault (ls ++ map lines.Event es) (map Some more))
+    → (wide || not (list_any is_remote (map lines.Event es))) ≡ true → m + length es ≤ limits.events
+    → (first_fault limits ls (map Some (map lines.Event es ++ more))
+    ≡ first_fault limits (ls ++ map lines.Event es) (map Some more))
     × Came (ls ++ map lines.Event es) wide ps (m + length es) k false
-events_pass [] ls more wide ps m k p c at own remote few = (
-  ap (λ (x : List Line). first_fault x (map Some more)) (sym (append-nil ls)),
+events_pass limits [] ls more wide ps m k p c at own remote few = (
+  ap (λ (x : List Line). first_fault limits x (map Some more)) (sym (append-nil ls)),
   subst
       (λ (x : List Line). Came x wide ps (m + 0) k false) (sym (append-nil ls))
       (subst (λ (n : ℕ). Came ls wide ps n k false) (omega arith) c),
 )
-events_pass (e ∷ es) ls more wide ps m k p c at own remote few =
+events_pass limits (e ∷ es) ls more wide ps m k p c at own remote few =
     let r = under wide (is_remote (lines.Event e)) (list_any is_remote (map lines.Event es)) remote in
     let mine : is_own p e ≡ true = own.0 in
-    let room : leb 1000000 m ≡ false = grind (arith, nat_tests) in
-    let good = line_passes ls wide ps m k false (lines.Event e) c (rw at refl) r.0 refl (rw (at, mine) refl) room in
+    let room : leb limits.events m ≡ false = grind (arith, nat_tests) in
+    let good = line_passes limits ls wide ps m k false (lines.Event e) c (rw at refl) r.0 refl (rw (at, mine) refl)
+    room in
     let rest =
-    events_pass es (ls ++ lines.Event e ∷ []) more wide ps (m + 1) k p (came_event ls wide ps m k e c) at own.1 r.1
+    events_pass limits es (ls ++ lines.Event e ∷ []) more wide ps (m + 1) k p (came_event ls wide ps m k e c) at own.1
+    r.1
     (omega arith) in
     let shape : (ls ++ lines.Event e ∷ []) ++ map lines.Event es ≡ ls ++ map lines.Event (e ∷ es) =
     append_assoc ls (lines.Event e ∷ []) (map lines.Event es) in
     let count : m + 1 + length es ≡ m + length (e ∷ es) = omega arith in (
-      next ls (map lines.Event es ++ more) (lines.Event e) good ∙ rest.0
-          ∙ ap (λ (x : List Line). first_fault x (map Some more)) shape,
+      next limits ls (map lines.Event es ++ more) (lines.Event e) good ∙ rest.0
+          ∙ ap (λ (x : List Line). first_fault limits x (map Some more)) shape,
       subst (λ (x : List Line). Came x wide ps (m + length (e ∷ es)) k false) shape
           (subst (λ (n : ℕ). Came ((ls ++ lines.Event e ∷ []) ++ map lines.Event es) wide ps n k false) count rest.1),
     )
@@ -167,22 +173,22 @@ in_order (Some q) p ps h = (rw h.0 refl, h.1)
 abbrev pub events_of : List Stream → List Event
 events_of ps = flat_map (λ p. p.events) ps
 
-pub processes_pass : (procs : List Stream) (ls more : List Line) (wide : Bool) (ps : List Pid) (m : ℕ)
+pub processes_pass : (limits : Limits) (procs : List Stream) (ls more : List Line) (wide : Bool) (ps : List Pid) (m : ℕ)
     → Came ls wide ps m 0 false → After (last_of ps) procs
     → AllByRecursion (λ p. AllByRecursion (λ e. is_own p.pid e ≡ true) p.events) procs
     → (wide || not (list_any is_remote (flat_map process_lines procs))) ≡ true
-    → length ps + length procs ≤ 1024 → m + length (events_of procs) ≤ 1000000
-    → (first_fault ls (map Some (flat_map process_lines procs ++ more))
-    ≡ first_fault (ls ++ flat_map process_lines procs) (map Some more))
+    → length ps + length procs ≤ limits.processes → m + length (events_of procs) ≤ limits.events
+    → (first_fault limits ls (map Some (flat_map process_lines procs ++ more))
+    ≡ first_fault limits (ls ++ flat_map process_lines procs) (map Some more))
     × Came (ls ++ flat_map process_lines procs) wide (ps ++ map (λ p. p.pid) procs) (m + length (events_of procs))
     0 false
-processes_pass [] ls more wide ps m c rising own remote few many = (
-  ap (λ (x : List Line). first_fault x (map Some more)) (sym (append-nil ls)),
+processes_pass limits [] ls more wide ps m c rising own remote few many = (
+  ap (λ (x : List Line). first_fault limits x (map Some more)) (sym (append-nil ls)),
   subst (λ (x : List Line). Came x wide (ps ++ []) (m + 0) 0 false) (sym (append-nil ls))
       (subst (λ (x : List Pid). Came ls wide x (m + 0) 0 false) (sym (append-nil ps))
       (subst (λ (n : ℕ). Came ls wide ps n 0 false) (omega arith) c)),
 )
-processes_pass (p ∷ procs) ls more wide ps m c rising own remote few many =
+processes_pass limits (p ∷ procs) ls more wide ps m c rising own remote few many =
     let line = lines.Process p.pid in
     let es : List Line = map lines.Event p.events in
     let others : List Line = flat_map process_lines procs in
@@ -191,23 +197,24 @@ processes_pass (p ∷ procs) ls more wide ps m c rising own remote few many =
     under wide (list_any is_remote es) (list_any is_remote others)
     (ap (λ (b : Bool). wide || not b) (sym (list_any-append is_remote es others)) ∙ r.1) in
     let order = in_order (last_of ps) p procs rising in
-    let room : leb 1024 (length ps) ≡ false = grind (arith, nat_tests) in
-    let good = line_passes ls wide ps m 0 false line c refl r.0 order.0 refl room in
+    let room : leb limits.processes (length ps) ≡ false = grind (arith, nat_tests) in
+    let good = line_passes limits ls wide ps m 0 false line c refl r.0 order.0 refl room in
     let total : length (events_of (p ∷ procs)) ≡ length p.events + length (events_of procs) =
     length-append p.events (events_of procs) in
     let one =
-    events_pass p.events (ls ++ line ∷ []) (others ++ more) wide (ps ++ p.pid ∷ []) m 0 p.pid
+    events_pass limits p.events (ls ++ line ∷ []) (others ++ more) wide (ps ++ p.pid ∷ []) m 0 p.pid
     (came_process ls wide ps m 0 p.pid c) (last_push ps p.pid) own.0 r2.0 (omega arith) in
     let after : After (last_of (ps ++ p.pid ∷ [])) procs =
     subst (λ (o : Option Pid). After o procs) (sym (last_push ps p.pid)) order.1 in
     let two =
-    processes_pass procs ((ls ++ line ∷ []) ++ es) more wide (ps ++ p.pid ∷ []) (m + length p.events) one.1 after
+    processes_pass limits procs ((ls ++ line ∷ []) ++ es) more wide (ps ++ p.pid ∷ []) (m + length p.events) one.1 after
     own.1 r2.1 (omega (arith, length_push ps p.pid)) (omega arith) in
     let shape : ((ls ++ line ∷ []) ++ es) ++ others ≡ ls ++ flat_map process_lines (p ∷ procs) =
     append_assoc (ls ++ line ∷ []) es others ∙ append_assoc ls (line ∷ []) (es ++ others) in (
-      next ls ((es ++ others) ++ more) line good
-          ∙ ap (λ (x : List Line). first_fault (ls ++ line ∷ []) (map Some x)) (append_assoc es others more) ∙ one.0
-          ∙ two.0 ∙ ap (λ (x : List Line). first_fault x (map Some more)) shape,
+      next limits ls ((es ++ others) ++ more) line good
+          ∙ ap (λ (x : List Line). first_fault limits (ls ++ line ∷ []) (map Some x)) (append_assoc es others more)
+          ∙ one.0
+          ∙ two.0 ∙ ap (λ (x : List Line). first_fault limits x (map Some more)) shape,
       subst (λ (x : List Line). Came x wide (ps ++ map (λ p. p.pid) (p ∷ procs)) (m + length (events_of (p ∷ procs))) 0
           false) shape
           (subst (λ (x : List Pid). Came (((ls ++ line ∷ []) ++ es) ++ others) wide x
@@ -244,14 +251,15 @@ came_act ls wide ps m k a c =
       begun_is = d.begun_is;
     }
 
-pub acts_pass : (list : List Act) (ls : List Line) (wide : Bool) (ps : List Pid) (m k : ℕ) → Came ls wide ps m k true
-    → (wide || not (list_any is_remote (map lines.Act list))) ≡ true → k + length list ≤ 4000000
-    → first_fault ls (map Some (map lines.Act list)) ≡ None
+pub acts_pass : (limits : Limits) (list : List Act) (ls : List Line) (wide : Bool) (ps : List Pid) (m k : ℕ)
+    → Came ls wide ps m k true
+    → (wide || not (list_any is_remote (map lines.Act list))) ≡ true → k + length list ≤ limits.acts
+    → first_fault limits ls (map Some (map lines.Act list)) ≡ None
 unfolding first_fault
-acts_pass [] ls wide ps m k c remote few = refl
-acts_pass (a ∷ list) ls wide ps m k c remote few =
+acts_pass limits [] ls wide ps m k c remote few = refl
+acts_pass limits (a ∷ list) ls wide ps m k c remote few =
     let r = under wide (is_remote (lines.Act a)) (list_any is_remote (map lines.Act list)) remote in
-    let room : leb 4000000 k ≡ false = grind (arith, nat_tests) in
-    let good = line_passes ls wide ps m k true (lines.Act a) c refl r.0 refl refl room in
-    next ls (map lines.Act list) (lines.Act a) good
-    ∙ acts_pass list (ls ++ lines.Act a ∷ []) wide ps m (k + 1) (came_act ls wide ps m k a c) r.1 (omega arith)
+    let room : leb limits.acts k ≡ false = grind (arith, nat_tests) in
+    let good = line_passes limits ls wide ps m k true (lines.Act a) c refl r.0 refl refl room in
+    next limits ls (map lines.Act list) (lines.Act a) good
+    ∙ acts_pass limits list (ls ++ lines.Act a ∷ []) wide ps m (k + 1) (came_act ls wide ps m k a c) r.1 (omega arith)

@@ -25,12 +25,12 @@ use Rattle.st_text.specs.Spelling.{token, act, line}
 use Rattle.st_text.specs.Range.{FitsPid, FitsSerial, FitsPlace, FitsEvent, FitsComponent, FitsWant, FitsToken, FitsAct}
 use Rattle.st_text.specs.Range.{Fits, most_label, most_number}
 use Rattle.st_text.specs.Text.{Contents, process_lines, act_lines, is_remote, body, lines_of, ended, IsBundle}
-use Rattle.st_text.specs.Text.{IsWithin}
+use Rattle.st_text.specs.Text.{IsWithinLimits}
 use Rattle.st_text.specs.Parts.Cutter.{HasNoNewline}
 use Rattle.st_text.specs.Answer.{Reads}
 use Rattle.st_text.specs.Fault.{cut, onto_first, sayings, first_fault, pids, pid_of, is_wide_header, unknown_from}
 use Rattle.st_text.specs.Fault.{needless}
-use Rattle.st_text.specs.Fault.{closing_fault, fault}
+use Rattle.st_text.specs.Fault.{closing_fault, fault_within}
 use Rattle.st_text.proofs.LineLemmas.{line_is}
 use Rattle.st_text.proofs.Newlines.{fault_at_end, truncated_none}
 use Rattle.st_text.proofs.CutterSteps.{first_is_header}
@@ -48,7 +48,7 @@ use Rattle.st_core.specs.Run.{Stream, pids_of}
 use Rattle.st_text.specs.declared.fault.ReadFault.TheVariants as faults
 use Rattle.st_text.proofs.GoodLines.{Came, events_of, processes_pass, rising_after, next, under, came_acts, acts_pass}
 use Rattle.st_text.proofs.GoodLines.{line_passes}
-use Rattle.st_text.specs.Limits.{most_bytes}
+use Rattle.st_text.specs.declared.limits.Limits.{Limits}
 
 -- ---- no line has a newline in it
 
@@ -238,24 +238,26 @@ either_way : (b : Bool) → (b || not b) ≡ true
 either_way true = refl
 either_way false = refl
 
-acts_after : (o : Option (List Act)) (ls : List Line) (wide : Bool) (ps : List Pid) (m : ℕ) → Came ls wide ps m 0 false
+acts_after : (limits : Limits) (o : Option (List Act)) (ls : List Line) (wide : Bool) (ps : List Pid) (m : ℕ)
+    → Came ls wide ps m 0 false
     → (wide || not (list_any is_remote (act_lines o))) ≡ true
-    → length {A = Act} (elim o [ Some list ↦ list | None ↦ [] ]) ≤ 4000000
-    → first_fault ls (map Some (act_lines o)) ≡ None
+    → length {A = Act} (elim o [ Some list ↦ list | None ↦ [] ]) ≤ limits.acts
+    → first_fault limits ls (map Some (act_lines o)) ≡ None
 unfolding first_fault
-acts_after None ls wide ps m c remote few = refl
-acts_after (Some list) ls wide ps m c remote few =
+acts_after limits None ls wide ps m c remote few = refl
+acts_after limits (Some list) ls wide ps m c remote few =
     let narrow : (wide || not false) ≡ true = by wide in
-    let good = line_passes ls wide ps m 0 false lines.Acts c refl narrow refl refl refl in
-    next ls (map lines.Act list) lines.Acts good
-    ∙ acts_pass list (ls ++ lines.Acts ∷ []) wide ps m 0 (came_acts ls wide ps m c) remote (omega (arith, few))
+    let good = line_passes limits ls wide ps m 0 false lines.Acts c refl narrow refl refl refl in
+    next limits ls (map lines.Act list) lines.Acts good
+    ∙ acts_pass limits list (ls ++ lines.Acts ∷ []) wide ps m 0 (came_acts ls wide ps m c) remote (omega (arith, few))
   where
     by : (b : Bool) → (b || not false) ≡ true
     by true = refl
     by false = refl
 
-pub lines_sound : (c : Contents) → IsBundle c → IsWithin c → first_fault [] (map Some (lines_of c)) ≡ None
-lines_sound c h w =
+pub lines_sound : (limits : Limits) (c : Contents) → IsBundle c → IsWithinLimits limits c
+    → first_fault limits [] (map Some (lines_of c)) ≡ None
+lines_sound limits c h w =
     let wide : Bool = list_any is_remote (body c) in
     let first : List Line = lines.Header wide ∷ [] in
     let streams : List Line = flat_map process_lines c.streams in
@@ -272,14 +274,14 @@ lines_sound c h w =
       begun_is = refl;
     } in
     let one =
-    processes_pass c.streams first (act_lines c.acts) wide [] 0 came
+    processes_pass limits c.streams first (act_lines c.acts) wide [] 0 came
     (rising_after c.streams h.streams.draft.rising) h.streams.draft.own r.0 (omega (arith, w.processes))
     (omega (arith, w.events)) in
     let two =
-    acts_after c.acts (first ++ streams) wide (pids_of c.streams) (length (events_of c.streams))
+    acts_after limits c.acts (first ++ streams) wide (pids_of c.streams) (length (events_of c.streams))
     (subst (λ (n : ℕ). Came (first ++ streams) wide (pids_of c.streams) n 0 false) (omega arith) one.1) r.1
     w.acts in
-    next [] (body c) (lines.Header wide) (first_is_header wide) ∙ one.0 ∙ two
+    next limits [] (body c) (lines.Header wide) (first_is_header limits wide) ∙ one.0 ∙ two
 
 -- ---- the closing faults
 
@@ -356,14 +358,15 @@ closing_sound c h =
     by false = refl
 
 -- The text of a bundle within the limits has no fault.
-pub text_sound : (bytes : List ℕ) (c : Contents) → Reads bytes c → fault bytes ≡ None
-text_sound bytes c t =
+pub text_sound : (limits : Limits) (bytes : List ℕ) (c : Contents) → Reads limits bytes c
+    → fault_within limits bytes ≡ None
+text_sound limits bytes c t =
     let b = t.text.bundle in
     let fits : AllByRecursion Fits (lines_of c) = (tt, b.fits) in
     let says : sayings bytes ≡ map Some (lines_of c) = ap sayings t.text.spelled ∙ sayings_spelled (lines_of c) fits in
     let cuts : cut bytes ≡ (map line (lines_of c), []) = ap cut t.text.spelled ∙ cut_spelled (lines_of c) fits in
-    let small : length bytes ≤ most_bytes = omega (arith, ap length t.text.spelled, t.within.bytes) in
-    fault_at_end bytes (lines_of c) small (ap (first_fault []) says ∙ lines_sound c b t.within)
+    let small : length bytes ≤ limits.bytes = omega (arith, ap length t.text.spelled, t.within.bytes) in
+    fault_at_end limits bytes (lines_of c) small (ap (first_fault limits []) says ∙ lines_sound limits c b t.within)
     (truncated_none bytes (ap (λ (x : List (List ℕ) × List ℕ). x.1) cuts)
     (omega (arith, ap (λ (x : List (List ℕ) × List ℕ). length x.0) cuts))) says
     ∙ closing_sound c b

@@ -1,4 +1,4 @@
--- What a list holds after a growth, and what holds where one was refused, by what the call answered.
+-- What a list holds after a growth, and what holds if one was refused, by what the call answered.
 use Rattle.std.proofs.Common.{◌≡◌, ℕ, true, false, cond, List}
 use Rattle.std.specs.Prelude.{Result, Ok, Err, OnErr}
 use Rattle.std.specs.Result.{is_ok, is_err}
@@ -8,7 +8,7 @@ pub added_on : {A E : Type 0} (r : Result A E) (items xs ys : List ℕ) → item
 added_on (Ok x) items xs ys e ok = e
 added_on (Err d) items xs ys e ok = absurd cc
 
--- what holds where a growth was refused
+-- what holds if a growth was refused
 pub refused : {A E : Type 0} (r : Result A E) (P : Type 0) → is_err r ≡ true → OnErr r P → P
 refused (Ok x) P bad h = absurd cc
 refused (Err d) P bad h = h

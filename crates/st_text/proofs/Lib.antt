@@ -18,6 +18,7 @@ pub mod Longest
 pub mod CutterSteps
 pub mod Growths
 pub mod Headers
+pub mod Counted
 pub mod CutterEnd
 pub mod TextFaults
 pub mod GoodLines

@@ -1,4 +1,4 @@
--- Pids rise, so that each stream is the one that its pid finds; and where no act fails the test each passes.
+-- Pids rise, so that each stream is the one that its pid finds; and if no act fails the test each passes.
 use Rattle.std.proofs.Common.{◌≡◌, ℕ, ◌+◌, Bool, true, false, not, ◌&&◌, cond, List, [], ◌∷◌, ◌++◌, Option, Some, None}
 use Rattle.std.proofs.Common.{refl, sym, ap, ◌∙◌}
 use Rattle.std.specs.Prelude.{position}

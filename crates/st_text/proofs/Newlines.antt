@@ -13,9 +13,9 @@ use Rattle.std.proofs.lemmas.List.{length-map}
 use Rattle.std.specs.List.{flat_map}
 use Rattle.st_text.specs.Text.{ended}
 use Rattle.st_text.proofs.LineLemmas.{line_takes}
-use Rattle.st_text.specs.Fault.{cut, onto_first, sayings, first_fault, line_fault, first_of, fault, truncated}
+use Rattle.st_text.specs.Fault.{cut, onto_first, sayings, first_fault, line_fault, first_of, fault_within, truncated}
 use Rattle.st_text.specs.Fault.{closing_fault, said}
-use Rattle.st_text.specs.Limits.{most_bytes}
+use Rattle.st_text.specs.declared.limits.Limits.{Limits}
 
 abbrev Cut : Type 0
 Cut = List (List ℕ) × List ℕ
@@ -76,32 +76,35 @@ none_of None p e = (refl, e)
 none_of (Some f) p e = absurd cc
 
 -- one more line behind good ones
-pub fault_push : (ls more : List Line) (r : Option Line) → first_fault ls (map Some more) ≡ None
-    → first_fault ls (map Some more ++ r ∷ []) ≡ line_fault (ls ++ more) r
+pub fault_push : (limits : Limits) (ls more : List Line) (r : Option Line)
+    → first_fault limits ls (map Some more) ≡ None
+    → first_fault limits ls (map Some more ++ r ∷ []) ≡ line_fault limits (ls ++ more) r
 unfolding first_fault
-fault_push ls [] None good = ap (λ (x : List Line). line_fault x None) (sym (append-nil ls))
-fault_push ls [] (Some l) good =
-    by (line_fault ls (Some l)) ∙ ap (λ (x : List Line). line_fault x (Some l)) (sym (append-nil ls))
+fault_push limits ls [] None good = ap (λ (x : List Line). line_fault limits x None) (sym (append-nil ls))
+fault_push limits ls [] (Some l) good =
+    by (line_fault limits ls (Some l)) ∙ ap (λ (x : List Line). line_fault limits x (Some l)) (sym (append-nil ls))
   where
     by : (o : Option ReadFault) → first_of o None ≡ o
     by None = refl
     by (Some f) = refl
-fault_push ls (k ∷ more) r good =
-    let p = none_of (line_fault ls (Some k)) (first_fault (ls ++ k ∷ []) (map Some more)) good in
-    rw p.0 (fault_push (ls ++ k ∷ []) more r p.1
-    ∙ ap (λ (x : List Line). line_fault x r) (append_assoc ls (k ∷ []) more))
+fault_push limits ls (k ∷ more) r good =
+    let p = none_of (line_fault limits ls (Some k)) (first_fault limits (ls ++ k ∷ []) (map Some more)) good in
+    rw p.0 (fault_push limits (ls ++ k ∷ []) more r p.1
+    ∙ ap (λ (x : List Line). line_fault limits x r) (append_assoc ls (k ∷ []) more))
 
 -- a fault stays the first one
-pub fault_stays : (ls : List Line) (rs more : List (Option Line)) (f : ReadFault) → first_fault ls rs ≡ Some f
-    → first_fault ls (rs ++ more) ≡ Some f
+pub fault_stays : (limits : Limits) (ls : List Line) (rs more : List (Option Line)) (f : ReadFault)
+    → first_fault limits ls rs ≡ Some f
+    → first_fault limits ls (rs ++ more) ≡ Some f
 unfolding first_fault
-fault_stays ls [] more f e = absurd cc
-fault_stays ls (None ∷ rs) more f e = e
-fault_stays ls (Some l ∷ rs) more f e = by (line_fault ls (Some l)) e (fault_stays (ls ++ l ∷ []) rs more f)
+fault_stays limits ls [] more f e = absurd cc
+fault_stays limits ls (None ∷ rs) more f e = e
+fault_stays limits ls (Some l ∷ rs) more f e = by (line_fault limits ls (Some l)) e
+    (fault_stays limits (ls ++ l ∷ []) rs more f)
   where
-    by : (o : Option ReadFault) → first_of o (first_fault (ls ++ l ∷ []) rs) ≡ Some f
-        → (first_fault (ls ++ l ∷ []) rs ≡ Some f → first_fault (ls ++ l ∷ []) (rs ++ more) ≡ Some f)
-        → first_of o (first_fault (ls ++ l ∷ []) (rs ++ more)) ≡ Some f
+    by : (o : Option ReadFault) → first_of o (first_fault limits (ls ++ l ∷ []) rs) ≡ Some f
+        → (first_fault limits (ls ++ l ∷ []) rs ≡ Some f → first_fault limits (ls ++ l ∷ []) (rs ++ more) ≡ Some f)
+        → first_of o (first_fault limits (ls ++ l ∷ []) (rs ++ more)) ≡ Some f
     by None e more = more e
     by (Some g) e more = e
 
@@ -152,30 +155,35 @@ said_back (l ∷ ls) = ap (λ (x : List Line). l ∷ x) (said_back ls)
 pub no_lines : (bytes : List ℕ) → sayings bytes ≡ [] → length (cut bytes).0 ≡ 0
 no_lines bytes e = sym (length-map (cut bytes).0 line_of) ∙ ap length e
 
--- ---- what the whole of the bytes answers
+-- ---- what comes of the whole of the bytes
 
-pub fault_too_large : (bytes : List ℕ) → most_bytes < length bytes → fault bytes ≡ Some faults.TooLarge
-unfolding fault
-fault_too_large bytes large = let t : nat_lt most_bytes (length bytes) ≡ true = grind (arith, nat_tests) in rw t refl
+pub fault_too_large : (limits : Limits) (bytes : List ℕ) → limits.bytes < length bytes
+    → fault_within limits bytes ≡ Some faults.TooLarge
+unfolding fault_within
+fault_too_large limits bytes large = let t : nat_lt limits.bytes (length bytes) ≡ true = grind (arith, nat_tests) in
+    rw t refl
 
-small_test : (bytes : List ℕ) → length bytes ≤ most_bytes → nat_lt most_bytes (length bytes) ≡ false
-small_test bytes small = grind (arith, nat_tests)
+small_test : (limits : Limits) (bytes : List ℕ) → length bytes ≤ limits.bytes
+    → nat_lt limits.bytes (length bytes) ≡ false
+small_test limits bytes small = grind (arith, nat_tests)
 
-pub fault_of_line : (bytes : List ℕ) (f : ReadFault) → length bytes ≤ most_bytes
-    → first_fault [] (sayings bytes) ≡ Some f → fault bytes ≡ Some f
-unfolding fault
-fault_of_line bytes f small e = rw (small_test bytes small, e) refl
+pub fault_of_line : (limits : Limits) (bytes : List ℕ) (f : ReadFault) → length bytes ≤ limits.bytes
+    → first_fault limits [] (sayings bytes) ≡ Some f → fault_within limits bytes ≡ Some f
+unfolding fault_within
+fault_of_line limits bytes f small e = rw (small_test limits bytes small, e) refl
 
-pub fault_truncated : (bytes : List ℕ) → length bytes ≤ most_bytes → first_fault [] (sayings bytes) ≡ None
-    → truncated bytes ≡ Some faults.Truncated → fault bytes ≡ Some faults.Truncated
-unfolding fault
-fault_truncated bytes small e t = rw (small_test bytes small, e) (rw t refl)
+pub fault_truncated : (limits : Limits) (bytes : List ℕ) → length bytes ≤ limits.bytes
+    → first_fault limits [] (sayings bytes) ≡ None
+    → truncated bytes ≡ Some faults.Truncated → fault_within limits bytes ≡ Some faults.Truncated
+unfolding fault_within
+fault_truncated limits bytes small e t = rw (small_test limits bytes small, e) (rw t refl)
 
-pub fault_at_end : (bytes : List ℕ) (ls : List Line) → length bytes ≤ most_bytes → first_fault [] (sayings bytes) ≡ None
-    → truncated bytes ≡ None → sayings bytes ≡ map Some ls → fault bytes ≡ closing_fault ls
-unfolding fault
-fault_at_end bytes ls small e t says =
-    rw (small_test bytes small, e) (rw t
+pub fault_at_end : (limits : Limits) (bytes : List ℕ) (ls : List Line) → length bytes ≤ limits.bytes
+    → first_fault limits [] (sayings bytes) ≡ None
+    → truncated bytes ≡ None → sayings bytes ≡ map Some ls → fault_within limits bytes ≡ closing_fault ls
+unfolding fault_within
+fault_at_end limits bytes ls small e t says =
+    rw (small_test limits bytes small, e) (rw t
     (ap (λ (x : List (Option Line)). closing_fault (said x)) says ∙ ap closing_fault (said_back ls)))
 
 pub truncated_tail : (bytes : List ℕ) → 0 < length (cut bytes).1 → truncated bytes ≡ Some faults.Truncated

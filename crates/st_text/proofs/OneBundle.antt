@@ -6,6 +6,7 @@ use Rattle.std.proofs.lemmas.List.{append-nil}
 use Rattle.st_core.specs.declared.types.Event.{Event}
 use Rattle.st_core.specs.declared.types.Act.{Act}
 use Rattle.st_core.specs.Run.{Stream}
+use Rattle.st_text.specs.declared.limits.Limits.{Limits}
 use Rattle.st_text.specs.declared.bundle.Bundle.{Bundle}
 use Rattle.st_text.specs.declared.line.Line.{Line}
 use Rattle.st_text.specs.declared.line.Line.TheVariants as lines
@@ -13,9 +14,9 @@ use Rattle.st_text.specs.declared.fault.ReadFault.{ReadFault}
 use Rattle.st_text.specs.declared.fault.ReadFault.TheVariants as faults
 use Rattle.st_text.specs.Range.{Fits}
 use Rattle.st_text.specs.Text.{Contents, process_lines, act_lines, body, lines_of, spelling, IsBundle, IsText}
-use Rattle.st_text.specs.Text.{IsWithin}
+use Rattle.st_text.specs.Text.{IsWithinLimits}
 use Rattle.st_text.specs.Contents.{contents}
-use Rattle.st_text.specs.Fault.{sayings, fault}
+use Rattle.st_text.specs.Fault.{sayings, fault_within}
 use Rattle.st_text.specs.Answer.{Reads, Answers}
 use Rattle.st_text.specs.Laws.{IsReadBack}
 use Rattle.st_text.proofs.GoodText.{sayings_spelled, text_sound}
@@ -123,28 +124,30 @@ text_one bytes c d t u =
     (tt, u.bundle.fits) in ap sayings u.spelled ∙ sayings_spelled (lines_of d) fits in
     body_one c d (tail_one _ _ (body c) (body d) (some_one (lines_of c) (lines_of d) (sym says_c ∙ says_d)))
 
-no_fault : (bytes : List ℕ) (f : ReadFault) → fault bytes ≡ None → fault bytes ≡ Some f → ⊥
-no_fault bytes f e g = cc
+no_fault : (limits : Limits) (bytes : List ℕ) (f : ReadFault) → fault_within limits bytes ≡ None
+    → fault_within limits bytes ≡ Some f → ⊥
+no_fault limits bytes f e g = cc
 
 -- what is written is read
-pub read_back : (c : Contents) (r : Result Bundle ReadFault) → IsBundle c → IsWithin c → Answers (spelling c) r
+pub read_back : (limits : Limits) (c : Contents) (r : Result Bundle ReadFault) → IsBundle c → IsWithinLimits limits c
+    → Answers limits (spelling c) r
     → IsReadBack c r
-read_back c r b w a = by r a
+read_back limits c r b w a = by r a
   where
-    reads : Reads (spelling c) c
+    reads : Reads limits (spelling c) c
     reads = record { text = record { bundle = b; spelled = refl }; within = w }
 
-    clean : fault (spelling c) ≡ None
-    clean = text_sound (spelling c) c reads
+    clean : fault_within limits (spelling c) ≡ None
+    clean = text_sound limits (spelling c) c reads
 
-    by : (r : Result Bundle ReadFault) → Answers (spelling c) r → IsReadBack c r
+    by : (r : Result Bundle ReadFault) → Answers limits (spelling c) r → IsReadBack c r
     by (Ok x) a = text_one (spelling c) (contents x) c a.text reads.text
     by (Err faults.Memory) a = tt
-    by (Err faults.Device) a = no_fault (spelling c) faults.Device clean a
-    by (Err faults.TooLarge) a = no_fault (spelling c) faults.TooLarge clean a
-    by (Err (faults.Line n)) a = no_fault (spelling c) (faults.Line n) clean a
-    by (Err (faults.Order n)) a = no_fault (spelling c) (faults.Order n) clean a
-    by (Err (faults.Foreign n)) a = no_fault (spelling c) (faults.Foreign n) clean a
-    by (Err (faults.Unknown n)) a = no_fault (spelling c) (faults.Unknown n) clean a
-    by (Err (faults.TooMany n)) a = no_fault (spelling c) (faults.TooMany n) clean a
-    by (Err faults.Truncated) a = no_fault (spelling c) faults.Truncated clean a
+    by (Err faults.Device) a = no_fault limits (spelling c) faults.Device clean a
+    by (Err faults.TooLarge) a = no_fault limits (spelling c) faults.TooLarge clean a
+    by (Err (faults.Line n)) a = no_fault limits (spelling c) (faults.Line n) clean a
+    by (Err (faults.Order n)) a = no_fault limits (spelling c) (faults.Order n) clean a
+    by (Err (faults.Foreign n)) a = no_fault limits (spelling c) (faults.Foreign n) clean a
+    by (Err (faults.Unknown n)) a = no_fault limits (spelling c) (faults.Unknown n) clean a
+    by (Err (faults.TooMany n)) a = no_fault limits (spelling c) (faults.TooMany n) clean a
+    by (Err faults.Truncated) a = no_fault limits (spelling c) faults.Truncated clean a

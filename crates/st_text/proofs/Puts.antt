@@ -109,7 +109,7 @@ then_on puts failed t u c z (Err e) g h = part_then puts failed t u g h
 
 -- ---- what calls answered
 
--- a refusal, where a call failed
+-- a refusal, if a call failed
 pub on_err : {S T E : Type 0} {puts : S → List ℕ → S → Type 0} {failed : S → Bool} (t : List ℕ) {a b : S}
     (x y : List ℕ) (r : Result T E)
     → IsErr r → WritesPart puts failed (x ++ t) a b → WritesOn puts failed t a b x y r

@@ -1,7 +1,7 @@
 -- A reader on its way: the calls so far gave some bytes in a row, its feed was fed them, and it asks for no byte past
 -- the first one too many.
-use Rattle.std.proofs.Common.{◌≡◌, ℕ, ◌<◌, ◌≤◌, Bool, false, List, [], ◌++◌, length, Option, Some, None, refl, sym, ap}
-use Rattle.std.proofs.Common.{◌∙◌}
+use Rattle.std.proofs.Common.{◌≡◌, ℕ, ◌+◌, ◌<◌, ◌≤◌, Bool, false, List, [], ◌++◌, length, Option, Some, None}
+use Rattle.std.proofs.Common.{refl, sym, ap, ◌∙◌}
 use Rattle.std.proofs.Common.{append_assoc}
 use Rattle.std.specs.Prelude.{Result, Err}
 use Rattle.std.proofs.lemmas.List.{append-nil}
@@ -15,28 +15,30 @@ use Rattle.st_text.specs.Growth.{Grows}
 use Rattle.st_text.specs.Fed.{IsFed, fed_refusal}
 use Rattle.st_text.specs.Reads.{HadGrowth}
 use Rattle.st_text.proofs.TextFaults.{no_memory}
-use Rattle.st_text.specs.Limits.{most_bytes}
+use Rattle.st_text.specs.declared.limits.Limits.{Limits}
 
-pub record IsReading {S : Type 0} (gives : S → List ℕ → S → Type 0) (failed : S → Bool) (old now : S) (feed : Feed)
+pub record IsReading (limits : Limits) {S : Type 0} (gives : S → List ℕ → S → Type 0) (failed : S → Bool)
+    (old now : S) (feed : Feed)
     (count : ℕ) (buffer : List ℕ) : Type 0 where
   pub bytes : List ℕ
   pub given : InARow gives old bytes now
   pub fed : IsFed bytes feed
   pub counted : count ≡ length bytes
-  pub few : count ≤ 67108865
+  pub limits_are : feed.limits ≡ limits
+  pub few : count ≤ limits.bytes + 1
   pub size : length buffer ≡ 65536
   pub mark : failed now ≡ failed old
   pub sound : 0 < count → failed old ≡ false
-  pub memory : fed_refusal feed ≡ Some faults.Memory → HadGrowth gives bytes old
+  pub memory : fed_refusal feed ≡ Some faults.Memory → HadGrowth limits gives bytes old
 
 -- a new feed has refused nothing
 pub never_fresh : (o : Option ReadFault) (f : ReadFault) → o ≡ None → o ≡ Some f → ⊥
 never_fresh o f e g = cc
 
 -- more bytes came after
-later_growth : {S : Type 0} (gives : S → List ℕ → S → Type 0) (old : S) (bytes more : List ℕ)
-    → HadGrowth gives bytes old → HadGrowth gives (bytes ++ more) old
-later_growth gives old bytes more h =
+later_growth : (limits : Limits) {S : Type 0} (gives : S → List ℕ → S → Type 0) (old : S) (bytes more : List ℕ)
+    → HadGrowth limits gives bytes old → HadGrowth limits gives (bytes ++ more) old
+later_growth limits gives old bytes more h =
     record {
       before = h.before;
       piece = h.piece;
@@ -51,12 +53,13 @@ later_growth gives old bytes more h =
     }
 
 -- one more piece, after which memory has run out: in it, or before it
-pub growth_after : {S : Type 0} (gives : S → List ℕ → S → Type 0) (old now next : S) (bytes piece : List ℕ)
+pub growth_after : (limits : Limits) {S : Type 0} (gives : S → List ℕ → S → Type 0) (old now next : S)
+    (bytes piece : List ℕ)
     (was is : Option ReadFault)
-    → InARow gives old bytes now → gives now piece next → (was ≡ Some faults.Memory → HadGrowth gives bytes old)
-    → (was ≡ None → is ≡ Some faults.Memory → Grows bytes piece) → ((f : ReadFault) → was ≡ Some f → is ≡ Some f)
-    → is ≡ Some faults.Memory → HadGrowth gives (bytes ++ piece) old
-growth_after gives old now next bytes piece None is row call before here again ran =
+    → InARow gives old bytes now → gives now piece next → (was ≡ Some faults.Memory → HadGrowth limits gives bytes old)
+    → (was ≡ None → is ≡ Some faults.Memory → Grows limits bytes piece) → ((f : ReadFault) → was ≡ Some f → is ≡ Some f)
+    → is ≡ Some faults.Memory → HadGrowth limits gives (bytes ++ piece) old
+growth_after limits gives old now next bytes piece None is row call before here again ran =
     record {
       before = bytes;
       piece = piece;
@@ -68,17 +71,19 @@ growth_after gives old now next bytes piece None is row call before here again r
       call = call;
       growth = here refl ran;
     }
-growth_after gives old now next bytes piece (Some f) is row call before here again ran =
-    later_growth gives old bytes piece (before (sym (again f refl) ∙ ran))
+growth_after limits gives old now next bytes piece (Some f) is row call before here again ran =
+    later_growth limits gives old bytes piece (before (sym (again f refl) ∙ ran))
 
 -- an answer of Memory at the end is that of the feed
-pub growth_at_end : {S : Type 0} (gives : S → List ℕ → S → Type 0) (old : S) (bytes : List ℕ) (was : Option ReadFault)
+pub growth_at_end : (limits : Limits) {S : Type 0} (gives : S → List ℕ → S → Type 0) (old : S) (bytes : List ℕ)
+    (was : Option ReadFault)
     (r : Result Bundle ReadFault)
-    → length bytes ≤ most_bytes → (was ≡ Some faults.Memory → HadGrowth gives bytes old)
-    → (was ≡ None → IsAnswer bytes r)
-    → ((f : ReadFault) → was ≡ Some f → r ≡ Err f) → r ≡ Err faults.Memory → HadGrowth gives bytes old
-growth_at_end gives old bytes None r small before exact again e = absurd (no_memory bytes r small (exact refl) e)
-growth_at_end gives old bytes (Some f) r small before exact again e =
+    → length bytes ≤ limits.bytes → (was ≡ Some faults.Memory → HadGrowth limits gives bytes old)
+    → (was ≡ None → IsAnswer limits bytes r)
+    → ((f : ReadFault) → was ≡ Some f → r ≡ Err f) → r ≡ Err faults.Memory → HadGrowth limits gives bytes old
+growth_at_end limits gives old bytes None r small before exact again e =
+    absurd (no_memory limits bytes r small (exact refl) e)
+growth_at_end limits gives old bytes (Some f) r small before exact again e =
     let both : Err f ≡ Err faults.Memory = sym (again f refl) ∙ e in
     let same : f ≡ faults.Memory = cc in
     before (ap (λ (x : ReadFault). Some x) same)

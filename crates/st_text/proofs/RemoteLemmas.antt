@@ -1,4 +1,4 @@
--- A line names a pid of another node where its process, event or act does, so that the parts' tests are the lines'.
+-- A line names a pid of another node if its process, event or act does, so that the parts' tests are the lines'.
 use Rattle.std.proofs.Common.{◌≡◌, ℕ, suc, zero, ◌<◌, Bool, true, false, ◌||◌, List, [], ◌∷◌, length, map, get_or}
 use Rattle.std.proofs.Common.{Option, Some, None, refl, ap, ◌∙◌, arith}
 use Rattle.std.specs.List.{list_any, flat_map}

@@ -3,22 +3,23 @@ use Rattle.std.specs.Prelude.{◌≡◌, ℕ, List, Some, Result, Ok, Err}
 use Rattle.st_text.specs.declared.bundle.Bundle.{Bundle}
 use Rattle.st_text.specs.declared.fault.ReadFault.{ReadFault}
 use Rattle.st_text.specs.declared.fault.ReadFault.TheVariants as faults
-use Rattle.st_text.specs.Text.{Contents, IsText, IsWithin}
+use Rattle.st_text.specs.declared.limits.Limits.{Limits}
+use Rattle.st_text.specs.Text.{Contents, IsText, IsWithinLimits}
 use Rattle.st_text.specs.Contents.{contents}
-use Rattle.st_text.specs.Fault.{fault}
+use Rattle.st_text.specs.Fault.{fault_within}
 
--- the bytes are the bundle's text, within the limits
-pub record Reads (bytes : List ℕ) (c : Contents) : Type 0 where
+-- the bytes are the bundle's text, within these limits
+pub record Reads (limits : Limits) (bytes : List ℕ) (c : Contents) : Type 0 where
   pub text : IsText bytes c
-  pub within : IsWithin c
+  pub within : IsWithinLimits limits c
 
 -- a bundle of which the bytes are the text, or their fault
-abbrev pub IsAnswer : List ℕ → Result Bundle ReadFault → Type 0
-IsAnswer bytes (Ok b) = Reads bytes (contents b)
-IsAnswer bytes (Err f) = fault bytes ≡ Some f
+abbrev pub IsAnswer : Limits → List ℕ → Result Bundle ReadFault → Type 0
+IsAnswer limits bytes (Ok b) = Reads limits bytes (contents b)
+IsAnswer limits bytes (Err f) = fault_within limits bytes ≡ Some f
 
--- The same, where Memory may stand in place of each but TooLarge.
-abbrev pub Answers : List ℕ → Result Bundle ReadFault → Type 0
-Answers bytes (Ok b) = Reads bytes (contents b)
-Answers bytes (Err faults.Memory) = Unit {0}
-Answers bytes (Err f) = fault bytes ≡ Some f
+-- The same, but Memory may stand in place of each but TooLarge.
+abbrev pub Answers : Limits → List ℕ → Result Bundle ReadFault → Type 0
+Answers limits bytes (Ok b) = Reads limits bytes (contents b)
+Answers limits bytes (Err faults.Memory) = Unit {0}
+Answers limits bytes (Err f) = fault_within limits bytes ≡ Some f

@@ -13,7 +13,8 @@ use Rattle.st_text.specs.declared.line.Line.{Line}
 use Rattle.st_text.specs.declared.line.Line.TheVariants as lines
 use Rattle.st_text.specs.declared.fault.ReadFault.{ReadFault}
 use Rattle.st_text.specs.declared.fault.ReadFault.TheVariants as faults
-use Rattle.st_text.specs.Limits.{most_bytes, most_processes, most_events, most_acts}
+use Rattle.st_text.specs.declared.limits.Limits.{Limits}
+use Rattle.st_text.specs.Limits.{standard}
 use Rattle.st_text.specs.Parsing.{line_of}
 use Rattle.st_text.specs.Text.{is_remote}
 
@@ -28,7 +29,7 @@ abbrev pub cut : List ℕ → List (List ℕ) × List ℕ
 cut [] = ([], [])
 cut (b ∷ bytes) = if b == 10 then ([] ∷ (cut bytes).0, (cut bytes).1) else onto_first b (cut bytes).0 (cut bytes).1
 
--- what each line says, where it says anything
+-- what each line says, if it says anything
 abbrev pub sayings : List ℕ → List (Option Line)
 sayings bytes = map line_of (cut bytes).0
 
@@ -100,35 +101,36 @@ is_foreign last (lines.Event e) = last_passes (λ q. not (is_own q e)) last
 is_foreign last l = false
 
 -- more than there may be, by how many processes, events and acts there were
-abbrev pub is_one_too_many : ℕ → ℕ → ℕ → Line → Bool
-is_one_too_many processes events acts (lines.Process p) = nat_le most_processes processes
-is_one_too_many processes events acts (lines.Event e) = nat_le most_events events
-is_one_too_many processes events acts (lines.Act a) = nat_le most_acts acts
-is_one_too_many processes events acts l = false
+abbrev pub is_one_too_many : Limits → ℕ → ℕ → ℕ → Line → Bool
+is_one_too_many limits processes events acts (lines.Process p) = nat_le limits.processes processes
+is_one_too_many limits processes events acts (lines.Event e) = nat_le limits.events events
+is_one_too_many limits processes events acts (lines.Act a) = nat_le limits.acts acts
+is_one_too_many limits processes events acts l = false
 
 -- the fault of a line behind good ones, by its number n
-abbrev pub fault_at : ℕ → List Line → Line → Option ReadFault
-fault_at n ls l =
+abbrev pub fault_at : Limits → ℕ → List Line → Line → Option ReadFault
+fault_at limits n ls l =
     if not (may_stand ls l) then Some (faults.Line n)
     else (if is_out_of_order (last_of (pids ls)) l then Some (faults.Order n)
     else (if is_foreign (last_of (pids ls)) l then Some (faults.Foreign n)
-    else (if is_one_too_many (length (pids ls)) (count_by is_event ls) (count_by is_act ls) l
+    else (if is_one_too_many limits (length (pids ls)) (count_by is_event ls) (count_by is_act ls) l
     then Some (faults.TooMany n) else None)))
 
 -- the same of bytes that may say no line; lines count from 1
-unfoldable pub line_fault : List Line → Option Line → Option ReadFault
-line_fault ls None = Some (faults.Line (length ls + 1))
-line_fault ls (Some l) = fault_at (length ls + 1) ls l
+unfoldable pub line_fault : Limits → List Line → Option Line → Option ReadFault
+line_fault limits ls None = Some (faults.Line (length ls + 1))
+line_fault limits ls (Some l) = fault_at limits (length ls + 1) ls l
 
 abbrev pub first_of : {A : Type 0} → Option A → Option A → Option A
 first_of (Some x) o = Some x
 first_of None o = o
 
 -- the fault of the first faulty line, of these behind good ones
-unfoldable pub first_fault : List Line → List (Option Line) → Option ReadFault
-first_fault ls [] = None
-first_fault ls (None ∷ more) = line_fault ls None
-first_fault ls (Some l ∷ more) = first_of (line_fault ls (Some l)) (first_fault (ls ++ l ∷ []) more)
+unfoldable pub first_fault : Limits → List Line → List (Option Line) → Option ReadFault
+first_fault limits ls [] = None
+first_fault limits ls (None ∷ more) = line_fault limits ls None
+first_fault limits ls (Some l ∷ more) =
+    first_of (line_fault limits ls (Some l)) (first_fault limits (ls ++ l ∷ []) more)
 
 -- ---- the faults of the whole
 
@@ -142,7 +144,7 @@ said (Some l ∷ more) = l ∷ said more
 abbrev pub truncated : List ℕ → Option ReadFault
 truncated bytes = if length (cut bytes).1 == 0 && not (length (cut bytes).0 == 0) then None else Some faults.Truncated
 
--- header 2 where no line names a pid of another node
+-- header 2 though no line names a pid of another node
 abbrev pub needless : List Line → Option ReadFault
 needless ls = if list_any is_wide_header ls && not (list_any is_remote ls) then Some (faults.Line 1) else None
 
@@ -164,8 +166,13 @@ unknown_from ps n (l ∷ ls) = if is_unknown ps l then Some (faults.Unknown n) e
 abbrev pub closing_fault : List Line → Option ReadFault
 closing_fault ls = first_of (needless ls) (unknown_from (pids ls) 1 ls)
 
--- the refusal of all the bytes, if there is one
-unfoldable pub fault : List ℕ → Option ReadFault
-fault bytes =
-    if nat_lt most_bytes (length bytes) then Some faults.TooLarge
-    else first_of (first_fault [] (sayings bytes)) (first_of (truncated bytes) (closing_fault (said (sayings bytes))))
+-- the refusal of all the bytes within these limits, if there is one
+unfoldable pub fault_within : Limits → List ℕ → Option ReadFault
+fault_within limits bytes =
+    if nat_lt limits.bytes (length bytes) then Some faults.TooLarge
+    else first_of (first_fault limits [] (sayings bytes))
+    (first_of (truncated bytes) (closing_fault (said (sayings bytes))))
+
+-- the refusal of `read`
+abbrev pub fault : List ℕ → Option ReadFault
+fault bytes = fault_within standard bytes

@@ -4,7 +4,7 @@ use Rattle.st_text.specs.declared.fault.ReadFault.{ReadFault}
 use Rattle.st_text.specs.declared.fault.ReadFault.TheVariants as faults
 use Rattle.st_text.specs.declared.cutter.Cutter.{Cutter}
 use Rattle.st_text.specs.declared.feed.Feed.{Feed}
-use Rattle.st_text.specs.Limits.{most_bytes}
+use Rattle.st_text.specs.declared.limits.Limits.{Limits}
 use Rattle.st_text.specs.Parts.CutterState.{HasTaken}
 
 -- by whether there were too many bytes, and whether memory ran out
@@ -13,26 +13,26 @@ refusal_by true out = Some faults.TooLarge
 refusal_by false true = Some faults.Memory
 refusal_by false false = None
 
--- the refusal that each call answers from now on, if there is one
+-- the fault that each call returns from now on, if there is one
 abbrev pub fed_refusal : Feed → Option ReadFault
 fed_refusal f = refusal_by f.large f.cutter.out
 
 -- all bytes are counted, and their lines taken
-pub record AreBytesCounted (bytes : List ℕ) (count : ℕ) (cutter : Cutter) : Type 0 where
+pub record AreBytesCounted (limits : Limits) (bytes : List ℕ) (count : ℕ) (cutter : Cutter) : Type 0 where
   pub count_is : count ≡ length bytes
-  pub small : length bytes ≤ most_bytes
-  pub holds : HasTaken bytes cutter
+  pub small : length bytes ≤ limits.bytes
+  pub holds : HasTaken limits bytes cutter
 
-abbrev pub FedAs : Bool → Bool → List ℕ → ℕ → Cutter → Type 0
-FedAs true out bytes count cutter = most_bytes < length bytes
-FedAs false true bytes count cutter = Unit {0}
-FedAs false false bytes count cutter = AreBytesCounted bytes count cutter
+abbrev pub FedAs : Limits → Bool → Bool → List ℕ → ℕ → Cutter → Type 0
+FedAs limits true out bytes count cutter = limits.bytes < length bytes
+FedAs limits false true bytes count cutter = Unit {0}
+FedAs limits false false bytes count cutter = AreBytesCounted limits bytes count cutter
 
--- the feed was fed these bytes
+-- the feed was fed these bytes, within its own limits
 abbrev pub IsFed : List ℕ → Feed → Type 0
-IsFed bytes f = FedAs f.large f.cutter.out bytes f.count f.cutter
+IsFed bytes f = FedAs f.limits f.large f.cutter.out bytes f.count f.cutter
 
--- what a piece answers
+-- what a piece returns
 abbrev pub answer_of : Option ReadFault → Result (Unit {0}) ReadFault
 answer_of None = Ok tt
 answer_of (Some f) = Err f

@@ -3,6 +3,7 @@
 use Rattle.std.specs.Prelude.{◌≡◌, ℕ, ◌<◌, Bool, true, false, List, [], ◌∷◌, ◌++◌, length, map, Some, None}
 use Rattle.st_text.specs.declared.line.Line.{Line}
 use Rattle.st_text.specs.declared.line.Line.TheVariants as lines
+use Rattle.st_text.specs.declared.limits.Limits.{Limits}
 use Rattle.st_text.specs.Fault.{cut, sayings, first_fault}
 
 -- a process, an event or an act
@@ -14,21 +15,22 @@ is_kept lines.Acts = false
 is_kept (lines.Act a) = true
 
 -- the lines are good, and the last of them is kept
-pub record EndsKept (bytes : List ℕ) : Type 0 where
+pub record EndsKept (limits : Limits) (bytes : List ℕ) : Type 0 where
   pub before : List Line
   pub line : Line
   pub lines : sayings bytes ≡ map Some (before ++ line ∷ [])
-  pub good : first_fault [] (sayings bytes) ≡ None
+  pub good : first_fault limits [] (sayings bytes) ≡ None
   pub kept : is_kept line ≡ true
 
 -- the lines are good, and some bytes of another follow
-pub record EndsWithin (bytes : List ℕ) : Type 0 where
-  pub good : first_fault [] (sayings bytes) ≡ None
+pub record EndsWithin (limits : Limits) (bytes : List ℕ) : Type 0 where
+  pub good : first_fault limits [] (sayings bytes) ≡ None
   pub some : 0 < length (cut bytes).1
 
 -- Behind these bytes, the piece has something to keep: a line that ends in it, the bytes that it adds to an unfinished
 -- line, or those of its own unfinished line.
-pub data Grows (bytes piece : List ℕ) : Type 0 where
-  KeepsLine : (front back : List ℕ) → piece ≡ front ++ back → EndsKept (bytes ++ front) → Grows bytes piece
-  EndsLine : EndsWithin bytes → 0 < length piece → Grows bytes piece
-  LeavesBytes : EndsWithin (bytes ++ piece) → 0 < length piece → Grows bytes piece
+pub data Grows (limits : Limits) (bytes piece : List ℕ) : Type 0 where
+  KeepsLine : (front back : List ℕ) → piece ≡ front ++ back → EndsKept limits (bytes ++ front)
+      → Grows limits bytes piece
+  EndsLine : EndsWithin limits bytes → 0 < length piece → Grows limits bytes piece
+  LeavesBytes : EndsWithin limits (bytes ++ piece) → 0 < length piece → Grows limits bytes piece

@@ -7,12 +7,13 @@ use Rattle.st_text.specs.declared.line.Line.{Line}
 use Rattle.st_text.specs.declared.bundle.Bundle.{Bundle}
 use Rattle.st_text.specs.declared.fault.ReadFault.{ReadFault}
 use Rattle.st_text.specs.declared.fault.ReadFault.TheVariants as faults
+use Rattle.st_text.specs.declared.limits.Limits.{Limits}
 use Rattle.st_text.specs.Spelling.{line}
 use Rattle.st_text.specs.Range.{Fits}
 use Rattle.st_text.specs.Parsing.{line_of}
-use Rattle.st_text.specs.Text.{Contents, spelling, IsBundle, IsText, IsWithin}
+use Rattle.st_text.specs.Text.{Contents, spelling, IsBundle, IsText, IsWithinLimits}
 use Rattle.st_text.specs.Contents.{contents}
-use Rattle.st_text.specs.Fault.{line_fault, first_fault, is_unknown, unknown_from, fault}
+use Rattle.st_text.specs.Fault.{line_fault, first_fault, is_unknown, unknown_from, fault_within}
 use Rattle.st_text.specs.Answer.{Reads, Answers}
 
 -- what is read from the bytes of a line is spelled so
@@ -27,26 +28,29 @@ SpelledIsRead = (l : Line) → Fits l → line_of (line l) ≡ Some l
 abbrev pub TextIsOne : Type 0
 TextIsOne = (bytes : List ℕ) (c d : Contents) → IsText bytes c → IsText bytes d → c ≡ d
 
--- the text of a bundle within the limits has no fault
+-- the text of a bundle within any limits has no fault
 abbrev pub TextHasNoFault : Type 0
-TextHasNoFault = (bytes : List ℕ) (c : Contents) → Reads bytes c → fault bytes ≡ None
+TextHasNoFault = (limits : Limits) (bytes : List ℕ) (c : Contents) → Reads limits bytes c
+    → fault_within limits bytes ≡ None
 
--- bytes without a fault are the text of a bundle within the limits
+-- bytes without a fault are the text of a bundle within any limits
 abbrev pub NoFaultIsText : Type 0
-NoFaultIsText = (bytes : List ℕ) → fault bytes ≡ None → (c : Contents) × Reads bytes c
+NoFaultIsText = (limits : Limits) (bytes : List ℕ) → fault_within limits bytes ≡ None
+    → (c : Contents) × Reads limits bytes c
 
 -- the lines before are good, and the next one has the fault
-pub record FailsFirst (rs : List (Option Line)) (f : ReadFault) : Type 0 where
+pub record FailsFirst (limits : Limits) (rs : List (Option Line)) (f : ReadFault) : Type 0 where
   pub before : List Line
   pub here : Option Line
   pub after : List (Option Line)
   pub lines : rs ≡ map Some before ++ here ∷ after
-  pub good : first_fault [] (map Some before) ≡ None
-  pub fault : line_fault before here ≡ Some f
+  pub good : first_fault limits [] (map Some before) ≡ None
+  pub fault : line_fault limits before here ≡ Some f
 
 -- the fault of lines is that of the first faulty one
 abbrev pub FaultIsFirst : Type 0
-FaultIsFirst = (rs : List (Option Line)) (f : ReadFault) → first_fault [] rs ≡ Some f → FailsFirst rs f
+FaultIsFirst = (limits : Limits) (rs : List (Option Line)) (f : ReadFault) → first_fault limits [] rs ≡ Some f
+    → FailsFirst limits rs f
 
 -- the first line that names an unlisted pid, of these from number n on
 pub record IsFirstUnknown (ps : List Pid) (n : ℕ) (ls : List Line) (f : ReadFault) : Type 0 where
@@ -63,13 +67,13 @@ abbrev pub UnknownIsFirst : Type 0
 UnknownIsFirst = (ps : List Pid) (ls : List Line) (f : ReadFault) → unknown_from ps 1 ls ≡ Some f
     → IsFirstUnknown ps 1 ls f
 
--- an answer is this bundle, or want of memory
+-- the result is this bundle, or memory ran out
 abbrev pub IsReadBack : Contents → Result Bundle ReadFault → Type 0
 IsReadBack c (Ok b) = contents b ≡ c
 IsReadBack c (Err faults.Memory) = Unit {0}
 IsReadBack c (Err f) = ⊥
 
--- of the text of a bundle within the limits that bundle is answered
+-- of the text of a bundle within any limits that bundle is answered
 abbrev pub WrittenIsRead : Type 0
-WrittenIsRead = (c : Contents) (r : Result Bundle ReadFault) → IsBundle c → IsWithin c → Answers (spelling c) r
-    → IsReadBack c r
+WrittenIsRead = (limits : Limits) (c : Contents) (r : Result Bundle ReadFault) → IsBundle c → IsWithinLimits limits c
+    → Answers limits (spelling c) r → IsReadBack c r

@@ -17,14 +17,15 @@ use Rattle.st_text.specs.declared.line.Line.{Line}
 use Rattle.st_text.specs.declared.line.Line.TheVariants as lines
 use Rattle.st_text.specs.Spelling.{line}
 use Rattle.st_text.specs.Range.{Fits}
-use Rattle.st_text.specs.Limits.{most_bytes, most_processes, most_events, most_acts}
+use Rattle.st_text.specs.declared.limits.Limits.{Limits}
+use Rattle.st_text.specs.Limits.{standard}
 
--- what a bundle holds: streams, and acts where there are any
+-- what a bundle holds: streams, and acts if there are any
 pub record Contents : Type 0 where
   pub streams : List Stream
   pub acts : Option (List Act)
 
--- streams, and acts behind a reference where there are any
+-- streams, and acts behind a reference if there are any
 abbrev pub parts : List Stream → Option (Bor (List Act)) → Contents
 parts streams acts = record { streams = streams; acts = option_map (λ a. a.now) acts }
 
@@ -74,7 +75,7 @@ act_lines (Some list) = lines.Acts ∷ map lines.Act list
 abbrev pub body : Contents → List Line
 body c = flat_map process_lines c.streams ++ act_lines c.acts
 
--- header 2 exactly where a pid of another node is named
+-- header 2 exactly if a pid of another node is named
 abbrev pub lines_of : Contents → List Line
 lines_of c = lines.Header (list_any is_remote (body c)) ∷ body c
 
@@ -111,9 +112,13 @@ pub record IsText (bytes : List ℕ) (c : Contents) : Type 0 where
   pub bundle : IsBundle c
   pub spelled : bytes ≡ spelling c
 
--- within the reader's limits
-pub record IsWithin (c : Contents) : Type 0 where
-  pub bytes : length (spelling c) ≤ most_bytes
-  pub processes : length c.streams ≤ most_processes
-  pub events : length (flat_map (λ s. s.events) c.streams) ≤ most_events
-  pub acts : length (acts_or_none c.acts) ≤ most_acts
+-- within these limits
+pub record IsWithinLimits (limits : Limits) (c : Contents) : Type 0 where
+  pub bytes : length (spelling c) ≤ limits.bytes
+  pub processes : length c.streams ≤ limits.processes
+  pub events : length (flat_map (λ s. s.events) c.streams) ≤ limits.events
+  pub acts : length (acts_or_none c.acts) ≤ limits.acts
+
+-- within the limits of `read`
+abbrev pub IsWithin : Contents → Type 0
+IsWithin c = IsWithinLimits standard c

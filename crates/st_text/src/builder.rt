@@ -4,27 +4,21 @@
 ghost use Rattle.std.specs.Prelude.{◌≡◌, ◌≤◌, ◌+◌, ◌&&◌, ◌||◌, not, List, ◌∷◌, [], Some};
 ghost use Rattle.std.specs.Ordering.{is_lt};
 ghost use Rattle.st_core.specs.Pid.{pid_cmp};
+ghost use Rattle.st_text.specs.declared.limits.Limits.{Limits};
 ghost use Rattle.st_text.specs.declared.line.Line.{Line};
 ghost use Rattle.st_text.specs.declared.line.Line.TheVariants as lines;
 ghost use Rattle.st_text.specs.Parts.Counts.{acts_len, acts_lines};
 ghost use Rattle.st_text.specs.Fault.{last_passes};
-ghost use Rattle.st_text.specs.Limits.{most_processes, most_events, most_acts};
 
 use crate::fault::ReadFault;
+use crate::limits::Limits;
 use crate::line::Line;
 use crate::remote::{is_act_remote, is_away, is_event_remote};
 use crate::step::Step;
 use st_core::{Act, Draft, Event, Pid, Sequence};
 use std::alloc::Global;
 
-/// The most processes, events and acts that a text may have.
-const MOST_PROCESSES: u64 = 1_024;
-
-const MOST_EVENTS: u64 = 1_000_000;
-
-const MOST_ACTS: usize = 4_000_000;
-
-/// What the lines so far came to.
+/// What the lines so far came to. Its counts are within the limits of its calls, and each limit is a `u32`.
 #[derive(Debug, Drop)]
 pub(crate) struct BundleBuilder {
     pub(crate) alloc: Global,
@@ -39,9 +33,9 @@ pub(crate) struct BundleBuilder {
     pub(crate) lines: u64,
     pub(crate) processes: u64,
     pub(crate) events: u64,
-    ghost few_processes: { processes ≤ most_processes },
-    ghost few_events: { events ≤ most_events },
-    ghost few_acts: { acts_len acts ≤ most_acts },
+    ghost few_processes: { processes ≤ 4294967295 },
+    ghost few_events: { events ≤ 4294967295 },
+    ghost few_acts: { acts_len acts ≤ 4294967295 },
     ghost counted: { lines ≡ 1 + processes + events + acts_lines acts },
 }
 
@@ -91,8 +85,8 @@ impl BundleBuilder {
     }
 
     /// Takes a process line.
-    fn open(&mut self, pid: Pid) -> Step
-        ensures { (ls : List Line) → IsBuilt self.old ls → Takes ls (lines.Process pid) self.new result }
+    fn open(&mut self, limits: Limits, pid: Pid) -> Step
+        ensures { (ls : List Line) → IsBuilt self.old ls → Takes limits ls (lines.Process pid) self.new result }
     {
         let n = self.lines + 1;
         let away = is_away(pid);
@@ -105,7 +99,7 @@ impl BundleBuilder {
         if is_out_of_order(self.last, pid) {
             return Step::Stops(ReadFault::Order(n));
         }
-        if self.processes >= MOST_PROCESSES {
+        if self.processes >= limits.processes as u64 {
             return Step::Stops(ReadFault::TooMany(n));
         }
         // The draft tests the order again, as it does for each caller; the test above gives the fault its place before
@@ -122,8 +116,8 @@ impl BundleBuilder {
 
     /// Takes an event line.
     #[inline(always)]
-    fn report(&mut self, event: &Event) -> Step
-        ensures { (ls : List Line) → IsBuilt self.old ls → Takes ls (lines.Event event.now) self.new result }
+    fn report(&mut self, limits: Limits, event: &Event) -> Step
+        ensures { (ls : List Line) → IsBuilt self.old ls → Takes limits ls (lines.Event event.now) self.new result }
     {
         let n = self.lines + 1;
         let away = is_event_remote(event);
@@ -139,7 +133,7 @@ impl BundleBuilder {
         if !event.is_own(last) {
             return Step::Stops(ReadFault::Foreign(n));
         }
-        if self.events >= MOST_EVENTS {
+        if self.events >= limits.events as u64 {
             return Step::Stops(ReadFault::TooMany(n));
         }
         // The draft tests this again, as it does for each caller; the test above gives the fault its place before
@@ -155,7 +149,8 @@ impl BundleBuilder {
 
     /// Takes the word before the acts.
     fn begin(&mut self) -> Step
-        ensures { (ls : List Line) → IsBuilt self.old ls → Takes ls lines.Acts self.new result }
+        ensures { (limits : Limits) (ls : List Line) → IsBuilt self.old ls
+            → Takes limits ls lines.Acts self.new result }
     {
         if self.acts.is_some() {
             return Step::Stops(ReadFault::Line(self.lines + 1));
@@ -167,8 +162,8 @@ impl BundleBuilder {
 
     /// Takes an act line.
     #[inline(always)]
-    fn act(&mut self, act: &Act) -> Step
-        ensures { (ls : List Line) → IsBuilt self.old ls → Takes ls (lines.Act act.now) self.new result }
+    fn act(&mut self, limits: Limits, act: &Act) -> Step
+        ensures { (ls : List Line) → IsBuilt self.old ls → Takes limits ls (lines.Act act.now) self.new result }
     {
         let n = self.lines + 1;
         let away = is_act_remote(act);
@@ -178,7 +173,7 @@ impl BundleBuilder {
         match &mut self.acts {
             None => return Step::Stops(ReadFault::Line(n)),
             Some(acts) => {
-                if acts.len() >= MOST_ACTS {
+                if acts.len() >= limits.acts as usize {
                     return Step::Stops(ReadFault::TooMany(n));
                 }
                 let Ok(()) = acts.push(*act) else {
@@ -193,25 +188,25 @@ impl BundleBuilder {
 
     /// Accepts a line.
     #[inline(always)]
-    fn accept_line(&mut self, line: &Line) -> Step
-        ensures { (ls : List Line) → IsBuilt self.old ls → Takes ls line.now self.new result }
+    fn accept_line(&mut self, limits: Limits, line: &Line) -> Step
+        ensures { (ls : List Line) → IsBuilt self.old ls → Takes limits ls line.now self.new result }
     {
         match line {
-            Line::Process(pid) => self.open(*pid),
-            Line::Event(event) => self.report(event),
+            Line::Process(pid) => self.open(limits, *pid),
+            Line::Event(event) => self.report(limits, event),
             Line::Acts => self.begin(),
-            Line::Act(act) => self.act(act),
+            Line::Act(act) => self.act(limits, act),
             Line::Header(_) => Step::Stops(ReadFault::Line(self.lines + 1)),
         }
     }
 
     /// Accepts the next line, or bytes that say none.
     #[inline(always)]
-    pub(crate) fn accept(&mut self, said: &Option<Line>) -> Step
-        ensures { (ls : List Line) → IsBuilt self.old ls → TakesLine ls said.now self.new result }
+    pub(crate) fn accept(&mut self, limits: Limits, said: &Option<Line>) -> Step
+        ensures { (ls : List Line) → IsBuilt self.old ls → TakesLine limits ls said.now self.new result }
     {
         match said {
-            Some(line) => self.accept_line(line),
+            Some(line) => self.accept_line(limits, line),
             None => Step::Stops(ReadFault::Line(self.lines + 1)),
         }
     }

@@ -17,7 +17,7 @@ pub struct Bundle {
     ghost listed: { IsTrue (list_all (is_listed (pids_of streams)) (acts_or_none acts)) },
 }
 
-/// Why streams and acts make no bundle; both come back. Refusal 1, the only one.
+/// Why streams and acts make no bundle; both come back. It is the only reason.
 #[derive(Debug, Drop)]
 pub struct UnknownAct {
     /// The number of the first act, counted from 0, whose actor or receiver isn't listed.

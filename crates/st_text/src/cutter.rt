@@ -8,13 +8,14 @@ ghost use Rattle.st_text.specs.Parts.Cutter.{IsStateAfter, TakesSaid, header_of}
 ghost use Rattle.st_text.specs.Fault.{cut};
 ghost use Rattle.st_text.specs.Parsing.{line_of};
 ghost use Rattle.st_text.specs.Parts.Cutter.{IsTail, HasNoNewline, longest};
-ghost use Rattle.st_text.specs.Limits.{most_bytes};
+ghost use Rattle.st_text.specs.declared.limits.Limits.{Limits};
 ghost use Rattle.st_text.specs.Growth.{EndsKept, Grows};
 
 use crate::builder::BundleBuilder;
 use crate::bundle::Bundle;
 use crate::fault::ReadFault;
 use crate::finish::finish;
+use crate::limits::Limits;
 use crate::line::{Line, read_line};
 use crate::step::Step;
 use memchr::memchr;
@@ -52,11 +53,16 @@ fn header_of(said: &Option<Line>) -> Option<bool>
 
 /// Passes the next line on to the builder, or bytes that say none. The first has to be a header.
 #[inline(always)]
-fn pass_on(alloc: Global, builder: &mut Option<BundleBuilder>, said: &Option<Line>) -> Step
-    ensures { (ls : List Line) → IsStateAfter builder.old ls → TakesSaid ls said.now builder.new result }
+fn pass_on(
+    alloc: Global,
+    limits: Limits,
+    builder: &mut Option<BundleBuilder>,
+    said: &Option<Line>,
+) -> Step
+    ensures { (ls : List Line) → IsStateAfter builder.old ls → TakesSaid limits ls said.now builder.new result }
 {
     match builder {
-        Some(builder) => builder.accept(said),
+        Some(builder) => builder.accept(limits, said),
         None => match header_of(said) {
             Some(wide) => {
                 *builder = Some(BundleBuilder::new(alloc, wide));
@@ -96,7 +102,7 @@ impl Cutter {
 
     /// No bytes so far. Takes no memory.
     pub(crate) fn new(alloc: Global) -> Cutter
-        ensures holds { HasTaken [] result }
+        ensures holds { (limits : Limits) → HasTaken limits [] result }
         ensures fresh { result.out ≡ false }
     {
         Cutter {
@@ -114,8 +120,8 @@ impl Cutter {
         requires going { self.old.out ≡ false }
         requires good { self.old.fault ≡ None }
         ensures fault { self.new.fault ≡ None }
-        ensures holds { (bytes : List ℕ) → HasNoNewline rest.now → HasTaken bytes self.old
-            → Comes (bytes ++ rest.now) self.new (AddsBytes bytes rest.now) }
+        ensures holds { (limits : Limits) (bytes : List ℕ) → HasNoNewline rest.now → HasTaken limits bytes self.old
+            → Comes limits (bytes ++ rest.now) self.new (AddsBytes limits bytes rest.now) }
     {
         if self.long {
             return;
@@ -132,17 +138,17 @@ impl Cutter {
 
     /// Passes on what the unfinished line, now ended, says. The place for the next one is empty.
     #[inline(always)]
-    fn pass_line(&mut self, said: &Option<Line>)
+    fn pass_line(&mut self, limits: Limits, said: &Option<Line>)
         requires going { self.old.out ≡ false }
         requires good { self.old.fault ≡ None }
         requires short { self.old.long ≡ false }
         requires empty { self.old.tail.items ≡ [] }
         ensures { (bytes rest : List ℕ) (long : Bool) (kept : List ℕ) → HasNoNewline rest
             → (IsTail long kept (cut bytes).1 → said.now ≡ line_of ((cut bytes).1 ++ rest))
-            → HasTakenAs self.old.out self.old.fault bytes long kept self.old.builder
-            → Comes (bytes ++ (rest ++ 10 ∷ [])) self.new (EndsKept (bytes ++ (rest ++ 10 ∷ []))) }
+            → HasTakenAs limits self.old.out self.old.fault bytes long kept self.old.builder
+            → Comes limits (bytes ++ (rest ++ 10 ∷ [])) self.new (EndsKept limits (bytes ++ (rest ++ 10 ∷ []))) }
     {
-        match pass_on(self.alloc, &mut self.builder, said) {
+        match pass_on(self.alloc, limits, &mut self.builder, said) {
             Step::Goes => {}
             Step::Stops(fault) => self.fault = Some(fault),
             Step::Halts => self.out = true,
@@ -150,34 +156,34 @@ impl Cutter {
     }
 
     /// Takes the rest of a line that began in an earlier piece, and its newline.
-    fn end_begun_line(&mut self, rest: &[u8])
+    fn end_begun_line(&mut self, limits: Limits, rest: &[u8])
         requires going { self.old.out ≡ false }
         requires good { self.old.fault ≡ None }
         requires begun { self.old.long ≡ false → 0 < length self.old.tail.items }
-        ensures { (bytes : List ℕ) → HasNoNewline rest.now → HasTaken bytes self.old
-            → Comes (bytes ++ (rest.now ++ 10 ∷ [])) self.new (EndsOne bytes rest.now) }
+        ensures { (bytes : List ℕ) → HasNoNewline rest.now → HasTaken limits bytes self.old
+            → Comes limits (bytes ++ (rest.now ++ 10 ∷ [])) self.new (EndsOne limits bytes rest.now) }
     {
         let Ok(said) = whole_line(self.long, &mut self.tail, rest) else {
             self.out = true;
             return;
         };
         self.long = false;
-        self.pass_line(&said);
+        self.pass_line(limits, &said);
     }
 
     /// Takes the rest of the unfinished line, and its newline. Most lines are whole in their piece, and are read there.
     #[inline(always)]
-    fn end_line(&mut self, rest: &[u8])
+    fn end_line(&mut self, limits: Limits, rest: &[u8])
         requires going { self.old.out ≡ false }
         requires good { self.old.fault ≡ None }
-        ensures { (bytes : List ℕ) → HasNoNewline rest.now → HasTaken bytes self.old
-            → Comes (bytes ++ (rest.now ++ 10 ∷ [])) self.new (EndsOne bytes rest.now) }
+        ensures { (bytes : List ℕ) → HasNoNewline rest.now → HasTaken limits bytes self.old
+            → Comes limits (bytes ++ (rest.now ++ 10 ∷ [])) self.new (EndsOne limits bytes rest.now) }
     {
         if self.long || !self.tail.is_empty() {
-            self.end_begun_line(rest);
+            self.end_begun_line(limits, rest);
             return;
         }
-        self.pass_line(&read_line(rest));
+        self.pass_line(limits, &read_line(rest));
     }
 
     /// Whether a line is faulty or memory ran out, so that more bytes change nothing.
@@ -188,9 +194,9 @@ impl Cutter {
     }
 
     /// Passes on the lines that end in a piece, and keeps the rest.
-    pub(crate) fn pass_piece(&mut self, piece: &[u8])
-        ensures { (bytes : List ℕ) → HasTaken bytes self.old
-            → Comes (bytes ++ piece.now) self.new (self.old.out ≡ false → Grows bytes piece.now) }
+    pub(crate) fn pass_piece(&mut self, limits: Limits, piece: &[u8])
+        ensures { (bytes : List ℕ) → HasTaken limits bytes self.old
+            → Comes limits (bytes ++ piece.now) self.new (self.old.out ≡ false → Grows limits bytes piece.now) }
     {
         let mut rest = piece;
         while !self.is_over() {
@@ -199,15 +205,16 @@ impl Cutter {
                 return;
             };
             let (line, more) = rest.split_at(i);
-            self.end_line(line);
+            self.end_line(limits, line);
             rest = more.split_at(1).1;
         }
     }
 
-    /// The bundle whose text the pieces were, or their refusal.
+    /// The bundle whose text the pieces were, or why there is none.
     pub(crate) fn end(self) -> Result<Bundle, ReadFault>
         requires { self.out ≡ false }
-        ensures { (bytes : List ℕ) → length bytes ≤ most_bytes → HasTaken bytes self → IsAnswer bytes result }
+        ensures { (limits : Limits) (bytes : List ℕ) → length bytes ≤ limits.bytes → HasTaken limits bytes self
+            → IsAnswer limits bytes result }
     {
         let Cutter {
             alloc: _,

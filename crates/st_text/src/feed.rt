@@ -3,25 +3,24 @@
 
 ghost use Rattle.std.specs.Prelude.{◌≡◌, ◌≤◌, ◌++◌, [], List, ℕ, Some, None, Err};
 ghost use Rattle.st_text.specs.Growth.{Grows};
-ghost use Rattle.st_text.specs.Limits.{most_bytes};
+ghost use Rattle.st_text.specs.Limits.{standard};
 
 use crate::bundle::Bundle;
 use crate::cutter::Cutter;
 use crate::fault::ReadFault;
+use crate::limits::Limits;
 use std::alloc::Global;
-
-/// The most bytes that a text may have.
-pub(crate) const LIMIT: u64 = 67_108_864;
 
 /// Takes a bundle's text in pieces. It keeps what the lines so far came to and the unfinished line, as far as a line
 /// can be long.
 #[derive(Debug, Drop)]
 pub struct Feed {
+    limits: Limits,
     count: u64,
     /// There were more bytes than a text may have.
     large: bool,
     cutter: Cutter,
-    ghost small: { count ≤ most_bytes },
+    ghost small: { count ≤ limits.bytes },
 }
 
 impl Feed {
@@ -30,27 +29,39 @@ impl Feed {
     ghost use Rattle.st_text.specs.Answer.{Answers, IsAnswer};
     ghost use Rattle.st_text.specs.declared.fault.ReadFault.TheVariants as faults;
 
-    /// No bytes yet. Takes no memory.
+    /// No bytes yet, within the standard limits. Takes no memory.
     pub fn new(alloc: Global) -> Feed
+        ensures limits { result.limits ≡ standard }
+        ensures fed { IsFed [] result }
+        ensures fresh { fed_refusal result ≡ None }
+    {
+        Feed::within(alloc, Limits::STANDARD)
+    }
+
+    /// No bytes yet, within these limits. Takes no memory.
+    pub fn within(alloc: Global, limits: Limits) -> Feed
+        ensures limits { result.limits ≡ limits }
         ensures fed { IsFed [] result }
         ensures fresh { fed_refusal result ≡ None }
     {
         Feed {
+            limits,
             count: 0,
             large: false,
             cutter: Cutter::new(alloc),
         }
     }
 
-    /// Takes the next piece of the text. It returns `TooLarge` (refusal 3) at byte 67,108,865 and `Memory` (refusal 1)
-    /// if memory runs out, and either again from then on; other faults come at the end.
+    /// Takes the next piece of the text. It returns `TooLarge` at the first byte too many and `Memory` if memory runs
+    /// out, and either again from then on; other faults come at the end.
     pub fn piece(&mut self, piece: &[u8]) -> Result<(), ReadFault>
+        ensures limits { self.new.limits ≡ self.old.limits }
         // However the text is cut into pieces.
         ensures fed { (bytes : List ℕ) → IsFed bytes self.old → IsFed (bytes ++ piece.now) self.new }
         ensures answer { result ≡ answer_of (fed_refusal self.new) }
         ensures again { (f : ReadFault) → fed_refusal self.old ≡ Some f → fed_refusal self.new ≡ Some f }
         ensures memory { (bytes : List ℕ) → IsFed bytes self.old → fed_refusal self.old ≡ None
-            → fed_refusal self.new ≡ Some faults.Memory → Grows bytes piece.now }
+            → fed_refusal self.new ≡ Some faults.Memory → Grows self.old.limits bytes piece.now }
     {
         if self.large {
             return Err(ReadFault::TooLarge);
@@ -59,25 +70,27 @@ impl Feed {
             return Err(ReadFault::Memory);
         }
         let len = piece.len() as u64;
-        if len > LIMIT - self.count {
+        if len > u64::from(self.limits.bytes) - self.count {
             self.large = true;
             return Err(ReadFault::TooLarge);
         }
         self.count += len;
-        self.cutter.pass_piece(piece);
+        self.cutter.pass_piece(self.limits, piece);
         if self.cutter.out {
             return Err(ReadFault::Memory);
         }
         Ok(())
     }
 
-    /// The bundle whose text the pieces were, or their refusal. Takes no memory.
+    /// The bundle whose text the pieces were, or why there is none. Takes no memory.
     pub fn end(self) -> Result<Bundle, ReadFault>
-        ensures answers { (bytes : List ℕ) → IsFed bytes self → Answers bytes result }
-        ensures exact { (bytes : List ℕ) → IsFed bytes self → fed_refusal self ≡ None → IsAnswer bytes result }
+        ensures answers { (bytes : List ℕ) → IsFed bytes self → Answers self.limits bytes result }
+        ensures exact { (bytes : List ℕ) → IsFed bytes self → fed_refusal self ≡ None
+            → IsAnswer self.limits bytes result }
         ensures again { (f : ReadFault) → fed_refusal self ≡ Some f → result ≡ Err f }
     {
         let Feed {
+            limits: _,
             count: _,
             large,
             cutter,

@@ -9,7 +9,7 @@ use crate::spell::Buffer;
 use st_core::ByteSink;
 use thiserror::Error;
 
-/// The sink failed. Refusal 1 of each call that writes; a prefix of the text was written.
+/// The sink failed: the only reason for which a call that writes fails. A prefix of the text was written.
 #[derive(Clone, Copy, Debug, PartialEq, Eq, Error)]
 #[error("the device failed")]
 pub struct Device;

@@ -9,6 +9,7 @@ use Rattle.st_text.specs.declared.line.Line.TheVariants as lines
 use Rattle.st_text.specs.declared.builder.BundleBuilder.{BundleBuilder}
 use Rattle.st_text.specs.declared.step.Step.{Step}
 use Rattle.st_text.specs.declared.step.Step.TheVariants.{Goes, Stops, Halts}
+use Rattle.st_text.specs.declared.limits.Limits.{Limits}
 use Rattle.st_text.specs.Text.{body, is_remote}
 use Rattle.st_text.specs.Fault.{pids, last_of, has_acts, is_event, is_act, is_wide_header, line_fault}
 use Rattle.st_text.specs.Growth.{is_kept}
@@ -33,21 +34,21 @@ pub record IsBuilt (p : BundleBuilder) (ls : List Line) : Type 0 where
   pub rising : IsRising (pids_of p.draft)
 
 -- the line says l, which has no fault, and is one that has to be kept
-pub record NeedsRoom (ls : List Line) (said : Option Line) : Type 0 where
+pub record NeedsRoom (limits : Limits) (ls : List Line) (said : Option Line) : Type 0 where
   pub line : Line
   pub said_is : said ≡ Some line
-  pub good : line_fault ls (Some line) ≡ None
+  pub good : line_fault limits ls (Some line) ≡ None
   pub kept : is_kept line ≡ true
 
 -- a next line goes on, or has a fault, or there was no room for it
-abbrev pub Takes : List Line → Line → BundleBuilder → Step → Type 0
-Takes ls l new Goes = (line_fault ls (Some l) ≡ None) × IsBuilt new (ls ++ l ∷ [])
-Takes ls l new (Stops f) = line_fault ls (Some l) ≡ Some f
-Takes ls l new Halts = NeedsRoom ls (Some l)
+abbrev pub Takes : Limits → List Line → Line → BundleBuilder → Step → Type 0
+Takes limits ls l new Goes = (line_fault limits ls (Some l) ≡ None) × IsBuilt new (ls ++ l ∷ [])
+Takes limits ls l new (Stops f) = line_fault limits ls (Some l) ≡ Some f
+Takes limits ls l new Halts = NeedsRoom limits ls (Some l)
 
 -- the same of bytes that may say no line
-abbrev pub TakesLine : List Line → Option Line → BundleBuilder → Step → Type 0
-TakesLine ls (Some l) new step = Takes ls l new step
-TakesLine ls None new Goes = ⊥
-TakesLine ls None new (Stops f) = line_fault ls None ≡ Some f
-TakesLine ls None new Halts = ⊥
+abbrev pub TakesLine : Limits → List Line → Option Line → BundleBuilder → Step → Type 0
+TakesLine limits ls (Some l) new step = Takes limits ls l new step
+TakesLine limits ls None new Goes = ⊥
+TakesLine limits ls None new (Stops f) = line_fault limits ls None ≡ Some f
+TakesLine limits ls None new Halts = ⊥

@@ -1,4 +1,4 @@
--- Counts of acts, where there may be none.
+-- Counts of acts, of which there may be none.
 use Rattle.std.specs.Prelude.{ℕ, ◌+◌, List, length, Option, Some, None}
 use Rattle.st_core.specs.declared.types.Act.{Act}
 

@@ -6,6 +6,7 @@ use Rattle.st_text.specs.declared.line.Line.TheVariants as lines
 use Rattle.st_text.specs.declared.builder.BundleBuilder.{BundleBuilder}
 use Rattle.st_text.specs.declared.step.Step.{Step}
 use Rattle.st_text.specs.declared.step.Step.TheVariants.{Goes, Stops, Halts}
+use Rattle.st_text.specs.declared.limits.Limits.{Limits}
 use Rattle.st_text.specs.Fault.{line_fault}
 use Rattle.st_text.specs.Parts.Builder.{IsBuilt, NeedsRoom}
 
@@ -17,15 +18,16 @@ IsStateAfter None ls = ls ≡ []
 IsStateAfter (Some p) ls = IsBuilt p ls
 
 -- the line says l, which has no fault, and is kept
-pub record Adds (ls : List Line) (said : Option Line) (new : Option BundleBuilder) (l : Line) : Type 0 where
+pub record Adds (limits : Limits) (ls : List Line) (said : Option Line) (new : Option BundleBuilder) (l : Line) : Type
+    0 where
   pub said_is : said ≡ Some l
-  pub good : line_fault ls (Some l) ≡ None
+  pub good : line_fault limits ls (Some l) ≡ None
   pub held : IsStateAfter new (ls ++ l ∷ [])
 
-abbrev pub TakesSaid : List Line → Option Line → Option BundleBuilder → Step → Type 0
-TakesSaid ls said new Goes = (l : Line) × Adds ls said new l
-TakesSaid ls said new (Stops f) = line_fault ls said ≡ Some f
-TakesSaid ls said new Halts = NeedsRoom ls said
+abbrev pub TakesSaid : Limits → List Line → Option Line → Option BundleBuilder → Step → Type 0
+TakesSaid limits ls said new Goes = (l : Line) × Adds limits ls said new l
+TakesSaid limits ls said new (Stops f) = line_fault limits ls said ≡ Some f
+TakesSaid limits ls said new Halts = NeedsRoom limits ls said
 
 abbrev pub header_of : Option Line → Option Bool
 header_of (Some (lines.Header wide)) = Some wide

@@ -1,4 +1,4 @@
--- A process has a place exactly where its pid is listed.
+-- A process has a place exactly if its pid is listed.
 use Rattle.std.proofs.Common.{sym}
 use Rattle.st_core.proofs.ForCallers.{is_among-found, is_among-missing}
 use Rattle.st_core.specs.Run.{pids_of}

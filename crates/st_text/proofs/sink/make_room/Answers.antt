@@ -1,4 +1,4 @@
--- Where enough is free nothing has to be written.
+-- If enough is free nothing has to be written.
 use Rattle.st_text.proofs.Puts.{goes_still}
 use Rattle.st_text.proofs.sink.make_room.Goals as goal
 

@@ -1,4 +1,4 @@
--- The streams go first, then the acts where there are any.
+-- The streams go first, then the acts if there are any.
 use Rattle.std.proofs.Common.{◌≡◌, ◌∙◌, ◌∷◌, ◌++◌, List, ℕ, Option, Some, None, map, ap, sym, subst}
 use Rattle.std.specs.Prelude.{option_map}
 use Rattle.std.specs.Borrow.{Bor}

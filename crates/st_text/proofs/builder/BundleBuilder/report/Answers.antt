@@ -14,7 +14,7 @@ use Rattle.st_text.proofs.builder.BundleBuilder.report.Goals as goal
 pub returns-then-is_some : goal.returns-then-is_some
 returns-then-is_some c = λ ls s.
     let p = c.args.self.now in
-    report_fault p ls c.args.event.now s
+    report_fault c.args.limits p ls c.args.event.now s
     ∙ no_line (p.lines + 1) _ _ _ _ (out_first (not (is_some p.acts)) (last_passes (λ r. true) p.last)
     (p.wide || not (is_event_remote c.args.event.now))
     (begun_out (is_some p.acts) (last_passes (λ r. true) p.last) (sym c.is_some.ensures ∙ c.if-is_some.true)))
@@ -25,12 +25,12 @@ returns-then-keeps_out c = λ ls s.
     let out : (is_event_remote c.args.event.now && not p.wide) ≡ true =
     ap (λ b. b && not p.wide) (sym c.is_event_remote-away.ensures) ∙ sym c.keeps_out.ensures
     ∙ c.if-keeps_out.true in
-    report_fault p ls c.args.event.now s ∙ no_line (p.lines + 1) _ _ _ _ (away_out _ _ _ out)
+    report_fault c.args.limits p ls c.args.event.now s ∙ no_line (p.lines + 1) _ _ _ _ (away_out _ _ _ out)
 
 pub returns-in_default : goal.returns-in_default
 returns-in_default c = λ ls s.
     let p = c.args.self.now in
-    report_fault p ls c.args.event.now s
+    report_fault c.args.limits p ls c.args.event.now s
     ∙ no_line (p.lines + 1) _ _ _ _ (out_first (not (is_some p.acts)) (last_passes (λ r. true) p.last)
     (p.wide || not (is_event_remote c.args.event.now))
     (and_false (not (is_some p.acts)) (last_passes (λ r. true) p.last)
@@ -48,11 +48,11 @@ returns-then-not-is_own c = λ ls s.
     let foreign =
     passes_at (λ r. not (is_own r c.args.event.now)) p.last c.in-Some.last true c.in-Some.is
     (ap not (sym c.is_own.ensures ∙ c.if-not-is_own.true)) in
-    report_fault p ls c.args.event.now s
+    report_fault c.args.limits p ls c.args.event.now s
     ∙ not_own (p.lines + 1) _ _ _ _ (let_in _ p.wide (is_event_remote c.args.event.now) follows out) refl foreign
 
-pub returns-then-self-ge-MOST_EVENTS : goal.returns-then-self-ge-MOST_EVENTS
-returns-then-self-ge-MOST_EVENTS c = λ ls s.
+pub returns-then-self-limits : goal.returns-then-self-limits
+returns-then-self-limits c = λ ls s.
     let p = c.args.self.now in
     let out : (is_event_remote c.args.event.now && not p.wide) ≡ false =
     ap (λ b. b && not p.wide) (sym c.is_event_remote-away.ensures) ∙ sym c.keeps_out.ensures
@@ -63,9 +63,9 @@ returns-then-self-ge-MOST_EVENTS c = λ ls s.
     let foreign =
     passes_at (λ r. not (is_own r c.args.event.now)) p.last c.in-Some.last false c.in-Some.is
     (ap not (sym c.is_own.ensures ∙ c.if-not-is_own.false)) in
-    report_fault p ls c.args.event.now s
+    report_fault c.args.limits p ls c.args.event.now s
     ∙ too_many (p.lines + 1) _ _ _ _ (let_in _ p.wide (is_event_remote c.args.event.now) follows out) refl foreign
-    (at_most 1000000 p.events c.if-self-ge-MOST_EVENTS.true)
+    (at_most c.args.limits.events p.events c.if-self-limits.true)
 
 pub returns-in_default-add : goal.returns-in_default-add
 returns-in_default-add c = λ ls s.
@@ -75,8 +75,9 @@ returns-in_default-add c = λ ls s.
     ap (λ b. b && not p.wide) (sym c.is_event_remote-away.ensures) ∙ sym c.keeps_out.ensures
     ∙ c.if-keeps_out.false in
     let mine : is_own c.in-Some.last c.args.event.now ≡ true = sym c.is_own.ensures ∙ c.if-not-is_own.false in
-    needs_room ls _ (report_good p ls c.args.event.now c.in-Some.last s begun out c.in-Some.is mine
-    c.if-self-ge-MOST_EVENTS.false) refl
+    needs_room c.args.limits ls _ (report_good c.args.limits p ls c.args.event.now c.in-Some.last s begun out
+    c.in-Some.is mine
+    c.if-self-limits.false) refl
 
 pub returns : goal.returns
 returns c = λ ls s.
@@ -87,7 +88,8 @@ returns c = λ ls s.
     ∙ c.if-keeps_out.false in
     let mine : is_own c.in-Some.last c.args.event.now ≡ true = sym c.is_own.ensures ∙ c.if-not-is_own.false in
     let remote = c.is_either-self.ensures ∙ ap (λ b. p.remote || b) c.is_event_remote-away.ensures in (
-      report_good p ls c.args.event.now c.in-Some.last s begun out c.in-Some.is mine c.if-self-ge-MOST_EVENTS.false,
+      report_good c.args.limits p ls c.args.event.now c.in-Some.last s begun out c.in-Some.is mine
+          c.if-self-limits.false,
       sound_event p _ ls c.in-Some.last c.args.event.now s (none_of_acts p.acts begun) c.in-Some.is refl refl
           c.in-Ok.ensures.ok refl refl refl refl remote,
     )

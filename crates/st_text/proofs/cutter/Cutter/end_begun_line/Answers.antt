@@ -11,7 +11,8 @@ returns-in_default c = λ bytes plain h.
     record {
       holds = tt;
       growth =
-          λ _. inl (ends_within s.out s.fault bytes s.long s.tail.items s.builder c.requires.going c.requires.good
+          λ _. inl (ends_within c.args.limits s.out s.fault bytes s.long s.tail.items s.builder c.requires.going
+          c.requires.good
           short (c.requires.begun short) h);
     }
 

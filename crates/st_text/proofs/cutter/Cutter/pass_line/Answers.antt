@@ -7,7 +7,7 @@ returns-in-Goes c = λ bytes rest long kept plain says h.
     let s = c.args.self.now in
     record {
       holds =
-          line_goes s.out s.fault bytes rest long s.long kept s.tail.items s.builder c.pass_on.new.builder
+          line_goes c.args.limits s.out s.fault bytes rest long s.long kept s.tail.items s.builder c.pass_on.new.builder
           c.args.said.now
           c.requires.going c.requires.good c.requires.short plain c.requires.empty says c.in-Goes.ensures h;
       growth = not_out s.out c.requires.going;
@@ -18,7 +18,8 @@ returns-in-Stops c = λ bytes rest long kept plain says h.
     let s = c.args.self.now in
     record {
       holds =
-          line_stops s.out s.fault bytes rest long s.long kept s.tail.items s.builder c.pass_on.new.builder
+          line_stops c.args.limits s.out s.fault bytes rest long s.long kept s.tail.items s.builder
+          c.pass_on.new.builder
           c.args.said.now
           c.in-Stops.fault c.requires.going c.requires.good plain says c.in-Stops.ensures h;
       growth = not_out s.out c.requires.going;
@@ -29,6 +30,7 @@ returns-in-Halts c = λ bytes rest long kept plain says h.
     let s = c.args.self.now in
     record {
       holds = tt;
-      growth = λ _. line_halts s.out s.fault bytes rest long kept s.builder c.pass_on.new.builder c.args.said.now
+      growth = λ _. line_halts c.args.limits s.out s.fault bytes rest long kept s.builder c.pass_on.new.builder
+          c.args.said.now
           c.requires.going c.requires.good plain says c.in-Halts.ensures h;
     }

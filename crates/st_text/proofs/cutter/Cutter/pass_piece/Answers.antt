@@ -19,7 +19,7 @@ loop-rest-init c =
       parts = refl;
       whole = λ bytes some. refl;
       comes = λ bytes h. record {
-        holds = subst (λ (t : List ℕ). HasTaken t s) (sym (append-nil bytes)) h;
+        holds = subst (λ (t : List ℕ). HasTaken c.args.limits t s) (sym (append-nil bytes)) h;
         growth = λ out going. not_out s.out going out;
       };
     }
@@ -28,12 +28,14 @@ pub returns-in_default : goal.returns-in_default
 returns-in_default c = λ bytes h.
     let i = c.loop-rest.invariant in
     let rest = c.loop-rest.rest.now in
-    let k = c.keep.ensures.holds (bytes ++ i.done) (plain_all rest c.in_default.ensures) (i.comes bytes h).holds in
+    let k = c.keep.ensures.holds c.args.limits (bytes ++ i.done) (plain_all rest c.in_default.ensures)
+    (i.comes bytes h).holds in
     record {
       holds =
-          subst (λ (t : List ℕ). HasTaken t c.keep.new.self) (whole bytes i.done rest c.args.piece.now i.parts)
+          subst (λ (t : List ℕ). HasTaken c.args.limits t c.keep.new.self)
+          (whole bytes i.done rest c.args.piece.now i.parts)
           k.holds;
-      growth = λ out going. grows_at_end bytes c.args.piece.now i.done rest i.parts (k.growth out);
+      growth = λ out going. grows_at_end c.args.limits bytes c.args.piece.now i.done rest i.parts (k.growth out);
     }
 
 pub loop-rest-preserved : goal.loop-rest-preserved
@@ -58,9 +60,11 @@ loop-rest-preserved c =
           let e = c.end_line.ensures (bytes ++ i.done) plain (i.comes bytes h).holds in
           record {
             holds =
-                subst (λ (t : List ℕ). HasTaken t c.end_line.new.self) (append_assoc bytes i.done (line ++ 10 ∷ []))
+                subst (λ (t : List ℕ). HasTaken c.args.limits t c.end_line.new.self)
+                (append_assoc bytes i.done (line ++ 10 ∷ []))
                 e.holds;
-            growth = λ out going. grows_by bytes piece i.done line more all (i.whole bytes) (e.growth out);
+            growth = λ out going. grows_by c.args.limits bytes piece i.done line more all (i.whole bytes)
+                (e.growth out);
           };
     }
 
@@ -71,8 +75,10 @@ returns c = λ bytes h.
     let rest = c.loop-rest.rest.now in
     let over = sym c.is_over.ensures ∙ c.loop-rest-test.false in
     let t = i.comes bytes h in
-    let held = holds_over s.out s.fault (bytes ++ i.done) rest s.long s.tail.items s.builder over t.holds in
+    let held = holds_over c.args.limits s.out s.fault (bytes ++ i.done) rest s.long s.tail.items s.builder over
+    t.holds in
     record {
-      holds = subst (λ (t : List ℕ). HasTaken t s) (whole bytes i.done rest c.args.piece.now i.parts) held;
+      holds = subst (λ (t : List ℕ). HasTaken c.args.limits t s) (whole bytes i.done rest c.args.piece.now i.parts)
+          held;
       growth = t.growth;
     }

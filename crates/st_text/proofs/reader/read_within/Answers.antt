@@ -1,29 +1,31 @@
 -- Each call's bytes are added to those before; at the source's end the feed's answer is that of them all.
-use Rattle.std.proofs.Common.{◌≡◌, ◌<◌, ◌≤◌, ◌+◌, ◌∙◌, [], ◌++◌, List, ℕ, Some, take, drop, length, refl, sym}
+use Rattle.std.proofs.Common.{◌≡◌, ◌<◌, ◌≤◌, ◌+◌, ◌∙◌, [], ◌++◌, List, ℕ, Some, None, take, drop, length, refl, sym}
 use Rattle.std.proofs.Common.{subst, arith}
 use Rattle.std.proofs.lemmas.List.{length-append, length-take, length-drop, take-append-le}
 use Rattle.st_core.specs.Device.{NoCall, OneMore}
 use Rattle.st_text.specs.declared.fault.ReadFault.TheVariants as faults
+use Rattle.st_text.specs.declared.limits.Limits.{Limits}
+use Rattle.st_text.specs.Answer.{Answers, IsAnswer}
 use Rattle.st_text.specs.Growth.{Grows}
 use Rattle.st_text.specs.Fed.{IsFed, fed_refusal}
 use Rattle.st_text.proofs.Puts.{put_none}
 use Rattle.st_text.proofs.TextFaults.{reads_end}
 use Rattle.st_text.proofs.ReaderSteps.{growth_after, growth_at_end, never_fresh}
-use Rattle.st_text.proofs.reader.read.Goals as goal
-use Rattle.st_text.specs.Limits.{most_bytes}
+use Rattle.st_text.proofs.reader.read_within.Goals as goal
 
 pub loop-count-init : goal.loop-count-init
 loop-count-init g c =
     record {
       bytes = [];
       given = NoCall _;
-      fed = c.new-feed.ensures.fed;
+      fed = c.within-feed.ensures.fed;
       counted = refl;
+      limits_are = c.within-feed.ensures.limits;
       few = omega arith;
       size = refl;
       mark = refl;
       sound = λ some. absurd (omega arith);
-      memory = λ ran. absurd (never_fresh _ faults.Memory c.new-feed.ensures.fresh ran);
+      memory = λ ran. absurd (never_fresh _ faults.Memory c.within-feed.ensures.fresh ran);
     }
 
 pub loop-count-preserved : goal.loop-count-preserved
@@ -41,20 +43,26 @@ loop-count-preserved g c =
     let back = drop c.min-room.result c.loop-count.buffer in
     let same : take c.in-Ok.n (piece ++ back) ≡ given = take-append-le c.in-Ok.n piece back within in
     let feed = c.piece-answer.new.self in
-    let memory = subst (λ (x : List ℕ). fed_refusal feed ≡ Some faults.Memory → Grows i.bytes x) same in
+    let memory : (fed_refusal c.loop-count.feed ≡ None) → fed_refusal feed ≡ Some faults.Memory
+    → Grows c.args.limits i.bytes given =
+    λ fresh ran. subst (λ (l : Limits). Grows l i.bytes given) i.limits_are
+    (subst (λ (x : List ℕ). Grows c.loop-count.feed.limits i.bytes x) same
+    (c.piece-answer.ensures.memory i.bytes i.fed fresh ran)) in
     record {
       bytes = i.bytes ++ given;
       given = OneMore _ _ _ i.bytes given i.given c.in-Ok.ensures.given;
       fed = subst (λ (x : List ℕ). IsFed (i.bytes ++ x) feed) same (c.piece-answer.ensures.fed i.bytes i.fed);
       counted = sym len;
+      limits_are = c.piece-answer.ensures.limits ∙ i.limits_are;
       few = omega (arith, c.min-room.ensures, room, within, i.few);
       size = omega (arith, length-append piece back, left, c.take.auto.piece, asked, c.min-room.ensures, i.size);
       mark = c.in-Ok.ensures.mark.1 ∙ sym c.in-Ok.ensures.mark.0 ∙ i.mark;
       sound = λ _. sym i.mark ∙ c.in-Ok.ensures.mark.0;
       memory =
-          growth_after gives _ _ _ i.bytes given (fed_refusal c.loop-count.feed) (fed_refusal feed) i.given
+          growth_after c.args.limits gives _ _ _ i.bytes given (fed_refusal c.loop-count.feed) (fed_refusal feed)
+          i.given
           c.in-Ok.ensures.given i.memory
-          (λ fresh. memory (c.piece-answer.ensures.memory i.bytes i.fed fresh)) c.piece-answer.ensures.again;
+          memory c.piece-answer.ensures.again;
     }
 
 pub returns-in-Err : goal.returns-in-Err
@@ -78,19 +86,21 @@ returns-in-Ok-eq0 g c =
     let room : 0 < length piece = omega (arith, c.take.auto.piece, c.min-room.ensures, asked, i.size) in
     let zero = c.in-Ok-eq0.field-0-test in
     let none = subst (λ (k : ℕ). gives c.loop-count.source (take k piece) c.take.new.self) zero e.given in
-    let small : length i.bytes ≤ most_bytes = omega (arith, i.counted) in
+    let small : length i.bytes ≤ c.args.limits.bytes = omega (arith, i.counted) in
     record {
       bytes = i.bytes;
       given = put_none gives i.given none;
-      answer = reads_end g.S.ByteSource.ended failed i.bytes _ _ c.end.result small (record {
+      answer = reads_end c.args.limits g.S.ByteSource.ended failed i.bytes _ _ c.end.result small (record {
         end = e.end zero room;
         small = small;
         before = sym i.mark ∙ e.mark.0;
         after = e.mark.1;
-        answer = c.end.ensures.answers i.bytes i.fed;
+        answer =
+            subst (λ (l : Limits). Answers l i.bytes c.end.result) i.limits_are (c.end.ensures.answers i.bytes i.fed);
       });
-      memory = growth_at_end gives _ i.bytes (fed_refusal c.loop-count.feed) c.end.result small i.memory
-          (c.end.ensures.exact i.bytes i.fed) c.end.ensures.again;
+      memory = growth_at_end c.args.limits gives _ i.bytes (fed_refusal c.loop-count.feed) c.end.result small i.memory
+          (λ fresh. subst (λ (l : Limits). IsAnswer l i.bytes c.end.result) i.limits_are
+          (c.end.ensures.exact i.bytes i.fed fresh)) c.end.ensures.again;
     }
 
 pub returns : goal.returns
