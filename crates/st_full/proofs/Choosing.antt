@@ -40,11 +40,11 @@ use Rattle.st_full.proofs.Supplying.{given_if}
 -- LISTS OF MARKED EVENTS
 
 -- what stands at some place
-record IsSomewhere {X : Type 0} (xs : List X) (x : X) : Type 0 where
-  index : ℕ
-  at : slice_get xs index ≡ Some x
+pub record IsSomewhere {X : Type 0} (xs : List X) (x : X) : Type 0 where
+  pub index : ℕ
+  pub at : slice_get xs index ≡ Some x
 
-later : {X : Type 0} (y : X) (xs : List X) (x : X) → IsSomewhere xs x → IsSomewhere (y ∷ xs) x
+pub later : {X : Type 0} (y : X) (xs : List X) (x : X) → IsSomewhere xs x → IsSomewhere (y ∷ xs) x
 later y xs x s = record { index = suc s.index; at = s.at }
 
 filtered : {X : Type 0} (test : X → Bool) (xs : List X) (k : ℕ) (x : X) → slice_get xs k ≡ Some x → test x ≡ true
@@ -87,7 +87,7 @@ unfiltered {X} test (y ∷ xs) k x at =
     ] refl at
 
 -- a told one stands among the told events
-told_somewhere : (ms : List Marked) (k : ℕ) (m : Marked) → slice_get ms k ≡ Some m → m.told ≡ true
+pub told_somewhere : (ms : List Marked) (k : ℕ) (m : Marked) → slice_get ms k ≡ Some m → m.told ≡ true
     → IsSomewhere (told_events ms) m.event
 told_somewhere [] k m at told = absurd (none-some m at)
 told_somewhere (n ∷ ms) zero m at told =
@@ -103,12 +103,12 @@ told_somewhere (n ∷ ms) (suc k) m at told =
     ]
 
 -- an event of marked ones has a mark
-record IsMarkedAt (ms : List Marked) (k : ℕ) (e : Event) : Type 0 where
-  mark : Marked
-  at : slice_get ms k ≡ Some mark
-  is : mark.event ≡ e
+pub record IsMarkedAt (ms : List Marked) (k : ℕ) (e : Event) : Type 0 where
+  pub mark : Marked
+  pub at : slice_get ms k ≡ Some mark
+  pub is : mark.event ≡ e
 
-mark_at : (ms : List Marked) (k : ℕ) (e : Event) → slice_get (events ms) k ≡ Some e → IsMarkedAt ms k e
+pub mark_at : (ms : List Marked) (k : ℕ) (e : Event) → slice_get (events ms) k ≡ Some e → IsMarkedAt ms k e
 mark_at [] k e at = absurd (none-some e at)
 mark_at (m ∷ ms) zero e at = record { mark = m; at = refl; is = same_Some m.event e at }
 mark_at (m ∷ ms) (suc k) e at =
@@ -208,7 +208,7 @@ not_send e receive = elim e.kind as (λ k. (elim k [ kind.Send ↦ true | kind.R
       | kind.Print ↦ λ _. refl
     ] receive
 
-send_stamps : (e : Event) → is_send e ≡ true → is_stamp e ≡ true
+pub send_stamps : (e : Event) → is_send e ≡ true → is_stamp e ≡ true
 send_stamps e send = elim e.kind as (λ k.
     (elim k [ kind.Send ↦ true | kind.Receive ↦ false | kind.Print ↦ false ]) ≡ true
     → (elim k [ kind.Send ↦ true | kind.Receive ↦ false | kind.Print ↦ true ]) ≡ true) [
@@ -238,7 +238,7 @@ stamp_found streams q j f at stamps none =
     let test = and_from (is_stamp f) (f.serial.this == f.serial.this) stamps (eq-eqb f.serial.this f.serial.this refl) in
     none-some (0 + j, f) (sym given ∙ ap (λ b. cond b (Some (0 + j, f)) None) test)
 
-not_hidden : (streams : List Stream) (e : Event) → (stamp_of streams e.from e.serial.this ≡ None → ⊥)
+pub not_hidden : (streams : List Stream) (e : Event) → (stamp_of streams e.from e.serial.this ≡ None → ⊥)
     → is_hidden streams e ≡ false
 not_hidden streams e there =
     let from = λ (o : Option (ℕ × Event)). let s : Source =
@@ -251,7 +251,7 @@ not_hidden streams e there =
       | Some f ↦ λ _. elim (is_stamp e) as (λ b. cond b false false ≡ false) [ true ↦ refl | false ↦ refl ]
     ] refl
 
-hidden_stamp : (streams : List Stream) (e : Event) → is_stamp e ≡ true → is_hidden streams e ≡ false
+pub hidden_stamp : (streams : List Stream) (e : Event) → is_stamp e ≡ true → is_hidden streams e ≡ false
 hidden_stamp streams e stamps =
     let receive = λ (s : Source). let is : Bool = elim s [ source.Hidden ↦ true | source.Event q j ↦ false ] in is in
     ap (λ b. cond b false (receive (source_of streams e))) stamps

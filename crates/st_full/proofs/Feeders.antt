@@ -22,7 +22,7 @@ use Rattle.st_full.proofs.Fed.{told_push}
 abbrev pub feeds : ℕ → Marked → Bool
 feeds v m = not m.told && (not (is_stamp m.event) && m.event.serial.this == v)
 
--- whose messages these are, where the sender passes the test
+-- whose messages these are, if the sender passes the test
 abbrev pub feeders : (Pid → Bool) → ℕ → List Marked → List Pid
 feeders test v [] = []
 feeders test v (m ∷ ms) =

@@ -1,4 +1,4 @@
--- What a next event sees of those before it: their greatest count, and what the last of them leaves. Where these are the
+-- What a next event sees of those before it: their greatest count, and what the last of them leaves. If these are the
 -- same, the same is late and a need.
 use Rattle.std.proofs.Common.{◌≡◌, ◌==◌, ◌&&◌, max, nat_lt, Bool, true, false, not, List}
 use Rattle.std.proofs.Common.{[], ◌∷◌, ◌++◌, refl, sym, ◌∙◌, ap}

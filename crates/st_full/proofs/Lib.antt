@@ -1,5 +1,6 @@
 -- The lemmas; what upper crates may cite is in `ForCallers`.
 mod Cases
+mod HiddenCases
 pub mod Telling
 pub mod Turning
 pub mod Plainness
@@ -43,4 +44,19 @@ pub mod Decided
 pub mod Deciding
 pub mod Composing
 pub mod Choosing
+pub mod Untold
+pub mod Leasts
+pub mod Scarcely
+pub mod Zeros
+pub mod Reported
+pub mod Fewest
+pub mod Together
+pub mod Merging
+pub mod Assembling
+pub mod Mixing
+pub mod Timing
+pub mod Fronting
+pub mod Combining
+pub mod Stretching
+pub mod Best
 pub mod ForCallers

@@ -57,7 +57,7 @@ module _ (r e : Event) (receives : is_stamp r ≡ false) (feeds : r.serial.this 
       more _ _ _ _ later
 
 -- where what is before has the same greatest count, the same events are late
-timely_alike : (xs ys es : List Event) → greatest_count xs ≡ greatest_count ys → AreTimely xs es → AreTimely ys es
+pub timely_alike : (xs ys es : List Event) → greatest_count xs ≡ greatest_count ys → AreTimely xs es → AreTimely ys es
 timely_alike xs ys [] same timely = tt
 timely_alike xs ys (e ∷ es) same timely = (
   alike_late ys xs e (sym same) ∙ timely.0,

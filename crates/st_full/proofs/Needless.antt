@@ -1,4 +1,4 @@
--- Streams without a need are settled: where each stamp is above the events of its process before it, the order keeps
+-- Streams without a need are settled: if each stamp is above the events of its process before it, the order keeps
 -- these in turn, so that the counts at each move are those of the events before it.
 use Rattle.std.proofs.Common.{◌≡◌, ◌↔◌, ℕ, ◌<◌, ◌⊎◌, ◌==◌, inl, inr, ◌&&◌, nat_lt, Bool, true, false, not, cond, List}
 use Rattle.std.proofs.Common.{[], ◌∷◌, ◌++◌, take, drop, map, reverse, filter, refl, sym, ◌∙◌, ap}

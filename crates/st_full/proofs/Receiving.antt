@@ -58,7 +58,7 @@ supply_of streams v p q own =
           }
     ] refl parts.1
 
-sent_from : (k : Kind) (from : Pid) (to : Option Pid) (p : Pid)
+pub sent_from : (k : Kind) (from : Pid) (to : Option Pid) (p : Pid)
     → (let b : Bool = elim k [ kind.Send ↦ true | kind.Receive ↦ false | kind.Print ↦ false ] in b) ≡ true
     → is_of k from to p ≡ true → from ≡ p
 sent_from kind.Send from to p sends own = pid_same from p (and_parts (pid_eq from p) (is_some to) own).0

@@ -1,4 +1,4 @@
--- Streams with one more event are streams still, where it is one that its process may report among all of them.
+-- Streams with one more event are streams still, if it is one that its process may report among all of them.
 use Rattle.std.proofs.Common.{◌≡◌, ℕ, zero, suc, true, false, cond, List, [], ◌∷◌, ◌++◌, take, drop, Some, slice_get}
 use Rattle.std.proofs.Common.{refl, sym, ◌∙◌, ap, subst}
 use Rattle.std.specs.List.{AllByRecursion}

@@ -110,7 +110,7 @@ module _ (test : List Event → Event → Bool) where
 
 -- COUNTS
 
-no_sum : (f : Pid → ℕ) → ((p : Pid) → f p ≡ 0) → (ps : List Pid) → sum_by f ps ≡ 0
+pub no_sum : (f : Pid → ℕ) → ((p : Pid) → f p ≡ 0) → (ps : List Pid) → sum_by f ps ≡ 0
 no_sum f none [] = refl
 no_sum f none (p ∷ ps) =
     let sum = sum_by-cons f p ps in

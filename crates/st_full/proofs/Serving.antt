@@ -1,4 +1,4 @@
--- The sends of the completion: where each supply is told of or its sender is free for it, and no two are of one sender
+-- The sends of the completion: if each supply is told of or its sender is free for it, and no two are of one sender
 -- and count, the streams with the sends that they lack are good, need what they needed, and have the send of each supply.
 use Rattle.std.proofs.Common.{◌≡◌, ◌⊎◌, inl, inr, ℕ, ◌==◌, ◌&&◌, Bool, true, false, List, []}
 use Rattle.std.proofs.Common.{◌∷◌, map, take, Option, Some, None, is_none, slice_get, refl, sym, ◌∙◌, ap, subst}

@@ -50,7 +50,7 @@ module _ (streams : List Stream) (ok : IsPaired streams) where
       ∙ event_none (mismatch streams) streams ok.matched p i e at_e) in
       ap (λ b. b || agrees f e) (sym receives) ∙ passes
 
-  fit_together : FitTogether streams
+  pub fit_together : FitTogether streams
   fit_together = record {
     rises = serial_rises streams ok;
     grows = stamp_counts_rise streams ok;
@@ -59,7 +59,7 @@ module _ (streams : List Stream) (ok : IsPaired streams) where
   }
 
 -- a receive whose send isn't hidden has it
-sent_if : (streams : List Stream) (e : Event) → is_hidden streams e ≡ false → is_stamp e ≡ false
+pub sent_if : (streams : List Stream) (e : Event) → is_hidden streams e ≡ false → is_stamp e ≡ false
     → HasStamp streams e.from e.serial.this
 sent_if streams e seen receives =
     let source_in = λ (o : Option (ℕ × Event)). let s : Source =
@@ -75,7 +75,7 @@ sent_if streams e seen receives =
 
 -- ALONG A PROCESS
 
-timely_from : (before es : List Event) → ((i : ℕ) (e : Event) → slice_get es i ≡ Some e
+pub timely_from : (before es : List Event) → ((i : ℕ) (e : Event) → slice_get es i ≡ Some e
     → is_late (before ++ take i es) e ≡ false) → AreTimely before es
 timely_from before [] each = tt
 timely_from before (d ∷ es) each = (
@@ -121,7 +121,7 @@ need_of v before (e ∷ es) some =
 
 module _ (top : ℕ) (streams : List Stream) (sound : IsStreams streams) (sends : HasEachSend streams)
     (none : HasNoReason top streams) where
-  founded_at : (p : Pid) → needs streams 0 p ≡ 0
+  pub founded_at : (p : Pid) → needs streams 0 p ≡ 0
   founded_at p = elim (cases_lt 0 (needs streams 0 p)) [
     | inr not_less ↦ omega arith
     | inl less ↦

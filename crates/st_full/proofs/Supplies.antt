@@ -39,7 +39,7 @@ greatest_take (suc i) (e ∷ es) = let rest = greatest_take i es in omega arith
 abbrev pub highest : List Stream → ℕ
 highest streams = greatest (map (λ x. greatest_count x.events) streams)
 
-greatest_among : (streams : List Stream) (p : Pid) → greatest_count (events_of streams p) ≤ highest streams
+pub greatest_among : (streams : List Stream) (p : Pid) → greatest_count (events_of streams p) ≤ highest streams
 greatest_among [] p = omega arith
 greatest_among (x ∷ streams) p =
     let rest = greatest_among streams p in

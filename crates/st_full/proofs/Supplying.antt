@@ -107,7 +107,7 @@ given_unless true b y x h = absurd (none-some x h)
 given_unless false true y x h = (refl, refl, same_Some y x h)
 given_unless false false y x h = absurd (none-some x h)
 
-received_to : (k : Kind) (from : Pid) (to : Option Pid) (p : Pid)
+pub received_to : (k : Kind) (from : Pid) (to : Option Pid) (p : Pid)
     → (let b : Bool = elim k [ kind.Send ↦ true | kind.Receive ↦ false | kind.Print ↦ true ] in b) ≡ false
     → is_of k from to p ≡ true → to ≡ Some p
 received_to kind.Send from to p receives own = absurd (false≢true (sym receives))

@@ -1,4 +1,4 @@
--- The receives of the completion: where the send of each supply is told of, no two are of one sender and count, and there
+-- The receives of the completion: if the send of each supply is told of, no two are of one sender and count, and there
 -- are as many supplies of each count to each process as it has needs, the streams with all receives are good and have no
 -- need.
 use Rattle.std.proofs.Common.{◌≡◌, ℕ, suc, ◌+◌, ◌<◌, ◌==◌, ◌&&◌, Bool, true, false, cond, List, []}

@@ -1,4 +1,4 @@
--- The completion of streams against which no reason stands: who sends what feeds each need, and where these sends and
+-- The completion of streams of which no reason holds: who sends what feeds each need, and where these sends and
 -- their receives stand.
 use Rattle.std.specs.Prelude.{ℕ, zero, suc, ◌+◌, ◌-◌, ◌==◌, ◌&&◌, Bool, true, false, not, nat_lt, List, [], ◌∷◌}
 use Rattle.std.specs.Prelude.{◌++◌, map, filter, length, take, drop, slice_get, Option, Some, None, if◌then◌else◌}

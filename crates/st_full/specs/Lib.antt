@@ -8,4 +8,9 @@ pub mod Supply
 pub mod Renumbering
 pub mod Reasons
 pub mod Choice
+pub mod HiddenSends
+pub mod FinalReasons
+pub mod Scarce
+pub mod Placed
+pub mod Stretches
 pub mod Completion

@@ -1,4 +1,4 @@
--- What stands against every completion of streams: of a process's events alone.
+-- What rules out every completion of streams: of a process's events alone.
 use Rattle.std.specs.Prelude.{◌≡◌, ℕ, ◌<◌, ◌==◌, ◌&&◌, Bool, true, false, not, nat_lt, List, [], take}
 use Rattle.std.specs.Prelude.{find, slice_get, Some, None}
 use Rattle.st_core.specs.declared.types.Pid.{Pid}

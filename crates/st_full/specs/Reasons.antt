@@ -1,4 +1,4 @@
--- The reasons that decide, where each reported receive has its send among the reported events.
+-- The reasons that decide, if each reported receive has its send among the reported events.
 use Rattle.std.specs.Prelude.{◌≡◌, ℕ, ◌≤◌, Bool, true, false, nat_lt, List, Some, None, take}
 use Rattle.st_core.specs.declared.types.Pid.{Pid}
 use Rattle.st_core.specs.declared.types.Event.{Event}
@@ -42,14 +42,14 @@ pub data Reason : Type 0 where
   Unsent : ℕ → Reason
   TooHigh : Pid → ℕ → Reason
 
--- the reason stands against these streams
+-- the reason holds of these streams
 abbrev pub StandsAgainst : ℕ → List Stream → Reason → Type 0
 StandsAgainst top streams (Late p i) = HoldsAt is_late streams p i
 StandsAgainst top streams (Unfounded p i) = HoldsAt is_rootless streams p i
 StandsAgainst top streams (Unsent v) = ¬ IsSupplied streams v
 StandsAgainst top streams (TooHigh p i) = HoldsAt (is_too_high top) streams p i
 
--- some reason stands against them
+-- some reason holds of them
 pub record HasReason (top : ℕ) (streams : List Stream) : Type 0 where
   pub reason : Reason
   pub stands : StandsAgainst top streams reason

@@ -38,7 +38,7 @@ abbrev pub marked_if : Bool → Option Event → List Marked
 marked_if told None = []
 marked_if told (Some e) = record { event = e; told = told } ∷ []
 
--- the events of p's acts in a run from s, in order, each told where it was reported
+-- the events of p's acts in a run from s, in order, each told if it was reported
 abbrev pub whole_from : ℕ → State → List Act → List Outcome → Pid → List Marked
 whole_from top s [] os p = []
 whole_from top s (a ∷ rest) [] p = []

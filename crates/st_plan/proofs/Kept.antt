@@ -189,7 +189,7 @@ taken_queue streams marks m earlier x b takes who =
 
 -- A STEP
 
--- a step keeps the invariant, where its actor's record and each other one are afterwards what the moves say
+-- a step keeps the invariant, if its actor's record and each other one are afterwards what the moves say
 pub step_keeps : (streams : List Stream) (marks : Marks) (earlier : List Move) (m : Move) (s : State) (a : Act)
     (done : Acted) (r : Process) → ((x : Pid) → lists streams x ≡ true → is_some (process s x) ≡ true)
     → process s m.who ≡ Some r → actor a ≡ m.who → IsSo streams marks (m ∷ earlier) m.who (changed a done r)
@@ -239,7 +239,7 @@ stream_last (b ∷ acts) a os o p top s runs silent =
       | false ↦ stream_last acts a t.others o p top t.first.after t.is_rest quiet.1
     ]
 
--- what p sees of the last act of an item, where its report is the move's event
+-- what p sees of the last act of an item, if its report is the move's event
 abbrev pub shown_to : Pid → Move → Option Event → List Event
 shown_to p m report = (if pid_eq m.who p then option_to_list report else []) ++ []
 

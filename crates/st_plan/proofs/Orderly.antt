@@ -158,7 +158,7 @@ self_source streams p i e source at receive same =
     let stamps : not (is_stamp d) ≡ false = ap (λ x. is_taking (move_by x d)) same ∙ source.sent.stamps in
     false≢true (sym stamps ∙ ap (λ (c : Event). not (is_stamp c)) event ∙ ap not receive)
 
--- where the item is a receive, its source came
+-- if the item is a receive, its source came
 source_came : (streams : List Stream) (earlier : List Move) (p : Pid) (i : ℕ) (e : Event) (xs : List Item)
     → event_at streams p i ≡ Some e → is_stamp e ≡ false → KeysRise streams (item.Reported p i ∷ xs)
     → Covers streams earlier (item.Reported p i ∷ xs) → (source : HasSource streams p i e)

@@ -1,4 +1,4 @@
--- Where all events are told, the told ones are all: so the acts that are built of plain streams show these.
+-- If all events are told, the told ones are all: so the acts that are built of plain streams show these.
 use Rattle.std.proofs.Common.{◌≡◌, ℕ, ◌+◌, true, List, [], ◌∷◌, Some, refl, ◌∙◌, ap, subst}
 use Rattle.st_core.specs.declared.types.Event.{Event}
 use Rattle.st_core.specs.declared.types.Act.{Act}

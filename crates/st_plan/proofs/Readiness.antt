@@ -244,7 +244,7 @@ raised top p l x n count f same now least within =
           }
     ] refl
 
--- the clock brought up to a count, where the token may be any
+-- the clock brought up to a count, if the token may be any
 record Brings (top : ℕ) (p : Pid) (l : LocalState) (acts : List Act) (clock : ℕ) : Type 0 where
   pub end : LocalState
   pub runs : QuietRun top p l acts end

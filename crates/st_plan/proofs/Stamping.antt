@@ -113,7 +113,7 @@ stands_ready top streams marks earlier s m can =
 abbrev final : Pid → LocalState → Token → LocalState
 final p l t = record l { token = Some (stamped_token p l t); clock = l.clock + 1 }
 
--- what a stamp of this kind does where this record is made of its process's
+-- what a stamp of this kind does if this record is made of its process's
 abbrev stamps_as : Kind → Option Pid → ℕ → Process → LocalState → Acted
 stamps_as k to v r l = record (answers r l reply.Done) { report = report r.local.traced k l.token to v }
 

@@ -134,7 +134,7 @@ no_more streams p ms all whole less =
     let low = index_low streams p (told p ms) [] ms all place.0 place.1 place.2 place.3 in
     omega arith
 
--- where each event of p is among the moves, they tell all the told ones
+-- if each event of p is among the moves, they tell all the told ones
 pub tells_all : (streams : List Stream) (marks : Marks) (p : Pid) (ms : List Move) → AllAlong (IsNext streams) [] ms
     → AreMoved streams p ms → told_all marks p ms ≡ told_from (marks p) 0 (events_of streams p)
 tells_all streams marks p ms all whole =

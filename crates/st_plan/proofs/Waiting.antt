@@ -1,4 +1,4 @@
--- Where the send of a receive came before it and nothing took its message, the message waits in the queue; and what the
+-- If the send of a receive came before it and nothing took its message, the message waits in the queue; and what the
 -- receive takes, which is the first of its from and count, is of a send that came.
 use Rattle.std.proofs.Common.{◌≡◌, ℕ, zero, suc, ◌+◌, ◌≤◌, ◌==◌, ◌&&◌, ◌⊎◌, Bool, true, false, not, cond, List, [], ◌∷◌}
 use Rattle.std.proofs.Common.{◌++◌, length, get_or, Option, Some, None, inl, inr, refl, sym, ◌∙◌, ap, subst, arith}
@@ -52,7 +52,7 @@ at_end test (y ∷ xs) x h =
     let rest = at_end test xs x h in
     record { place = suc rest.place; message = rest.message; at = rest.at; passes = rest.passes }
 
--- it stays where another is removed
+-- it stays if another is removed
 kept_in : (test : Message → Bool) (xs : List Message) (k j : ℕ) (x y : Message) → slice_get xs k ≡ Some x
     → test x ≡ true → slice_get xs j ≡ Some y → test y ≡ false → IsIn test (remove xs j)
 kept_in test [] k j x y at pass there fail = absurd (none-some x at)
@@ -275,7 +275,7 @@ abbrev pub Fits : List Stream → Marks → Pid → Event → Bool → Move → 
 Fits streams marks p e seen y =
     ((flags_of streams marks y).receive ≡ seen) × (got_of p y.event.value (token_of streams marks y) ≡ e)
 
--- so a receive finds its message, where each send that came with its from and count fits it
+-- so a receive finds its message, if each send that came with its from and count fits it
 pub is_waiting : (streams : List Stream) (marks : Marks) (earlier : List Move) (m : Move) (n : ℕ) (z : Move)
     → Untaken m.who m.event.from m.event.serial.this earlier → slice_get earlier n ≡ Some z
     → IsSendTo m.who m.event.from m.event.serial.this z

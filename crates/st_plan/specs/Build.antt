@@ -1,4 +1,4 @@
--- For the parts alone: the acts that are built for an item, from what the process whose it is has before.
+-- The acts that are built for an item, from what the process whose it is has before.
 use Rattle.std.specs.Prelude.{◌≡◌, ℕ, ◌-◌, ◌==◌, ◌&&◌, zero, suc, max, nat_lt, Bool, true, false, not, List, []}
 use Rattle.std.specs.Prelude.{◌∷◌, ◌++◌, Option, Some, None, if◌then◌else◌, option_map, option_and_then}
 use Rattle.std.specs.Prelude.{position}
@@ -55,7 +55,7 @@ abbrev pub silent : Pid → ℕ → List Act
 silent p zero = []
 silent p (suc n) = act.Print p 0 ∷ silent p n
 
--- where the prev isn't the last count: the clock is brought up to it, and a new trace begun there
+-- if the prev isn't the last count: the clock is brought up to it, and a new trace begun there
 abbrev pub renew : Pid → Start → Label → ℕ → List Act
 renew p x n prev =
     (if nat_lt x.clock prev then dress p x.token n quiet ++ silent p (prev - x.clock) else [])
@@ -79,7 +79,7 @@ ready p x n s f = if s.prev == x.last
     else renew p x n s.prev ++ raise p (renewed p x n s.prev) n (s.this - 1) f
 
 -- the flags under which an item stamps: an event is told under its own flag, and a send's message is received under a
--- flag exactly where a receive that is told is paired with it
+-- flag exactly if a receive that is told is paired with it
 abbrev pub flags_of : List Stream → Marks → Move → Flags
 flags_of streams marks m = elim m.item [
   | item.Hidden p i ↦ record { send = false; receive = marks p i; print = false }
@@ -140,7 +140,7 @@ tracers_after seen [] = []
 tracers_after seen (p ∷ ps) = if option_map_or (λ n. n == p.node) seen false then tracers_after seen ps
     else act.Tracer p true ∷ tracers_after (Some p.node) ps
 
--- the first acts: none where nothing happened
+-- the first acts: none if nothing happened
 abbrev pub opening : List Stream → List Move → List Act
 opening streams [] = []
 opening streams (m ∷ ms) = tracers_after None (pids_of streams)

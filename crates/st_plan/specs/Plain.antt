@@ -1,4 +1,4 @@
--- The streams that the auditor explains: pairing accepts them, and nothing stands against any item of their order.
+-- The streams that the auditor explains: pairing accepts them, and no item of their order is refused.
 use Rattle.std.specs.Prelude.{◌≡◌, ℕ, ◌+◌, ◌≤◌, ◌==◌, Bool, false, not, List, [], ◌∷◌, ◌++◌, None, Some, if◌then◌else◌}
 use Rattle.st_core.specs.declared.types.Pid.{Pid}
 use Rattle.st_core.specs.declared.types.Event.{Event}
@@ -11,7 +11,7 @@ use Rattle.st_plan.specs.Marks.{Marks}
 use Rattle.st_plan.specs.Moves.{Move}
 use Rattle.st_plan.specs.Reasons.{too_wide, uncaused, HoldsAt}
 
--- what p tells of a move: the event of its own item, where that is told
+-- what p tells of a move: the event of its own item, if that is told
 abbrev pub told_by : Marks → Pid → Move → List Event
 told_by marks p m = elim m.item [
   | item.Reported q i ↦ if pid_eq q p then (if marks q i then m.event ∷ [] else []) else []

@@ -21,8 +21,8 @@ pub fn settled_streams_are_shown()
         × Shows top (told_only marks streams) acts × NoReset acts }
 {}
 
-/// So where the streams of a trace are all that is told of such whole streams, acts without a reset
-/// show them.
+/// So if the streams of a trace are all that is told of such whole streams, acts without a reset show
+/// them.
 pub fn completions_are_shown()
     ensures { (top : ℕ) (wholes : List Whole) → IsStreams (all_streams wholes) → IsSettled top (all_streams wholes) →
         (acts : List Act) × (construction top (all_streams wholes) (marks_of wholes)
@@ -30,7 +30,7 @@ pub fn completions_are_shown()
         × Shows top (told_streams wholes) acts × NoReset acts }
 {}
 
-/// Where all is told and nothing is too wide, they show the streams.
+/// If all is told and nothing is too wide, they show the streams.
 pub fn plain_streams_are_shown()
     ensures { (top : ℕ) (streams : List Stream) → IsStreams streams → IsPlain top streams →
         (acts : List Act) × (construction top streams all_told (moves streams (order streams)) ≡ Some acts)

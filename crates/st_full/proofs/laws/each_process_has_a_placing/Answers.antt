@@ -1,0 +1,6 @@
+-- The lemma says it.
+use Rattle.st_full.proofs.Merging.{some_placing}
+use Rattle.st_full.proofs.laws.each_process_has_a_placing.Goals as goal
+
+pub returns : goal.returns
+returns c = some_placing
