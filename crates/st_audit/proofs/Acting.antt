@@ -1,4 +1,4 @@
--- What the acts of a move are, by the kind of its event, and that the last of them reports it where it is told.
+-- What the acts of a move are, by the kind of its event, and that the last of them reports it if it is told.
 use Rattle.std.proofs.Common.{◌≡◌, ℕ, ◌<◌, Bool, true, false, cond, List, [], ◌∷◌, ◌++◌, Option, Some, None, option_map}
 use Rattle.std.proofs.Common.{option_to_list, position, refl, sym, ◌∙◌, ap, subst, IfOk, Result, Ok, Err}
 use Rattle.std.proofs.lemmas.Option.{same_Some, none-some}
@@ -100,7 +100,7 @@ only None false e h = refl
 only (Some x) true e h = ap (λ (x : Event). Some x) (cc)
 only (Some x) false e h = absurd (cc)
 
--- where the acts before it report nothing, the last one reports the event if it is told
+-- if the acts before it report nothing, the last one reports the event if it is told
 pub last_reports : (top : ℕ) (streams : List Stream) (marks : Marks) (s : State) (p : Pid) (i : ℕ) (e : Event)
     (g : GoesOn top streams marks s (move_by (item.Reported p i) e)) (acts : List Act) (a : Act) (told : Told) (new : State)
     (ran : RanTo top s acts a told new) → acts ++ a ∷ [] ≡ g.acts → actor a ≡ p → stream acts ran.outcomes p ≡ []
@@ -118,7 +118,7 @@ last_reports top streams marks s p i e g acts a told new ran are who silent =
     ∙ ap (λ b. cond b (cond (marks p i) (e ∷ []) []) []) (pid_eq-refl p) in
     only told.report (marks p i) e (sym whole ∙ tells)
 
--- so where p was brought to stand ready, its stamp does
+-- so if p was brought to stand ready, its stamp does
 pub stamp_reports : (top : ℕ) (streams : List Stream) (marks : Marks) (s : State) (p : Pid) (i : ℕ) (e : Event)
     (g : GoesOn top streams marks s (move_by (item.Reported p i) e)) (f : Flags) (a : Act) (told : Told) (new : State)
     (skipped now : ℕ) → e.serial.prev < e.serial.this → StampsEvent top s skipped p e f told new now

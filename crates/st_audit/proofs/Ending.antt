@@ -1,4 +1,4 @@
--- Where the construction halts at an item, its place has an event, and a reason that holds of its move holds there.
+-- If the construction halts at an item, its place has an event, and a reason that holds of its move holds there.
 use Rattle.std.proofs.Common.{◌≡◌, ℕ, zero, suc, ◌-◌, ◌<◌, ◌==◌, Bool, false, List, [], ◌∷◌, ◌++◌, reverse, take}
 use Rattle.std.proofs.Common.{drop}
 use Rattle.std.proofs.Common.{Option, Some, IsSome, IfErr, Result, Ok, Err, slice_get, length, get_or, refl}

@@ -20,7 +20,7 @@ pub full_is_plain : (top : ℕ) (streams : List Stream) → IsRising (pids_of st
 full_is_plain top streams rising full =
     full_plain top streams full.acts full.shows rising full.one_trace full.whole
 
--- so where plain streams fit, they do
+-- so if plain streams fit, they do
 pub full_fits : (top : ℕ) (streams : List Stream) → IsRising (pids_of streams) → (r : Result Finding AuditFault)
     → (IsPlain top streams → IfOk r IsCertificate) → IfOk r (λ found. IsFullyShown top streams → IsCertificate found)
 full_fits top streams rising (Ok found) fits = λ full. fits (full_is_plain top streams rising full)

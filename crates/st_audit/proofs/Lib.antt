@@ -1,10 +1,16 @@
--- The lemmas.
+-- The lemmas, and worked cases.
+mod Cases
 mod Counts
 mod Widening
 mod Moved
 mod Next
 mod Telling
 mod Running
+mod Trying
+mod Course
+mod Determined
+mod Once
+mod Turning
 mod Silence
 mod Acting
 mod Opened

@@ -1,5 +1,5 @@
 -- An item's acts lead from the counts of the moves before it to those with its own: its process's become the move's,
--- and its skip is added. Where the construction halts instead for a reason of its own, the counts show it.
+-- and its skip is added. If the construction halts instead for a reason of its own, the counts show it.
 use Rattle.std.proofs.Common.{◌≡◌, ℕ, ◌+◌, ◌-◌, ◌==◌, ◌&&◌, ◌||◌, max, nat_lt, Bool, true, false, not, cond}
 use Rattle.std.proofs.Common.{List, ◌∷◌, take, Some, None, slice_get, refl, sym, ◌∙◌, ap, subst, arith}
 use Rattle.st_core.specs.declared.types.Pid.{Pid}
@@ -63,7 +63,7 @@ counted_next earlier m old new counted moved x r h =
           (was.same.clocked ∙ so.clocked, was.same.lasted ∙ so.lasted)
     ] refl)
 
--- the counts of the moves before the item, where the process is there
+-- the counts of the moves before the item, if the process is there
 start_skips : (earlier : List Move) (m : Move) (l : LocalState) → is_taking m ≡ false → IsCounted earlier m.who l
     → missing (start_of l) m.event.serial ≡ skip earlier m
 start_skips earlier m l stamps counted =

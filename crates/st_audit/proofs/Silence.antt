@@ -19,7 +19,7 @@ use Rattle.st_audit.specs.Progress.{is_uncaused}
 use Rattle.st_audit.proofs.Moved.{caused_by}
 use Rattle.st_audit.proofs.Widening.{run_wider}
 
--- where the count is not above the clock, and prev is the last count, the acts are those for the next count
+-- if the count is not above the clock, and prev is the last count, the acts are those for the next count
 ready_low : (p : Pid) (x : Start) (n : Label) (s : Serial) (f : Flags) → s.prev ≡ x.last → s.this ≤ x.clock
     → ready p x n s f ≡ ready p x n (record { prev = s.prev; this = x.clock + 1 }) f
 ready_low p x n s f same low =

@@ -52,7 +52,7 @@ shown_is_yes top streams acts v shows is refused =
 pub no_stop : (h : Halt) → h ≡ halt.Stopped → IsNoStop h → ⊥
 no_stop h is stays = subst IsNoStop is stays
 
--- opening halts for want of memory
+-- opening halts because memory ran out
 pub only_memory : (h : Halt) → IsPlainHalt h → IsNoStop h → h ≡ halt.Memory
 only_memory halt.Memory plain stays = refl
 only_memory halt.Stopped plain stays = absurd stays
@@ -120,7 +120,7 @@ turn_by : (earlier : List Move) (x : Item) (e : Event)
 turn_by earlier (item.Reported p i) e turn = ap not (eq-eqb (told p earlier) i (turn p i refl))
 turn_by earlier (item.Hidden p i) e turn = refl
 
--- what stands for an item where there is none
+-- what stands for an item if there is none
 abbrev pub none : Item
 none = item.Reported (record { node = 0; number = 0 }) 0
 

@@ -22,7 +22,7 @@ abbrev pub IsNo : verdicts.Verdict → Type 0
 IsNo (verdicts.Yes ps) = ⊥
 IsNo v = Unit {0}
 
--- the reason holds at (p, i): 2 to 5 are pairing's, and the others come only where pairing accepts
+-- the reason holds at (p, i): 2 to 5 are pairing's, and the others come only if pairing accepts
 abbrev pub IsReason : ℕ → List Stream → Pid → ℕ → Reason → Type 0
 IsReason top streams p i reason.PrevNotBefore = refusal streams ≡ Some (fault.PrevNotBefore p i)
 IsReason top streams p i (reason.NotRising j) = refusal streams ≡ Some (fault.NotRising p i j)
@@ -46,7 +46,7 @@ unfit_by (fault.NotRising p i j) = Some (finding.Unfit p i (reason.NotRising j))
 unfit_by (fault.Repeated p i q j) = Some (finding.Unfit p i (reason.Repeated q j))
 unfit_by (fault.Mismatch p i q j) = Some (finding.Unfit p i (reason.Mismatch q j))
 
--- where pairing refuses the streams, its reason is what is found
+-- if pairing refuses the streams, its reason is what is found
 abbrev pub HandsOn : List Stream → Finding → Type 0
 HandsOn streams found = (f : PairFault) → refusal streams ≡ Some f → unfit_by f ≡ Some found
 

@@ -1,7 +1,8 @@
 -- For the parts alone: what the construction keeps along the items, and what it did for one of them.
 use Rattle.std.specs.Prelude.{◌≡◌, ℕ, ◌+◌, ◌-◌, ◌==◌, ◌&&◌, ◌||◌, nat_lt, Bool, true, false, not, List}
 use Rattle.std.specs.Prelude.{[], ◌∷◌, ◌++◌, ◌<◌, ◌^◌, ◌≢◌, slice_get, Option, Some, None, if◌then◌else◌, IfErr}
-use Rattle.std.specs.Prelude.{IfOk, IsSome, OnOk, Result}
+use Rattle.std.specs.Prelude.{IfOk, IsSome, OnOk, Result, Ok, Err, option_map}
+use Rattle.std.specs.Option.{option_map_or}
 use Rattle.st_core.specs.declared.types.Pid.{Pid}
 use Rattle.st_core.specs.declared.types.Event.{Event}
 use Rattle.st_core.specs.declared.types.Flags.{Flags}
@@ -25,6 +26,9 @@ use Rattle.st_plan.specs.Moves.{Move, move_by, clock, earlier_of, is_taking, las
 use Rattle.st_plan.specs.Reasons.{most_skipped, most_skipped_in_all, uncaused, too_wide}
 use Rattle.st_plan.specs.Build.{start_of, ready, state_after, GoesOn}
 use Rattle.st_plan.specs.Plain.{told, out_of_turn}
+use Rattle.st_audit.specs.declared.finding.Reason.TheVariants as reason
+use Rattle.st_audit.specs.Construction.{acts_from, attempt, compared, last_report, tried}
+use Rattle.st_audit.specs.Construction.{Turn, Through, Stopped, Refused}
 
 -- p's clock and last count are what the moves so far make of them
 pub record IsCounted (earlier : List Move) (p : Pid) (l : LocalState) : Type 0 where
@@ -48,7 +52,7 @@ missing x s = s.this - 1 - x.clock
 abbrev pub is_uncaused : Start → Serial → Bool
 is_uncaused x s = not (s.prev == x.last) && nat_lt s.prev x.clock
 
--- so many more, where so many were skipped before, are too many
+-- so many more, if so many were skipped before, are too many
 abbrev pub is_too_wide : ℕ → ℕ → Bool
 is_too_wide skipped more = nat_lt most_skipped more || nat_lt most_skipped_in_all (more + skipped)
 
@@ -103,11 +107,11 @@ IsActed false top old skipped p e told new skipped_now =
 abbrev pub IsClockBelow : State → Pid → Event → Type 0
 IsClockBelow old p e = (r : Process) → process old p ≡ Some r → r.local.clock < e.serial.this
 
--- the event, where it is told
+-- the event, if it is told
 abbrev pub if_told : Bool → Event → Option Event
 if_told b e = if b then Some e else None
 
--- the act of the event at (p, i) reported it where it is told, and elsewhere could stamp its serial
+-- the act of the event at (p, i) reported it if it is told, and else could stamp its serial
 pub record IsReportedDone (top : ℕ) (streams : List Stream) (marks : Marks) (old : State) (skipped : ℕ) (p : Pid) (i : ℕ)
     (new : State) (skipped_now : ℕ) : Type 0 where
   pub event : Event
@@ -123,7 +127,7 @@ pub record HaltsAt (old : State) (p : Pid) (test : Start → Bool) : Type 0 wher
   pub is_before : process old p ≡ Some before
   pub holds : test (start_of before.local) ≡ true
 
--- why no stamp of the event's serial by p was tried, where it is for one of the auditor's reasons
+-- why no stamp of the event's serial by p was tried, if it is for one of the auditor's reasons
 abbrev pub IsStampHalt : State → ℕ → Pid → Event → Halt → Type 0
 IsStampHalt old skipped p e halt.Uncaused = HaltsAt old p (λ x. is_uncaused x e.serial)
 IsStampHalt old skipped p e halt.TooWide = HaltsAt old p (λ x. is_too_wide skipped (missing x e.serial))
@@ -159,7 +163,7 @@ IsHalt streams xs x halt.Uncaused = HoldsOf uncaused streams xs x
 IsHalt streams xs x halt.TooWide = HoldsOf too_wide streams xs x
 IsHalt streams xs x h = Unit {0}
 
--- no halt for want of a way on
+-- no halt because there is no way on
 abbrev pub IsNoStop : Halt → Type 0
 IsNoStop halt.Stopped = ⊥
 IsNoStop h = Unit {0}
@@ -170,7 +174,7 @@ pub record RanTo (top : ℕ) (old : State) (acts : List Act) (last : Act) (told 
   pub runs : run_from top old acts ≡ Some outcomes
   pub steps : step top (state_after old outcomes) last ≡ Some (outcome_to told new)
 
--- these acts and a last one were performed, and nothing stops them where they run
+-- these acts and a last one were performed, and nothing stops them if they run
 pub record Makes (top : ℕ) (acts : List Act) (last : Act) (old : State) (before : List Act) (r : Result Told Halt)
     (new : State) (now : List Act) : Type 0 where
   pub ran : IfOk r (λ told. RanTo top old acts last told new)
@@ -211,3 +215,80 @@ pub record Serves (top : ℕ) (streams : List Stream) (marks : Marks) (earlier :
   pub below : is_taking (move_by x event) ≡ false
       → clock (move_by x event).who earlier < (move_by x event).event.serial.this
   pub goes : GoesOn top streams marks s (move_by x event)
+
+-- WHAT COMES OF AN ITEM, BY THE STATE
+
+-- one of the acts has no step, and these were tried
+abbrev pub IsStuck : ℕ → State → List Act → List Act → Halt → List Act → Type 0
+IsStuck top old plan before halt.Stopped now = (run_from top old plan ≡ None) × (now ≡ before ++ tried top old plan)
+IsStuck top old plan before h now = Unit {0}
+
+-- the acts went through, and the call says this of their outcomes
+pub record WentThrough {T : Type 0} (says : T → List Outcome → Type 0) (t : Turn) (old : State) (before : List Act)
+    (x : T) (new : State) (now : List Act) : Type 0 where
+  pub acts : List Act
+  pub outcomes : List Outcome
+  pub through : t ≡ Through acts outcomes
+  pub said : says x outcomes
+  pub after : new ≡ state_after old outcomes
+  pub put : now ≡ before ++ acts
+
+-- the acts that were tried stand at the end
+pub record WasStopped (t : Turn) (before now : List Act) : Type 0 where
+  pub acts : List Act
+  pub stopped : t ≡ Stopped acts
+  pub put : now ≡ before ++ acts
+
+-- an act is tried, on which memory may run out
+abbrev pub TriesAct : Turn → Type 0
+TriesAct (Through (a ∷ acts) os) = Unit {0}
+TriesAct (Stopped (a ∷ acts)) = Unit {0}
+TriesAct t = ⊥
+
+-- a call returns what comes of the turn, unless memory runs out on its acts
+abbrev pub Meets : {T : Type 0} → (T → List Outcome → Type 0) → Turn → State → List Act → Result T Halt → State
+    → List Act → Type 0
+Meets says t old before (Ok x) new now = WentThrough says t old before x new now
+Meets says t old before (Err halt.Memory) new now = TriesAct t
+Meets says t old before (Err halt.Uncaused) new now = t ≡ Refused reason.Uncaused
+Meets says t old before (Err halt.TooWide) new now = t ≡ Refused reason.TooWide
+Meets says t old before (Err halt.Stopped) new now = WasStopped t before now
+
+-- the last of the outcomes has this report
+abbrev pub TellsLast : Told → List Outcome → Type 0
+TellsLast told os = last_report None os ≡ told.report
+
+-- nothing is said of the outcomes
+abbrev pub SaysNothing : {T : Type 0} → T → List Outcome → Type 0
+SaysNothing x os = Unit {0}
+
+-- the test of p's start, if p is there
+abbrev pub test_at : (Start → Bool) → State → Pid → Bool
+test_at test s p = option_map_or (λ r. test (start_of r.local)) (process s p) false
+
+-- what comes of this stamp of the event's serial by p
+abbrev pub stamp_turn : ℕ → State → ℕ → Pid → Event → Flags → Act → Turn
+stamp_turn top s skipped p e f a = attempt top s (test_at (λ x. is_uncaused x e.serial) s p)
+    (test_at (λ x. is_too_wide skipped (missing x e.serial)) s p)
+    (option_map (λ r. ready p (start_of r.local) e.label e.serial f ++ a ∷ []) (process s p))
+
+-- what comes of p's taking the event's message
+abbrev pub take_turn : ℕ → State → Pid → Event → Turn
+take_turn top s p e = attempt top s false false
+    (option_map (λ k. act.Receive p (want.Place k) ∷ []) (place_in s p e.from e.serial.this))
+
+-- what comes of a move's acts
+abbrev pub move_turn : ℕ → List Stream → Marks → State → ℕ → Move → Turn
+move_turn top streams marks s skipped m = attempt top s
+    (not (is_taking m) && test_at (λ x. is_uncaused x m.event.serial) s m.who)
+    (not (is_taking m) && test_at (λ x. is_too_wide skipped (missing x m.event.serial)) s m.who)
+    (acts_from streams marks s m)
+
+-- so many events of p were told
+abbrev pub IsCountedAs : List Stream → List ℕ → Pid → ℕ → Type 0
+IsCountedAs streams counts p n = (k : ℕ) → slice_get (pids_of streams) k ≡ Some p → slice_get counts k ≡ Some n
+
+-- what comes of the event at (p, i) after so many events of p
+abbrev pub report_turn : ℕ → List Stream → Marks → State → ℕ → ℕ → Move → ℕ → Turn
+report_turn top streams marks s skipped told m i = if not (told == i) then Stopped []
+    else compared m (move_turn top streams marks s skipped m)

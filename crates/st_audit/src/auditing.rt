@@ -9,6 +9,7 @@ ghost use Rattle.st_pair.specs.Links.{IsPairing};
 ghost use Rattle.st_pair.specs.Pairing.{refusal, IsPairFault};
 ghost use Rattle.st_pair.specs.Places.{event_at};
 ghost use Rattle.st_pair.specs.Final.{IsPrevNotBefore, NeverShown, NeverShownInOneTrace};
+ghost use Rattle.st_audit.specs.Construction.{end_of, IsAudit, IsFoundAt, Judged};
 ghost use Rattle.st_audit.specs.Findings.{fault_of, unfit_by, HandsOn, IsFinding, IsCertificate};
 ghost use Rattle.st_plan.specs.Plain.{IsPlain};
 ghost use Rattle.st_full.specs.Full.{IsFullyShown};
@@ -45,7 +46,7 @@ fn unfit_by(fault: PairFault) -> Option<Finding>
     }
 }
 
-/// Where an item stands in the streams: a hidden send where its receive does.
+/// Where an item stands in the streams: a hidden send stands where its receive does.
 fn place_of(item: Item) -> (Pid, u64)
     ensures { result ≡ item_place item }
 {
@@ -64,6 +65,7 @@ fn judged<const TOP: u64>(
     requires there { IsSome (event_at streams.now place.0 place.1) }
     requires accepted { refusal streams.now ≡ None }
     ensures found { IfOk result (IsFinding TOP streams.now) }
+    ensures exact { IfOk result (IsFoundAt TOP streams.now (Judged acts (Some place))) }
     ensures shown { Shows TOP streams.now acts → IfOk result IsCertificate }
 {
     match check::<TOP>(alloc, streams, acts.as_slice()) {
@@ -77,6 +79,7 @@ fn judged<const TOP: u64>(
 fn found_of_nothing<const TOP: u64>(alloc: Global, streams: &Streams) -> Result<Finding, AuditFault>
     requires { IsOrder streams.now [] }
     ensures found { IfOk result (IsFinding TOP streams.now) }
+    ensures exact { IfOk result (IsFoundAt TOP streams.now (Judged [] None)) }
     ensures fits { IfOk result IsCertificate }
 {
     let acts = Sequence::new(alloc);
@@ -102,6 +105,8 @@ fn found<const TOP: u64>(
     requires accepted { refusal streams.now ≡ None }
     requires order { IsOrder streams.now items.now }
     ensures found { IfOk result (IsFinding TOP streams.now) }
+    ensures exact { IsPairing streams.now pairing.now → pids.now ≡ pids_of streams.now →
+        IfOk result (IsFoundAt TOP streams.now (end_of TOP streams.now items.now)) }
     ensures plain_fits { IsPairing streams.now pairing.now → pids.now ≡ pids_of streams.now →
         IsPlain TOP streams.now → IfOk result IsCertificate }
 {
@@ -139,6 +144,7 @@ fn audited<const TOP: u64>(
     streams: &Streams,
 ) -> Result<Finding, AuditFault>
     ensures found { IfOk result (IsFinding TOP streams.now) }
+    ensures exact { IfOk result (IsAudit TOP streams.now) }
     ensures handed_on { IfOk result (HandsOn streams.now) }
     ensures plain_fits { IfOk result (λ found. IsPlain TOP streams.now → IsCertificate found) }
     ensures full_fits { IfOk result (λ found. IsFullyShown TOP streams.now → IsCertificate found) }
@@ -163,7 +169,7 @@ fn audited<const TOP: u64>(
 /// are built in the order of the items, stepped in a world from zero clocks, and judged by the
 /// checker: a certificate is one that the checker accepted.
 ///
-/// It sorts on several threads, with one answer for every number of threads.
+/// It sorts on several threads, with one result for every number of threads.
 pub fn audit<const TOP: u64>(
     rt: &(impl Threads + Sync),
     alloc: Global,
@@ -172,12 +178,15 @@ pub fn audit<const TOP: u64>(
     ensures found { IfOk result (IsFinding TOP streams.now) }
     ensures handed_on { IfOk result (HandsOn streams.now) }
 
+    // Unless memory runs out, the finding is the one that the streams determine.
+    ensures exact { IfOk result (IsAudit TOP streams.now) }
+
     // Which reasons are final: of the first no acts show the streams, of all four of pairing none without a reset.
     ensures final_prev { IfOk result (λ found.
         ForSome (fault_of found) (λ fault. IsPrevNotBefore fault → NeverShown streams.now)) }
     ensures final_without_reset { IfOk result (λ found. IsSome (fault_of found) → NeverShownInOneTrace streams.now) }
 
-    // And where the answer is never a refusal: nothing stands against the streams, or some run reported all of itself.
+    // And when it always finds a certificate: nothing stands against the streams, or some run reported all of itself.
     ensures plain_fits { IfOk result (λ found. IsPlain TOP streams.now → IsCertificate found) }
     ensures full_fits { IfOk result (λ found. IsFullyShown TOP streams.now → IsCertificate found) }
 {

@@ -17,7 +17,7 @@ use st_plan::Tells;
 use std::alloc::{AllocError, Global};
 use std::thread::Threads;
 
-/// The acts of all items, in their order; none where one of them halts the construction.
+/// The acts of all items, in their order; none if one of them halts the construction.
 fn built<const TOP: u64, M: Tells>(
     alloc: Global,
     streams: &Streams,
@@ -53,10 +53,10 @@ fn built<const TOP: u64, M: Tells>(
     Ok(Some(construction.into_acts()))
 }
 
-/// Acts without a reset that show those events of the streams that are told, where the streams are
-/// plain; elsewhere there may be none, and it is the checker who says what the acts are worth.
+/// Acts without a reset that show those events of the streams that are told, if the streams are
+/// plain; else there may be none, and the checker says what the acts are worth.
 ///
-/// It sorts on several threads, with one answer for every number of threads.
+/// It sorts on several threads, with one result for every number of threads.
 pub fn told_acts<const TOP: u64, M: Tells>(
     rt: &(impl Threads + Sync),
     alloc: Global,

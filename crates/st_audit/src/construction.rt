@@ -2,8 +2,8 @@
 //! begins at zero clocks.
 //!
 //! After each item the clock and the last count of each process are what the items so far make of
-//! them. It stops where a reason of the auditor's own holds against an item, and where the world
-//! doesn't go the way of the streams; what the acts are then worth is the checker's to say.
+//! them. It stops if a reason of the auditor's own holds against an item, or if the world
+//! doesn't go the way of the streams; what the acts are then worth the checker says.
 
 ghost use Rattle.std.specs.Prelude.{◌≡◌, ◌+◌, ◌++◌, ◌<◌, ◌↔◌, [], ◌∷◌, length, option_map, Bool};
 ghost use Rattle.std.specs.Prelude.{IfErr, IfOk, IsSome, IsTrue, None, List, OnOk, Some, true, take, slice_get};
@@ -11,6 +11,7 @@ ghost use Rattle.std.specs.Prelude.{if◌then◌else◌, ℕ};
 ghost use Rattle.st_core.specs.Run.{pids_of, run_from, Stream};
 ghost use Rattle.st_core.specs.declared.types.Act.TheVariants as act;
 ghost use Rattle.st_core.specs.declared.types.Event.{Event as EventValue};
+ghost use Rattle.st_core.specs.declared.types.Pid.{Pid as PidValue};
 ghost use Rattle.st_core.specs.declared.types.Want.TheVariants as want;
 ghost use Rattle.st_core.specs.State.{process, zero_state, Process};
 ghost use Rattle.st_core.specs.Step.{step};
@@ -20,6 +21,7 @@ ghost use Rattle.st_pair.specs.Pairing.{refusal};
 ghost use Rattle.st_pair.specs.Places.{event_at, is_stamp};
 ghost use Rattle.st_order.specs.declared.item.Item.{Item as ItemValue};
 ghost use Rattle.st_order.specs.declared.item.Item.TheVariants as item;
+ghost use Rattle.st_order.specs.Items.{event_of};
 ghost use Rattle.st_order.specs.Order.{IsOrder};
 ghost use Rattle.st_world.specs.World.{outcome_to, place_in};
 ghost use Rattle.st_plan.specs.Build.{flags_of, ready, start_of, tracers_after, GoesOn};
@@ -28,6 +30,9 @@ ghost use Rattle.st_audit.specs.Progress.{if_told, is_too_wide, is_uncaused, mis
 ghost use Rattle.st_audit.specs.Progress.{IsActed, IsActHalt, IsHiddenDone, IsPlainHalt, IsReportedDone, IsSoFar};
 ghost use Rattle.st_audit.specs.Progress.{StampsEvent, IsStampHalt, IsStampHaltAt, IsStampOf, IsTaken, Ran};
 ghost use Rattle.st_audit.specs.Progress.{AreTold, PutsActs, HasTold, IsNoStop, Makes, Serves, TellsOne};
+ghost use Rattle.st_audit.specs.Progress.{move_turn, report_turn, stamp_turn, take_turn, IsCountedAs, IsStuck, Meets};
+ghost use Rattle.st_audit.specs.Progress.{SaysNothing, TellsLast};
+ghost use Rattle.st_audit.specs.Construction.{turn};
 
 use st_core::{Act, Event, Flags, Kind, Pid, Sequence, Serial, Streams, Want};
 use st_order::Item;
@@ -46,7 +51,7 @@ const MOST_SKIPPED_IN_ALL: u64 = 1_000_000;
 /// Why the construction goes no further.
 #[derive(Clone, Copy, Debug, PartialEq, Eq)]
 pub(crate) enum Halt {
-    /// A growth was refused.
+    /// Memory ran out.
     Memory,
     /// The item is uncaused.
     Uncaused,
@@ -81,7 +86,7 @@ fn missing(start: &Start, serial: Serial) -> u64
     serial.this.saturating_sub(1).saturating_sub(start.clock)
 }
 
-/// How many are missing in all with so many more; none where these are too many.
+/// How many are missing in all with so many more; none if these are too many.
 fn with_skipped(skipped: u64, more: u64) -> Option<u64>
     ensures { result ≡ (if is_too_wide skipped more then None else Some (more + skipped)) }
 {
@@ -95,8 +100,8 @@ fn with_skipped(skipped: u64, more: u64) -> Option<u64>
     Some(total)
 }
 
-/// The flags under which an event is stamped: its own where it is told, and a send's message is
-/// received under a flag exactly where a receive that is told is paired with it.
+/// The flags under which an event is stamped: its own if it is told, and a send's message is
+/// received under a flag exactly if a receive that is told is paired with it.
 fn flags_of<M: Tells>(marks: &M, pairing: &Pairing, pid: Pid, index: u64, event: &Event) -> Flags
     ensures { (streams : List Stream) → IsPairing streams pairing.now →
         result ≡ flags_of streams (M.marks marks.now) (move_by (item.Reported pid index) event.now) }
@@ -201,6 +206,7 @@ impl<const TOP: u64> Construction<TOP> {
         ensures step { IfOk result (λ told. step TOP self.old.world act ≡ Some (outcome_to told self.new.world)) }
         ensures acts { OnOk result (self.new.acts ≡ self.old.acts ++ act ∷ []) }
         ensures goes { IsSome (step TOP self.old.world act) → IfErr result IsNoStop }
+        ensures stuck { IfErr result (λ h. IsStuck TOP self.old.world (act ∷ []) self.old.acts h self.new.acts) }
         ensures skipped { self.new.skipped ≡ self.old.skipped }
         ensures told { self.new.told ≡ self.old.told }
         ensures halt { IfErr result IsPlainHalt }
@@ -220,6 +226,7 @@ impl<const TOP: u64> Construction<TOP> {
         ensures ran { OnOk result (Ran TOP self.old.world plan.now self.new.world) }
         ensures acts { OnOk result (self.new.acts ≡ self.old.acts ++ plan.now) }
         ensures goes { IsSome (run_from TOP self.old.world plan.now) → IfErr result IsNoStop }
+        ensures stuck { IfErr result (λ h. IsStuck TOP self.old.world plan.now self.old.acts h self.new.acts) }
         ensures skipped { self.new.skipped ≡ self.old.skipped }
         ensures told { self.new.told ≡ self.old.told }
         ensures halt { IfErr result IsPlainHalt }
@@ -230,7 +237,7 @@ impl<const TOP: u64> Construction<TOP> {
         Ok(())
     }
 
-    /// What the process has now; none where it isn't there.
+    /// What the process has now; none if it isn't there.
     fn start(&self, pid: Pid) -> Option<Start>
         ensures { result ≡ option_map (λ r. start_of r.local) (process self.now.world pid) }
     {
@@ -257,6 +264,8 @@ impl<const TOP: u64> Construction<TOP> {
             self.new.world self.new.skipped) }
         ensures makes { (before : Process) → process self.old.world pid ≡ Some before →
             Makes TOP (ready pid (start_of before.local) event.now.label event.now.serial flags) act
+            self.old.world self.old.acts result self.new.world self.new.acts }
+        ensures exact { Meets TellsLast (stamp_turn TOP self.old.world self.old.skipped pid event.now flags act)
             self.old.world self.old.acts result self.new.world self.new.acts }
         ensures told { self.new.told ≡ self.old.told }
         ensures halt { IfErr result (IsStampHalt self.old.world self.old.skipped pid event.now) }
@@ -285,6 +294,8 @@ impl<const TOP: u64> Construction<TOP> {
         ensures makes { (place : ℕ) → place_in self.old.world pid event.now.from event.now.serial.this ≡ Some place →
             Makes TOP [] (act.Receive pid (want.Place place)) self.old.world self.old.acts result
             self.new.world self.new.acts }
+        ensures exact { Meets TellsLast (take_turn TOP self.old.world pid event.now)
+            self.old.world self.old.acts result self.new.world self.new.acts }
         ensures skipped { self.new.skipped ≡ self.old.skipped }
         ensures told { self.new.told ≡ self.old.told }
         ensures halt { IfErr result IsPlainHalt }
@@ -309,6 +320,10 @@ impl<const TOP: u64> Construction<TOP> {
         ensures follows { (e : EventValue) → event_at streams.now pid index ≡ Some e →
             (g : GoesOn TOP streams.now (M.marks marks.now) self.old.world (move_by (item.Hidden pid index) e)) →
             PutsActs g.acts g.outcomes self.old.world self.old.acts result self.new.world self.new.acts }
+        ensures exact { (e : EventValue) → event_at streams.now pid index ≡ Some e →
+            Meets SaysNothing (move_turn TOP streams.now (M.marks marks.now) self.old.world self.old.skipped
+            (move_by (item.Hidden pid index) e))
+            self.old.world self.old.acts result self.new.world self.new.acts }
         ensures told { self.new.told ≡ self.old.told }
         ensures halt { IfErr result (IsStampHaltAt streams.now pid index (λ e. e.from) (λ e. true)
             self.old.world self.old.skipped) }
@@ -348,6 +363,10 @@ impl<const TOP: u64> Construction<TOP> {
             GoesOn TOP streams (M.marks marks.now) self.old.world (move_by (item.Reported pid index) event.now) →
             event.now.serial.prev < event.now.serial.this →
             IfOk result (λ told. told.report ≡ if_told (M.marks marks.now pid index) event.now) }
+        ensures exact { (streams : List Stream) → IsPairing streams pairing.now →
+            Meets TellsLast (move_turn TOP streams (M.marks marks.now) self.old.world self.old.skipped
+            (move_by (item.Reported pid index) event.now))
+            self.old.world self.old.acts result self.new.world self.new.acts }
         ensures told { self.new.told ≡ self.old.told }
         ensures halt { IfErr result (IsActHalt (is_stamp event.now) self.old.world self.old.skipped pid event.now) }
     {
@@ -372,8 +391,8 @@ impl<const TOP: u64> Construction<TOP> {
         }
     }
 
-    /// The event at this place, where it is the next of its process, by an act that reports it
-    /// exactly where it is told. Where it isn't, the clock says that its serial is the one stamped.
+    /// The event at this place, if it is the next of its process, by an act that reports it
+    /// exactly if it is told. If it isn't, the clock says that its serial is the one stamped.
     fn report<M: Tells>(
         &mut self,
         alloc: Global,
@@ -392,6 +411,12 @@ impl<const TOP: u64> Construction<TOP> {
             (is_stamp e ≡ true → IsClockBelow self.old.world pid e) →
             (g : GoesOn TOP streams.now (M.marks marks.now) self.old.world (move_by (item.Reported pid index) e)) →
             PutsActs g.acts g.outcomes self.old.world self.old.acts result self.new.world self.new.acts }
+        ensures exact { (e : EventValue) → event_at streams.now pid index ≡ Some e →
+            IsPairing streams.now pairing.now → M.marks marks.now pid index ≡ true → (n : ℕ) →
+            IsCountedAs streams.now self.old.told.items pid n →
+            Meets SaysNothing (report_turn TOP streams.now (M.marks marks.now) self.old.world self.old.skipped n
+            (move_by (item.Reported pid index) e) index)
+            self.old.world self.old.acts result self.new.world self.new.acts }
         ensures tells { OnOk result (TellsOne streams.now pid index self.old.told.items self.new.told.items) }
         ensures told { length self.new.told.items ≡ length self.old.told.items }
         ensures halt { IfErr result (IsStampHaltAt streams.now pid index (λ e. pid) is_stamp
@@ -443,6 +468,13 @@ impl<const TOP: u64> Construction<TOP> {
             self.old.world) →
             PutsActs m.goes.acts m.goes.outcomes self.old.world self.old.acts result
             self.new.world self.new.acts }
+        ensures exact { (x : ItemValue) (e : EventValue) → slice_get items.now number ≡ Some x →
+            event_of streams.now x ≡ Some e → IsPairing streams.now pairing.now →
+            ((p : PidValue) (i : ℕ) → M.marks marks.now p i ≡ true) →
+            AreTold streams.now (earlier_of streams.now (take number items.now)) self.old.told.items →
+            Meets SaysNothing (turn TOP streams.now (M.marks marks.now) self.old.world
+            (earlier_of streams.now (take number items.now)) (move_by x e))
+            self.old.world self.old.acts result self.new.world self.new.acts }
         ensures tells { AreTold streams.now (earlier_of streams.now (take number items.now)) self.old.told.items →
             OnOk result (AreTold streams.now (earlier_of streams.now (take (number + 1) items.now))
             self.new.told.items) }

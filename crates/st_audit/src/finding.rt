@@ -1,4 +1,4 @@
-//! What the auditor answers.
+//! What the auditor returns.
 
 use st_check::Verdict;
 use st_core::{Act, Pid, Sequence};
@@ -39,7 +39,7 @@ pub enum Finding {
 /// Why there is no finding.
 #[derive(Clone, Copy, Debug, PartialEq, Eq, Error)]
 pub enum AuditFault {
-    /// Refusal 1: no memory.
+    /// Memory ran out.
     #[error("no memory")]
     Memory,
 }

@@ -8,6 +8,7 @@ mod auditing;
 mod building;
 mod construction;
 mod finding;
+pub mod laws;
 
 pub use auditing::audit;
 pub use building::told_acts;

@@ -1,4 +1,4 @@
--- A process is a lane exactly where it is an end of an item that has the label: it doesn't matter whether the items are
+-- A process is a lane exactly if it is an end of an item that has the label: it doesn't matter whether the items are
 -- gone through, or those that have the label.
 use Rattle.std.proofs.Common.{◌≡◌, ℕ, ◌+◌, ◌<◌, Bool, true, false, ◌||◌, List, [], ◌∷◌, length, take, get_or}
 use Rattle.std.proofs.Common.{refl, sym, ap, ◌∙◌, filter, cond, Option, Some, None}

@@ -1,4 +1,4 @@
--- Where room is made first, what goes then is the text alone: making room writes what waited, and nothing of it.
+-- If room is made first, what goes then is the text alone: making room writes what waited, and nothing of it.
 use Rattle.std.proofs.Common.{◌≡◌, ℕ, Bool, List, [], ◌++◌, take, drop, ap, sym, subst, ◌∙◌}
 use Rattle.std.specs.Prelude.{Result, Err}
 use Rattle.std.specs.Result.{IsErr}

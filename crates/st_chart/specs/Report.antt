@@ -36,7 +36,7 @@ reason_words p (reason.NotReplayed acts v) = codes "notreplayed " ++ verdict_wor
 abbrev pub unfit_line : Pid → ℕ → Reason → List ℕ
 unfit_line p i r = ended_line (codes "unfit " ++ place_words p i ++ codes " " ++ reason_words p r)
 
--- an event; nothing where there is none, and then no finding names the place
+-- an event; nothing if there is none, and then no finding names the place
 abbrev pub event_words : Option Event → List ℕ
 event_words None = []
 event_words (Some e) = spelled.event e

@@ -5,13 +5,13 @@ use thiserror::Error;
 /// Why a chart wasn't written, or not whole.
 #[derive(Clone, Copy, Debug, PartialEq, Eq, Error)]
 pub enum ChartFault {
-    /// Refusal 1, after 3: memory ran out. Nothing was written.
+    /// Memory ran out. Nothing was written.
     #[error("no memory")]
     Memory,
-    /// Refusal 2, after the others: the writer failed. A prefix of the chart was written.
+    /// The writer failed. A prefix of the chart was written.
     #[error("the device failed")]
     Device,
-    /// Refusal 3, before the others: no item has the label. Nothing was written.
+    /// No item has the label. Looked at first; nothing was written.
     #[error("no item has the label")]
     NoLabel,
 }

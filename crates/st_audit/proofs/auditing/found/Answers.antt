@@ -1,7 +1,7 @@
--- The place of each item has an event, and where the construction halts for a reason of its own it holds there. In
+-- The place of each item has an event, and if the construction halts for a reason of its own it holds there. In
 -- plain streams it doesn't halt but for memory.
-use Rattle.std.proofs.Common.{◌≡◌, ◌-◌, ◌++◌, length, take, get_or, rules, arith, None, IsSome, [], sym, ◌∙◌, ap}
-use Rattle.std.proofs.Common.{subst}
+use Rattle.std.proofs.Common.{◌≡◌, ◌-◌, ◌++◌, length, take, get_or, rules, arith, None, IsSome, Some, IfOk, Err}
+use Rattle.std.proofs.Common.{[], refl, sym, ◌∙◌, ap, subst}
 use Rattle.std.proofs.lemmas.Option.{slice_get-get_or}
 use Rattle.st_core.specs.State.{zero_state}
 use Rattle.st_core.specs.Run.{pids_of, run_from, Shows}
@@ -10,9 +10,14 @@ use Rattle.st_plan.specs.Marks.{all_told}
 use Rattle.st_plan.specs.Reasons.{too_wide, uncaused}
 use Rattle.st_plan.proofs.ForCallers.{only_whole}
 use Rattle.st_audit.proofs.Ending.{holds_there, last_within, place_there, too_wide_halt, uncaused_halt}
+use Rattle.st_audit.specs.Construction.{IsFoundAt, Judged}
 use Rattle.st_audit.specs.declared.construction.Halt.TheVariants as halt
+use Rattle.st_audit.specs.declared.finding.Finding.TheVariants as finding
+use Rattle.st_audit.specs.declared.finding.Reason.TheVariants as reason
 use Rattle.st_audit.specs.Progress.{AreTold, Ran}
 use Rattle.st_audit.proofs.Track.{goes_next, no_stop, none, on_track, only_memory, track_next, track_shows, tracers_run}
+use Rattle.st_audit.proofs.Course.{begins_course, course_ends, course_next, course_stops, course_too_wide}
+use Rattle.st_audit.proofs.Course.{course_uncaused, some_item, IsMet}
 use Rattle.st_audit.proofs.auditing.found.Goals as goal
 
 pub judged-requires : goal.judged-requires
@@ -74,6 +79,14 @@ pub returns-in-Err : goal.returns-in-Err
 returns-in-Err g c =
     record {
       found = search rules;
+      exact = λ pairs are.
+          let runs : IsSome (run_from g.row.TOP c.in-Ok.construction.world (tracers_after None c.args.pids.now)) =
+          subst (λ w. IsSome (run_from g.row.TOP w (tracers_after None c.args.pids.now))) (sym c.in-Ok.ensures.world)
+          (subst (λ ps. IsSome (run_from g.row.TOP (zero_state (pids_of c.args.streams.now)) (tracers_after None ps)))
+          (sym are) (tracers_run g.row.TOP c.args.streams.now)) in
+          let same : c.in-Err.field-0 ≡ halt.Memory =
+          only_memory c.in-Err.field-0 c.in-Err.ensures.halt (c.in-Err.ensures.goes runs) in
+          search rules;
       plain_fits = λ pairs are plain.
           let runs : IsSome (run_from g.row.TOP c.in-Ok.construction.world (tracers_after None c.args.pids.now)) =
           subst (λ w. IsSome (run_from g.row.TOP w (tracers_after None c.args.pids.now))) (sym c.in-Ok.ensures.world)
@@ -95,6 +108,11 @@ loop-number-init g c =
       so_far = search rules;
       counts = search rules;
       told = subst (λ t. AreTold streams [] t.items) (sym done.told) begun.tells;
+      way = λ pairs are. begins_course top streams c.args.items.now now.world now.acts
+          (some_item (length c.args.items.now) (sym c.is_empty.ensures ∙ c.if-is_empty.false))
+          (subst (λ ps. Ran top (zero_state (pids_of streams)) (tracers_after None ps) now.world) are
+          (subst (λ w. Ran top w (tracers_after None c.args.pids.now) now.world) begun.world done.ran))
+          (done.acts ∙ ap (λ xs. xs ++ tracers_after None c.args.pids.now) begun.acts ∙ ap (tracers_after None) are);
       track = λ pairs are plain. on_track top streams all_told now.world now.acts
           (subst (λ ps. Ran top (zero_state (pids_of streams)) (tracers_after None ps) now.world) are
           (subst (λ w. Ran top w (tracers_after None c.args.pids.now) now.world) begun.world done.ran))
@@ -115,6 +133,9 @@ loop-number-preserved g c =
       so_far = done.so_far;
       counts = c.append.ensures.told;
       told = done.tells i.told;
+      way = λ pairs are. course_next top streams c.requires.streams.draft.rising xs c.requires.order n none
+          c.loop-number-test.true old.world old.acts (i.way pairs are) now.world now.acts
+          (λ x e at there. done.exact x e at there pairs (λ p i. refl) i.told);
       track = λ pairs are plain.
           let track = i.track pairs are plain in
           let at = slice_get-get_or xs n none c.loop-number-test.true in
@@ -176,3 +197,71 @@ returns-clause-plain_fits g c = λ pairs are plain.
     track in
     c.judged-2.ensures.shown (subst (Shows top streams) (sym c.into_acts-2.ensures)
     (subst (λ ss. Shows top ss now.acts) (only_whole streams) shows))
+
+pub returns-in-Err-Uncaused-clause-exact : goal.returns-in-Err-Uncaused-clause-exact
+returns-in-Err-Uncaused-clause-exact g c = λ pairs are.
+    let top = g.row.TOP in
+    let streams = c.args.streams.now in
+    let xs = c.args.items.now in
+    let n = c.loop-number.number in
+    let i = c.loop-number.invariant in
+    let old = c.loop-number.construction in
+    let now = c.append.new.self in
+    let at = c.place_of-index.result in
+    let met : IsMet top streams xs n old.world old.acts now.world now.acts (Err halt.Uncaused) =
+    subst (λ h. IsMet top streams xs n old.world old.acts now.world now.acts (Err h)) c.in-Err-Uncaused.field-0-is
+    (λ x e here there. c.in-Err-Uncaused.ensures.exact x e here there pairs (λ p i. refl) i.told) in
+    subst (λ end. IsFoundAt top streams end (finding.Unfit at.0 at.1 reason.Uncaused))
+    (course_uncaused top streams c.requires.streams.draft.rising xs c.requires.order n _ c.loop-number-test.true
+    old.world old.acts (i.way pairs are) now.world now.acts at c.place_of-index.ensures met) refl
+
+pub returns-in-Err-TooWide-clause-exact : goal.returns-in-Err-TooWide-clause-exact
+returns-in-Err-TooWide-clause-exact g c = λ pairs are.
+    let top = g.row.TOP in
+    let streams = c.args.streams.now in
+    let xs = c.args.items.now in
+    let n = c.loop-number.number in
+    let i = c.loop-number.invariant in
+    let old = c.loop-number.construction in
+    let now = c.append.new.self in
+    let at = c.place_of-index.result in
+    let met : IsMet top streams xs n old.world old.acts now.world now.acts (Err halt.TooWide) =
+    subst (λ h. IsMet top streams xs n old.world old.acts now.world now.acts (Err h)) c.in-Err-TooWide.field-0-is
+    (λ x e here there. c.in-Err-TooWide.ensures.exact x e here there pairs (λ p i. refl) i.told) in
+    subst (λ end. IsFoundAt top streams end (finding.Unfit at.0 at.1 reason.TooWide))
+    (course_too_wide top streams c.requires.streams.draft.rising xs c.requires.order n _ c.loop-number-test.true
+    old.world old.acts (i.way pairs are) now.world now.acts at c.place_of-index.ensures met) refl
+
+pub returns-in-Err-Stopped-clause-exact : goal.returns-in-Err-Stopped-clause-exact
+returns-in-Err-Stopped-clause-exact g c = λ pairs are.
+    let top = g.row.TOP in
+    let streams = c.args.streams.now in
+    let xs = c.args.items.now in
+    let n = c.loop-number.number in
+    let i = c.loop-number.invariant in
+    let old = c.loop-number.construction in
+    let now = c.append.new.self in
+    let at = c.place_of-index.result in
+    let met : IsMet top streams xs n old.world old.acts now.world now.acts (Err halt.Stopped) =
+    subst (λ h. IsMet top streams xs n old.world old.acts now.world now.acts (Err h)) c.in-Err-Stopped.field-0-is
+    (λ x e here there. c.in-Err-Stopped.ensures.exact x e here there pairs (λ p i. refl) i.told) in
+    subst (λ end. IfOk c.judged-in-Err-Stopped.result (IsFoundAt top streams end))
+    (course_stops top streams c.requires.streams.draft.rising xs c.requires.order n _ c.loop-number-test.true
+    old.world old.acts (i.way pairs are) now.world now.acts at c.place_of-index.ensures met)
+    (subst (λ acts. IfOk c.judged-in-Err-Stopped.result (IsFoundAt top streams (Judged acts (Some at))))
+    c.into_acts-in-Err-Stopped.ensures c.judged-in-Err-Stopped.ensures.exact)
+
+pub returns-clause-exact : goal.returns-clause-exact
+returns-clause-exact g c = λ pairs are.
+    let top = g.row.TOP in
+    let streams = c.args.streams.now in
+    let xs = c.args.items.now in
+    let n = c.loop-number.number in
+    let now = c.loop-number.construction in
+    let at = c.place_of-2.result in
+    let some = some_item (length xs) (sym c.is_empty.ensures ∙ c.if-is_empty.false) in
+    subst (λ end. IfOk c.judged-2.result (IsFoundAt top streams end))
+    (course_ends top streams xs n _ now.world now.acts at (c.loop-number.invariant.way pairs are) (omega arith) some
+    c.place_of-2.ensures)
+    (subst (λ acts. IfOk c.judged-2.result (IsFoundAt top streams (Judged acts (Some at)))) c.into_acts-2.ensures
+    c.judged-2.ensures.exact)

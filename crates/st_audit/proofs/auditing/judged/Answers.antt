@@ -1,5 +1,5 @@
 -- What shows the streams has the verdict yes, and no other.
-use Rattle.std.proofs.Common.{rules, subst}
+use Rattle.std.proofs.Common.{rules, refl, subst}
 use Rattle.st_check.specs.Answers.{verdict_of}
 use Rattle.st_core.specs.Verdict.{IsVerdict}
 use Rattle.st_audit.specs.Findings.{IsNo}
@@ -14,6 +14,7 @@ returns-in-Ok g c =
     c.in-Ok.ensures.verdict in
     record {
       found = search rules;
+      exact = (refl, refl, verdict, no);
       shown = λ shows. absurd (shown_is_yes g.row.TOP c.args.streams.now c.args.acts
           (verdict_of c.in-Ok.verdict) shows verdict no);
     }

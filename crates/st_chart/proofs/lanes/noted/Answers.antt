@@ -1,4 +1,4 @@
--- A pid joins the kept ones exactly where it was noted.
+-- A pid joins the kept ones exactly if it was noted.
 use Rattle.std.proofs.Common.{arith}
 use Rattle.std.proofs.lemmas.Grind.{common_steps}
 use Rattle.std.proofs.lemmas.List.Elements.{filter-append}

@@ -1,19 +1,23 @@
--- Each item leads to the counts with its move, and where it halts the counts before it show why. Its acts are those of
+-- Each item leads to the counts with its move, and if it halts the counts before it show why. Its acts are those of
 -- its move.
 use Rattle.std.proofs.Common.{◌≡◌, ◌+◌, arith, true, not, Some, take, sym, ◌∙◌, ap, subst}
 use Rattle.std.proofs.lemmas.Option.{same_Some, slice_get-get_or}
 use Rattle.std.proofs.lemmas.Result.{IfOk-weaker}
 use Rattle.st_order.specs.declared.item.Item.{Item}
 use Rattle.st_order.specs.declared.item.Item.TheVariants as item
+use Rattle.st_order.specs.Items.{event_of}
 use Rattle.st_pair.specs.Places.{is_stamp}
 use Rattle.st_pair.proofs.ForCallers.{paired, serial_rises}
-use Rattle.st_plan.specs.Moves.{earlier_of}
+use Rattle.st_plan.specs.Moves.{earlier_of, move_by}
+use Rattle.st_plan.specs.Plain.{told}
 use Rattle.st_plan.proofs.ForCallers.{earlier_more}
-use Rattle.st_audit.specs.Progress.{AreTold, PutsActs, IsClockBelow, IsHalt, Serves}
+use Rattle.st_audit.specs.Construction.{turn}
+use Rattle.st_audit.specs.Progress.{AreTold, PutsActs, IsClockBelow, IsCountedAs, IsHalt, Meets, SaysNothing, Serves}
 use Rattle.st_audit.proofs.Acting.{ok_both}
 use Rattle.st_audit.proofs.Ending.{if_err}
 use Rattle.st_audit.proofs.Next.{hidden_halt, hidden_next, reported_halt, reported_next}
 use Rattle.st_audit.proofs.Telling.{in_turn, told_hidden, told_next}
+use Rattle.st_audit.proofs.Turning.{hidden_turn, reported_turn, told_below}
 use Rattle.st_audit.proofs.construction.Construction.append.Goals as goal
 
 pub returns-in-Reported-clause-so_far : goal.returns-in-Reported-clause-so_far
@@ -139,3 +143,47 @@ returns-in-Hidden-clause-tells g c = λ are.
     subst (λ ms. AreTold streams ms counts) (sym more)
     (told_hidden streams earlier counts p i done.event (subst (AreTold streams earlier) same are)))
     c.send_hidden.ensures.done
+
+pub returns-in-Reported-clause-exact : goal.returns-in-Reported-clause-exact
+returns-in-Reported-clause-exact g c = λ x e at there pairs all are.
+    let top = g.row.TOP in
+    let streams = c.args.streams.now in
+    let xs = c.args.items.now in
+    let n = c.args.number in
+    let p = c.in-Reported.pid in
+    let i = c.in-Reported.index in
+    let old = c.args.self.now in
+    let now = c.report.new.self in
+    let marks = g.M.Tells.marks c.args.marks.now in
+    let earlier = earlier_of streams (take n xs) in
+    let here = slice_get-get_or xs n _ c.requires.within ∙ ap (λ (x : Item). Some x) c.in-Reported.is in
+    let same : item.Reported p i ≡ x = same_Some (item.Reported p i) x (sym here ∙ at) in
+    let below = told_below streams p xs n in
+    let counted : IsCountedAs streams old.told.items p (told p earlier) =
+    λ k found. are k p found (omega (arith, c.ranges.number)) in
+    subst (λ (y : Item). event_of streams y ≡ Some e → Meets SaysNothing
+    (turn top streams marks old.world earlier (move_by y e)) old.world old.acts c.report.result now.world now.acts) same
+    (λ found. subst (λ t. Meets SaysNothing t old.world old.acts c.report.result now.world now.acts)
+    (reported_turn top streams marks (take n xs) old.world old.skipped c.requires.so_far p i e)
+    (c.report.ensures.exact e found pairs (all p i) (told p earlier) counted)) there
+
+pub returns-in-Hidden-clause-exact : goal.returns-in-Hidden-clause-exact
+returns-in-Hidden-clause-exact g c = λ x e at there pairs all are.
+    let top = g.row.TOP in
+    let streams = c.args.streams.now in
+    let xs = c.args.items.now in
+    let n = c.args.number in
+    let p = c.in-Hidden.pid in
+    let i = c.in-Hidden.index in
+    let old = c.args.self.now in
+    let now = c.send_hidden.new.self in
+    let marks = g.M.Tells.marks c.args.marks.now in
+    let earlier = earlier_of streams (take n xs) in
+    let here = slice_get-get_or xs n _ c.requires.within ∙ ap (λ (x : Item). Some x) c.in-Hidden.is in
+    let same : item.Hidden p i ≡ x = same_Some (item.Hidden p i) x (sym here ∙ at) in
+    subst (λ (y : Item). event_of streams y ≡ Some e → Meets SaysNothing
+    (turn top streams marks old.world earlier (move_by y e)) old.world old.acts c.send_hidden.result now.world now.acts)
+    same
+    (λ found. subst (λ t. Meets SaysNothing t old.world old.acts c.send_hidden.result now.world now.acts)
+    (hidden_turn top streams marks (take n xs) old.world old.skipped c.requires.so_far p i e)
+    (c.send_hidden.ensures.exact e found)) there

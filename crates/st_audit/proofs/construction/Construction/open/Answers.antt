@@ -1,4 +1,4 @@
--- Where a tracer was put, no count moved, and it is the next one.
+-- If a tracer was put, no count moved, and it is the next one.
 use Rattle.std.proofs.Common.{◌≡◌, ◌+◌, ◌∷◌, arith, drop, get_or, true, List, [], not, rules, Option}
 use Rattle.std.specs.Option.{option_eq}
 use Rattle.std.proofs.Common.{ap, ◌==◌, sym, ◌∙◌, subst, Some, ℕ}

@@ -1,11 +1,15 @@
 -- The parts of what a stamp is.
-use Rattle.std.proofs.Common.{◌≡◌, ℕ, ◌+◌, cond, None, Some, [], ◌∷◌, ◌++◌, rules, sym, ◌∙◌, ap, subst, IsSome}
+use Rattle.std.proofs.Common.{◌≡◌, ℕ, ◌+◌, cond, None, Some, [], ◌∷◌, ◌++◌, Err, IsSome}
+use Rattle.std.proofs.Common.{rules, refl, sym, ◌∙◌, ap, subst}
 use Rattle.std.proofs.lemmas.Result.{IfOk-weaker}
 use Rattle.st_core.specs.Run.{run_from}
 use Rattle.st_plan.specs.declared.plan.Start.{Start}
 use Rattle.st_plan.specs.Build.{ready, start_of}
-use Rattle.st_audit.specs.Progress.{is_too_wide, Makes, Ran}
+use Rattle.st_audit.specs.Progress.{is_too_wide, stamp_turn, IsStuck, Makes, Meets, Ran, TellsLast, TriesAct}
+use Rattle.st_audit.proofs.Ending.{if_err}
 use Rattle.st_audit.proofs.Running.{front_runs, made}
+use Rattle.st_audit.proofs.Trying.{attempt_tries, made_meets, stuck_later, stuck_meets, stuck_more}
+use Rattle.st_audit.proofs.Turning.{on_err, stamp_turn_is, within_bounds}
 use Rattle.st_audit.proofs.Stamping.{stamped, started}
 use Rattle.st_audit.proofs.construction.Construction.stamp.Goals as goal
 
@@ -74,3 +78,77 @@ returns-in_err-perform_all-clause-makes g c = λ before is.
           let goes = c.in_err-perform_all.ensures.goes plan in
           search rules;
     }
+
+pub returns-in_err-perform_all-clause-exact : goal.returns-in_err-perform_all-clause-exact
+returns-in_err-perform_all-clause-exact g c =
+    let top = g.row.TOP in
+    let start = c.in-Some.start in
+    let e = c.args.event.now in
+    let p = c.args.pid in
+    let f = c.args.flags in
+    let a = c.args.act in
+    let old = c.args.self.now in
+    let now = c.perform_all.new.self in
+    let h = c.in_err-perform_all.field-0.0 in
+    let acts = ready p start e.label e.serial f in
+    let planned : c.as_slice.result.now ≡ acts =
+    c.as_slice.ensures.value ∙ c.in-Ok.ensures ∙ ap (λ xs. xs ++ acts) c.new-plan.ensures.items in
+    let missed = c.in-Some-with_skipped.ensures
+    ∙ ap (λ k. cond (is_too_wide old.skipped k) None (Some (k + old.skipped))) c.missing.ensures in
+    let stuck : IsStuck top old.world (acts ++ a ∷ []) old.acts h now.acts =
+    stuck_more top old.world acts (a ∷ []) old.acts h now.acts
+    (subst (λ xs. IsStuck top old.world xs old.acts h now.acts) planned c.in_err-perform_all.ensures.stuck) in
+    on_err c.from_residual.result h
+    (λ r. Meets TellsLast (stamp_turn top old.world old.skipped p e f a) old.world old.acts r now.world now.acts)
+    c.from_residual.ensures.1
+    (subst (λ t. Meets TellsLast t old.world old.acts (Err h) now.world now.acts)
+    (sym (stamp_turn_is top old.world old.skipped p e f a start (sym c.start.ensures ∙ c.in-Some.is)))
+    (stuck_meets TellsLast top _ _ _ acts a old.world old.acts h now.world now.acts
+    (sym c.is_uncaused.ensures ∙ c.if-is_uncaused.false) (within_bounds _ _ _ missed) refl
+    c.in_err-perform_all.ensures.halt stuck))
+
+pub returns-clause-exact : goal.returns-clause-exact
+returns-clause-exact g c =
+    let top = g.row.TOP in
+    let start = c.in-Some.start in
+    let e = c.args.event.now in
+    let p = c.args.pid in
+    let f = c.args.flags in
+    let a = c.args.act in
+    let old = c.args.self.now in
+    let between = c.perform_all.new.self in
+    let now = c.perform.new.self in
+    let acts = ready p start e.label e.serial f in
+    let planned : c.as_slice.result.now ≡ acts =
+    c.as_slice.ensures.value ∙ c.in-Ok.ensures ∙ ap (λ xs. xs ++ acts) c.new-plan.ensures.items in
+    let missed = c.in-Some-with_skipped.ensures
+    ∙ ap (λ k. cond (is_too_wide old.skipped k) None (Some (k + old.skipped))) c.missing.ensures in
+    let done = c.in_ok-perform_all.ensures in
+    let ran : Ran top old.world acts between.world =
+    subst (λ xs. Ran top old.world xs between.world) planned done.ran in
+    let put : between.acts ≡ old.acts ++ acts = done.acts ∙ ap (λ xs. old.acts ++ xs) planned in
+    subst (λ t. Meets TellsLast t old.world old.acts c.perform.result now.world now.acts)
+    (sym (stamp_turn_is top old.world old.skipped p e f a start (sym c.start.ensures ∙ c.in-Some.is)))
+    (made_meets top _ _ _ acts a old.world old.acts c.perform.result now.world now.acts
+    (sym c.is_uncaused.ensures ∙ c.if-is_uncaused.false) (within_bounds _ _ _ missed) refl
+    (made top old.world between.world acts a old.acts between.acts now.acts c.perform.result now.world ran put
+    c.perform.ensures.step c.perform.ensures.acts c.perform.ensures.goes)
+    c.perform.ensures.halt
+    (if_err c.perform.result _ _ (λ h stuck. stuck_later top old.world between.world acts (a ∷ []) old.acts between.acts
+    h now.acts ran put stuck) c.perform.ensures.stuck))
+
+pub returns-in_default-ready-clause-exact : goal.returns-in_default-ready-clause-exact
+returns-in_default-ready-clause-exact g c =
+    let top = g.row.TOP in
+    let start = c.in-Some.start in
+    let e = c.args.event.now in
+    let p = c.args.pid in
+    let f = c.args.flags in
+    let a = c.args.act in
+    let old = c.args.self.now in
+    let missed = c.in-Some-with_skipped.ensures
+    ∙ ap (λ k. cond (is_too_wide old.skipped k) None (Some (k + old.skipped))) c.missing.ensures in
+    subst TriesAct
+    (sym (stamp_turn_is top old.world old.skipped p e f a start (sym c.start.ensures ∙ c.in-Some.is)))
+    (attempt_tries top _ _ _ (ready p start e.label e.serial f) a old.world
+    (sym c.is_uncaused.ensures ∙ c.if-is_uncaused.false) (within_bounds _ _ _ missed) refl)

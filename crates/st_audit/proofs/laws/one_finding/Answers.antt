@@ -1,0 +1,6 @@
+-- The lemma says it.
+use Rattle.st_audit.proofs.Once.{one_finding}
+use Rattle.st_audit.proofs.laws.one_finding.Goals as goal
+
+pub returns : goal.returns
+returns c = one_finding
