@@ -1,38 +1,39 @@
--- Why the reasons hold, and why they are final: what acts without a reset show has a full completion, in which none of
--- them holds.
-use Rattle.std.proofs.Common.{◌≡◌, ℕ, ◌<◌, ◌≤◌, zero, suc, ◌&&◌, nat_lt, not, Bool, true, false, cond, List}
-use Rattle.std.proofs.Common.{[], ◌∷◌, map, find, slice_get, Option, Some, None, refl, sym, ◌∙◌, ap, subst, arith}
+-- Why the reasons hold, and why they are final: what acts without a reset show has a full
+-- completion, in which none of them holds. And why acts show the streams otherwise: a completion
+-- needs nothing, and if each receive has its send, the reasons decide.
+use Rattle.std.proofs.Common.{◌≡◌, ◌↔◌, ℕ, ◌<◌, ◌≤◌, zero, suc, ◌&&◌, nat_lt, not, Bool, true, false, cond, List}
+use Rattle.std.proofs.Common.{[], ◌∷◌, map, find, slice_get, take, Option, Some, None, refl, sym, ◌∙◌, ap, subst, arith}
 use Rattle.std.proofs.lemmas.Bool.{false≢true}
 use Rattle.std.proofs.lemmas.Bool.Decides.{nat_tests}
 use Rattle.std.proofs.lemmas.Option.{same_Some}
 use Rattle.st_core.specs.declared.types.Pid.{Pid}
 use Rattle.st_core.specs.declared.types.Act.{Act}
 use Rattle.st_core.specs.declared.types.Event.{Event}
-use Rattle.st_core.specs.Laws.{NoReset}
+use Rattle.st_core.specs.Laws.{greatest_count, NoReset}
 use Rattle.st_core.specs.Pid.{pid_eq, IsRising}
 use Rattle.st_core.specs.Run.{Shows, Stream, pids_of}
-use Rattle.st_core.specs.Streams.{events_of}
+use Rattle.st_core.specs.Streams.{events_of, IsStreams}
 use Rattle.st_pair.specs.declared.answer.PairFault.TheVariants as fault
 use Rattle.st_pair.specs.Pairing.{refusal}
 use Rattle.st_pair.specs.Places.{event_at, is_stamp}
-use Rattle.st_pair.proofs.ForCallers.{paired, refused_never_shown, stamp_counts_rise}
+use Rattle.st_pair.proofs.ForCallers.{paired, refused_never_shown, serial_rises, stamp_counts_rise}
 use Rattle.st_plan.specs.Marks.{all_streams, told_events, told_streams, Marked, Whole}
+use Rattle.st_full.specs.Completed.{IsCompleted, IsShownInOneTrace}
 use Rattle.st_full.specs.Full.{IsFull}
+use Rattle.st_full.specs.Local.{IsNeedless}
 use Rattle.st_full.specs.Needs.{HoldsOfNone, is_late, is_rootless, marked_of}
 use Rattle.st_full.specs.Supply.{IsSupplied}
 use Rattle.st_full.specs.Wholes.{wholes_of}
-use Rattle.st_full.proofs.ForCallers.{run_completed}
+use Rattle.st_full.proofs.ForCallers.{decides, run_completed}
 use Rattle.st_complete.specs.declared.answer.Never.{Never}
 use Rattle.st_complete.specs.declared.answer.Never.TheVariants as never
 use Rattle.st_complete.specs.declared.answer.Answer.{Answer}
 use Rattle.st_complete.specs.declared.answer.Answer.TheVariants as answer
+use Rattle.st_complete.specs.Flaws.{LastHigher}
 use Rattle.st_complete.specs.Answers.{HoldsThere, IsAnswer, IsFinal, IsHigher, IsLastHigher, IsNeverFinal, IsReason}
+use Rattle.st_complete.specs.Answers.{IsOtherwiseShown}
 
 -- THE LAST EVENT THAT COUNTS NO LOWER
-
-abbrev pub LastHigher : List Event → ℕ → ℕ → Option ℕ → Type 0
-LastHigher es this i None = (k : ℕ) (f : Event) → k < i → slice_get es k ≡ Some f → f.serial.this < this
-LastHigher es this i (Some j) = IsHigher es i this j
 
 stamps_if : (stamp less : Bool) → (stamp && not less) ≡ true → stamp ≡ true
 stamps_if true less h = refl
@@ -158,3 +159,69 @@ pub never_final : (top : ℕ) (streams : List Stream) (found : Answer) → HaveN
 never_final top streams (answer.Whole wholes) law rising is = tt
 never_final top streams (answer.Never p i reason) law rising is = reason_final top streams p i reason law rising is
 never_final top streams (answer.Open p i) law rising is = tt
+
+-- STREAMS THAT ARE SHOWN
+
+pub not_above : (top this : ℕ) → nat_lt top this ≡ false → this ≤ top
+not_above top this low = grind (arith, nat_tests, low)
+
+abbrev pub AreShownIfNeedless : Type 0
+AreShownIfNeedless = (top : ℕ) (streams : List Stream) → IsRising (pids_of streams)
+    → (IsShownInOneTrace top streams ↔ IsCompleted IsNeedless top streams)
+
+-- a completion needs nothing; and without hidden sends an answer that is Open leaves none of the reasons that decide
+pub otherwise_shown : (top : ℕ) (streams : List Stream) (found : Answer) → AreShownIfNeedless → IsStreams streams
+    → IsAnswer top streams found → IsOtherwiseShown top streams found
+otherwise_shown top streams (answer.Whole wholes) law sound is =
+    (law top streams sound.draft.rising).1 (record {
+      wholes = wholes;
+      told = is.told;
+      sound = is.sound;
+      is = is.needless;
+    })
+otherwise_shown top streams (answer.Never p i reason) law sound is = tt
+otherwise_shown top streams (answer.Open p i) law sound is = λ sends.
+    (decides top streams sound sends).1 (record {
+      timely = is.rooted.timely;
+      founded = is.rooted.rooted;
+      supplied = is.supplied sends;
+      within = λ p i e at. not_above top e.serial.this (is.within p i e at);
+    })
+
+-- AN EVENT THAT IS LATE
+
+greatest_below : (es : List Event) (this : ℕ) → 0 < this
+    → ((k : ℕ) (f : Event) → slice_get es k ≡ Some f → f.serial.this < this) → greatest_count es < this
+greatest_below [] this high each = high
+greatest_below (e ∷ es) this high each =
+    let first = each 0 e refl in
+    let rest = greatest_below es this high (λ k f at. each (suc k) f at) in
+    omega (arith, first, rest)
+
+taken_at : (es : List Event) (i k : ℕ) (f : Event) → slice_get (take i es) k ≡ Some f
+    → (k < i) × (slice_get es k ≡ Some f)
+taken_at es zero k f at = absurd (cc)
+taken_at [] (suc i) k f at = absurd (cc)
+taken_at (e ∷ es) (suc i) zero f at = ((omega arith), at)
+taken_at (e ∷ es) (suc i) (suc k) f at =
+    let rest = taken_at es i k f at in
+    let low = rest.0 in
+    ((omega (arith, low)), rest.1)
+
+none_if : (stamp less : Bool) → less ≡ true → (stamp && not less) ≡ true → ⊥
+none_if true true is h = false≢true h
+none_if true false is h = false≢true is
+none_if false less is h = false≢true h
+
+-- so an event before it counts no lower
+pub some_higher : (streams : List Stream) (p : Pid) (i : ℕ) (e : Event) → refusal streams ≡ None
+    → HoldsThere is_late streams p i → event_at streams p i ≡ Some e
+    → LastHigher (events_of streams p) e.serial.this i None → ⊥
+some_higher streams p i e accepted late at lower =
+    let es = events_of streams p in
+    let same = same_Some late.event e (sym late.at ∙ at) in
+    let holds : is_late (take i es) e ≡ true = subst (λ (x : Event). is_late (take i es) x ≡ true) same late.holds in
+    let rises = serial_rises streams (paired streams accepted) p i e at in
+    let low = greatest_below (take i es) e.serial.this (omega (arith, rises))
+    (λ k f there. let t = taken_at es i k f there in lower k f t.0 t.1) in
+    none_if (is_stamp e) (nat_lt (greatest_count (take i es)) e.serial.this) (grind (arith, nat_tests, low)) holds

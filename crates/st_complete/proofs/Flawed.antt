@@ -2,6 +2,7 @@
 use Rattle.std.proofs.Common.{◌≡◌, ℕ, ◌+◌, ◌<◌, suc, Bool, true, false, cond, List, [], ◌∷◌, ◌++◌, length, get_or, max}
 use Rattle.std.proofs.Common.{take, drop, slice_get, Option, None, Some, option_and_then, refl, sym, ◌∙◌, ap, subst, arith}
 use Rattle.std.proofs.Common.{add-one, if◌then◌else◌}
+use Rattle.std.proofs.lemmas.Bool.{false≢true}
 use Rattle.std.proofs.lemmas.Option.{same_Some}
 use Rattle.st_core.specs.declared.types.Pid.{Pid}
 use Rattle.st_core.specs.declared.types.Event.{Event}
@@ -15,7 +16,7 @@ use Rattle.st_pair.specs.declared.answer.Source.TheVariants as source
 use Rattle.st_pair.specs.Pairing.{source_at, source_of}
 use Rattle.st_pair.specs.Places.{event_at, first, first_from, is_stamp}
 use Rattle.st_pair.specs.Tables.{or_else}
-use Rattle.st_pair.proofs.ForCallers.{event_none, first_from-at, first-loop, IsGiven}
+use Rattle.st_pair.proofs.ForCallers.{event_none, first_from-at, first-loop, given_at, IsGiven}
 use Rattle.st_full.specs.Needs.{HoldsOfNone}
 use Rattle.st_complete.specs.Answers.{HoldsThere}
 use Rattle.st_plan.proofs.ForCallers.{take_more}
@@ -146,3 +147,10 @@ holds_of_none test streams none = λ p i e at.
 pub hides_none : (streams : List Stream) → first (hides streams) streams ≡ None → HidesNone streams
 hides_none streams none = λ p i e at.
     none_false (is_hidden streams e) (p, i) (event_none (hides streams) streams none p i e at)
+
+pub hides_some : (streams : List Stream) (x : Pid × ℕ) → IsRising (pids_of streams)
+    → first (hides streams) streams ≡ Some x → HidesNone streams → ⊥
+hides_some streams x rising some none =
+    let found = given_at (hides streams) streams x rising some in
+    let gives = gives_true (is_hidden streams found.event) x.0 found.pid x.1 found.index found.gives in
+    false≢true (sym (none found.pid found.index found.event found.at) ∙ gives.0)

@@ -1,4 +1,4 @@
--- What the answers mean: a completion, or a place and a reason why no acts without a reset show the streams.
+-- What the results mean: a completion, or a place and a reason why no acts without a reset show the streams.
 use Rattle.std.specs.Prelude.{◌≡◌, ℕ, ◌<◌, ◌≤◌, nat_lt, Bool, true, false, List, take, slice_get, Some, None, IsSome}
 use Rattle.st_core.specs.declared.types.Pid.{Pid}
 use Rattle.st_core.specs.declared.types.Event.{Event}
@@ -10,6 +10,7 @@ use Rattle.st_pair.specs.Pairing.{refusal}
 use Rattle.st_pair.specs.Places.{event_at, is_stamp}
 use Rattle.st_full.specs.Completed.{IsShownInOneTrace}
 use Rattle.st_full.specs.Needs.{HoldsOfNone, is_late, is_need, is_rootless}
+use Rattle.st_full.specs.Reasons.{HasEachSend}
 use Rattle.st_full.specs.Supply.{IsSupplied}
 use Rattle.st_complete.specs.declared.answer.Never.{Never}
 use Rattle.st_complete.specs.declared.answer.Never.TheVariants as never
@@ -53,7 +54,7 @@ pub record IsHigher (es : List Event) (i this j : ℕ) : Type 0 where
 abbrev pub is_too_high : ℕ → List Event → Event → Bool
 is_too_high top es e = nat_lt top e.serial.this
 
--- nothing of lesser number stands against the streams than the needs of one prev
+-- no reason before the needs of one prev holds of the streams
 pub record IsRooted (streams : List Stream) : Type 0 where
   pub accepted : refusal streams ≡ None
   pub timely : HoldsOfNone is_late streams
@@ -77,14 +78,29 @@ abbrev pub IsFinal : ℕ → List Stream → Never → Type 0
 IsFinal top streams never.TooHigh = ¬ IsShownInOneTrace top streams
 IsFinal top streams reason = NeverShownInOneTrace streams
 
--- a completion; a reason that holds at an event; or an event that is there, of streams against which pairing has
--- nothing
+-- The streams are undecided: nothing that is read off the events of one process alone refuses them;
+-- if no receive's send is hidden, there are no more needs of any prev than messages that may feed
+-- them; and the event is there.
+pub record IsUndecided (top : ℕ) (streams : List Stream) (p : Pid) (i : ℕ) : Type 0 where
+  pub rooted : IsRooted streams
+  pub within : HoldsOfNone (is_too_high top) streams
+  pub supplied : HasEachSend streams → (v : ℕ) → IsSupplied streams v
+  pub there : IsSome (event_at streams p i)
+
+-- a completion; a reason that holds at an event; or an event of undecided streams
 abbrev pub IsAnswer : ℕ → List Stream → Answer → Type 0
 IsAnswer top streams (answer.Whole wholes) = Completes top streams wholes
 IsAnswer top streams (answer.Never p i reason) = IsReason top streams p i reason
-IsAnswer top streams (answer.Open p i) = (refusal streams ≡ None) × IsSome (event_at streams p i)
+IsAnswer top streams (answer.Open p i) = IsUndecided top streams p i
 
 -- a Never is final
 abbrev pub IsNeverFinal : ℕ → List Stream → Answer → Type 0
 IsNeverFinal top streams (answer.Never p i reason) = IsFinal top streams reason
 IsNeverFinal top streams found = Unit {0}
+
+-- If it is no Never, acts without a reset show the streams: if it is a completion, and, if each
+-- receive has its send among the reported events, even if it is Open.
+abbrev pub IsOtherwiseShown : ℕ → List Stream → Answer → Type 0
+IsOtherwiseShown top streams (answer.Whole wholes) = IsShownInOneTrace top streams
+IsOtherwiseShown top streams (answer.Never p i reason) = Unit {0}
+IsOtherwiseShown top streams (answer.Open p i) = HasEachSend streams → IsShownInOneTrace top streams

@@ -1,5 +1,6 @@
 -- What may be wrong with an event after those of its process before it, and where it is so first.
-use Rattle.std.specs.Prelude.{◌≡◌, ℕ, Bool, true, false, List, take, Option, Some, None, if◌then◌else◌}
+use Rattle.std.specs.Prelude.{◌≡◌, ℕ, ◌<◌, Bool, true, false, List, slice_get, take, Option, Some, None}
+use Rattle.std.specs.Prelude.{if◌then◌else◌}
 use Rattle.st_core.specs.declared.types.Pid.{Pid}
 use Rattle.st_core.specs.declared.types.Event.{Event}
 use Rattle.st_core.specs.Laws.{greatest_count, prev_after}
@@ -13,7 +14,7 @@ use Rattle.st_full.specs.Needs.{is_late, is_need, is_rootless}
 use Rattle.st_complete.specs.declared.flaws.Flaw.{Flaw}
 use Rattle.st_complete.specs.declared.flaws.Flaw.TheVariants as flaw
 use Rattle.st_complete.specs.declared.flaws.Left.{Left}
-use Rattle.st_complete.specs.Answers.{is_too_high}
+use Rattle.st_complete.specs.Answers.{is_too_high, IsHigher}
 
 -- what events leave to the next
 abbrev pub left_by : List Event → Left
@@ -36,6 +37,11 @@ flawed test streams p i e = place_where test (events_of streams p) p i e
 -- the place of a receive of a hidden send
 abbrev pub hides : List Stream → Pid → ℕ → Event → Option (Pid × ℕ)
 hides streams p i e = if is_hidden streams e then Some (p, i) else None
+
+-- the last event before index i that counts no lower than this, if there is one
+abbrev pub LastHigher : List Event → ℕ → ℕ → Option ℕ → Type 0
+LastHigher es this i None = (k : ℕ) (f : Event) → k < i → slice_get es k ≡ Some f → f.serial.this < this
+LastHigher es this i (Some j) = IsHigher es i this j
 
 -- the source of a receive is a hidden send
 abbrev pub is_hidden_in : Option Source → Bool

@@ -1,6 +1,7 @@
--- What public contracts cite: what a completion is, what the answers mean, and which counts renumbered streams have.
+-- What public contracts cite: what a completion is, and what the results mean.
 pub mod Completions
 pub mod Answers
-pub mod Ranks
--- For the parts alone: tests of one event, and where they hold first.
+-- For the parts alone: tests of one event, and where they hold first; counts as they stand; what is told of one count.
 pub mod Flaws
+pub mod Counts
+pub mod Told

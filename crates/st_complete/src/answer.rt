@@ -4,7 +4,7 @@ use crate::completion::Completion;
 use st_core::{Act, Pid, Sequence};
 use thiserror::Error;
 
-/// Why no acts without a reset show streams, for the event at the place that an answer names. The
+/// Why no acts without a reset show streams, for the event at the place that `Answer` names. The
 /// reasons are tried in this order, each over all places before the next.
 #[derive(Clone, Copy, Debug, PartialEq, Eq)]
 pub enum Never {
@@ -37,11 +37,12 @@ pub enum Answer {
     /// None show them: the process and the index of an event, and why.
     Never(Pid, u64, Never),
     /// Neither was found. The place is an event whose prev nobody could have sent at the choices
-    /// that were tried, of a hidden send that of its receive.
+    /// that were tried, or if a hidden send has that prev, its receive. If no send is hidden, acts
+    /// without a reset show the streams all the same.
     Open(Pid, u64),
 }
 
-/// Why there is no answer.
+/// Why nothing is said of streams.
 #[derive(Clone, Copy, Debug, PartialEq, Eq, Error)]
 pub enum CompleteFault {
     /// Refusal 1: no memory.

@@ -63,11 +63,11 @@ fn certified<const TOP: u64>(
     }
 }
 
-/// Acts that show the streams, by their completion, and the checker's yes. TooMany says that they are
-/// more than `most`, or that more than 1,000 counts are missing before one event of the completion
-/// or 1,000,000 in all: each takes an act.
+/// Acts that show the streams, by their completion; the checker said yes to them. TooMany says that
+/// they are more than `most`, or that more than 1,000 counts are missing before one event of the
+/// completion or 1,000,000 in all: each takes an act.
 ///
-/// It sorts on several threads, with one answer for every number of threads.
+/// It sorts on several threads, with the same result for every number of threads.
 pub fn certificate<const TOP: u64>(
     rt: &(impl Threads + Sync),
     alloc: Global,

@@ -1,23 +1,31 @@
 //! The search for a completion.
 
-ghost use Rattle.std.specs.Prelude.{◌≡◌, ◌≤◌, IfOk, IfSome, None, Some, length};
+ghost use Rattle.std.specs.Prelude.{◌≡◌, ℕ, ◌≤◌, IfNone, IfOk, IfSome, None, Some, length};
 ghost use Rattle.std.specs.Option.{ForSome};
 ghost use Rattle.st_core.specs.Streams.{IsStreams};
 ghost use Rattle.st_pair.specs.Links.{IsPairing};
 ghost use Rattle.st_pair.specs.Pairing.{refusal, IsPairFault};
 ghost use Rattle.st_full.specs.Needs.{is_late, HoldsOfNone};
-ghost use Rattle.st_complete.specs.Answers.{HoldsThere, IsAnswer, IsHigher, IsNeverFinal, IsRooted};
+ghost use Rattle.st_full.specs.Supply.{IsSupplied};
+ghost use Rattle.st_complete.specs.Answers.{is_too_high, HoldsThere, IsAnswer, IsNeverFinal, IsOtherwiseShown};
+ghost use Rattle.st_complete.specs.Answers.{IsRooted, IsUnsent};
+ghost use Rattle.st_complete.specs.Flaws.{HidesNone, LastHigher};
 
 use crate::answer::{Answer, CompleteFault, Never};
 use crate::checking::checked;
-use crate::flaws::{Flaw, find_flaw};
+use crate::flaws::{Flaw, find_flaw, has_hidden};
 use crate::searching::{Found, search};
+use crate::supplying::{find_unsent, is_unsent};
+use crate::writing::Candidate;
 use st_core::{Event, Pid, Streams};
-use st_full::laws::{runs_have_full_completions, shown_streams_have_nothing_against_them};
+use st_full::laws::{
+    runs_have_full_completions, shown_exactly_where_nothing_is_needed,
+    shown_streams_have_nothing_against_them,
+};
 use st_pair::{PairFault, Pairing, pair};
 use std::alloc::{AllocError, Global};
 
-/// A reason of pairing as an answer.
+/// The refusal of pairing as a reason.
 fn refused<const TOP: u64>(streams: &Streams, fault: PairFault) -> Result<Answer, CompleteFault>
     requires { IsPairFault streams.now fault }
     ensures { IfOk result (IsAnswer TOP streams.now) }
@@ -43,7 +51,7 @@ fn refused<const TOP: u64>(streams: &Streams, fault: PairFault) -> Result<Answer
 /// The last event before this index that counts no lower than this.
 fn last_higher(events: &[Event], index: usize, this: u64) -> Option<usize>
     requires { index ≤ length events.now }
-    ensures { IfSome result (IsHigher events.now index this) }
+    ensures { LastHigher events.now this index result }
 {
     let mut last = None;
     for i in 0..index {
@@ -54,71 +62,33 @@ fn last_higher(events: &[Event], index: usize, this: u64) -> Option<usize>
     last
 }
 
-/// The answer for an event that counts no higher than one before it.
-fn late<const TOP: u64>(streams: &Streams, pid: Pid, index: u64) -> Option<Answer>
+/// The reason for an event that counts no higher than one before it.
+fn late<const TOP: u64>(streams: &Streams, pid: Pid, index: u64) -> Answer
     requires accepted { refusal streams.now ≡ None }
     requires late { HoldsThere is_late streams.now pid index }
-    ensures { IfSome result (IsAnswer TOP streams.now) }
+    ensures { IsAnswer TOP streams.now result }
 {
     let events = streams.events(pid);
-    let event = streams.event(pid, index)?;
-    if index as usize > events.len() {
-        return None;
-    }
-    let higher = last_higher(events, index as usize, event.serial.this)?;
-    Some(Answer::Never(pid, index, Never::Late(higher as u64)))
+    let Some(event) = streams.event(pid, index) else {
+        unreachable!()
+    };
+    let Some(higher) = last_higher(events, index as usize, event.serial.this) else {
+        unreachable!()
+    };
+    Answer::Never(pid, index, Never::Late(higher as u64))
 }
 
-/// The answer that says nothing, at the place of an event.
+/// `Open` at the place of an event.
 fn open<const TOP: u64>(streams: &Streams, pid: Pid, index: u64) -> Option<Answer>
-    requires { refusal streams.now ≡ None }
+    requires rooted { IsRooted streams.now }
+    requires within { HoldsOfNone (is_too_high TOP) streams.now }
+    requires supplied { HidesNone streams.now → (v : ℕ) → IsSupplied streams.now v }
     ensures { IfSome result (IsAnswer TOP streams.now) }
 {
     match streams.event(pid, index) {
         None => None,
         Some(_) => Some(Answer::Open(pid, index)),
     }
-}
-
-/// What the search for a completion comes to; none if it names no event, which is not expected.
-fn searched<const TOP: u64>(
-    alloc: Global,
-    streams: &Streams,
-    pairing: &Pairing,
-) -> Result<Option<Answer>, AllocError>
-    requires { refusal streams.now ≡ None }
-    ensures { IfOk result (λ found. ForSome found (IsAnswer TOP streams.now)) }
-{
-    match search(alloc, streams, pairing)? {
-        None => Ok(None),
-        Some(Found::Short(pid, index)) => Ok(open::<TOP>(streams, pid, index)),
-        Some(Found::Candidate(candidate)) => match checked::<TOP>(alloc, streams, candidate)? {
-            None => Ok(None),
-            Some(completion) => Ok(Some(Answer::Whole(completion))),
-        },
-    }
-}
-
-/// The answer for streams that pairing accepts, if there is one.
-fn found<const TOP: u64>(
-    alloc: Global,
-    streams: &Streams,
-    pairing: &Pairing,
-) -> Result<Option<Answer>, AllocError>
-    requires accepted { refusal streams.now ≡ None }
-    requires paired { IsPairing streams.now pairing.now }
-    ensures { IfOk result (λ found. ForSome found (IsAnswer TOP streams.now)) }
-{
-    if let Some((pid, index)) = find_flaw(streams, Flaw::Late) {
-        return Ok(late::<TOP>(streams, pid, index));
-    }
-    if let Some((pid, index)) = find_flaw(streams, Flaw::Rootless) {
-        return Ok(Some(Answer::Never(pid, index, Never::Unfounded)));
-    }
-    if let Some((pid, index)) = find_flaw(streams, Flaw::TooHigh(TOP)) {
-        return Ok(Some(Answer::Never(pid, index, Never::TooHigh)));
-    }
-    searched::<TOP>(alloc, streams, pairing)
 }
 
 /// The place of the first event.
@@ -131,13 +101,17 @@ fn first_place(streams: &Streams) -> Option<(Pid, u64)> {
     None
 }
 
-/// The answer where the search named no event. That isn't expected: its whole streams were none, or
-/// the judge refused them.
-fn unexpected<const TOP: u64>(streams: &Streams) -> Result<Answer, CompleteFault>
-    requires { refusal streams.now ≡ None }
+/// `Open` at the place that the search named, or if it named none, at the first event.
+fn open_at<const TOP: u64>(
+    streams: &Streams,
+    place: Option<(Pid, u64)>,
+) -> Result<Answer, CompleteFault>
+    requires rooted { IsRooted streams.now }
+    requires within { HoldsOfNone (is_too_high TOP) streams.now }
+    requires supplied { HidesNone streams.now → (v : ℕ) → IsSupplied streams.now v }
     ensures { IfOk result (IsAnswer TOP streams.now) }
 {
-    let Some((pid, index)) = first_place(streams) else {
+    let Some((pid, index)) = place.or(first_place(streams)) else {
         return Err(CompleteFault::Memory);
     };
     match open::<TOP>(streams, pid, index) {
@@ -146,29 +120,145 @@ fn unexpected<const TOP: u64>(streams: &Streams) -> Result<Answer, CompleteFault
     }
 }
 
-/// The answer.
-fn answered<const TOP: u64>(alloc: Global, streams: &Streams) -> Result<Answer, CompleteFault>
+/// If no send is hidden, the first event that needs a message of which there are too few.
+fn unsent(
+    alloc: Global,
+    streams: &Streams,
+    pairing: &Pairing,
+) -> Result<Option<(Pid, u64)>, AllocError>
+    requires { IsPairing streams.now pairing.now }
+    ensures some { IfOk result (λ found. ForSome found (λ at. IsUnsent streams.now at.0 at.1)) }
+    ensures none { IfOk result (λ found. IfNone found
+        (HidesNone streams.now → (v : ℕ) → IsSupplied streams.now v)) }
+{
+    let hidden = has_hidden(streams, pairing);
+    if hidden {
+        return Ok(None);
+    }
+    find_unsent(alloc, streams)
+}
+
+/// What is said if the search found no completion: a reason, if there is one and no send is hidden.
+fn unfound<const TOP: u64>(
+    alloc: Global,
+    streams: &Streams,
+    pairing: &Pairing,
+    place: Option<(Pid, u64)>,
+) -> Result<Answer, CompleteFault>
+    requires rooted { IsRooted streams.now }
+    requires within { HoldsOfNone (is_too_high TOP) streams.now }
+    requires paired { IsPairing streams.now pairing.now }
     ensures { IfOk result (IsAnswer TOP streams.now) }
 {
-    let pairing = match pair(alloc, streams) {
-        Ok(pairing) => pairing,
-        Err(fault) => return refused::<TOP>(streams, fault),
-    };
-    match found::<TOP>(alloc, streams, &pairing) {
+    match unsent(alloc, streams, pairing) {
         Err(_) => Err(CompleteFault::Memory),
-        Ok(Some(answer)) => Ok(answer),
-        Ok(None) => unexpected::<TOP>(streams),
+        Ok(Some((pid, index))) => Ok(Answer::Never(pid, index, Never::Unsent)),
+        Ok(None) => open_at::<TOP>(streams, place),
     }
 }
 
-/// A completion of the streams, or an event and the reason why they have none. The same streams
-/// always get the same answer.
-///
-/// `Never::Unsent` isn't given yet: such streams are `Open` at the last need of the least such count.
+/// What is said of an event whose prev nobody could have sent, as the search says: a reason, if a
+/// count shows it.
+fn short<const TOP: u64>(
+    alloc: Global,
+    streams: &Streams,
+    pairing: &Pairing,
+    pid: Pid,
+    index: u64,
+) -> Result<Answer, CompleteFault>
+    requires rooted { IsRooted streams.now }
+    requires within { HoldsOfNone (is_too_high TOP) streams.now }
+    requires paired { IsPairing streams.now pairing.now }
+    ensures { IfOk result (IsAnswer TOP streams.now) }
+{
+    match is_unsent(alloc, streams, pid, index) {
+        Err(_) => Err(CompleteFault::Memory),
+        Ok(true) => Ok(Answer::Never(pid, index, Never::Unsent)),
+        Ok(false) => unfound::<TOP>(alloc, streams, pairing, Some((pid, index))),
+    }
+}
+
+/// What is said of a candidate: that it is a completion, if it is one.
+fn judged<const TOP: u64>(
+    alloc: Global,
+    streams: &Streams,
+    pairing: &Pairing,
+    candidate: Candidate,
+) -> Result<Answer, CompleteFault>
+    requires rooted { IsRooted streams.now }
+    requires within { HoldsOfNone (is_too_high TOP) streams.now }
+    requires paired { IsPairing streams.now pairing.now }
+    ensures { IfOk result (IsAnswer TOP streams.now) }
+{
+    match checked::<TOP>(alloc, streams, candidate) {
+        Err(_) => Err(CompleteFault::Memory),
+        Ok(Some(completion)) => Ok(Answer::Whole(completion)),
+        Ok(None) => unfound::<TOP>(alloc, streams, pairing, None),
+    }
+}
+
+/// What is said of streams if nothing that is read off the events of one process refuses them.
+fn decided<const TOP: u64>(
+    alloc: Global,
+    streams: &Streams,
+    pairing: &Pairing,
+) -> Result<Answer, CompleteFault>
+    requires rooted { IsRooted streams.now }
+    requires within { HoldsOfNone (is_too_high TOP) streams.now }
+    requires paired { IsPairing streams.now pairing.now }
+    ensures { IfOk result (IsAnswer TOP streams.now) }
+{
+    match search(alloc, streams, pairing) {
+        Err(_) => Err(CompleteFault::Memory),
+        Ok(None) => unfound::<TOP>(alloc, streams, pairing, None),
+        Ok(Some(Found::Short(pid, index))) => { short::<TOP>(alloc, streams, pairing, pid, index) }
+        Ok(Some(Found::Candidate(candidate))) => {
+            judged::<TOP>(alloc, streams, pairing, candidate)
+        }
+    }
+}
+
+/// What is said of streams that pairing accepts.
+fn found<const TOP: u64>(
+    alloc: Global,
+    streams: &Streams,
+    pairing: &Pairing,
+) -> Result<Answer, CompleteFault>
+    requires accepted { refusal streams.now ≡ None }
+    requires paired { IsPairing streams.now pairing.now }
+    ensures { IfOk result (IsAnswer TOP streams.now) }
+{
+    if let Some((pid, index)) = find_flaw(streams, Flaw::Late) {
+        return Ok(late::<TOP>(streams, pid, index));
+    }
+    if let Some((pid, index)) = find_flaw(streams, Flaw::Rootless) {
+        return Ok(Answer::Never(pid, index, Never::Unfounded));
+    }
+    if let Some((pid, index)) = find_flaw(streams, Flaw::TooHigh(TOP)) {
+        return Ok(Answer::Never(pid, index, Never::TooHigh));
+    }
+    decided::<TOP>(alloc, streams, pairing)
+}
+
+/// What is said of streams.
+fn answered<const TOP: u64>(alloc: Global, streams: &Streams) -> Result<Answer, CompleteFault>
+    ensures { IfOk result (IsAnswer TOP streams.now) }
+{
+    match pair(alloc, streams) {
+        Err(fault) => refused::<TOP>(streams, fault),
+        Ok(pairing) => found::<TOP>(alloc, streams, &pairing),
+    }
+}
+
+/// A completion of the streams, or an event and the reason why they have none; or `Open` if neither
+/// is found. If no receive's send is hidden, acts without a reset show the streams exactly if the
+/// result isn't a `Never`. The same streams always get the same result.
 pub fn complete<const TOP: u64>(alloc: Global, streams: &Streams) -> Result<Answer, CompleteFault>
     ensures answer { IfOk result (IsAnswer TOP streams.now) }
     ensures ruled_out { IfOk result (IsNeverFinal TOP streams.now) }
+    ensures shown { IfOk result (IsOtherwiseShown TOP streams.now) }
 {
+    shown_exactly_where_nothing_is_needed();
     shown_streams_have_nothing_against_them();
     runs_have_full_completions();
     let _pids = streams.pids();

@@ -72,7 +72,7 @@ impl Completion {
         &self.streams
     }
 
-    /// Whether the event at this index of the process is told; none where there is no event.
+    /// Whether the event at this index of the process is told; none if there is no event.
     pub fn told(&self, pid: Pid, index: u64) -> Option<bool>
         ensures { result ≡ option_map (λ m. m.told) (slice_get (marked_of self.now pid) index) }
     {

@@ -156,7 +156,7 @@ impl Tables {
         Ok(tables)
     }
 
-    /// The own supply of this number for needs of this count and process.
+    /// The supply of this number among those of the need's own count and process.
     fn supply(&self, need: Need, number: usize) -> Option<Supply> {
         let key = (need.count, need.process);
         let start = self
@@ -193,12 +193,12 @@ struct Given {
     process: usize,
     /// How many of its own supplies are given.
     own: usize,
-    /// Where the next free process may stand.
+    /// The least place that the next free process may have.
     free: usize,
 }
 
 impl Given {
-    /// Before the need, after the one before it.
+    /// The state before the need, from that after the need before it.
     fn before(self, need: Need) -> Given {
         if self.count != need.count {
             return Given {

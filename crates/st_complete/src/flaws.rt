@@ -1,7 +1,7 @@
 //! What may be wrong with an event after those of its process before it, and the first event with
 //! such a flaw.
 
-ghost use Rattle.std.specs.Prelude.{◌≡◌, [], ◌∷◌, ◌++◌, false, List, IfNone, IfSome};
+ghost use Rattle.std.specs.Prelude.{◌≡◌, [], ◌∷◌, ◌++◌, false, true, List, IfNone, IfSome};
 ghost use Rattle.st_core.specs.declared.types.Event.{Event as EventValue};
 ghost use Rattle.st_core.specs.Streams.{events_of};
 ghost use Rattle.st_pair.specs.Links.{IsPairing};
@@ -192,8 +192,10 @@ pub(crate) fn has_flaw(streams: &Streams, flaw: Flaw) -> bool
 /// Whether the send of a receive is hidden.
 pub(crate) fn has_hidden(streams: &Streams, pairing: &Pairing) -> bool
     requires { IsPairing streams.now pairing.now }
-    ensures { result ≡ false → HidesNone streams.now }
+    ensures none { result ≡ false → HidesNone streams.now }
+    ensures some { result ≡ true → ¬ HidesNone streams.now }
 {
+    let _pids = streams.pids();
     match first_hidden(streams, pairing) {
         None => false,
         Some(_) => true,

@@ -2,7 +2,7 @@
 //!
 //! `complete` gives streams a completion: whole streams of which they are what was told, and which
 //! acts without a reset show. Or it names an event and a reason that is final. `certificate` writes
-//! the acts of a completion.
+//! the acts of a completion. `renumbered` makes the counts of streams small.
 #![tactic(auto)]
 
 mod answer;
@@ -16,6 +16,7 @@ mod placing;
 mod prices;
 mod renumbering;
 mod searching;
+mod supplying;
 mod writing;
 
 pub use answer::{Answer, Certificate, CertificateFault, CompleteFault, Never};

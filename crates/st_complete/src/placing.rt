@@ -143,7 +143,7 @@ struct Stretch {
 #[derive(Debug, Drop)]
 struct Walks {
     all: Vec<Walk>,
-    /// Where the walks up to the last hidden send begin.
+    /// The number of the first walk up to the last hidden send.
     last: usize,
     /// The serial of the stamp before the next one.
     before: Serial,
@@ -187,8 +187,8 @@ impl Walks {
         Ok(())
     }
 
-    /// The two ways on from a walk over a hidden send: where it stands, or behind the next receive
-    /// of its prev.
+    /// The two ways to go on from a walk over a hidden send: it stays at the walk's place, or moves
+    /// behind the next receive of its prev.
     fn go_on(
         &mut self,
         ground: &Ground,
@@ -258,7 +258,7 @@ impl Walks {
 }
 
 impl Ground {
-    /// The first of these events with which this count is reached; their number if none does.
+    /// The index of the first of these events that reaches this count; their number if none does.
     fn reach(&self, count: u64) -> usize {
         self.left
             .partition_point(|left| left.greatest < count)

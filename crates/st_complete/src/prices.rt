@@ -23,7 +23,7 @@ impl Prices {
         Ok(Prices { rows })
     }
 
-    /// Where the count stands, if it is scarce.
+    /// The row of the count, if it is scarce.
     fn place_of(&self, count: u64) -> Option<usize> {
         let at = self.rows.partition_point(|row| row.0 < count);
         if self.rows.get(at)?.0 == count {
@@ -41,7 +41,7 @@ impl Prices {
         }
     }
 
-    /// Makes a count dearer that too many need.
+    /// Raises the price of a count that too many need.
     pub(crate) fn raise(&mut self, count: u64) {
         if let Some(at) = self.place_of(count) {
             if let Some(row) = self.rows.get_mut(at) {

@@ -30,8 +30,8 @@ fn pairing_of(alloc: Global, streams: &Streams) -> Result<Option<Pairing>, Alloc
     }
 }
 
-/// The candidate with the messages that its needs get, or the last need of the least count that has
-/// too few, and what has too few.
+/// The candidate with the messages that its needs get, if none lacks one; and the last need of each
+/// count that has too few.
 fn fed(alloc: Global, candidate: &Candidate) -> Result<(Option<Candidate>, Vec<Need>), AllocError> {
     let Some(pairing) = pairing_of(alloc, &candidate.streams)? else {
         return Ok((None, Vec::new(alloc)));
@@ -44,8 +44,8 @@ fn fed(alloc: Global, candidate: &Candidate) -> Result<(Option<Candidate>, Vec<N
     Ok((with_more(alloc, candidate, extras)?, feeding.into_short()))
 }
 
-/// The place of a process's stamp of this count among the streams: of a hidden send that of its
-/// receive.
+/// The place of a process's stamp of this count among the streams; if it is a hidden send, the place
+/// of its receive.
 fn place_of_stamp(streams: &Streams, pid: Pid, this: u64) -> Option<(Pid, u64)> {
     for (index, event) in streams.events(pid).iter().enumerate() {
         if is_stamp(event) && event.serial.this == this {
@@ -69,7 +69,7 @@ fn place_in(streams: &Streams, candidate: &Candidate, need: Need) -> Option<(Pid
     place_of_stamp(streams, pid, event.serial.this)
 }
 
-/// The same with hidden sends.
+/// What the search comes to if sends are hidden.
 fn found_with_hidden(
     alloc: Global,
     streams: &Streams,
@@ -99,7 +99,8 @@ fn found_with_hidden(
     Ok(place.map(|(pid, index)| Found::Short(pid, index)))
 }
 
-/// Whole streams that may be a completion, or a place where the search ended.
+/// Whole streams that may be a completion, or the place of an event whose prev nobody could have
+/// sent, as far as was tried.
 pub(crate) fn search(
     alloc: Global,
     streams: &Streams,

@@ -16,7 +16,7 @@ pub(crate) struct Candidate {
     pub told: Vec<Sequence<bool>>,
 }
 
-/// An untold event, and where it stands: before this event of the process.
+/// An untold event, and its place: before this event of the process.
 #[derive(Clone, Copy, Debug)]
 pub(crate) struct Extra {
     /// The process, by its place in the streams.
@@ -28,7 +28,8 @@ pub(crate) struct Extra {
 }
 
 impl Extra {
-    /// What extras are sorted by: sends stand before a receive for the same event, and by count.
+    /// The key by which extras are sorted: sends stand before a receive for the same event, and by
+    /// count.
     fn key(&self) -> (usize, usize, bool, u64) {
         (
             self.process,
@@ -69,7 +70,7 @@ fn wanted_sends(alloc: Global, feeds: &[Feed]) -> Result<Vec<Wanted>, AllocError
     Ok(wanted)
 }
 
-/// What each event of a process leaves, behind what is left at first.
+/// What is left before each event of a process, and behind the last.
 pub(crate) fn all_left(alloc: Global, events: &[Event]) -> Result<Vec<Left>, AllocError> {
     let mut left = Left::by_none();
     let mut all = Vec::with_capacity(alloc, events.len().saturating_add(1))?;
@@ -136,7 +137,7 @@ impl Inventions {
         Ok(())
     }
 
-    /// Where a send of this count stands: before the first event with which the count is reached.
+    /// The index at which a send of this count stands: before the first event that reaches it.
     fn index_of(&self, count: u64) -> usize {
         self.left
             .partition_point(|left| left.greatest < count)
@@ -234,8 +235,8 @@ impl Inventions {
     }
 }
 
-/// Adds the untold events at the front that stand before this event of the process, and gives back
-/// the others.
+/// Adds the untold events at the front that stand before this event of the process, and returns the
+/// others.
 fn add_extras<'a>(
     draft: &mut Draft,
     marks: &mut Vec<bool>,
@@ -258,7 +259,8 @@ fn add_extras<'a>(
     Ok(rest)
 }
 
-/// Adds the events of a process among those that stand before them, and gives back the others.
+/// Adds the events of a process, each behind the untold ones that stand before it, and returns the
+/// other untold events.
 fn add_process<'a>(
     draft: &mut Draft,
     marks: &mut Vec<bool>,
@@ -281,7 +283,7 @@ fn add_process<'a>(
     add_extras(draft, marks, pid, rest, process, streams.events(pid).len())
 }
 
-/// Whether the event is told: each is, where there is no candidate.
+/// Whether the event is told: each is, if there is no candidate.
 fn is_told(base: Option<&Candidate>, process: usize, index: usize) -> bool {
     match base {
         None => true,
@@ -292,7 +294,7 @@ fn is_told(base: Option<&Candidate>, process: usize, index: usize) -> bool {
     }
 }
 
-/// These streams with the extras; none if they aren't streams, which is not expected.
+/// These streams with the extras; none if the result isn't streams, which is not expected.
 fn with_extras(
     alloc: Global,
     streams: &Streams,

@@ -1,15 +1,11 @@
 -- What no test holds of is so of each event.
-use Rattle.std.proofs.Common.{◌≡◌, ℕ, ◌≤◌, false, nat_lt, arith}
-use Rattle.std.proofs.lemmas.Bool.Decides.{nat_tests}
+use Rattle.st_complete.proofs.Answered.{not_above}
 use Rattle.st_complete.proofs.checking.is_needless.Goals as goal
-
-not_above : (top this : ℕ) → nat_lt top this ≡ false → this ≤ top
-not_above top this is = grind (arith, nat_tests, is)
 
 pub returns : goal.returns
 returns g c = λ yes. record {
   accepted = c.in-Ok.ensures.ok.accepted;
-  reported = c.has_hidden-hidden.ensures c.if-hidden.false;
+  reported = c.has_hidden-hidden.ensures.none c.if-hidden.false;
   timely = c.has_flaw-late.ensures c.if-late.false;
   caused = c.has_flaw-need.ensures c.if-need.false;
   within = λ p i e at. not_above g.row.TOP e.serial.this (c.has_flaw-high.ensures c.if-high.false p i e at);
