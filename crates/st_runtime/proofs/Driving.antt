@@ -14,11 +14,11 @@ use Rattle.st_core.specs.Pid.{pid_eq, IsRising}
 use Rattle.st_core.specs.Run.{Shows, pids_of, run}
 use Rattle.st_core.specs.Step.{actor}
 use Rattle.st_core.specs.Streams.{IsStreams}
-use Rattle.st_runtime.specs.declared.entry.Entry.{Entry}
+use Rattle.st_runtime.specs.declared.pcb.entry.Entry.{Entry}
 use Rattle.st_runtime.specs.declared.fault.ActFault.{ActFault}
 use Rattle.st_runtime.specs.declared.fault.ActFault.TheVariants as fault
-use Rattle.st_runtime.specs.declared.record.Record.{Record}
-use Rattle.st_runtime.specs.declared.worker.Ending.{Ending}
+use Rattle.st_runtime.specs.declared.join.record.Record.{Record}
+use Rattle.st_runtime.specs.declared.driver.worker.Ending.{Ending}
 use Rattle.st_runtime.specs.Driven.{acts_by, acts_in, stamps_in, IsDriven, IsOwn, IsRefused, IsPossible}
 use Rattle.st_runtime.specs.Driven.{IsWorkerFault}
 use Rattle.st_runtime.specs.Joined.{IsJoined}

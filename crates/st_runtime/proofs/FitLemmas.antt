@@ -1,4 +1,4 @@
--- Where each process fits and each seat is that of a process, no pid is left that could be unseated.
+-- If each process fits and each seat is that of a process, no pid is left that could be unseated.
 use Rattle.std.proofs.Common.{◌≡◌, ◌<◌, ◌+◌, ℕ, List, length, get_or, true, Some, ap, subst, ◌∙◌, arith}
 use Rattle.std.proofs.lemmas.List.FromFn.{length-range_with_len, get_or-range_with_len}
 use Rattle.std.proofs.lemmas.Option.{slice_get-get_or}
@@ -22,7 +22,7 @@ fits_in pieces each x i =
     let at = In-Contains x pieces.processes i in
     each at.0 at.1 x (slice_get-get_or pieces.processes at.0 x at.1 ∙ ap Some at.2)
 
--- pieces fit where each process does and each seat is that of a process
+-- pieces fit if each process does and each seat is that of a process
 pub all_fit : (pieces : Parts) → ((k : ℕ) → k < length pieces.processes → FitsAt pieces k)
     → All (λ (s : Calls). is_among (pids_in pieces.processes) s.pid ≡ true) pieces.seats → IsFit pieces
 all_fit pieces each listed =

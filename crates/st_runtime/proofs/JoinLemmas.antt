@@ -5,8 +5,8 @@ use Rattle.std.specs.Prelude.{filter}
 use Rattle.st_core.specs.declared.types.Pid.{Pid}
 use Rattle.st_core.specs.Pid.{pid_eq}
 use Rattle.st_core.proofs.ForCallers.{pid_eq-same}
-use Rattle.st_runtime.specs.declared.entry.Entry.{Entry}
-use Rattle.st_runtime.specs.declared.record.Record.{Record}
+use Rattle.st_runtime.specs.declared.pcb.entry.Entry.{Entry}
+use Rattle.st_runtime.specs.declared.join.record.Record.{Record}
 use Rattle.st_runtime.specs.Joined.{IsOneRun, IsJoined}
 use Rattle.st_runtime.specs.Joining.{IsLogged}
 use Rattle.st_runtime.specs.Pcb.{Control}
@@ -20,7 +20,7 @@ In-map f y (x ∷ xs) i =
     ⊎_elim (λ first. (x, (inl refl, first)))
     (λ later. let r = In-map f y xs later in (r.0, (inr r.1.0, r.1.1))) i
 
--- a seat's calls in the run, where its pid is seated
+-- a seat's calls in the run, if its pid is seated
 pub seat_calls : (top : ℕ) (pieces : Parts) (es : List Entry) (s : Calls) → IsOneRun top pieces.processes es
     → ((p : Pid) → IsSeated pieces p) → In s pieces.seats → calls_of s.pid es ≡ s.mine
 seat_calls top pieces es s run seated i =

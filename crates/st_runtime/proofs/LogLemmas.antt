@@ -7,7 +7,7 @@ use Rattle.st_core.specs.declared.types.Message.{Message}
 use Rattle.st_core.specs.State.{LocalState, Process}
 use Rattle.st_mail.specs.Actor.{process_of, QueueFits}
 use Rattle.st_mail.specs.Mail.{queue_in}
-use Rattle.st_runtime.specs.declared.entry.Entry.{Entry}
+use Rattle.st_runtime.specs.declared.pcb.entry.Entry.{Entry}
 use Rattle.st_runtime.specs.Inside.{IsInside}
 use Rattle.st_runtime.specs.Logs.{IsPart, LeadTo, RanksRise, last_rank, zero_process}
 use Rattle.st_runtime.specs.Pcb.{IsKept}
@@ -53,7 +53,7 @@ kept_push top ranks r log e s kept part next =
       local = subst (λ p. LeadTo top (zero_process p) (log ++ e ∷ []) s) (sym (part_pid top r e s part)) led;
     }
 
--- the same inside, where the queue is what it is afterwards
+-- the same inside, if the queue is what it is afterwards
 pub inside_push : (top ranks : ℕ) (p : Pid) (l : LocalState) (boxes : List (List Message)) (log : List Entry)
     (e : Entry) (m : LocalState) (boxes' : List (List Message))
     → IsInside top ranks p l boxes log

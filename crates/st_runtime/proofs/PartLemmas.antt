@@ -16,7 +16,7 @@ use Rattle.st_core.specs.Step.{Acted, acted, actor, touches, reached}
 use Rattle.st_core.proofs.ForCallers.{pid_eq-true, pid_eq-same, changed_pid, reached_pid}
 use Rattle.st_mail.specs.Actor.{process_of, part_of, is_inner}
 use Rattle.st_mail.specs.declared.outcome.Outcome.{Outcome as Told}
-use Rattle.st_runtime.specs.declared.entry.Entry.{Entry}
+use Rattle.st_runtime.specs.declared.pcb.entry.Entry.{Entry}
 use Rattle.st_runtime.specs.Logs.{carried_by, IsOwnPart, IsOtherPart, IsPart}
 use Rattle.st_runtime.specs.Pcb.{is_wide}
 
@@ -133,7 +133,7 @@ other_is_part top r e s touched apart other = record {
 abbrev pub wide_entry : ℕ → Act → Reply → Entry
 wide_entry n a y = record { rank = n; act = a; reply = y; report = None; carried = None }
 
--- the act's reply is the machine's, where r is its actor
+-- the act's reply is the machine's, if r is its actor
 abbrev pub IsReplied : ℕ → Process → Act → Reply → Type 0
 IsReplied top r a y = actor a ≡ r.pid → option_map (λ (done : Acted). done.reply) (acted top r a) ≡ Some y
 

@@ -13,7 +13,7 @@ use Rattle.st_core.specs.Collected.{is_among}
 use Rattle.st_core.proofs.ForCallers.{pid_eq-true, some_of, step_done, run_from-more}
 use Rattle.st_core.proofs.ForCallers.{changed_pid, changed_untouched}
 use Rattle.st_core.proofs.ForCallers.{process_pid, process-map, mapped}
-use Rattle.st_runtime.specs.declared.entry.Entry.{Entry}
+use Rattle.st_runtime.specs.declared.pcb.entry.Entry.{Entry}
 use Rattle.st_runtime.specs.Logs.{IsPart, LeadTo, zero_process}
 use Rattle.st_runtime.specs.Pcb.{Control, IsKept}
 use Rattle.st_runtime.specs.Pieces.{pids_in, HasIfTouched, IsWhole, AreWhole, calls_of}

@@ -15,7 +15,7 @@ use Rattle.std.specs.Prelude.{IfSome}
 use Rattle.st_core.specs.declared.types.Pid.{Pid}
 use Rattle.st_core.specs.Pid.{pid_cmp}
 use Rattle.st_core.proofs.ForCallers.{nat_cmp-Equal}
-use Rattle.st_runtime.specs.declared.entry.Entry.{Entry}
+use Rattle.st_runtime.specs.declared.pcb.entry.Entry.{Entry}
 use Rattle.st_runtime.specs.Logs.{RanksRise}
 use Rattle.st_runtime.specs.Pcb.{Control}
 use Rattle.st_runtime.specs.Pieces.{pids_in}

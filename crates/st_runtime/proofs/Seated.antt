@@ -17,7 +17,7 @@ use Rattle.st_core.specs.Pid.{pid_cmp, pid_eq, IsBelow, IsRising}
 use Rattle.st_core.specs.Step.{actor}
 use Rattle.st_core.specs.Streams.{is_among}
 use Rattle.st_core.proofs.ForCallers.{pid_eq-true, pid_eq-same, IsBelow-apart, IsBelow-trans, not_below_itself}
-use Rattle.st_runtime.specs.declared.entry.Entry.{Entry}
+use Rattle.st_runtime.specs.declared.pcb.entry.Entry.{Entry}
 use Rattle.st_runtime.specs.Joining.{IsLeastUnseated, lesser}
 use Rattle.st_runtime.specs.Pcb.{Control}
 use Rattle.st_runtime.specs.Pieces.{Parts, pids_in, calls_of, seat_of, seats_at, seats_told, IsSeated, IsFirstUnseated}
@@ -32,13 +32,13 @@ abbrev pub rest_of : {X : Type 0} → List X → List X
 rest_of [] = []
 rest_of (x ∷ xs) = xs
 
--- two lists that begin alike are one exactly where their rests are
+-- two lists that begin alike are one exactly if their rests are
 pub same_rests : {X : Type 0} (x y : X) (xs ys : List X) → x ≡ y → (x ∷ xs ≡ y ∷ ys) ↔ (xs ≡ ys)
 same_rests x y xs ys same = (λ both. ap rest_of both, λ rests i. same i ∷ rests i)
 
 -- ---- seats
 
--- the seats of p from here on, where this one is another's
+-- the seats of p from here on, if this one is another's
 pub seats_past : (seats : List Calls) (i : ℕ) (s : Calls) (p : Pid) → i < length seats → s ≡ get_or seats i s
     → pid_eq s.pid p ≡ false → seats_at (drop i seats) p ≡ seats_at (drop (i + 1) seats) p
 seats_past seats i s p within is away =
@@ -47,7 +47,7 @@ seats_past seats i s p within is away =
     ap (λ ss. seats_at ss p) left
     ∙ ap (λ b. cond b (get_or seats i s ∷ seats_at (drop (i + 1) seats) p) (seats_at (drop (i + 1) seats) p)) apart
 
--- the same, where it is p's
+-- the same, if it is p's
 pub seats_here : (seats : List Calls) (i : ℕ) (s : Calls) (p : Pid) → i < length seats → s ≡ get_or seats i s
     → pid_eq s.pid p ≡ true → seats_at (drop i seats) p ≡ s ∷ seats_at (drop (i + 1) seats) p
 seats_here seats i s p within is mine =
@@ -100,7 +100,7 @@ calls_here p log i e within is mine =
     ap (calls_of p) left ∙ ap (λ b. cond b ((x.act, x.reply) ∷ []) [] ++ calls_of p (drop (i + 1) log)) here
     ∙ ap (λ (y : Entry). (y.act, y.reply) ∷ calls_of p (drop (i + 1) log)) (sym is)
 
--- at the log's end the calls are all told where none is left
+-- at the log's end the calls are all told if none is left
 pub calls_end : (mine : List (Act × Reply)) (k : ℕ) (p : Pid) (log : List Entry) (i : ℕ)
     → k ≤ length mine → length log ≤ i
     → (mine ≡ calls_of p log) ↔ (drop k mine ≡ calls_of p (drop i log))
@@ -185,7 +185,7 @@ less_is p q is = by (pid_cmp p q) is
     by Equal h = absurd (cc)
     by Greater h = absurd (cc)
 
--- a pid is below the lesser of two only where it is below both
+-- a pid is below the lesser of two only if it is below both
 lesser_below : (o : Option Pid) (p q : Pid) → IfSome (lesser o p) (IsBelow q) → IfSome o (IsBelow q)
 lesser_below None p q below = tt
 lesser_below (Some r) p q below =

@@ -11,7 +11,7 @@ use Rattle.st_core.specs.Pid.{pid_eq, IsBelow, IsRising}
 use Rattle.st_core.specs.Step.{actor, receiver, touches}
 use Rattle.st_core.specs.Streams.{is_among}
 use Rattle.st_core.proofs.ForCallers.{pid_eq-true, pid_eq-same, IsBelow-apart}
-use Rattle.st_runtime.specs.declared.entry.Entry.{Entry}
+use Rattle.st_runtime.specs.declared.pcb.entry.Entry.{Entry}
 use Rattle.st_runtime.specs.Joining.{HasAt, IsSettled}
 use Rattle.st_runtime.specs.Pcb.{Control, is_wide}
 use Rattle.st_runtime.specs.Pieces.{pids_in, AreWhole, HasIfTouched, IsWhole}
@@ -42,7 +42,7 @@ one_ascends (z ∷ zs) x y up i j same =
     absurd (not_below _ _ (sym same) (subst Below (sym first) (up.0 x later))))
     (λ also. one_ascends zs x y up.1 later also same) j) i
 
--- processes of one pid are one, where pids rise
+-- processes of one pid are one, if pids rise
 pub one_process : (xs : List Control) (x y : Control) → IsRising (pids_in xs) → In x xs → In y xs
     → x.process.pid ≡ y.process.pid → x ≡ y
 one_process xs x y rising i j same = one_ascends xs x y (Ascends-from_rising xs rising) i j same
@@ -148,7 +148,7 @@ whole_receiver xs e whole = has_at_of xs e (receiver e.act) (touches_receiver e.
 
 -- ---- entries that are looked for everywhere once
 
--- where each entry of each log is settled there, all are whole: it is in its actor's log, where it is whole
+-- if each entry of each log is settled there, all are whole: it is in its actor's log, if it is whole
 pub settled_whole : (xs : List Control) → All (λ (x : Control). All (IsSettled xs x.process.pid) x.log) xs → AreWhole xs
 settled_whole xs settled =
     let Settles : Control → Type 0 = λ x. All (IsSettled xs x.process.pid) x.log in

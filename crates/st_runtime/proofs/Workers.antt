@@ -10,7 +10,7 @@ use Rattle.st_core.specs.Step.{actor}
 use Rattle.st_core.proofs.ForCallers.{pid_eq-true, pid_eq-same}
 use Rattle.st_runtime.specs.declared.fault.ActFault.{ActFault}
 use Rattle.st_runtime.specs.declared.fault.ActFault.TheVariants as fault
-use Rattle.st_runtime.specs.declared.worker.Ending.{Ending}
+use Rattle.st_runtime.specs.declared.driver.worker.Ending.{Ending}
 use Rattle.st_runtime.specs.Driven.{IsOwn}
 use Rattle.st_runtime.specs.System.{knows}
 use Rattle.st_runtime.specs.Working.{called_acts, IsLeft, IsWorked}

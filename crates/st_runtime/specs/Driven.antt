@@ -7,13 +7,13 @@ use Rattle.st_core.specs.Pid.{pid_eq, IsRising}
 use Rattle.st_core.specs.Run.{Shows, pids_of, run}
 use Rattle.st_core.specs.Step.{Outcome, actor}
 use Rattle.st_core.specs.Streams.{IsStreams}
-use Rattle.st_runtime.specs.declared.entry.Entry.{Entry}
+use Rattle.st_runtime.specs.declared.pcb.entry.Entry.{Entry}
 use Rattle.st_runtime.specs.declared.fault.ActFault.{ActFault}
 use Rattle.st_runtime.specs.declared.fault.ActFault.TheVariants as act
 use Rattle.st_runtime.specs.declared.fault.DriveFault.{DriveFault}
 use Rattle.st_runtime.specs.declared.fault.DriveFault.TheVariants as fault
 use Rattle.st_runtime.specs.declared.fault.JoinFault.TheVariants as joining
-use Rattle.st_runtime.specs.declared.record.Record.{Record}
+use Rattle.st_runtime.specs.declared.join.record.Record.{Record}
 use Rattle.st_runtime.specs.Joined.{IsMerged}
 use Rattle.st_runtime.specs.Pcb.{Control, IsKept}
 use Rattle.st_runtime.specs.Pieces.{pids_in, AreWhole}
@@ -45,7 +45,7 @@ pub record IsDriven (top ranks : ℕ) (pids : List Pid) (scripts : List (List Ac
 abbrev pub acts_in : List (List Act) → ℕ
 acts_in scripts = sum_by (λ script. length script) scripts
 
--- how many acts of scripts stamp a token where there is one
+-- how many acts of scripts stamp a token if there is one
 abbrev pub stamps_in : List (List Act) → ℕ
 stamps_in scripts = sum_by (λ script. count_by is_stamping script) scripts
 
@@ -54,7 +54,7 @@ pub record IsOwn (pids : List Pid) (p : Pid) (a : Act) : Type 0 where
   pub mine : actor a ≡ p
   pub known : knows pids a ≡ true
 
--- Act n of p's script is refused so in a system of these pids: NotYours and Unknown exactly where they hold, and for no
+-- Act n of p's script is refused so in a system of these pids: NotYours and Unknown exactly if they hold, and for no
 -- act before it.
 pub record IsRefused (pids : List Pid) (p : Pid) (script : List Act) (n : ℕ) (f : ActFault) : Type 0 where
   pub asked : Act
@@ -64,7 +64,7 @@ pub record IsRefused (pids : List Pid) (p : Pid) (script : List Act) (n : ℕ) (
   pub clock : f ≡ act.ClockFull → is_stamping asked ≡ true
   pub before : All (IsOwn pids p) (take n script)
 
--- A full clock or rank takes more acts than it counts to. Want of memory is a refusal of its own.
+-- A full clock or rank takes more acts than it counts to. Memory that runs out is a fault of its own.
 abbrev pub IsPossible : ℕ → ℕ → List (List Act) → ActFault → Type 0
 IsPossible top ranks scripts act.NotYours = Unit {0}
 IsPossible top ranks scripts act.Unknown = Unit {0}
@@ -83,7 +83,7 @@ pub record IsWorkerFault (top ranks : ℕ) (pids : List Pid) (scripts : List (Li
   pub possible : IsPossible top ranks scripts f
   pub before : All (λ t. All (IsOwn pids t.0) t.1) (take number (zip pids scripts))
 
--- when scripts aren't driven: NotRising exactly where the pids don't rise
+-- when scripts aren't driven: NotRising exactly if the pids don't rise
 abbrev pub IsDriveFault : ℕ → ℕ → List Pid → List (List Act) → DriveFault → Type 0
 IsDriveFault top ranks pids scripts fault.Memory = IsRising pids
 IsDriveFault top ranks pids scripts (fault.Act p n f) = IsRising pids × IsWorkerFault top ranks pids scripts p n f

@@ -6,7 +6,7 @@ use Rattle.st_core.specs.declared.types.Act.{Act}
 use Rattle.st_core.specs.declared.types.Reply.{Reply}
 use Rattle.st_core.specs.State.{LocalState}
 use Rattle.st_mail.specs.Mail.{queue_in}
-use Rattle.st_runtime.specs.declared.entry.Entry.{Entry}
+use Rattle.st_runtime.specs.declared.pcb.entry.Entry.{Entry}
 use Rattle.st_mail.specs.Actor.{process_of, QueueFits}
 use Rattle.st_runtime.specs.Logs.{IsOwnPart, last_rank}
 use Rattle.st_runtime.specs.Pcb.{Control, IsKept}

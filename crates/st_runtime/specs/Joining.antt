@@ -13,8 +13,8 @@ use Rattle.st_core.specs.Pid.{pid_cmp, pid_eq, IsBelow}
 use Rattle.st_core.specs.Run.{Stream}
 use Rattle.st_core.specs.Step.{actor}
 use Rattle.st_core.specs.Streams.{added}
-use Rattle.st_runtime.specs.declared.entry.Entry.{Entry}
-use Rattle.st_runtime.specs.declared.record.Record.{Record}
+use Rattle.st_runtime.specs.declared.pcb.entry.Entry.{Entry}
+use Rattle.st_runtime.specs.declared.join.record.Record.{Record}
 use Rattle.st_runtime.specs.Joined.{IsMerged, IsOneRun, streams_of}
 use Rattle.st_runtime.specs.Pcb.{Control}
 use Rattle.st_runtime.specs.Pieces.{Parts, IsSeated, IsWhole}
@@ -42,7 +42,7 @@ pub record IsLeastUnseated {X : Type 0} (pid_of : X → Pid) (pieces : Parts) (x
   pub unseated : IfSome least (λ p. ¬ IsSeated pieces p)
   pub before : All (λ x. IfSome least (IsBelow (pid_of x)) → IsSeated pieces (pid_of x)) xs
 
--- the lesser of two pids, where there are two
+-- the lesser of two pids, if there are two
 abbrev pub lesser : Option Pid → Pid → Option Pid
 lesser None p = Some p
 lesser (Some q) p = if is_lt (pid_cmp p q) then Some p else Some q

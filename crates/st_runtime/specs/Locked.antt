@@ -22,7 +22,7 @@ IsLockFault (Err fault.ClockFull) = Unit {0}
 IsLockFault (Err fault.RankFull) = Unit {0}
 IsLockFault (Err fault.Memory) = Unit {0}
 
--- what an act of a whole node answers an actor that was traced or not
+-- what an act of a whole node returns to an actor that was traced or not
 abbrev pub wide_reply : Act → Bool → Reply
 wide_reply (act.Tracer p b) was = reply.Was was
 wide_reply a was = reply.Done

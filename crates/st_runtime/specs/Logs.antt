@@ -9,7 +9,7 @@ use Rattle.st_core.specs.Pid.{pid_eq}
 use Rattle.st_core.specs.State.{Process, zero_local}
 use Rattle.st_core.specs.Step.{Acted, acted, actor, touches, reached, changed}
 use Rattle.st_core.specs.Laws.{IsStamped}
-use Rattle.st_runtime.specs.declared.entry.Entry.{Entry}
+use Rattle.st_runtime.specs.declared.pcb.entry.Entry.{Entry}
 
 -- what an act's message carries, where its actor's token is now this: no act but a send carries a token
 abbrev pub carried_by : Act → Option Token → Option Token
@@ -58,7 +58,7 @@ abbrev pub RanksRise : ℕ → List Entry → Type 0
 RanksRise low [] = Unit {0}
 RanksRise low (e ∷ es) = (low < e.rank) × RanksRise e.rank es
 
--- the last rank, which is the greatest where ranks rise; low where there is none
+-- the last rank, which is the greatest if ranks rise; low if there is none
 abbrev pub last_rank : ℕ → List Entry → ℕ
 last_rank low [] = low
 last_rank low (e ∷ es) = last_rank e.rank es

@@ -8,7 +8,7 @@ use Rattle.st_core.specs.declared.types.Reply.{Reply}
 use Rattle.st_core.specs.Pid.{pid_eq}
 use Rattle.st_core.specs.State.{Process, State}
 use Rattle.st_core.specs.Step.{Outcome, step}
-use Rattle.st_runtime.specs.declared.entry.Entry.{Entry}
+use Rattle.st_runtime.specs.declared.pcb.entry.Entry.{Entry}
 use Rattle.st_runtime.specs.Logs.{IsLocal, RanksRise, last_rank}
 
 -- a process, its log, and for how many more entries the log has room
@@ -32,7 +32,7 @@ pub record IsSame (x y : Control) : Type 0 where
 abbrev pub lent_state : List Control → State
 lent_state xs = map (λ x. x.process) xs
 
--- the greatest rank in their logs, 0 where these are empty
+-- the greatest rank in their logs, 0 if these are empty
 abbrev pub greatest_rank : List Control → ℕ
 greatest_rank [] = 0
 greatest_rank (x ∷ xs) = max (last_rank 0 x.log) (greatest_rank xs)

@@ -8,7 +8,7 @@ use Rattle.st_core.specs.declared.types.Reply.{Reply}
 use Rattle.st_core.specs.Pid.{pid_eq, IsBelow}
 use Rattle.st_core.specs.Step.{actor, receiver, touches}
 use Rattle.st_core.specs.Streams.{is_among}
-use Rattle.st_runtime.specs.declared.entry.Entry.{Entry}
+use Rattle.st_runtime.specs.declared.pcb.entry.Entry.{Entry}
 use Rattle.st_runtime.specs.declared.fault.JoinFault.{JoinFault}
 use Rattle.st_runtime.specs.declared.fault.JoinFault.TheVariants as fault
 use Rattle.st_runtime.specs.Pcb.{Control}
@@ -66,7 +66,7 @@ seat_of x = record { pid = x.process.pid; mine = calls_of x.process.pid x.log }
 abbrev pub seats_at : List Calls → Pid → List Calls
 seats_at seats p = filter (λ s. pid_eq s.pid p) seats
 
--- the seats that the logs of p tell of: one, or none where p has no log
+-- the seats that the logs of p tell of: one, or none if p has no log
 abbrev pub seats_told : List Control → Pid → List Calls
 seats_told xs p = map seat_of (filter (λ x. pid_eq x.process.pid p) xs)
 

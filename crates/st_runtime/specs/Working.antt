@@ -12,7 +12,7 @@ use Rattle.st_runtime.specs.declared.fault.JoinFault.{JoinFault}
 use Rattle.st_runtime.specs.declared.fault.JoinFault.TheVariants as joining
 use Rattle.st_runtime.specs.declared.fault.OpenFault.{OpenFault}
 use Rattle.st_runtime.specs.declared.fault.OpenFault.TheVariants as opening
-use Rattle.st_runtime.specs.declared.worker.Ending.{Ending}
+use Rattle.st_runtime.specs.declared.driver.worker.Ending.{Ending}
 use Rattle.st_runtime.specs.Driven.{IsOwn, IsRefused}
 
 -- the acts of calls

@@ -6,23 +6,25 @@ ghost use Rattle.st_runtime.specs.Driven.{IsDriven, IsDriveFault, IsRefused, act
 ghost use Rattle.st_runtime.specs.System.{is_stamping};
 ghost use Rattle.st_runtime.specs.Working.{IsFirstRefusal};
 
-use crate::acts::is_stamping;
+pub mod worker;
+
+use crate::driver::worker::{Ending, WORKER_STACK, tasks_of, work_all};
 use crate::fault::{ActFault, DriveFault};
-use crate::gate::Gate;
 use crate::join::join_given;
-use crate::record::Record;
-use crate::seat::Seat;
+use crate::join::record::Record;
+use crate::pcb::acts::is_stamping;
 use crate::system::System;
-use crate::worker::{Ending, WORKER_STACK, tasks_of, work_all};
+use crate::system::gate::Gate;
+use crate::system::seat::Seat;
 use st_core::{Act, Pid, Sequence};
 use std::alloc::{AllocError, Global};
 use std::sync::Wait;
 use std::thread::Threads;
 
 /// Makes the acts of script k in the process of pid k, in order, each process in a thread of its own,
-/// and answers the one run that they made. It waits for locks and for the threads.
+/// and returns the one run that they made. It waits for locks and for the threads.
 ///
-/// Refusals: see `DriveFault`.
+/// `DriveFault` says when it fails.
 pub fn drive<const TOP: u64, const RANKS: u64, R: Threads + Wait + Sync, G: Gate + Sync>(
     rt: &R,
     alloc: Global,
@@ -69,7 +71,7 @@ fn drive_on<const TOP: u64, const RANKS: u64, R: Threads + Wait + Sync, G: Gate 
     Ok(join_given(rt, alloc, pieces)?)
 }
 
-/// How many acts the scripts hold; the greatest count, where there are more.
+/// How many acts the scripts hold; the greatest count, if there are more.
 fn acts_in(scripts: &[Sequence<Act>]) -> u64
     ensures { result ≤ acts_in scripts.now }
 {
@@ -80,7 +82,7 @@ fn acts_in(scripts: &[Sequence<Act>]) -> u64
     total
 }
 
-/// How many acts of the scripts stamp a token; the greatest count, where there are more.
+/// How many acts of the scripts stamp a token; the greatest count, if there are more.
 fn stamps_in(scripts: &[Sequence<Act>]) -> u64
     ensures { result ≤ stamps_in scripts.now }
 {
@@ -98,7 +100,7 @@ fn stamps_of(script: &[Act]) -> usize
     script.iter().filter(|act| is_stamping(act)).count()
 }
 
-/// Whether a worker met want of memory.
+/// Whether a worker ran out of memory.
 fn lacks_memory(ends: &[Ending]) -> bool
     ensures { IsFalse result → All (λ end. end.fault ≢ Some ActFault.Memory) ends.now }
 {

@@ -9,24 +9,33 @@ ghost use Rattle.st_runtime.specs.Joining.{IsLogged, IsReadOut};
 ghost use Rattle.st_runtime.specs.Pcb.{IsKept};
 ghost use Rattle.st_runtime.specs.Pieces.{pids_in, AreWhole, IsFit, IsJoinFault};
 
-use crate::collect::streams_of;
+pub mod collect;
+pub mod fitting;
+pub mod merge;
+pub mod record;
+pub mod same;
+pub mod seating;
+pub mod settled;
+pub mod whole;
+
 use crate::fault::JoinFault;
-use crate::fitting::is_seen_fit;
-use crate::merge::{acts_and_replies, acts_of, merged, replies_of};
+use crate::join::collect::streams_of;
+use crate::join::fitting::is_seen_fit;
+use crate::join::merge::{acts_and_replies, acts_of, merge_logs, replies_of};
+use crate::join::record::Record;
+use crate::join::seating::first_unseated;
+use crate::join::whole::first_missing;
 use crate::pcb::Pcb;
-use crate::pieces::Pieces;
-use crate::record::Record;
-use crate::seating::first_unseated;
-use crate::whole::first_missing;
+use crate::system::pieces::Pieces;
 use st_core::{Act, Reply, Sequence, Streams};
 use std::alloc::{AllocError, Global};
 use std::thread::{Threads, join};
 
-/// The record of what the threads did, exactly where the pieces fit: each entry stands in the log of
+/// The record of what the threads did, exactly if the pieces fit: each entry stands in the log of
 /// each process that its act touches, and each seat's calls are those of its process's log. The acts
 /// are not replayed. That they are a run of the machine follows from what the locks kept.
 ///
-/// Refusals: 2 Missing, 3 SeatDiffers, 1 Memory, in this order.
+/// It fails with `Missing`, else with `SeatDiffers`, else with `Memory`.
 pub fn join_pieces<const TOP: u64, const RANKS: u64>(
     alloc: Global,
     pieces: &Pieces<TOP, RANKS>,
@@ -54,7 +63,7 @@ pub(crate) fn join_given<const TOP: u64, const RANKS: u64, R: Threads + Sync>(
     Ok(run_by_threads(rt, alloc, processes.as_slice())?)
 }
 
-/// Refuses pieces that don't fit, where it isn't seen at once that they do.
+/// Refuses pieces that don't fit, if it isn't seen at once that they do.
 fn see_fit<const TOP: u64, const RANKS: u64>(
     rt: &(impl Threads + Sync),
     alloc: Global,
@@ -101,7 +110,7 @@ fn run_of_logs<const TOP: u64, const RANKS: u64>(
     requires whole { AreWhole processes.now }
     ensures { IfOk result (IsLogged TOP processes.now) }
 {
-    let entries = merged(alloc, processes)?;
+    let entries = merge_logs(alloc, processes)?;
     let acts = acts_of(alloc, entries.as_slice())?;
     let replies = replies_of(alloc, entries.as_slice())?;
     let streams = streams_of(alloc, processes)?;
@@ -123,7 +132,7 @@ fn run_by_threads<const TOP: u64, const RANKS: u64, R: Threads + Sync>(
     ensures logged { IfOk result (IsLogged TOP processes.now) }
     ensures kept { OnOk result (All (λ x. IsKept TOP RANKS x.process x.log) processes.now) }
 {
-    let merged = merged(alloc, processes)?;
+    let merged = merge_logs(alloc, processes)?;
     let entries = merged.as_slice();
     let (streams, calls) = join(
         rt,

@@ -8,42 +8,22 @@
 //! lock that is taken nothing is known but what the type of its value keeps.
 #![tactic(auto)]
 
-mod acts;
-mod collect;
 mod driver;
-mod entry;
-mod expected;
 mod fault;
-mod fitting;
-mod gate;
 mod join;
 pub mod laws;
-mod lock;
-mod log;
-mod merge;
-mod node;
-mod parts;
 mod pcb;
-mod pids;
-mod pieces;
-mod record;
-mod same;
-mod seat;
-mod seating;
-mod settled;
 mod system;
 #[cfg(test)]
 mod trial;
-mod whole;
-mod worker;
 
 pub use driver::drive;
-pub use entry::Entry;
 pub use fault::{ActFault, DriveFault, JoinFault, OpenFault, PcbFault};
-pub use gate::{Gate, OpenGate};
 pub use join::join_pieces;
+pub use join::record::Record;
 pub use pcb::Pcb;
-pub use pieces::Pieces;
-pub use record::Record;
-pub use seat::Seat;
+pub use pcb::entry::Entry;
 pub use system::System;
+pub use system::gate::{Gate, OpenGate};
+pub use system::pieces::Pieces;
+pub use system::seat::Seat;

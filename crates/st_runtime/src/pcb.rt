@@ -11,10 +11,15 @@ ghost use Rattle.st_runtime.specs.Logs.{zero_process, last_rank};
 ghost use Rattle.st_runtime.specs.Pcb.{IsKept, IsSame, IsStepped, IsBetween, lent_state, is_alone};
 ghost use Rattle.st_runtime.specs.Pcb.{is_wide, greatest_rank};
 
-use crate::entry::Entry;
+pub mod acts;
+pub mod entry;
+pub mod log;
+pub mod parts;
+
 use crate::fault::PcbFault;
-use crate::log::{last_rank, room, room_in_both};
-use crate::parts::{reach, receive_one, send};
+use crate::pcb::entry::Entry;
+use crate::pcb::log::{last_rank, room, room_in_both};
+use crate::pcb::parts::{reach, receive_one, send};
 use st_core::{Act, Local, Message, Pid, Reply, Want};
 use st_mail::Mailboxes;
 use st_mail::actor::inner;
@@ -56,7 +61,7 @@ impl<const TOP: u64, const RANKS: u64> Model for Pcb<TOP, RANKS> {
 }
 
 impl<const TOP: u64, const RANKS: u64> Pcb<TOP, RANKS> {
-    /// A process at the start, with an empty log. Refusal 1: no memory.
+    /// A process at the start, with an empty log. Fails if memory runs out.
     pub fn new(alloc: Global, pid: Pid) -> Result<Self, AllocError>
         ensures process { IfOk result (λ x. x.process ≡ zero_process pid) }
         ensures log { IfOk result (λ x. x.log ≡ []) }
@@ -64,7 +69,7 @@ impl<const TOP: u64, const RANKS: u64> Pcb<TOP, RANKS> {
         Pcb::with_room(alloc, pid, 0)
     }
 
-    /// The same, with room for this many entries. Refusal 1: no memory.
+    /// The same, with room for this many entries. Fails if memory runs out.
     pub(crate) fn with_room(alloc: Global, pid: Pid, room: usize) -> Result<Self, AllocError>
         ensures process { IfOk result (λ x. x.process ≡ zero_process pid) }
         ensures log { IfOk result (λ x. x.log ≡ []) }
@@ -103,7 +108,7 @@ impl<const TOP: u64, const RANKS: u64> Pcb<TOP, RANKS> {
         &self.local
     }
 
-    /// The greatest rank in its log, 0 where that is empty.
+    /// The greatest rank in its log, 0 if that is empty.
     pub(crate) fn last_rank(&self) -> u64
         ensures value { result ≡ last_rank 0 self.now.log }
         ensures within { result ≤ RANKS }
@@ -111,7 +116,7 @@ impl<const TOP: u64, const RANKS: u64> Pcb<TOP, RANKS> {
         last_rank(self.log.as_slice())
     }
 
-    /// Makes room for one entry. Refusal 1: no memory.
+    /// Makes room for one entry. Fails if memory runs out.
     pub fn prepare(&mut self) -> Result<(), AllocError>
         ensures same { IsSame self.old self.new }
         ensures room { OnOk result (0 < self.new.spare) }
@@ -120,8 +125,8 @@ impl<const TOP: u64, const RANKS: u64> Pcb<TOP, RANKS> {
         self.log.reserve(1)
     }
 
-    /// An act that touches this process alone, which is its actor. Refusals: 3 ClockFull,
-    /// 4 RankFull, 1 Memory, in this order.
+    /// An act that touches this process alone, which is its actor. It fails with the first of
+    /// `ClockFull`, `RankFull` and `Memory` that holds.
     pub fn alone(&mut self, act: &Act) -> Result<Reply, PcbFault>
         requires alone { is_alone act.now ≡ true }
         requires me { actor act.now ≡ self.old.process.pid }
@@ -146,8 +151,8 @@ impl<const TOP: u64, const RANKS: u64> Pcb<TOP, RANKS> {
         }
     }
 
-    /// A send between two processes, the sender first. Refusals: 3 ClockFull, 4 RankFull, 1 Memory,
-    /// in this order.
+    /// A send between two processes, the sender first. It fails with the first of `ClockFull`,
+    /// `RankFull` and `Memory` that holds.
     pub fn between(from: &mut Self, to: &mut Self, act: &Act) -> Result<Reply, PcbFault>
         requires { IsBetween act.now from.old.process.pid to.old.process.pid }
         ensures ok { IfOk result (λ y. IsStepped TOP act.now y (from.old ∷ to.old ∷ []) (from.new ∷ to.new ∷ [])) }
@@ -166,7 +171,7 @@ impl<const TOP: u64, const RANKS: u64> Pcb<TOP, RANKS> {
         Pcb::send(from, to, value)
     }
 
-    /// An act of the whole node, of which this is one process, where room was made. The entry was
+    /// An act of the whole node, of which this is one process, once room was made. The entry was
     /// made under the locks of all of them.
     pub fn commit(&mut self, entry: &Entry)
         requires room { 0 < self.old.spare }

@@ -14,17 +14,25 @@ ghost use Rattle.st_runtime.specs.Pieces.{pids_in};
 ghost use Rattle.st_runtime.specs.Seat.{no_calls};
 ghost use Rattle.st_runtime.specs.System.{knows, is_stamping};
 
-use crate::acts::{is_wide, receiver_of};
-use crate::entry::Entry;
-use crate::expected::expected_entries;
+pub mod expected;
+pub mod gate;
+pub mod lock;
+pub mod node;
+pub mod pids;
+pub mod pieces;
+pub mod seat;
+
 use crate::fault::{ActFault, OpenFault, PcbFault};
-use crate::gate::Gate;
-use crate::lock::taken;
-use crate::node::Found;
 use crate::pcb::Pcb;
-use crate::pids::{first_on, place_of};
-use crate::pieces::Pieces;
-use crate::seat::Seat;
+use crate::pcb::acts::{is_wide, receiver_of};
+use crate::pcb::entry::Entry;
+use crate::system::expected::expected_entries;
+use crate::system::gate::Gate;
+use crate::system::lock::take_lock;
+use crate::system::node::Found;
+use crate::system::pids::{first_on, place_of};
+use crate::system::pieces::Pieces;
+use crate::system::seat::Seat;
 use st_core::{Act, Pid, Reply, Sequence, is_rising};
 use std::alloc::{AllocError, Global};
 use std::marker::Model;
@@ -50,8 +58,8 @@ impl<const TOP: u64, const RANKS: u64> Model for System<TOP, RANKS> {
 }
 
 impl<const TOP: u64, const RANKS: u64> System<TOP, RANKS> {
-    /// A system of these processes, each at its start, and a seat for each, in order. Refusals:
-    /// 2 NotRising, before memory is asked for, then 1 Memory.
+    /// A system of these processes, each at its start, and a seat for each, in order. `NotRising` comes
+    /// before memory is asked for, then `Memory`.
     pub fn open(alloc: Global, pids: &[Pid]) -> Result<(System<TOP, RANKS>, Vec<Seat>), OpenFault>
         ensures system { IfOk result (λ r. r.0 ≡ pids.now) }
         ensures seats { IfOk result (λ r. r.1.items ≡ map no_calls pids.now) }
@@ -77,13 +85,13 @@ impl<const TOP: u64, const RANKS: u64> System<TOP, RANKS> {
         if !is_rising(pids) {
             return Err(OpenFault::NotRising);
         }
-        match made(alloc, pids, scripts) {
+        match open_system(alloc, pids, scripts) {
             Ok(made) => Ok(made),
             Err(_) => Err(OpenFault::Memory),
         }
     }
 
-    /// Takes the processes out of their locks. Refusal 1: no memory, and system and seats come back.
+    /// Takes the processes out of their locks. If memory runs out, system and seats come back.
     ///
     /// A lock that holds another process than its own, which no call leaves, gives a fresh one.
     pub fn gather(
@@ -99,7 +107,7 @@ impl<const TOP: u64, const RANKS: u64> System<TOP, RANKS> {
             return Err((self, seats));
         };
         let System { pids: _, locks } = self;
-        Ok(Pieces::new(taken_out(fresh, locks), seats))
+        Ok(Pieces::new(take_processes(fresh, locks), seats))
     }
 
     /// Makes the act under the locks of all processes that it touches, and keeps it in the seat with
@@ -107,9 +115,10 @@ impl<const TOP: u64, const RANKS: u64> System<TOP, RANKS> {
     ///
     /// An act of a whole node takes up to two kilobytes of stack for each process of the node.
     ///
-    /// Refusals: 5 NotYours, 2 Unknown, 6 Stray, 3 ClockFull, 4 RankFull, 1 Memory, in this order,
-    /// save that room in the seat, and in the logs for an act of a whole node, is made first: so
-    /// Memory can come in place of 6, 3 and 4. After a refusal no log has changed.
+    /// If several reasons hold, the first of these comes: `NotYours`, `Unknown`, `Stray`, `ClockFull`,
+    /// `RankFull`, `Memory`. But room in the seat, and in the logs for an act of a whole node, is made
+    /// early, so `Memory` can come in place of `Stray`, `ClockFull` and `RankFull`. If it fails, no log
+    /// has changed.
     pub fn act<R: Wait, G: Gate>(
         &self,
         rt: &R,
@@ -135,7 +144,7 @@ impl<const TOP: u64, const RANKS: u64> System<TOP, RANKS> {
             return Err(ActFault::Memory);
         };
         let n = seat.mine.len() as u64;
-        let reply = self.locked(rt, gate, me, them, act, n)?;
+        let reply = self.act_under_locks(rt, gate, me, them, act, n)?;
         seat.mine.push_reserved((*act, reply));
         Ok(reply)
     }
@@ -152,7 +161,7 @@ impl<const TOP: u64, const RANKS: u64> System<TOP, RANKS> {
     }
 
     /// The act under its locks.
-    fn locked<R: Wait, G: Gate>(
+    fn act_under_locks<R: Wait, G: Gate>(
         &self,
         rt: &R,
         gate: &G,
@@ -191,9 +200,9 @@ impl<const TOP: u64, const RANKS: u64> System<TOP, RANKS> {
         ensures clock { result ≡ Err ActFault.ClockFull → is_stamping act.now ≡ true }
     {
         let pid = act.actor();
-        let mut guard = taken(&self.locks[place], rt);
+        let mut guard = take_lock(&self.locks[place], rt);
         gate.before(pid, n);
-        let result = acted(&mut guard, act);
+        let result = act_alone(&mut guard, act);
         drop(guard);
         gate.after(pid, n);
         result
@@ -217,13 +226,13 @@ impl<const TOP: u64, const RANKS: u64> System<TOP, RANKS> {
         ensures clock { result ≡ Err ActFault.ClockFull → is_stamping act.now ≡ true }
     {
         let pid = act.actor();
-        let mut low = taken(&self.locks[me.min(them)], rt);
-        let mut high = taken(&self.locks[me.max(them)], rt);
+        let mut low = take_lock(&self.locks[me.min(them)], rt);
+        let mut high = take_lock(&self.locks[me.max(them)], rt);
         gate.before(pid, n);
         let result = if me < them {
-            sent(&mut low, &mut high, act)
+            act_between(&mut low, &mut high, act)
         } else {
-            sent(&mut high, &mut low, act)
+            act_between(&mut high, &mut low, act)
         };
         drop(high);
         drop(low);
@@ -231,7 +240,7 @@ impl<const TOP: u64, const RANKS: u64> System<TOP, RANKS> {
         result
     }
 
-    /// An act under all locks of the actor's node. For want of room in a log not all locks come to be
+    /// An act under all locks of the actor's node. If there is no room in a log, not all locks come to be
     /// held, and the gate isn't told.
     fn whole_node<R: Wait, G: Gate>(
         &self,
@@ -293,7 +302,7 @@ impl<const TOP: u64, const RANKS: u64> System<TOP, RANKS> {
             gate.before(found.actor, n);
             return found.entry(act, RANKS);
         }
-        let mut guard = taken(&self.locks[place], rt);
+        let mut guard = take_lock(&self.locks[place], rt);
         let Ok(()) = guard.prepare() else {
             return Err(ActFault::Memory);
         };
@@ -304,8 +313,8 @@ impl<const TOP: u64, const RANKS: u64> System<TOP, RANKS> {
     }
 }
 
-/// A step's answer as an act's.
-fn told(step: Result<Reply, PcbFault>) -> Result<Reply, ActFault>
+/// A step's result as an act's.
+fn act_result(step: Result<Reply, PcbFault>) -> Result<Reply, ActFault>
     ensures ok { IfOk result (λ y. step ≡ Ok y) }
     ensures err { IfErr result (λ f. (refusal : PcbFault) × (step ≡ Err refusal)) }
     ensures stray { result ≢ Err ActFault.Stray }
@@ -322,7 +331,7 @@ fn told(step: Result<Reply, PcbFault>) -> Result<Reply, ActFault>
 }
 
 /// An act on the process that its lock held.
-fn acted<const TOP: u64, const RANKS: u64>(
+fn act_alone<const TOP: u64, const RANKS: u64>(
     pcb: &mut Pcb<TOP, RANKS>,
     act: &Act,
 ) -> Result<Reply, ActFault>
@@ -341,11 +350,11 @@ fn acted<const TOP: u64, const RANKS: u64>(
     if pcb.pid() != act.actor() {
         return Err(ActFault::Stray);
     }
-    told(pcb.alone(act))
+    act_result(pcb.alone(act))
 }
 
 /// A send between the processes that two locks held.
-fn sent<const TOP: u64, const RANKS: u64>(
+fn act_between<const TOP: u64, const RANKS: u64>(
     from: &mut Pcb<TOP, RANKS>,
     to: &mut Pcb<TOP, RANKS>,
     act: &Act,
@@ -368,11 +377,11 @@ fn sent<const TOP: u64, const RANKS: u64>(
     if to.pid() != receiver_of(act) {
         return Err(ActFault::Stray);
     }
-    told(Pcb::between(from, to, act))
+    act_result(Pcb::between(from, to, act))
 }
 
 /// A system of pids that rise, and its seats, with room for what the scripts bring them.
-fn made<const TOP: u64, const RANKS: u64>(
+fn open_system<const TOP: u64, const RANKS: u64>(
     alloc: Global,
     pids: &[Pid],
     scripts: &[Sequence<Act>],
@@ -416,7 +425,7 @@ fn fresh_processes<const TOP: u64, const RANKS: u64>(
 }
 
 /// Puts each process that is its lock's own in place of the fresh one.
-fn taken_out<const TOP: u64, const RANKS: u64>(
+fn take_processes<const TOP: u64, const RANKS: u64>(
     mut all: Vec<Pcb<TOP, RANKS>>,
     locks: Vec<Mutex<Pcb<TOP, RANKS>>>,
 ) -> Vec<Pcb<TOP, RANKS>>

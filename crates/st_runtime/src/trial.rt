@@ -1,13 +1,13 @@
-//! Calls that tests make once more where memory lacked. In a run one growth of which is refused there
-//! is ample memory afterwards, and the second answer is the right one.
+//! Calls that tests make once more if memory ran out. In a run of which one request for memory fails
+//! there is ample memory afterwards, and the second result is the right one.
 
 ghost use Rattle.std.specs.Prelude.{◌≡◌, [], IfOk};
 
 use crate::fault::{ActFault, OpenFault};
-use crate::gate::Gate;
-use crate::pieces::Pieces;
-use crate::seat::Seat;
 use crate::system::System;
+use crate::system::gate::Gate;
+use crate::system::pieces::Pieces;
+use crate::system::seat::Seat;
 use st_core::{Act, Pid, Reply};
 use std::alloc::{AllocError, Global};
 use std::process::Abort;
@@ -34,7 +34,7 @@ pub fn opened<const TOP: u64, const RANKS: u64>(
     }
 }
 
-/// Makes an act. Want of memory leaves its seat as it was.
+/// Makes an act. If memory runs out, its seat stays as it was.
 pub fn acted<const TOP: u64, const RANKS: u64, R: Wait + Abort, G: Gate>(
     rt: &R,
     gate: &G,

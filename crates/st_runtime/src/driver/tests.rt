@@ -2,8 +2,8 @@
 
 use super::{drive, drive_on};
 use crate::fault::{ActFault, DriveFault};
-use crate::gate::{Gate, OpenGate};
-use crate::record::Record;
+use crate::join::record::Record;
+use crate::system::gate::{Gate, OpenGate};
 use st_core::{Act, Component, Label, Pid, Sequence, Want};
 use std::alloc::Global;
 use std::process::Abort;
@@ -11,7 +11,7 @@ use std::sync::Wait;
 use std::test::Fail;
 use std::thread::Threads;
 
-/// Drives these scripts, which are as many as the pids; once more where memory or a thread was refused.
+/// Drives these scripts, which are as many as the pids; once more if memory or a thread was refused.
 fn driven<const TOP: u64, const RANKS: u64, R: Threads + Wait + Sync + Abort, G: Gate + Sync>(
     rt: &R,
     alloc: Global,
@@ -74,16 +74,13 @@ fn refused_acts_and_falling_pids(rt: HostRuntime) {
     assert_refused::<9, 9, _>(&rt, alloc, &both, &[&[nobody], &[nobody]], foreign);
     let falling = DriveFault::NotRising;
     assert_refused::<9, 9, _>(&rt, alloc, &[other, me], &[&[], &[]], falling);
+    // A full rank and a full clock are told, though a later process is refused its act too.
     let rank = DriveFault::Act(me, 3, ActFault::RankFull);
-    assert_refused::<9, 3, _>(&rt, alloc, &[me], &[&[look, look, look, look]], rank);
+    let looks = [look, look, look, look];
+    assert_refused::<9, 3, _>(&rt, alloc, &both, &[&looks, &[nobody]], rank);
     let clock = DriveFault::Act(me, 4, ActFault::ClockFull);
-    assert_refused::<3, 9, _>(
-        &rt,
-        alloc,
-        &[me],
-        &[&[set, print, print, print, print]],
-        clock,
-    );
+    let prints = [set, print, print, print, print];
+    assert_refused::<3, 9, _>(&rt, alloc, &both, &[&prints, &[nobody]], clock);
 }
 
 // The send reaches the other node, and the reset after it does not.
@@ -147,7 +144,7 @@ fn busy(me: Pid, n: u16) -> Act {
     }
 }
 
-/// Drives four scripts of fifty acts each, and answers how many acts the record has.
+/// Drives four scripts of fifty acts each, and returns how many acts the record has.
 fn four_busy<R: Threads + Wait + Sync + Abort>(rt: &R, alloc: Global) -> Result<usize, DriveFault> {
     let pids = [Pid::new(30), Pid::new(31), Pid::new(32), Pid::new(33)];
     let mut scripts = Vec::new(alloc);
@@ -167,8 +164,8 @@ fn four_busy<R: Threads + Wait + Sync + Abort>(rt: &R, alloc: Global) -> Result<
     Ok(record.acts.len())
 }
 
-/// Where a growth or a thread is refused, the call answers that, or is right; and the same call is right
-/// afterwards.
+/// If memory runs out or a thread can't be started, the call returns that, or is right; and the same call
+/// is right afterwards.
 #[test]
 fn a_refused_growth_is_answered(rt: HostRuntime) -> Result<(), Fail> {
     let acts = match four_busy(&rt, rt.alloc()) {

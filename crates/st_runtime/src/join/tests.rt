@@ -2,10 +2,10 @@
 
 use super::join_pieces;
 use crate::fault::{ActFault, JoinFault};
-use crate::gate::OpenGate;
+use crate::join::record::Record;
 use crate::pcb::Pcb;
-use crate::pieces::Pieces;
-use crate::record::Record;
+use crate::system::gate::OpenGate;
+use crate::system::pieces::Pieces;
 use crate::trial::{acted, gathered, opened, room};
 use st_core::{Act, Component, Pid, Reply, is_rising};
 use std::alloc::{AllocError, Global};
@@ -38,7 +38,7 @@ fn assert_not_joined(rt: &impl Abort, joined: Result<Record, JoinFault>, expecte
     }
 }
 
-/// The record; joined a second time where the first time there was no memory.
+/// The record; joined a second time if memory ran out the first time.
 fn joined(alloc: Global, pieces: &Pieces<9, 9>) -> Result<Record, JoinFault> {
     match join_pieces(alloc, pieces) {
         Err(JoinFault::Memory) => join_pieces(alloc, pieces),
@@ -86,8 +86,8 @@ fn no_seats(rt: HostRuntime) -> Result<(), Fail> {
     Ok(())
 }
 
-// Whichever growth is refused, as where this test runs with an allocation that fails, the call that
-// meets it answers Memory and leaves no trace: made once more it answers right.
+// Whichever request for memory fails, as when this test runs with an allocation that fails, the call
+// that meets it returns Memory and leaves no trace: made once more it returns the right result.
 #[test]
 fn refused_growths_leave_no_trace(rt: HostRuntime) -> Result<(), Fail> {
     let pids = [Pid::new(30), Pid::new(31), Pid::new(32)];
@@ -112,7 +112,7 @@ fn refused_growths_leave_no_trace(rt: HostRuntime) -> Result<(), Fail> {
     Ok(())
 }
 
-// A reset of four processes one growth of which is refused, as where this test runs with an allocation that fails,
+// A reset of four processes that runs out of memory, as when this test runs with an allocation that fails,
 // is in no log: the processes can go on, and the record has none.
 #[test]
 fn a_refused_reset_leaves_no_trace(rt: HostRuntime) -> Result<(), Fail> {

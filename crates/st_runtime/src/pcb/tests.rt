@@ -1,13 +1,13 @@
-//! Worked steps of processes that are lent. Each call is made once more where memory lacked: in a run
-//! one growth of which is refused, the second answer is the right one.
+//! Worked steps of processes that are lent. Each call is made once more if memory ran out: in a run
+//! of which one request for memory fails, the second result is the right one.
 
 ghost use Rattle.std.specs.Prelude.{◌≡◌, ◌<◌, true, IfOk, OnOk};
 ghost use Rattle.st_core.specs.Step.{actor};
 ghost use Rattle.st_runtime.specs.Pcb.{is_alone, IsBetween, IsSame};
 
 use super::Pcb;
-use crate::entry::Entry;
 use crate::fault::PcbFault;
+use crate::pcb::entry::Entry;
 use st_core::{Act, Component, Label, Pid, Reply, Serial, Want};
 use std::alloc::{AllocError, Global};
 use std::process::Abort;

@@ -1,11 +1,11 @@
 //! Worked acts in systems, on one thread and on two.
 
 use super::System;
+use crate::driver::worker::WORKER_STACK;
 use crate::fault::ActFault;
-use crate::gate::{Gate, OpenGate};
-use crate::seat::Seat;
+use crate::system::gate::{Gate, OpenGate};
+use crate::system::seat::Seat;
 use crate::trial::{acted, gathered, opened, room};
-use crate::worker::WORKER_STACK;
 use st_core::{Act, Component, Label, Pid, Reply, Serial, Want};
 use std::process::Abort;
 use std::sync::Wait;
@@ -14,10 +14,10 @@ use std::test::Fail;
 use std::thread;
 use std::thread::Threads;
 
-/// An act and what it answers.
+/// An act and what it returns.
 type Played = (Act, Result<Reply, ActFault>);
 
-/// Makes acts through a seat, and asserts what each answers, and that the seat keeps those that are accepted.
+/// Makes acts through a seat, and asserts what each returns, and that the seat keeps those that are accepted.
 fn play<const TOP: u64, const RANKS: u64, R: Wait + Abort, G: Gate>(
     rt: &R,
     gate: &G,
@@ -96,7 +96,7 @@ fn a_gate_is_told_of_acts_under_their_lock(rt: HostRuntime) -> Result<(), Fail> 
     Ok(())
 }
 
-// An act of a whole node is told of once before and once after, also where it is refused.
+// An act of a whole node is told of once before and once after, also if it is refused.
 #[test]
 fn a_gate_is_told_of_acts_of_a_node_once(rt: HostRuntime) -> Result<(), Fail> {
     let me = Pid::new(30);

@@ -1,4 +1,4 @@
--- None so far met want of memory.
+-- None so far ran out of memory.
 use Rattle.std.proofs.Common.{◌≢◌, Some, take}
 use Rattle.std.specs.Prelude.{All}
 use Rattle.st_runtime.specs.declared.fault.ActFault.TheVariants as fault

@@ -2,7 +2,7 @@
 use Rattle.std.proofs.Common.{arith, rules, ◌∙◌, sym, ap, map, List}
 use Rattle.std.proofs.lemmas.Simd.{map-map}
 use denote.Ref.{Bor}
-use Rattle.st_runtime.specs.declared.entry.Entry.{Entry}
+use Rattle.st_runtime.specs.declared.pcb.entry.Entry.{Entry}
 use Rattle.st_runtime.proofs.Runs.{one_run}
 use Rattle.st_runtime.proofs.Shown.{are_streams}
 use Rattle.st_runtime.proofs.join.run_by_threads.Goals as goal

@@ -1,0 +1,7 @@
+-- So far the process's own ones of the taken entries stand behind what was there.
+use Rattle.std.proofs.Common.{◌≡◌, ◌++◌, take}
+use Rattle.st_runtime.specs.Joining.{own_of}
+use Rattle.st_runtime.proofs.join.merge.push_own.Given as goal
+
+abbrev pub invariant-loop-entry : goal.invariant-loop-entry
+invariant-loop-entry l = l.all.items ≡ l.initial.all.items ++ own_of l.pid (take l.entry-index l.log)

@@ -1,0 +1,9 @@
+-- The calls run out together with the log's own entries, or they differ.
+use Rattle.std.proofs.Common.{arith}
+use Rattle.st_runtime.proofs.Seated.{calls_end}
+use Rattle.st_runtime.proofs.join.seating.holds_calls.Goals as goal
+
+pub returns : goal.returns
+returns c =
+    calls_end c.args.mine.now c.loop-entry.next c.args.pid c.args.log.now c.loop-entry.entry-index
+    c.loop-entry.invariant.0 (omega (arith, c.loop-entry-test.false)) c.loop-entry.invariant.1

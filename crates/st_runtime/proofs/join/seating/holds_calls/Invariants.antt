@@ -1,0 +1,10 @@
+-- The calls are the log's exactly if those that are left are the calls of the entries that are left.
+use Rattle.std.proofs.Common.{◌≡◌, ◌≤◌, ◌↔◌, drop, length}
+use Rattle.st_runtime.specs.Pieces.{calls_of}
+use Rattle.st_runtime.proofs.join.seating.holds_calls.Given as goal
+
+-- what is left of the calls and of the log decides
+abbrev pub invariant-loop-entry : goal.invariant-loop-entry
+invariant-loop-entry l =
+    (l.next ≤ length l.mine)
+    × ((l.mine ≡ calls_of l.pid l.log) ↔ (drop l.next l.mine ≡ calls_of l.pid (drop l.entry-index l.log)))

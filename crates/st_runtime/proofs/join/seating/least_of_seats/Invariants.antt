@@ -1,0 +1,13 @@
+-- What is least so far isn't seated, and of the seats that were taken each below it is.
+use Rattle.std.proofs.Common.{take}
+use Rattle.st_runtime.specs.Joining.{IsLeastUnseated}
+use Rattle.st_runtime.specs.Pcb.{Control}
+use Rattle.st_runtime.specs.Seat.{Calls}
+use Rattle.st_runtime.proofs.join.seating.least_of_seats.Given as goal
+
+abbrev pub invariant-loop-seat : goal.invariant-loop-seat
+invariant-loop-seat g l =
+    IsLeastUnseated (λ (x : Control). x.process.pid) (record { processes = l.processes; seats = l.seats })
+    l.processes l.least
+    × IsLeastUnseated (λ (s : Calls). s.pid) (record { processes = l.processes; seats = l.seats })
+    (take l.seat-index l.seats) l.least

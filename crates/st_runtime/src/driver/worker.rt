@@ -1,0 +1,185 @@
+//! The workers of a drive: each makes the acts of one script in a thread of its own.
+
+ghost use Rattle.std.specs.Prelude.{◌≡◌, [], length, map, zip, All, IfOk, IfErr, Some};
+ghost use Rattle.st_runtime.specs.Working.{IsLeft, AreWorked, IsOwnFault};
+
+use crate::fault::{ActFault, DriveFault};
+use crate::system::System;
+use crate::system::gate::Gate;
+use crate::system::seat::Seat;
+use core::thread::Stack;
+use st_core::{Act, Sequence};
+use std::alloc::{AllocError, Global};
+use std::marker::Model;
+use std::snapshot::Snapshot;
+use std::sync::Wait;
+use std::sync::atomic::{AtomicBool, Ordering};
+use std::thread;
+use std::thread::{Promise, Threads};
+
+/// The stack of a worker's thread, in bytes. An act of a whole node takes a frame for each of its processes
+/// (`System::act`), of which an input of the program has up to 1,024.
+pub const WORKER_STACK: usize = 2_097_152;
+
+/// What a worker is given: a seat through which no act was made yet, and the acts to make.
+#[derive(Drop)]
+pub struct Task {
+    seat: Seat,
+    script: Sequence<Act>,
+}
+
+impl Model for Task {
+    ghost use Rattle.std.specs.Prelude.{List, ◌≡◌, []};
+    ghost use Rattle.st_core.specs.declared.types.Act.{Act};
+    ghost use Rattle.st_core.specs.declared.types.Pid.{Pid};
+
+    ghost Value = { Pid × List Act };
+
+    ghost view = { λ t. (t.seat.pid, t.script) };
+
+    ghost invariant = { λ t. t.seat.mine ≡ [] };
+}
+
+/// What a worker leaves: its seat, and the refusal at which it stopped, if it met one.
+#[derive(Drop)]
+pub struct Ending {
+    pub seat: Seat,
+    pub fault: Option<ActFault>,
+}
+
+/// A task for each seat and its script.
+pub fn tasks_of(
+    alloc: Global,
+    seats: Vec<Seat>,
+    scripts: Vec<Sequence<Act>>,
+) -> Result<Vec<Task>, AllocError>
+    requires { All (λ s. s.mine ≡ []) seats.items }
+    ensures { IfOk result (λ v. v.items ≡ zip (map (λ s. s.pid) seats.items) scripts.items) }
+{
+    let mut tasks = Vec::with_capacity(alloc, seats.len())?;
+    for (seat, script) in seats.into_iter().zip(scripts) {
+        let Ok(()) = tasks.push(Task { seat, script }) else {
+            return Err(AllocError);
+        };
+    }
+    Ok(tasks)
+}
+
+/// What the worker of this task in this system leaves.
+#[derive(Drop)]
+struct Leaves<const TOP: u64, const RANKS: u64> {
+    system: Snapshot<System<TOP, RANKS>>,
+    task: Snapshot<Task>,
+}
+
+impl<const TOP: u64, const RANKS: u64> Promise<Option<Ending>> for Leaves<TOP, RANKS> {
+    ghost kept_by = { λ p left. IsLeft p.system.value p.task.value left };
+}
+
+/// All workers at once, each in a thread of its own with a stack of so many bytes. If a thread can't be started,
+/// those that were started stop at their next act, and are waited for.
+///
+/// Fails with `Thread`, else with `Memory`; but with `Memory` at once if there is no room for the threads.
+pub fn work_all<const TOP: u64, const RANKS: u64, R: Threads + Wait + Sync, G: Gate + Sync>(
+    rt: &R,
+    alloc: Global,
+    system: &System<TOP, RANKS>,
+    gate: &G,
+    tasks: Vec<Task>,
+    stack: usize,
+) -> Result<Vec<Ending>, DriveFault>
+    ensures ok { IfOk result (λ v. AreWorked system.now tasks.items v.items) }
+    ensures err { IfErr result IsOwnFault }
+{
+    let stop = &AtomicBool::new(false);
+    thread::scope(
+        thread::scope_env(),
+        rt,
+        |scope| -> Result<Vec<Ending>, DriveFault>
+            ensures ok { IfOk result (λ v. AreWorked system.entry.now tasks.items v.items) }
+            ensures err { IfErr result IsOwnFault }
+        {
+            let Ok(mut workers) = Vec::with_capacity(alloc, tasks.len()) else {
+                return Err(DriveFault::Memory);
+            };
+            for task in tasks {
+                let leaves = Leaves {
+                    system: Snapshot::of(system),
+                    task: Snapshot::of(&task),
+                };
+                let work = move || -> Option<Ending>
+                    ensures { IsLeft system.entry.now task result }
+                { work(rt, system, gate, stop, task) };
+                let thread = Stack::new().stack_size(stack);
+                let Ok(worker) = thread.spawn_scoped_with(scope, leaves, work) else {
+                    stop.store(true, Ordering::SeqCst);
+                    return Err(DriveFault::Thread);
+                };
+                let Ok(()) = workers.push(worker) else {
+                    return Err(DriveFault::Memory);
+                };
+            }
+            match thread::join_promised(rt, workers) {
+                Ok(left) => all_ended(alloc, left),
+                Err(_) => Err(DriveFault::Memory),
+            }
+        },
+    )
+}
+
+/// What the workers left, if none was told to stop; else why they were.
+fn all_ended(alloc: Global, left: Vec<Option<Ending>>) -> Result<Vec<Ending>, DriveFault>
+    ensures ok { IfOk result (λ v. map (λ end. Some end) v.items ≡ left.items) }
+    ensures err { IfErr result IsOwnFault }
+{
+    let mut ends = Vec::with_capacity(alloc, left.len())?;
+    for end in left {
+        let Some(end) = end else {
+            return Err(DriveFault::Thread);
+        };
+        let Ok(()) = ends.push(end) else {
+            return Err(DriveFault::Memory);
+        };
+    }
+    Ok(ends)
+}
+
+/// Makes the script's acts in order, until one is refused; nothing, if it is told to stop before.
+fn work<const TOP: u64, const RANKS: u64, R: Wait, G: Gate>(
+    rt: &R,
+    system: &System<TOP, RANKS>,
+    gate: &G,
+    stop: &AtomicBool,
+    task: Task,
+) -> Option<Ending>
+    ensures { IsLeft system.now task result }
+{
+    let Task { seat, script } = task;
+    play_script(rt, system, gate, stop, seat, script.as_slice())
+}
+
+/// The same, of the task's parts.
+fn play_script<const TOP: u64, const RANKS: u64, R: Wait, G: Gate>(
+    rt: &R,
+    system: &System<TOP, RANKS>,
+    gate: &G,
+    stop: &AtomicBool,
+    mut seat: Seat,
+    script: &[Act],
+) -> Option<Ending>
+    requires { seat.mine ≡ [] }
+    ensures { IsLeft system.now (seat.pid, script.now) result }
+{
+    for act in script {
+        if stop.load(Ordering::SeqCst) {
+            return None;
+        }
+        if let Err(fault) = system.act(rt, gate, &mut seat, act) {
+            return Some(Ending {
+                seat,
+                fault: Some(fault),
+            });
+        }
+    }
+    Some(Ending { seat, fault: None })
+}

@@ -1,0 +1,78 @@
+//! The streams that logs tell of, collected.
+
+ghost use Rattle.std.specs.Prelude.{◌≡◌, List, true, [], ◌∷◌, ◌++◌, IfOk, OnOk};
+ghost use Rattle.std.specs.List.{AllByRecursion};
+ghost use Rattle.std.specs.Option.{ForSome};
+ghost use Rattle.st_core.specs.Run.{Stream};
+ghost use Rattle.st_core.specs.Streams.{ComesLast, IsStreams, is_own, lists};
+ghost use Rattle.st_runtime.specs.Joined.{reports_of, streams_of};
+ghost use Rattle.st_runtime.specs.Joining.{report_at, with_report};
+
+use crate::pcb::Pcb;
+use crate::pcb::entry::Entry;
+use st_core::{AddFault, Draft, OpenFault, Pid, Streams};
+use std::alloc::{AllocError, Global};
+
+/// The streams of the processes' own reports.
+pub fn streams_of<const TOP: u64, const RANKS: u64>(
+    alloc: Global,
+    processes: &[Pcb<TOP, RANKS>],
+) -> Result<Streams, AllocError>
+    requires { IsStreams (streams_of processes.now) }
+    ensures { IfOk result (λ s. s ≡ streams_of processes.now) }
+{
+    let mut draft = Draft::new(alloc);
+    for process in processes {
+        add_stream(&mut draft, process.pid(), process.log())?;
+    }
+    let Ok(streams) = draft.close() else {
+        unreachable!()
+    };
+    Ok(streams)
+}
+
+/// Opens the process's stream and fills it.
+fn add_stream(draft: &mut Draft, pid: Pid, log: &[Entry]) -> Result<(), AllocError>
+    requires last { ComesLast draft.old pid }
+    requires own { AllByRecursion (λ e. is_own pid e ≡ true) (reports_of pid log.now) }
+    ensures { OnOk result (draft.new ≡ draft.old ++ record { pid = pid; events = reports_of pid log.now } ∷ []) }
+{
+    match draft.open(pid) {
+        Ok(()) => fill(draft, pid, log),
+        Err(OpenFault::Memory) => Err(AllocError),
+        Err(OpenFault::NotRising) => unreachable!(),
+    }
+}
+
+/// Adds the process's own reports to its stream, the last one.
+fn fill(draft: &mut Draft, pid: Pid, log: &[Entry]) -> Result<(), AllocError>
+    requires listed { lists draft.old pid ≡ true }
+    requires own { AllByRecursion (λ e. is_own pid e ≡ true) (reports_of pid log.now) }
+    ensures { OnOk result ((xs : List Stream)
+        → ComesLast xs pid → draft.old ≡ xs ++ record { pid = pid; events = [] } ∷ []
+        → draft.new ≡ xs ++ record { pid = pid; events = reports_of pid log.now } ∷ []) }
+{
+    for entry in log {
+        add_entry(draft, pid, entry)?;
+    }
+    Ok(())
+}
+
+/// Adds its report, if it is the process's own and has one.
+fn add_entry(draft: &mut Draft, pid: Pid, entry: &Entry) -> Result<(), AllocError>
+    requires listed { lists draft.old pid ≡ true }
+    requires own { ForSome (report_at pid entry.now) (λ e. is_own pid e ≡ true) }
+    ensures { OnOk result (draft.new ≡ with_report draft.old pid (report_at pid entry.now)) }
+{
+    if entry.act.actor() != pid {
+        return Ok(());
+    }
+    let Some(event) = entry.report else {
+        return Ok(());
+    };
+    match draft.add(pid, event) {
+        Ok(()) => Ok(()),
+        Err(AddFault::Memory) => Err(AllocError),
+        Err(AddFault::Unknown | AddFault::Foreign) => unreachable!(),
+    }
+}

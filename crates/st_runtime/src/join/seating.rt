@@ -1,0 +1,142 @@
+//! Whether each process has the one seat that its log tells of.
+
+ghost use Rattle.std.specs.Prelude.{◌≡◌, ◌↔◌, [], ◌∷◌, length, IsTrue, MatchOption};
+ghost use Rattle.st_core.specs.Pid.{IsRising};
+ghost use Rattle.st_runtime.specs.Joining.{IsLeastUnseated, lesser};
+ghost use Rattle.st_runtime.specs.Pieces.{pids_in, calls_of, seats_at, IsSeated, IsFirstUnseated};
+
+use crate::join::same::{is_same_act, is_same_reply};
+use crate::join::whole::place_in;
+use crate::pcb::Pcb;
+use crate::pcb::entry::Entry;
+use crate::system::seat::Seat;
+use st_core::{Act, Pid, Reply};
+
+/// The least pid that isn't seated. It has a log or a seat, since a pid without either is seated.
+pub fn first_unseated<const TOP: u64, const RANKS: u64>(
+    processes: &[Pcb<TOP, RANKS>],
+    seats: &[Seat],
+) -> Option<Pid>
+    requires { IsRising (pids_in processes.now) }
+    ensures { MatchOption result
+        ((p : _) → IsSeated (record { processes = processes.now; seats = seats.now }) p)
+        (IsFirstUnseated (record { processes = processes.now; seats = seats.now })) }
+{
+    let least = least_of_logs(processes, seats);
+    least_of_seats(processes, seats, least)
+}
+
+/// The least pid of a log that isn't seated.
+fn least_of_logs<const TOP: u64, const RANKS: u64>(
+    processes: &[Pcb<TOP, RANKS>],
+    seats: &[Seat],
+) -> Option<Pid>
+    requires { IsRising (pids_in processes.now) }
+    ensures { IsLeastUnseated (λ x. x.process.pid) (record { processes = processes.now; seats = seats.now })
+        processes.now result }
+{
+    let mut least = None;
+    for process in processes {
+        if !is_seated(processes, seats, process.pid()) {
+            least = lesser(least, process.pid());
+        }
+    }
+    least
+}
+
+/// The least pid of a log or a seat that isn't seated, if this is the least of a log.
+fn least_of_seats<const TOP: u64, const RANKS: u64>(
+    processes: &[Pcb<TOP, RANKS>],
+    seats: &[Seat],
+    of_logs: Option<Pid>,
+) -> Option<Pid>
+    requires rising { IsRising (pids_in processes.now) }
+    requires least { IsLeastUnseated (λ x. x.process.pid) (record { processes = processes.now; seats = seats.now })
+        processes.now of_logs }
+    ensures logs { IsLeastUnseated (λ x. x.process.pid) (record { processes = processes.now; seats = seats.now })
+        processes.now result }
+    ensures seats { IsLeastUnseated (λ s. s.pid) (record { processes = processes.now; seats = seats.now })
+        seats.now result }
+{
+    let mut least = of_logs;
+    for seat in seats {
+        if !is_seated(processes, seats, seat.pid()) {
+            least = lesser(least, seat.pid());
+        }
+    }
+    least
+}
+
+/// The lesser of two pids, if there are two.
+fn lesser(least: Option<Pid>, pid: Pid) -> Option<Pid>
+    ensures { result ≡ lesser least pid }
+{
+    match least {
+        Some(other) if pid < other => Some(pid),
+        Some(other) => Some(other),
+        None => Some(pid),
+    }
+}
+
+/// Whether the pid has the seat that its log tells of and no other, and none without a log.
+pub fn is_seated<const TOP: u64, const RANKS: u64>(
+    processes: &[Pcb<TOP, RANKS>],
+    seats: &[Seat],
+    pid: Pid,
+) -> bool
+    requires { IsRising (pids_in processes.now) }
+    ensures { IsTrue result ↔ IsSeated (record { processes = processes.now; seats = seats.now }) pid }
+{
+    match place_in(processes, pid) {
+        Some(place) => has_only_seat(seats, pid, processes[place].log()),
+        None => has_no_seat(seats, pid),
+    }
+}
+
+/// Whether the one seat of the pid is that of this log.
+fn has_only_seat(seats: &[Seat], pid: Pid, log: &[Entry]) -> bool
+    ensures { IsTrue result
+        ↔ (seats_at seats.now pid ≡ record { pid = pid; mine = calls_of pid log.now } ∷ []) }
+{
+    for (place, seat) in seats.iter().enumerate() {
+        if seat.pid() == pid {
+            return holds_calls(seat.mine(), pid, log) && has_no_seat(&seats[place + 1..], pid);
+        }
+    }
+    false
+}
+
+/// Whether the pid has no seat.
+fn has_no_seat(seats: &[Seat], pid: Pid) -> bool
+    ensures { IsTrue result ↔ (seats_at seats.now pid ≡ []) }
+{
+    for seat in seats {
+        if seat.pid() == pid {
+            return false;
+        }
+    }
+    true
+}
+
+/// Whether these are the calls of the pid in the log.
+fn holds_calls(mine: &[(Act, Reply)], pid: Pid, log: &[Entry]) -> bool
+    ensures { IsTrue result ↔ (mine.now ≡ calls_of pid log.now) }
+{
+    let mut next = 0;
+    for entry in log {
+        if entry.act.actor() == pid {
+            if next >= mine.len() || !is_call(&mine[next], entry) {
+                return false;
+            }
+            next += 1;
+        }
+    }
+    next == mine.len()
+}
+
+/// Whether this is the entry's act with its reply.
+fn is_call(call: &(Act, Reply), entry: &Entry) -> bool
+    ensures { IsTrue result ↔ (call.now ≡ (entry.now.act, entry.now.reply)) }
+{
+    is_same_act(&call.0, &entry.act) && is_same_reply(&call.1, &entry.reply)
+}

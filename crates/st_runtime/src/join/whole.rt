@@ -1,0 +1,205 @@
+//! Which entries stand in the log of each process that their acts touch.
+
+ghost use Rattle.std.specs.Prelude.{◌≡◌, ◌<◌, length, take, true, All, Contains, slice_get, slice_index_or};
+ghost use Rattle.std.specs.Prelude.{is_some, Some, IfSome, IsTrue, MatchBool, MatchOption};
+ghost use Rattle.st_core.specs.Pid.{IsRising};
+ghost use Rattle.st_core.specs.Step.{actor, touches};
+ghost use Rattle.st_core.specs.Streams.{is_among};
+ghost use Rattle.st_runtime.specs.declared.pcb.entry.Entry.{Entry};
+ghost use Rattle.st_runtime.specs.Joining.{HasAt};
+ghost use Rattle.st_runtime.specs.Logs.{RanksRise};
+ghost use Rattle.st_runtime.specs.Pcb.{is_wide};
+ghost use Rattle.st_runtime.specs.Pieces.{pids_in, AreWhole, HasIfTouched, IsWhole, IsFirstMissing};
+
+use crate::join::same::is_same;
+use crate::join::settled::are_seen_whole;
+use crate::pcb::Pcb;
+use crate::pcb::acts::{is_wide, receiver_of};
+use crate::pcb::entry::Entry;
+use st_core::{Act, Pid};
+use std::alloc::Global;
+
+/// The least place of an entry that isn't whole. If all are, this is mostly seen at once; else each
+/// log is asked about each of its entries.
+pub fn first_missing<const TOP: u64, const RANKS: u64>(
+    alloc: Global,
+    processes: &[Pcb<TOP, RANKS>],
+) -> Option<(Pid, usize)>
+    requires { IsRising (pids_in processes.now) }
+    ensures { MatchOption result (AreWhole processes.now) (λ r. IsFirstMissing processes.now r.0 r.1) }
+{
+    if are_seen_whole(alloc, processes) {
+        return None;
+    }
+    least_missing(processes)
+}
+
+/// The least place of an entry that isn't whole, by asking each log about each of its entries.
+fn least_missing<const TOP: u64, const RANKS: u64>(
+    processes: &[Pcb<TOP, RANKS>],
+) -> Option<(Pid, usize)>
+    requires { IsRising (pids_in processes.now) }
+    ensures { MatchOption result (AreWhole processes.now) (λ r. IsFirstMissing processes.now r.0 r.1) }
+{
+    for (k, process) in processes.iter().enumerate() {
+        if let Some(i) = missing_in(processes, process.pid(), process.log()) {
+            return Some((process.pid(), i));
+        }
+    }
+    None
+}
+
+/// The least place in this process's log of an entry that isn't whole.
+fn missing_in<const TOP: u64, const RANKS: u64>(
+    processes: &[Pcb<TOP, RANKS>],
+    here: Pid,
+    log: &[Entry],
+) -> Option<usize>
+    requires rising { IsRising (pids_in processes.now) }
+    requires here { All (HasAt processes.now here) log.now }
+    ensures { MatchOption result (All (IsWhole processes.now) log.now) (λ i.
+        (i < length log.now) × All (IsWhole processes.now) (take i log.now)
+        × ((d : Entry) → ¬ IsWhole processes.now (slice_index_or log.now i d))) }
+{
+    for (i, entry) in log.iter().enumerate() {
+        if !is_whole(processes, here, entry) {
+            return Some(i);
+        }
+    }
+    None
+}
+
+/// Whether an entry of this process's log is in the logs of its actor and of each process that the
+/// act touches.
+fn is_whole<const TOP: u64, const RANKS: u64>(
+    processes: &[Pcb<TOP, RANKS>],
+    here: Pid,
+    entry: &Entry,
+) -> bool
+    requires rising { IsRising (pids_in processes.now) }
+    requires here { HasAt processes.now here entry.now }
+    ensures { MatchBool result (IsWhole processes.now entry.now) (¬ IsWhole processes.now entry.now) }
+{
+    is_made(processes, here, entry) && is_shared(processes, here, entry)
+}
+
+/// Whether an entry of this process's log is in the log of its actor.
+fn is_made<const TOP: u64, const RANKS: u64>(
+    processes: &[Pcb<TOP, RANKS>],
+    here: Pid,
+    entry: &Entry,
+) -> bool
+    requires rising { IsRising (pids_in processes.now) }
+    requires here { HasAt processes.now here entry.now }
+    ensures { MatchBool result (HasAt processes.now (actor entry.now.act) entry.now)
+        (¬ HasAt processes.now (actor entry.now.act) entry.now) }
+{
+    entry.act.actor() == here || has_at(processes, entry.act.actor(), entry)
+}
+
+/// Whether each process that the act touches has an entry of this process's log that its actor has.
+/// If the act is none of a whole node, it touches the actor and a send's receiver alone.
+fn is_shared<const TOP: u64, const RANKS: u64>(
+    processes: &[Pcb<TOP, RANKS>],
+    here: Pid,
+    entry: &Entry,
+) -> bool
+    requires rising { IsRising (pids_in processes.now) }
+    requires here { HasAt processes.now here entry.now }
+    requires made { HasAt processes.now (actor entry.now.act) entry.now }
+    ensures { MatchBool result (IsWhole processes.now entry.now) (¬ IsWhole processes.now entry.now) }
+{
+    if is_wide(&entry.act) {
+        return is_everywhere(processes, here, entry);
+    }
+    let receiver = receiver_of(&entry.act);
+    receiver == here || has_at(processes, receiver, entry)
+}
+
+/// Whether each process of the actor's node has an entry of this process's log.
+pub fn is_everywhere<const TOP: u64, const RANKS: u64>(
+    processes: &[Pcb<TOP, RANKS>],
+    here: Pid,
+    entry: &Entry,
+) -> bool
+    requires rising { IsRising (pids_in processes.now) }
+    requires wide { is_wide entry.now.act ≡ true }
+    requires here { HasAt processes.now here entry.now }
+    ensures { MatchBool result (All (HasIfTouched entry.now) processes.now)
+        (¬ All (HasIfTouched entry.now) processes.now) }
+{
+    for process in processes {
+        if !has_if_touched(process, here, entry) {
+            return false;
+        }
+    }
+    true
+}
+
+/// Whether a process has an entry of a whole node, if it is of this node. The process of this pid has it.
+fn has_if_touched<const TOP: u64, const RANKS: u64>(
+    process: &Pcb<TOP, RANKS>,
+    here: Pid,
+    entry: &Entry,
+) -> bool
+    requires wide { is_wide entry.now.act ≡ true }
+    requires here { process.now.process.pid ≡ here → Contains process.now.log entry.now }
+    ensures { MatchBool result (HasIfTouched entry.now process.now) (¬ HasIfTouched entry.now process.now) }
+{
+    process.pid() == here
+        || !is_of_node(&entry.act, process.pid())
+        || has_entry(process.log(), entry)
+}
+
+/// Whether an act of a whole node touches the process.
+fn is_of_node(act: &Act, pid: Pid) -> bool
+    requires { is_wide act.now ≡ true }
+    ensures { result ≡ touches act.now pid }
+{
+    pid.node() == act.actor().node()
+}
+
+/// Whether the process of this pid is there and has the entry.
+fn has_at<const TOP: u64, const RANKS: u64>(
+    processes: &[Pcb<TOP, RANKS>],
+    pid: Pid,
+    entry: &Entry,
+) -> bool
+    requires { IsRising (pids_in processes.now) }
+    ensures { MatchBool result (HasAt processes.now pid entry.now) (¬ HasAt processes.now pid entry.now) }
+{
+    match place_in(processes, pid) {
+        Some(place) => has_entry(processes[place].log(), entry),
+        None => false,
+    }
+}
+
+/// Where the process of this pid stands.
+pub fn place_in<const TOP: u64, const RANKS: u64>(
+    processes: &[Pcb<TOP, RANKS>],
+    pid: Pid,
+) -> Option<usize>
+    requires { IsRising (pids_in processes.now) }
+    ensures variant { is_some result ≡ is_among (pids_in processes.now) pid }
+    ensures some { IfSome result (λ i.
+        (i < length processes.now) × (slice_get (pids_in processes.now) i ≡ Some pid)) }
+{
+    let found = processes.binary_search_by_key(
+        &pid,
+        |process: &Pcb<TOP, RANKS>| -> Pid
+            ensures { result ≡ process.now.process.pid }
+        { process.pid() },
+    );
+    found.ok()
+}
+
+/// Whether the log has the entry. Its ranks rise, so that there is one place for it.
+fn has_entry(log: &[Entry], entry: &Entry) -> bool
+    requires { RanksRise 0 log.now }
+    ensures { MatchBool result (Contains log.now entry.now) (¬ Contains log.now entry.now) }
+{
+    match log.binary_search_by_key(&entry.rank, |kept| kept.rank) {
+        Ok(place) => is_same(&log[place], entry),
+        Err(_) => false,
+    }
+}

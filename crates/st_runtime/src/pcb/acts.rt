@@ -1,0 +1,51 @@
+//! What an act asks for.
+
+ghost use Rattle.std.specs.Prelude.{◌≡◌};
+ghost use Rattle.st_core.specs.Step.{receiver};
+ghost use Rattle.st_runtime.specs.Locked.{wide_reply};
+ghost use Rattle.st_runtime.specs.Pcb.{is_wide};
+ghost use Rattle.st_runtime.specs.System.{is_stamping};
+
+use st_core::{Act, Pid, Reply};
+
+/// Who has to be there beside the actor: a send's receiver.
+pub fn receiver_of(act: &Act) -> Pid
+    ensures { result ≡ receiver act.now }
+{
+    match *act {
+        Act::Send(_, to, _) => to,
+        Act::Receive(me, _)
+        | Act::Print(me, _)
+        | Act::PrintAt(me, _, _)
+        | Act::Set(me, _)
+        | Act::Clear(me)
+        | Act::Restore(me, _)
+        | Act::Look(me)
+        | Act::Reset(me)
+        | Act::Tracer(me, _) => me,
+    }
+}
+
+/// Whether the act touches all processes of its actor's node.
+pub fn is_wide(act: &Act) -> bool
+    ensures { result ≡ is_wide act.now }
+{
+    matches!(*act, Act::Reset(_) | Act::Tracer(..))
+}
+
+/// What an act of a whole node returns to an actor that was traced or not.
+pub fn wide_reply(act: &Act, was: bool) -> Reply
+    ensures { result ≡ wide_reply act.now was }
+{
+    match *act {
+        Act::Tracer(..) => Reply::Was(was),
+        _ => Reply::Done,
+    }
+}
+
+/// Whether the act stamps its actor's token, if there is one.
+pub fn is_stamping(act: &Act) -> bool
+    ensures { result ≡ is_stamping act.now }
+{
+    matches!(*act, Act::Send(..) | Act::Print(..) | Act::PrintAt(..))
+}

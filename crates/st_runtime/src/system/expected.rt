@@ -1,0 +1,53 @@
+//! How much room scripts ask for, counted before their acts are made: a log that has its room from
+//! the start isn't moved as it grows. A guess, on which no promise rests.
+
+ghost use Rattle.std.specs.Prelude.{◌≡◌, length, vec_len, IfOk};
+ghost use Rattle.st_core.specs.Pid.{IsRising};
+
+use crate::pcb::acts::receiver_of;
+use crate::system::pids::place_of;
+use st_core::{Act, Pid, Sequence};
+use std::alloc::{AllocError, Global};
+
+/// For each process, how many entries its log gets of these scripts: its own acts and what is sent to
+/// it. The acts of a whole node that others make aren't counted, since they may be too many.
+pub fn expected_entries(
+    alloc: Global,
+    pids: &[Pid],
+    scripts: &[Sequence<Act>],
+) -> Result<Vec<usize>, AllocError>
+    requires { IsRising pids.now }
+    ensures { IfOk result (λ counts. vec_len counts ≡ length pids.now) }
+{
+    let mut counts = vec![in alloc; 0; pids.len()]?;
+    for script in scripts {
+        count_script(&mut counts, pids, script.as_slice());
+    }
+    Ok(counts)
+}
+
+/// Counts the entries of a script.
+fn count_script(counts: &mut [usize], pids: &[Pid], script: &[Act])
+    requires rising { IsRising pids.now }
+    requires each { length counts.old ≡ length pids.now }
+    ensures { length counts.new ≡ length counts.old }
+{
+    for act in script {
+        let (from, to) = (act.actor(), receiver_of(act));
+        count_one(counts, pids, from);
+        if to != from {
+            count_one(counts, pids, to);
+        }
+    }
+}
+
+/// Counts an entry of this process, if it is there.
+fn count_one(counts: &mut [usize], pids: &[Pid], pid: Pid)
+    requires rising { IsRising pids.now }
+    requires each { length counts.old ≡ length pids.now }
+    ensures { length counts.new ≡ length counts.old }
+{
+    if let Some(place) = place_of(pids, pid) {
+        counts[place] = counts[place].saturating_add(1);
+    }
+}

@@ -1,0 +1,85 @@
+//! What an act of a whole node finds under the locks that it takes, one after the other.
+
+ghost use Rattle.std.specs.Prelude.{◌≡◌, ◌≢◌, ◌+◌, ◌≤◌, ◌↔◌, ◌⊎◌, true, false, max, Some, None, Err, IfOk};
+ghost use Rattle.std.specs.Prelude.{IfSome, IsSome};
+ghost use Rattle.st_runtime.specs.Locked.{wide_reply, IsLockFault};
+ghost use Rattle.st_runtime.specs.Logs.{last_rank};
+ghost use Rattle.st_runtime.specs.Pcb.{is_wide};
+
+use crate::fault::ActFault;
+use crate::pcb::Pcb;
+use crate::pcb::acts::wide_reply;
+use crate::pcb::entry::Entry;
+use st_core::{Act, Pid};
+
+/// What was found under the locks so far.
+#[derive(Clone, Copy)]
+pub struct Found {
+    /// Who acts.
+    pub actor: Pid,
+    /// The greatest rank in their logs.
+    pub last: u64,
+    /// Whether the actor was traced, once its lock is held.
+    pub was: Option<bool>,
+    /// One of them held another process than its own.
+    pub stray: bool,
+}
+
+impl Found {
+    /// With what the lock of this pid holds.
+    pub fn with<const TOP: u64, const RANKS: u64>(self, pcb: &Pcb<TOP, RANKS>, pid: Pid) -> Found
+        ensures actor { result.actor ≡ self.actor }
+        ensures last { result.last ≡ max self.last (last_rank 0 pcb.now.log) }
+        ensures within { self.last ≤ RANKS → result.last ≤ RANKS }
+        ensures pid { result.stray ≡ false → pcb.now.process.pid ≡ pid }
+        ensures here { pcb.now.process.pid ≡ self.actor
+            → result.stray ≡ false → result.was ≡ Some pcb.now.process.local.traced }
+        ensures before { IfSome self.was (λ was. result.stray ≡ false → result.was ≡ Some was) }
+        ensures stray { result.stray ≡ false → self.stray ≡ false }
+    {
+        let here = pcb.pid() == self.actor;
+        Found {
+            actor: self.actor,
+            last: self.last.max(pcb.last_rank()),
+            was: if here {
+                Some(pcb.local().traced())
+            } else {
+                self.was
+            },
+            stray: self.stray || pcb.pid() != pid || (here && self.was.is_some()),
+        }
+    }
+
+    /// The entry of the act, once all locks are held. It fails with `Stray`, or else with `RankFull`.
+    pub fn entry(&self, act: &Act, ranks: u64) -> Result<Entry, ActFault>
+        requires wide { is_wide act.now ≡ true }
+        requires last { self.now.last ≤ ranks }
+        ensures act { IfOk result (λ e. e.act ≡ act.now) }
+        ensures bare { IfOk result (λ e. (e.report ≡ None) × (e.carried ≡ None)) }
+        ensures rank { IfOk result (λ e. (e.rank ≡ self.now.last + 1) × (e.rank ≤ ranks)) }
+        ensures stray { (result ≡ Err ActFault.Stray) ↔ ((self.now.stray ≡ true) ⊎ (self.now.was ≡ None)) }
+        ensures full { (result ≡ Err ActFault.RankFull)
+            ↔ ((self.now.stray ≡ false) × IsSome self.now.was × (self.now.last ≡ ranks)) }
+        ensures memory { result ≢ Err ActFault.Memory }
+        ensures reply { IfOk result (λ e. IfSome self.now.was (λ was. e.reply ≡ wide_reply act.now was)) }
+        ensures known { IsLockFault result }
+        ensures clock { result ≢ Err ActFault.ClockFull }
+    {
+        if self.stray {
+            return Err(ActFault::Stray);
+        }
+        let Some(was) = self.was else {
+            return Err(ActFault::Stray);
+        };
+        if self.last == ranks {
+            return Err(ActFault::RankFull);
+        }
+        Ok(Entry {
+            rank: self.last + 1,
+            act: *act,
+            reply: wide_reply(act, was),
+            report: None,
+            carried: None,
+        })
+    }
+}

@@ -1,0 +1,48 @@
+//! The right to act for one process, with the acts that were accepted.
+
+ghost use Rattle.std.specs.Prelude.{◌≡◌, IfOk};
+ghost use Rattle.st_runtime.specs.Seat.{no_calls};
+
+use st_core::{Act, Pid, Reply};
+use std::alloc::{AllocError, Global};
+use std::marker::Model;
+
+/// Who holds it acts for its process.
+#[derive(Drop)]
+pub struct Seat {
+    pub(crate) pid: Pid,
+    pub(crate) mine: Vec<(Act, Reply)>,
+}
+
+impl Model for Seat {
+    ghost use Rattle.st_runtime.specs.Seat.{Calls};
+
+    ghost Value = { Calls };
+
+    ghost view = { λ s. record { pid = s.pid; mine = s.mine.items } };
+}
+
+impl Seat {
+    /// A seat through which no act was made yet, with room for this many. Fails if memory
+    /// runs out.
+    pub(crate) fn with_room(alloc: Global, pid: Pid, room: usize) -> Result<Seat, AllocError>
+        ensures { IfOk result (λ seat. seat ≡ no_calls pid) }
+    {
+        let mine = Vec::with_capacity(alloc, room)?;
+        Ok(Seat { pid, mine })
+    }
+
+    /// Whose it is.
+    pub fn pid(&self) -> Pid
+        ensures { result ≡ self.now.pid }
+    {
+        self.pid
+    }
+
+    /// The acts that were accepted through it, with what they returned, in order.
+    pub fn mine(&self) -> &[(Act, Reply)]
+        ensures { result.now ≡ self.now.mine }
+    {
+        self.mine.as_slice()
+    }
+}
