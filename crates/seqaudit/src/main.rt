@@ -1,7 +1,7 @@
 //! The program `seqaudit`: audits, checks, replays, drives and charts the texts of collected
 //! sequential traces.
 //!
-//! It only joins `st_commands` to the outside: what it writes and answers is said there, by `run`.
+//! It only joins `st_commands` to the outside: what it writes and returns is said there, by `run`.
 #![tactic(auto)]
 
 ghost use Rattle.std.specs.IoError.{error_kind};
@@ -13,8 +13,8 @@ use std::io::ErrorKind;
 use std::process::ExitCode;
 use std::{env, io};
 
-/// Why the words of the command line can't be had: for want of memory, or where one isn't UTF-8, which
-/// is no word of a command.
+/// Why the words of the command line can't be had: memory ran out, or one isn't UTF-8 and so is no
+/// word of a command.
 fn why_unread(error: &io::Error) -> Refusal
     ensures memory { error_kind error.now ≡ ErrorKind.OutOfMemory → result ≡ Refusal.Memory }
     ensures usage { error_kind error.now ≢ ErrorKind.OutOfMemory → result ≡ Refusal.Usage }

@@ -1,4 +1,4 @@
--- Where `clap` takes the words, the subcommand that it entered says which command they ask for.
+-- If `clap` takes the words, the subcommand that it entered says which command they ask for.
 use Rattle.std.proofs.Common.{◌≡◌, Bool, true, false, List, length, [], ◌∷◌, refl, sym, ap, subst, ◌∙◌, inl, inr, arith}
 use Rattle.std.specs.Prelude.{Option, Some, None, Result, IfOk, Box, option_map, option_and_then, if◌then◌else◌}
 use Rattle.std.specs.Box.{box_value}

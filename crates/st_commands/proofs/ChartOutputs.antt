@@ -30,6 +30,7 @@ use Rattle.st_audit.specs.Findings.{unfit_by}
 use Rattle.st_text.specs.declared.fault.ReadFault.{ReadFault}
 use Rattle.st_text.specs.Text.{Contents}
 use Rattle.st_text.specs.Fault.{fault}
+use Rattle.st_text.specs.Limits.{standard}
 use Rattle.st_text.proofs.ForCallers.{text_one, readable}
 use Rattle.st_commands.specs.Output.{Output, refused}
 use Rattle.st_commands.specs.Audited.{report_output}
@@ -155,7 +156,7 @@ a_chart label bytes = by (fault bytes) refl
     by : (o : Option ReadFault) → fault bytes ≡ o → (out : Output) × IsCharted label bytes out
     by (Some f) is = (refused f, charted.Faulty bytes f is)
     by None none =
-        let read = readable bytes none in
+        let read = readable standard bytes none in
         of_streams label bytes read.0.streams read.0.acts (record { text = read.1.text; within = read.1.within })
         (refusal read.0.streams) refl
 

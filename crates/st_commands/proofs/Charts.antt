@@ -1,4 +1,4 @@
--- A chart is written where an item has the label, a line says where none has it, and a reason of pairing is reported.
+-- A chart is written if an item has the label, a line says if none has it, and a reason of pairing is reported.
 use Rattle.std.proofs.Common.{◌≡◌, ◌≢◌, ℕ, Bool, true, false, List, refl, subst}
 use Rattle.std.specs.Prelude.{◌↔◌, Some, Result, Err}
 use Rattle.st_core.specs.declared.types.Label.{Label}
@@ -15,7 +15,7 @@ use Rattle.st_commands.specs.Audited.{report_output}
 use Rattle.st_commands.specs.Command.{Delivers}
 use Rattle.st_commands.specs.Parts.{ChartsTo, OfReason}
 
--- where the answer is another than that no item has the label, one has it
+-- if the answer is another than that no item has the label, one has it
 pub labelled : {T : Type 0} (r : Result T ChartFault) (some : Bool) → r ≢ Err chart_fault.NoLabel
     → (r ≡ Err chart_fault.NoLabel ↔ some ≡ false) → some ≡ true
 labelled r true other iff = refl
@@ -27,7 +27,7 @@ pub from_there : {W : Type 0} (puts : W → List ℕ → W → Type 0) (failed :
 from_there puts failed old there new out status same d =
     subst (λ w. Delivers puts failed w new out status) same d
 
--- a reason that is no want of memory is reported
+-- a reason that isn't Memory is reported
 pub unpaired : (streams : List Stream) (label : Label) (f : PairFault) (found : Finding) → IsPairFault streams f
     → unfit_by f ≡ Some found → ChartsTo streams label (report_output streams found)
 unpaired streams label fault.Memory found is by = absurd (cc)

@@ -18,9 +18,10 @@ use Rattle.st_runtime.specs.declared.fault.ActFault.{ActFault}
 use Rattle.st_runtime.specs.declared.fault.ActFault.TheVariants as act
 use Rattle.st_runtime.specs.declared.fault.DriveFault.{DriveFault}
 use Rattle.st_runtime.specs.declared.fault.DriveFault.TheVariants as drive
-use Rattle.st_runtime.specs.declared.record.Record.{Record}
+use Rattle.st_runtime.specs.declared.join.record.Record.{Record}
 use Rattle.st_runtime.specs.Driven.{IsDriveFault, acts_by, acts_in, stamps_in}
 use Rattle.st_runtime.specs.System.{knows, is_stamping}
+use Rattle.st_text.specs.Limits.{standard}
 use Rattle.st_text.specs.Text.{Contents, is_listed}
 use Rattle.st_commands.specs.Output.{Output}
 use Rattle.st_commands.specs.Checked.{top, Spells}
@@ -169,7 +170,7 @@ recorded_is_yes bytes r h spelled out is =
 -- ---- what is owed
 
 module _ {R : Type 0} (gives : R → List ℕ → R → Type 0) (ended : R → Type 0) (failed : R → Bool) (old new : R)
-    (c : Contents) (h : WasRead gives ended failed old new c) where
+    (c : Contents) (h : WasRead standard gives ended failed old new c) where
   owes_refused : (acts : List Act) → Spells h.bytes c.streams (Some acts) → (f : DriveFault)
       → IsDriveFault top ranks (pids_of c.streams) (scripts_of (pids_of c.streams) acts) f
       → Owes gives ended failed old new IsRecorded (drive_refused f)
@@ -195,7 +196,7 @@ module _ {R : Type 0} (gives : R → List ℕ → R → Type 0) (ended : R → T
 
   pub owes_drive : (out : Output) → OfBundle DrivesTo c out → Owes gives ended failed old new IsRecorded out
   owes_drive =
-      owes_bundle gives ended failed old new IsRecorded DrivesTo c h owes_driven
+      owes_bundle standard gives ended failed old new IsRecorded DrivesTo c h owes_driven
       (λ s. records.Lacking h.bytes (record { streams = c.streams; spelled = s }))
 
 -- ---- of a call
@@ -206,5 +207,6 @@ module _ {R W : Type 0} (gives : R → List ℕ → R → Type 0) (ended : R →
     (told : Tells puts write_failed writer written (Owes gives ended read_failed reader read IsRecorded) status) where
   pub says_driven : status ≡ 0 → Says gives ended read_failed reader read puts write_failed writer written MeansDriven
   says_driven e =
-      says gives ended read_failed reader read puts write_failed writer written IsRecorded MeansDriven 0 (λ same. cc)
+      says standard gives ended read_failed reader read puts write_failed writer written IsRecorded MeansDriven 0
+      (λ same. cc)
       driven_means status told e

@@ -4,11 +4,14 @@ use Rattle.st_core.specs.Run.{Stream}
 use Rattle.st_core.specs.Verdict.{Yes}
 use Rattle.st_audit.specs.declared.finding.Finding.{Finding}
 use Rattle.st_audit.specs.declared.finding.Finding.TheVariants as finding
-use Rattle.st_commands.specs.Output.{judged}
+use Rattle.st_text.specs.declared.limits.Limits.{Limits}
+use Rattle.st_text.specs.Limits.{standard}
+use Rattle.st_commands.specs.Output.{Output, judged}
 use Rattle.st_commands.specs.Checked.{Judged}
-use Rattle.st_commands.specs.Audited.{HasFinding, IsAudited, Found, Faulty, report_output, finding_status}
-use Rattle.st_commands.specs.Command.{Owes, Tells}
-use Rattle.st_commands.specs.Meaning.{MeansFits, MeansUnfit, Says}
+use Rattle.st_commands.specs.Audited.{HasFindingWithin, IsAudited, IsAuditedWithin, Found, Faulty, report_output}
+use Rattle.st_commands.specs.Audited.{finding_status}
+use Rattle.st_commands.specs.Command.{Owes, OwesWithin, Tells}
+use Rattle.st_commands.specs.Meaning.{MeansFits, MeansFitsWithin, MeansUnfit, MeansUnfitWithin, Says, SaysWithin}
 use Rattle.st_commands.specs.Laws.{FitsMeans, UnfitMeans, CertificateIsYes, certificate}
 use Rattle.st_commands.proofs.Meanings.{fault_status_high}
 use Rattle.st_commands.proofs.Outputs.{one_check}
@@ -17,10 +20,11 @@ use Rattle.st_commands.proofs.Telling.{says}
 
 -- ---- what is found
 
-found_fits : (bytes : List ℕ) (streams : List Stream) (found : Finding) → HasFinding bytes streams found
-    → finding_status found ≡ 0 → MeansFits bytes (report_output streams found)
-found_fits bytes streams (finding.Unfit p i r) h e = absurd (omega (arith, e))
-found_fits bytes streams (finding.Fits acts pairs) h e =
+found_fits : (limits : Limits) (bytes : List ℕ) (streams : List Stream) (found : Finding)
+    → HasFindingWithin limits bytes streams found
+    → finding_status found ≡ 0 → MeansFitsWithin limits bytes (report_output streams found)
+found_fits limits bytes streams (finding.Unfit p i r) h e = absurd (omega (arith, e))
+found_fits limits bytes streams (finding.Fits acts pairs) h e =
     let yes = h.finding in
     record {
       streams = streams;
@@ -33,10 +37,11 @@ found_fits bytes streams (finding.Fits acts pairs) h e =
       text = refl;
     }
 
-found_unfit : (bytes : List ℕ) (streams : List Stream) (found : Finding) → HasFinding bytes streams found
-    → finding_status found ≡ 1 → MeansUnfit bytes (report_output streams found)
-found_unfit bytes streams (finding.Fits acts pairs) h e = absurd (omega (arith, e))
-found_unfit bytes streams (finding.Unfit p i r) h e =
+found_unfit : (limits : Limits) (bytes : List ℕ) (streams : List Stream) (found : Finding)
+    → HasFindingWithin limits bytes streams found
+    → finding_status found ≡ 1 → MeansUnfitWithin limits bytes (report_output streams found)
+found_unfit limits bytes streams (finding.Fits acts pairs) h e = absurd (omega (arith, e))
+found_unfit limits bytes streams (finding.Unfit p i r) h e =
     record {
       streams = streams;
       given = h.given;
@@ -49,13 +54,44 @@ found_unfit bytes streams (finding.Unfit p i r) h e =
       text = refl;
     }
 
+pub fits_means_within : (limits : Limits) (bytes : List ℕ) (out : Output) → IsAuditedWithin limits bytes out
+    → out.status ≡ 0 → MeansFitsWithin limits bytes out
+fits_means_within limits bytes out (Found b streams found h) e = found_fits limits b streams found h e
+fits_means_within limits bytes out (Faulty b f is) e = let high = fault_status_high f in absurd (omega arith)
+
 pub fits_means : FitsMeans
-fits_means bytes out (Found b streams found h) e = found_fits b streams found h e
-fits_means bytes out (Faulty b f is) e = let high = fault_status_high f in absurd (omega arith)
+fits_means bytes out is e =
+    let m = fits_means_within standard bytes out is e in
+    record {
+      streams = m.streams;
+      given = m.given;
+      acts = m.acts;
+      outcomes = m.outcomes;
+      spelled = m.spelled;
+      runs = m.runs;
+      reports = m.reports;
+      text = m.text;
+    }
+
+pub unfit_means_within : (limits : Limits) (bytes : List ℕ) (out : Output) → IsAuditedWithin limits bytes out
+    → out.status ≡ 1 → MeansUnfitWithin limits bytes out
+unfit_means_within limits bytes out (Found b streams found h) e = found_unfit limits b streams found h e
+unfit_means_within limits bytes out (Faulty b f is) e = let high = fault_status_high f in absurd (omega arith)
 
 pub unfit_means : UnfitMeans
-unfit_means bytes out (Found b streams found h) e = found_unfit b streams found h e
-unfit_means bytes out (Faulty b f is) e = let high = fault_status_high f in absurd (omega arith)
+unfit_means bytes out is e =
+    let m = unfit_means_within standard bytes out is e in
+    record {
+      streams = m.streams;
+      given = m.given;
+      pid = m.pid;
+      index = m.index;
+      reason = m.reason;
+      spelled = m.spelled;
+      there = m.there;
+      holds = m.holds;
+      text = m.text;
+    }
 
 -- ---- the check of a certificate
 
@@ -73,10 +109,30 @@ module _ {R W : Type 0} (gives : R → List ℕ → R → Type 0) (ended : R →
     (told : Tells puts write_failed writer written (Owes gives ended read_failed reader read IsAudited) status) where
   pub says_fits : status ≡ 0 → Says gives ended read_failed reader read puts write_failed writer written MeansFits
   says_fits e =
-      says gives ended read_failed reader read puts write_failed writer written IsAudited MeansFits 0 (λ same. cc)
+      says standard gives ended read_failed reader read puts write_failed writer written IsAudited MeansFits 0
+      (λ same. cc)
       fits_means status told e
 
   pub says_unfit : status ≡ 1 → Says gives ended read_failed reader read puts write_failed writer written MeansUnfit
   says_unfit e =
-      says gives ended read_failed reader read puts write_failed writer written IsAudited MeansUnfit 1 (λ same. cc)
+      says standard gives ended read_failed reader read puts write_failed writer written IsAudited MeansUnfit 1
+      (λ same. cc)
       unfit_means status told e
+
+module _ (limits : Limits) {R W : Type 0} (gives : R → List ℕ → R → Type 0) (ended : R → Type 0)
+    (read_failed : R → Bool) (reader read : R)
+    (puts : W → List ℕ → W → Type 0) (write_failed : W → Bool) (writer written : W) (status : ℕ)
+    (told : Tells puts write_failed writer written
+    (OwesWithin limits gives ended read_failed reader read (IsAuditedWithin limits)) status) where
+  pub says_fits_within : status ≡ 0
+      → SaysWithin limits gives ended read_failed reader read puts write_failed writer written (MeansFitsWithin limits)
+  says_fits_within e =
+      says limits gives ended read_failed reader read puts write_failed writer written (IsAuditedWithin limits)
+      (MeansFitsWithin limits) 0 (λ same. cc) (fits_means_within limits) status told e
+
+  pub says_unfit_within : status ≡ 1
+      → SaysWithin limits gives ended read_failed reader read puts write_failed writer written
+      (MeansUnfitWithin limits)
+  says_unfit_within e =
+      says limits gives ended read_failed reader read puts write_failed writer written (IsAuditedWithin limits)
+      (MeansUnfitWithin limits) 1 (λ same. cc) (unfit_means_within limits) status told e

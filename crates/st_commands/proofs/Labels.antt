@@ -1,4 +1,4 @@
--- `clap` reads a label as a number of 32 bits from the text that it found, and none where that writes no such number.
+-- `clap` reads a label as a number of 32 bits from the text that it found, and none if that writes no such number.
 use Rattle.std.proofs.Common.{◌≡◌, ℕ, Bool, true, false, List, refl, sym, ap, ◌∙◌, arith}
 use Rattle.std.specs.Prelude.{Option, Some, None, Result, Ok, Err, option_map, option_and_then, if◌then◌else◌}
 use Rattle.std.specs.Str.Parse.{ParsesUnsigned, digits_value, without_leading_plus}
@@ -35,7 +35,7 @@ module _ (E : Type 0) (text : Text) where
           absurd (h (within.0, omega (arith, most)))
       by false is = ap (λ (b : Bool). if b then Some (label_numbered (written text)) else None) is
 
--- where a reader gives a number of 32 bits as the standard library reads one
+-- if a reader gives a number of 32 bits as the standard library reads one
 module _ (E : Type 0) (Gives : List ℕ → Result ℕ E → Type 0)
     (reads : (t : Text) (r : Result ℕ E) → Gives t r → ParsesUnsigned {E = E} 32 10 t r) where
   read_label : (t : Text) (r : Option ℕ) → ReadsOne Gives t r → option_map label_numbered r ≡ label_in t

@@ -11,10 +11,12 @@ use Rattle.st_core.specs.Verdict.{Verdict, Stuck, Differs, Left, Yes, IsVerdict}
 use Rattle.st_core.proofs.ForCallers.{one_verdict, run_from-take}
 use Rattle.st_text.specs.declared.fault.ReadFault.{ReadFault}
 use Rattle.st_text.specs.declared.fault.ReadFault.TheVariants as faults
+use Rattle.st_text.specs.declared.limits.Limits.{Limits}
+use Rattle.st_text.specs.Limits.{standard}
 use Rattle.st_commands.specs.Output.{Output, judged, refused}
-use Rattle.st_commands.specs.Checked.{top, IsJudged, IsChecked, Judged, Lacking, Faulty}
-use Rattle.st_commands.specs.Command.{Owes, Tells}
-use Rattle.st_commands.specs.Meaning.{MeansYes, MeansNo, Says}
+use Rattle.st_commands.specs.Checked.{top, IsJudgedWithin, IsChecked, IsCheckedWithin, Judged, Lacking, Faulty}
+use Rattle.st_commands.specs.Command.{Owes, OwesWithin, Tells}
+use Rattle.st_commands.specs.Meaning.{MeansYes, MeansYesWithin, MeansNo, MeansNoWithin, Says, SaysWithin}
 use Rattle.st_commands.specs.Laws.{YesMeans, NoMeans, ShownIsYes, NeverStuck, NeverStuckInReplay}
 use Rattle.st_commands.proofs.Outputs.{one_check}
 use Rattle.st_commands.proofs.Owed.{judgement, spelled_run}
@@ -35,11 +37,12 @@ fault_status_high faults.Truncated = omega arith
 
 -- ---- a yes
 
-yes_verdict : (bytes : List ℕ) (v : Verdict) → IsJudged bytes v → (judged v).status ≡ 0 → MeansYes bytes (judged v)
-yes_verdict bytes (Stuck n) j e = absurd (omega arith)
-yes_verdict bytes (Differs n) j e = absurd (omega arith)
-yes_verdict bytes (Left p) j e = absurd (omega arith)
-yes_verdict bytes (Yes ps) j e =
+yes_verdict : (limits : Limits) (bytes : List ℕ) (v : Verdict) → IsJudgedWithin limits bytes v → (judged v).status ≡ 0
+    → MeansYesWithin limits bytes (judged v)
+yes_verdict limits bytes (Stuck n) j e = absurd (omega arith)
+yes_verdict limits bytes (Differs n) j e = absurd (omega arith)
+yes_verdict limits bytes (Left p) j e = absurd (omega arith)
+yes_verdict limits bytes (Yes ps) j e =
     let v = j.verdict in
     let acts = j.acts in
     let os = v.0 in
@@ -55,10 +58,26 @@ yes_verdict bytes (Yes ps) j e =
       text = ap (λ x. (judged (Yes x)).text) v.3;
     }
 
+pub yes_means_within : (limits : Limits) (bytes : List ℕ) (out : Output) → IsCheckedWithin limits bytes out
+    → out.status ≡ 0 → MeansYesWithin limits bytes out
+yes_means_within limits bytes out (Judged b v j) e = yes_verdict limits b v j e
+yes_means_within limits bytes out (Lacking b n) e = absurd (omega arith)
+yes_means_within limits bytes out (Faulty b f is) e = let high = fault_status_high f in absurd (omega arith)
+
 pub yes_means : YesMeans
-yes_means bytes out (Judged b v j) e = yes_verdict b v j e
-yes_means bytes out (Lacking b n) e = absurd (omega arith)
-yes_means bytes out (Faulty b f is) e = let high = fault_status_high f in absurd (omega arith)
+yes_means bytes out is e =
+    let m = yes_means_within standard bytes out is e in
+    record {
+      streams = m.streams;
+      acts = m.acts;
+      outcomes = m.outcomes;
+      spelled = m.spelled;
+      runs = m.runs;
+      reports = m.reports;
+      paired = m.paired;
+      follows = m.follows;
+      text = m.text;
+    }
 
 -- ---- a no
 
@@ -67,9 +86,9 @@ shown_yes : (streams : List Stream) (acts : List Act) (h : Shows top streams act
     → IsVerdict top streams acts (Yes (pairs acts h.0))
 shown_yes streams acts h = (h.0, h.1, h.2, refl)
 
-no_verdict : (bytes : List ℕ) (v : Verdict) → IsJudged bytes v → ((ps : List (ℕ × ℕ)) → v ≢ Yes ps)
-    → MeansNo bytes (judged v)
-no_verdict bytes v j never = record {
+no_verdict : (limits : Limits) (bytes : List ℕ) (v : Verdict) → IsJudgedWithin limits bytes v
+    → ((ps : List (ℕ × ℕ)) → v ≢ Yes ps) → MeansNoWithin limits bytes (judged v)
+no_verdict limits bytes v j never = record {
   streams = j.streams;
   acts = j.acts;
   verdict = v;
@@ -80,16 +99,31 @@ no_verdict bytes v j never = record {
   place = j.verdict;
 }
 
-judged_no : (bytes : List ℕ) (v : Verdict) → IsJudged bytes v → (judged v).status ≡ 1 → MeansNo bytes (judged v)
-judged_no bytes (Stuck n) j e = no_verdict bytes (Stuck n) j (λ ps same. cc)
-judged_no bytes (Differs n) j e = no_verdict bytes (Differs n) j (λ ps same. cc)
-judged_no bytes (Left p) j e = no_verdict bytes (Left p) j (λ ps same. cc)
-judged_no bytes (Yes ps) j e = absurd (omega arith)
+judged_no : (limits : Limits) (bytes : List ℕ) (v : Verdict) → IsJudgedWithin limits bytes v → (judged v).status ≡ 1
+    → MeansNoWithin limits bytes (judged v)
+judged_no limits bytes (Stuck n) j e = no_verdict limits bytes (Stuck n) j (λ ps same. cc)
+judged_no limits bytes (Differs n) j e = no_verdict limits bytes (Differs n) j (λ ps same. cc)
+judged_no limits bytes (Left p) j e = no_verdict limits bytes (Left p) j (λ ps same. cc)
+judged_no limits bytes (Yes ps) j e = absurd (omega arith)
+
+pub no_means_within : (limits : Limits) (bytes : List ℕ) (out : Output) → IsCheckedWithin limits bytes out
+    → out.status ≡ 1 → MeansNoWithin limits bytes out
+no_means_within limits bytes out (Judged b v j) e = judged_no limits b v j e
+no_means_within limits bytes out (Lacking b n) e = absurd (omega arith)
+no_means_within limits bytes out (Faulty b f is) e = let high = fault_status_high f in absurd (omega arith)
 
 pub no_means : NoMeans
-no_means bytes out (Judged b v j) e = judged_no b v j e
-no_means bytes out (Lacking b n) e = absurd (omega arith)
-no_means bytes out (Faulty b f is) e = let high = fault_status_high f in absurd (omega arith)
+no_means bytes out is e =
+    let m = no_means_within standard bytes out is e in
+    record {
+      streams = m.streams;
+      acts = m.acts;
+      verdict = m.verdict;
+      spelled = m.spelled;
+      refuted = m.refuted;
+      text = m.text;
+      place = m.place;
+    }
 
 -- ---- acts that show the streams
 
@@ -125,10 +159,29 @@ module _ {R W : Type 0} (gives : R → List ℕ → R → Type 0) (ended : R →
     (told : Tells puts write_failed writer written (Owes gives ended read_failed reader read IsChecked) status) where
   pub says_yes : status ≡ 0 → Says gives ended read_failed reader read puts write_failed writer written MeansYes
   says_yes e =
-      says gives ended read_failed reader read puts write_failed writer written IsChecked MeansYes 0 (λ same. cc)
+      says standard gives ended read_failed reader read puts write_failed writer written IsChecked MeansYes 0
+      (λ same. cc)
       yes_means status told e
 
   pub says_no : status ≡ 1 → Says gives ended read_failed reader read puts write_failed writer written MeansNo
   says_no e =
-      says gives ended read_failed reader read puts write_failed writer written IsChecked MeansNo 1 (λ same. cc)
+      says standard gives ended read_failed reader read puts write_failed writer written IsChecked MeansNo 1
+      (λ same. cc)
       no_means status told e
+
+module _ (limits : Limits) {R W : Type 0} (gives : R → List ℕ → R → Type 0) (ended : R → Type 0)
+    (read_failed : R → Bool) (reader read : R)
+    (puts : W → List ℕ → W → Type 0) (write_failed : W → Bool) (writer written : W) (status : ℕ)
+    (told : Tells puts write_failed writer written
+    (OwesWithin limits gives ended read_failed reader read (IsCheckedWithin limits)) status) where
+  pub says_yes_within : status ≡ 0
+      → SaysWithin limits gives ended read_failed reader read puts write_failed writer written (MeansYesWithin limits)
+  says_yes_within e =
+      says limits gives ended read_failed reader read puts write_failed writer written (IsCheckedWithin limits)
+      (MeansYesWithin limits) 0 (λ same. cc) (yes_means_within limits) status told e
+
+  pub says_no_within : status ≡ 1
+      → SaysWithin limits gives ended read_failed reader read puts write_failed writer written (MeansNoWithin limits)
+  says_no_within e =
+      says limits gives ended read_failed reader read puts write_failed writer written (IsCheckedWithin limits)
+      (MeansNoWithin limits) 1 (λ same. cc) (no_means_within limits) status told e

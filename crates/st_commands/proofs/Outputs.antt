@@ -16,6 +16,7 @@ use Rattle.st_check.specs.Answers.{SticksAt}
 use Rattle.st_text.specs.declared.fault.ReadFault.{ReadFault}
 use Rattle.st_text.specs.Text.{Contents}
 use Rattle.st_text.specs.Fault.{fault}
+use Rattle.st_text.specs.Limits.{standard}
 use Rattle.st_text.proofs.ForCallers.{text_one, text_sound}
 use Rattle.st_commands.specs.Output.{judged, refused}
 use Rattle.st_commands.specs.Checked.{top, Spells, IsJudged, IsChecked}
@@ -51,7 +52,7 @@ acts_apart bytes ss ts acts s t X =
 pub fault_apart : (bytes : List ℕ) (streams : List Stream) (acts : Option (List Act)) (f : ReadFault)
     → Spells bytes streams acts → fault bytes ≡ Some f → (X : Type 0) → X
 fault_apart bytes streams acts f s is X =
-    let none = text_sound bytes (whole streams acts) (record { text = s.text; within = s.within }) in
+    let none = text_sound standard bytes (whole streams acts) (record { text = s.text; within = s.within }) in
     absurd (cc)
 
 pub one_fault : (bytes : List ℕ) (f g : ReadFault) → fault bytes ≡ Some f → fault bytes ≡ Some g → f ≡ g

@@ -8,6 +8,7 @@ use Rattle.st_core.specs.Verdict.{Verdict, IsVerdict}
 use Rattle.st_check.proofs.ForCallers.{few_acts_run, verdict_follows, verdict_pairs}
 use Rattle.st_text.specs.declared.fault.ReadFault.{ReadFault}
 use Rattle.st_text.specs.Fault.{fault}
+use Rattle.st_text.specs.Limits.{standard}
 use Rattle.st_text.proofs.ForCallers.{readable}
 use Rattle.st_commands.specs.Output.{Output, judged, refused, no_acts}
 use Rattle.st_commands.specs.Checked.{top, Spells, IsJudged, IsChecked}
@@ -47,13 +48,13 @@ module _ (IsOutput : List ℕ → Output → Type 0) (bytes : List ℕ)
   of_fault : (o : Option ReadFault) → fault bytes ≡ o → (out : Output) × IsOutput bytes out
   of_fault (Some f) is = (refused f, faulty f is)
   of_fault None none =
-      let read = readable bytes none in
+      let read = readable standard bytes none in
       of_acts read.0.streams read.0.acts (record { text = read.1.text; within = read.1.within })
 
   has_output : (out : Output) × IsOutput bytes out
   has_output = of_fault (fault bytes) refl
 
--- where streams and acts have a verdict, which is a law of the machine's
+-- if streams and acts have a verdict, which is a law of the machine's
 pub a_check : ((top : ℕ) (streams : List Stream) (acts : List Act) → (v : Verdict) × IsVerdict top streams acts v)
     → HasOutput IsChecked
 a_check a_verdict bytes =

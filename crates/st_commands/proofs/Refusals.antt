@@ -1,4 +1,4 @@
--- Where the words ask for no command nothing was read, and the usage line or want of memory is owed.
+-- If the words ask for no command nothing was read, and the usage line or Memory is owed.
 use Rattle.std.proofs.Common.{ℕ, Bool, List, refl}
 use Rattle.clap.specs.Words.{Text}
 use Rattle.st_commands.specs.declared.words.Refusal.{Refusal}

@@ -13,25 +13,27 @@ use Rattle.st_text.specs.declared.fault.ReadFault.{ReadFault}
 use Rattle.st_text.specs.declared.fault.ReadFault.TheVariants as faults
 use Rattle.st_text.specs.declared.bundle.Bundle.{Bundle}
 use Rattle.st_text.specs.Contents.{contents}
-use Rattle.st_text.specs.Limits.{most_bytes}
+use Rattle.st_text.specs.declared.limits.Limits.{Limits}
+use Rattle.st_text.specs.Limits.{standard}
 use Rattle.st_text.specs.Text.{Contents}
-use Rattle.st_text.specs.Fault.{fault}
-use Rattle.st_text.specs.Reads.{ReadsSource}
+use Rattle.st_text.specs.Fault.{fault_within}
+use Rattle.st_text.specs.Reads.{ReadsSourceWithin}
 use Rattle.st_text.proofs.ForCallers.{fault_too_large}
 use Rattle.st_text.specs.Writing.{WritesText}
 use Rattle.st_commands.specs.Output.{Output, judged, refused, no_acts}
-use Rattle.st_commands.specs.Checked.{Spells, IsChecked, Judged}
+use Rattle.st_commands.specs.Checked.{Spells, SpellsWithin, IsCheckedWithin, Judged}
 use Rattle.st_commands.specs.Checked as checked
 use Rattle.st_commands.specs.Replayed.{IsReplayed}
 use Rattle.st_commands.specs.Replayed as replays
-use Rattle.st_commands.specs.Audited.{IsAudited, report_output}
+use Rattle.st_commands.specs.Audited.{IsAuditedWithin, report_output}
 use Rattle.st_commands.specs.Audited as audits
 use Rattle.st_commands.specs.Charted.{IsCharted, drawn, no_label}
 use Rattle.st_commands.specs.Charted as charts
-use Rattle.st_commands.specs.Command.{ReadsAll, Owes, OfBytes, ForMemory, ForReader, Delivers, Whole, Part, Tells}
+use Rattle.st_commands.specs.Command.{ReadsAllWithin, Owes, OwesWithin, OfBytes, ForMemory, ForReader}
+use Rattle.st_commands.specs.Command.{Delivers, Whole, Part, Tells}
 use Rattle.st_commands.specs.Parts.{ChecksTo, AuditsTo, DrawsTo, ChartsTo, ReplaysTo, OfBundle, OfSome, OfNone}
 use Rattle.st_commands.specs.Parts as parts
-use Rattle.st_commands.specs.Meaning.{Says}
+use Rattle.st_commands.specs.Meaning.{SaysWithin}
 
 -- ---- writing
 
@@ -42,54 +44,57 @@ pub delivers : {W T E : Type 0} (puts : W → List ℕ → W → Type 0) (failed
 delivers puts failed old new out (Ok v) status w e = subst (Delivers puts failed old new out) (sym e) (Whole w)
 delivers puts failed old new out (Err x) status w e = subst (Delivers puts failed old new out) (sym e) (Part w)
 
-module _ {R : Type 0} (gives : R → List ℕ → R → Type 0) (ended : R → Type 0) (failed : R → Bool) (old new : R) where
+module _ (limits : Limits) {R : Type 0} (gives : R → List ℕ → R → Type 0) (ended : R → Type 0) (failed : R → Bool)
+    (old new : R) where
   -- ---- reading
 
   -- all bytes up to the source's end
   up_to_end : (bytes : List ℕ) → InARow gives old bytes new → ended new → failed new ≡ false
-      → ReadsAll gives ended failed old new bytes
+      → ReadsAllWithin limits gives ended failed old new bytes
   up_to_end bytes given end sound = record { given = given; whole = inl end; sound = sound }
 
   module _ (IsOutput : List ℕ → Output → Type 0)
-      (faulty : (bytes : List ℕ) (f : ReadFault) → fault bytes ≡ Some f → IsOutput bytes (refused f)) where
-    -- a fault of the bytes that were read
-    of_fault : (bytes : List ℕ) (f : ReadFault) → InARow gives old bytes new → ended new → failed new ≡ false
-        → fault bytes ≡ Some f
-        → Owes gives ended failed old new IsOutput (refused f)
-    of_fault bytes f given end sound is =
-        OfBytes bytes (refused f) (up_to_end bytes given end sound) (faulty bytes f is)
+      (faulty : (bytes : List ℕ) (f : ReadFault) → fault_within limits bytes ≡ Some f → IsOutput bytes (refused f))
+    where
+      -- a fault of the bytes that were read
+      of_fault : (bytes : List ℕ) (f : ReadFault) → InARow gives old bytes new → ended new → failed new ≡ false
+          → fault_within limits bytes ≡ Some f
+          → OwesWithin limits gives ended failed old new IsOutput (refused f)
+      of_fault bytes f given end sound is =
+          OfBytes bytes (refused f) (up_to_end bytes given end sound) (faulty bytes f is)
 
-    -- a refusal of the reader is owed, whatever the command makes of bytes
-    pub owes_fault : (f : ReadFault) → ReadsSource gives ended failed old new (Err f)
-        → Owes gives ended failed old new IsOutput (refused f)
-    owes_fault faults.Memory h =
-        ForMemory h.bytes (up_to_end h.bytes h.given h.answer.end h.answer.after) h.answer.small
-    owes_fault faults.Device h = ForReader h.bytes h.given h.answer.small h.answer.mark
-    owes_fault faults.TooLarge h =
-        let more : most_bytes < length h.bytes = omega (arith, h.answer.count) in
-        OfBytes h.bytes (refused faults.TooLarge)
-        (record { given = h.given; whole = inr h.answer.count; sound = h.answer.after })
-        (faulty h.bytes faults.TooLarge (fault_too_large h.bytes more))
-    owes_fault (faults.Line n) h = of_fault h.bytes (faults.Line n) h.given h.answer.end h.answer.after h.answer.answer
-    owes_fault (faults.Order n) h =
-        of_fault h.bytes (faults.Order n) h.given h.answer.end h.answer.after h.answer.answer
-    owes_fault (faults.Foreign n) h =
-        of_fault h.bytes (faults.Foreign n) h.given h.answer.end h.answer.after h.answer.answer
-    owes_fault (faults.Unknown n) h =
-        of_fault h.bytes (faults.Unknown n) h.given h.answer.end h.answer.after h.answer.answer
-    owes_fault (faults.TooMany n) h =
-        of_fault h.bytes (faults.TooMany n) h.given h.answer.end h.answer.after h.answer.answer
-    owes_fault faults.Truncated h =
-        of_fault h.bytes faults.Truncated h.given h.answer.end h.answer.after h.answer.answer
+      -- a refusal of the reader is owed, whatever the command makes of bytes
+      pub owes_fault : (f : ReadFault) → ReadsSourceWithin limits gives ended failed old new (Err f)
+          → OwesWithin limits gives ended failed old new IsOutput (refused f)
+      owes_fault faults.Memory h =
+          ForMemory h.bytes (up_to_end h.bytes h.given h.answer.end h.answer.after) h.answer.small
+      owes_fault faults.Device h = ForReader h.bytes h.given h.answer.small h.answer.mark
+      owes_fault faults.TooLarge h =
+          let more : limits.bytes < length h.bytes = omega (arith, h.answer.count) in
+          OfBytes h.bytes (refused faults.TooLarge)
+          (record { given = h.given; whole = inr h.answer.count; sound = h.answer.after })
+          (faulty h.bytes faults.TooLarge (fault_too_large limits h.bytes more))
+      owes_fault (faults.Line n) h =
+          of_fault h.bytes (faults.Line n) h.given h.answer.end h.answer.after h.answer.answer
+      owes_fault (faults.Order n) h =
+          of_fault h.bytes (faults.Order n) h.given h.answer.end h.answer.after h.answer.answer
+      owes_fault (faults.Foreign n) h =
+          of_fault h.bytes (faults.Foreign n) h.given h.answer.end h.answer.after h.answer.answer
+      owes_fault (faults.Unknown n) h =
+          of_fault h.bytes (faults.Unknown n) h.given h.answer.end h.answer.after h.answer.answer
+      owes_fault (faults.TooMany n) h =
+          of_fault h.bytes (faults.TooMany n) h.given h.answer.end h.answer.after h.answer.answer
+      owes_fault faults.Truncated h =
+          of_fault h.bytes faults.Truncated h.given h.answer.end h.answer.after h.answer.answer
 
   -- the bytes of a bundle that was read
   pub record WasRead (c : Contents) : Type 0 where
     pub bytes : List ℕ
-    pub all : ReadsAll gives ended failed old new bytes
-    pub small : length bytes ≤ most_bytes
-    pub spelled : Spells bytes c.streams c.acts
+    pub all : ReadsAllWithin limits gives ended failed old new bytes
+    pub small : length bytes ≤ limits.bytes
+    pub spelled : SpellsWithin limits bytes c.streams c.acts
 
-  pub was_read : (b : Bundle) → ReadsSource gives ended failed old new (Ok b) → WasRead (contents b)
+  pub was_read : (b : Bundle) → ReadsSourceWithin limits gives ended failed old new (Ok b) → WasRead (contents b)
   was_read b h = record {
     bytes = h.bytes;
     all = up_to_end h.bytes h.given h.answer.end h.answer.after;
@@ -100,20 +105,20 @@ module _ {R : Type 0} (gives : R → List ℕ → R → Type 0) (ended : R → T
   -- what a command makes of a bundle's acts, it owes
   module _ (IsOutput : List ℕ → Output → Type 0) (OfActs : List Stream → List Act → Output → Type 0) (c : Contents)
       (h : WasRead c) where
-    pub owes_bundle : ((acts : List Act) (out : Output) → Spells h.bytes c.streams (Some acts)
-        → OfActs c.streams acts out → Owes gives ended failed old new IsOutput out)
-        → (Spells h.bytes c.streams None → IsOutput h.bytes no_acts)
-        → (out : Output) → OfBundle OfActs c out → Owes gives ended failed old new IsOutput out
+    pub owes_bundle : ((acts : List Act) (out : Output) → SpellsWithin limits h.bytes c.streams (Some acts)
+        → OfActs c.streams acts out → OwesWithin limits gives ended failed old new IsOutput out)
+        → (SpellsWithin limits h.bytes c.streams None → IsOutput h.bytes no_acts)
+        → (out : Output) → OfBundle OfActs c out → OwesWithin limits gives ended failed old new IsOutput out
     owes_bundle of_acts lacking out (OfSome acts o e is) =
-        of_acts acts o (subst (Spells h.bytes c.streams) e h.spelled) is
+        of_acts acts o (subst (SpellsWithin limits h.bytes c.streams) e h.spelled) is
     owes_bundle of_acts lacking out (OfNone e) =
-        OfBytes h.bytes no_acts h.all (lacking (subst (Spells h.bytes c.streams) e h.spelled))
+        OfBytes h.bytes no_acts h.all (lacking (subst (SpellsWithin limits h.bytes c.streams) e h.spelled))
 
   -- ---- check
 
   module _ (c : Contents) (h : WasRead c) where
-    owes_judged : (acts : List Act) (out : Output) → Spells h.bytes c.streams (Some acts)
-        → ChecksTo c.streams acts out → Owes gives ended failed old new IsChecked out
+    owes_judged : (acts : List Act) (out : Output) → SpellsWithin limits h.bytes c.streams (Some acts)
+        → ChecksTo c.streams acts out → OwesWithin limits gives ended failed old new (IsCheckedWithin limits) out
     owes_judged acts out spelled (parts.Judges v is follows paired) =
         OfBytes h.bytes (judged v) h.all
         (Judged h.bytes v (record {
@@ -127,20 +132,49 @@ module _ {R : Type 0} (gives : R → List ℕ → R → Type 0) (ended : R → T
         }))
     owes_judged acts out spelled parts.NoRoomToCheck = ForMemory h.bytes h.all h.small
 
-    pub owes_check : (out : Output) → OfBundle ChecksTo c out → Owes gives ended failed old new IsChecked out
+    pub owes_check : (out : Output) → OfBundle ChecksTo c out
+        → OwesWithin limits gives ended failed old new (IsCheckedWithin limits) out
     owes_check =
-        owes_bundle IsChecked ChecksTo c h owes_judged
+        owes_bundle (IsCheckedWithin limits) ChecksTo c h owes_judged
         (λ spelled. checked.Lacking h.bytes (record { streams = c.streams; spelled = spelled }))
 
     -- ---- audit
 
-    pub owes_audit : (out : Output) → AuditsTo c.streams out → Owes gives ended failed old new IsAudited out
+    pub owes_audit : (out : Output) → AuditsTo c.streams out
+        → OwesWithin limits gives ended failed old new (IsAuditedWithin limits) out
     owes_audit out (parts.Finds found is on) =
         OfBytes h.bytes (report_output c.streams found) h.all
         (audits.Found h.bytes c.streams found
         (record { given = c.acts; spelled = h.spelled; finding = is; handed_on = on }))
     owes_audit out parts.NoRoomToAudit = ForMemory h.bytes h.all h.small
 
+  -- ---- what a status says
+
+  module _ {W : Type 0} (puts : W → List ℕ → W → Type 0) (write_failed : W → Bool) (writer written : W)
+      (IsOutput : List ℕ → Output → Type 0) (Means : List ℕ → Output → Type 0) (n : ℕ) (other : n ≢ 4)
+      (meant : (bytes : List ℕ) (out : Output) → IsOutput bytes out → out.status ≡ n → Means bytes out) where
+    says_owed : (out : Output) (status : ℕ) → OwesWithin limits gives ended failed old new IsOutput out
+        → Delivers puts write_failed writer written out status → status ≡ n
+        → SaysWithin limits gives ended failed old new puts write_failed writer written Means
+    says_owed out status (OfBytes bytes o all is) (Whole w) e =
+        record { bytes = bytes; output = o; reads = all; writes = w; means = meant bytes o is e }
+    says_owed out status (OfBytes bytes o all is) (Part w) e = absurd (other (sym e))
+    says_owed out status (ForMemory bytes all small) (Whole w) e = absurd (other (sym e))
+    says_owed out status (ForMemory bytes all small) (Part w) e = absurd (other (sym e))
+    says_owed out status (ForReader bytes given small mark) (Whole w) e = absurd (other (sym e))
+    says_owed out status (ForReader bytes given small mark) (Part w) e = absurd (other (sym e))
+
+    -- a status other than that of a failure: an output with this status was written whole
+    pub says : (status : ℕ) → Tells puts write_failed writer written
+        (OwesWithin limits gives ended failed old new IsOutput) status
+        → status ≡ n
+        → SaysWithin limits gives ended failed old new puts write_failed writer written Means
+    says status told e = says_owed told.output status told.owed told.delivered e
+
+-- ---- the commands within the reader's limits
+
+module _ {R : Type 0} (gives : R → List ℕ → R → Type 0) (ended : R → Type 0) (failed : R → Bool) (old new : R) where
+  module _ (c : Contents) (h : WasRead standard gives ended failed old new c) where
     -- ---- chart
 
     owes_drawn : (label : Label) (items : List Item) (out : Output) → refusal c.streams ≡ None
@@ -180,27 +214,5 @@ module _ {R : Type 0} (gives : R → List ℕ → R → Type 0) (ended : R → T
 
     pub owes_replay : (out : Output) → OfBundle ReplaysTo c out → Owes gives ended failed old new IsReplayed out
     owes_replay =
-        owes_bundle IsReplayed ReplaysTo c h owes_run
+        owes_bundle standard gives ended failed old new IsReplayed ReplaysTo c h owes_run
         (λ spelled. replays.Lacking h.bytes (record { streams = c.streams; spelled = spelled }))
-
-  -- ---- what a status says
-
-  module _ {W : Type 0} (puts : W → List ℕ → W → Type 0) (write_failed : W → Bool) (writer written : W)
-      (IsOutput : List ℕ → Output → Type 0) (Means : List ℕ → Output → Type 0) (n : ℕ) (other : n ≢ 4)
-      (meant : (bytes : List ℕ) (out : Output) → IsOutput bytes out → out.status ≡ n → Means bytes out) where
-    says_owed : (out : Output) (status : ℕ) → Owes gives ended failed old new IsOutput out
-        → Delivers puts write_failed writer written out status → status ≡ n
-        → Says gives ended failed old new puts write_failed writer written Means
-    says_owed out status (OfBytes bytes o all is) (Whole w) e =
-        record { bytes = bytes; output = o; reads = all; writes = w; means = meant bytes o is e }
-    says_owed out status (OfBytes bytes o all is) (Part w) e = absurd (other (sym e))
-    says_owed out status (ForMemory bytes all small) (Whole w) e = absurd (other (sym e))
-    says_owed out status (ForMemory bytes all small) (Part w) e = absurd (other (sym e))
-    says_owed out status (ForReader bytes given small mark) (Whole w) e = absurd (other (sym e))
-    says_owed out status (ForReader bytes given small mark) (Part w) e = absurd (other (sym e))
-
-    -- a status other than that of a failure: an output with this status was written whole
-    pub says : (status : ℕ) → Tells puts write_failed writer written (Owes gives ended failed old new IsOutput) status
-        → status ≡ n
-        → Says gives ended failed old new puts write_failed writer written Means
-    says status told e = says_owed told.output status told.owed told.delivered e

@@ -8,9 +8,11 @@ use Rattle.st_audit.specs.declared.finding.Finding.TheVariants as finding
 use Rattle.st_audit.specs.Findings.{IsFinding, HandsOn}
 use Rattle.st_chart.specs.Report.{report_text}
 use Rattle.st_text.specs.declared.fault.ReadFault.{ReadFault}
-use Rattle.st_text.specs.Fault.{fault}
+use Rattle.st_text.specs.declared.limits.Limits.{Limits}
+use Rattle.st_text.specs.Limits.{standard}
+use Rattle.st_text.specs.Fault.{fault_within}
 use Rattle.st_commands.specs.Output.{Output, refused}
-use Rattle.st_commands.specs.Checked.{top, Spells}
+use Rattle.st_commands.specs.Checked.{top, SpellsWithin}
 
 abbrev pub finding_status : Finding → ℕ
 finding_status (finding.Fits acts pairs) = 0
@@ -21,15 +23,20 @@ abbrev pub report_output : List Stream → Finding → Output
 report_output streams found = record { text = report_text streams found; status = finding_status found }
 
 -- The bytes spell streams, of which this is found: acts that the checker accepts, or an event that is there and a
--- reason that holds there. Where pairing refuses the streams, its reason is what is found.
-pub record HasFinding (bytes : List ℕ) (streams : List Stream) (found : Finding) : Type 0 where
+-- reason that holds there. If pairing refuses the streams, its reason is what is found.
+pub record HasFindingWithin (limits : Limits) (bytes : List ℕ) (streams : List Stream) (found : Finding) : Type 0 where
   pub given : Option (List Act)
-  pub spelled : Spells bytes streams given
+  pub spelled : SpellsWithin limits bytes streams given
   pub finding : IsFinding top streams found
   pub handed_on : HandsOn streams found
 
 -- the output of the bytes
-pub data IsAudited : List ℕ → Output → Type 0 where
-  Found : (bytes : List ℕ) (streams : List Stream) (found : Finding) → HasFinding bytes streams found
-      → IsAudited bytes (report_output streams found)
-  Faulty : (bytes : List ℕ) (f : ReadFault) → fault bytes ≡ Some f → IsAudited bytes (refused f)
+pub data IsAuditedWithin (limits : Limits) : List ℕ → Output → Type 0 where
+  Found : (bytes : List ℕ) (streams : List Stream) (found : Finding) → HasFindingWithin limits bytes streams found
+      → IsAuditedWithin limits bytes (report_output streams found)
+  Faulty : (bytes : List ℕ) (f : ReadFault) → fault_within limits bytes ≡ Some f
+      → IsAuditedWithin limits bytes (refused f)
+
+-- the same within the reader's limits
+abbrev pub IsAudited : List ℕ → Output → Type 0
+IsAudited bytes out = IsAuditedWithin standard bytes out

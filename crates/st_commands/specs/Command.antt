@@ -1,7 +1,9 @@
--- What a call of a command does to its reader and its writer: it reads all bytes, and writes and answers their output.
+-- What a call of a command does to its reader and its writer: it reads all bytes, writes their
+-- output, and returns its status.
 use Rattle.std.specs.Prelude.{◌≡◌, ℕ, ◌+◌, ◌≤◌, Bool, true, false, List, length, ◌⊎◌, Some, None}
 use Rattle.st_core.specs.Device.{InARow}
-use Rattle.st_text.specs.Limits.{most_bytes}
+use Rattle.st_text.specs.declared.limits.Limits.{Limits}
+use Rattle.st_text.specs.Limits.{standard}
 use Rattle.st_text.specs.Writing.{Writes, WritesPart}
 use Rattle.clap.specs.Words.{Text}
 use Rattle.st_commands.specs.declared.words.Task.{Task}
@@ -14,22 +16,32 @@ use Rattle.st_commands.specs.Replayed.{IsReplayed}
 use Rattle.st_commands.specs.Charted.{IsCharted}
 use Rattle.st_commands.specs.Recorded.{IsRecorded}
 
--- of a reader: what its calls give, whether it is at its end, whether it failed, and its states before and after
-module _ {R : Type 0} (gives : R → List ℕ → R → Type 0) (ended : R → Type 0) (failed : R → Bool) (old new : R) where
+-- of a reader: how much it takes, what its calls give, whether it is at its end, whether it failed, and its states
+-- before and after
+module _ (limits : Limits) {R : Type 0} (gives : R → List ℕ → R → Type 0) (ended : R → Type 0)
+    (failed : R → Bool) (old new : R) where
   -- The reader gave these bytes, one piece after the other, without a failure; and then it had no more, or they are
   -- one more than may be read.
-  pub record ReadsAll (bytes : List ℕ) : Type 0 where
+  pub record ReadsAllWithin (bytes : List ℕ) : Type 0 where
     pub given : InARow gives old bytes new
-    pub whole : ended new ⊎ (length bytes ≡ most_bytes + 1)
+    pub whole : ended new ⊎ (length bytes ≡ limits.bytes + 1)
     pub sound : failed new ≡ false
 
-  -- The output that a command owes, by what it makes of all the bytes. Want of memory and a failed reader have outputs
-  -- of their own, and neither stands in place of the fault of too many bytes.
-  pub data Owes (IsOutput : List ℕ → Output → Type 0) : Output → Type 0 where
-    OfBytes : (bytes : List ℕ) (out : Output) → ReadsAll bytes → IsOutput bytes out → Owes IsOutput out
-    ForMemory : (bytes : List ℕ) → ReadsAll bytes → length bytes ≤ most_bytes → Owes IsOutput no_memory
-    ForReader : (bytes : List ℕ) → InARow gives old bytes new → length bytes ≤ most_bytes → failed new ≡ true
-        → Owes IsOutput no_device
+  -- The output that a command owes, by what it makes of all the bytes. Memory that runs out and a failed reader have
+  -- outputs of their own, and neither comes in place of the fault of too many bytes.
+  pub data OwesWithin (IsOutput : List ℕ → Output → Type 0) : Output → Type 0 where
+    OfBytes : (bytes : List ℕ) (out : Output) → ReadsAllWithin bytes → IsOutput bytes out → OwesWithin IsOutput out
+    ForMemory : (bytes : List ℕ) → ReadsAllWithin bytes → length bytes ≤ limits.bytes → OwesWithin IsOutput no_memory
+    ForReader : (bytes : List ℕ) → InARow gives old bytes new → length bytes ≤ limits.bytes → failed new ≡ true
+        → OwesWithin IsOutput no_device
+
+-- the same within the reader's limits
+module _ {R : Type 0} (gives : R → List ℕ → R → Type 0) (ended : R → Type 0) (failed : R → Bool) (old new : R) where
+  abbrev pub ReadsAll : List ℕ → Type 0
+  ReadsAll bytes = ReadsAllWithin standard gives ended failed old new bytes
+
+  abbrev pub Owes : (List ℕ → Output → Type 0) → Output → Type 0
+  Owes IsOutput out = OwesWithin standard gives ended failed old new IsOutput out
 
   -- the output that each command owes
   abbrev pub OwesBy : Task → Output → Type 0
@@ -39,7 +51,7 @@ module _ {R : Type 0} (gives : R → List ℕ → R → Type 0) (ended : R → T
   OwesBy task.Drive out = Owes IsRecorded out
   OwesBy (task.Chart label) out = Owes (IsCharted label) out
 
-  -- the output that the program owes, by its words: where they ask for no command, nothing is read
+  -- the output that the program owes, by its words: if they ask for no command, nothing is read
   pub data OwesFor (words : List Text) : Output → Type 0 where
     ForCommand : (t : Task) (out : Output) → asked words ≡ Some t → OwesBy t out → OwesFor words out
     ForUsage : asked words ≡ None → new ≡ old → OwesFor words usage
@@ -47,7 +59,7 @@ module _ {R : Type 0} (gives : R → List ℕ → R → Type 0) (ended : R → T
 
 -- of a writer: what its calls put, whether it failed, and its states before and after
 module _ {W : Type 0} (puts : W → List ℕ → W → Type 0) (failed : W → Bool) (old new : W) where
-  -- The output was written whole and its status answered; or the writer failed after a prefix of the text, and the
+  -- The output was written whole and its status returned; or the writer failed after a prefix of the text, and the
   -- status is 4.
   pub data Delivers (out : Output) : ℕ → Type 0 where
     Whole : Writes puts failed out.text old new → Delivers out out.status

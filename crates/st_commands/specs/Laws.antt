@@ -1,9 +1,9 @@
--- The laws of what the commands answer, each the contract of a function of `laws`.
+-- The laws of what the commands write, each the contract of a function of `laws`.
 use Rattle.std.specs.Prelude.{◌≡◌, ℕ, List, Some}
 use Rattle.st_core.specs.declared.types.Act.{Act}
 use Rattle.st_core.specs.Run.{Stream, Shows}
 use Rattle.st_core.specs.Verdict.{Stuck, Yes, IsVerdict}
-use Rattle.st_runtime.specs.declared.record.Record.{Record}
+use Rattle.st_runtime.specs.declared.join.record.Record.{Record}
 use Rattle.st_text.specs.Text.{spelling}
 use Rattle.st_commands.specs.Output.{Output, judged}
 use Rattle.st_commands.specs.Checked.{top, Spells, IsJudged, IsChecked}
@@ -19,7 +19,7 @@ YesMeans = (bytes : List ℕ) (out : Output) → IsChecked bytes out → out.sta
 abbrev pub NoMeans : Type 0
 NoMeans = (bytes : List ℕ) (out : Output) → IsChecked bytes out → out.status ≡ 1 → MeansNo bytes out
 
--- where the bytes spell acts that show the streams, the answer is a yes
+-- where the bytes spell acts that show the streams, the output is a yes
 abbrev pub ShownIsYes : Type 0
 ShownIsYes =
     (bytes : List ℕ) (streams : List Stream) (acts : List Act) (out : Output) → Spells bytes streams (Some acts)
@@ -36,8 +36,8 @@ UnfitMeans = (bytes : List ℕ) (out : Output) → IsAudited bytes out → out.s
 abbrev pub certificate : List Stream → List Act → List ℕ
 certificate streams acts = spelling (record { streams = streams; acts = Some acts })
 
--- where acts have the verdict yes, and their text is one within the reader's limits, `check` of it answers yes and the
--- pairs, and nothing else
+-- if acts have the verdict yes, and their text is one within the reader's limits, `check` of it says yes and the pairs,
+-- and nothing else
 abbrev pub CertificateIsYes : Type 0
 CertificateIsYes =
     (streams : List Stream) (acts : List Act) (pairs : List (ℕ × ℕ)) → IsVerdict top streams acts (Yes pairs)
@@ -48,7 +48,7 @@ CertificateIsYes =
 abbrev pub DrivenMeans : Type 0
 DrivenMeans = (bytes : List ℕ) (out : Output) → IsRecorded bytes out → out.status ≡ 0 → MeansDriven bytes out
 
--- where the text of a record is one within the reader's limits, `check` of it answers yes
+-- if the text of a record is one within the reader's limits, `check` of it says yes
 abbrev pub RecordedIsYes : Type 0
 RecordedIsYes =
     (bytes : List ℕ) (r : Record) → HasRecord bytes r → Spells (record_output r).text r.streams (Some r.acts)

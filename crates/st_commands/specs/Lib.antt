@@ -1,4 +1,4 @@
--- What public contracts cite, from the outputs to what the answers mean.
+-- What public contracts cite, from the outputs to what they mean.
 pub mod Output
 pub mod Checked
 pub mod Audited

@@ -14,12 +14,14 @@ use Rattle.st_audit.specs.declared.finding.Reason.{Reason}
 use Rattle.st_audit.specs.declared.finding.Finding.TheVariants as finding
 use Rattle.st_audit.specs.Findings.{IsReason}
 use Rattle.st_chart.specs.Report.{report_text}
+use Rattle.st_text.specs.declared.limits.Limits.{Limits}
+use Rattle.st_text.specs.Limits.{standard}
 use Rattle.st_text.specs.Text.{spelling}
 use Rattle.st_text.specs.Writing.{Writes}
 use Rattle.st_chart.specs.Words.{ended_line}
 use Rattle.st_commands.specs.Output.{Output, pair_line, verdict_text}
-use Rattle.st_commands.specs.Checked.{top, Spells}
-use Rattle.st_commands.specs.Command.{ReadsAll}
+use Rattle.st_commands.specs.Checked.{top, Spells, SpellsWithin}
+use Rattle.st_commands.specs.Command.{ReadsAllWithin}
 
 -- a yes: status 0
 pub record MeansYes (bytes : List ℕ) (out : Output) : Type 0 where
@@ -104,12 +106,79 @@ pub record MeansDriven (bytes : List ℕ) (out : Output) : Type 0 where
   pub text : out.text ≡ spelling (record { streams = streams; acts = Some acts })
 
 -- all bytes were read, and of them an output with this meaning was written whole
-pub record Says {R W : Type 0} (gives : R → List ℕ → R → Type 0) (ended : R → Type 0) (read_failed : R → Bool)
-    (reader read : R)
+pub record SaysWithin (limits : Limits) {R W : Type 0} (gives : R → List ℕ → R → Type 0) (ended : R → Type 0)
+    (read_failed : R → Bool) (reader read : R)
     (puts : W → List ℕ → W → Type 0) (write_failed : W → Bool) (writer written : W)
     (Means : List ℕ → Output → Type 0) : Type 0 where
   pub bytes : List ℕ
   pub output : Output
-  pub reads : ReadsAll gives ended read_failed reader read bytes
+  pub reads : ReadsAllWithin limits gives ended read_failed reader read bytes
   pub writes : Writes puts write_failed output.text writer written
   pub means : Means bytes output
+
+-- the same within the reader's limits
+abbrev pub Says : {R W : Type 0} → (R → List ℕ → R → Type 0) → (R → Type 0) → (R → Bool) → R → R
+    → (W → List ℕ → W → Type 0) → (W → Bool) → W → W → (List ℕ → Output → Type 0) → Type 0
+Says gives ended read_failed reader read puts write_failed writer written Means =
+    SaysWithin standard gives ended read_failed reader read puts write_failed writer written Means
+
+-- ---- the same within limits that are handed in: all is as above but for the limits
+
+pub record MeansYesWithin (limits : Limits) (bytes : List ℕ) (out : Output) : Type 0 where
+  pub streams : List Stream
+  pub acts : List Act
+  pub outcomes : List Outcome
+  -- the bytes spell streams and acts, within these limits
+  pub spelled : SpellsWithin limits bytes streams (Some acts)
+  -- the acts are a run of the machine from zero clocks over the streams' processes
+  pub runs : run top (pids_of streams) acts ≡ Some outcomes
+  -- in it each process reports exactly its stream; so the acts show the streams (`Shows`)
+  pub reports : All (λ x. stream acts outcomes x.pid ≡ x.events) streams
+  -- each receive that was reported stands in a pair
+  pub paired : AllPaired outcomes (pairs acts outcomes)
+  -- in each pair the receive follows its send, with the same label and serial, and no send stands twice
+  pub follows : Follows acts outcomes (pairs acts outcomes)
+  -- the text is the line yes and a line for each of these pairs
+  pub text : out.text ≡ ended_line (codes "yes") ++ flat_map pair_line (pairs acts outcomes)
+
+pub record MeansNoWithin (limits : Limits) (bytes : List ℕ) (out : Output) : Type 0 where
+  pub streams : List Stream
+  pub acts : List Act
+  pub verdict : Verdict
+  -- the bytes spell streams and acts, within these limits
+  pub spelled : SpellsWithin limits bytes streams (Some acts)
+  -- the acts don't show the streams: they have no run in which each process reports exactly its stream
+  pub refuted : ¬ Shows top streams acts
+  -- the text names a place
+  pub text : out.text ≡ verdict_text verdict
+  -- and the place shows it: all before it passes, and act n has no step or reports another event, or p has events left
+  pub place : IsVerdict top streams acts verdict
+
+pub record MeansFitsWithin (limits : Limits) (bytes : List ℕ) (out : Output) : Type 0 where
+  pub streams : List Stream
+  pub given : Option (List Act)
+  pub acts : List Act
+  pub outcomes : List Outcome
+  -- the bytes spell streams, and acts or none, within these limits
+  pub spelled : SpellsWithin limits bytes streams given
+  -- other acts are a run of the machine from zero clocks over the streams' processes
+  pub runs : run top (pids_of streams) acts ≡ Some outcomes
+  -- in it each process reports exactly its stream; so the acts show the streams (`Shows`)
+  pub reports : All (λ x. stream acts outcomes x.pid ≡ x.events) streams
+  -- the text is that of the streams with these acts
+  pub text : out.text ≡ spelling (record { streams = streams; acts = Some acts })
+
+pub record MeansUnfitWithin (limits : Limits) (bytes : List ℕ) (out : Output) : Type 0 where
+  pub streams : List Stream
+  pub given : Option (List Act)
+  pub pid : Pid
+  pub index : ℕ
+  pub reason : Reason
+  -- the bytes spell streams, and acts or none, within these limits
+  pub spelled : SpellsWithin limits bytes streams given
+  -- the event is there
+  pub there : IsSome (event_at streams pid index)
+  -- and the reason holds at it
+  pub holds : IsReason top streams pid index reason
+  -- the text names the event and the reason, and what the reason rests on
+  pub text : out.text ≡ report_text streams (finding.Unfit pid index reason)

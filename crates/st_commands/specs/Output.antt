@@ -1,6 +1,6 @@
--- What the program writes and answers: a text of whole lines, and an exit status (own profile).
--- The status is 0 for a yes or a run, 1 for a no, 2 for a faulty input, 3 for a faulty command line, and 4 for want of
--- memory or a device's fault.
+-- What the program writes and returns: a text of whole lines, and an exit status (own profile).
+-- The status is 0 for a yes or a run, 1 for a no, 2 for a faulty input, 3 for a faulty command line, and 4 if
+-- memory runs out or a device fails.
 use Rattle.std.specs.Prelude.{ℕ, List, ◌++◌, codes, decimal}
 use Rattle.std.specs.List.{flat_map}
 use Rattle.st_core.specs.Verdict.{Verdict, Stuck, Differs, Left, Yes}
@@ -66,11 +66,11 @@ fault_status faults.Truncated = 2
 abbrev pub refused : ReadFault → Output
 refused f = record { text = ended_line (fault_words f); status = fault_status f }
 
--- a bundle without acts, where acts are wanted
+-- a bundle without acts, though acts are wanted
 abbrev pub no_acts : Output
 no_acts = record { text = ended_line (codes "fault no acts"); status = 2 }
 
--- want of memory, and a reader that failed
+-- memory ran out, or the reader failed
 abbrev pub no_memory : Output
 no_memory = refused faults.Memory
 

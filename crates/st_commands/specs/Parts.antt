@@ -19,7 +19,7 @@ use Rattle.st_order.specs.Order.{IsOrder}
 use Rattle.st_order.specs.Labels.{item_has_label}
 use Rattle.st_runtime.specs.declared.fault.DriveFault.{DriveFault}
 use Rattle.st_runtime.specs.declared.fault.DriveFault.TheVariants as drive
-use Rattle.st_runtime.specs.declared.record.Record.{Record}
+use Rattle.st_runtime.specs.declared.join.record.Record.{Record}
 use Rattle.st_runtime.specs.Driven.{IsDriven, IsDriveFault}
 use Rattle.st_text.specs.Text.{Contents, spelling}
 use Rattle.st_commands.specs.Output.{Output, judged, no_acts, no_memory}
@@ -55,7 +55,7 @@ pub data ChartsTo (streams : List Stream) (label : Label) : Output → Type 0 wh
       → ChartsTo streams label (report_output streams found)
   NoRoomToOrder : ChartsTo streams label no_memory
 
--- why scripts of streams weren't driven; their pids rise, so that they don't is no answer
+-- why scripts of streams weren't driven; their pids rise, so NotRising doesn't come
 abbrev pub drive_refused : DriveFault → Output
 drive_refused drive.Memory = no_memory
 drive_refused (drive.Act p n f) = act_fault p n

@@ -6,7 +6,7 @@ use Rattle.st_core.specs.declared.types.Act.{Act}
 use Rattle.st_core.specs.Run.{Stream, pids_of}
 use Rattle.st_runtime.specs.declared.fault.ActFault.TheVariants as act
 use Rattle.st_runtime.specs.declared.fault.DriveFault.TheVariants as drive
-use Rattle.st_runtime.specs.declared.record.Record.{Record}
+use Rattle.st_runtime.specs.declared.join.record.Record.{Record}
 use Rattle.st_runtime.specs.Driven.{IsDriven, IsDriveFault, acts_by}
 use Rattle.st_text.specs.declared.fault.ReadFault.{ReadFault}
 use Rattle.st_text.specs.Spelling as spelled

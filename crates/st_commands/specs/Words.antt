@@ -44,7 +44,7 @@ command_line =
 abbrev pub label_numbered : ℕ → Label
 label_numbered n = record { 0 = n }
 
--- the label that a text writes: its number, where it is one from 0 to the greatest
+-- the label that a text writes: its number, if it is one from 0 to the greatest
 abbrev pub label_in : Text → Option Label
 label_in text =
     if is_unsigned_in 0 greatest_label text then Some (label_numbered (digits_value 10 (without_leading_plus text)))
@@ -63,8 +63,8 @@ task_of name found =
     else (if bytes_eq name (codes "drive") then Some task.Drive
     else (if bytes_eq name (codes "chart") then chart_of found else None))))
 
--- the command that the words ask for, by the subcommand that `clap` finds in them; none where it refuses them, or
--- where it finds no subcommand
+-- the command that the words ask for, by the subcommand that `clap` finds in them; none if it refuses them, or
+-- if it finds no subcommand
 abbrev pub asked : List Text → Option Task
 asked words =
     if is_empty (fault_of command_line words) then option_and_then (λ p. task_of p.0 p.1)
@@ -76,12 +76,12 @@ chart_words name text = name ∷ codes "chart" ∷ codes "--label" ∷ text ∷ 
 
 -- ---- refusals
 
--- `clap` refuses for want of memory, or for another cause
+-- `clap` refuses because memory ran out, or for another cause
 abbrev pub IsRefusalOf : ErrorKind → Refusal → Type 0
 IsRefusalOf kind refused.Memory = kind ≡ kinds.OutOfMemory
 IsRefusalOf kind refused.Usage = kind ≢ kinds.OutOfMemory
 
--- words are refused for want of memory, or where they ask for no command
+-- words are refused because memory ran out, or because they ask for no command
 abbrev pub IsRefusal : List Text → Refusal → Type 0
 IsRefusal words refused.Memory = Unit {0}
 IsRefusal words refused.Usage = asked words ≡ None

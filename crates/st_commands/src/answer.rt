@@ -1,4 +1,4 @@
-//! Outputs: a text written whole, and the status that goes with it, or 4 where the writer failed.
+//! Outputs: a text written whole, and the status that goes with it, or 4 if the writer failed.
 
 ghost use Rattle.std.specs.Prelude.{◌≡◌, MatchResult};
 ghost use Rattle.st_check.specs.Answers.{verdict_of};
@@ -62,7 +62,7 @@ fn fault_status(fault: ReadFault) -> u8
     }
 }
 
-/// Answers a line.
+/// Writes a line, and returns its status.
 pub(crate) fn tell_line<W: ByteSink>(writer: &mut W, line: OutputLine, status: u8) -> u8
     ensures { Delivers W.puts W.failed writer.old writer.new (record { text = text_of line; status = status }) result }
 {
@@ -70,7 +70,7 @@ pub(crate) fn tell_line<W: ByteSink>(writer: &mut W, line: OutputLine, status: u
     status_of(sent, status)
 }
 
-/// Answers a verdict.
+/// Writes a verdict, and returns its status.
 pub(crate) fn tell_verdict<W: ByteSink>(writer: &mut W, verdict: &Verdict) -> u8
     ensures { Delivers W.puts W.failed writer.old writer.new (judged (verdict_of verdict.now)) result }
 {
@@ -78,7 +78,7 @@ pub(crate) fn tell_verdict<W: ByteSink>(writer: &mut W, verdict: &Verdict) -> u8
     status_of(sent, verdict_status(verdict))
 }
 
-/// Answers the report of what was found of streams.
+/// Writes the report of what was found of streams, and returns its status.
 pub(crate) fn tell_finding<W: ByteSink>(writer: &mut W, streams: &Streams, finding: &Finding) -> u8
     ensures { Delivers W.puts W.failed writer.old writer.new (report_output streams.now finding.now) result }
 {
@@ -86,14 +86,14 @@ pub(crate) fn tell_finding<W: ByteSink>(writer: &mut W, streams: &Streams, findi
     status_of(sent, finding_status(finding))
 }
 
-/// Answers a fault.
+/// Writes a fault, and returns its status.
 pub(crate) fn tell_fault<W: ByteSink>(writer: &mut W, fault: ReadFault) -> u8
     ensures { Delivers W.puts W.failed writer.old writer.new (refused fault) result }
 {
     tell_line(writer, OutputLine::Fault(fault), fault_status(fault))
 }
 
-/// Answers the text of streams and acts.
+/// Writes the text of streams and acts, and returns its status.
 pub(crate) fn tell_bundle<W: ByteSink>(writer: &mut W, streams: &Streams, acts: &[Act]) -> u8
     ensures { Delivers W.puts W.failed writer.old writer.new (bundled streams.now acts.now) result }
 {
@@ -101,8 +101,8 @@ pub(crate) fn tell_bundle<W: ByteSink>(writer: &mut W, streams: &Streams, acts: 
     status_of(sent, 0)
 }
 
-/// Answers words that ask for no command: `fault memory` with status 4, or the usage line with status
-/// 3. Where the writer fails it is 4.
+/// Writes what words deserve that ask for no command: `fault memory` with status 4, or the usage line
+/// with status 3. If the writer fails it is 4.
 pub fn tell_refusal<W: ByteSink>(writer: &mut W, refusal: Refusal) -> u8
     ensures { Delivers W.puts W.failed writer.old writer.new (refusal_output refusal) result }
 {

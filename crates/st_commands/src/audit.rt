@@ -2,20 +2,21 @@
 //! reason why none was found. The acts in the input are ignored.
 
 ghost use Rattle.std.specs.Prelude.{◌≡◌};
-ghost use Rattle.st_commands.specs.Audited.{IsAudited};
-ghost use Rattle.st_commands.specs.Command.{Owes, Tells};
+ghost use Rattle.st_commands.specs.Audited.{IsAudited, IsAuditedWithin};
+ghost use Rattle.st_commands.specs.Command.{Owes, OwesWithin, Tells};
 ghost use Rattle.st_commands.specs.Meaning.{Says, MeansFits, MeansUnfit};
+ghost use Rattle.st_commands.specs.Meaning.{SaysWithin, MeansFitsWithin, MeansUnfitWithin};
 ghost use Rattle.st_commands.specs.Parts.{AuditsTo};
 
 use crate::answer::{tell_fault, tell_finding};
 use crate::check::TOP;
 use st_audit::{AuditFault, audit};
 use st_core::{ByteSink, ByteSource, Streams};
-use st_text::{ReadFault, read};
+use st_text::{Limits, ReadFault, read_within};
 use std::alloc::Global;
 use std::thread::Threads;
 
-/// Answers what is found of streams.
+/// Writes what is found of streams, and returns its status.
 fn audit_streams<H: Threads + Sync, W: ByteSink>(
     rt: &H,
     alloc: Global,
@@ -30,9 +31,7 @@ fn audit_streams<H: Threads + Sync, W: ByteSink>(
     }
 }
 
-/// Reads a bundle and answers its streams with a certificate's acts, with status 0, or an event and
-/// a reason, with status 1. Faulty input is 2; want of memory, and a reader or a writer that fails,
-/// are 4. It sorts on several threads.
+/// Reads a bundle within the standard limits and writes what is found of its streams: see `run_audit_within`.
 pub fn run_audit<H: Threads + Sync, R: ByteSource, W: ByteSink>(
     rt: &H,
     alloc: Global,
@@ -48,7 +47,31 @@ pub fn run_audit<H: Threads + Sync, R: ByteSource, W: ByteSink>(
     ensures unfit { result ≡ 1 →
         Says R.gives R.ended R.failed reader.old reader.new W.puts W.failed writer.old writer.new MeansUnfit }
 {
-    match read(alloc, reader) {
+    run_audit_within(rt, alloc, reader, writer, Limits::STANDARD)
+}
+
+/// Reads a bundle within these limits and writes its streams with a certificate's acts, with status 0, or an event and
+/// a reason, with status 1. Faulty input is 2; if memory runs out, or a reader or a writer fails, it is 4. It sorts on
+/// several threads.
+pub fn run_audit_within<H: Threads + Sync, R: ByteSource, W: ByteSink>(
+    rt: &H,
+    alloc: Global,
+    reader: &mut R,
+    writer: &mut W,
+    limits: Limits,
+) -> u8
+    ensures told { Tells W.puts W.failed writer.old writer.new
+        (OwesWithin limits R.gives R.ended R.failed reader.old reader.new (IsAuditedWithin limits)) result }
+
+    // What that says of a certificate and of a reason, in the machine's own words.
+    ensures fits { result ≡ 0 →
+        SaysWithin limits R.gives R.ended R.failed reader.old reader.new W.puts W.failed writer.old writer.new
+        (MeansFitsWithin limits) }
+    ensures unfit { result ≡ 1 →
+        SaysWithin limits R.gives R.ended R.failed reader.old reader.new W.puts W.failed writer.old writer.new
+        (MeansUnfitWithin limits) }
+{
+    match read_within(alloc, reader, limits) {
         Ok(bundle) => audit_streams(rt, alloc, &bundle.streams, writer),
         Err(fault) => tell_fault(writer, fault),
     }

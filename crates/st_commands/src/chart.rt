@@ -21,7 +21,7 @@ use st_text::{ReadFault, read};
 use std::alloc::Global;
 use std::thread::Threads;
 
-/// A reason of pairing as a finding; none where it is want of memory.
+/// A reason of pairing as a finding; none if memory ran out.
 fn unfit_by(fault: PairFault) -> Option<Finding>
     ensures { result ≡ unfit_by fault }
 {
@@ -42,7 +42,7 @@ fn unfit_by(fault: PairFault) -> Option<Finding>
     }
 }
 
-/// Answers the report of why streams aren't paired.
+/// Writes the report of why streams aren't paired, and returns its status.
 fn tell_unpaired<W: ByteSink>(
     streams: &Streams,
     label: Label,
@@ -58,7 +58,7 @@ fn tell_unpaired<W: ByteSink>(
     }
 }
 
-/// Answers the chart of the items with the label.
+/// Writes the chart of the items with the label, and returns its status.
 fn tell_chart<W: ByteSink>(
     alloc: Global,
     streams: &Streams,
@@ -78,7 +78,7 @@ fn tell_chart<W: ByteSink>(
     }
 }
 
-/// Answers the chart of streams that are paired.
+/// Writes the chart of streams that are paired, and returns its status.
 fn chart_paired<H: Threads + Sync, W: ByteSink>(
     rt: &H,
     alloc: Global,
@@ -99,7 +99,7 @@ fn chart_paired<H: Threads + Sync, W: ByteSink>(
     }
 }
 
-/// Answers the chart of streams.
+/// Writes the chart of streams, and returns its status.
 fn chart_streams<H: Threads + Sync, W: ByteSink>(
     rt: &H,
     alloc: Global,
@@ -115,9 +115,9 @@ fn chart_streams<H: Threads + Sync, W: ByteSink>(
     }
 }
 
-/// Reads a bundle and answers the chart of the label, with status 0. Where no item has the label, or
-/// the streams can't be paired, it answers that with status 1. Faulty input is 2; want of memory, and
-/// a reader or a writer that fails, are 4. It sorts on several threads.
+/// Reads a bundle and writes the chart of the label, with status 0. If no item has the label, or the
+/// streams can't be paired, it says so with status 1. Faulty input is 2; if memory runs out, or a
+/// reader or a writer fails, it is 4. It sorts on several threads.
 pub fn run_chart<H: Threads + Sync, R: ByteSource, W: ByteSink>(
     rt: &H,
     alloc: Global,

@@ -2,22 +2,23 @@
 
 ghost use Rattle.std.specs.Prelude.{◌≡◌};
 ghost use Rattle.st_text.specs.Contents.{contents};
-ghost use Rattle.st_commands.specs.Checked.{IsChecked};
-ghost use Rattle.st_commands.specs.Command.{Owes, Tells};
+ghost use Rattle.st_commands.specs.Checked.{IsChecked, IsCheckedWithin};
+ghost use Rattle.st_commands.specs.Command.{Owes, OwesWithin, Tells};
 ghost use Rattle.st_commands.specs.Meaning.{Says, MeansYes, MeansNo};
+ghost use Rattle.st_commands.specs.Meaning.{SaysWithin, MeansYesWithin, MeansNoWithin};
 ghost use Rattle.st_commands.specs.Parts.{ChecksTo, OfBundle};
 
 use crate::answer::{tell_fault, tell_line, tell_verdict};
 use crate::lines::OutputLine;
 use st_check::{CheckFault, check};
 use st_core::{Act, ByteSink, ByteSource, Streams};
-use st_text::{Bundle, ReadFault, read};
+use st_text::{Bundle, Limits, ReadFault, read_within};
 use std::alloc::Global;
 
 /// The greatest count that a clock of the program can have.
 pub(crate) const TOP: u64 = u64::MAX;
 
-/// Answers the verdict of streams and acts.
+/// Writes the verdict of streams and acts, and returns its status.
 fn check_acts<W: ByteSink>(alloc: Global, streams: &Streams, acts: &[Act], writer: &mut W) -> u8
     ensures { Tells W.puts W.failed writer.old writer.new (ChecksTo streams.now acts.now) result }
 {
@@ -27,7 +28,7 @@ fn check_acts<W: ByteSink>(alloc: Global, streams: &Streams, acts: &[Act], write
     }
 }
 
-/// Answers the verdict of a bundle.
+/// Writes the verdict of a bundle, and returns its status.
 fn check_bundle<W: ByteSink>(alloc: Global, bundle: &Bundle, writer: &mut W) -> u8
     ensures { Tells W.puts W.failed writer.old writer.new (OfBundle ChecksTo (contents bundle.now)) result }
 {
@@ -37,8 +38,7 @@ fn check_bundle<W: ByteSink>(alloc: Global, bundle: &Bundle, writer: &mut W) -> 
     }
 }
 
-/// Reads a bundle and answers its verdict: `yes` and the pairs with status 0, or a no with status
-/// 1. Faulty input is 2; want of memory, and a reader or a writer that fails, are 4.
+/// Reads a bundle within the standard limits and writes its verdict: see `run_check_within`.
 pub fn run_check<R: ByteSource, W: ByteSink>(alloc: Global, reader: &mut R, writer: &mut W) -> u8
     ensures told { Tells W.puts W.failed writer.old writer.new
         (Owes R.gives R.ended R.failed reader.old reader.new IsChecked) result }
@@ -49,7 +49,29 @@ pub fn run_check<R: ByteSource, W: ByteSink>(alloc: Global, reader: &mut R, writ
     ensures no { result ≡ 1 →
         Says R.gives R.ended R.failed reader.old reader.new W.puts W.failed writer.old writer.new MeansNo }
 {
-    match read(alloc, reader) {
+    run_check_within(alloc, reader, writer, Limits::STANDARD)
+}
+
+/// Reads a bundle within these limits and writes its verdict: `yes` and the pairs with status 0, or a no with status
+/// 1. Faulty input is 2; if memory runs out, or a reader or a writer fails, it is 4.
+pub fn run_check_within<R: ByteSource, W: ByteSink>(
+    alloc: Global,
+    reader: &mut R,
+    writer: &mut W,
+    limits: Limits,
+) -> u8
+    ensures told { Tells W.puts W.failed writer.old writer.new
+        (OwesWithin limits R.gives R.ended R.failed reader.old reader.new (IsCheckedWithin limits)) result }
+
+    // What that says of a yes and a no, in the machine's own words.
+    ensures yes { result ≡ 0 →
+        SaysWithin limits R.gives R.ended R.failed reader.old reader.new W.puts W.failed writer.old writer.new
+        (MeansYesWithin limits) }
+    ensures no { result ≡ 1 →
+        SaysWithin limits R.gives R.ended R.failed reader.old reader.new W.puts W.failed writer.old writer.new
+        (MeansNoWithin limits) }
+{
+    match read_within(alloc, reader, limits) {
         Ok(bundle) => check_bundle(alloc, &bundle, writer),
         Err(fault) => tell_fault(writer, fault),
     }

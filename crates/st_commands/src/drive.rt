@@ -1,5 +1,5 @@
-//! The command `drive`: what the acts of the input's bundle come to where each process makes its
-//! own, in order, on a thread of its own. The events in the input are ignored.
+//! The command `drive`: what the acts of the input's bundle come to if each process makes its own,
+//! in order, on a thread of its own. The events in the input are ignored.
 
 ghost use Rattle.std.specs.Prelude.{◌≡◌, ◌≢◌, ◌<◌, ◌∷◌, ◌++◌, [], IfOk, OnErr, OnOk, length, map, replicate};
 ghost use Rattle.std.specs.Prelude.{slice_set, slice_index_or};
@@ -65,7 +65,7 @@ fn scripts_of(
     Ok(scripts)
 }
 
-/// Answers why scripts weren't driven.
+/// Writes why scripts weren't driven, and returns its status.
 fn tell_undriven<W: ByteSink>(writer: &mut W, fault: DriveFault) -> u8
     requires { fault ≢ DriveFault.NotRising }
     ensures { Delivers W.puts W.failed writer.old writer.new (drive_refused fault) result }
@@ -79,7 +79,7 @@ fn tell_undriven<W: ByteSink>(writer: &mut W, fault: DriveFault) -> u8
     }
 }
 
-/// Answers what the acts of the streams' processes come to.
+/// Writes what the acts of the streams' processes come to, and returns its status.
 fn drive_acts<H: Threads + Wait + Sync, W: ByteSink>(
     rt: &H,
     alloc: Global,
@@ -98,7 +98,7 @@ fn drive_acts<H: Threads + Wait + Sync, W: ByteSink>(
     }
 }
 
-/// Answers what a bundle's acts come to.
+/// Writes what a bundle's acts come to, and returns its status.
 fn drive_bundle<H: Threads + Wait + Sync, W: ByteSink>(
     rt: &H,
     alloc: Global,
@@ -114,9 +114,9 @@ fn drive_bundle<H: Threads + Wait + Sync, W: ByteSink>(
     }
 }
 
-/// Reads a bundle, drives the acts of each process on a thread of its own, and answers the bundle of
-/// the one run that they made, with status 0. Faulty input is 2; want of memory or of a thread, and
-/// a reader or a writer that fails, are 4. It waits for locks and for the threads.
+/// Reads a bundle, drives the acts of each process on a thread of its own, and writes the bundle of
+/// the one run that they made, with status 0. Faulty input is 2; if memory runs out, a thread can't be
+/// started, or a reader or a writer fails, it is 4. It waits for locks and for the threads.
 pub fn run_drive<H: Threads + Wait + Sync, R: ByteSource, W: ByteSink>(
     rt: &H,
     alloc: Global,

@@ -1,4 +1,4 @@
-//! What the answers of the commands mean. The functions do nothing: their contracts are the
+//! What the outputs of the commands mean. The functions do nothing: their contracts are the
 //! laws.
 
 ghost use Rattle.st_core.specs.declared.types.Label.{Label};
@@ -25,7 +25,7 @@ pub fn no_means()
     ensures { NoMeans }
 {}
 
-/// Where the bytes spell streams and acts that show them, the output of the check has status 0.
+/// If the bytes spell streams and acts that show them, the output of the check has status 0.
 pub fn shown_is_yes()
     ensures { ShownIsYes }
 {}
@@ -43,7 +43,7 @@ pub fn unfit_means()
     ensures { UnfitMeans }
 {}
 
-/// The check of a certificate that is a text within the reader's limits answers yes and the pairs.
+/// The check of a certificate that is a text within the reader's limits says yes and the pairs.
 pub fn certificate_is_yes()
     ensures { CertificateIsYes }
 {}
@@ -55,7 +55,7 @@ pub fn driven_means()
     ensures { DrivenMeans }
 {}
 
-/// The check of a record that is a text within the reader's limits answers yes.
+/// The check of a record that is a text within the reader's limits says yes.
 pub fn recorded_is_yes()
     ensures { RecordedIsYes }
 {}

@@ -30,7 +30,7 @@ pub(crate) enum OutputLine {
     Left(Pid),
     /// No item has this label.
     NoLabel(Label),
-    /// Why the input is no text, or there is no answer.
+    /// Why the input is no text, or there is no result.
     Fault(ReadFault),
     /// The input has no acts.
     NoActs,
@@ -131,7 +131,7 @@ fn put_line(buffer: &mut Buffer, line: OutputLine)
     put_bytes(buffer, b"\n");
 }
 
-/// Writes a line into the buffer, and first what waits there where that is much.
+/// Writes a line into the buffer, and first what waits there if that is much.
 fn write_line<W: ByteSink>(
     writer: &mut W,
     buffer: &mut Buffer,

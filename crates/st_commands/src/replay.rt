@@ -14,7 +14,7 @@ use st_core::{Act, ByteSink, ByteSource, Streams};
 use st_text::{Bundle, ReadFault, read};
 use std::alloc::Global;
 
-/// Answers what acts that were replayed came to.
+/// Writes what acts that were replayed came to, and returns its status.
 fn tell_replayed<W: ByteSink>(writer: &mut W, replayed: &Replayed, acts: &[Act]) -> u8
     ensures { Delivers W.puts W.failed writer.old writer.new (replayed_output replayed.now acts.now) result }
 {
@@ -24,7 +24,7 @@ fn tell_replayed<W: ByteSink>(writer: &mut W, replayed: &Replayed, acts: &[Act])
     }
 }
 
-/// Answers what the acts report in a run over the streams' processes.
+/// Writes what the acts report in a run over the streams' processes, and returns its status.
 fn replay_acts<W: ByteSink>(alloc: Global, streams: &Streams, acts: &[Act], writer: &mut W) -> u8
     ensures { Tells W.puts W.failed writer.old writer.new (ReplaysTo streams.now acts.now) result }
 {
@@ -35,7 +35,7 @@ fn replay_acts<W: ByteSink>(alloc: Global, streams: &Streams, acts: &[Act], writ
     }
 }
 
-/// Answers what a bundle's acts report.
+/// Writes what a bundle's acts report, and returns its status.
 fn replay_bundle<W: ByteSink>(alloc: Global, bundle: &Bundle, writer: &mut W) -> u8
     ensures { Tells W.puts W.failed writer.old writer.new (OfBundle ReplaysTo (contents bundle.now)) result }
 {
@@ -45,9 +45,9 @@ fn replay_bundle<W: ByteSink>(alloc: Global, bundle: &Bundle, writer: &mut W) ->
     }
 }
 
-/// Reads a bundle and answers the bundle of what its acts report, with status 0, or the first act
-/// without a step, with status 1. Faulty input is 2; want of memory, and a reader or a writer that
-/// fails, are 4.
+/// Reads a bundle and writes the bundle of what its acts report, with status 0, or the first act
+/// without a step, with status 1. Faulty input is 2; if memory runs out, or a reader or a writer
+/// fails, it is 4.
 pub fn run_replay<R: ByteSource, W: ByteSink>(alloc: Global, reader: &mut R, writer: &mut W) -> u8
     ensures { Tells W.puts W.failed writer.old writer.new
         (Owes R.gives R.ended R.failed reader.old reader.new IsReplayed) result }

@@ -30,9 +30,9 @@ pub enum Task {
 /// Why the words ask for no command.
 #[derive(Clone, Copy, Debug, PartialEq, Eq)]
 pub enum Refusal {
-    /// Refusal 1, in place of any answer: a growth was refused.
+    /// Memory ran out. It can come in place of any other result.
     Memory,
-    /// Refusal 2: the words aren't the program's name and one command, or they ask for help.
+    /// The words aren't the program's name and one command, or they ask for help.
     Usage,
 }
 
@@ -142,7 +142,7 @@ pub fn plain_words()
 {}
 
 /// Law: what `clap`'s reader of integers makes of labels. A plus and zeros may stand in front, and
-/// the label may follow `=`, where a minus may stand before a zero. More than the greatest label, no
+/// the label may follow `=`, and then a minus may stand before a zero. More than the greatest label, no
 /// digits at all, a word that begins with a minus, and the option twice ask for nothing.
 pub fn chart_labels()
     ensures plain { (name : Text) → asked (chart_words name (codes "17")) ≡ Some (Task.Chart (label_numbered 17)) }

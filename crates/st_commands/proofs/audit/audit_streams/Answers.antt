@@ -1,4 +1,4 @@
--- What the auditor found is reported, and want of memory is an answer of its own.
+-- What the auditor found is reported, and that memory ran out is said by itself.
 use Rattle.st_commands.specs.Output.{no_memory}
 use Rattle.st_commands.specs.Audited.{report_output}
 use Rattle.st_commands.specs.Parts.{Finds, NoRoomToAudit}

@@ -1,4 +1,4 @@
--- The items are in order, and the chart is theirs; want of memory is an answer of its own.
+-- The items are in order, and the chart is theirs; that memory ran out is said by itself.
 use Rattle.std.proofs.Common.{sym, subst}
 use Rattle.st_order.specs.Order.{IsOrder}
 use Rattle.st_commands.specs.Output.{no_memory}

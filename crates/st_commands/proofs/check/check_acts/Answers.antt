@@ -1,4 +1,4 @@
--- What `check` answers is the verdict, and want of memory is an answer of its own.
+-- What `check` answers is the verdict, and that memory ran out is said by itself.
 use Rattle.st_check.specs.Answers.{verdict_of}
 use Rattle.st_commands.specs.Output.{judged, no_memory}
 use Rattle.st_commands.specs.Parts.{Judges, NoRoomToCheck}

@@ -1,4 +1,4 @@
--- What `drive` answers is told, and want of memory for the scripts is an answer of its own.
+-- What `drive` answers is told, and that memory ran out for the scripts is said by itself.
 use Rattle.st_commands.specs.Output.{no_memory}
 use Rattle.st_commands.specs.Recorded.{record_output}
 use Rattle.st_commands.specs.Parts.{Records, Refuses, NoRoomToDrive, drive_refused}

@@ -1,4 +1,5 @@
 -- The reader tells which bytes it gave, what was delivered is what they owe, and its status says what it is.
+use Rattle.st_text.specs.Limits.{standard}
 use Rattle.st_text.specs.Contents.{contents}
 use Rattle.st_commands.specs.Output.{refused}
 use Rattle.st_commands.specs.Recorded.{IsRecorded, Faulty}
@@ -10,7 +11,7 @@ pub returns-in-Ok-clause-told : goal.returns-in-Ok-clause-told
 returns-in-Ok-clause-told g c =
     let told = c.drive_bundle.ensures in
     let reader = g.R.ByteSource in
-    let read = was_read reader.gives reader.ended reader.failed _ _ c.in-Ok.bundle c.in-Ok.ensures in
+    let read = was_read standard reader.gives reader.ended reader.failed _ _ c.in-Ok.bundle c.in-Ok.ensures in
     record {
       output = told.output;
       owed = owes_drive reader.gives reader.ended reader.failed _ _ (contents c.in-Ok.bundle) read told.output
@@ -26,7 +27,8 @@ returns-in-Err-clause-told g c =
     let reader = g.R.ByteSource in
     record {
       output = refused c.in-Err.fault;
-      owed = owes_fault reader.gives reader.ended reader.failed _ _ IsRecorded Faulty c.in-Err.fault c.in-Err.ensures;
+      owed = owes_fault standard reader.gives reader.ended reader.failed _ _ IsRecorded Faulty c.in-Err.fault
+          c.in-Err.ensures;
       delivered = c.tell_fault.ensures;
     }
 

@@ -1,4 +1,4 @@
--- The streams' pids rise, so a replay is refused for want of memory alone.
+-- The streams' pids rise, so a replay fails only if memory runs out.
 use Rattle.std.proofs.Common.{List, subst, sym}
 use Rattle.st_core.specs.declared.types.Pid.{Pid}
 use Rattle.st_core.specs.Pid.{IsRising}
