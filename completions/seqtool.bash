@@ -3,7 +3,7 @@
 _seqtool() {
     local word=${COMP_WORDS[COMP_CWORD]} command=${COMP_WORDS[1]}
     if [ "$COMP_CWORD" -eq 1 ]; then
-        mapfile -t COMPREPLY < <(compgen -W "audit complete why lint check explain --help --version" -- "$word")
+        mapfile -t COMPREPLY < <(compgen -W "audit complete why lint check explain renumber --help --version" -- "$word")
     elif [ "$command" = complete ] && [ "${COMP_WORDS[COMP_CWORD-1]}" = --as ]; then
         mapfile -t COMPREPLY < <(compgen -W "added streams acts" -- "$word")
     elif [ "$command" = complete ] && [ "${word#-}" != "$word" ]; then

@@ -1,7 +1,9 @@
 //! The program `seqtool`: what a person needs beside the exact `seqaudit`.
 //!
-//! It only joins `st_tool` to the outside: what each command writes and answers is said there.
+//! It only joins `st_tool`, which says what each command writes and returns, to the outside.
 #![tactic(auto)]
+
+ghost use Rattle.std.specs.Prelude.{◌≡◌, MatchResult};
 
 use clap::Error;
 use clap::error::ErrorKind;
@@ -12,7 +14,7 @@ use std::rt::Files;
 use std::thread::Threads;
 use std::{env, fs, io};
 
-/// The status of words that ask for nothing that the program does.
+/// The status of a command line that isn't understood.
 const USAGE: u8 = 3;
 
 /// The status of a device that failed.
@@ -40,27 +42,35 @@ fn serve<H: AllocGlobal + Files + Threads + Sync, R: ByteSource, W: ByteSink>(
     }
 }
 
+/// The status after a text was printed: this one, or 4 if that failed.
+fn status_of(printed: io::Result<()>, status: u8) -> u8
+    ensures printed { MatchResult printed (λ _. result ≡ status) (λ _. result ≡ 4) }
+{
+    match printed {
+        Ok(()) => status,
+        Err(_) => FAILED,
+    }
+}
+
 /// Prints a help text or the version to standard output with status 0, and a message to standard error with status 3.
 fn tell_error(rt: &HostRuntime, error: &Error) -> u8 {
     if error.kind() == ErrorKind::OutOfMemory {
         return tell_no_memory(&mut WriteTo::new(rt.stdout()));
     }
-    match error.print(rt) {
-        Ok(()) => { if error.use_stderr() { USAGE } else { 0 } }
-        Err(_) => FAILED,
-    }
+    let printed = error.print(rt);
+    status_of(printed, if error.use_stderr() { USAGE } else { 0 })
 }
 
-/// Answers a word that isn't UTF-8, or for which there was no memory.
+/// Says that a word isn't UTF-8, or that there was no memory for the words.
 fn tell_unread(rt: &HostRuntime, error: &io::Error) -> u8 {
     match error.kind() {
         io::ErrorKind::OutOfMemory => tell_no_memory(&mut WriteTo::new(rt.stdout())),
-        _ => match rt.eprintln(
-            "error: a word of the command line isn't UTF-8; see seqtool --help",
-        ) {
-            Ok(()) => USAGE,
-            Err(_) => FAILED,
-        },
+        _ => {
+            let printed = rt.eprintln(
+                "error: a word of the command line isn't UTF-8; see seqtool --help",
+            );
+            status_of(printed, USAGE)
+        }
     }
 }
 

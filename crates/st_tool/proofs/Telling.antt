@@ -7,7 +7,7 @@ use Rattle.st_text.specs.declared.fault.ReadFault.{ReadFault}
 use Rattle.st_text.specs.declared.fault.ReadFault.TheVariants as faults
 use Rattle.st_text.specs.declared.bundle.Bundle.{Bundle}
 use Rattle.st_text.specs.Contents.{contents}
-use Rattle.st_text.specs.Limits.{most_bytes}
+use Rattle.st_text.specs.Limits.{most_bytes, standard}
 use Rattle.st_text.specs.Text.{Contents}
 use Rattle.st_text.specs.Fault.{fault}
 use Rattle.st_text.specs.Reads.{ReadsSource}
@@ -25,7 +25,7 @@ use Rattle.st_tool.specs.Complete.{IsCompleted, Answered}
 use Rattle.st_tool.specs.Parts.{CompletesTo, Finds, NoRoomToComplete}
 use Rattle.st_tool.specs.Parts.{TracesTo, OfBack, OfNoEvent, OfReason, NoRoomToTrace}
 use Rattle.st_tool.specs.Parts.{RenumbersTo, Ranks, NoRoomToRenumber}
-use Rattle.st_complete.specs.Ranks.{renumbered_streams}
+use Rattle.st_full.specs.Renumbering.{renumbered_streams}
 use Rattle.st_commands.specs.Command.{ReadsAll, Owes, OfBytes, ForMemory, ForReader, Delivers, Whole, Part}
 
 -- ---- writing
@@ -64,7 +64,7 @@ module _ {R : Type 0} (gives : R → List ℕ → R → Type 0) (ended : R → T
         let more : most_bytes < length h.bytes = omega (arith, h.answer.count) in
         OfBytes h.bytes (refused faults.TooLarge)
         (record { given = h.given; whole = inr h.answer.count; sound = h.answer.after })
-        (faulty h.bytes faults.TooLarge (fault_too_large h.bytes more))
+        (faulty h.bytes faults.TooLarge (fault_too_large standard h.bytes more))
     owes_fault (faults.Line n) h = of_fault h.bytes (faults.Line n) h.given h.answer.end h.answer.after h.answer.answer
     owes_fault (faults.Order n) h =
         of_fault h.bytes (faults.Order n) h.given h.answer.end h.answer.after h.answer.answer

@@ -10,7 +10,7 @@ use Rattle.st_pair.specs.Places.{event_at}
 use Rattle.st_chain.specs.Causes.{IsBackFrom}
 use Rattle.st_audit.specs.declared.finding.Finding.{Finding}
 use Rattle.st_audit.specs.Findings.{unfit_by}
-use Rattle.st_complete.specs.Ranks.{renumbered_streams}
+use Rattle.st_full.specs.Renumbering.{renumbered_streams}
 use Rattle.st_commands.specs.Output.{Output, no_memory}
 use Rattle.st_commands.specs.Audited.{report_output}
 use Rattle.st_tool.specs.Why.{traced, no_event}

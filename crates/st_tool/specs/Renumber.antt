@@ -6,7 +6,7 @@ use Rattle.st_core.specs.Run.{Stream}
 use Rattle.st_text.specs.declared.fault.ReadFault.{ReadFault}
 use Rattle.st_text.specs.Fault.{fault}
 use Rattle.st_text.specs.Text.{spelling}
-use Rattle.st_complete.specs.Ranks.{renumbered_streams}
+use Rattle.st_full.specs.Renumbering.{renumbered_streams}
 use Rattle.st_commands.specs.Output.{Output, refused}
 use Rattle.st_commands.specs.Checked.{Spells}
 

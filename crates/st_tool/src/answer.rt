@@ -1,4 +1,4 @@
-//! Outputs: a text written whole, and the status that goes with it, or 4 if the writer failed.
+//! The outputs: each function writes one whole, and returns the status that goes with it, or 4 if the writer failed.
 
 ghost use Rattle.std.specs.Prelude.{◌≡◌, MatchResult};
 ghost use Rattle.st_commands.specs.Audited.{finding_status, report_output};
@@ -50,7 +50,7 @@ fn fault_status(fault: ReadFault) -> u8
     }
 }
 
-/// Tells a line.
+/// Writes a line that stands alone.
 pub(crate) fn tell_line<W: ByteSink>(writer: &mut W, line: OutputLine, status: u8) -> u8
     ensures { Delivers W.puts W.failed writer.old writer.new (record { text = text_of line; status = status }) result }
 {
@@ -58,7 +58,7 @@ pub(crate) fn tell_line<W: ByteSink>(writer: &mut W, line: OutputLine, status: u
     status_of(sent, status)
 }
 
-/// Tells the report of what was found of streams.
+/// Writes the report of what was found out about streams.
 pub(crate) fn tell_finding<W: ByteSink>(writer: &mut W, streams: &Streams, finding: &Finding) -> u8
     ensures { Delivers W.puts W.failed writer.old writer.new (report_output streams.now finding.now) result }
 {
@@ -66,7 +66,7 @@ pub(crate) fn tell_finding<W: ByteSink>(writer: &mut W, streams: &Streams, findi
     status_of(sent, finding_status(finding))
 }
 
-/// Tells the bundle of streams without acts.
+/// Writes the bundle of streams without acts.
 pub(crate) fn tell_streams<W: ByteSink>(writer: &mut W, streams: &Streams) -> u8
     ensures { Delivers W.puts W.failed writer.old writer.new (streams_output streams.now) result }
 {
@@ -74,7 +74,7 @@ pub(crate) fn tell_streams<W: ByteSink>(writer: &mut W, streams: &Streams) -> u8
     status_of(sent, 0)
 }
 
-/// Tells the bundle of streams with acts.
+/// Writes the bundle of streams with acts.
 pub(crate) fn tell_bundle<W: ByteSink>(writer: &mut W, streams: &Streams, acts: &[Act]) -> u8
     ensures { Delivers W.puts W.failed writer.old writer.new (bundled streams.now acts.now) result }
 {
@@ -82,21 +82,21 @@ pub(crate) fn tell_bundle<W: ByteSink>(writer: &mut W, streams: &Streams, acts: 
     status_of(sent, 0)
 }
 
-/// Tells a fault.
+/// Writes the line of a fault.
 pub(crate) fn tell_fault<W: ByteSink>(writer: &mut W, fault: ReadFault) -> u8
     ensures { Delivers W.puts W.failed writer.old writer.new (refused fault) result }
 {
     tell_line(writer, OutputLine::Fault(fault), fault_status(fault))
 }
 
-/// Tells that memory ran out: `fault memory`, status 4.
+/// Writes `fault memory`, since memory ran out, and returns 4.
 pub fn tell_no_memory<W: ByteSink>(writer: &mut W) -> u8
     ensures { Delivers W.puts W.failed writer.old writer.new no_memory result }
 {
     tell_fault(writer, ReadFault::Memory)
 }
 
-/// Tells that the input can't be read: `fault device`, status 4.
+/// Writes `fault device`, since the input can't be read, and returns 4.
 pub fn tell_no_device<W: ByteSink>(writer: &mut W) -> u8
     ensures { Delivers W.puts W.failed writer.old writer.new no_device result }
 {

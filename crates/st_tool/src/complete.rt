@@ -22,7 +22,7 @@ const TOP: u64 = u64::MAX;
 /// The most acts that the reader takes.
 const MOST_ACTS: u64 = 4_000_000;
 
-/// Tells acts that show streams, by their completion.
+/// Writes streams with acts that show them, which come from their completion.
 fn tell_acts<H: Threads + Sync, W: ByteSink>(
     rt: &H,
     alloc: Global,
@@ -40,7 +40,7 @@ fn tell_acts<H: Threads + Sync, W: ByteSink>(
     }
 }
 
-/// Tells a completion in this form.
+/// Writes a completion in this form.
 fn tell_completion<H: Threads + Sync, W: ByteSink>(
     rt: &H,
     alloc: Global,
@@ -62,7 +62,7 @@ fn tell_completion<H: Threads + Sync, W: ByteSink>(
     }
 }
 
-/// Tells what was found of streams.
+/// Writes what was found out about streams.
 fn tell_answer<H: Threads + Sync, W: ByteSink>(
     rt: &H,
     alloc: Global,
@@ -88,7 +88,7 @@ fn tell_answer<H: Threads + Sync, W: ByteSink>(
     }
 }
 
-/// Tells what streams lack.
+/// Writes what streams lack.
 fn complete_streams<H: Threads + Sync, W: ByteSink>(
     rt: &H,
     alloc: Global,
@@ -104,10 +104,10 @@ fn complete_streams<H: Threads + Sync, W: ByteSink>(
     }
 }
 
-/// Reads a bundle and writes what its streams lack in this form, with status 0; or an event and the reason why no run
-/// without a reset has them, or that this is open, with status 1. If acts are asked for and they are more than the
-/// reader takes, it writes `long` with status 5. Faulty input is 2; running out of memory, and a reader or a writer that
-/// fails, are 4. It sorts on several threads.
+/// Reads a bundle and writes what its streams lack, in this form, with status 0. If no run without a reset has them, it
+/// writes an event and the reason, and if it doesn't know, `open` and an event, both with status 1. If acts are asked
+/// for and there are more than the reader takes, it writes `long` with status 5. Faulty input is 2; running out of
+/// memory, and a reader or a writer that fails, are 4. It sorts on several threads.
 pub fn run_complete<H: Threads + Sync, R: ByteSource, W: ByteSink>(
     rt: &H,
     alloc: Global,

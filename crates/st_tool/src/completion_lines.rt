@@ -206,7 +206,7 @@ pub(crate) fn send_never<W: ByteSink>(
     flush(writer, &mut buffer)
 }
 
-/// Writes that it is open whether the event at this place can be, and the event.
+/// Writes that neither a completion nor a reason was found, with the event at this place.
 fn write_open<W: ByteSink>(
     writer: &mut W,
     buffer: &mut Buffer,
@@ -221,7 +221,7 @@ fn write_open<W: ByteSink>(
     write_event_line(writer, buffer, streams, pid, index)
 }
 
-/// Sends that it is open whether the event at this place can be, and the event.
+/// Sends that neither a completion nor a reason was found, with the event at this place.
 pub(crate) fn send_open<W: ByteSink>(
     writer: &mut W,
     streams: &Streams,

@@ -2,6 +2,7 @@
 //!
 //! The reader says which line and which of its refusals; the scan says the column. Lines and columns count from 1.
 
+use crate::column::column_below;
 use crate::scan::{Above, Expected, Place, Scan, Sort, common, rising_bytes};
 use st_text::ReadFault;
 
@@ -176,13 +177,14 @@ fn wrong_line(bytes: &[u8], number: u64) -> Diagnosis<'_> {
     let (line, context) = line_at(bytes, number);
     let mut scan = Scan::new(line);
     let found = scan.whole(context.above);
+    let column = column_below(context.above, line);
     match found {
         Err(expected) => Diagnosis {
             number,
             line,
-            column: scan.at(),
+            column,
             wanted: Wanted::Grammar(expected),
-            remedy: remedy_of(line, scan.at(), context.above, expected),
+            remedy: remedy_of(line, column, context.above, expected),
         },
         Ok(Sort::Header) => Diagnosis {
             number,

@@ -1,20 +1,21 @@
-//! The command `explain`: why `check` refuses a bundle. It runs the acts again up to the one at which they part from the
-//! streams, and shows the act, the event that was due, the report that came, and its actor's state before it.
+//! The command `explain`: why `check` refuses a bundle. It makes the acts again up to the first that reports something
+//! else than the streams have, and shows that act, the event that was due, the report that came, and the actor's state
+//! before it.
 
 use crate::answer::{status_of, tell_fault, tell_line};
 use crate::lines::OutputLine;
 use crate::say::{say, say_act, say_event, say_number, say_pid, say_serial};
 use st_check::{CheckFault, Verdict, check};
 use st_core::{Act, ByteSink, ByteSource, Event, Pid, Streams, Token};
-use st_text::{Buffer, Bundle, Device, ReadFault, flush, read};
+use st_text::{Buffer, Bundle, Device, Limits, ReadFault, flush, read_within};
 use st_world::{NewFault, StepFault, World};
 use std::alloc::{AllocError, Global};
 
 /// The greatest count that a clock of the program can have.
 const TOP: u64 = u64::MAX;
 
-/// A run under way, with how much each process has reported and how many messages wait for it, by its place among the
-/// streams.
+/// A run under way: the world, and by each process's place among the streams how many events it has reported and how
+/// many messages wait for it.
 #[derive(Drop)]
 struct Rerun {
     world: World<TOP>,
@@ -22,7 +23,7 @@ struct Rerun {
     waiting: Vec<u64>,
 }
 
-/// What an act of a run came to.
+/// What came of an act.
 #[derive(Clone, Copy, Debug, PartialEq, Eq)]
 enum Came {
     /// It was a step, with this report or none.
@@ -82,7 +83,7 @@ impl Rerun {
         }
     }
 
-    /// Takes an act.
+    /// Makes an act.
     fn take(&mut self, streams: &Streams, act: &Act) -> Result<Came, AllocError> {
         let told = match self.world.step(act) {
             Ok(told) => told,
@@ -102,7 +103,7 @@ impl Rerun {
         Ok(Came::Step(told.report))
     }
 
-    /// Takes acts, one after the other.
+    /// Makes acts, one after the other.
     fn take_all(&mut self, streams: &Streams, acts: &[Act]) -> Result<(), AllocError> {
         for act in acts {
             let _ = self.take(streams, act)?;
@@ -217,7 +218,7 @@ fn say_due<W: ByteSink>(
     say(writer, buffer, b"\n")
 }
 
-/// Writes what an act came to.
+/// Writes what came of an act.
 fn say_came<W: ByteSink>(writer: &mut W, buffer: &mut Buffer, came: &Came) -> Result<(), Device> {
     match came {
         Came::Stuck => say(writer, buffer, b"came: no step\n"),
@@ -230,7 +231,7 @@ fn say_came<W: ByteSink>(writer: &mut W, buffer: &mut Buffer, came: &Came) -> Re
     }
 }
 
-/// Sends the act at which a run parts from the streams, the run being right before it.
+/// Sends the first act that reports something else than the streams have; the run stands right before it.
 fn send_parting<W: ByteSink>(
     writer: &mut W,
     streams: &Streams,
@@ -278,7 +279,7 @@ fn send_accepted<W: ByteSink>(writer: &mut W) -> Result<(), Device> {
     flush(writer, &mut buffer)
 }
 
-/// What the act with this number comes to, and the run right before it.
+/// The run right before the act with this number, and what comes of that act.
 fn parting(
     alloc: Global,
     streams: &Streams,
@@ -295,7 +296,7 @@ fn parting(
     Ok((rerun, came))
 }
 
-/// Tells the act with this number, at which a run of the acts parts from the streams.
+/// Writes about the act with this number, the first that reports something else than the streams have.
 fn tell_parting<W: ByteSink>(
     alloc: Global,
     streams: &Streams,
@@ -315,7 +316,7 @@ fn tell_parting<W: ByteSink>(
     }
 }
 
-/// Tells the process with events left.
+/// Writes about a process with events left.
 fn tell_left<W: ByteSink>(
     alloc: Global,
     streams: &Streams,
@@ -335,7 +336,7 @@ fn tell_left<W: ByteSink>(
     }
 }
 
-/// Tells why the acts don't show the streams.
+/// Writes why the acts don't show the streams.
 fn explain_acts<W: ByteSink>(alloc: Global, streams: &Streams, acts: &[Act], writer: &mut W) -> u8 {
     match check::<TOP>(alloc, streams, acts) {
         Ok(Verdict::Yes(_)) => status_of(send_accepted(writer), 0),
@@ -347,7 +348,7 @@ fn explain_acts<W: ByteSink>(alloc: Global, streams: &Streams, acts: &[Act], wri
     }
 }
 
-/// Tells why `check` refuses a bundle.
+/// Writes why `check` refuses a bundle.
 fn explain_bundle<W: ByteSink>(alloc: Global, bundle: &Bundle, writer: &mut W) -> u8 {
     match &bundle.acts {
         Some(acts) => explain_acts(alloc, &bundle.streams, acts.as_slice(), writer),
@@ -362,7 +363,7 @@ pub fn run_explain<R: ByteSource, W: ByteSink>(
     reader: &mut R,
     writer: &mut W,
 ) -> u8 {
-    match read(alloc, reader) {
+    match read_within(alloc, reader, Limits::GREATER) {
         Ok(bundle) => explain_bundle(alloc, &bundle, writer),
         Err(fault) => tell_fault(writer, fault),
     }

@@ -26,6 +26,13 @@ pub(crate) const COMPLETE_EXAMPLE: &str = "Example:
 Status 1: `never PID I WORD` and the events that it names; `open PID I`, undecided.
 Status 5, with --as acts: `long`, there is a run, of more acts than the reader takes.";
 
+pub(crate) const RENUMBER: &str =
+    "Writes the streams with each count replaced by its rank; they have a run just if the given ones have";
+
+pub(crate) const RENUMBER_EXAMPLE: &str =
+    "Example, for a tracer that came on when the clocks were high:
+  seqtool renumber trace.txt | seqtool audit";
+
 pub(crate) const WHY: &str = "Shows what caused an event, back to where its trace starts";
 
 pub(crate) const WHY_EXAMPLE: &str = "Example:
@@ -55,10 +62,14 @@ pub(crate) const CHECK: &str =
     "Whether the bundle's acts are a run in which each process reports its stream";
 
 pub(crate) const CHECK_EXAMPLE: &str = "Example:
-  seqtool audit trace.txt | seqtool check";
+  seqtool audit trace.txt | seqtool check
+
+It takes up to 1 GiB, 16,000 processes, 16,000,000 events and 64,000,000 acts.";
 
 pub(crate) const AUDIT: &str =
     "Finds acts that explain the streams, or names an event and a reason";
 
 pub(crate) const AUDIT_EXAMPLE: &str = "Example:
-  seqtool audit trace.txt";
+  seqtool audit trace.txt
+
+It takes up to 1 GiB, 16,000 processes, 16,000,000 events and 64,000,000 acts.";

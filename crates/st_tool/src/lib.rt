@@ -1,11 +1,12 @@
-//! The commands of `seqtool` on any reader and writer: each reads all bytes, writes the text that they deserve, and
-//! returns the exit status.
+//! The commands of `seqtool` on any reader and writer: each reads all bytes, writes its output and returns the exit
+//! status.
 //!
-//! `read_words` says what a command line asks for, and `run` does it. The definitions of what `why` writes stand in
-//! `specs/`; what `check` and `audit` write is said by `st_commands`.
+//! `read_words` says what a command line asks for, and `run` does it. `specs/` defines what `complete`, `renumber` and
+//! `why` write; `st_commands` defines it for `check` and `audit`.
 #![tactic(auto)]
 
 mod answer;
+mod column;
 mod complete;
 mod completion_lines;
 mod diagnosis;

@@ -1,5 +1,4 @@
-//! The lines that the program writes alone, through a buffer on the stack. Which line is written is decided elsewhere;
-//! writing takes no memory.
+//! The lines that stand alone. They are written through a buffer on the stack, so that writing takes no memory.
 
 ghost use Rattle.std.specs.Prelude.{◌≡◌, ◌≤◌, ◌+◌, ◌++◌, codes, length, decimal};
 ghost use Rattle.arrayvec.specs.ArrayVec.{array_vec_len};
@@ -20,7 +19,7 @@ use st_text::{Buffer, Device, ReadFault, flush, make_room, put_bytes, put_number
 pub(crate) enum OutputLine {
     /// There is no event at this place.
     NoEvent(Pid, u64),
-    /// Why the input is no text, or there is no answer.
+    /// The input is faulty, memory ran out, or the input can't be read.
     Fault(ReadFault),
     /// The input has no acts.
     NoActs,
@@ -30,7 +29,7 @@ pub(crate) enum OutputLine {
     Added(u64),
     /// Why the event at this place rules out a run without a reset.
     Never(Pid, u64, Never),
-    /// It is open whether the event at this place can be.
+    /// Neither a completion nor a reason was found; this is one event of those in question.
     Open(Pid, u64),
 }
 
@@ -141,7 +140,7 @@ fn put_line(buffer: &mut Buffer, line: OutputLine)
     put_bytes(buffer, b"\n");
 }
 
-/// Writes a line into the buffer, and first what waits there if that is much.
+/// Appends a line to the buffer. If there is too little room, the writer gets what waits there first.
 pub(crate) fn write_line<W: ByteSink>(
     writer: &mut W,
     buffer: &mut Buffer,

@@ -8,8 +8,9 @@ use crate::lint::run_lint;
 use crate::renumber::run_renumber;
 use crate::why::run_why;
 use crate::words::Task;
-use st_commands::{run_audit, run_check};
+use st_commands::{run_audit_within, run_check_within};
 use st_core::{ByteSink, ByteSource};
+use st_text::Limits;
 use std::thread::Threads;
 
 /// Does what the task asks for, and returns the exit status.
@@ -27,7 +28,7 @@ pub fn run<H: AllocGlobal + Threads + Sync, R: ByteSource, W: ByteSink>(
         Task::Lint => run_lint(rt.alloc(), reader, writer),
         Task::Explain => run_explain(rt.alloc(), reader, writer),
         Task::Why(pid, index) => run_why(rt.alloc(), reader, writer, pid, index),
-        Task::Check => run_check(rt.alloc(), reader, writer),
-        Task::Audit => run_audit(rt, rt.alloc(), reader, writer),
+        Task::Check => run_check_within(rt.alloc(), reader, writer, Limits::GREATER),
+        Task::Audit => run_audit_within(rt, rt.alloc(), reader, writer, Limits::GREATER),
     }
 }

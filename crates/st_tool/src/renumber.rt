@@ -11,7 +11,7 @@ use st_core::{ByteSink, ByteSource, Streams};
 use st_text::{ReadFault, read};
 use std::alloc::Global;
 
-/// Tells the renumbered streams.
+/// Writes the renumbered streams.
 fn renumber_streams<W: ByteSink>(alloc: Global, streams: &Streams, writer: &mut W) -> u8
     ensures { Tells W.puts W.failed writer.old writer.new (RenumbersTo streams.now) result }
 {

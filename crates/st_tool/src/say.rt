@@ -1,4 +1,4 @@
-//! Pieces of text on their way to a writer, for the commands whose words are for people. Room is made for each piece.
+//! Pieces of text on their way to a writer, for the commands whose words are for people: `lint` and `explain`.
 
 use st_core::{Act, ByteSink, Event, Pid, Serial};
 use st_text::{

@@ -1,4 +1,4 @@
-//! The steps of the way back from an event: a line for each, as in a chart, with what it follows by.
+//! The steps of the way back from an event: a line for each, as in a chart, with how it follows its cause.
 
 ghost use Rattle.std.specs.Prelude.{◌≡◌, ◌≤◌, ◌<◌, ◌+◌, ◌++◌, length, take};
 ghost use Rattle.std.specs.List.{flat_map};
@@ -52,7 +52,7 @@ fn greatest_count(events: &[Event]) -> u64
         .fold(0, |most, event| event.serial.this.max(most))
 }
 
-/// Whether a process that stamps with this prev after these events began the trace itself.
+/// Whether a process whose next send or print has this prev, after these events, began the trace itself.
 fn is_begun(prev: u64, before: &[Event]) -> bool
     ensures { result ≡ is_begun prev before.now }
 {
@@ -90,7 +90,7 @@ fn put_cause(buffer: &mut Buffer, cause: Option<Cause>)
     }
 }
 
-/// Appends by what an event follows its cause, behind these events of its process.
+/// Appends how an event follows its cause. These are the events of its process before it.
 fn put_by(buffer: &mut Buffer, before: &[Event], event: &Event, cause: Option<Cause>)
     requires { array_vec_len buffer.old + by_room ≤ buffer_room }
     ensures items { buffer.new.items ≡ buffer.old.items ++ by_words before.now event.now cause }
@@ -138,7 +138,7 @@ fn put_what(buffer: &mut Buffer, event: &Event)
     put_number(buffer, event.value);
 }
 
-/// Appends what an event follows, and by what.
+/// Appends what an event follows, and how.
 fn put_follow(buffer: &mut Buffer, before: &[Event], event: &Event, cause: Option<Cause>)
     requires { array_vec_len buffer.old + follow_room ≤ buffer_room }
     ensures items { buffer.new.items ≡ buffer.old.items ++ follow_words before.now event.now cause }

@@ -40,7 +40,7 @@ fn unfit_by(fault: PairFault) -> Option<Finding>
     }
 }
 
-/// Tells why streams aren't paired.
+/// Writes why streams can't be paired.
 fn tell_unpaired<W: ByteSink>(
     streams: &Streams,
     pid: Pid,
@@ -57,7 +57,7 @@ fn tell_unpaired<W: ByteSink>(
     }
 }
 
-/// Tells the way back from an event that is there.
+/// Writes the way back from an event that is there.
 fn trace_event<W: ByteSink>(
     alloc: Global,
     streams: &Streams,
@@ -80,7 +80,7 @@ fn trace_event<W: ByteSink>(
     }
 }
 
-/// Tells the way back over these causes.
+/// Writes the way back over these causes, if the event is there.
 fn trace_back<W: ByteSink>(
     alloc: Global,
     streams: &Streams,
@@ -99,7 +99,7 @@ fn trace_back<W: ByteSink>(
     }
 }
 
-/// Tells the way back in streams that are paired.
+/// Writes the way back in streams that are paired.
 fn trace_paired<W: ByteSink>(
     alloc: Global,
     streams: &Streams,
@@ -117,7 +117,7 @@ fn trace_paired<W: ByteSink>(
     }
 }
 
-/// Tells the way back in streams.
+/// Writes the way back in streams.
 fn trace_streams<W: ByteSink>(
     alloc: Global,
     streams: &Streams,
@@ -135,7 +135,7 @@ fn trace_streams<W: ByteSink>(
 
 /// Reads a bundle and writes the event at this place and its causes, back to a hidden send or a start, with status 0.
 /// If there is no such event, or the streams can't be paired, it writes that with status 1. Faulty input is 2; running
-/// out of memory, and a reader or a writer that fails, are 4. Its time grows with the streams.
+/// out of memory, and a reader or a writer that fails, are 4. Its time grows as the size of the input does.
 pub fn run_why<R: ByteSource, W: ByteSink>(
     alloc: Global,
     reader: &mut R,

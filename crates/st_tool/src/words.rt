@@ -1,5 +1,5 @@
-//! The command line: what the words ask for. `clap` reads them, and writes the help and the messages; nothing here
-//! reads the input.
+//! The command line: what the words ask for. `clap` reads them, and writes the help and the messages. The input isn't
+//! read here.
 
 use crate::help;
 use clap::error::ErrorKind;
@@ -24,8 +24,7 @@ pub enum Form {
 pub enum Task {
     /// `complete`: what do the streams lack?
     Complete(Form),
-    /// The streams with small counts: no command line asks for it while `st_complete::renumbered` isn't
-    /// written.
+    /// `renumber`: the streams with small counts.
     Renumber,
     /// `why PID I`: what caused event I of this process?
     Why(Pid, u64),
@@ -33,9 +32,9 @@ pub enum Task {
     Lint,
     /// `explain`: why does `check` refuse the acts?
     Explain,
-    /// `check`, as `seqaudit` has it.
+    /// `check`, as `seqaudit` has it, within greater limits.
     Check,
-    /// `audit`, as `seqaudit` has it.
+    /// `audit`, as `seqaudit` has it, within greater limits.
     Audit,
 }
 
@@ -97,7 +96,7 @@ fn why_command<'a>(alloc: Global) -> Result<Command<'a>, AllocError> {
         .arg(file_arg(alloc))
 }
 
-/// What `clap` is told of the command line.
+/// The description of the command line for `clap`.
 fn command_line<'a>(alloc: Global) -> Result<Command<'a>, AllocError> {
     let program = Command::new(alloc, "seqtool")
         .about(help::PROGRAM)
@@ -109,13 +108,15 @@ fn command_line<'a>(alloc: Global) -> Result<Command<'a>, AllocError> {
     let check = plain_command(alloc, "check", help::CHECK, help::CHECK_EXAMPLE)?;
     let explain = plain_command(alloc, "explain", help::EXPLAIN, help::EXPLAIN_EXAMPLE)?;
     let lint = plain_command(alloc, "lint", help::LINT, help::LINT_EXAMPLE)?;
+    let renumber = plain_command(alloc, "renumber", help::RENUMBER, help::RENUMBER_EXAMPLE)?;
     program
         .subcommand(audit)?
         .subcommand(complete_command(alloc)?)?
         .subcommand(why_command(alloc)?)?
         .subcommand(lint)?
         .subcommand(check)?
-        .subcommand(explain)
+        .subcommand(explain)?
+        .subcommand(renumber)
 }
 
 /// The form of this name.
@@ -160,6 +161,9 @@ fn why_of(found: &ArgMatches) -> Option<Task> {
 fn task_of(name: &str, found: &ArgMatches) -> Option<Task> {
     if name == "complete" {
         return Some(Task::Complete(form_of(found.get_str("FORM"))));
+    }
+    if name == "renumber" {
+        return Some(Task::Renumber);
     }
     if name == "why" {
         return why_of(found);
