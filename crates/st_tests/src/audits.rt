@@ -1,11 +1,12 @@
 //! Worked streams, each with the finding that the rules give by hand; that each call succeeds with
-//! ample memory, and what a refused growth leaves.
+//! ample memory, and what is left if memory runs out.
 
 mod certificates;
 mod completions;
 mod reasons;
+mod stops;
 
-use crate::collected::{made, streams};
+use crate::collected::{made, same, streams};
 use crate::text::CERTIFICATE;
 use st_audit::{AuditFault, Finding, audit};
 use st_core::{Act, Flags, Label, MemorySource, Pid, Sequence, Serial, Token};
@@ -46,19 +47,19 @@ fn assert_fits(rt: &impl Abort, finding: &Finding, wanted: &[Act], wanted_pairs:
     match finding {
         Finding::Unfit(..) => panic!(rt; "unfit"),
         Finding::Fits(acts, pairs) => {
-            assert_eq!(rt; acts.as_slice(), wanted);
-            assert_eq!(rt; pairs.as_slice(), wanted_pairs);
+            same(rt, &acts.as_slice(), &wanted);
+            same(rt, &pairs.as_slice(), &wanted_pairs);
         }
     }
 }
 
-/// The acts of the worked certificate, where no growth is refused.
+/// The acts of the worked certificate, if memory suffices.
 fn certificate_acts(alloc: Global) -> Option<Sequence<Act>> {
     let bundle = read(alloc, &mut MemorySource::new(CERTIFICATE.as_bytes(), None)).ok()?;
     bundle.acts
 }
 
-/// Where a growth is refused the answer is Memory, and the same call answers right afterwards.
+/// If memory runs out the result is Memory, and the same call succeeds afterwards.
 #[test]
 fn a_refused_growth_is_memory(rt: HostRuntime) {
     let alloc = rt.alloc();

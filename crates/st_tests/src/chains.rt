@@ -1,7 +1,7 @@
-//! Worked streams, each with the causes and chains that the rules give by hand, and what a refused
-//! growth leaves.
+//! Worked streams, each with the causes and chains that the rules give by hand, and what is left if
+//! memory runs out.
 
-use crate::collected::{ONE_MESSAGE, made, p30, p31, p32, streams};
+use crate::collected::{ONE_MESSAGE, made, p30, p31, p32, same};
 use crate::text::CERTIFICATE;
 use st_chain::{Cause, Chain, Chains};
 use st_core::{Draft, Event, Kind, Label, Pid, Serial, Streams};
@@ -27,73 +27,82 @@ fn indexes(alloc: Global, chain: Chain<'_>) -> Result<Vec<u64>, AllocError> {
     Ok(indexes)
 }
 
-/// The chain of a process and label in a text's streams.
-fn chain_of(alloc: Global, text: &str, pid: Pid, label: u32) -> Result<Vec<u64>, Fail> {
-    let streams = streams(alloc, text)?;
-    let pairing = pair(alloc, &streams)?;
-    let chains = Chains::new(alloc, &streams, &pairing)?;
-    Ok(indexes(alloc, chains.of(pid, Label(label)))?)
+/// What the chains of streams tell of a process, a label and an index.
+#[derive(Drop)]
+struct Answers {
+    chain: Vec<u64>,
+    cause: Option<Cause>,
+    back: Vec<(Pid, u64)>,
 }
 
-/// The cause of an event of a text's streams.
-fn cause_of(alloc: Global, text: &str, pid: Pid, index: u64) -> Result<Option<Cause>, Fail> {
-    let streams = streams(alloc, text)?;
-    let pairing = pair(alloc, &streams)?;
-    let chains = Chains::new(alloc, &streams, &pairing)?;
-    Ok(chains.cause(pid, index))
+/// What the chains tell, if the streams have a pairing and there is memory.
+fn told(alloc: Global, streams: &Streams, pid: Pid, label: u32, index: u64) -> Option<Answers> {
+    let pairing = pair(alloc, streams).ok()?;
+    let chains = Chains::new(alloc, streams, &pairing).ok()?;
+    let chain = indexes(alloc, chains.of(pid, Label(label))).ok()?;
+    let back = chains.back(alloc, pid, index).ok()?;
+    let cause = chains.cause(pid, index);
+    Some(Answers { chain, cause, back })
 }
 
-/// The way back from an event of a text's streams.
-fn back_from(alloc: Global, text: &str, pid: Pid, index: u64) -> Result<Vec<(Pid, u64)>, Fail> {
-    let streams = streams(alloc, text)?;
-    let pairing = pair(alloc, &streams)?;
-    let chains = Chains::new(alloc, &streams, &pairing)?;
-    Ok(chains.back(alloc, pid, index)?)
-}
-
-fn assert_chain(
+/// The same of a text's streams.
+fn told_of(
     rt: &impl Abort,
     alloc: Global,
     text: &str,
     pid: Pid,
     label: u32,
-    wanted: &[u64],
-) -> Result<(), Fail> {
-    let chain = chain_of(alloc, text, pid, label)?;
-    assert_eq!(rt; chain.as_slice(), wanted);
-    Ok(())
+    index: u64,
+) -> Answers {
+    told(alloc, &made(rt, alloc, text), pid, label, index).expect(rt, "nothing told")
+}
+
+fn assert_chain(rt: &impl Abort, alloc: Global, text: &str, pid: Pid, label: u32, wanted: &[u64]) {
+    let told = told_of(rt, alloc, text, pid, label, 0);
+    same(rt, &told.chain.as_slice(), &wanted);
+}
+
+fn assert_cause(
+    rt: &impl Abort,
+    alloc: Global,
+    text: &str,
+    pid: Pid,
+    index: u64,
+    wanted: Option<Cause>,
+) {
+    let told = told_of(rt, alloc, text, pid, 17, index);
+    same(rt, &told.cause, &wanted);
 }
 
 fn assert_back(
     rt: &impl Abort,
     alloc: Global,
     text: &str,
-    from: (Pid, u64),
+    pid: Pid,
+    index: u64,
     wanted: &[(Pid, u64)],
-) -> Result<(), Fail> {
-    let back = back_from(alloc, text, from.0, from.1)?;
-    assert_eq!(rt; back.as_slice(), wanted);
-    Ok(())
+) {
+    let told = told_of(rt, alloc, text, pid, 17, index);
+    same(rt, &told.back.as_slice(), &wanted);
 }
 
 #[test]
-fn hidden_sends_end_the_way_back(rt: HostRuntime) -> Result<(), Fail> {
+fn hidden_sends_end_the_way_back(rt: HostRuntime) {
     let alloc = rt.alloc();
-    assert_chain(&rt, alloc, CERTIFICATE, p30(), 17, &[0, 1])?;
-    assert_chain(&rt, alloc, CERTIFICATE, p30(), 18, &[])?;
-    let cause = cause_of(alloc, CERTIFICATE, p30(), 1)?;
-    assert_eq!(rt; cause, Some(Cause::Hidden));
+    assert_chain(&rt, alloc, CERTIFICATE, p30(), 17, &[0, 1]);
+    assert_chain(&rt, alloc, CERTIFICATE, p30(), 18, &[]);
+    assert_cause(&rt, alloc, CERTIFICATE, p30(), 1, Some(Cause::Hidden));
     let back = [(p31(), 1), (p31(), 0)];
-    assert_back(&rt, alloc, CERTIFICATE, (p31(), 1), &back)
+    assert_back(&rt, alloc, CERTIFICATE, p31(), 1, &back);
 }
 
 #[test]
-fn chains_go_by_label(rt: HostRuntime) -> Result<(), Fail> {
+fn chains_go_by_label(rt: HostRuntime) {
     let alloc = rt.alloc();
-    assert_chain(&rt, alloc, TWO_LABELS, p30(), 17, &[1])?;
-    assert_chain(&rt, alloc, TWO_LABELS, p30(), 18, &[0, 2])?;
-    assert_chain(&rt, alloc, TWO_LABELS, p31(), 17, &[])?;
-    assert_chain(&rt, alloc, TWO_LABELS, p32(), 17, &[])
+    assert_chain(&rt, alloc, TWO_LABELS, p30(), 17, &[1]);
+    assert_chain(&rt, alloc, TWO_LABELS, p30(), 18, &[0, 2]);
+    assert_chain(&rt, alloc, TWO_LABELS, p31(), 17, &[]);
+    assert_chain(&rt, alloc, TWO_LABELS, p32(), 17, &[]);
 }
 
 /// Prints of both processes whose labels, 0 to 4, change without a pattern.
@@ -134,67 +143,46 @@ fn filtered(alloc: Global, events: &[Event], label: u32) -> Result<Vec<u64>, All
     Ok(places)
 }
 
-fn assert_filtered(
-    rt: &impl Abort,
-    alloc: Global,
-    chains: &Chains,
-    pid: Pid,
-    events: &[Event],
-) -> Result<(), AllocError> {
-    for label in 0..6 {
-        let wanted = filtered(alloc, events, label)?;
-        assert_eq!(rt; wanted.is_empty(), label == 5);
-        let chain = indexes(alloc, chains.of(pid, Label(label)))?;
-        assert_eq!(rt; chain.as_slice(), wanted.as_slice());
-    }
-    Ok(())
+/// That the chain of a label is the plain filter of the process's events.
+fn assert_filtered(rt: &impl Abort, alloc: Global, streams: &Streams, pid: Pid, label: u32) {
+    let wanted = filtered(alloc, streams.events(pid), label).expect(rt, "no memory");
+    same(rt, &wanted.is_empty(), &(label == 5));
+    let told = told(alloc, streams, pid, label, 0).expect(rt, "nothing told");
+    same(rt, &told.chain.as_slice(), &wanted.as_slice());
 }
 
 #[test]
 fn chains_are_the_plain_filters(rt: HostRuntime) -> Result<(), Fail> {
-    let alloc = rt.alloc();
-    let streams = mixed(alloc)?;
-    let pairing = pair(alloc, &streams)?;
-    let chains = Chains::new(alloc, &streams, &pairing)?;
-    for pid in [p30(), p31()] {
-        assert_filtered(&rt, alloc, &chains, pid, streams.events(pid))?;
+    let streams = mixed(rt.alloc())?;
+    for label in 0..6 {
+        assert_filtered(&rt, rt.alloc(), &streams, p30(), label);
+        assert_filtered(&rt, rt.alloc(), &streams, p31(), label);
     }
     Ok(())
 }
 
 #[test]
-fn a_receive_is_caused_by_its_send(rt: HostRuntime) -> Result<(), Fail> {
+fn a_receive_is_caused_by_its_send(rt: HostRuntime) {
     let alloc = rt.alloc();
-    for (pid, index, cause) in [
-        (p31(), 0, Some(Cause::Event(p30(), 0))),
-        (p30(), 0, Some(Cause::Start)),
-        (p30(), 7, None),
-    ] {
-        assert_eq!(rt; cause_of(alloc, ONE_MESSAGE, pid, index)?, cause);
-    }
+    let sent = Some(Cause::Event(p30(), 0));
+    assert_cause(&rt, alloc, ONE_MESSAGE, p31(), 0, sent);
+    assert_cause(&rt, alloc, ONE_MESSAGE, p30(), 0, Some(Cause::Start));
+    assert_cause(&rt, alloc, ONE_MESSAGE, p30(), 7, None);
     let back = [(p31(), 0), (p30(), 0)];
-    assert_back(&rt, alloc, ONE_MESSAGE, (p31(), 0), &back)?;
-    assert_back(&rt, alloc, ONE_MESSAGE, (p30(), 7), &[])
+    assert_back(&rt, alloc, ONE_MESSAGE, p31(), 0, &back);
+    assert_back(&rt, alloc, ONE_MESSAGE, p30(), 7, &[]);
 }
 
-/// The first of 31's chain of label 17 and the way back from it, where no growth is refused.
-fn way_back(alloc: Global, streams: &Streams) -> Option<(Option<u64>, Vec<(Pid, u64)>)> {
-    let pairing = pair(alloc, streams).ok()?;
-    let chains = Chains::new(alloc, streams, &pairing).ok()?;
-    let back = chains.back(alloc, p31(), 0).ok()?;
-    Some((chains.of(p31(), Label(17)).next(), back))
-}
-
-/// Where a growth is refused the answer is want of memory, and the same call answers right
-/// afterwards.
+/// If memory runs out nothing is told, and the same calls tell it right afterwards.
 #[test]
 fn a_refused_growth_is_answered(rt: HostRuntime) {
     let alloc = rt.alloc();
     let streams = made(&rt, alloc, ONE_MESSAGE);
-    let (first, back) = match way_back(alloc, &streams) {
-        Some(answers) => answers,
-        None => way_back(alloc, &streams).expect(&rt, "refused again"),
+    let told = match told(alloc, &streams, p31(), 17, 0) {
+        Some(told) => told,
+        None => told(alloc, &streams, p31(), 17, 0).expect(&rt, "refused again"),
     };
-    assert_eq!(rt; first, Some(0));
-    assert_eq!(rt; back.as_slice(), [(p31(), 0), (p30(), 0)].as_slice());
+    same(&rt, &told.chain.as_slice(), &[0].as_slice());
+    let back = [(p31(), 0), (p30(), 0)];
+    same(&rt, &told.back.as_slice(), &back.as_slice());
 }

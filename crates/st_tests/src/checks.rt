@@ -1,7 +1,7 @@
-//! Worked certificates and replays, each with the answer that the rules of the machine give by hand,
-//! and what a refused growth leaves.
+//! Worked certificates and replays, each with the result that the rules of the machine give by hand,
+//! and what is left if memory runs out.
 
-use crate::collected::{made, p30, p31, p32, streams};
+use crate::collected::{made, p30, p31, p32, same, streams};
 use st_check::{CheckFault, ReplayFault, Replayed, Verdict, check, replay};
 use st_core::{Act, Component, Label, Pid, Reply, Sequence, Streams, Want};
 use std::alloc::{AllocError, Global};
@@ -27,22 +27,6 @@ const OTHER_PRINT: &str = "seqtrace 1\n\
     process <0.30.0>\n\
     {seq_trace,17,{print,{0,2},<0.30.0>,[],7}}\n";
 
-/// Receives of the second, first and third of three sends.
-const SECOND_FIRST: &str = "seqtrace 1\n\
-    process <0.30.0>\n\
-    process <0.31.0>\n\
-    {seq_trace,1,{'receive',{0,2},<0.30.0>,<0.31.0>,9}}\n\
-    {seq_trace,1,{'receive',{0,1},<0.30.0>,<0.31.0>,8}}\n\
-    {seq_trace,1,{'receive',{0,3},<0.30.0>,<0.31.0>,8}}\n";
-
-/// Receives of the second, third and first.
-const FIRST_LAST: &str = "seqtrace 1\n\
-    process <0.30.0>\n\
-    process <0.31.0>\n\
-    {seq_trace,1,{'receive',{0,2},<0.30.0>,<0.31.0>,9}}\n\
-    {seq_trace,1,{'receive',{0,3},<0.30.0>,<0.31.0>,8}}\n\
-    {seq_trace,1,{'receive',{0,1},<0.30.0>,<0.31.0>,8}}\n";
-
 /// Receives on another node: of the first send twice, of it once, and of the second.
 const FAR_TWICE: &str = "seqtrace 2\n\
     process <1.30.0>\n\
@@ -60,12 +44,6 @@ const FAR_LATER: &str = "seqtrace 2\n\
     process <2.31.0>\n\
     {seq_trace,17,{'receive',{0,2},<1.30.0>,<2.31.0>,5}}\n";
 
-/// A message to oneself, and a send of the next.
-const OWN: &str = "seqtrace 1\n\
-    process <0.30.0>\n\
-    {seq_trace,17,{'receive',{0,1},<0.30.0>,<0.30.0>,5}}\n\
-    {seq_trace,17,{send,{1,2},<0.30.0>,<0.30.0>,6}}\n";
-
 /// What is reported of sends with a falling serial.
 const LOW_SERIAL: &str = "seqtrace 1\n\
     process <0.30.0>\n\
@@ -80,7 +58,7 @@ const RECEIVED: &str = "seqtrace 1\n\
     process <0.31.0>\n\
     {seq_trace,1,{'receive',{0,1},<0.30.0>,<0.31.0>,5}}\n";
 
-/// What `check` is to answer.
+/// What `check` should say.
 #[derive(Clone, Copy)]
 enum Wanted<'a> {
     Yes(&'a [(u64, u64)]),
@@ -98,7 +76,7 @@ fn is_wanted(verdict: &Verdict, wanted: Wanted) -> bool {
     }
 }
 
-/// Whether `check` answers what is wanted, of clocks up to TOP.
+/// Whether `check` says what it should, of clocks up to TOP.
 fn answers<const TOP: u64>(
     alloc: Global,
     streams: &Streams,
@@ -145,32 +123,6 @@ fn one_print_is_compared_with_its_stream(rt: HostRuntime) -> Result<(), Fail> {
     Ok(())
 }
 
-/// Three traced sends of 8, 9 and 8, received by value, first and by place.
-fn three_sends() -> [Act; 9] {
-    [
-        Act::Tracer(p30(), true),
-        Act::Set(p30(), Component::Label(Label(1))),
-        Act::Set(p30(), Component::Receive(true)),
-        Act::Send(p30(), p31(), 8),
-        Act::Send(p30(), p31(), 9),
-        Act::Send(p30(), p31(), 8),
-        Act::Receive(p31(), Want::Value(9)),
-        Act::Receive(p31(), Want::First),
-        Act::Receive(p31(), Want::Place(0)),
-    ]
-}
-
-#[test]
-fn receives_are_paired_with_the_sends_whose_messages_they_took(
-    rt: HostRuntime,
-) -> Result<(), Fail> {
-    let acts = three_sends();
-    let pairs = Wanted::Yes(&[(6, 4), (7, 3), (8, 5)]);
-    assert!(rt; judges(rt.alloc(), SECOND_FIRST, &acts, pairs)?);
-    assert!(rt; judges(rt.alloc(), FIRST_LAST, &acts, Wanted::Differs(7))?);
-    Ok(())
-}
-
 /// A traced send from one node to another, a reset of this process's node, the same send again,
 /// and two receives.
 fn two_nodes(reset: Pid) -> [Act; 11] {
@@ -201,21 +153,6 @@ fn a_reset_empties_the_tokens_queued_on_its_own_node_alone(rt: HostRuntime) -> R
     let far = two_nodes(Pid::on(2, 31));
     let once = Wanted::Yes(&[(10, 8)]);
     assert!(rt; judges(rt.alloc(), FAR_LATER, &far, once)?);
-    Ok(())
-}
-
-#[test]
-fn a_send_to_oneself_is_paired(rt: HostRuntime) -> Result<(), Fail> {
-    let acts = [
-        Act::Tracer(p30(), true),
-        Act::Set(p30(), Component::Label(Label(17))),
-        Act::Set(p30(), Component::Receive(true)),
-        Act::Send(p30(), p30(), 5),
-        Act::Receive(p30(), Want::First),
-        Act::Set(p30(), Component::Send(true)),
-        Act::Send(p30(), p30(), 6),
-    ];
-    assert!(rt; judges(rt.alloc(), OWN, &acts, Wanted::Yes(&[(4, 3)]))?);
     Ok(())
 }
 
@@ -282,7 +219,7 @@ fn a_replay_answers_what_each_act_reports_and_replies(rt: HostRuntime) -> Result
     for &pid in wanted.pids() {
         assert!(rt; reported.events(pid) == wanted.events(pid));
     }
-    assert_eq!(rt; replies.len(), 14);
+    same(&rt, &replies.len(), &14);
     let replies = replies.as_slice();
     assert!(rt; replies.first().copied() == Some(Reply::Was(false)));
     assert!(rt; replies.get(1).copied() == Some(Reply::Old(None)));
@@ -322,8 +259,8 @@ fn last_pair(
 fn a_hundred_thousand_acts_are_replayed_and_checked(rt: HostRuntime) -> Result<(), Fail> {
     let acts = exchanges(rt.alloc(), 60_000)?;
     let (streams, replies) = ran(rt.alloc(), &[p30(), p31()], acts.as_slice())?;
-    assert_eq!(rt; streams.len(p31()), 60_000);
-    assert_eq!(rt; replies.len(), 120_002);
+    same(&rt, &streams.len(p31()), &60_000);
+    same(&rt, &replies.len(), &120_002);
     let last = last_pair(rt.alloc(), &streams, acts.as_slice())?;
     assert!(rt; last == Some((60_000, (120_001, 120_000))));
     Ok(())
@@ -340,8 +277,8 @@ fn send_one() -> [Act; 5] {
     ]
 }
 
-// Where a growth is refused the answer is Memory, and the same call answers right afterwards. That is
-// seen where these two tests run with an allocation that fails.
+// If memory runs out the result is Memory, and the same call succeeds afterwards. That is seen if these
+// two tests run with an allocation that fails.
 #[test]
 fn a_check_without_memory_may_be_asked_again(rt: HostRuntime) {
     let alloc = rt.alloc();
@@ -351,7 +288,7 @@ fn a_check_without_memory_may_be_asked_again(rt: HostRuntime) {
         Err(CheckFault::Memory) => answers::<MOST>(alloc, &streams, &send_one(), wanted),
         told => told,
     };
-    assert_eq!(rt; told, Ok(true));
+    same(&rt, &told, &Ok(true));
 }
 
 /// How many replies a replay of the send and its receive gives.
@@ -369,5 +306,5 @@ fn a_replay_without_memory_may_be_asked_again(rt: HostRuntime) {
         Err(ReplayFault::Memory) => replies(alloc),
         told => told,
     };
-    assert_eq!(rt; told, Ok(5));
+    same(&rt, &told, &Ok(5));
 }

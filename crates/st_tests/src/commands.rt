@@ -1,5 +1,5 @@
 //! Tests of what no clause says: worked inputs and their outputs, byte for byte, that the program
-//! answers with ample memory, and devices that fail on the way. Where memory is refused they fail.
+//! succeeds with ample memory, and devices that fail on the way. If memory runs out they fail.
 
 mod audits;
 mod certificates;
@@ -23,7 +23,7 @@ use std::sync::Wait;
 use std::test::Fail;
 use std::thread::Threads;
 
-/// An input of a command, and what it writes and answers.
+/// An input of a command, what it writes, and its status.
 struct Case {
     name: &'static str,
     input: &'static str,

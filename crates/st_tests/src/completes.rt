@@ -1,6 +1,6 @@
 //! Traces that lack something: their completions by hand, reasons, and acts.
 
-use crate::collected::{made, p30, p31, streams};
+use crate::collected::{made, p30, p31, same, streams};
 use st_complete::{
     Answer, CertificateFault, CompleteFault, Completion, Never, certificate, complete,
 };
@@ -46,9 +46,9 @@ fn assert_never(
     let streams = streams(alloc, text)?;
     match complete::<MOST>(alloc, &streams)? {
         Answer::Never(pid, found, why) => {
-            assert_eq!(rt; pid, p30());
-            assert_eq!(rt; found, index);
-            assert_eq!(rt; why, reason);
+            same(rt, &pid, &p30());
+            same(rt, &found, &index);
+            same(rt, &why, &reason);
         }
         Answer::Whole(_) => panic!(rt; "whole"),
         Answer::Open(..) => panic!(rt; "open"),
@@ -61,11 +61,11 @@ fn hidden_sends_stand_before_the_receives(rt: HostRuntime) -> Result<(), Fail> {
     let alloc = rt.alloc();
     let streams = streams(alloc, CROSSING)?;
     let completion = completed(&rt, alloc, &streams)?;
-    assert_eq!(rt; completion.added(), 2);
-    assert_eq!(rt; completion.streams().len(p30()), 2);
-    assert_eq!(rt; completion.told(p30(), 0), Some(false));
-    assert_eq!(rt; completion.told(p30(), 1), Some(true));
-    assert_eq!(rt; completion.told(p30(), 2), None);
+    same(&rt, &completion.added(), &2);
+    same(&rt, &completion.streams().len(p30()), &2);
+    same(&rt, &completion.told(p30(), 0), &Some(false));
+    same(&rt, &completion.told(p30(), 1), &Some(true));
+    same(&rt, &completion.told(p30(), 2), &None);
     let wanted = Event {
         label: Label(1),
         kind: Kind::Send,
@@ -74,7 +74,7 @@ fn hidden_sends_stand_before_the_receives(rt: HostRuntime) -> Result<(), Fail> {
         serial: Serial { prev: 0, this: 2 },
         value: 5,
     };
-    assert_eq!(rt; completion.streams().event(p30(), 0), Some(wanted));
+    same(&rt, &completion.streams().event(p30(), 0), &Some(wanted));
     Ok(())
 }
 
@@ -84,10 +84,10 @@ fn a_need_gets_a_receive_and_its_send(rt: HostRuntime) -> Result<(), Fail> {
     let streams = streams(alloc, NEEDING)?;
     let completion = completed(&rt, alloc, &streams)?;
     // The hidden send of 3 and the receive of 2 with its send.
-    assert_eq!(rt; completion.added(), 3);
+    same(&rt, &completion.added(), &3);
     let received = completion.streams().event(p30(), 2).ok_or("no event")?;
     assert!(rt; matches!(received.kind, Kind::Receive));
-    assert_eq!(rt; received.serial.this, 2);
+    same(&rt, &received.serial.this, &2);
     Ok(())
 }
 
@@ -139,13 +139,13 @@ fn a_count_above_the_clocks_is_too_high(rt: HostRuntime) -> Result<(), Fail> {
     let alloc = rt.alloc();
     let streams = streams(alloc, CROSSING)?;
     match complete::<1>(alloc, &streams)? {
-        Answer::Never(pid, 0, Never::TooHigh) => assert_eq!(rt; pid, p31()),
+        Answer::Never(pid, 0, Never::TooHigh) => same(&rt, &pid, &p31()),
         _ => panic!(rt; "another answer"),
     }
     Ok(())
 }
 
-/// If memory runs out the call says so, and the same call gives the right answer afterwards.
+/// If memory runs out the call says so, and the same call succeeds afterwards.
 #[test]
 fn after_memory_ran_out_the_same_call_completes(rt: HostRuntime) {
     let alloc = rt.alloc();
@@ -155,7 +155,7 @@ fn after_memory_ran_out_the_same_call_completes(rt: HostRuntime) {
         answer => answer,
     };
     match answer {
-        Ok(Answer::Whole(completion)) => assert_eq!(rt; completion.added(), 3),
+        Ok(Answer::Whole(completion)) => same(&rt, &completion.added(), &3),
         _ => panic!(rt; "another answer"),
     }
 }

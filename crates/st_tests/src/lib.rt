@@ -5,7 +5,7 @@
 //! | Module | Tests |
 //! |---|---|
 //! | `machine` | `st_core`: types, local steps, streams, devices |
-//! | `text`, `reads` | `st_text`; `reads`: where a growth is refused |
+//! | `text`, `reads` | `st_text`; `reads`: if memory runs out |
 //! | `lists` | `st_arena` |
 //! | `mailboxes` | `st_mail` |
 //! | `world` | `st_world` |
@@ -20,6 +20,8 @@
 //! | `runs` | `st_runtime`: threads that meet, and records of driven scripts |
 //! | `commands` | `st_commands`: whole commands, byte for byte |
 //! | `sizes` | all: calls with 100,000 of what they take |
+//! | `completions` | `st_complete`: as many events |
+//! | `systems` | `st_runtime`: systems with as many, by one thread |
 //! | `collected` | none: texts of streams, and pids, that the others share |
 #![tactic(auto)]
 
@@ -38,6 +40,8 @@ mod commands;
 #[cfg(test)]
 mod completes;
 #[cfg(test)]
+mod completions;
+#[cfg(test)]
 mod lists;
 #[cfg(test)]
 mod machine;
@@ -55,6 +59,8 @@ mod reads;
 mod runs;
 #[cfg(test)]
 mod sizes;
+#[cfg(test)]
+mod systems;
 #[cfg(test)]
 mod text;
 #[cfg(test)]

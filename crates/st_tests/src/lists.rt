@@ -4,6 +4,7 @@
 ghost use Rattle.std.specs.Prelude.{◌≡◌, ◌<◌, length, IfOk, map};
 ghost use Rattle.st_arena.specs.Arena.{list_at};
 
+use crate::collected::{same, same_at};
 use st_arena::Lists;
 use std::alloc::{AllocError, Global};
 use std::process::Abort;
@@ -27,10 +28,10 @@ fn walked(alloc: Global, lists: &Lists<u64>, list: usize) -> Result<Vec<u64>, Al
 fn assert_places<R: Abort>(rt: &R, lists: &Lists<u64>, list: usize, expected: &[u64])
     requires { list < length lists.now.lists }
 {
-    assert_eq!(rt; lists.len(list), expected.len() as u64);
+    same(rt, &lists.len(list), &(expected.len() as u64));
     for (place, item) in expected.iter().enumerate() {
         let found = lists.get(list, place as u64).copied();
-        assert_eq!(rt; found, Some(*item), "at {place}");
+        same_at(rt, place as u64, &found, &Some(*item));
     }
     assert!(rt; lists.get(list, lists.len(list)).is_none());
 }
@@ -46,7 +47,7 @@ fn assert_list<R: Abort>(
     requires { list < length lists.now.lists }
 {
     assert_places(rt, lists, list, expected);
-    assert_eq!(rt; walked(alloc, lists, list)?.as_slice(), expected);
+    same(rt, &walked(alloc, lists, list)?.as_slice(), &expected);
     Ok(())
 }
 
@@ -64,7 +65,7 @@ fn take<R: Abort>(rt: &R, lists: &mut Lists<u64>, list: usize, place: u64, expec
     requires { list < length lists.old.lists }
     ensures { length lists.new.lists ≡ length lists.old.lists }
 {
-    assert_eq!(rt; lists.take_at(list, place), expected, "at {place}");
+    same_at(rt, place, &lists.take_at(list, place), &expected);
 }
 
 #[test]
@@ -118,8 +119,8 @@ fn three_doubled<R: Abort>(rt: &R, alloc: Global) -> Result<Lists<u64>, Fail>
 fn each_item_changes_and_the_first_one_that_passes_is_found(rt: HostRuntime) -> Result<(), Fail> {
     let lists = three_doubled(&rt, rt.alloc())?;
     assert_list(&rt, rt.alloc(), &lists, 0, &[4, 6, 14])?;
-    assert_eq!(rt; lists.find_first(0, &|item: &u64| *item > 5), Some(1));
-    assert_eq!(rt; lists.find_first(0, &|item: &u64| *item > 14), None);
+    same(&rt, &lists.find_first(0, &|item: &u64| *item > 5), &Some(1));
+    same(&rt, &lists.find_first(0, &|item: &u64| *item > 14), &None);
     Ok(())
 }
 
@@ -149,10 +150,14 @@ fn two_parcels(alloc: Global) -> Result<Lists<Parcel>, AllocError>
 #[test]
 fn values_that_cannot_be_copied_move_in_and_out(rt: HostRuntime) -> Result<(), Fail> {
     let mut lists = two_parcels(rt.alloc())?;
-    assert_eq!(rt; lists.list_count(), 2);
-    assert_eq!(rt; lists.len(1), 2);
-    assert_eq!(rt; lists.get(1, 0).map(|parcel| parcel.weight), Some(3));
-    assert_eq!(rt; lists.take_at(1, 1).map(|parcel| parcel.weight), Some(5));
+    same(&rt, &lists.list_count(), &2);
+    same(&rt, &lists.len(1), &2);
+    same(&rt, &lists.get(1, 0).map(|parcel| parcel.weight), &Some(3));
+    same(
+        &rt,
+        &lists.take_at(1, 1).map(|parcel| parcel.weight),
+        &Some(5),
+    );
     assert!(rt; lists.take_at(0, 0).is_none());
     Ok(())
 }
@@ -166,19 +171,20 @@ fn values_that_cannot_be_copied_change_where_they_are(rt: HostRuntime) -> Result
             weight: parcel.weight ^ 1,
         },
     );
-    assert_eq!(rt;
-        lists.find_first(1, &|parcel: &Parcel| parcel.weight == 4),
-        Some(1)
+    same(
+        &rt,
+        &lists.find_first(1, &|parcel: &Parcel| parcel.weight == 4),
+        &Some(1),
     );
     let mut weights = 0u64;
     for parcel in lists.walk(1) {
         weights ^= parcel.weight;
     }
-    assert_eq!(rt; weights, 2 ^ 4);
+    same(&rt, &weights, &(2 ^ 4));
     Ok(())
 }
 
-// Two empty lists. Where memory is refused a second try has it.
+// Two empty lists. If memory runs out, the second try succeeds.
 fn two_at_last(alloc: Global) -> Result<Lists<u64>, AllocError>
     ensures { IfOk result (λ arena. length arena.lists ≡ 2) }
 {
@@ -188,15 +194,16 @@ fn two_at_last(alloc: Global) -> Result<Lists<u64>, AllocError>
     }
 }
 
-// Adds an item to list 1, which has so many. Where memory is refused the item comes back, nothing has
-// changed, and a second try has it.
+// Adds an item to list 1, which has so many. If memory runs out the item comes back, nothing has
+// changed, and the second try succeeds.
 fn push_at_last<R: Abort>(rt: &R, lists: &mut Lists<u64>, item: u64)
     requires { 1 < length lists.old.lists }
     ensures { length lists.new.lists ≡ length lists.old.lists }
 {
     if let Err(refused) = lists.push_back(1, item) {
-        assert_eq!(rt; refused.value, item);
-        assert_eq!(rt; (lists.len(0), lists.len(1)), (0, item));
+        same(rt, &refused.value, &item);
+        same(rt, &lists.len(0), &0);
+        same(rt, &lists.len(1), &item);
         assert!(rt; lists.push_back(1, refused.value).is_ok());
     }
 }
@@ -207,13 +214,13 @@ fn assert_counts_up<R: Abort>(rt: &R, lists: &Lists<u64>, list: usize, count: u6
 {
     let mut expected = 0u64;
     for item in lists.walk(list) {
-        assert_eq!(rt; *item, expected);
+        same(rt, item, &expected);
         expected = expected.wrapping_add(1);
     }
-    assert_eq!(rt; expected, count);
+    same(rt, &expected, &count);
 }
 
-// A room that no machine has is refused. What a refused push leaves is seen where this test runs with an
+// No machine has this much room. What a push that fails leaves is seen if this test runs with an
 // allocation that fails.
 #[test]
 fn a_refused_growth_leaves_all_lists(rt: HostRuntime) -> Result<(), Fail> {
@@ -246,9 +253,9 @@ fn round<R: Abort>(
     let place = number % 16;
     let taken = lists.take_at(list, place);
     if place < model.len() as u64 {
-        assert_eq!(rt; taken, Some(model.remove(place as usize)));
+        same(rt, &taken, &Some(model.remove(place as usize)));
     } else {
-        assert_eq!(rt; taken, None);
+        same(rt, &taken, &None);
     }
     Ok(())
 }

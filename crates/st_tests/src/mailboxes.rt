@@ -3,7 +3,7 @@
 
 ghost use Rattle.std.specs.Prelude.{◌≡◌, ◌<◌, ◌+◌, length, IfOk};
 
-use crate::collected::{p30, p31};
+use crate::collected::{p30, p31, same, same_at};
 use st_core::{Message, Pid, Serial, Token, Want};
 use st_mail::Mailboxes;
 use std::alloc::{AllocError, Global};
@@ -55,15 +55,12 @@ fn three_messages(alloc: Global) -> Result<Mailboxes, AllocError>
 fn assert_mailbox(rt: &impl Abort, mail: &Mailboxes, mailbox: usize, expected: &[Message])
     requires { mailbox < length mail.now.boxes }
 {
-    assert_eq!(rt; mail.len(mailbox), expected.len() as u64);
+    same(rt, &mail.len(mailbox), &(expected.len() as u64));
     for (place, message) in expected.iter().enumerate() {
-        assert_eq!(rt;
-            mail.get(mailbox, place as u64),
-            Some(*message),
-            "at {place}"
-        );
+        let found = mail.get(mailbox, place as u64);
+        same_at(rt, place as u64, &found, &Some(*message));
     }
-    assert_eq!(rt; mail.get(mailbox, mail.len(mailbox)), None);
+    same(rt, &mail.get(mailbox, mail.len(mailbox)), &None);
 }
 
 #[test]
@@ -80,7 +77,7 @@ fn finds_the_first_match_of_each_pattern(rt: HostRuntime) -> Result<(), Fail> {
     ];
     for (want, place) in found {
         assert_eq!(rt; mail.find(1, &want), place, "{want:?}");
-        assert_eq!(rt; mail.find(0, &want), None);
+        same(&rt, &mail.find(0, &want), &None);
     }
     Ok(())
 }
@@ -91,7 +88,8 @@ fn take_value(rt: &impl Abort, mail: &mut Mailboxes, value: u64, place: Option<u
     ensures { length mail.new.boxes ≡ length mail.old.boxes }
 {
     let taken = mail.take(1, &Want::Value(value));
-    assert_eq!(rt; taken, place.map(|place| (place, plain(p30(), value))));
+    let wanted = place.map(|place| (place, plain(p30(), value)));
+    same(rt, &taken, &wanted);
 }
 
 #[test]
@@ -104,7 +102,7 @@ fn takes_from_the_middle(rt: HostRuntime) -> Result<(), Fail> {
     Ok(())
 }
 
-/// Puts a message where there is room.
+/// Puts a message for which there is room.
 fn put_reserved(mail: &mut Mailboxes, mailbox: usize, value: u64)
     requires within { mailbox < length mail.old.boxes }
     requires room { 0 < mail.old.spare }
@@ -121,7 +119,7 @@ fn room_of_one_mailbox_serves_another(rt: HostRuntime) -> Result<(), Fail> {
     put_reserved(&mut mail, 0, 4);
     put_reserved(&mut mail, 1, 5);
     let taken = mail.take(0, &Want::First);
-    assert_eq!(rt; taken.is_some(), true);
+    same(&rt, &taken.is_some(), &true);
     if taken.is_some() {
         put_reserved(&mut mail, 1, 6);
     }
@@ -162,7 +160,7 @@ fn places_of_stamps_are_the_least_until_wiped(rt: HostRuntime) -> Result<(), Fai
 /// Asserts the own count of the token of a message, if it has one.
 fn assert_this(rt: &impl Abort, message: Option<Message>, this: Option<u64>) {
     let token = message.and_then(|message| message.token);
-    assert_eq!(rt; token.map(|token| token.serial.this), this);
+    same(rt, &token.map(|token| token.serial.this), &this);
 }
 
 #[test]
@@ -188,7 +186,7 @@ fn assert_taken(rt: &impl Abort, mail: &mut Mailboxes, value: u64, this: Option<
     ensures { length mail.new.boxes ≡ length mail.old.boxes }
 {
     let taken = mail.take(0, &Want::Value(value));
-    assert_eq!(rt; taken.map(|taken| taken.1.value), Some(value));
+    same(rt, &taken.map(|taken| taken.1.value), &Some(value));
     assert_this(rt, taken.map(|taken| taken.1), this);
 }
 
@@ -204,11 +202,11 @@ fn takes_leave_what_else_was_wiped(rt: HostRuntime) -> Result<(), Fail> {
     assert_this(&rt, mail.get(0, 1), Some(8));
     assert_taken(&rt, &mut mail, 2, None);
     assert_taken(&rt, &mut mail, 3, Some(8));
-    assert_eq!(rt; mail.len(0), 0);
+    same(&rt, &mail.len(0), &0);
     Ok(())
 }
 
-/// Two empty mailboxes. Where memory is refused a second try has it.
+/// Two empty mailboxes. If memory runs out, the second try succeeds.
 fn two_at_last(alloc: Global) -> Result<Mailboxes, AllocError>
     ensures { IfOk result (λ mail. length mail.boxes ≡ 2) }
 {
@@ -218,14 +216,14 @@ fn two_at_last(alloc: Global) -> Result<Mailboxes, AllocError>
     }
 }
 
-/// Puts a message into mailbox 1, which has so many. Where memory is refused nothing has changed, and
-/// a second try has it.
+/// Puts a message into mailbox 1, which has so many. If memory runs out, nothing has changed, and the
+/// second try succeeds.
 fn put_at_last(rt: &impl Abort, mail: &mut Mailboxes, count: u64)
     requires { 1 < length mail.old.boxes }
     ensures { length mail.new.boxes ≡ length mail.old.boxes }
 {
     if mail.put(1, plain(p30(), count)).is_err() {
-        assert_eq!(rt; mail.len(1), count);
+        same(rt, &mail.len(1), &count);
         assert!(rt; mail.put(1, plain(p30(), count)).is_ok());
     }
 }
@@ -236,13 +234,14 @@ fn assert_values(rt: &impl Abort, mail: &Mailboxes, count: u64)
 {
     for place in 0..count {
         let message = mail.get(1, place);
-        assert_eq!(rt; message.map(|message| message.value), Some(place));
+        same(rt, &message.map(|message| message.value), &Some(place));
     }
-    assert_eq!(rt; (mail.len(0), mail.len(1)), (0, count));
+    same(rt, &mail.len(0), &0);
+    same(rt, &mail.len(1), &count);
 }
 
-// A room that no machine has is refused, and what a refused put leaves is seen where this test runs
-// with an allocation that fails.
+// No machine has this much room. What a put that fails leaves is seen if this test runs with an
+// allocation that fails.
 #[test]
 fn a_refused_growth_leaves_all_mailboxes(rt: HostRuntime) -> Result<(), Fail> {
     let mut mail = two_at_last(rt.alloc())?;

@@ -1,7 +1,7 @@
-//! Worked orders, each with the answer that the rules give by hand, a large one against a plain
-//! sort, and what a refused growth leaves.
+//! Worked orders, each with the result that the rules give by hand, a large one against a plain
+//! sort, and what is left if memory runs out.
 
-use crate::collected::{ONE_MESSAGE, made, p30, p31, p32, streams};
+use crate::collected::{ONE_MESSAGE, made, p30, p31, p32, same, streams};
 use crate::text::CERTIFICATE;
 use st_core::{Draft, Event, Kind, Label, Pid, Sequence, Serial, Streams};
 use st_order::{Item, by_label, order};
@@ -39,9 +39,9 @@ fn assert_certificate(
     let pairing = pair(alloc, streams).map_err(|_| AllocError)?;
     let items = order(rt, alloc, streams, &pairing)?;
     let expected = certificate_order();
-    assert_eq!(rt; items.as_slice(), expected.as_slice());
+    same(rt, &items.as_slice(), &expected.as_slice());
     let groups = by_label(rt, alloc, streams, items.as_slice())?;
-    assert_eq!(rt; groups.len(), 1);
+    same(rt, &groups.len(), &1);
     assert_group(rt, groups.as_slice().first(), 17, expected.as_slice());
     Ok(())
 }
@@ -53,7 +53,7 @@ fn hidden_sends_stand_before_their_receives(rt: HostRuntime) -> Result<(), Fail>
     Ok(())
 }
 
-/// Where a growth is refused the answer is want of memory, and the same calls answer right afterwards.
+/// If memory runs out the call says so, and the same calls succeed afterwards.
 #[test]
 fn a_refused_growth_is_answered(rt: HostRuntime) {
     let alloc = rt.alloc();
@@ -73,8 +73,8 @@ fn assert_group(
     match group {
         None => panic!(rt; "no such group"),
         Some((found, found_items)) => {
-            assert_eq!(rt; found.0, label);
-            assert_eq!(rt; found_items.as_slice(), items);
+            same(rt, &found.0, &label);
+            same(rt, &found_items.as_slice(), &items);
         }
     }
 }
@@ -85,7 +85,7 @@ fn a_send_stands_before_its_receive(rt: HostRuntime) -> Result<(), Fail> {
     let pairing = pair(rt.alloc(), &streams)?;
     let items = order(&rt, rt.alloc(), &streams, &pairing)?;
     let expected = [Item::Reported(p30(), 0), Item::Reported(p31(), 0)];
-    assert_eq!(rt; items.as_slice(), expected.as_slice());
+    same(&rt, &items.as_slice(), &expected.as_slice());
     Ok(())
 }
 
@@ -94,7 +94,7 @@ fn labels_rise(rt: HostRuntime) -> Result<(), Fail> {
     let streams = streams(rt.alloc(), FALLING_LABELS)?;
     let (first, second) = (Item::Reported(p30(), 0), Item::Reported(p30(), 1));
     let groups = by_label(&rt, rt.alloc(), &streams, &[first, second])?;
-    assert_eq!(rt; groups.len(), 2);
+    same(&rt, &groups.len(), &2);
     assert_group(&rt, groups.as_slice().first(), 17, &[second]);
     assert_group(&rt, groups.as_slice().last(), 18, &[first]);
     Ok(())
@@ -300,10 +300,10 @@ fn a_large_order_is_a_plain_sort_and_its_labels_are_plain_filters(
     let pairing = pair(alloc, &streams)?;
     let items = order(&rt, alloc, &streams, &pairing)?;
     let expected = plain_order(alloc)?;
-    assert_eq!(rt; items.len(), 11_250);
-    assert_eq!(rt; items.as_slice(), expected.as_slice());
+    same(&rt, &items.len(), &11_250);
+    same(&rt, &items.as_slice(), &expected.as_slice());
     let groups = by_label(&rt, alloc, &streams, items.as_slice())?;
-    assert_eq!(rt; groups.len(), 20);
+    same(&rt, &groups.len(), &20);
     let mut groups = groups.as_slice().iter();
     for label in 0..LABELS {
         let filtered = plain_filter(alloc, &streams, expected.as_slice(), label)?;

@@ -1,6 +1,6 @@
 //! Worked plans, each counted by hand; that each call succeeds with ample memory.
 
-use crate::collected::{p30, p31};
+use crate::collected::{p30, p31, same};
 use st_core::{Act, Flags, Label, Serial, Token};
 use st_plan::{QUIET, Start, ready};
 use std::alloc::{AllocError, Global};
@@ -43,8 +43,8 @@ const WITHOUT_TOKEN: Start = Start {
 #[test]
 fn prints_nobody_sees_bring_the_clock_below_the_count(rt: HostRuntime) -> Result<(), Fail> {
     let plan = planned(rt.alloc(), &WITHOUT_TOKEN, 1, 6)?;
-    assert_eq!(rt; prints(&plan), 3);
-    assert_eq!(rt; plan.len(), 5);
+    same(&rt, &prints(&plan), &3);
+    same(&rt, &plan.len(), &5);
     Ok(())
 }
 
@@ -56,9 +56,9 @@ fn new_trace_begins_at_a_prev_above_the_clock(rt: HostRuntime) -> Result<(), Fai
         last: 0,
     };
     let plan = planned(rt.alloc(), &start, 3, 4)?;
-    assert_eq!(rt; prints(&plan), 2);
+    same(&rt, &prints(&plan), &2);
     assert!(rt; plan.contains(&Act::Clear(p30())));
-    assert_eq!(rt; plan.len(), 6);
+    same(&rt, &plan.len(), &6);
     Ok(())
 }
 
@@ -79,8 +79,7 @@ fn nothing_is_planned_for_a_process_that_stands_ready(rt: HostRuntime) -> Result
     Ok(())
 }
 
-/// Where a growth is refused the answer is want of memory, and the same call answers right
-/// afterwards.
+/// If memory runs out the call says so, and the same call succeeds afterwards.
 #[test]
 fn a_refused_growth_is_answered(rt: HostRuntime) -> Result<(), Fail> {
     let alloc = rt.alloc();
@@ -88,7 +87,7 @@ fn a_refused_growth_is_answered(rt: HostRuntime) -> Result<(), Fail> {
         Ok(plan) => plan,
         Err(_) => planned(alloc, &WITHOUT_TOKEN, 1, 6)?,
     };
-    assert_eq!(rt; prints(plan.as_slice()), 3);
-    assert_eq!(rt; plan.len(), 5);
+    same(&rt, &prints(plan.as_slice()), &3);
+    same(&rt, &plan.len(), &5);
     Ok(())
 }

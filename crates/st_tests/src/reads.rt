@@ -1,20 +1,20 @@
-//! What a read answers where a growth was refused, and that the same read is right afterwards. That is
-//! seen where `rt try --test --fail-alloc N` refuses the N-th growth.
+//! What a read returns if memory runs out, and that the same read succeeds afterwards. That is seen if
+//! `rt try --test --fail-alloc N` fails the N-th allocation.
 
-use crate::collected::sink_at_last;
+use crate::collected::{same, sink_at_last};
 use crate::text::CERTIFICATE;
 use st_core::{MemorySink, MemorySource};
 use st_text::{Bundle, Feed, ReadFault, read, write};
 use std::alloc::Global;
 use std::process::Abort;
 
-/// The answer, which must be the certificate's bundle: it is written to the sink.
+/// Asserts that the result is the certificate's bundle: it is written to the sink.
 fn assert_certificate(rt: &impl Abort, mut sink: MemorySink, answer: Result<Bundle, ReadFault>) {
     let Ok(bundle) = answer else {
         panic!(rt; "refused again");
     };
     assert!(rt; write(&mut sink, &bundle).is_ok());
-    assert_eq!(rt; sink.written(), CERTIFICATE.as_bytes());
+    same(rt, &sink.written(), &CERTIFICATE.as_bytes());
 }
 
 fn read_whole(alloc: Global) -> Result<Bundle, ReadFault> {
@@ -32,12 +32,12 @@ fn a_refused_read_is_right_afterwards(rt: HostRuntime) {
     assert_certificate(&rt, sink, answer);
 }
 
-/// The answer to the certificate in pieces. A refused feed answers its refusal again.
+/// What comes of the certificate in pieces. A feed that failed fails in the same way again.
 fn read_in_pieces(rt: &impl Abort, alloc: Global) -> Result<Bundle, ReadFault> {
     let mut feed = Feed::new(alloc);
     for piece in CERTIFICATE.as_bytes().chunks(7) {
         if feed.piece(piece).is_err() {
-            assert_eq!(rt; feed.piece(b"\n"), Err(ReadFault::Memory));
+            same(rt, &feed.piece(b"\n"), &Err(ReadFault::Memory));
             return feed.end();
         }
     }

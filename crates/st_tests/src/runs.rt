@@ -1,10 +1,11 @@
-//! What threads did, judged from outside: the record of scripts that busy one another is compared with the
+//! What threads did, seen from outside: the record of scripts that busy one another is compared with the
 //! scripts, with the order of the ranks, with what the machine replies and reports, and with `check`.
 
 mod meetings;
 mod ranks;
 mod scripts;
 
+use crate::collected::same;
 use ranks::rise_by_rank;
 use scripts::{processes, scripts};
 use st_check::{Replayed, Verdict, check, replay};
@@ -63,8 +64,8 @@ fn assert_scripts_kept<R: Abort>(
 
 /// Asserts that both tell of the same events of these processes.
 fn assert_same_streams<R: Abort>(rt: &R, pids: &[Pid], told: &Streams, wanted: &Streams) {
-    assert_eq!(rt; told.pids(), pids);
-    assert_eq!(rt; told.total(), wanted.total());
+    same(rt, &told.pids(), &pids);
+    same(rt, &told.total(), &wanted.total());
     for pid in pids {
         assert!(rt;
             told.events(*pid) == wanted.events(*pid),
@@ -91,7 +92,7 @@ fn assert_one_run<R: Abort>(
     Ok(())
 }
 
-/// Drives busy processes, and judges what comes of it. Answers how many events they reported.
+/// Drives busy processes, asserts what comes of it, and returns how many events they reported.
 fn assert_driven<R: Threads + Wait + Sync + Abort>(
     rt: &R,
     alloc: Global,

@@ -6,7 +6,7 @@ ghost use Rattle.std.specs.Prelude.{◌≡◌, ◌<◌, length, IfOk};
 
 mod arenas;
 
-use crate::collected::{p30, p31};
+use crate::collected::{p30, p31, same};
 use st_audit::{Finding, audit, told_acts};
 use st_chain::Chains;
 use st_chart::chart;
@@ -64,8 +64,8 @@ fn a_hundred_thousand_events_fit(rt: HostRuntime) -> Result<(), Fail> {
         Finding::Unfit(..) => panic!(rt; "unfit"),
         Finding::Fits(acts, pairs) => {
             // A tracer, the first token, and an act for each event.
-            assert_eq!(rt; acts.len(), 100_002);
-            assert_eq!(rt; pairs.len(), 50_000);
+            same(&rt, &acts.len(), &100_002);
+            same(&rt, &pairs.len(), &50_000);
         }
     }
     Ok(())
@@ -75,7 +75,7 @@ fn a_hundred_thousand_events_fit(rt: HostRuntime) -> Result<(), Fail> {
 fn acts_that_tell_a_hundred_thousand_events_are_built(rt: HostRuntime) -> Result<(), Fail> {
     let streams = to_and_fro(rt.alloc())?;
     let acts = told_acts::<{ u64::MAX }, Everything>(&rt, rt.alloc(), &streams, &Everything)?;
-    assert_eq!(rt; acts.ok_or("no acts")?.len(), 100_002);
+    same(&rt, &acts.ok_or("no acts")?.len(), &100_002);
     Ok(())
 }
 
@@ -86,7 +86,7 @@ fn a_way_back_of_a_hundred_thousand_events_is_charted(rt: HostRuntime) -> Result
     let pairing = pair(alloc, &streams)?;
     let chains = Chains::new(alloc, &streams, &pairing)?;
     let back = chains.back(alloc, p30(), MESSAGES - 1)?;
-    assert_eq!(rt; back.len() as u64, MANY);
+    same(&rt, &(back.len() as u64), &MANY);
     let items = order(&rt, alloc, &streams, &pairing)?;
     let mut sink = MemorySink::new(alloc, 10_000_000, None)?;
     chart(
@@ -99,7 +99,7 @@ fn a_way_back_of_a_hundred_thousand_events_is_charted(rt: HostRuntime) -> Result
     )?;
     let lines = sink.written().iter().filter(|byte| **byte == b'\n').count();
     // The label, two lanes, and a row for each event.
-    assert_eq!(rt; lines, 100_003);
+    same(&rt, &lines, &100_003);
     Ok(())
 }
 
@@ -142,11 +142,15 @@ fn a_hundred_thousand_labels_have_their_items_and_chains(rt: HostRuntime) -> Res
     let streams = lone_prints(alloc)?;
     let pairing = pair(alloc, &streams)?;
     let items = order(&rt, alloc, &streams, &pairing)?;
-    assert_eq!(rt; items.len() as u64, MANY);
+    same(&rt, &(items.len() as u64), &MANY);
     let groups = by_label(&rt, alloc, &streams, items.as_slice())?;
-    assert_eq!(rt; groups.len() as u64, MANY);
+    same(&rt, &(groups.len() as u64), &MANY);
     let chains = Chains::new(alloc, &streams, &pairing)?;
-    assert_eq!(rt; chains.of(Pid::new(999), Label(99_999)).next(), Some(99));
+    same(
+        &rt,
+        &chains.of(Pid::new(999), Label(99_999)).next(),
+        &Some(99),
+    );
     Ok(())
 }
 
@@ -166,6 +170,6 @@ fn a_trace_that_begins_a_hundred_thousand_above_the_clock_is_planned(
     let mut plan = Vec::new(rt.alloc());
     ready(&mut plan, p30(), &start, Label(17), serial, QUIET)?;
     let prints = plan.iter().filter(|act| matches!(act, Act::Print(_, _)));
-    assert_eq!(rt; prints.count() as u64, 2 * MANY - 1);
+    same(&rt, &(prints.count() as u64), &(2 * MANY - 1));
     Ok(())
 }

@@ -6,6 +6,7 @@ mod devices;
 mod limits;
 mod texts;
 
+use crate::collected::same;
 use st_core::{Act, Draft, Event, Kind, Label, MemorySink, MemorySource, Pid, Sequence, Serial};
 use st_text::{
     Bundle, Feed, ReadFault, read, write, write_act, write_event, write_parts, write_pid,
@@ -23,7 +24,7 @@ fn refusal(rt: &impl Abort, answer: Result<Bundle, ReadFault>) -> ReadFault {
     }
 }
 
-/// The text of the bundle that was answered.
+/// The text of the bundle that was read.
 fn text_of(rt: &impl Abort, alloc: Global, answer: Result<Bundle, ReadFault>) -> MemorySink {
     match answer {
         Err(fault) => panic!(rt; "{fault:?}"),
@@ -42,7 +43,7 @@ fn sink(rt: &impl Abort, alloc: Global, room: usize) -> MemorySink {
     }
 }
 
-/// The answer to a text in pieces of n bytes.
+/// What comes of a text in pieces of n bytes.
 fn in_pieces(alloc: Global, text: &[u8], n: usize) -> Result<Bundle, ReadFault>
     requires { 0 < n }
 {
@@ -53,13 +54,13 @@ fn in_pieces(alloc: Global, text: &[u8], n: usize) -> Result<Bundle, ReadFault>
     feed.end()
 }
 
-/// Read whole, and fed in pieces, the text is refused so.
+/// Read whole and fed in pieces, the text is refused for this reason.
 fn assert_refused(rt: &impl Abort, alloc: Global, text: &[u8], fault: ReadFault) {
     let answer = read(alloc, &mut MemorySource::new(text, None));
-    assert_eq!(rt; refusal(rt, answer), fault);
+    same(rt, &refusal(rt, answer), &fault);
     for n in [1, 2, 3, 7] {
         if n > 0 {
-            assert_eq!(rt; refusal(rt, in_pieces(alloc, text, n)), fault);
+            same(rt, &refusal(rt, in_pieces(alloc, text, n)), &fault);
         }
     }
 }
@@ -80,11 +81,19 @@ fn read_texts_are_written_again(rt: HostRuntime) {
     let alloc = rt.alloc();
     for text in [PRINT_ONE, CERTIFICATE, WANT_AWAY] {
         let answer = read(alloc, &mut MemorySource::new(text.as_bytes(), None));
-        assert_eq!(rt; text_of(&rt, alloc, answer).written(), text.as_bytes());
+        same(
+            &rt,
+            &text_of(&rt, alloc, answer).written(),
+            &text.as_bytes(),
+        );
         for n in [1, 2, 3, 7] {
             if n > 0 {
                 let answer = in_pieces(alloc, text.as_bytes(), n);
-                assert_eq!(rt; text_of(&rt, alloc, answer).written(), text.as_bytes());
+                same(
+                    &rt,
+                    &text_of(&rt, alloc, answer).written(),
+                    &text.as_bytes(),
+                );
             }
         }
     }
@@ -97,9 +106,9 @@ fn certificate_cut_once_at_each_byte(rt: HostRuntime) {
     for i in 0..text.len() {
         let (front, back) = text.split_at(i);
         let mut feed = Feed::new(alloc);
-        assert_eq!(rt; feed.piece(front), Ok(()));
-        assert_eq!(rt; feed.piece(back), Ok(()));
-        assert_eq!(rt; text_of(&rt, alloc, feed.end()).written(), text);
+        same(&rt, &feed.piece(front), &Ok(()));
+        same(&rt, &feed.piece(back), &Ok(()));
+        same(&rt, &text_of(&rt, alloc, feed.end()).written(), &text);
     }
 }
 
@@ -119,7 +128,7 @@ fn values_are_written(rt: HostRuntime) {
     assert!(rt; write_act(&mut sink, &Act::PrintAt(Pid::new(30), Label(1), 7)).is_ok());
     let text =
         "<65535.0.0>{seq_trace,17,{'receive',{2,4},<0.31.0>,<1.30.0>,18446744073709551615}}printat <0.30.0> 1 7";
-    assert_eq!(rt; sink.written(), text.as_bytes());
+    same(&rt, &sink.written(), &text.as_bytes());
 }
 
 #[test]
@@ -136,7 +145,7 @@ fn parts_are_written(rt: HostRuntime) -> Result<(), Fail> {
         }
     }
     let text = "seqtrace 1\nprocess <0.30.0>\nacts\nlook <0.30.0>\n";
-    assert_eq!(rt; sink.written(), text.as_bytes());
+    same(&rt, &sink.written(), &text.as_bytes());
     Ok(())
 }
 
@@ -153,9 +162,9 @@ fn bundle_of_an_unlisted_actor_comes_back(rt: HostRuntime) -> Result<(), Fail> {
         Ok(streams) => match Bundle::new(streams, Some(acts)) {
             Ok(_) => panic!(rt; "a bundle"),
             Err(unknown) => {
-                assert_eq!(rt; unknown.n, 1);
-                assert_eq!(rt; unknown.streams.pids().len(), 1);
-                assert_eq!(rt; unknown.acts.map_or(0, |acts| acts.len()), 2);
+                same(&rt, &unknown.n, &1);
+                same(&rt, &unknown.streams.pids().len(), &1);
+                same(&rt, &unknown.acts.map_or(0, |acts| acts.len()), &2);
             }
         },
     }

@@ -4,7 +4,7 @@
 mod random;
 mod slow;
 
-use crate::collected::{p30, p31, p32};
+use crate::collected::{p30, p31, p32, same};
 use st_core::{Act, Component, Event, Flags, Kind, Label, Pid, Reply, Serial, Token, Want};
 use st_world::{NewFault, Outcome, StepFault, World};
 use std::alloc::Global;
@@ -24,7 +24,7 @@ fn done() -> Result<Outcome, StepFault> {
     only(Reply::Done)
 }
 
-/// What a receive that isn't reported answers.
+/// The outcome of a receive that isn't reported.
 fn mail(from: Pid, value: u64, place: u64) -> Result<Outcome, StepFault> {
     Ok(Outcome {
         reply: Reply::Mail(from, value),
@@ -64,9 +64,9 @@ fn assert_counts<const TOP: u64>(
 
 /// Asserts that nothing is known of a process.
 fn assert_unknown<const TOP: u64>(rt: &impl Abort, world: &World<TOP>, pid: Pid) {
-    assert_eq!(rt; world.token(pid), None);
-    assert_eq!(rt; (world.clock(pid), world.last(pid)), (None, None));
-    assert_eq!(rt; world.place_of(pid, p30(), 1), None);
+    same(rt, &world.token(pid), &None);
+    same(rt, &(world.clock(pid), world.last(pid)), &(None, None));
+    same(rt, &world.place_of(pid, p30(), 1), &None);
 }
 
 #[test]
@@ -102,8 +102,8 @@ fn traced_send(from: Pid, to: Pid) -> [Act; 4] {
 
 /// Asserts where a message of that send lies in the queue of the receiver, and what its token is.
 fn assert_queued<const TOP: u64>(rt: &impl Abort, world: &World<TOP>, place: Option<u64>) {
-    assert_eq!(rt; world.place_of(p31(), p30(), 1), place);
-    assert_eq!(rt; world.token(p31()), None);
+    same(rt, &world.place_of(p31(), p30(), 1), &place);
+    same(rt, &world.token(p31()), &None);
 }
 
 #[test]
@@ -138,7 +138,7 @@ fn reset_leaves_the_other_node(rt: HostRuntime) -> Result<(), Fail> {
     Ok(())
 }
 
-/// What a receive of such a traced 5 answers, where its token was stamped first.
+/// The outcome of a receive of such a traced 5 whose token was stamped first.
 fn received(from: Pid, to: Pid) -> Result<Outcome, StepFault> {
     Ok(Outcome {
         reply: Reply::Mail(from, 5),
@@ -222,7 +222,7 @@ fn low_serial_receive(rt: HostRuntime) -> Result<(), Fail> {
     Ok(())
 }
 
-/// What a reported send of 9 answers, where it follows own count 3 and is number 6.
+/// The outcome of a reported send of 9 that follows own count 3 and is number 6.
 fn sent(from: Pid, to: Pid) -> Result<Outcome, StepFault> {
     Ok(Outcome {
         reply: Reply::Done,
@@ -240,14 +240,15 @@ fn sent(from: Pid, to: Pid) -> Result<Outcome, StepFault> {
 
 /// 30 sends a value.
 fn send(rt: &impl Abort, world: &mut World<9>, to: Pid, value: u64) {
-    assert_eq!(rt; world.step(&Act::Send(p30(), to, value)), done());
+    same(rt, &world.step(&Act::Send(p30(), to, value)), &done());
 }
 
 /// A process takes this value of 30 from this place.
 fn take(rt: &impl Abort, world: &mut World<9>, me: Pid, want: Want, value: u64, place: u64) {
-    assert_eq!(rt;
-        world.step(&Act::Receive(me, want)),
-        mail(p30(), value, place)
+    same(
+        rt,
+        &world.step(&Act::Receive(me, want)),
+        &mail(p30(), value, place),
     );
 }
 
@@ -291,14 +292,14 @@ fn long_queues(rt: HostRuntime) -> Result<(), Fail> {
     Ok(())
 }
 
-/// Two processes, the first with a token. Where memory is refused the answer says so, and a second try
-/// has it.
+/// Two processes, the first with a token. If memory runs out the result says so, and the second try
+/// succeeds.
 fn two_at_last(rt: &impl Abort, alloc: Global) -> Result<World<9>, Fail> {
     let pids = [p30(), p31()];
     let mut world = match World::new(alloc, &pids) {
         Ok(world) => world,
         Err(fault) => {
-            assert_eq!(rt; fault, NewFault::Memory);
+            same(rt, &fault, &NewFault::Memory);
             World::new(alloc, &pids)?
         }
     };
@@ -310,20 +311,24 @@ fn two_at_last(rt: &impl Abort, alloc: Global) -> Result<World<9>, Fail> {
     Ok(world)
 }
 
-/// A send by which the clock of 30 grows from `clock`. Where memory is refused nothing has changed,
-/// and a second try has it.
+/// A send by which the clock of 30 grows from `clock`. If memory runs out nothing has changed, and the
+/// second try succeeds.
 fn send_at_last(rt: &impl Abort, world: &mut World<9>, clock: u64) {
     let act = Act::Send(p30(), p31(), 7);
     let mut told = world.step(&act);
     if told == Err(StepFault::Memory) {
         assert_counts(rt, world, p30(), clock, 0);
-        assert_eq!(rt; world.place_of(p31(), p30(), clock.wrapping_add(1)), None);
+        same(
+            rt,
+            &world.place_of(p31(), p30(), clock.wrapping_add(1)),
+            &None,
+        );
         told = world.step(&act);
     }
-    assert_eq!(rt; told, done());
+    same(rt, &told, &done());
 }
 
-// What a refused growth leaves is seen where this test runs with an allocation that fails.
+// What is left if memory runs out is seen if this test runs with an allocation that fails.
 #[test]
 fn a_refused_growth_leaves_the_world(rt: HostRuntime) -> Result<(), Fail> {
     let mut world = two_at_last(&rt, rt.alloc())?;

@@ -1,8 +1,7 @@
 //! Streams that fit, each with its acts.
 
-use super::{assert_fits, certificate_acts, found, restored};
+use super::{assert_fits, found, restored};
 use crate::collected::{p30, p31};
-use crate::text::CERTIFICATE;
 use st_core::{Act, Component, Label, Pid, Want};
 use std::test::Fail;
 
@@ -30,15 +29,6 @@ const ONE_RECEIVED: &str = "seqtrace 1\n\
 const HIGH_PREV: &str = "seqtrace 1\n\
     process <0.30.0>\n\
     {seq_trace,17,{print,{2,3},<0.30.0>,[],5}}\n";
-
-#[test]
-fn hidden_sends_fit(rt: HostRuntime) -> Result<(), Fail> {
-    let alloc = rt.alloc();
-    let finding = found(&rt, alloc, CERTIFICATE)?;
-    let acts = certificate_acts(alloc).ok_or("no acts")?;
-    assert_fits(&rt, &finding, acts.as_slice(), &[(5, 4), (10, 9)]);
-    Ok(())
-}
 
 #[test]
 fn nothing_fits_by_no_acts(rt: HostRuntime) -> Result<(), Fail> {

@@ -3,7 +3,7 @@
 ghost use Rattle.std.specs.Prelude.{◌==◌};
 
 use super::{MOST, restored};
-use crate::collected::{p30, p31, streams};
+use crate::collected::{p30, p31, same, streams};
 use st_audit::told_acts;
 use st_check::{Verdict, check};
 use st_core::{Act, Pid, Want};
@@ -54,7 +54,7 @@ fn sends_that_nobody_told_of_cross(rt: HostRuntime) -> Result<(), Fail> {
         Act::Receive(p30(), Want::Place(0)),
         Act::Receive(p31(), Want::Place(0)),
     ];
-    assert_eq!(rt; acts.as_slice(), wanted.as_slice());
+    same(&rt, &acts.as_slice(), &wanted.as_slice());
     let verdict = check::<MOST>(alloc, &told, acts.as_slice())?;
     assert!(rt; matches!(verdict, Verdict::Yes(_)));
     Ok(())

@@ -1,12 +1,12 @@
-//! Refused growths, and sinks that fail at each place.
+//! Memory that runs out, and sinks that fail at each place.
 
 use super::{HIDDEN_CHART, HIDDEN_SENDS, drawn, hidden_items};
-use crate::collected::{made, sink_at_last, streams};
+use crate::collected::{made, same, sink_at_last, streams};
 use st_chart::ChartFault;
 use st_core::MemorySink;
 use std::test::Fail;
 
-/// Where a growth is refused nothing is written, and the same call writes the chart afterwards.
+/// If memory runs out nothing is written, and the same call writes the chart afterwards.
 #[test]
 fn a_refused_growth_writes_nothing(rt: HostRuntime) {
     let alloc = rt.alloc();
@@ -14,12 +14,12 @@ fn a_refused_growth_writes_nothing(rt: HostRuntime) {
     let mut sink = sink_at_last(&rt, alloc, 1000);
     let items = hidden_items();
     if let Err(fault) = drawn(alloc, &mut sink, &streams, &items, 17) {
-        assert_eq!(rt; fault, ChartFault::Memory);
+        same(&rt, &fault, &ChartFault::Memory);
         assert!(rt; sink.written().is_empty());
         let again = drawn(alloc, &mut sink, &streams, &items, 17);
-        assert_eq!(rt; again, Ok(()));
+        same(&rt, &again, &Ok(()));
     }
-    assert_eq!(rt; sink.written(), HIDDEN_CHART);
+    same(&rt, &sink.written(), &HIDDEN_CHART);
 }
 
 /// At whichever byte the sink fails, what it has is a prefix of the chart.
@@ -31,8 +31,8 @@ fn a_failing_sink_has_a_prefix(rt: HostRuntime) -> Result<(), Fail> {
     for fuse in 0..HIDDEN_CHART.len() {
         let mut sink = MemorySink::new(alloc, 1000, Some(fuse as u64))?;
         let answer = drawn(alloc, &mut sink, &streams, &items, 17);
-        assert_eq!(rt; answer, Err(ChartFault::Device));
-        assert_eq!(rt; sink.written(), &HIDDEN_CHART[..fuse]);
+        same(&rt, &answer, &Err(ChartFault::Device));
+        same(&rt, &sink.written(), &&HIDDEN_CHART[..fuse]);
     }
     Ok(())
 }

@@ -1,7 +1,7 @@
 //! Worked reports.
 
 use super::HIDDEN_SENDS;
-use crate::collected::{p30, p31, streams};
+use crate::collected::{p30, p31, same, streams};
 use st_audit::{Finding, Reason};
 use st_chart::report;
 use st_check::Verdict;
@@ -32,7 +32,7 @@ const OWN_COUNT: &str = "seqtrace 1\n\
     process <0.31.0>\n\
     process <0.32.0>\n";
 
-/// The report is these bytes, and where the sink fails on the way a prefix of them.
+/// The report is these bytes, and if the sink fails on the way a prefix of them.
 fn assert_report(
     rt: &impl Abort,
     alloc: Global,
@@ -42,11 +42,11 @@ fn assert_report(
 ) -> Result<(), Fail> {
     let mut sink = MemorySink::new(alloc, 1000, None)?;
     report(&mut sink, streams, finding)?;
-    assert_eq!(rt; sink.written(), wanted);
+    same(rt, &sink.written(), &wanted);
     for fuse in 0..wanted.len() {
         let mut sink = MemorySink::new(alloc, 1000, Some(fuse as u64))?;
         assert!(rt; report(&mut sink, streams, finding).is_err());
-        assert_eq!(rt; sink.written(), &wanted[..fuse]);
+        same(rt, &sink.written(), &&wanted[..fuse]);
     }
     Ok(())
 }

@@ -1,7 +1,7 @@
 //! Worked charts.
 
 use super::{HIDDEN_CHART, HIDDEN_SENDS, drawn, hidden_items};
-use crate::collected::{ONE_MESSAGE, p30, p31, p32, streams};
+use crate::collected::{p30, p32, same, streams};
 use st_chart::ChartFault;
 use st_core::MemorySink;
 use st_order::Item;
@@ -30,7 +30,7 @@ fn assert_drawn(
     let streams = streams(alloc, text)?;
     let mut sink = MemorySink::new(alloc, 1000, None)?;
     drawn(alloc, &mut sink, &streams, items, 17)?;
-    assert_eq!(rt; sink.written(), wanted);
+    same(rt, &sink.written(), &wanted);
     Ok(())
 }
 
@@ -46,21 +46,9 @@ fn a_label_that_no_item_has_writes_nothing(rt: HostRuntime) -> Result<(), Fail> 
     let streams = streams(alloc, HIDDEN_SENDS)?;
     let mut sink = MemorySink::new(alloc, 1000, None)?;
     let answer = drawn(alloc, &mut sink, &streams, &hidden_items(), 18);
-    assert_eq!(rt; answer, Err(ChartFault::NoLabel));
+    same(&rt, &answer, &Err(ChartFault::NoLabel));
     assert!(rt; sink.written().is_empty());
     Ok(())
-}
-
-#[test]
-fn a_reported_send_is_drawn(rt: HostRuntime) -> Result<(), Fail> {
-    let items = [Item::Reported(p30(), 0), Item::Reported(p31(), 0)];
-    let wanted = b"label 17
-lane 1 <0.30.0>
-lane 2 <0.31.0>
-   S   .  send     {0,1} 5 start
-   .   R  receive  {0,1} 5 after <0.30.0> 0
-";
-    assert_drawn(&rt, rt.alloc(), ONE_MESSAGE, &items, wanted)
 }
 
 /// A message to itself has one end, and a lane is there for each process that has one: 31 has none.

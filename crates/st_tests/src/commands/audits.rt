@@ -1,8 +1,8 @@
-//! Streams that are audited: `audit` answers a certificate, or an event and a reason.
+//! Streams that are audited: `audit` writes a certificate, or an event and a reason.
 
 use super::Case;
 
-pub static CASES: [Case; 20] = [
+pub static CASES: [Case; 17] = [
     Case {
         name: "audit_hidden_sends",
         input: "seqtrace 1\n\
@@ -100,26 +100,6 @@ pub static CASES: [Case; 20] = [
             print <0.30.0> 0\n\
             restore <0.30.0> 1 false true false 0 0 <0.30.0>\n\
             send <0.30.0> <0.31.0> 5\n",
-        status: 1,
-    },
-    Case {
-        name: "audit_not_rising",
-        input: "seqtrace 1\n\
-            process <0.30.0>\n\
-            {seq_trace,17,{print,{0,1},<0.30.0>,[],7}}\n\
-            {seq_trace,17,{print,{0,1},<0.30.0>,[],7}}\n\
-            acts\n\
-            tracer <0.30.0> true\n\
-            set <0.30.0> label 17\n\
-            set <0.30.0> print true\n\
-            print <0.30.0> 7\n\
-            reset <0.30.0>\n\
-            set <0.30.0> label 17\n\
-            set <0.30.0> print true\n\
-            print <0.30.0> 7\n",
-        text: "unfit <0.30.0> 1 notrising <0.30.0> 0\n\
-            event <0.30.0> 1 {seq_trace,17,{print,{0,1},<0.30.0>,[],7}}\n\
-            event <0.30.0> 0 {seq_trace,17,{print,{0,1},<0.30.0>,[],7}}\n",
         status: 1,
     },
     Case {
@@ -225,17 +205,6 @@ pub static CASES: [Case; 20] = [
         status: 2,
     },
     Case {
-        name: "audit_two_uncaused",
-        input: "seqtrace 1\n\
-            process <0.30.0>\n\
-            {seq_trace,1,{'receive',{0,1},<0.31.0>,<0.30.0>,4}}\n\
-            process <0.31.0>\n\
-            {seq_trace,1,{'receive',{0,2},<0.30.0>,<0.31.0>,5}}\n",
-        text: "unfit <0.31.0> 0 uncaused\n\
-            event <0.31.0> 0 {seq_trace,1,{'receive',{0,2},<0.30.0>,<0.31.0>,5}}\n",
-        status: 1,
-    },
-    Case {
         name: "audit_uncaused",
         input: "seqtrace 1\n\
             process <0.30.0>\n\
@@ -267,30 +236,6 @@ pub static CASES: [Case; 20] = [
             send <1.30.0> <2.31.0> 5\n\
             receive <2.31.0> place 0\n",
         status: 0,
-    },
-    Case {
-        name: "node_reset_audited",
-        input: "seqtrace 2\n\
-            process <1.30.0>\n\
-            process <2.31.0>\n\
-            {seq_trace,17,{'receive',{0,1},<1.30.0>,<2.31.0>,5}}\n\
-            {seq_trace,17,{'receive',{0,1},<1.30.0>,<2.31.0>,5}}\n\
-            acts\n\
-            tracer <1.30.0> true\n\
-            tracer <2.31.0> true\n\
-            set <1.30.0> label 17\n\
-            set <1.30.0> receive true\n\
-            send <1.30.0> <2.31.0> 5\n\
-            reset <1.30.0>\n\
-            set <1.30.0> label 17\n\
-            set <1.30.0> receive true\n\
-            send <1.30.0> <2.31.0> 5\n\
-            receive <2.31.0> first\n\
-            receive <2.31.0> first\n",
-        text: "unfit <2.31.0> 1 repeated <2.31.0> 0\n\
-            event <2.31.0> 1 {seq_trace,17,{'receive',{0,1},<1.30.0>,<2.31.0>,5}}\n\
-            event <2.31.0> 0 {seq_trace,17,{'receive',{0,1},<1.30.0>,<2.31.0>,5}}\n",
-        status: 1,
     },
     Case {
         name: "tampered_serial_audited",

@@ -1,4 +1,4 @@
-//! Certificates that are runs: `check` answers yes and the pairs.
+//! Certificates that are runs: `check` says yes and the pairs.
 
 use super::Case;
 

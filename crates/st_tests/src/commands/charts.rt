@@ -1,4 +1,4 @@
-//! Charts of label 17: `chart` answers a picture, or why the streams are not paired.
+//! Charts of label 17: `chart` draws a picture, or says why the streams aren't paired.
 
 use super::Case;
 

@@ -1,6 +1,7 @@
 //! Devices that fail on the way, and readers and writers of std's that pass little at a time, err
 //! once and work again.
 
+use crate::collected::same;
 use st_commands::run;
 use st_core::{EndlessSource, MemorySink, MemorySource, ReadFrom, WriteTo};
 use std::io;
@@ -89,7 +90,7 @@ fn a_reader_that_never_ends_is_too_large(rt: HostRuntime) -> Result<(), Fail> {
         let mut writer = MemorySink::new(rt.alloc(), 1000, None)?;
         let status = run(&rt, words, &mut EndlessSource::new(), &mut writer);
         assert!(rt; writer.written() == b"fault too large\n".as_slice());
-        assert_eq!(rt; status, 2);
+        same(&rt, &status, &2);
     }
     Ok(())
 }
@@ -101,7 +102,7 @@ fn a_reader_that_errs_is_told(rt: HostRuntime) -> Result<(), Fail> {
         let mut writer = MemorySink::new(rt.alloc(), 1000, None)?;
         let status = run(&rt, words, &mut reader, &mut writer);
         assert!(rt; writer.written() == b"fault device\n".as_slice());
-        assert_eq!(rt; status, 4);
+        same(&rt, &status, &4);
     }
     // The tenth call gives the last bytes, and the eleventh finds the end.
     for (before, text, answer) in [
@@ -123,7 +124,7 @@ fn a_reader_that_errs_is_told(rt: HostRuntime) -> Result<(), Fail> {
             let mut writer = MemorySink::new(rt.alloc(), 1000, None)?;
             let status = run(&rt, &["seqaudit", "check"], &mut reader, &mut writer);
             assert!(rt; writer.written() == text);
-            assert_eq!(rt; status, answer);
+            same(&rt, &status, &answer);
         }
     }
     Ok(())
@@ -136,7 +137,7 @@ fn a_writer_that_errs_keeps_what_it_took(rt: HostRuntime) -> Result<(), Fail> {
         let mut writer = MemorySink::new(rt.alloc(), room, fuse)?;
         let status = run(&rt, &["seqaudit", "check"], &mut reader, &mut writer);
         assert!(rt; writer.written() == b"ye".as_slice());
-        assert_eq!(rt; status, 4);
+        same(&rt, &status, &4);
     }
     // The replay writes its input again, in ten calls.
     for (most, before, count, answer) in [
@@ -158,7 +159,7 @@ fn a_writer_that_errs_keeps_what_it_took(rt: HostRuntime) -> Result<(), Fail> {
         let mut writer = WriteTo::new(&mut taker);
         let status = run(&rt, &["seqaudit", "replay"], &mut reader, &mut writer);
         assert!(rt; Some(taker.taken.as_slice()) == PRINT_ONE.as_bytes().get(..count));
-        assert_eq!(rt; status, answer);
+        same(&rt, &status, &answer);
     }
     Ok(())
 }
@@ -170,6 +171,6 @@ fn a_record_is_cut_where_the_writer_fails(rt: HostRuntime) -> Result<(), Fail> {
     let mut writer = MemorySink::new(rt.alloc(), 1000, Some(50))?;
     let status = run(&rt, &["seqaudit", "drive"], &mut reader, &mut writer);
     assert!(rt; Some(writer.written()) == PRINT_ONE.as_bytes().get(..50));
-    assert_eq!(rt; status, 4);
+    same(&rt, &status, &4);
     Ok(())
 }

@@ -1,6 +1,7 @@
-//! Acts that are driven: `drive` answers the bundle of the one run that the threads made.
+//! Acts that are driven: `drive` writes the bundle of the one run that the threads made.
 
 use super::Case;
+use crate::collected::same;
 use st_commands::run;
 use st_core::{MemorySink, MemorySource};
 use std::test::Fail;
@@ -79,10 +80,10 @@ fn what_was_driven_is_one_run(rt: HostRuntime) -> Result<(), Fail> {
     let mut reader = MemorySource::new(MEETING.as_bytes(), None);
     let mut record = MemorySink::new(rt.alloc(), 1000, None)?;
     let driven = run(&rt, &["seqaudit", "drive"], &mut reader, &mut record);
-    assert_eq!(rt; driven, 0);
+    same(&rt, &driven, &0);
     let mut again = MemorySource::new(record.written(), None);
     let mut verdict = MemorySink::new(rt.alloc(), 1000, None)?;
     let checked = run(&rt, &["seqaudit", "check"], &mut again, &mut verdict);
-    assert_eq!(rt; checked, 0);
+    same(&rt, &checked, &0);
     Ok(())
 }

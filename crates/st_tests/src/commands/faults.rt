@@ -1,4 +1,4 @@
-//! Inputs that are no text of a bundle: `check` answers the fault.
+//! Inputs that are no text of a bundle: `check` says the fault.
 
 use super::Case;
 

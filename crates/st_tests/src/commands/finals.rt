@@ -1,10 +1,10 @@
-//! What bounds the auditor's refusals: streams that acts show, and what `audit` answers of them. The
+//! What bounds the auditor's refusals: streams that acts show, and what `audit` says of them. The
 //! first two need a reset, the third receives that nobody reported in their order; the last reported
 //! everything.
 
 use super::{Case, certificates, nodes};
 
-/// The cases of `check` with these names, and what `audit` answers of their streams.
+/// The cases of `check` with these names, and what `audit` says of their streams.
 pub static AUDITED: [Case; 4] = [
     Case {
         name: "reset_repeats_serial",

@@ -24,7 +24,7 @@ static CERTIFICATE: &str = "seqtrace 1\n\
     send <0.31.0> <0.30.0> 6\n\
     receive <0.30.0> place 0\n";
 
-/// What `check` answers of the certificate's first bytes, by the lines that they end.
+/// What `check` says of the certificate's first bytes, by the lines that they end.
 fn cut_short(head: &[u8]) -> (&'static str, u8) {
     let lines = head.iter().filter(|b| **b == b'\n').count();
     match (head.last(), lines) {

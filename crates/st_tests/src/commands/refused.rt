@@ -1,4 +1,4 @@
-//! Certificates that are no runs: `check` answers no, and the place.
+//! Certificates that are no runs: `check` says no, and the place.
 
 use super::Case;
 

@@ -1,4 +1,4 @@
-//! Acts that are replayed: `replay` answers the bundle of what they report.
+//! Acts that are replayed: `replay` writes the bundle of what they report.
 
 use super::Case;
 

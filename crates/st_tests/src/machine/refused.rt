@@ -1,5 +1,5 @@
-//! What comes back where a growth was refused, and that the next one may succeed. Each test shows
-//! something only where an allocation fails: `rt try --test --fail-alloc N` fails the N-th of each.
+//! What comes back if memory runs out, and that the next try may succeed. A test shows something only if
+//! an allocation fails: `rt try --test --fail-alloc N` fails the N-th of each.
 
 use super::{MANY, event};
 use crate::collected::sink_at_last;

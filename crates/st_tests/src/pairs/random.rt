@@ -1,5 +1,6 @@
 //! Random streams against a slow plain reading of the rules: each rule over all pairs of places.
 
+use crate::collected::same;
 use st_core::{Draft, Event, Kind, Label, Pid, Serial, Streams};
 use st_pair::{PairFault, Pairing, Source, pair};
 use std::alloc::{AllocError, Global};
@@ -264,12 +265,12 @@ fn receiver(places: &[Place], x: &Place) -> Option<(Pid, u64)> {
 
 fn assert_paired(rt: &impl Abort, pairing: &Pairing, places: &[Place]) {
     for x in places {
-        assert_eq!(rt; pairing.source(x.pid, x.index), source(places, x));
-        assert_eq!(rt; pairing.receiver(x.pid, x.index), receiver(places, x));
+        same(rt, &pairing.source(x.pid, x.index), &source(places, x));
+        same(rt, &pairing.receiver(x.pid, x.index), &receiver(places, x));
     }
 }
 
-/// Which of the answers were met, Memory left out.
+/// Which of the results were met, Memory left out.
 #[derive(Clone, Copy, Default)]
 struct Met {
     paired: bool,
@@ -308,9 +309,9 @@ fn random_streams_are_paired_by_the_rules(rt: HostRuntime) -> Result<(), Fail> {
         let wanted = refusal(&places);
         met.note(wanted);
         match pair(alloc, &streams) {
-            Err(fault) => assert_eq!(rt; Some(fault), wanted),
+            Err(fault) => same(&rt, &Some(fault), &wanted),
             Ok(pairing) => {
-                assert_eq!(rt; wanted, None);
+                same(&rt, &wanted, &None);
                 assert_paired(&rt, &pairing, &places);
             }
         }

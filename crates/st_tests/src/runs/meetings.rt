@@ -2,7 +2,7 @@
 //! it has left, or lacks one at a gate that it has entered.
 
 use super::MOST;
-use crate::collected::{p30, p31};
+use crate::collected::{p30, p31, same};
 use st_check::{Verdict, check};
 use st_core::{Act, Pid, Sequence};
 use st_runtime::{ActFault, DriveFault, Gate, Record, Seat, System, drive};
@@ -97,8 +97,8 @@ fn two_met<R: Threads + Wait + Sync + Abort + Clock>(
 #[test]
 fn two_senders_at_once(rt: HostRuntime) -> Result<(), Fail> {
     let (met, record) = two_met(&rt, rt.alloc())?;
-    assert_eq!(rt; met, 2);
-    assert_eq!(rt; record.acts.len(), 2);
+    same(&rt, &met, &2);
+    same(&rt, &record.acts.len(), &2);
     let verdict = check::<MOST>(rt.alloc(), &record.streams, record.acts.as_slice())?;
     assert!(rt; matches!(verdict, Verdict::Yes(_)));
     Ok(())

@@ -3,7 +3,7 @@
 ghost use Rattle.std.specs.Prelude.{◌≡◌, ◌<◌, length};
 
 use super::MANY;
-use crate::collected::{p30, p31};
+use crate::collected::{p30, p31, same};
 use st_arena::Lists;
 use st_core::{
     Act, ByteSink, Component, Draft, Label, MemorySink, Message, Pid, Recorder, Serial, Token,
@@ -33,8 +33,8 @@ fn a_hundred_thousand_lists_take_as_many_items(rt: HostRuntime) -> Result<(), Fa
     let mut lists = Lists::new(rt.alloc(), LENGTH)?;
     lists.reserve(LENGTH)?;
     push_many(&mut lists)?;
-    assert_eq!(rt; (lists.len(0), lists.len(99_999)), (0, MANY));
-    assert_eq!(rt; lists.get(99_999, MANY - 1).copied(), Some(MANY - 1));
+    same(&rt, &(lists.len(0), lists.len(99_999)), &(0, MANY));
+    same(&rt, &lists.get(99_999, MANY - 1).copied(), &Some(MANY - 1));
     Ok(())
 }
 
@@ -65,8 +65,12 @@ fn a_hundred_thousand_mailboxes_take_as_many_messages(rt: HostRuntime) -> Result
     let mut mail = Mailboxes::new(rt.alloc(), LENGTH)?;
     mail.reserve(LENGTH)?;
     put_many(&mut mail)?;
-    assert_eq!(rt; (mail.len(0), mail.len(99_999)), (0, MANY));
-    assert_eq!(rt; mail.place_of(99_999, p30(), MANY - 1), Some(MANY - 1));
+    same(&rt, &(mail.len(0), mail.len(99_999)), &(0, MANY));
+    same(
+        &rt,
+        &mail.place_of(99_999, p30(), MANY - 1),
+        &Some(MANY - 1),
+    );
     Ok(())
 }
 
@@ -98,9 +102,9 @@ fn a_world_of_a_hundred_thousand_processes_makes_as_many_acts(rt: HostRuntime) -
     let pids = many_pids(rt.alloc())?;
     let mut world = World::new(rt.alloc(), pids.as_slice())?;
     send_many(&rt, &mut world);
-    assert_eq!(rt; world.clock(p30()), Some(MANY));
-    assert_eq!(rt; world.place_of(p31(), p30(), MANY), Some(MANY - 1));
-    assert_eq!(rt; world.clock(Pid::on(1, 49_999)), Some(0));
+    same(&rt, &world.clock(p30()), &Some(MANY));
+    same(&rt, &world.place_of(p31(), p30(), MANY), &Some(MANY - 1));
+    same(&rt, &world.clock(Pid::on(1, 49_999)), &Some(0));
     Ok(())
 }
 
@@ -112,8 +116,8 @@ fn a_draft_of_a_hundred_thousand_processes_closes(rt: HostRuntime) -> Result<(),
         draft.open(pid)?;
     }
     let streams = draft.close()?;
-    assert_eq!(rt; streams.pids().len(), LENGTH);
-    assert_eq!(rt; streams.place_of(Pid::on(1, 49_999)), Some(99_999));
+    same(&rt, &streams.pids().len(), &LENGTH);
+    same(&rt, &streams.place_of(Pid::on(1, 49_999)), &Some(99_999));
     Ok(())
 }
 
@@ -123,6 +127,6 @@ fn a_recorder_keeps_a_hundred_thousand_bytes(rt: HostRuntime) -> Result<(), Fail
     let sink = MemorySink::new(rt.alloc(), LENGTH, None)?;
     let mut recorder = Recorder::new(rt.alloc(), sink);
     assert!(rt; recorder.put(text.as_slice()) == Ok(LENGTH));
-    assert_eq!(rt; recorder.passed(), text.as_slice());
+    same(&rt, &recorder.passed(), &text.as_slice());
     Ok(())
 }

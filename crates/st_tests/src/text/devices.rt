@@ -2,6 +2,7 @@
 
 use super::texts::PRINT_ONE;
 use super::{refusal, sink, text_of};
+use crate::collected::same;
 use st_core::{MemorySource, ReadFrom, WriteTo};
 use st_text::{Bundle, ReadFault, read, write};
 use std::alloc::Global;
@@ -68,12 +69,12 @@ fn bundle(rt: &impl Abort, alloc: Global) -> Bundle {
 fn failing_sources_are_a_device_fault(rt: HostRuntime) {
     let text = PRINT_ONE.as_bytes();
     let answer = read(rt.alloc(), &mut MemorySource::new(text, Some(20)));
-    assert_eq!(rt; refusal(&rt, answer), ReadFault::Device);
+    same(&rt, &refusal(&rt, answer), &ReadFault::Device);
     // The reader would go on, and bytes of a line wait.
     for errs_at in [1, 2, 30] {
         let mut source = ReadFrom::new(Unsteady::new(text, errs_at));
         let answer = read(rt.alloc(), &mut source);
-        assert_eq!(rt; refusal(&rt, answer), ReadFault::Device);
+        same(&rt, &refusal(&rt, answer), &ReadFault::Device);
     }
 }
 
@@ -81,7 +82,7 @@ fn failing_sources_are_a_device_fault(rt: HostRuntime) {
 fn short_pieces_are_read_whole(rt: HostRuntime) {
     let text = PRINT_ONE.as_bytes();
     let answer = read(rt.alloc(), &mut ReadFrom::new(Unsteady::new(text, 0)));
-    assert_eq!(rt; text_of(&rt, rt.alloc(), answer).written(), text);
+    same(&rt, &text_of(&rt, rt.alloc(), answer).written(), &text);
 }
 
 #[test]
@@ -89,10 +90,10 @@ fn failing_sinks_have_a_prefix(rt: HostRuntime) {
     let bundle = bundle(&rt, rt.alloc());
     let mut sink = sink(&rt, rt.alloc(), 9);
     assert!(rt; write(&mut sink, &bundle).is_err());
-    assert_eq!(rt; sink.written(), b"seqtrace ".as_slice());
+    same(&rt, &sink.written(), &b"seqtrace ".as_slice());
     let mut writer = Unsteady::new(b"", 3);
     assert!(rt; write(&mut WriteTo::new(&mut writer), &bundle).is_err());
-    assert_eq!(rt; writer.calls, 3);
+    same(&rt, &writer.calls, &3);
 }
 
 #[test]
@@ -101,5 +102,5 @@ fn short_writes_are_gone_on_with(rt: HostRuntime) {
     let mut writer = Unsteady::new(b"", 0);
     assert!(rt; write(&mut WriteTo::new(&mut writer), &bundle).is_ok());
     // 160 bytes by threes.
-    assert_eq!(rt; writer.calls, 54);
+    same(&rt, &writer.calls, &54);
 }

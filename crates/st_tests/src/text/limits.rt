@@ -1,18 +1,19 @@
 //! The reader's limits, on generated texts.
 
 use super::refusal;
+use crate::collected::same;
 use st_core::MemorySource;
 use st_text::{Feed, ReadFault, read};
 use std::alloc::{AllocError, Global};
 use std::process::Abort;
 use std::test::Fail;
 
-/// The refusal of a head and then a line so many times, fed line by line.
+/// The fault of a head and then a line so many times, fed line by line.
 fn repeated(rt: &impl Abort, alloc: Global, head: &str, line: &str, times: u64) -> ReadFault {
     let mut feed = Feed::new(alloc);
-    assert_eq!(rt; feed.piece(head.as_bytes()), Ok(()));
+    same(rt, &feed.piece(head.as_bytes()), &Ok(()));
     for _ in 0..times {
-        assert_eq!(rt; feed.piece(line.as_bytes()), Ok(()));
+        same(rt, &feed.piece(line.as_bytes()), &Ok(()));
     }
     refusal(rt, feed.end())
 }
@@ -21,9 +22,10 @@ fn repeated(rt: &impl Abort, alloc: Global, head: &str, line: &str, times: u64) 
 fn events(rt: HostRuntime) {
     let head = "seqtrace 1\nprocess <0.0.0>\n";
     let line = "{seq_trace,0,{print,{0,1},<0.0.0>,[],0}}\n";
-    assert_eq!(rt;
-        repeated(&rt, rt.alloc(), head, line, 1_000_001),
-        ReadFault::TooMany(1_000_003)
+    same(
+        &rt,
+        &repeated(&rt, rt.alloc(), head, line, 1_000_001),
+        &ReadFault::TooMany(1_000_003),
     );
 }
 
@@ -31,19 +33,20 @@ fn events(rt: HostRuntime) {
 fn acts(rt: HostRuntime) {
     let head = "seqtrace 1\nprocess <0.0.0>\nacts\n";
     let line = "look <0.0.0>\n";
-    assert_eq!(rt;
-        repeated(&rt, rt.alloc(), head, line, 4_000_001),
-        ReadFault::TooMany(4_000_004)
+    same(
+        &rt,
+        &repeated(&rt, rt.alloc(), head, line, 4_000_001),
+        &ReadFault::TooMany(4_000_004),
     );
 }
 
 /// A feed of so many processes, line by line.
 fn of_processes(rt: &impl Abort, alloc: Global, count: u16) -> Result<Feed, AllocError> {
     let mut feed = Feed::new(alloc);
-    assert_eq!(rt; feed.piece(b"seqtrace 1\n"), Ok(()));
+    same(rt, &feed.piece(b"seqtrace 1\n"), &Ok(()));
     for n in 0..count {
         let line = format!(in alloc; "process <0.{n}.0>\n")?;
-        assert_eq!(rt; feed.piece(line.as_bytes()), Ok(()));
+        same(rt, &feed.piece(line.as_bytes()), &Ok(()));
     }
     Ok(feed)
 }
@@ -52,9 +55,9 @@ fn of_processes(rt: &impl Abort, alloc: Global, count: u16) -> Result<Feed, Allo
 fn processes(rt: HostRuntime) -> Result<(), Fail> {
     let alloc = rt.alloc();
     let bundle = of_processes(&rt, alloc, 1_024)?.end()?;
-    assert_eq!(rt; bundle.streams.pids().len(), 1_024);
+    same(&rt, &bundle.streams.pids().len(), &1_024);
     let answer = of_processes(&rt, alloc, 1_025)?.end();
-    assert_eq!(rt; refusal(&rt, answer), ReadFault::TooMany(1_026));
+    same(&rt, &refusal(&rt, answer), &ReadFault::TooMany(1_026));
     Ok(())
 }
 
@@ -63,9 +66,9 @@ fn bytes(rt: HostRuntime) -> Result<(), Fail> {
     let alloc = rt.alloc();
     let mut text = vec![in alloc; b'x'; 67_108_864]?;
     let answer = read(alloc, &mut MemorySource::new(&text, None));
-    assert_eq!(rt; refusal(&rt, answer), ReadFault::Truncated);
+    same(&rt, &refusal(&rt, answer), &ReadFault::Truncated);
     text.push(b'x')?;
     let answer = read(alloc, &mut MemorySource::new(&text, None));
-    assert_eq!(rt; refusal(&rt, answer), ReadFault::TooLarge);
+    same(&rt, &refusal(&rt, answer), &ReadFault::TooLarge);
     Ok(())
 }

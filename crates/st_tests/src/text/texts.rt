@@ -39,7 +39,7 @@ pub(super) const WANT_AWAY: &str = "seqtrace 2\n\
     acts\n\
     receive <0.30.0> from <1.5.0>\n";
 
-/// Texts that are refused, and how.
+/// Texts that are refused, and why.
 pub(super) const REFUSED: [(&str, ReadFault); 15] = [
     // audit truncated
     (

@@ -4,6 +4,7 @@ ghost use Rattle.std.specs.Prelude.{◌<◌};
 
 use super::assert_counts;
 use super::slow::{Process, TOP, place_of, processes, step};
+use crate::collected::same;
 use st_core::{Act, Component, Flags, Label, Pid, Serial, Token, Want};
 use st_world::World;
 use std::alloc::AllocError;
@@ -103,9 +104,9 @@ impl Random {
 fn assert_same(rt: &impl Abort, world: &World<TOP>, processes: &[Process], from: Pid, this: u64) {
     for process in processes {
         assert_counts(rt, world, process.pid, process.clock, process.last);
-        assert_eq!(rt; world.token(process.pid), process.token);
+        same(rt, &world.token(process.pid), &process.token);
         let place = place_of(process, from, this);
-        assert_eq!(rt; world.place_of(process.pid, from, this), place);
+        same(rt, &world.place_of(process.pid, from, this), &place);
     }
 }
 

@@ -125,7 +125,7 @@ fn alone(process: &mut Process, act: &Act) -> Result<Outcome, StepFault> {
 }
 
 /// A token grows the clock and takes the serial {last, clock} and the from of the process. False
-/// where the clock is at its greatest value.
+/// if the clock is at its greatest value.
 fn stamp(process: &mut Process) -> bool {
     let Some(token) = process.token else {
         return true;
@@ -197,7 +197,7 @@ fn print_at(process: &mut Process, label: Label, value: u64) -> Result<Outcome, 
     Ok(only(Reply::Done))
 }
 
-/// Sets a part of the token, of a new one where there is none, and answers the part before.
+/// Sets a part of the token, of a new one if there is none, and returns the part before.
 fn set(process: &mut Process, component: Component) -> Option<Component> {
     let before = process.token;
     let mut token = match before {
