@@ -22,8 +22,8 @@ with_trace(Name, Wish, Do) ->
         Times = times(Name),
         case seqaudit_bundle:read(Name ++ ".seqtrace") of
             {ok, Streams} ->
-                Trace = #{name => Name, legend => Legend, times => Times, notes => notes(Name),
-                          whole => Streams},
+                Trace = #{name => Name, legend => Legend, times => maps:get(events, Times),
+                          timed => Times, notes => notes(Name), whole => Streams},
                 with_cut(Trace, Wish, Do);
             {error, {file, _, _} = Reason} ->
                 {?SYSTEM, seqaudit_bundle:format_error(Reason)};
@@ -51,11 +51,10 @@ notes(Name) ->
         {error, _} -> []
     end.
 
-%% Nanoseconds since the first event, of each event that has a time.
 times(Name) ->
     case seqaudit_times:read(Name ++ ".times") of
-        {ok, #{events := Times}} -> Times;
-        {error, _} -> #{}
+        {ok, Times} -> Times;
+        {error, _} -> seqaudit_times:none()
     end.
 
 %% What the options cut the trace to.
@@ -102,9 +101,10 @@ audit(_) ->
     {usage, "audit needs the NAME of a bundle"}.
 
 audit(#{name := Name, legend := Legend, notes := Notes, cut := Cut, outcome := Outcome,
-        parts := Parts}, Options) ->
+        parts := Parts, streams := Streams, timed := Times}, Options) ->
     #{said := Said, answer := Answer} = Outcome,
     io:put_chars([Cut, seqaudit_explain:outcome(Outcome, Notes, Legend),
+                  seqaudit_times:summary(Streams, Times),
                   audited_parts(Parts, Options, Legend),
                   case Options of
                       #{"--whole" := _} -> seqaudit_explain:whole(Outcome, Legend);
@@ -186,7 +186,7 @@ charted(#{cut := Cut, outcome := Outcome, notes := Notes, parts := Parts, legend
     [Cut, seqaudit_explain:headline(Outcome, Legend), seqaudit_explain:losses(Notes),
      [seqaudit_explain:reset_places([Part || {Part, _} <- Parts], Legend) || Parts =/= []]].
 
-chart_streams(Number, Which, Streams, Title, #{legend := Legend} = Audited, Options) ->
+chart_streams(Number, Which, Streams, Title, #{legend := Legend, timed := Times} = Audited, Options) ->
     Text = seqaudit_bundle:text(Streams),
     Asked = seqaudit_program:with_text(Text, fun(File) ->
                 seqaudit_program:ask(["chart", "--label", binary_to_list(Number)], File)
@@ -196,7 +196,7 @@ chart_streams(Number, Which, Streams, Title, #{legend := Legend} = Audited, Opti
             {ok, Read} = seqaudit_chart:read(Answer),
             Chart = seqaudit_chart:identify(Read, seqaudit_causes:rows(Streams)),
             io:put_chars([[Title, $\n] || Title =/= ""]),
-            io:put_chars(seqaudit_chart:text(Chart, Legend)),
+            io:put_chars(seqaudit_chart:text(Chart, Legend, Times)),
             draw(Chart, Which, Audited, maps:get("--svg", Options, []));
         {ok, {?UNFIT, <<"no label", _/binary>>}} ->
             io:put_chars([[Title, ": "] || Title =/= ""]),
@@ -241,23 +241,23 @@ why(#{"" := [Name], "--event" := [Event | _]} = Options) ->
     with_trace(Name, wish(Options, [labels, processes, from, to]), fun(#{legend := Legend} = Trace) ->
         with_outcome(Trace, fun(#{cut := Cut, outcome := Outcome} = Audited) ->
             io:put_chars([Cut, doubt(Outcome, Legend)]),
-            why(Event, shown(Audited), Options, Legend)
+            why(Event, shown(Audited), Options, Audited)
         end)
     end);
 why(_) ->
     {usage, "why needs the NAME of a bundle and --event"}.
 
-why(Event, Shown, Options, Legend) ->
+why(Event, Shown, Options, #{legend := Legend, timed := Times}) ->
     Found = [{Place, Streams} || Streams <- Shown,
                                  {ok, Place} <- [seqaudit_bundle:find(Event, Streams, Legend)]],
     case Found of
         [{Place, Streams} | _] ->
             Rows = seqaudit_causes:rows(Streams),
             Tell = case Options of
-                       #{"--effects" := _} -> fun seqaudit_why:effects/3;
-                       #{} -> fun seqaudit_why:chain/3
+                       #{"--effects" := _} -> fun seqaudit_why:effects/4;
+                       #{} -> fun seqaudit_why:chain/4
                    end,
-            io:put_chars(Tell(Place, Rows, Legend)),
+            io:put_chars(Tell(Place, Rows, Legend, Times)),
             ?FITS;
         [] ->
             {error, Reason} = seqaudit_bundle:find(Event, lists:append(Shown), Legend),
@@ -273,7 +273,7 @@ doubt(#{said := Said}, _Legend) when Said =:= fits; Said =:= completed -> "";
 doubt(Outcome, Legend) -> seqaudit_explain:headline(Outcome, Legend).
 
 keep(File, Text, Status) ->
-    case file:write_file(File, Text) of
+    case seqaudit_convert:write_own(File, Text) of
         ok -> Status;
-        {error, Reason} -> {?SYSTEM, seqaudit_convert:format_error({file, File, Reason})}
+        {error, Reason} -> {?SYSTEM, seqaudit_convert:format_error(Reason)}
     end.

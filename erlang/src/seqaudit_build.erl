@@ -2,13 +2,14 @@
 %%
 %% Of an event stays a record of a fixed size in one binary: numbers for its label, parties and
 %% message, its serial and its time. The terms themselves stand in tables, each once. So a million
-%% events take some tens of megabytes beside their different messages.
+%% events take some tens of megabytes beside their different messages. Some events make a part,
+%% which may be made in another process; parts are put together one after the other.
 -module(seqaudit_build).
 
 -include("seqaudit_packed.hrl").
 
--export([new/0, item/2, events/1, fold/3, delete/1]).
--export_type([build/0, packed/0, collected/0]).
+-export([new/0, item/2, context/1, part/2, add/2, fold/3]).
+-export_type([build/0, packed/0, collected/0, context/0, part/0]).
 
 %% The greatest serial number that the text of a bundle has.
 -define(GREATEST, 16#FFFF_FFFF_FFFF_FFFF).
@@ -25,21 +26,31 @@
 
 -type build() :: #build{}.
 
+-type home() :: binary() | unknown.
+
+-opaque context() :: {home(), seqaudit_external:encoded() | none, {integer(), pos_integer()}}.
+%% What events are read by: where they were collected, by which process, and what its clock means.
+
+-record(part, {home :: home(),
+               own :: seqaudit_external:encoded() | none,
+               clock :: {integer(), pos_integer()},
+               packed = <<>> :: packed(),
+               actors = seqaudit_numbers:few() :: seqaudit_numbers:few(),
+               others = seqaudit_numbers:few() :: seqaudit_numbers:few(),
+               labels = seqaudit_numbers:few() :: seqaudit_numbers:few(),
+               values = seqaudit_numbers:few() :: seqaudit_numbers:few(),
+               known = #{} :: #{seqaudit_external:encoded() => seqaudit_events:about()},
+               counts = #{} :: #{atom() => non_neg_integer()},
+               own_events = 0 :: non_neg_integer()}).
+
+-opaque part() :: #part{}.
+%% Some events, with numbers of their own for their terms.
+
 %% @doc Nothing taken in yet. The tables end with the process that makes them.
 -spec new() -> build().
 new() ->
     #build{actors = seqaudit_numbers:new(), others = seqaudit_numbers:new(),
            labels = seqaudit_numbers:new(), values = seqaudit_numbers:new()}.
-
-%% @doc Forgets the tables.
--spec delete(build()) -> ok.
-delete(#build{actors = Actors, others = Others, labels = Labels, values = Values}) ->
-    lists:foreach(fun seqaudit_numbers:delete/1, [Actors, Others, Labels, Values]).
-
-%% @doc How many events were taken in.
--spec events(build()) -> non_neg_integer().
-events(#build{packed = Packed}) ->
-    byte_size(Packed) div ?PACKED_SIZE.
 
 %% @doc Goes through the records.
 -spec fold(fun((tuple(), Acc) -> Acc), Acc, packed()) -> Acc.
@@ -47,6 +58,45 @@ fold(Do, Acc, <<?PACKED(Kind, Label, Prev, This, From, To, Value, Time), Rest/bi
     fold(Do, Do({Kind, Label, Prev, This, From, To, Value, Time}, Acc), Rest);
 fold(_Do, Acc, <<>>) ->
     Acc.
+
+%% @doc What the next events are read by.
+-spec context(build()) -> context().
+context(#build{home = Home, own = Own, clock = Clock}) ->
+    {Home, Own, Clock}.
+
+%% @doc What becomes of these events alone.
+-spec part([binary()], context()) -> part().
+part(Events, {Home, Own, Clock}) ->
+    lists:foldl(fun take/2, #part{home = Home, own = Own, clock = Clock}, Events).
+
+%% @doc Takes a part in. Every term gets the number that it gets if the events come one by one.
+-spec add(part(), build()) -> build().
+add(#part{packed = Packed} = Part, Build) ->
+    Actors = numbers(Part#part.actors, Build#build.actors),
+    Others = numbers(Part#part.others, Build#build.others),
+    Labels = numbers(Part#part.labels, Build#build.labels),
+    Values = numbers(Part#part.values, Build#build.values),
+    Parties = {Actors, Others},
+    Renumbered = << <<?PACKED(Kind, (element(Label + 1, Labels)), Prev, This,
+                              (renumbered(From, Parties)), (renumbered(To, Parties)),
+                              (element(Value + 1, Values)), Time)>>
+                    || <<?PACKED(Kind, Label, Prev, This, From, To, Value, Time)>> <= Packed >>,
+    Added = Build#build{packed = <<(Build#build.packed)/binary, Renumbered/binary>>,
+                        home = Part#part.home,
+                        known = maps:merge(Part#part.known, Build#build.known),
+                        counts = maps:merge_with(fun(_, Before, More) -> Before + More end,
+                                                 Build#build.counts, Part#part.counts)},
+    case Part#part.own_events of
+        0 -> Added;
+        Own -> add(own, Own, Added)
+    end.
+
+numbers(Few, Table) ->
+    list_to_tuple([seqaudit_numbers:number(Term, Table) || Term <- seqaudit_numbers:terms(Few)]).
+
+renumbered(?NOBODY, _) -> ?NOBODY;
+renumbered(Party, {_, Others}) when Party >= ?OTHER -> ?OTHER bor element(Party - ?OTHER + 1, Others);
+renumbered(Party, {Actors, _}) -> element(Party + 1, Actors).
 
 %% @doc Takes one item of a file in.
 -spec item(seqaudit_events:item(), build()) -> build().
@@ -64,13 +114,10 @@ item({dropped, Count}, Build) ->
     add(dropped, Count, Build);
 item({left, Bytes}, Build) ->
     add(left, Bytes, Build);
-item(stray, Build) ->
-    stray(Build);
+item(stray, #build{counts = Counts} = Build) ->
+    Build#build{counts = more(strays, Counts)};
 item({event, Bytes}, Build) ->
-    case seqaudit_external:event(Bytes) of
-        {ok, Event} -> event(Event, Build);
-        _ -> stray(Build)
-    end.
+    add(part([Bytes], context(Build)), Build).
 
 %% What is asked last is best, but a name that a process had stays.
 learn({Pid, About}, Known) ->
@@ -79,19 +126,27 @@ learn({Pid, About}, Known) ->
 add(What, Count, #build{collections = [Now | Before]} = Build) ->
     Build#build{collections = [Now#{What => maps:get(What, Now, 0) + Count} | Before]}.
 
-stray(Build) -> count(strays, Build).
+more(What, Counts) -> Counts#{What => maps:get(What, Counts, 0) + 1}.
 
-count(What, #build{counts = Counts} = Build) ->
-    Build#build{counts = Counts#{What => maps:get(What, Counts, 0) + 1}}.
+count(What, #part{counts = Counts} = Part) -> Part#part{counts = more(What, Counts)}.
 
-event({_, _, {Prev, This}, _, _, _, _}, Build) when Prev > ?GREATEST; This > ?GREATEST ->
-    stray(Build);
-event({_, _, _, From, To, _, _} = Event, #build{home = unknown} = Build) ->
-    event(Event, Build#build{home = home(From, To)});
-event({print, Label, Serial, From, _, Message, Time}, Build) ->
-    place(print, Label, Serial, party(From, Build), none, Message, Time, Build);
-event({Kind, Label, Serial, From, To, Message, Time}, Build) ->
-    place(Kind, Label, Serial, party(From, Build), party(To, Build), Message, Time, Build).
+stray(Part) -> count(strays, Part).
+
+%% An event of a part.
+take(Bytes, Part) ->
+    case seqaudit_external:event(Bytes) of
+        {ok, Event} -> event(Event, Part);
+        _ -> stray(Part)
+    end.
+
+event({_, _, {Prev, This}, _, _, _, _}, Part) when Prev > ?GREATEST; This > ?GREATEST ->
+    stray(Part);
+event({_, _, _, From, To, _, _} = Event, #part{home = unknown} = Part) ->
+    event(Event, Part#part{home = home(From, To)});
+event({print, _, _, From, _, _, _} = Event, Part) ->
+    place(Event, party(From, Part), none, Part);
+event({_, _, _, From, To, _, _} = Event, Part) ->
+    place(Event, party(From, Part), party(To, Part), Part).
 
 %% Events that don't say where they were collected were so where their first process lives.
 home(From, To) ->
@@ -106,8 +161,8 @@ node_of(_) -> [].
 
 %% A name without a node is one of the node that reports it. `ttb' writes a process as a triple, in
 %% which is what it is called.
-party(<<88, _/binary>> = Process, _Build) -> {actor, Process, none};
-party(Bytes, #build{home = Home}) ->
+party(<<88, _/binary>> = Process, _Part) -> {actor, Process, none};
+party(Bytes, #part{home = Home}) ->
     case seqaudit_external:view(Bytes) of
         {port, _, _} -> {actor, Bytes, none};
         {reference, _, _} -> {other, Bytes, none};
@@ -121,20 +176,20 @@ party_of_ttb({Kind, _, _, _}, First, Info) when Kind =:= process -> {actor, Firs
 party_of_ttb({port, _, _}, First, _Info) -> {actor, First, none};
 party_of_ttb(_, _, _) -> stray.
 
-place(_Kind, _Label, _Serial, From, To, _Message, _Time, Build) when From =:= stray; To =:= stray ->
-    stray(Build);
-place(_Kind, _Label, _Serial, {_, Own, _}, _To, _Message, _Time, #build{own = Own} = Build) ->
-    add(own, 1, Build);
-place(_Kind, _Label, _Serial, _From, {_, Own, _}, _Message, _Time, #build{own = Own} = Build) ->
-    add(own, 1, Build);
-place(Kind, Label, {Prev, This}, From, To, Message, Time0, Build0) ->
-    Build = called(From, called(To, Build0)),
-    Time = time(Time0, Build),
-    Record = <<?PACKED((kind(Kind)), (seqaudit_numbers:number(Label, Build#build.labels)), Prev,
-                       This, (index(From, Build)), (index(To, Build)),
-                       (seqaudit_numbers:number(Message, Build#build.values)), Time)>>,
-    Packed = <<(Build#build.packed)/binary, Record/binary>>,
-    Placed = Build#build{packed = Packed},
+place(_Event, From, To, Part) when From =:= stray; To =:= stray ->
+    stray(Part);
+place(_Event, {_, Own, _}, _To, #part{own = Own} = Part) ->
+    Part#part{own_events = Part#part.own_events + 1};
+place(_Event, _From, {_, Own, _}, #part{own = Own} = Part) ->
+    Part#part{own_events = Part#part.own_events + 1};
+place({Kind, Label0, {Prev, This}, _, _, Message, Time0}, From0, To0, Part0) ->
+    {From, Part1} = index(From0, called(From0, Part0)),
+    {To, Part2} = index(To0, called(To0, Part1)),
+    {Label, Labels} = seqaudit_numbers:number_few(Label0, Part2#part.labels),
+    {Value, Values} = seqaudit_numbers:number_few(Message, Part2#part.values),
+    Time = time(Time0, Part2),
+    Packed = <<(Part2#part.packed)/binary, ?PACKED((kind(Kind)), Label, Prev, This, From, To, Value, Time)>>,
+    Placed = Part2#part{packed = Packed, labels = Labels, values = Values},
     case Time of
         ?NO_TIME -> Placed;
         _ -> count(timestamps, Placed)
@@ -144,27 +199,32 @@ kind(send) -> ?SEND;
 kind('receive') -> ?RECEIVE;
 kind(print) -> ?PRINT.
 
-index(none, _Build) -> ?NOBODY;
-index({actor, Bytes, _}, #build{actors = Table}) -> seqaudit_numbers:number(Bytes, Table);
-index({other, Bytes, _}, #build{others = Table}) -> ?OTHER bor seqaudit_numbers:number(Bytes, Table).
+index(none, Part) ->
+    {?NOBODY, Part};
+index({actor, Bytes, _}, #part{actors = Actors} = Part) ->
+    {Number, More} = seqaudit_numbers:number_few(Bytes, Actors),
+    {Number, Part#part{actors = More}};
+index({other, Bytes, _}, #part{others = Others} = Part) ->
+    {Number, More} = seqaudit_numbers:number_few(Bytes, Others),
+    {?OTHER bor Number, Part#part{others = More}}.
 
 %% What ttb's triple says a process is called.
-called({actor, Pid, Info}, #build{known = Known} = Build)
+called({actor, Pid, Info}, #part{known = Known} = Part)
   when Info =/= none, not is_map_key(Pid, Known) ->
     About = case {seqaudit_external:view(Info), seqaudit_external:tuple(Info)} of
                 {{atom, Name}, _} -> #{name => binary:copy(Name)};
                 {_, [_, _, _]} -> #{call => binary:copy(Info)};
                 _ -> #{}
             end,
-    Build#build{known = Known#{binary:copy(Pid) => About}};
-called(_, Build) ->
-    Build.
+    Part#part{known = Known#{binary:copy(Pid) => About}};
+called(_, Part) ->
+    Part.
 
-%% Nanoseconds since 1970, where the collection says what the node's clock means; else since some
+%% Nanoseconds since 1970, if the collection says what the node's clock means; else since some
 %% instant of that node.
-time(none, _Build) ->
+time(none, _Part) ->
     ?NO_TIME;
-time(Time, #build{clock = {Offset, Second}}) ->
+time(Time, #part{clock = {Offset, Second}}) ->
     Value = case seqaudit_external:tuple(Time) of
                 other -> seqaudit_external:number(Time);
                 Parts -> [seqaudit_external:number(Part) || Part <- Parts]

@@ -31,7 +31,7 @@
 %% `hidden': a send that only its receive tells of. `invented': an unreported event of whose message
 %% nothing is known, as neither its send nor its receive was reported.
 
-%% @doc All events and all sends that only their receives tell of, each below what caused it where
+%% @doc All events and all sends that only their receives tell of, each below what caused it if
 %% the streams fit.
 -spec rows(seqaudit_bundle:streams()) -> [row()].
 rows(Streams) ->
@@ -70,7 +70,7 @@ unpaired(Streams) ->
                     not is_map_key({From, This}, Received)]).
 
 %% What is known at an event of what its process did before: the greatest count, what the next
-%% event's prev is where nothing comes between, the cause of the last stamp, the receives by count,
+%% event's prev is if nothing comes between, the cause of the last stamp, the receives by count,
 %% and the last of them.
 keyed({Pid, Events}, Ranks, Sends, Unpaired) ->
     Start = #{clock => 0, last => 0, cause => start, receives => #{}, newest => none},

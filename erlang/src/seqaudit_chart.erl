@@ -1,7 +1,7 @@
 %% @doc Reads the text of a chart, as `seqaudit chart' writes it, and prints it with names and terms.
 -module(seqaudit_chart).
 
--export([read/1, row/1, identify/2, text/2, lane/2, other/1, term/2]).
+-export([read/1, row/1, identify/2, text/3, lane/2, other/1, term/2]).
 -export_type([chart/0, row/0]).
 
 %% Characters of a term in a row, and of an event's name.
@@ -78,7 +78,7 @@ row_key(#{kind := Kind, serial := Serial} = Row, Pids) ->
 -spec lane(byte(), row()) -> pos_integer().
 lane(Mark, #{marks := Marks}) -> index(fun(One) -> One =:= Mark end, Marks, 1).
 
-%% @doc The lane at the other end: the same where a process sends to itself.
+%% @doc The lane at the other end: the same if a process sends to itself.
 -spec other(row()) -> pos_integer().
 other(#{marks := Marks}) ->
     case lists:member($., Marks) of
@@ -93,16 +93,27 @@ index(Is, [Mark | Marks], Place) ->
     end.
 
 %% @doc The chart as text: each event by its name, with its term and what it follows by. The marks of
-%% unreported events are small letters.
--spec text(chart(), seqaudit_legend:legend()) -> unicode:chardata().
-text(#{label := Label, lanes := Lanes, rows := Rows}, Legend) ->
-    Named = [{row_name(Row, Legend), Row} || Row <- Rows],
-    Width = lists:max([0 | [string:length(Name) || {Name, _} <- Named]]),
+%% unreported events are small letters. Where there are times, the name has one behind it, and a
+%% receive how long its message was under way.
+-spec text(chart(), seqaudit_legend:legend(), seqaudit_times:times()) -> unicode:chardata().
+text(#{label := Label, lanes := Lanes, rows := Rows}, Legend, Times) ->
+    Named = [{row_name(Row, Legend), row_time(Row, Times), Row} || Row <- Rows],
+    Width = lists:max([0 | [string:length(Name) || {Name, _, _} <- Named]]),
+    TimeWidth = lists:max([0 | [length(Time) + 2 || {_, Time, _} <- Named, Time =/= none]]),
     [["label ", seqaudit_legend:label(Label, Legend), $\n],
      [io_lib:format("lane ~b ~ts~n", [Lane, seqaudit_legend:process(Pid, Legend)])
       || {Lane, Pid} <- lists:enumerate(Lanes)],
-     [[row_marks(Row), "  ", string:pad(Name, Width), "  ",
-       row_words(Row, Legend), $\n] || {Name, Row} <- Named]].
+     [[row_marks(Row), "  ", string:pad(Name, Width),
+       string:pad(case Time of none -> ""; _ -> Time end, TimeWidth, leading), "  ",
+       row_words(Row, Legend), row_took(Row, Times), $\n] || {Name, Time, Row} <- Named]].
+
+row_time(#{shown := #{id := Id}}, Times) -> seqaudit_times:at(Id, Times).
+
+row_took(#{shown := #{id := Id}}, Times) ->
+    case seqaudit_times:took(Id, Times) of
+        none -> "";
+        Took -> [", under way for ", Took]
+    end.
 
 row_name(#{shown := #{hidden := true}}, _Legend) -> "unreported";
 row_name(#{shown := #{id := Id}}, Legend) ->

@@ -6,9 +6,10 @@
 %% <ul>
 %% <li>A trace port of `runtime_tools' writes wrapped files: once they have their total size, the
 %% oldest events are written over. How many bytes came is known, so what was lost is known too.</li>
-%% <li>Where `runtime_tools' isn't there, the collector itself is the tracer. It writes the first
-%% events up to the total size and counts those beyond. It looks at its own queue, and takes itself
-%% off when that grows faster than it writes.</li>
+%% <li>Where `runtime_tools' isn't there, the collector itself is the tracer. It has the first events
+%% written up to the total size and counts those beyond; {@link seqaudit_scribe} writes them, so that
+%% the collector is always back at its queue. It looks at that with each event, and takes itself off
+%% when it grows faster than it is emptied.</li>
 %% </ul>
 %% A traced process pays for the write or the send of its events and waits for nothing. What a
 %% process is called is asked at the start, when the process is first seen, and at the end.
@@ -34,13 +35,11 @@
 -define(FILES, 8).
 -define(BYTES, 268_435_456).
 %% Where the collector itself is the tracer it runs before others, as it has to see that it falls
-%% behind. The tracer is taken off when its queue holds about so many bytes. An event in a queue takes about
-%% eight times the bytes that it has in a file.
+%% behind. The tracer is taken off when so many bytes wait in its queue and for the disk. An event in
+%% a queue takes up to eight times the bytes that it has in a file.
 -define(QUEUE_BYTES, 8_388_608).
 -define(QUEUE_FACTOR, 8).
--define(LOOK_EVERY, 1).
-%% It writes so many bytes at once. (`delayed_write' would wait for a process that runs with all
-%% others.)
+%% It has so many bytes written at once.
 -define(BUFFER_BYTES, 65_536).
 %% The owner's node may come back within this time, as after a net split.
 -define(GRACE_MS, 60_000).
@@ -51,7 +50,7 @@
 -type options() :: #{owner := pid(), limit => non_neg_integer(), reset => boolean(),
                      bytes => pos_integer(), port => boolean(), folder => file:filename() | default,
                      trigger => trigger() | none, grace => non_neg_integer()}.
-%% `owner': the process whose end ends the collector; `limit': how many events are kept, where the
+%% `owner': the process whose end ends the collector; `limit': how many events are kept, if the
 %% collector itself is the tracer; `reset': whether `seq_trace:reset_trace/0' is called first, so
 %% that all clocks begin at 0; `bytes': the total size of the files; `port': whether to use a trace
 %% port, if there is one; `folder': in which folder the files' own folder is made; `grace': how many
@@ -66,8 +65,10 @@
                 grace :: non_neg_integer(),
                 trigger :: trigger() | none,
                 former :: tracer(),
-                by :: {port, port()} | {device, file:io_device()} | closed,
+                by :: {port, port()} | {scribe, seqaudit_scribe:scribe()} | closed,
                 buffer = {0, []} :: {non_neg_integer(), iolist()},
+                %% Bytes of all events, kept or dropped, if the collector itself is the tracer.
+                came = 0 :: non_neg_integer(),
                 kept = 0 :: non_neg_integer(),
                 written = 0 :: non_neg_integer(),
                 dropped = 0 :: non_neg_integer(),
@@ -179,11 +180,9 @@ open(true, #state{folder = Folder, bytes = Bytes} = State) ->
         _:_ -> open(false, State)
     end;
 open(false, #state{folder = Folder}) ->
-    {Base, Suffix} = seqaudit_spool:base(Folder),
     _ = process_flag(priority, high),
-    {ok, Device} = file:open(Base ++ "0" ++ Suffix,
-                             [append, raw, binary]),
-    {device, Device}.
+    {ok, Scribe} = seqaudit_scribe:open(Folder),
+    {scribe, Scribe}.
 
 %% Sets the token by a match specification, which sends no message. Calls are traced for this process,
 %% so that a killed collector leaves nothing that acts.
@@ -201,7 +200,7 @@ pull_trigger(#{function := {Module, _, _} = Function, label := Label, times := T
             ok
     end.
 
-%% Tokens that the trigger set would stay with their processes; where nobody else traces, all are
+%% Tokens that the trigger set would stay with their processes; if nobody else traces, all are
 %% taken off.
 release_trigger(#state{trigger = none}) ->
     ok;
@@ -215,9 +214,9 @@ release_trigger(#state{trigger = #{function := Function}, former = Former}) ->
 -spec handle_continue(names, #state{}) -> {noreply, #state{}}.
 handle_continue(names, State) ->
     case erlang:system_info(process_count) =< ?PROCESSES of
-        true -> {noreply, noted(processes(), State)};
-        false -> {noreply, noted([Pid || Name <- registered(), Pid <- [whereis(Name)],
-                                         is_pid(Pid)], State)}
+        true -> {noreply, seen(processes(), State)};
+        false -> {noreply, seen([Pid || Name <- registered(), Pid <- [whereis(Name)],
+                                        is_pid(Pid)], State)}
     end.
 
 %% @private
@@ -262,6 +261,11 @@ handle_info({'EXIT', Port, Reason}, #state{by = {port, Port}} = State) ->
     go_on(ended({disk, Reason}, (take_off(State))#state{by = closed}));
 handle_info({timeout, _, owner}, State) ->
     go_on(State);
+handle_info(Message, #state{by = {scribe, Scribe}} = State) ->
+    case seqaudit_scribe:failure(Message, Scribe) of
+        {failed, Reason} -> go_on(close(ended({disk, Reason}, take_off(State))));
+        none -> stray(State)
+    end;
 handle_info(_Stray, State) ->
     stray(State).
 
@@ -287,9 +291,10 @@ ended(Why, #state{ended = no} = State) -> State#state{ended = {Why, erlang:unive
 ended(_Why, State) -> State.
 
 %% Where the collector itself is the tracer, it writes the event.
-event(Event, Info, #state{by = {device, _}, kept = Kept, written = Written} = State) ->
+event(Event, Info, #state{by = {scribe, _}, kept = Kept, written = Written} = State0) ->
     Bytes = term_to_binary(Event),
     Size = byte_size(Bytes) + 5,
+    State = State0#state{came = State0#state.came + Size},
     case Kept < State#state.limit andalso Written + Size =< State#state.bytes of
         true ->
             Buffered = buffer([<<0, (byte_size(Bytes)):32>>, Bytes], Size, State),
@@ -297,6 +302,8 @@ event(Event, Info, #state{by = {device, _}, kept = Kept, written = Written} = St
         false ->
             look_at_queue(State#state{dropped = State#state.dropped + 1})
     end;
+event(_Event, _Info, #state{by = closed, dropped = Dropped} = State) ->
+    State#state{dropped = Dropped + 1};
 event(_Event, _Info, State) ->
     State#state{strays = State#state.strays + 1}.
 
@@ -307,21 +314,17 @@ buffer(Entry, Size, #state{buffer = {Before, Entries}} = State) ->
         false -> Buffered
     end.
 
-%% A disk that is full ends the collecting.
-flush(#state{by = {device, Device}, buffer = {_, Entries}} = State) ->
-    case file:write(Device, Entries) of
-        ok -> State#state{buffer = {0, []}};
-        {error, Reason} ->
-            _ = file:close(Device),
-            ended({disk, Reason}, (take_off(State))#state{by = closed, buffer = {0, []}})
-    end;
+flush(#state{by = {scribe, Scribe}, buffer = {Size, Entries}} = State) when Size > 0 ->
+    State#state{by = {scribe, seqaudit_scribe:write(Entries, Size, Scribe)}, buffer = {0, []}};
 flush(State) ->
     State.
 
-look_at_queue(#state{tracer = on, kept = Kept, dropped = Dropped, written = Written} = State)
-  when (Kept + Dropped) rem ?LOOK_EVERY =:= 0, Kept > 0 ->
+%% The events in the queue are taken to be as large as those that came.
+look_at_queue(#state{tracer = on, by = {scribe, Scribe}} = State) ->
+    #state{came = Came, kept = Kept, dropped = Dropped} = State,
     {message_queue_len, Length} = process_info(self(), message_queue_len),
-    case Length * (Written div Kept) * ?QUEUE_FACTOR > ?QUEUE_BYTES of
+    Waiting = Length * (Came div (Kept + Dropped)) * ?QUEUE_FACTOR,
+    case Waiting + seqaudit_scribe:unwritten(Scribe) > ?QUEUE_BYTES of
         true -> take_off(ended(fell_behind, State));
         false -> State
     end;
@@ -380,15 +383,19 @@ infos(_, Used, Infos) ->
 meet(Infos, #state{processes = Known} = State) ->
     New = lists:usort([Pid || {_Kind, _Serial, From, To, _Message} <- Infos, Pid <- [From, To],
                               is_pid(Pid), node(Pid) =:= node(), not is_map_key(Pid, Known)]),
-    noted(New, State).
+    seen(New, State).
 
-noted([], State) ->
+seen([], State) ->
     State;
-noted(Pids, #state{processes = Known} = State) when map_size(Known) < ?PROCESSES ->
+seen(Pids, #state{processes = Known, by = {scribe, Scribe}} = State)
+  when map_size(Known) < ?PROCESSES ->
+    ok = seqaudit_scribe:meet(Pids, Scribe),
+    State#state{processes = maps:merge(Known, maps:from_keys(Pids, #{}))};
+seen(Pids, #state{processes = Known} = State) when map_size(Known) < ?PROCESSES ->
     New = maps:from_list([{Pid, seqaudit_spool:about(Pid)} || Pid <- Pids]),
     _ = seqaudit_spool:note(State#state.folder, #{processes => New}),
     State#state{processes = maps:merge(Known, New)};
-noted(_Pids, State) ->
+seen(_Pids, State) ->
     State.
 
 %% Those that had no name when they were first seen may have one now.
@@ -432,13 +439,10 @@ close(#state{by = {port, Port}} = State) ->
     _ = (catch erlang:port_control(Port, $f, "")),
     _ = (catch port_close(Port)),
     close(State#state{by = closed, written = Written});
-close(#state{by = {device, _}} = State) ->
-    case flush(State) of
-        #state{by = {device, Device}} = Flushed ->
-            _ = file:close(Device),
-            close(Flushed#state{by = closed});
-        Closed -> close(Closed)
-    end.
+close(#state{by = {scribe, _}} = State) ->
+    #state{by = {scribe, Scribe}} = Flushed = flush(State),
+    Processes = seqaudit_scribe:close(Scribe),
+    close(Flushed#state{by = closed, processes = Processes}).
 
 %% All that came to the port, once no more comes.
 written(Port) ->

@@ -12,7 +12,7 @@
 
 -include("seqaudit_packed.hrl").
 
--export([from_files/2, from_files/3, files/2, convert/1, format_error/1]).
+-export([from_files/2, from_files/3, files/2, convert/1, write_own/2, format_error/1]).
 -export_type([bundle/0, summary/0]).
 
 -type bundle() :: #{seqtrace := binary(), terms := iodata(), notes := [string()],
@@ -45,16 +45,16 @@ from_files(Files, Name) ->
 -spec from_files([file:filename()], file:filename(), ask()) -> {ok, summary()} | {error, term()}.
 from_files(Files, Name, Ask) ->
     alone(fun() ->
-        case fold_files(Files, seqaudit_build:new()) of
-            {ok, Build} -> write(asked(Build, Ask), Name);
+        case fold_files(Files, seqaudit_batches:new(seqaudit_build:new())) of
+            {ok, Batches} -> write(asked(seqaudit_batches:build(Batches), Ask), Name);
             {error, Reason} -> {error, Reason}
         end
     end).
 
-fold_files([], Build) ->
-    {ok, Build};
-fold_files([File | Files], Build) ->
-    case seqaudit_events:fold(File, fun seqaudit_build:item/2, Build) of
+fold_files([], Batches) ->
+    {ok, Batches};
+fold_files([File | Files], Batches) ->
+    case seqaudit_events:fold(File, fun seqaudit_batches:item/2, Batches) of
         {ok, More} -> fold_files(Files, More);
         {error, Reason} -> {error, Reason}
     end.
@@ -77,7 +77,8 @@ convert(Collections) ->
     end).
 
 taken(Collections) ->
-    seqaudit_events:fold_list(Collections, fun seqaudit_build:item/2, seqaudit_build:new()).
+    seqaudit_batches:build(seqaudit_events:fold_list(Collections, fun seqaudit_batches:item/2,
+                                                     seqaudit_batches:new(seqaudit_build:new()))).
 
 text(Part) ->
     Key = make_ref(),
@@ -87,8 +88,11 @@ text(Part) ->
 
 %% The tables of a conversion, and what it leaves on the heap, end with a process of its own.
 alone(Do) ->
+    result(begun(Do)).
+
+begun(Do) ->
     Self = self(),
-    result(spawn_opt(fun() -> Self ! {self(), Do()} end, [monitor, {fullsweep_after, 10}])).
+    spawn_opt(fun() -> Self ! {self(), Do()} end, [monitor, {fullsweep_after, 10}]).
 
 result({Worker, Monitor}) ->
     receive
@@ -118,45 +122,63 @@ write(Build, Name) ->
     {Parts, Facts} = parts(Build),
     %% What was needed until here may be large.
     true = garbage_collect(),
-    case write_parts([{Name ++ Suffix, maps:get(Part, Parts)}
-                      || {Part, Suffix} <- [{seqtrace, ".seqtrace"}, {terms, ".terms"},
-                                            {times, ".times"}],
-                         is_map_key(Part, Parts)], []) of
+    case write_parts(Parts, Name) of
         {ok, Files} ->
             {Sizes, Notes} = notes(filelib:file_size(Name ++ ".seqtrace"), Facts),
             NotesFile = Name ++ ".notes",
             Lines = unicode:characters_to_binary([[Note, $\n] || Note <- Notes]),
-            case write_parts([{NotesFile, fun(Out) -> Out(Lines) end}], Files) of
-                {ok, All} -> {ok, Sizes#{notes => Notes, files => lists:reverse(All)}};
+            case write_file(NotesFile, fun(Out) -> Out(Lines) end) of
+                ok -> {ok, Sizes#{notes => Notes, files => Files ++ [NotesFile]}};
                 {error, Reason} -> {error, Reason}
             end;
         {error, Reason} ->
             {error, Reason}
     end.
 
-write_parts([], Done) ->
-    {ok, Done};
-write_parts([{File, Part} | Parts], Done) ->
-    case write_file(File, Part) of
-        ok -> write_parts(Parts, [File | Done]);
-        {error, Reason} -> {error, {file, File, Reason}}
+%% The texts of the terms are made of the tables, which are this process's own; meanwhile others
+%% write the rest.
+write_parts(Parts, Name) ->
+    Files = [{Name ++ Suffix, Part, maps:get(Part, Parts)}
+             || {Part, Suffix} <- [{seqtrace, ".seqtrace"}, {terms, ".terms"}, {times, ".times"}],
+                is_map_key(Part, Parts)],
+    Begun = [case Part of
+                 terms -> here;
+                 _ -> begun(fun() -> write_file(File, Write) end)
+             end || {File, Part, Write} <- Files],
+    Here = [write_file(File, Write) || {File, terms, Write} <- Files],
+    Others = [result(Worker) || Worker <- Begun, Worker =/= here],
+    case [Reason || {error, Reason} <- Here ++ Others] of
+        [] -> {ok, [File || {File, _, _} <- Files]};
+        [Reason | _] -> {error, Reason}
     end.
+
+%% @doc Writes a file that its owner alone may read, since it has the contents of messages.
+-spec write_own(file:filename(), iodata()) -> ok | {error, {file, file:filename(), term()}}.
+write_own(File, Text) ->
+    write_file(File, fun(Out) -> Out(Text) end).
 
 %% The owner alone may read the file, from before anything stands in it.
 write_file(File, Part) ->
     case file:open(File, [write, raw, binary]) of
         {ok, Device} ->
             try
-                ok = file:change_mode(File, 8#600),
+                ok = own(File),
                 ok = Part(fun(Piece) -> ok = file:write(Device, Piece) end),
                 file:close(Device)
             catch
                 error:{badmatch, {error, Reason}} ->
                     _ = file:close(Device),
-                    {error, Reason}
+                    {error, {file, File, Reason}}
             end;
         {error, Reason} ->
-            {error, Reason}
+            {error, {file, File, Reason}}
+    end.
+
+%% A terminal that is written to keeps its mode.
+own(File) ->
+    case filelib:is_regular(File) of
+        true -> file:change_mode(File, 8#600);
+        false -> ok
     end.
 
 %% What is written, and what the notes are made of.
@@ -209,7 +231,7 @@ seen(Parties, Seen) ->
     [Party || {Place, Party} <- lists:zip(lists:seq(1, length(Parties)), Parties),
               atomics:get(Seen, Place) =:= 1].
 
-%% Each party in the spelling of the bundle; `none' where no number was left for it.
+%% Each party in the spelling of the bundle; `none' if no number was left for it.
 spelled({Actors, Others}, Numbers) ->
     Spell = fun(Party) ->
                     case Numbers of
@@ -276,35 +298,38 @@ word(?SEND) -> <<",{send,{">>;
 word(?RECEIVE) -> <<",{'receive',{">>;
 word(?PRINT) -> <<",{print,{">>.
 
-%% The legend, whose first lines `seqaudit_legend' makes. The values may be many, so they are handed
-%% on one by one.
+%% The legend, whose first lines `seqaudit_legend' makes. The values may be many, so a process makes the
+%% texts of some.
 terms(Sorted, Labels, {Known, Values}, Numbers, Out) ->
     ok = Out(seqaudit_legend:text(named(Sorted, Known), [], [], #{})),
     ok = Out([entry("label", Number, Label, Numbers) || {Number, Label} <- Labels]),
-    values(0, Values, Numbers, Out).
+    in_turn([fun() -> entries(First, Values, Numbers) end
+             || First <- lists:seq(0, seqaudit_numbers:size(Values) - 1, ?SHARE)], Out).
 
-%% The texts of so many values are made by one process, as many at a time as there are schedulers.
-values(First, Values, Numbers, Out) ->
-    Starts = [First + ?SHARE * N || N <- lists:seq(0, erlang:system_info(schedulers_online) - 1)],
-    Parts = [{Start, Part} || Start <- Starts,
-                              [_ | _] = Part <- [seqaudit_numbers:part(Start, ?SHARE, Values)]],
-    Self = self(),
-    Workers = [spawn_monitor(fun() -> Self ! {self(), entries(Part, Start, Numbers)} end)
-               || {Start, Part} <- Parts],
-    lists:foreach(fun(Worker) -> ok = Out(result(Worker)) end, Workers),
-    case Parts of
-        [] -> ok;
-        _ -> values(First + ?SHARE * length(Starts), Values, Numbers, Out)
-    end.
+%% Makes texts side by side, as many at a time as there are schedulers, and hands them on in turn.
+in_turn(Makes, Out) ->
+    {Now, Later} = lists:split(min(length(Makes), erlang:system_info(schedulers_online)), Makes),
+    in_turn([begun(Make) || Make <- Now], Later, Out).
 
-entries(Values, First, Numbers) ->
+in_turn([], [], _Out) ->
+    ok;
+in_turn([Worker | Workers], [], Out) ->
+    ok = Out(result(Worker)),
+    in_turn(Workers, [], Out);
+in_turn([Worker | Workers], [Make | Makes], Out) ->
+    Text = result(Worker),
+    Next = begun(Make),
+    ok = Out(Text),
+    in_turn(Workers ++ [Next], Makes, Out).
+
+entries(First, Table, Numbers) ->
+    Values = seqaudit_numbers:part(First, ?SHARE, Table),
     iolist_to_binary([entry("value", Number, Value, Numbers)
                       || {Number, Value} <- lists:zip(lists:seq(First, First + length(Values) - 1),
                                                       Values)]).
 
 entry(Kind, Number, Term, Numbers) ->
-    unicode:characters_to_binary([Kind, $\t, integer_to_list(Number), $\t,
-                                  seqaudit_terms:encoded(Term, Numbers), $\n]).
+    [Kind, $\t, integer_to_binary(Number), $\t, seqaudit_terms:utf8(Term, Numbers), $\n].
 
 %% What the legend says of each process. A name that several had, one after the other, is told apart
 %% by the number.

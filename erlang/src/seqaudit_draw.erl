@@ -2,7 +2,7 @@
 %%
 %% A lane for each process under its name, time downwards by the chart's rows, each under the name of
 %% its event. An arrow goes from each send to its receive; what nobody reported is dashed, and an
-%% arrow ends in a bar where the chart has no receive. Prints are diamonds. An event whose cause
+%% arrow ends in a bar if the chart has no receive. Prints are diamonds. An event whose cause
 %% wasn't reported has a question mark. What is shortened beside a mark is whole in its tooltip, with
 %% the serial and the cause.
 -module(seqaudit_draw).

@@ -110,7 +110,7 @@ fold_entries(File, Device, Offset, Do, Acc) ->
         {_, Left, Folded} -> {ok, Do({left, Left}, Folded)}
     end.
 
-%% `Offset' is where the file is read on, behind what `Bytes' has of it. Answers how many entries
+%% `Offset' is where the file is read on, behind what `Bytes' has of it. Returns how many entries
 %% there were, and how many bytes are left that are none.
 entries(<<?EVENT, Size:32, Bytes:Size/binary, Rest/binary>>, Device, Offset, End, {Do, N}, Acc) ->
     entries(Rest, Device, Offset, End, {Do, N + 1}, event(Bytes, Do, Acc));
@@ -134,7 +134,7 @@ entries(Bytes, Device, Offset, End, {Do, N}, Acc) ->
             end
     end.
 
-%% How many bytes more an entry needs; none where they aren't there, or this is no entry.
+%% How many bytes more an entry needs; none if they aren't there, or this is no entry.
 wanted(<<Op, Size:32, Begun/binary>>, Left) when Op =< ?FACTS, Op =/= ?DROPPED ->
     case Size - byte_size(Begun) of
         Needed when Needed =< Left -> min(max(Needed, ?PIECE), Left);

@@ -18,8 +18,9 @@
 %% @doc The outcome in one line.
 -spec headline(seqaudit_outcome:outcome(), seqaudit_legend:legend()) -> unicode:chardata().
 headline(#{said := Said, streams := Streams} = Outcome, _Legend) when Said =:= fits; Said =:= completed ->
-    [format("fits: ~ts of ~ts are a run", [count(length(reported(Streams)), "event"),
-                                           count(length(Streams), "process")]),
+    Events = length(reported(Streams)),
+    [format("fits: ~ts of ~ts ~ts a run", [count(Events, "event"), count(length(Streams), "process"),
+                                           case Events of 1 -> "is"; _ -> "are" end]),
      left_out(missing(Outcome)), $\n];
 headline(#{said := never, finding := {<<"prevnotbefore">> = Reason, Found}}, Legend) ->
     format("doesn't fit: no run has it~ts (~ts)~n", [about(Found, Legend), Reason]);

@@ -97,7 +97,7 @@ from_term(Term) ->
     {ok, Encoded} = read(term_to_binary(Term)),
     Encoded.
 
-%% @doc The term, where this Erlang has all of its atoms; no atom is made.
+%% @doc The term, if this Erlang has all of its atoms; no atom is made.
 -spec to_term(encoded()) -> term().
 to_term(Encoded) ->
     try
@@ -155,6 +155,9 @@ skip(<<_/binary>>, _) -> seldom.
 skip_ascii(<<Seven:56, Rest/binary>>, Size, More, Left)
   when Size >= 7, Seven band 16#80808080808080 =:= 0 ->
     skip_ascii(Rest, Size - 7, More, Left);
+skip_ascii(<<Three:24, Rest/binary>>, Size, More, Left)
+  when Size >= 3, Three band 16#808080 =:= 0 ->
+    skip_ascii(Rest, Size - 3, More, Left);
 skip_ascii(<<C, Rest/binary>>, Size, More, Left) when Size > 0, C < 128 ->
     skip_ascii(Rest, Size - 1, More, Left);
 skip_ascii(<<Rest/binary>>, 0, More, Left) ->
@@ -348,7 +351,7 @@ atom_name(<<?ATOM, Size:16, Name:Size/binary, Rest/binary>>) -> {Name, Rest};
 atom_name(<<?ATOM_UTF8, Size:16, Name:Size/binary, Rest/binary>>) -> {Name, Rest};
 atom_name(_) -> none.
 
-%% @doc The event that the bytes of a term are; `other' where they are another term.
+%% @doc The event that the bytes of a term are; `other' if they are another term.
 -spec event(binary()) -> {ok, event()} | other | damaged.
 event(Bytes) ->
     try event_of(Bytes)
@@ -481,6 +484,10 @@ part(<<?LARGE_TUPLE, Arity:32, Rest/binary>>) -> {tuple, Arity, Rest};
 part(<<?LIST, Length:32, Rest/binary>>) -> {list, Length, Rest};
 part(<<?STRING, Size:16, Bytes:Size/binary, Rest/binary>>) -> {string, Bytes, Rest};
 part(<<?MAP, Pairs:32, Rest/binary>>) -> {map, Pairs, Rest};
+part(<<?NIL, Rest/binary>>) -> {leaf, nil, Rest};
+part(<<?SMALL_INTEGER, N, Rest/binary>>) -> {leaf, {integer, N}, Rest};
+part(<<?INTEGER, N:32/signed, Rest/binary>>) -> {leaf, {integer, N}, Rest};
+part(<<?ATOM, Size:16, Name:Size/binary, Rest/binary>>) -> {leaf, {atom, Name}, Rest};
 part(<<?EXPORT, Rest/binary>>) ->
     {Module, Rest0} = one(Rest),
     {Function, Rest1} = one(Rest0),
@@ -490,9 +497,6 @@ part(Bytes) ->
     {Leaf, Rest} = one(Bytes),
     {leaf, leaf(Leaf), Rest}.
 
-leaf(<<?NIL>>) -> nil;
-leaf(<<?SMALL_INTEGER, N>>) -> {integer, N};
-leaf(<<?INTEGER, N:32/signed>>) -> {integer, N};
 leaf(<<?SMALL_BIG, Size, Sign, N:Size/little-unit:8>>) -> {integer, signed(Sign, N)};
 leaf(<<?LARGE_BIG, Size:32, Sign, N:Size/little-unit:8>>) when Size =< ?PRINTED_BIG ->
     {integer, signed(Sign, N)};
@@ -528,7 +532,7 @@ leaf(Bytes) ->
 signed(0, N) -> N;
 signed(_, N) -> -N.
 
-%% @doc The first characters of a list, where all of these are printable and the list is no longer
+%% @doc The first characters of a list, if all of these are printable and the list is no longer
 %% or goes on.
 -spec characters(non_neg_integer(), binary(), pos_integer()) -> {ok, string()} | other.
 characters(Length, Elements, Most) ->

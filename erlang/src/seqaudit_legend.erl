@@ -2,7 +2,7 @@
 %%
 %% It is text in UTF-8, a line an entry, with tabs between its parts: `process PID NAME WHAT',
 %% `label NUMBER TERM' and `value NUMBER TERM'. All of them are kept as binaries, as they stand in
-%% the text of a bundle and in what `seqaudit' answers.
+%% the text of a bundle and in what `seqaudit' writes.
 -module(seqaudit_legend).
 
 -export([text/4, read/1, process/2, about/2, label/2, value/2, brief/2]).
@@ -66,7 +66,7 @@ read_lines([Line | Lines], Number, Legend, File) ->
             {error, {not_terms, File, Number}}
     end.
 
-%% @doc The short name of a process, its pid where the legend hasn't it.
+%% @doc The short name of a process, its pid if the legend hasn't it.
 -spec process(binary(), legend()) -> binary().
 process(Pid, Legend) -> maps:get({process, Pid}, Legend, Pid).
 
@@ -74,11 +74,11 @@ process(Pid, Legend) -> maps:get({process, Pid}, Legend, Pid).
 -spec about(binary(), legend()) -> binary().
 about(Pid, Legend) -> maps:get({about, Pid}, Legend, <<"not in NAME.terms">>).
 
-%% @doc The term of a label, its number where the legend hasn't it.
+%% @doc The term of a label, its number if the legend hasn't it.
 -spec label(binary(), legend()) -> binary().
 label(Number, Legend) -> maps:get({label, Number}, Legend, Number).
 
-%% @doc The term of a message, its number after a number sign where the legend hasn't it.
+%% @doc The term of a message, its number after a number sign if the legend hasn't it.
 -spec value(binary(), legend()) -> binary().
 value(Number, Legend) -> maps:get({value, Number}, Legend, <<"#", Number/binary>>).
 

@@ -22,7 +22,7 @@ main(Words) ->
     _ = io:setopts([{encoding, unicode}]),
     halt(run(Words)).
 
-%% @doc Runs the command, and answers its status.
+%% @doc Runs the command, and returns its status.
 -spec run([string()]) -> ?FITS..?SYSTEM.
 run([Help | _]) when Help =:= "--help"; Help =:= "-h"; Help =:= "help" ->
     io:put_chars(help()),
@@ -193,6 +193,8 @@ collect({error, Reason}, _Start, _Wait) ->
     failed(?SYSTEM, io_lib:format("this Erlang can't take part in distribution; it needs a home "
                                   "folder for its cookie, and epmd: ~0tp", [Reason]));
 collect(ok, #{nodes := Nodes} = Start, Wait) ->
+    %% A signal that comes while the collectors begin ends them as any other does.
+    Asked = seqaudit_signals:listen(),
     case seqaudit_trace:start(Start) of
         ok ->
             io:format("tracing ~ts ~ts~ts",
@@ -200,7 +202,7 @@ collect(ok, #{nodes := Nodes} = Start, Wait) ->
                        advice(Start)]),
             [io:format("  events of ~ts go to ~ts there~n", [Node, Folder])
              || {Node, Folder} <- seqaudit_trace:folders()],
-            _ = seqaudit_signals:wait(Wait),
+            _ = seqaudit_signals:wait(Asked, Wait),
             written(seqaudit_trace:stop(), fun seqaudit_trace:format_error/1);
         {error, Reason} ->
             failed(?SYSTEM, seqaudit_trace:format_error(Reason))
@@ -255,7 +257,8 @@ checked([_ | _] = Cookie) when length(Cookie) =< 255 -> Cookie;
 checked(_) -> {error, "it is empty, or longer than 255 characters"}.
 
 written({ok, #{events := Events, processes := Processes, notes := Notes, files := Files}}, _) ->
-    io:format("~b events of ~b processes: ~ts~n", [Events, Processes, lists:join(" ", Files)]),
+    io:format("~ts of ~ts: ~ts~n", [seqaudit_explain:count(Events, "event"),
+                                    seqaudit_explain:count(Processes, "process"), lists:join(" ", Files)]),
     lists:foreach(fun(Note) -> io:format("  ~ts~n", [Note]) end, Notes),
     ?FITS;
 written({error, Reason}, FormatError) ->

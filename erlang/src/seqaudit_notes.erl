@@ -47,7 +47,7 @@ over(#{facts := #{by := port, written := Written, came := Came, kept := Kept, ke
 over(_) ->
     {0, 0}.
 
-%% @doc The notes, a line each; nothing where there is nothing to say.
+%% @doc The notes, a line each; nothing if there is nothing to say.
 -spec notes(#{collections := [seqaudit_build:collected()], counts := #{atom() => non_neg_integer()},
               listed := [{seqaudit_processes:pid_number(), seqaudit_processes:party()}],
               labels := [{non_neg_integer(), seqaudit_external:encoded()}], atom() => term()},
@@ -142,8 +142,8 @@ reason(Term) ->
 split(Node, #{split := Split}) ->
     case [seqaudit_external:number(Part) || Part <- parts(Split)] of
         [Times, Milliseconds] when is_integer(Times), is_integer(Milliseconds) ->
-            [text("~ts: the connection was lost ~b times, for ~b ms in all; collecting went on",
-                  [Node, Times, Milliseconds])];
+            [text("~ts: the connection was lost ~ts, for ~b ms in all; collecting went on",
+                  [Node, case Times of 1 -> "once"; _ -> text("~b times", [Times]) end, Milliseconds])];
         _ -> []
     end;
 split(_Node, _Facts) ->

@@ -4,20 +4,23 @@
 %% copied nor looked through whenever memory is tidied.
 -module(seqaudit_numbers).
 
--export([new/0, number/2, size/1, part/3, listed/1, delete/1]).
--export_type([table/0]).
+-export([new/0, number/2, size/1, part/3, listed/1, few/0, number_few/2, terms/1]).
+-export_type([table/0, few/0]).
 
 -compile({no_auto_import, [size/1]}).
 
 -opaque table() :: ets:table().
 
-%% @doc A table without terms. It ends with the process that makes it, if nobody deletes it earlier.
+-opaque few() :: {#{seqaudit_external:encoded() => non_neg_integer()}, [seqaudit_external:encoded()]}.
+%% The terms of some events, on the heap, where a number is found and given at half the cost.
+
+%% @doc A table without terms. It ends with the process that makes it; others may look terms up.
 -spec new() -> table().
 new() ->
-    ets:new(?MODULE, [set, private]).
+    ets:new(?MODULE, [set, protected]).
 
-%% @doc The term's number; a term that isn't in the table gets the next one. The bytes are copied:
-%% they may be a part of something larger.
+%% @doc The term's number; a term that isn't in the table gets the next one. Of bytes that are a part
+%% of something larger a copy is kept.
 -spec number(seqaudit_external:encoded(), table()) -> non_neg_integer().
 number(Term, Table) ->
     case ets:lookup(Table, Term) of
@@ -25,7 +28,10 @@ number(Term, Table) ->
             Number;
         [] ->
             Number = size(Table),
-            Copy = binary:copy(Term),
+            Copy = case binary:referenced_byte_size(Term) > byte_size(Term) of
+                       true -> binary:copy(Term);
+                       false -> Term
+                   end,
             true = ets:insert_new(Table, [{Copy, Number}, {Number, Copy}]),
             Number
     end.
@@ -46,8 +52,23 @@ part(First, Count, Table) ->
 listed(Table) ->
     part(0, size(Table), Table).
 
-%% @doc Ends the table.
--spec delete(table()) -> ok.
-delete(Table) ->
-    true = ets:delete(Table),
-    ok.
+%% @doc No terms yet.
+-spec few() -> few().
+few() ->
+    {#{}, []}.
+
+%% @doc The term's number among these, and these with the term. No copy is made of the bytes.
+-spec number_few(seqaudit_external:encoded(), few()) -> {non_neg_integer(), few()}.
+number_few(Term, {Numbers, LastFirst} = Few) ->
+    case Numbers of
+        #{Term := Number} ->
+            {Number, Few};
+        #{} ->
+            Number = map_size(Numbers),
+            {Number, {Numbers#{Term => Number}, [Term | LastFirst]}}
+    end.
+
+%% @doc These terms in the order of their numbers.
+-spec terms(few()) -> [seqaudit_external:encoded()].
+terms({_, LastFirst}) ->
+    lists:reverse(LastFirst).

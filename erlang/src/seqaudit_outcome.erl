@@ -1,8 +1,9 @@
 %% @doc Whether a run has some streams, as the two programs say.
 %%
 %% The counters of a node go on from trace to trace, so the counts are first replaced by their ranks
-%% (`seqtool renumber'): that changes no answer, and no count is too high any more. What `seqaudit
-%% audit' doesn't explain, `seqtool complete' completes, or says that no run without a reset has it.
+%% (`seqtool renumber'): that changes no answer, and no count is too high any more. A `seqtool' that
+%% doesn't know that command leaves them as they are. What `seqaudit audit' doesn't explain, `seqtool
+%% complete' completes, or says that no run without a reset has it.
 -module(seqaudit_outcome).
 
 -export([ask/1]).
@@ -45,7 +46,9 @@ ask(Streams) ->
 
 ask(Streams, Text, File) ->
     Outcome = #{streams => Streams, renumbered => false, tool => not_there, answer => <<>>},
-    case seqaudit_program:ask("seqtool", ["renumber"], File) of
+    case seqaudit_program:ask_if_known("seqtool", ["renumber"], File) of
+        unknown ->
+            audit(File, File, Outcome#{tool := there});
         {ok, {?FITS, Text}} ->
             audit(File, File, Outcome#{tool := there});
         {ok, {?FITS, Ranks}} ->
@@ -94,7 +97,9 @@ unfit(Report, #{streams := Streams} = Outcome) ->
 %% The streams are completed with the node's own counts, so that what is added has them too; the
 %% acts are those of the renumbered streams, which need no more of them than there are events.
 complete(Ranks, File, Unfit, #{streams := Streams} = Outcome) ->
-    case seqaudit_program:ask("seqtool", ["complete", "--as", "added"], File) of
+    case seqaudit_program:ask_if_known("seqtool", ["complete", "--as", "added"], File) of
+        unknown ->
+            {ok, unfit(Unfit, Outcome#{tool := {failed, <<"it doesn't know `complete'">>}})};
         {ok, {?FITS, AddedText}} ->
             {ok, {?FITS, AllText}} =
                 seqaudit_program:ask("seqtool", ["complete", "--as", "streams"], File),

@@ -34,9 +34,10 @@ sources([], Texts) ->
 sources([Source | Sources], Texts) ->
     Home = filename:dirname(filename:dirname(filename:absname(code:which(?MODULE)))),
     File = filename:join([Home, "priv", Source]),
-    case file:read_file(File) of
-        {ok, Text} -> sources(Sources, [Text | Texts]);
-        {error, Reason} -> {error, {file, File, Reason}}
+    %% In an escript it stands in an archive, which the loader reads.
+    case erl_prim_loader:get_file(File) of
+        {ok, Text, _} -> sources(Sources, [Text | Texts]);
+        error -> {error, {file, File, enoent}}
     end.
 
 %% The policy lets a script run that has this word, which nobody knew when the messages were sent.

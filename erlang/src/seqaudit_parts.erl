@@ -18,7 +18,7 @@
                received = #{} :: #{term() => []},
                waiting = #{} :: #{term() => [seqaudit_bundle:pid_text()]}}).
 
-%% @doc The parts, one after the other; each has all processes. One part alone where nothing says
+%% @doc The parts, one after the other; each has all processes. One part alone if nothing says
 %% that a reset stands between.
 -spec split(seqaudit_bundle:streams()) -> [seqaudit_bundle:streams()].
 split(Streams) ->
@@ -33,7 +33,7 @@ split_rest(Rest) ->
         _ -> split(Rest)
     end.
 
-%% @doc Between which events of which processes each reset stands: `none' where the process has no
+%% @doc Between which events of which processes each reset stands: `none' if the process has no
 %% event in all parts before it, or none after it.
 -spec places([seqaudit_bundle:streams()]) ->
           [[{seqaudit_bundle:pid_text(), Before :: seqaudit_bundle:at() | none,

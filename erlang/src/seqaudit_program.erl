@@ -1,10 +1,13 @@
 %% @doc Runs the programs `seqaudit' and `seqtool'.
 -module(seqaudit_program).
 
--export([ask/2, ask/3, find/0, find/1, run/3, with_text/2, format_error/1]).
+-export([ask/2, ask/3, ask_if_known/3, find/0, find/1, run/3, with_text/2, format_error/1]).
 
 %% The file goes to the program's standard input, which a port can't close.
 -define(SHELL, "exec \"$0\" \"$@\" <\"$SEQAUDIT_INPUT\"").
+-define(QUIET_SHELL, ?SHELL " 2>/dev/null").
+%% The exit status of a program that doesn't understand the words.
+-define(USAGE, 3).
 
 %% @equiv ask("seqaudit", Words, Input)
 -spec ask([string()], file:filename()) ->
@@ -23,6 +26,20 @@ ask(Name, Words, Input) ->
 
 answered(Program, {ok, {_, <<>>}}) -> {error, {empty, Program}};
 answered(_Program, Answer) -> Answer.
+
+%% @doc As {@link ask/3}; `unknown' if the program doesn't know the command, which older ones may not.
+-spec ask_if_known(string(), [string()], file:filename()) ->
+          {ok, {non_neg_integer(), binary()}} | unknown | {error, term()}.
+ask_if_known(Name, Words, Input) ->
+    case find(Name) of
+        {ok, Program} ->
+            case run(?QUIET_SHELL, Program, Words, Input) of
+                {ok, {?USAGE, _}} -> unknown;
+                Answer -> answered(Program, Answer)
+            end;
+        {error, Reason} ->
+            {error, Reason}
+    end.
 
 %% @equiv find("seqaudit")
 -spec find() -> {ok, file:filename()} | {error, {no_program, string(), [file:filename()]}
@@ -49,11 +66,14 @@ find(Name) ->
 -spec run(file:filename(), [string()], file:filename()) ->
           {ok, {non_neg_integer(), binary()}} | {error, term()}.
 run(Program, Words, Input) ->
+    run(?SHELL, Program, Words, Input).
+
+run(Shell, Program, Words, Input) ->
     case file:open(Input, [read, raw]) of
         {ok, Device} ->
             ok = file:close(Device),
             Port = open_port({spawn_executable, "/bin/sh"},
-                             [{args, ["-c", ?SHELL, Program | Words]},
+                             [{args, ["-c", Shell, Program | Words]},
                               {env, [{"SEQAUDIT_INPUT", Input}]}, binary, exit_status]),
             whole(Program, output(Port, []));
         {error, Reason} ->

@@ -4,7 +4,7 @@
 %% `gen_server' since OTP 24), a name on another node. Its receive names the process. So a send to
 %% an alias or a name is resolved by the receive with the same from, serial, label and message; else,
 %% for an alias, by the request that handed the alias out. Where two processes fit, as after a reset,
-%% it isn't known who received it; then, and where nothing fits, the alias or the name stays a party
+%% it isn't known who received it; then, and if nothing fits, the alias or the name stays a party
 %% of its own.
 -module(seqaudit_resolve).
 
@@ -22,45 +22,58 @@
 -spec resolve(seqaudit_build:build()) -> {seqaudit_build:packed(), counts()}.
 resolve(#build{packed = Packed} = Build) ->
     Received = ets:new(received, [set, private]),
-    try
-        _ = seqaudit_build:fold(fun(Event, ok) -> want(Event, Received) end, ok, Packed),
-        case ets:info(Received, size) of
-            0 ->
-                {Packed, #{}};
-            _ ->
-                _ = seqaudit_build:fold(fun(Event, ok) -> receiver(Event, Received) end, ok, Packed),
-                rewrite(Build, Received, owners(unreceived(Packed, Received), Build))
-        end
+    try want(Packed, Received, #{}) of
+        Senders when map_size(Senders) =:= 0 ->
+            {Packed, #{}};
+        Senders ->
+            ok = receivers(Packed, Received, Senders),
+            Owners = owners(unreceived(Packed, Received), Build),
+            rewrite(Packed, Received, Owners, #{}, <<>>)
     after
         ets:delete(Received)
     end.
 
-want({?SEND, Label, Prev, This, From, To, Value, _}, Received) when ?IS_OTHER(To) ->
-    true = ets:insert(Received, {{From, Prev, This, Label, Value}, none}),
-    ok;
-want(_, _Received) ->
-    ok.
+%% Puts the sends to aliases and names into the table, and finds out who sends them.
+want(<<?KEYED(?SEND, Key, To, _Time), Rest/binary>>, Received, Senders) when ?IS_OTHER(To) ->
+    true = ets:insert(Received, {Key, none}),
+    <<From:32, _/binary>> = Key,
+    want(Rest, Received, Senders#{From => []});
+want(<<_:?PACKED_SIZE/binary, Rest/binary>>, Received, Senders) ->
+    want(Rest, Received, Senders);
+want(<<>>, _Received, Senders) ->
+    Senders.
 
-receiver({?RECEIVE, Label, Prev, This, From, To, Value, _}, Received) when To < ?OTHER ->
-    Key = {From, Prev, This, Label, Value},
+%% Only receives from these senders are looked at.
+receivers(<<?PACKED(?RECEIVE, _, _, _, From, To, _, _), _/binary>> = Packed, Received, Senders)
+  when To < ?OTHER, is_map_key(From, Senders) ->
+    <<?KEYED(?RECEIVE, Key, _To, _Time), Rest/binary>> = Packed,
     case ets:lookup(Received, Key) of
         [{_, none}] -> true = ets:insert(Received, {Key, To});
         [{_, Other}] when Other =/= To -> true = ets:insert(Received, {Key, several});
         _ -> true
     end,
-    ok;
-receiver(_, _Received) ->
+    receivers(Rest, Received, Senders);
+receivers(<<_:?PACKED_SIZE/binary, Rest/binary>>, Received, Senders) ->
+    receivers(Rest, Received, Senders);
+receivers(<<>>, _Received, _Senders) ->
     ok.
 
 %% The aliases and names of sends that no receive resolves.
 unreceived(Packed, Received) ->
-    seqaudit_build:fold(fun({?SEND, Label, Prev, This, From, To, Value, _}, Wanted) when ?IS_OTHER(To) ->
-                                case ets:lookup_element(Received, {From, Prev, This, Label, Value}, 2) of
-                                    none -> Wanted#{To => none};
-                                    _ -> Wanted
-                                end;
-                           (_, Wanted) -> Wanted
-                        end, #{}, Packed).
+    case ets:match(Received, {'_', none}, 1) of
+        '$end_of_table' -> #{};
+        _ -> unreceived(Packed, Received, #{})
+    end.
+
+unreceived(<<?KEYED(?SEND, Key, To, _Time), Rest/binary>>, Received, Wanted) when ?IS_OTHER(To) ->
+    case ets:lookup_element(Received, Key, 2) of
+        none -> unreceived(Rest, Received, Wanted#{To => none});
+        _ -> unreceived(Rest, Received, Wanted)
+    end;
+unreceived(<<_:?PACKED_SIZE/binary, Rest/binary>>, Received, Wanted) ->
+    unreceived(Rest, Received, Wanted);
+unreceived(<<>>, _Received, Wanted) ->
+    Wanted.
 
 %% Whose the wanted aliases are, by the requests that hand them out.
 owners(Wanted, _Build) when map_size(Wanted) =:= 0 ->
@@ -85,26 +98,21 @@ own(Alias, Owner, Owners) ->
         #{} -> Owners
     end.
 
-rewrite(#build{packed = Packed}, Received, Owners) ->
-    {Counts, Records} =
-        seqaudit_build:fold(
-          fun({Kind, Label, Prev, This, From, To0, Value, Time}, {Counts, Records}) ->
-                  {To, How} = resolved(Kind, {From, Prev, This, Label, Value}, To0, Received, Owners),
-                  {count(How, Counts),
-                   <<Records/binary, ?PACKED(Kind, Label, Prev, This, From, To, Value, Time)>>}
-          end, {#{}, <<>>}, Packed),
-    {Records, Counts}.
+rewrite(<<?KEYED(?SEND, Key, To0, Time), Rest/binary>>, Received, Owners, Counts, Done)
+  when ?IS_OTHER(To0) ->
+    {To, How} = resolved(ets:lookup_element(Received, Key, 2), To0, Owners),
+    rewrite(Rest, Received, Owners, Counts#{How => maps:get(How, Counts, 0) + 1},
+            <<Done/binary, ?KEYED(?SEND, Key, To, Time)>>);
+rewrite(<<Record:?PACKED_SIZE/binary, Rest/binary>>, Received, Owners, Counts, Done) ->
+    rewrite(Rest, Received, Owners, Counts, <<Done/binary, Record/binary>>);
+rewrite(<<>>, _Received, _Owners, Counts, Done) ->
+    {Done, Counts}.
 
-resolved(?SEND, Key, To, Received, Owners) when ?IS_OTHER(To) ->
-    case {ets:lookup_element(Received, Key, 2), Owners} of
-        {several, _} -> {To, ambiguous};
-        {none, #{To := Owner}} when is_integer(Owner) -> {Owner, by_request};
-        {none, #{To := several}} -> {To, ambiguous};
-        {none, _} -> {To, unresolved};
-        {Receiver, _} -> {Receiver, by_receive}
+resolved(several, To, _Owners) -> {To, ambiguous};
+resolved(none, To, Owners) ->
+    case Owners of
+        #{To := Owner} when is_integer(Owner) -> {Owner, by_request};
+        #{To := several} -> {To, ambiguous};
+        #{} -> {To, unresolved}
     end;
-resolved(_Kind, _Key, To, _Received, _Owners) ->
-    {To, plain}.
-
-count(plain, Counts) -> Counts;
-count(How, Counts) -> Counts#{How => maps:get(How, Counts, 0) + 1}.
+resolved(Receiver, _To, _Owners) -> {Receiver, by_receive}.

@@ -5,15 +5,20 @@
 -module(seqaudit_signals).
 -behaviour(gen_event).
 
--export([wait/1]).
+-export([listen/0, wait/2]).
 -export([init/1, handle_event/2, handle_call/2]).
 
-%% @doc Waits so many milliseconds, or for ever, or until the signal.
--spec wait(timeout()) -> elapsed | asked.
-wait(Time) ->
+%% @doc From now on a signal is kept for {@link wait/2}.
+-spec listen() -> reference().
+listen() ->
     Asked = make_ref(),
     ok = gen_event:swap_handler(erl_signal_server, {erl_signal_handler, []},
                                 {?MODULE, {self(), Asked}}),
+    Asked.
+
+%% @doc Waits so many milliseconds, or for ever, or until the signal, which may have come already.
+-spec wait(reference(), timeout()) -> elapsed | asked.
+wait(Asked, Time) ->
     receive
         Asked -> asked
     after Time ->

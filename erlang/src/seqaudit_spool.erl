@@ -3,7 +3,7 @@
 %% In it stand wrapped files of a trace port (`events0.trace' and so on: `&lt;&lt;0, Size:32, Term>>' is
 %% an event, `&lt;&lt;1, Count:32>>' events that the port dropped) and a file of facts, a term each. The
 %% folder's name is long and random, and only its owner may enter. Whoever sees that name sees the
-%% folder: so a collection is read from the disk where that is shared, also when the node is gone.
+%% folder: so a collection is read from the disk if that is shared, also when the node is gone.
 -module(seqaudit_spool).
 
 -export([create/1, base/1, note/2, files/1, read/3, remove/1, about/1, entry/1]).

@@ -5,7 +5,7 @@
 %% ({@link seqaudit_external}), so that a term of a file is printed and never made.
 -module(seqaudit_terms).
 
--export([label_numbers/1, text/1, text/2, encoded/1, encoded/2, atom/1, plain/1, call/1, short/2]).
+-export([label_numbers/1, text/1, text/2, encoded/1, encoded/2, utf8/2, atom/1, plain/1, call/1, short/2]).
 
 -define(GREATEST_LABEL, 4_294_967_295).
 %% Labels that are no whole numbers in range are numbered from here.
@@ -21,9 +21,23 @@
 %% Maps of this size are printed in the order of their keys.
 -define(ORDERED, 32).
 
+%% The characters with which an atom without quotes begins, and which it may have behind that.
+-define(IS_SMALL_ASCII(C), C >= $a, C =< $z).
+-define(IS_SMALL(C), (C >= $a andalso C =< $z orelse C >= 16#DF andalso C =< 16#FF andalso C =/= 16#F7)).
+-define(IS_IN_ATOM(C), (C >= $A andalso C =< $Z orelse C >= $0 andalso C =< $9 orelse C =:= $_
+                        orelse C =:= $@ orelse C >= 16#C0 andalso C =< 16#DE andalso C =/= 16#D7)).
+%% Words that Erlang has, and that are atoms in quotes only.
+-define(RESERVED,
+        #{<<"after">> => [], <<"and">> => [], <<"andalso">> => [], <<"band">> => [], <<"begin">> => [],
+          <<"bnot">> => [], <<"bor">> => [], <<"bsl">> => [], <<"bsr">> => [], <<"bxor">> => [],
+          <<"case">> => [], <<"catch">> => [], <<"cond">> => [], <<"div">> => [], <<"else">> => [],
+          <<"end">> => [], <<"fun">> => [], <<"if">> => [], <<"let">> => [], <<"maybe">> => [],
+          <<"not">> => [], <<"of">> => [], <<"or">> => [], <<"orelse">> => [], <<"receive">> => [],
+          <<"rem">> => [], <<"try">> => [], <<"when">> => [], <<"xor">> => []}).
+
 -type numbers() :: seqaudit_processes:numbers().
 
-%% @doc A number for each different label: its own where it is a whole number in range, else one
+%% @doc A number for each different label: its own if it is a whole number in range, else one
 %% that no label has.
 -spec label_numbers([seqaudit_external:encoded()]) ->
           #{seqaudit_external:encoded() => 0..?GREATEST_LABEL}.
@@ -50,7 +64,7 @@ number_label(Label, {Numbers, Next, Taken}) -> {Numbers#{Label => Next}, Next + 
 text(Term) ->
     text(Term, #{}).
 
-%% @doc The term as Erlang prints it, on one line, cut where it is large. A process with a number in
+%% @doc The term as Erlang prints it, on one line, cut if it is large. A process with a number in
 %% the bundle is spelled by it: how Erlang prints one of another node differs from node to node.
 -spec text(term(), numbers()) -> string().
 text(Term, Numbers) ->
@@ -65,7 +79,17 @@ encoded(Term) ->
 -spec encoded(seqaudit_external:encoded(), numbers()) -> string().
 encoded(Term, Numbers) ->
     {Text, _, _} = print(Term, ?DEPTH, ?PARTS, Numbers),
-    short(lists:flatten(Text), ?CHARACTERS).
+    short(unicode:characters_to_list(iolist_to_binary(Text)), ?CHARACTERS).
+
+%% @doc The same in UTF-8. Nearly all texts are short; these are never made as lists of characters.
+-spec utf8(seqaudit_external:encoded(), numbers()) -> binary().
+utf8(Term, Numbers) ->
+    {Text, _, _} = print(Term, ?DEPTH, ?PARTS, Numbers),
+    Bytes = iolist_to_binary(Text),
+    case byte_size(Bytes) =< ?CHARACTERS of
+        true -> Bytes;
+        false -> unicode:characters_to_binary(short(unicode:characters_to_list(Bytes), ?CHARACTERS))
+    end.
 
 %% @doc The text, or its first characters and three dots.
 -spec short(string(), pos_integer()) -> string().
@@ -75,8 +99,8 @@ short(Text, Length) ->
         false -> lists:sublist(Text, Length - 3) ++ "..."
     end.
 
-%% The text of the first term of the bytes, how many parts are left for what follows, and the bytes
-%% behind the term. Where no parts are left nothing is read any more; dots stand for what is left out.
+%% The text of the first term of the bytes in UTF-8, how many parts are left for what follows, and the
+%% bytes behind the term. Where no parts are left nothing is read any more; dots stand for what is left out.
 print(Bytes, _Depth, 0, _) -> {"...", 0, Bytes};
 print(Bytes, 0, Parts, _) ->
     {ok, _, Rest} = seqaudit_external:take(Bytes),
@@ -110,7 +134,7 @@ print_list(Length, Elements, Bytes, Depth, Parts, Numbers) ->
     case seqaudit_external:characters(Length, Elements, ?BYTES + 1) of
         {ok, Characters} ->
             {ok, _, Rest} = seqaudit_external:take(Bytes),
-            {io_lib:write_string(short(Characters, ?BYTES)), Parts - 1, Rest};
+            {quoted(short(Characters, ?BYTES), $"), Parts - 1, Rest};
         other ->
             {Text, Left, Tail} = print_parts(Length, Elements, Depth - 1, Parts - 1, Numbers, []),
             print_tail(Text, Tail, Depth - 1, Left, Numbers)
@@ -130,7 +154,7 @@ print_tail(Text, Bytes, Depth, Parts, Numbers) ->
 print_string(Bytes, Parts) ->
     Begin = lists:sublist(Bytes, ?BYTES + 1),
     case {io_lib:printable_unicode_list(Begin), length(Bytes) =< Parts} of
-        {true, _} -> io_lib:write_string(short(Begin, ?BYTES));
+        {true, _} -> quoted(short(Begin, ?BYTES), $");
         {false, true} -> [$[, lists:join($,, [integer_to_list(Byte) || Byte <- Bytes]), $]];
         {false, false} ->
             [$[, [[integer_to_list(Byte), $,] || Byte <- lists:sublist(Bytes, Parts)], "...]"]
@@ -173,33 +197,33 @@ print_pairs(Left, Bytes, Depth, Parts, Numbers, Done) ->
     print_pairs(Left - 1, Rest, Depth, Left1, Numbers, [[Key, " => ", Value] | Done]).
 
 leaf(nil, _) -> "[]";
-leaf({atom, Name}, _) -> atom(Name);
-leaf({integer, Number}, _) -> integer_to_list(Number);
-leaf({large_integer, Size}, _) -> ["{...,{number_of_bytes,", integer_to_list(Size), "}}"];
-leaf({float, Float}, _) -> io_lib:format("~0tp", [Float]);
+leaf({atom, Name}, _) -> atom_text(Name);
+leaf({integer, Number}, _) -> integer_to_binary(Number);
+leaf({large_integer, Size}, _) -> ["{...,{number_of_bytes,", integer_to_binary(Size), "}}"];
+leaf({float, Float}, _) -> formatted("~0tp", [Float]);
 leaf({bits, Bits}, _) when bit_size(Bits) > 8 * ?BYTES ->
     <<Begin:?BYTES/binary, _/bitstring>> = Bits,
-    io_lib:format("{~0tp,...,{bytes,~b}}", [Begin, byte_size(Bits)]);
-leaf({bits, Bits}, _) -> io_lib:format("~0tp", [Bits]);
+    formatted("{~0tp,...,{bytes,~b}}", [Begin, byte_size(Bits)]);
+leaf({bits, Bits}, _) -> formatted("~0tp", [Bits]);
 leaf({process, Process}, Numbers) -> process(Process, Numbers);
-leaf({port, Number}, _) -> ["#Port<0.", integer_to_list(Number), $>];
-leaf({reference, Ids}, _) -> ["#Ref<0.", lists:join($., [integer_to_list(Id) || Id <- Ids]), $>];
+leaf({port, Number}, _) -> ["#Port<0.", integer_to_binary(Number), $>];
+leaf({reference, Ids}, _) -> ["#Ref<0.", lists:join($., [integer_to_binary(Id) || Id <- Ids]), $>];
 leaf({function, Module, Index, Unique}, _) ->
-    ["#Fun<", atom(Module), $., integer_to_list(Index), $., integer_to_list(Unique), $>];
-leaf({export, Call}, _) -> ["fun ", call(Call)];
+    ["#Fun<", atom_text(Module), $., integer_to_list(Index), $., integer_to_list(Unique), $>];
+leaf({export, Call}, _) -> ["fun ", unicode:characters_to_binary(call(Call))];
 leaf(other, _) -> "#Unknown<>".
 
 process(Process, Numbers) ->
     case Numbers of
-        #{Process := Number} ->
-            seqaudit_processes:spell(Number);
+        #{Process := {Node, Number}} ->
+            [$<, integer_to_binary(Node), $., integer_to_binary(Number), ".0>"];
         #{} ->
             {process, Node, Number, Serial} = seqaudit_external:view(Process),
             Home = case map_size(Numbers) of
                        0 -> "0";
                        _ -> plain(Node)
                    end,
-            io_lib:format("<~ts.~b.~b>", [Home, Number, Serial])
+            formatted("<~ts.~b.~b>", [Home, Number, Serial])
     end.
 
 %% @doc What a process was started with, as `module:function/3'.
@@ -218,30 +242,27 @@ call(Call) ->
             encoded(Call)
     end.
 
-%% @doc An atom's text, in quotes where Erlang needs them. The atom isn't made.
+%% @doc An atom's text, in quotes if Erlang needs them. The atom isn't made.
 -spec atom(binary()) -> string().
 atom(Name) ->
-    Characters = unicode:characters_to_list(Name),
-    case is_plain(Characters) andalso not is_reserved(Name) of
-        true -> Characters;
-        false -> lists:flatten(io_lib:write_string(Characters, $'))
+    unicode:characters_to_list(atom_text(Name)).
+
+atom_text(Name) ->
+    case is_plain(Name) andalso not is_map_key(Name, ?RESERVED) of
+        true -> Name;
+        false -> quoted(unicode:characters_to_list(Name), $')
     end.
 
-is_plain([First | Rest]) -> is_small(First) andalso lists:all(fun is_in_atom/1, Rest);
-is_plain([]) -> false.
+quoted(Characters, Quote) -> unicode:characters_to_binary(io_lib:write_string(Characters, Quote)).
 
-is_small(C) -> C >= $a andalso C =< $z orelse C >= 16#DF andalso C =< 16#FF andalso C =/= 16#F7.
+formatted(Format, Values) -> unicode:characters_to_binary(io_lib:format(Format, Values)).
 
-is_in_atom(C) ->
-    is_small(C) orelse C >= $A andalso C =< $Z orelse C >= $0 andalso C =< $9
-        orelse C =:= $_ orelse C =:= $@ orelse C >= 16#C0 andalso C =< 16#DE andalso C =/= 16#D7.
+is_plain(<<First/utf8, Rest/binary>>) -> ?IS_SMALL(First) andalso is_in_atom(Rest);
+is_plain(<<>>) -> false.
 
-is_reserved(Name) ->
-    lists:member(Name, [<<"after">>, <<"and">>, <<"andalso">>, <<"band">>, <<"begin">>, <<"bnot">>,
-                        <<"bor">>, <<"bsl">>, <<"bsr">>, <<"bxor">>, <<"case">>, <<"catch">>,
-                        <<"cond">>, <<"div">>, <<"else">>, <<"end">>, <<"fun">>, <<"if">>, <<"let">>,
-                        <<"maybe">>, <<"not">>, <<"of">>, <<"or">>, <<"orelse">>, <<"receive">>,
-                        <<"rem">>, <<"try">>, <<"when">>, <<"xor">>]).
+is_in_atom(<<C, Rest/binary>>) when ?IS_SMALL_ASCII(C) -> is_in_atom(Rest);
+is_in_atom(<<C/utf8, Rest/binary>>) when ?IS_SMALL(C); ?IS_IN_ATOM(C) -> is_in_atom(Rest);
+is_in_atom(Rest) -> Rest =:= <<>>.
 
 %% @doc A name as it is, with an escape for each character that could begin a line, or that no
 %% reader sees.

@@ -1,4 +1,4 @@
-%% @doc `NAME.times': when each event happened, where the token had a flag for timestamps.
+%% @doc `NAME.times': when each event happened, if the token had a flag for timestamps.
 %%
 %% It is text, a line an entry, behind the first line `seqaudit times 1':
 %% <ul>
@@ -12,7 +12,7 @@
 
 -include("seqaudit_packed.hrl").
 
--export([write/4, read/1, summary/1, format_error/1]).
+-export([none/0, write/4, read/1, at/2, took/2, summary/1, summary/2, format_error/1]).
 -export_type([times/0]).
 
 -define(HEADER, <<"seqaudit times 1">>).
@@ -21,6 +21,11 @@
 -type times() :: #{start := integer(), events := #{event() => integer()},
                    messages := #{event() => {event(), integer()}}}.
 %% Nanoseconds since `start' of each event; for each receive its send, and how long the message took.
+
+%% @doc What there is of a trace without timestamps.
+-spec none() -> times().
+none() ->
+    #{start => 0, events => #{}, messages => #{}}.
 
 %% @doc Hands the text of the file on, piece by piece.
 -spec write([{seqaudit_processes:pid_number(), term()}], #{binary() => binary()},
@@ -76,7 +81,7 @@ read(File) ->
     case file:read_file(File) of
         {ok, Text} ->
             case binary:split(Text, <<"\n">>, [global, trim]) of
-                [?HEADER | Lines] -> read_lines(Lines, 2, #{start => 0, events => #{}, messages => #{}}, File);
+                [?HEADER | Lines] -> read_lines(Lines, 2, none(), File);
                 _ -> {error, {not_times, File, 1}}
             end;
         {error, Reason} ->
@@ -102,6 +107,36 @@ read_lines([Line | Lines], Number, #{events := Events, messages := Messages} = T
         error:_ -> {error, {not_times, File, Number}}
     end.
 
+%% @doc When an event happened, in seconds after the first, or `none'.
+-spec at(seqaudit_causes:id(), times()) -> string() | none.
+at(Event, #{events := Events}) ->
+    case Events of
+        #{Event := Time} -> seconds(Time);
+        #{} -> none
+    end.
+
+%% @doc How many seconds the message of a receive was under way, or `none'.
+-spec took(seqaudit_causes:id(), times()) -> string() | none.
+took(Receive, #{messages := Messages}) ->
+    case Messages of
+        #{Receive := {_, Time}} -> seconds(Time);
+        #{} -> none
+    end.
+
+seconds(Nanoseconds) -> text("~.6f s", [Nanoseconds / 1.0e9]).
+
+%% @doc As {@link summary/1}, of these streams alone; nothing if none of their events has a time.
+-spec summary(seqaudit_bundle:streams(), times()) -> string().
+summary(Streams, #{events := Events, messages := Messages} = Times) ->
+    Shown = [{Pid, At} || {Pid, Reported} <- Streams, #{at := At} <- Reported],
+    case maps:with(Shown, Events) of
+        None when map_size(None) =:= 0 -> "";
+        Some ->
+            First = lists:min(maps:values(Some)),
+            Since = maps:map(fun(_, Time) -> Time - First end, Some),
+            summary(Times#{events := Since, messages := maps:with(Shown, Messages)}) ++ "\n"
+    end.
+
 %% @doc Over which time the events stretch, and how long messages took, in a line.
 -spec summary(times()) -> string().
 summary(#{events := Events, messages := Messages}) ->
@@ -110,7 +145,7 @@ summary(#{events := Events, messages := Messages}) ->
     text("~ts from the first event to the last", [span(Last)])
         ++ case Took of
                [] -> "";
-               _ -> text("; of ~b messages half took less than ~ts, the slowest ~ts",
+               _ -> text("; of ~b messages half took at most ~ts, the slowest ~ts",
                          [length(Took), span(lists:nth(length(Took) div 2 + 1, Took)),
                           span(lists:last(Took))])
            end.

@@ -27,10 +27,12 @@
 -define(FLAGS, [send, 'receive', print, timestamp, strict_monotonic_timestamp,
                 monotonic_timestamp]).
 %% Modules that another node needs: the collector, what it stands on, and this one for `with_trace'.
--define(MODULES, [seqaudit_spool, seqaudit_collector, ?MODULE]).
+-define(MODULES, [seqaudit_spool, seqaudit_scribe, seqaudit_collector, ?MODULE]).
 -define(REMOTE_MS, 15_000).
 %% A node that is out of reach is tried again in these steps.
 -define(REACH_MS, 500).
+%% A collector that has answered is gone within this time, and one that is gone is known to be.
+-define(END_MS, 5_000).
 %% Pieces of files that are fetched from another node.
 -define(PIECE, 1_048_576).
 %% The first release of OTP that has what collecting needs, and the first that the tests don't know.
@@ -97,7 +99,7 @@ is_valid(trigger, Trigger) -> Trigger =:= none;
 is_valid(Option, Value) when Option =:= reset; Option =:= port -> is_boolean(Value);
 is_valid(_, _) -> true.
 
-%% @doc Takes the collectors off and writes the files. Answers how many events were kept and
+%% @doc Takes the collectors off and writes the files. Returns how many events were kept and
 %% dropped, and which files were written. Where the process that led the collection was killed, it
 %% writes what came until then.
 -spec stop() -> {ok, seqaudit_convert:summary()} | {error, term()}.
@@ -358,11 +360,22 @@ stopped(#state{nodes = Nodes0} = State) ->
     State#state{nodes = [stopped_node(Node, lists:keyfind(Node#node.node, 1, Ends)) || Node <- Nodes]}.
 
 stopped_node(Node, {_, ok}) ->
-    demonitor(Node#node.monitor, [flush]),
+    %% It has answered and goes now; once it has gone, the next one can start.
+    _ = end_of(Node),
     Node#node{is = {gone, normal}};
+stopped_node(Node, {_, {error, noproc}}) -> Node#node{is = {gone, end_of(Node)}};
 stopped_node(Node, {_, {error, Reason}}) -> Node#node{is = {gone, Reason}};
 stopped_node(#node{is = {away, _}} = Node, false) -> Node#node{is = {gone, noconnection}};
 stopped_node(Node, false) -> Node.
+
+%% Why the collector ended. The message that says so may still be on its way.
+end_of(#node{monitor = Monitor}) ->
+    receive
+        {'DOWN', Monitor, process, _, Reason} -> Reason
+    after ?END_MS ->
+        demonitor(Monitor, [flush]),
+        noproc
+    end.
 
 %% Fetches what the collectors wrote, converts it, and removes it where it was.
 gather(#state{name = Name, limit = Limit, nodes = Nodes}) ->

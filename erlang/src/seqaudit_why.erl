@@ -1,23 +1,29 @@
 %% @doc Why an event came about, and what came of it, in words.
 -module(seqaudit_why).
 
--export([chain/3, effects/3, name/2, cause/2]).
+-export([chain/4, effects/4, name/2, cause/2]).
 
 %% So many effects are listed; the rest are counted.
 -define(LISTED, 1_000).
 
 %% @doc The chain from an event back to where it begins, a line each.
--spec chain(seqaudit_bundle:place(), [seqaudit_causes:row()], seqaudit_legend:legend()) ->
-          unicode:chardata().
-chain(Place, Rows, Legend) ->
+-spec chain(seqaudit_bundle:place(), [seqaudit_causes:row()], seqaudit_legend:legend(),
+            seqaudit_times:times()) -> unicode:chardata().
+chain(Place, Rows, Legend, Times) ->
     [Row | Before] = Chain = seqaudit_causes:back(Place, seqaudit_causes:index(Rows)),
-    [line("", Row, Legend),
-     [line(["because ", by(Cause)], One, Legend)
+    [line("", Row, Legend, Times),
+     [line(["because ", by(Cause)], One, Legend, Times)
       || {#{cause := Cause}, One} <- lists:zip(lists:droplast(Chain), Before)],
      ending(lists:last(Chain))].
 
-line(Begin, #{id := Id} = Row, Legend) ->
-    [Begin, name(Id, Legend), ": ", seqaudit_explain:sentence(Row, Legend), $\n].
+line(Begin, #{id := Id} = Row, Legend, Times) ->
+    [Begin, name(Id, Legend), ": ", seqaudit_explain:sentence(Row, Legend), time(Id, Times), $\n].
+
+time(Id, Times) ->
+    case seqaudit_times:at(Id, Times) of
+        none -> "";
+        Time -> [", at ", Time]
+    end.
 
 by({spawned, _}) -> "(OTP moved its counter on as it answered a spawn) ";
 by({unreported, _}) -> "(by a receive that nobody reported) ";
@@ -38,17 +44,17 @@ ending(_) ->
     "There the chain runs into itself: these events don't fit.\n".
 
 %% @doc What an event caused, at one remove or more, a line each.
--spec effects(seqaudit_bundle:place(), [seqaudit_causes:row()], seqaudit_legend:legend()) ->
-          unicode:chardata().
-effects(Place, Rows, Legend) ->
+-spec effects(seqaudit_bundle:place(), [seqaudit_causes:row()], seqaudit_legend:legend(),
+              seqaudit_times:times()) -> unicode:chardata().
+effects(Place, Rows, Legend, Times) ->
     case seqaudit_causes:effects(Place, Rows) of
         [] ->
             [name(Place, Legend), " caused nothing that was reported.\n"];
         Effects ->
             [io_lib:format("~ts caused ~b, in an order that may have been theirs:~n",
                            [name(Place, Legend), length(Effects)]),
-             [["  ", name(Id, Legend), ": ", seqaudit_explain:sentence(Row, Legend), ", ",
-               cause(Cause, Legend), $\n]
+             [["  ", name(Id, Legend), ": ", seqaudit_explain:sentence(Row, Legend), time(Id, Times),
+               ", ", cause(Cause, Legend), $\n]
               || #{id := Id, cause := Cause} = Row <- lists:sublist(Effects, ?LISTED)],
              [io_lib:format("  and ~b more~n", [length(Effects) - ?LISTED])
               || length(Effects) > ?LISTED]]

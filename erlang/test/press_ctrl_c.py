@@ -1,19 +1,22 @@
 #!/usr/bin/env python3
-"""Runs a command on a terminal of its own, and presses Ctrl-C once it has written a word.
+"""Runs a command on a terminal of its own, and presses Ctrl-C once a file is there.
 
-    press_ctrl_c.py WORD SECONDS COMMAND .."""
+    press_ctrl_c.py FILE SECONDS COMMAND .."""
 
 import os
 import pty
 import select
+import signal
 import sys
 import time
 
-word, seconds, command = sys.argv[1].encode(), float(sys.argv[2]), sys.argv[3:]
+file, seconds, command = sys.argv[1], float(sys.argv[2]), sys.argv[3:]
 child, terminal = pty.fork()
 if child == 0:
+    # A shell that runs the tests in the background may have had Ctrl-C ignored.
+    signal.signal(signal.SIGINT, signal.SIG_DFL)
     os.execvp(command[0], command)
-written, pressed, end = b"", False, time.time() + seconds
+pressed, end = False, time.time() + seconds
 while time.time() < end:
     if select.select([terminal], [], [], 0.1)[0]:
         try:
@@ -22,10 +25,8 @@ while time.time() < end:
             break
         if not piece:
             break
-        written += piece
         sys.stdout.buffer.write(piece)
-    if not pressed and word in written:
-        time.sleep(1.5)
+    if not pressed and os.path.exists(file):
         os.write(terminal, b"\x03")
         pressed = True
 else:

@@ -5,7 +5,7 @@
 -module(seqaudit_answers_tests).
 
 -export([second_trace_test_/0, workers_test_/0, supervisor_test_/0, flags_test_/0, reset_test_/0,
-         lost_node_test_/0, cut_test_/0, files_test_/0, no_tool_test_/0]).
+         lost_node_test_/0, cut_test_/0, files_test_/0, no_tool_test_/0, older_tools_test_/0]).
 -export([tool/0]).
 -export([init/1, echo/0]).
 
@@ -139,8 +139,8 @@ lost_node_test_() ->
                 [begin Echo ! {self(), N}, receive {echo, N} -> ok end end || N <- [1, 2]]
             end)
         end),
-        %% What the collector there was sent is on its disk by then.
-        timer:sleep(1_500),
+        [_, {There, Folder}] = seqaudit_trace:folders(),
+        seqaudit_test_nodes:on_disk(Folder, 4),
         true = monitor_node(There, true),
         ok = erpc:cast(There, erlang, halt, []),
         receive {nodedown, There} -> ok after 10_000 -> error(still_there) end,
@@ -165,13 +165,18 @@ cut_test_() ->
         stopped(),
         {ok, Streams} = seqaudit_bundle:read(Name ++ ".seqtrace"),
         Rows = seqaudit_causes:rows(Streams),
+        Times = maps:from_list([{Id, 1_000_000 * Row} || {Row, #{id := Id}} <- lists:enumerate(0, Rows)]),
         ok = file:write_file(Name ++ ".times",
-                             ["seqaudit times 1\nbegin 1700000000000000000\n" |
-                              [io_lib:format("event ~ts ~b ~b~n", [Pid, At, 1_000_000 * Row])
-                               || {Row, #{id := {Pid, At}}} <- lists:enumerate(0, Rows)]])
+                             ["seqaudit times 1\nbegin 1700000000000000000\n",
+                              [io_lib:format("event ~ts ~b ~b~n", [Pid, At, Time])
+                               || {{Pid, At}, Time} <- lists:sort(maps:to_list(Times))],
+                              [io_lib:format("message ~ts ~b ~ts ~b ~b~n",
+                                             [From, I, To, J, maps:get(Id, Times) - maps:get(Send, Times)])
+                               || #{id := {To, J} = Id, cause := {sent, {From, I} = Send}} <- Rows]])
     end, [["audit", "--label", "{order,2}"], ["audit", "--process", "shop"],
           ["audit", "--from", "0.002", "--to", "0.0125"], ["chart", "--label", "{order,2}", "--from", "0.012"],
-          ["audit", "--process", "nobody"], ["why", "--event", "ann#9"]]).
+          ["audit", "--process", "nobody"], ["why", "--event", "ann#9"], ["why", "--event", "post#3"],
+          ["why", "--event", "shop#8", "--effects"]]).
 
 %% A trace beyond the reader's limits is answered for a label of it, and its drawings are in parts or
 %% refused, with a way out.
@@ -195,12 +200,21 @@ files(Name) ->
     has(command(["audit"], Name, Tool), ["fault too many", "cut it with --label", "(status 2)"]),
     has(command(["audit", "--label", "l7", "--label", "l8"], Name, Tool), ["cut: 4 of 1,201 events; the cut leaves nothing open\nfits: 4 events of 4 processes"]),
     has(command(["chart", "--label", "l7"], Name, Tool), ["cut: 2 of 1,201 events", "fits: 2 events of 2 processes", "<0.607.0>#0"]),
+    %% One corner is damaged: an event that follows itself. The rest is answered.
+    ok = file:write_file(Name ++ ".seqtrace", ["seqtrace 1\nprocess <0.100.0>\n", Print(7, 1, 100),
+                                               "process <0.101.0>\n{seq_trace,8,{print,{5,5},<0.101.0>,[],0}}\n"]),
+    has(command(["audit"], Name, Tool), ["doesn't fit: no run has it, because of <0.101.0>#0 (prevnotbefore)", "(status 1)"]),
+    [has(command(["audit" | Cut], Name, Tool), ["cut: 1 of 2 events", "fits: 1 event of 1 process", "(status 0)"])
+     || Cut <- [["--label", "l7"], ["--process", "<0.100.0>"]]],
+    has(command(["chart", "--label", "l7", "--process", "<0.100.0>"], Name, Tool), ["cut: 1 of 2 events", "<0.100.0>#0", "(status 0)"]),
     %% One label, in which a reset stands.
     ok = file:write_file(Name ++ ".seqtrace", ["seqtrace 1\nprocess <0.100.0>\n", [Print(7, This, 100) || This <- [1, 2, 1]]]),
     has(command(["chart", "--label", "l7", "--svg", Name ++ ".svg", "--html", Name ++ ".html"], Name, Tool), ["part 1 of 2\n", "part 2 of 2\n"]),
     [{ok, <<"<?xml", _/binary>>} = file:read_file(Name ++ Which ++ ".svg") || Which <- ["-1", "-2"]],
     {ok, <<"<!doctype html>", Page/binary>>} = file:read_file(Name ++ ".html"),
     has(Page, ["doesn't fit: no run without a reset has it"]),
+    %% Both have messages in them, so they are their owner's alone.
+    [8#600 = seqaudit_audits:mode(Name ++ Which) || Which <- ["-1.svg", "-2.svg", ".html"]],
     %% More rows than a drawing takes.
     ok = file:write_file(Name ++ ".seqtrace", ["seqtrace 1\nprocess <0.100.0>\n", [Print(7, This, 100) || This <- lists:seq(1, 2_001)]]),
     has(command(["chart", "--label", "l7", "--svg", Name ++ ".svg", "--html", Name ++ ".html"], Name, Tool),
@@ -228,6 +242,41 @@ no_tool_test_() ->
                                       <<"not explained: ">>)
         end
     end}.
+
+%% A seqtool that can't renumber yet completes what it is asked, with the node's own counts; one that
+%% can't complete either is said to be one. What they print of words that they don't know is left out.
+older_tools_test_() ->
+    {timeout, 120, fun() ->
+        Name = seqaudit_audits:file("older_tools"),
+        ok = seqaudit_trace:start(#{name => Name}),
+        five(['receive']),
+        stopped(),
+        case {auditor(), tool()} of
+            {none, _} -> skipped;
+            {_, none} -> skipped;
+            {_, Tool} ->
+                Completes = older(Tool, "renumber"),
+                Said = command(["audit"], Name, Completes),
+                has(Said, ["fits: 24 events of 5 processes are a run, with 24 events that nobody reported", "(status 0)"]),
+                nothing_of(Said, ["error: what is", "were renumbered"]),
+                checked(Name),
+                has(command(["chart", "--label", "work"], Name, Completes), ["ann#0~1", "(status 0)"]),
+                Alone = command(["audit"], Name, older(Tool, "renumber | complete")),
+                has(Alone, ["not explained: ", "seqtool was asked; it said: it doesn't know `complete'", "(status 1)"]),
+                nothing_of(Alone, ["error: what is"])
+        end
+    end}.
+
+%% The tool without some of its commands.
+older(Tool, Commands) ->
+    File = seqaudit_audits:file("older_seqtool.sh"),
+    ok = file:write_file(File, ["#!/bin/sh\ncase \"$1\" in\n", Commands,
+                                ") echo \"error: what is $1?\" >&2; exit 3 ;;\nesac\nexec ", Tool, " \"$@\"\n"]),
+    ok = file:change_mode(File, 8#755),
+    File.
+
+nothing_of(Text, Parts) ->
+    [] = [{Part, Text} || Part <- Parts, binary:match(Text, unicode:characters_to_binary(Part)) =/= nomatch].
 
 %% Helpers
 
@@ -326,17 +375,9 @@ completes(Program) ->
     end).
 
 command([Command | Words], Name, Tool) ->
-    Home = filename:dirname(filename:dirname(filename:absname(code:which(seqaudit_node)))),
-    Port = open_port({spawn_executable, filename:join(Home, "seqaudit-node")},
-                     [{args, [Command, Name | Words]}, {env, [{"SEQAUDIT", auditor()}, {"SEQTOOL", Tool}]},
-                      binary, exit_status, stderr_to_stdout]),
-    output(Port, <<>>).
-
-output(Port, Output) ->
-    receive
-        {Port, {data, Data}} -> output(Port, <<Output/binary, Data/binary>>);
-        {Port, {exit_status, Status}} -> <<Output/binary, "(status ", (integer_to_binary(Status))/binary, ")\n">>
-    end.
+    {Status, Output} = seqaudit_test_shell:execute(seqaudit_test_shell:node_command(), [Command, Name | Words],
+                                                   [{"SEQAUDIT", auditor()}, {"SEQTOOL", Tool}]),
+    <<Output/binary, "(status ", (integer_to_binary(Status))/binary, ")\n">>.
 
 %% Pids and references are numbered, nodes named, spaces that align set to two.
 normal(Text) ->

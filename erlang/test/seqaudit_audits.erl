@@ -2,13 +2,20 @@
 %% the program where it is built and has the command; then both must write the same.
 -module(seqaudit_audits).
 
--export([file/1, home/0, fits/1, audit/1, answer/2, has/1, has/2, tools/0, model/0]).
+-export([file/1, mode/1, home/0, fits/1, audit/1, answer/2, has/1, has/2, programs/0, tools/0, model/0]).
+
+-include_lib("kernel/include/file.hrl").
 
 %% A name for files of a test, in a folder that git ignores.
 file(Name) ->
     File = filename:join([home(), "test", "out", Name]),
     ok = filelib:ensure_dir(File),
     File.
+
+%% Who may read and write a file.
+mode(File) ->
+    {ok, #file_info{mode = Mode}} = file:read_file_info(File),
+    Mode band 8#777.
 
 %% The folder of the application, above what make or rebar3 compiled.
 home() ->

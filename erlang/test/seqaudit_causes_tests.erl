@@ -15,7 +15,7 @@ as_the_charts_test_() ->
         case seqaudit_audits:has("chart") of
             true ->
                 _ = rand:seed(exsss, {3, 14, 15}),
-                Captures = filelib:wildcard(filename:join([filename:dirname(code:which(?MODULE)), "..", "captures", "*.txt"])),
+                Captures = filelib:wildcard(filename:join([seqaudit_audits:home(), "test", "captures", "*.txt"])),
                 true = Captures =/= [],
                 [as_the_charts(captured(Capture)) || Capture <- Captures],
                 [as_the_charts(streams(text(run([all, some])))) || _ <- lists:seq(1, 20)];

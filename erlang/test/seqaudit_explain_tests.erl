@@ -174,7 +174,7 @@ chart(Text, Bundle) ->
     seqaudit_chart:identify(Chart, seqaudit_causes:rows(streams(Bundle))).
 
 chart_test() ->
-    Text = unicode:characters_to_binary(seqaudit_chart:text(chart(), legend())),
+    Text = unicode:characters_to_binary(seqaudit_chart:text(chart(), legend(), seqaudit_times:none())),
     has(Text, ["label {order,7}\nlane 1 alice\nlane 2 bob & <co>\n",
                "   H   .  unreported    hidden   {0,2} call {get,\"5 < 6\"}  unreported\n",
                "   .   R  bob & <co>#0  receive  {0,2} call {get,\"5 < 6\"}  after an unreported send\n",

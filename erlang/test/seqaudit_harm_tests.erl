@@ -5,6 +5,8 @@
          collect_until_kill_test_/0, trigger_test_/0, cookies_test_/0, file_modes_test/0,
          collect_errors_test_/0]).
 
+-import(seqaudit_test_shell, [node_command/0, cookie/0, run/2, begin_run/2, ended/0, terminated_when/3]).
+
 -define(PAIRS, 200).
 -define(MEGABYTE, 1024).
 
@@ -29,10 +31,10 @@ load_test_() ->
         true = With - Without < 200 * ?MEGABYTE
     end}.
 
-%% Without runtime_tools the collector takes itself off in time. How far its queue grows until it
-%% runs depends on the machine's load, so the bound is wider.
+%% Without runtime_tools the collector takes itself off in time, within the same bound.
 load_without_port_test_() ->
     {timeout, 240, fun() ->
+        Without = peak(fun(_) -> ok end, fun() -> ok end),
         With = peak(fun(There) ->
                             ok = erpc:call(There, seqaudit_test_server, without_runtime_tools, []),
                             ok = seqaudit_trace:start(#{nodes => [There], bytes => 8_000_000,
@@ -45,8 +47,9 @@ load_without_port_test_() ->
                                            string:find(Note, "collecting ended early, at 2") =/= nomatch,
                                            string:find(Note, "without runtime_tools") =/= nomatch]
                     end),
-        io:format(user, "load without a port: ~b MB~n", [With div ?MEGABYTE]),
-        true = With < 1_000 * ?MEGABYTE
+        io:format(user, "load without a port: ~b MB without a tracer, ~b MB with~n",
+                  [Without div ?MEGABYTE, With div ?MEGABYTE]),
+        true = With - Without < 200 * ?MEGABYTE
     end}.
 
 %% The greatest memory that a node of its own took under the load, in kB.
@@ -88,12 +91,6 @@ on_another(Test) ->
         end
     end}.
 
-print_when_traced(There) ->
-    case erpc:call(There, seq_trace, get_system_tracer, []) of
-        false -> receive after 50 -> print_when_traced(There) end;
-        _ -> ok = erpc:call(There, seqaudit_test_server, print, [1, seen])
-    end.
-
 %% On a terminal, Ctrl-C ends the collecting as --seconds does. Meanwhile the command is a hidden node.
 collect_until_ctrl_c_test_() ->
     on_another(fun(There, Node) ->
@@ -101,18 +98,19 @@ collect_until_ctrl_c_test_() ->
             false -> io:format(user, "Ctrl-C: skipped, there is no python3 to press it~n", []);
             _ ->
                 Name = seqaudit_audits:file("ctrl_c"),
-                Self = self(),
-                spawn_link(fun() -> Self ! {ended, run([press(), "tracing 60 ", command(), " collect ", Node,
-                                                         " -o ", Name], cookie())} end),
-                print_when_traced(There),
+                _ = file:delete(Name ++ ".press"),
+                _ = begin_run([press(), Name, ".press 60 ", node_command(), " collect ", Node, " -o ", Name],
+                              cookie()),
+                seqaudit_test_nodes:print_when_traced(There),
                 Hidden = erpc:call(There, erlang, nodes, [hidden]),
                 [_] = [N || N <- Hidden, string:prefix(atom_to_list(N), "seqaudit_") =/= nomatch,
                             N =/= node()],
                 Here = node(),
                 [Here] = erpc:call(There, erlang, nodes, []),
-                {0, Said} = receive {ended, Answer} -> Answer end,
+                ok = file:write_file(Name ++ ".press", ""),
+                {0, Said} = ended(),
                 {_, _} = binary:match(Said, <<"until Ctrl-C">>),
-                {_, _} = binary:match(Said, <<"1 events of 1 processes">>),
+                {_, _} = binary:match(Said, <<"1 event of 1 process">>),
                 false = erpc:call(There, seq_trace, get_system_tracer, [])
         end
     end).
@@ -124,15 +122,9 @@ press() ->
 collect_until_kill_test_() ->
     on_another(fun(There, Node) ->
         Name = seqaudit_audits:file("sigterm"),
-        Self = self(),
-        spawn_link(fun() -> Self ! {ended, run(["echo $$ >", Name, ".pid; exec ", command(), " collect ", Node,
-                                                 " -o ", Name], cookie())} end),
-        print_when_traced(There),
-        receive after 300 -> ok end,
-        {ok, Pid} = file:read_file(Name ++ ".pid"),
-        [] = os:cmd("kill -TERM " ++ string:trim(binary_to_list(Pid))),
-        {0, Said} = receive {ended, Answer} -> Answer end,
-        {_, _} = binary:match(Said, <<"1 events of 1 processes">>),
+        {0, Said} = terminated_when([node_command(), " collect ", Node, " -o ", Name], Name,
+                                    fun() -> seqaudit_test_nodes:print_when_traced(There) end),
+        {_, _} = binary:match(Said, <<"1 event of 1 process">>),
         false = erpc:call(There, seq_trace, get_system_tracer, [])
     end).
 
@@ -141,13 +133,12 @@ trigger_test_() ->
     on_another(fun(There, Node) ->
         ok = erpc:call(There, seqaudit_test_server, begin_shop, []),
         Name = seqaudit_audits:file("trigger"),
-        Self = self(),
-        spawn_link(fun() -> Self ! {ended, run([command(), " collect ", Node, " --trigger ",
-                                                 "'seqaudit_test_server:order/1' --label '{order, 7}' --times ",
-                                                 "--seconds 4 -o ", Name], cookie())} end),
-        traced(There),
-        7 = erpc:call(There, seqaudit_test_server, order, [7]),
-        {0, Said} = receive {ended, Answer} -> Answer end,
+        {0, Said} = terminated_when([node_command(), " collect ", Node, " --trigger ",
+                                 "'seqaudit_test_server:order/1' --label '{order, 7}' --times -o ", Name], Name,
+                                fun() ->
+                                    seqaudit_test_nodes:until(fun() -> is_triggered(There) end),
+                                    7 = erpc:call(There, seqaudit_test_server, order, [7])
+                                end),
         {_, _} = binary:match(Said, <<"; calls of seqaudit_test_server:order/1 set the token">>),
         {ok, Legend} = seqaudit_legend:read(Name ++ ".terms"),
         {ok, _} = seqaudit_legend:find_label("{order,7}", Legend),
@@ -162,11 +153,9 @@ trigger_test_() ->
         {sequential_trace_token, []} = erpc:call(There, seqaudit_test_server, shop_token, [])
     end).
 
-traced(There) ->
-    case erpc:call(There, seq_trace, get_system_tracer, []) of
-        false -> receive after 50 -> traced(There) end;
-        _ -> receive after 300 -> ok end
-    end.
+is_triggered(There) ->
+    {flags, [call]} =:= erpc:call(There, erlang, trace_info, [new, flags])
+        andalso {traced, local} =:= erpc:call(There, erlang, trace_info, [{seqaudit_test_server, order, 1}, traced]).
 
 %% A cookie comes from a file or a variable too, so that nobody sees it on the command line.
 cookies_test_() ->
@@ -174,7 +163,7 @@ cookies_test_() ->
         Name = seqaudit_audits:file("cookies"),
         Cookie = atom_to_list(erlang:get_cookie()),
         ok = file:write_file(Name ++ ".cookie", [Cookie, $\n]),
-        Collect = [command(), " collect ", Node, " --seconds 1 -o ", Name],
+        Collect = [node_command(), " collect ", Node, " --seconds 1 -o ", Name],
         {0, _} = run([Collect, " --cookie-file ", Name, ".cookie"], []),
         {0, _} = run([Collect, " --cookie ", Cookie], [{"SEQAUDIT_COOKIE", "wrong"}]),
         {4, Wrong} = run(Collect, [{"SEQAUDIT_COOKIE", "wrong"}]),
@@ -183,8 +172,6 @@ cookies_test_() ->
         {_, _} = binary:match(NoFile, <<"the cookie can't be had: /no/such/file: no such file">>)
     end).
 
-cookie() -> [{"SEQAUDIT_COOKIE", atom_to_list(erlang:get_cookie())}].
-
 %% Files with the contents of messages are their owner's alone, and so is the folder on the node.
 file_modes_test() ->
     Name = seqaudit_audits:file("modes"),
@@ -192,22 +179,18 @@ file_modes_test() ->
     [ok = file:change_mode(Name ++ Suffix, 8#644) || Suffix <- [".events", ".terms"]],
     ok = seqaudit_trace:start(#{name => Name}),
     [{_, Folder}] = seqaudit_trace:folders(),
-    8#700 = mode(Folder),
+    8#700 = seqaudit_audits:mode(Folder),
     seqaudit_trace:with_trace(1, [print, timestamp], fun() -> seq_trace:print(x) end),
     {ok, #{files := Files}} = seqaudit_trace:stop(),
     5 = length(Files),
-    [8#600 = mode(File) || File <- Files].
-
-mode(File) ->
-    {ok, Info} = file:read_file_info(File),
-    element(8, Info) band 8#777.
+    [8#600 = seqaudit_audits:mode(File) || File <- Files].
 
 %% What can't be understood is said in a sentence, without a stack.
 collect_errors_test_() ->
     {timeout, 60, fun() ->
         Name = seqaudit_audits:file("errors"),
         [begin
-             {3, Text} = run([command(), " collect -o ", Name, $\s, Words], []),
+             {3, Text} = run([node_command(), " collect -o ", Name, $\s, Words], []),
              {_, _} = binary:match(Text, Part),
              nomatch = binary:match(Text, [<<"erl:">>, <<"badmatch">>, <<"{error">>])
          end || {Words, Part} <- [{"--node nohost", <<"nohost is no name of a node; it is written name@host">>},
@@ -220,22 +203,6 @@ collect_errors_test_() ->
                                   {"--node a@h --trigger a:b/1 --label '{x'", <<"{x is no Erlang term">>},
                                   {"--node a@h --times", <<"--times goes with --trigger">>},
                                   {"--node a@h --frobnicate", <<"collect doesn't know --frobnicate">>}]],
-        {4, Small} = run([command(), " collect --node nobody@localhost --cookie c --bytes 10 -o ", Name], []),
+        {4, Small} = run([node_command(), " collect --node nobody@localhost --cookie c --bytes 10 -o ", Name], []),
         {_, _} = binary:match(Small, <<"bytes can't be 10: it is a whole number of bytes, 65536 or more">>)
     end}.
-
-command() ->
-    filename:join(seqaudit_audits:home(), "seqaudit-node").
-
-%% The status of a command of the shell and what it wrote, errors too.
-run(Words, Variables) ->
-    Port = open_port({spawn_executable, "/bin/sh"},
-                     [{args, ["-c", lists:flatten(["{ ", Words, "; } 2>&1"])]},
-                      {env, Variables}, binary, exit_status]),
-    output(Port, <<>>).
-
-output(Port, Output) ->
-    receive
-        {Port, {data, Data}} -> output(Port, <<Output/binary, Data/binary>>);
-        {Port, {exit_status, Status}} -> {Status, Output}
-    end.

@@ -3,7 +3,7 @@
 
 -export([net_split_test_/0, killed_node_test_/0, out_of_reach_test_/0, killed_collector_test_/0,
          killed_leader_test_/0, lost_owner_test_/0, stray_calls_test_/0, other_disk_test_/0,
-         late_events_test/0, broken_port_test/0, stray_tokens_test_/0, own_events_test/0, late_names_test_/0,
+         late_events_test/0, broken_port_test/0, broken_disk_test_/0, stray_tokens_test_/0, own_events_test/0, late_names_test_/0,
          refused_options_test/0]).
 
 %% Runs a test on a second node.
@@ -31,6 +31,10 @@ begin_on(There, Name, Options) ->
 print(There, What) ->
     ok = erpc:call(There, seqaudit_test_server, print, [1, What]).
 
+until(Done) -> seqaudit_test_nodes:until(Done).
+on_disk(Folder, Count) -> seqaudit_test_nodes:on_disk(Folder, Count).
+is_traced(Node) -> seqaudit_test_nodes:is_traced(Node).
+
 %% The messages of the prints in a file of events.
 printed(File) ->
     {ok, Collections} = seqaudit_events:read(File ++ ".events"),
@@ -49,27 +53,35 @@ net_split_test_() ->
         {File, Folders} = begin_on(There, "split", #{}),
         ok = print(There, before),
         true = erlang:disconnect_node(There),
-        receive after 300 -> ok end,
-        true = net_kernel:connect_node(There),
+        until(fun() -> not is_led(There) end),
+        until(fun() -> net_kernel:connect_node(There) =:= true end),
         ok = print(There, behind),
-        receive after 1_000 -> ok end,
+        until(fun() -> is_led(There) end),
         true = is_port(erpc:call(There, seq_trace, get_system_tracer, [])),
         {ok, #{events := 2, dropped := 0, notes := Notes}} = seqaudit_trace:stop(),
         [before, behind] = printed(File),
-        ok = one_note("the connection was lost 1 times", Notes),
+        ok = one_note("the connection was lost once", Notes),
         false = erpc:call(There, seq_trace, get_system_tracer, []),
         removed(Folders)
     end).
 
+%% Whether the collector there is led from here: then the process that leads it has a monitor on it.
+is_led(There) ->
+    {monitors, Monitors} = process_info(whereis(seqaudit_trace), monitors),
+    [] =/= [Pid || {process, Pid} <- Monitors, node(Pid) =:= There].
+
+kill_node(There) ->
+    [] = os:cmd("kill -9 " ++ erpc:call(There, os, getpid, [])),
+    until(fun() -> not lists:member(There, nodes()) end).
+
 %% A node that is killed leaves on the disk what came until a tick before.
 killed_node_test_() ->
     on_two(fun(There) ->
-        {File, Folders} = begin_on(There, "killed_node", #{}),
+        {File, [_, Folder] = Folders} = begin_on(There, "killed_node", #{}),
         ok = print(There, before),
         seqaudit_test_server:print(1, here),
-        receive after 400 -> ok end,
-        [] = os:cmd("kill -9 " ++ erpc:call(There, os, getpid, [])),
-        receive after 300 -> ok end,
+        on_disk(Folder, 1),
+        kill_node(There),
         {ok, #{events := 2, notes := Notes}} = seqaudit_trace:stop(),
         [before, here] = lists:sort(printed(File)),
         ok = one_note("its collector went down", Notes),
@@ -80,16 +92,16 @@ killed_node_test_() ->
 %% Of a node that is gone with its disk the notes say where the events are.
 out_of_reach_test_() ->
     on_two(fun(There) ->
-        {File, Folders} = begin_on(There, "no_reach", #{}),
+        {File, [_, Folder] = Folders} = begin_on(There, "no_reach", #{}),
         ok = print(There, away),
-        receive after 300 -> ok end,
-        [] = os:cmd("kill -9 " ++ erpc:call(There, os, getpid, [])),
+        on_disk(Folder, 1),
+        kill_node(There),
         {ok, #{events := 0, notes := Notes}} = apart(fun seqaudit_trace:stop/0),
-        [Left] = [Folder || Folder <- Folders, filelib:is_dir(Folder),
-                            [] =/= [Note || Note <- Notes, string:find(Note, Folder) =/= nomatch]],
+        [Left] = [Each || Each <- Folders, filelib:is_dir(Each),
+                          [] =/= [Note || Note <- Notes, string:find(Note, Each) =/= nomatch]],
         ok = one_note("`seqaudit-node convert' takes that folder", Notes),
         {ok, #{events := 1}} = seqaudit_convert:from_files([Left], File),
-        [ok = seqaudit_spool:remove(Folder) || Folder <- Folders, filelib:is_dir(Folder)]
+        [ok = seqaudit_spool:remove(Each) || Each <- Folders, filelib:is_dir(Each)]
     end).
 
 %% As if the nodes had no disk in common.
@@ -107,12 +119,15 @@ other_disk_test_() ->
     end).
 
 killed_collector_test_() ->
+    [killed_collector(Port) || Port <- [true, false]].
+
+killed_collector(Port) ->
     on_two(fun(There) ->
-        {File, Folders} = begin_on(There, "killed_collector", #{}),
+        {File, [_, Folder] = Folders} = begin_on(There, "killed_collector", #{port => Port}),
         ok = print(There, before),
+        on_disk(Folder, 1),
         exit(erpc:call(There, erlang, whereis, [seqaudit_collector]), kill),
-        receive after 200 -> ok end,
-        false = erpc:call(There, seq_trace, get_system_tracer, []),
+        until(fun() -> not is_traced(There) end),
         ok = print(There, behind),
         {ok, #{events := 1, notes := Notes}} = seqaudit_trace:stop(),
         [before] = printed(File),
@@ -126,8 +141,7 @@ killed_leader_test_() ->
         {File, Folders} = begin_on(There, "killed_leader", #{}),
         ok = print(There, before),
         exit(whereis(seqaudit_trace), kill),
-        receive after 300 -> ok end,
-        false = erpc:call(There, seq_trace, get_system_tracer, []),
+        until(fun() -> whereis(seqaudit_trace) =:= undefined andalso not is_traced(There) end),
         {error, left_over} = seqaudit_trace:start(#{name => File}),
         true = is_list(seqaudit_trace:format_error(left_over)),
         {ok, #{events := 1, notes := Notes}} = seqaudit_trace:stop(),
@@ -150,10 +164,11 @@ lost_owner_test_() ->
         Spool = seqaudit_collector:folder(Collector),
         ok = print(There, before),
         true = erlang:disconnect_node(There),
-        receive after 800 -> ok end,
-        true = net_kernel:connect_node(There),
-        false = erpc:call(There, erlang, is_process_alive, [Collector]),
-        false = erpc:call(There, seq_trace, get_system_tracer, []),
+        until(fun() ->
+                  net_kernel:connect_node(There) =:= true
+                      andalso not erpc:call(There, erlang, is_process_alive, [Collector])
+              end),
+        false = is_traced(There),
         {ok, #{events := 1, notes := Notes}} =
             seqaudit_convert:from_files([Spool], seqaudit_audits:file("lost_owner")),
         ok = one_note("out of reach for too long", Notes),
@@ -180,12 +195,33 @@ broken_port_test() ->
     Name = seqaudit_audits:file("broken_port"),
     ok = seqaudit_trace:start(#{name => Name}),
     ok = seqaudit_test_server:print(1, before),
-    receive after 200 -> ok end,
+    [{_, Folder}] = seqaudit_trace:folders(),
+    on_disk(Folder, 1),
     exit(seq_trace:get_system_tracer(), enospc),
-    receive after 100 -> ok end,
+    until(fun() ->
+              {links, Links} = process_info(whereis(seqaudit_collector), links),
+              [] =:= [Port || Port <- Links, is_port(Port)]
+          end),
     false = seq_trace:get_system_tracer(),
     {ok, #{events := 1, notes := Notes}} = seqaudit_trace:stop(),
     ok = one_note("the trace file couldn't be written (enospc)", Notes).
+
+%% The same without a trace port: a disk that is full, and a process that wrote and is gone.
+broken_disk_test_() ->
+    [{timeout, 60, fun() ->
+         ok = seqaudit_trace:start(#{name => seqaudit_audits:file("broken_disk"), port => false}),
+         ok = seqaudit_test_server:print(1, before),
+         Collector = whereis(seqaudit_collector),
+         {links, Links} = process_info(Collector, links),
+         [Writer] = [Pid || Pid <- Links, process_info(Pid, priority) =:= {priority, high}],
+         [{_, Folder}] = seqaudit_trace:folders(),
+         on_disk(Folder, 1),
+         Break(Collector, Writer),
+         until(fun() -> seq_trace:get_system_tracer() =:= false end),
+         {ok, #{events := 1, dropped := 0, notes := Notes}} = seqaudit_trace:stop(),
+         ok = one_note(["the trace file couldn't be written (", Why, ")"], Notes)
+     end} || {Why, Break} <- [{"enospc", fun(To, Writer) -> To ! {seqaudit_scribe, Writer, enospc} end},
+                             {"killed", fun(_, Writer) -> exit(Writer, kill) end}]].
 
 %% What is on its way when the tracer is taken off is waited for.
 late_events_test() ->
@@ -194,21 +230,14 @@ late_events_test() ->
     Collector = whereis(seqaudit_collector),
     _ = spawn(fun() ->
                       until(fun() -> seq_trace:get_system_tracer() =:= false end),
-                      receive after 20 -> ok end,
                       Collector ! {seq_trace, 1, {print, {0, 1}, self(), [], late}}
               end),
     {ok, #{events := 1}} = seqaudit_trace:stop(),
     [late] = printed(Name).
 
-until(Done) ->
-    case Done() of
-        true -> ok;
-        false -> receive after 1 -> until(Done) end
-    end.
-
 %% A stray message with a token leaves the collector without one.
 stray_tokens_test_() ->
-    [fun() ->
+    [{timeout, 60, fun() ->
          ok = seqaudit_trace:start(#{name => seqaudit_audits:file("tokens"), port => Port}),
          Collector = whereis(seqaudit_collector),
          %% Looked at before the next message, which would take the token away anyhow.
@@ -221,7 +250,7 @@ stray_tokens_test_() ->
                            fun(To) -> {error, unknown_call} = gen_server:call(To, stray) end]],
          {ok, #{notes := Notes}} = seqaudit_trace:stop(),
          ok = one_note("3 messages to the collector were no trace events", Notes)
-     end || Port <- [true, false]].
+     end} || Port <- [true, false]].
 
 %% Events that name the collector are counted and left out.
 own_events_test() ->
@@ -250,7 +279,8 @@ late_names_test_() ->
             receive gone -> ok end,
             ok = gen_server:call(Short, ok)
         end),
-        receive after 400 -> ok end,
+        [{_, Folder}] = seqaudit_trace:folders(),
+        seqaudit_test_nodes:met(Folder, [Late, Short]),
         ok = gen_server:stop(Short),
         true = register(seqaudit_test_late, Late),
         {ok, _} = seqaudit_trace:stop(),

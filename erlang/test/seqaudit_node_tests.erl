@@ -127,16 +127,19 @@ collect(There) ->
     _ = spawn_link(fun() -> Self ! {collected, command(Words)} end),
     traced(There),
     {0, Said} = receive {collected, Answer} -> Answer end,
-    {_, _} = binary:match(Said, <<"1 events of 1 processes">>),
+    {_, _} = binary:match(Said, <<"1 event of 1 process">>),
     false = erpc:call(There, seq_trace, get_system_tracer, []),
+    %% What the node was sent is what collects; what was collected is converted here.
+    Loaded = [Module || Module <- erpc:call(There, erlang, loaded, []),
+                        string:prefix(atom_to_list(Module), "seqaudit_") =/= nomatch],
+    [seqaudit_collector, seqaudit_scribe, seqaudit_spool, seqaudit_trace] =
+        lists:sort(Loaded -- [?MODULE, seqaudit_test_server]),
     seqaudit_audits:fits(Name).
 
 %% Once the tracer is on, the node itself has with_trace.
 traced(There) ->
-    case erpc:call(There, seq_trace, get_system_tracer, []) of
-        false -> receive after 50 -> traced(There) end;
-        _ -> erpc:call(There, seqaudit_trace, with_trace, [1, fun ?MODULE:printing/0])
-    end.
+    seqaudit_test_nodes:until(fun() -> seqaudit_test_nodes:is_traced(There) end),
+    erpc:call(There, seqaudit_trace, with_trace, [1, fun ?MODULE:printing/0]).
 
 printing() -> seq_trace:print(seen).
 
@@ -145,14 +148,5 @@ command(Words) ->
 
 %% Its status and what it wrote, errors too; `Program' stands for seqaudit.
 command(Words, Program) ->
-    Command = filename:join(seqaudit_audits:home(), "seqaudit-node"),
-    Port = open_port({spawn_executable, "/bin/sh"},
-                     [{args, ["-c", lists:flatten([Command, " ", Words, " 2>&1"])]},
-                      {env, [{"SEQAUDIT", Program}, {"SEQTOOL", "/no/such/seqtool"}]}, binary, exit_status]),
-    output(Port, <<>>).
-
-output(Port, Output) ->
-    receive
-        {Port, {data, Data}} -> output(Port, <<Output/binary, Data/binary>>);
-        {Port, {exit_status, Status}} -> {Status, Output}
-    end.
+    seqaudit_test_shell:run([seqaudit_test_shell:node_command(), $\s, Words],
+                            [{"SEQAUDIT", Program}, {"SEQTOOL", "/no/such/seqtool"}]).

@@ -1,13 +1,15 @@
-%% A second node on this machine.
+%% A second node on this machine, and waiting for what happens there.
 -module(seqaudit_test_nodes).
 
--export([start/0]).
+-export([start/0, until/1, on_disk/2, met/2, is_traced/1, print_when_traced/1]).
 
-%% Answers how to stop it and what it is called; this node's name comes before it.
+%% A machine that is busy takes a while for what is done at once otherwise.
+-define(DEADLINE_MS, 30_000).
+
+%% Returns how to stop it and what it is called; this node's name comes before it.
 start() ->
     Id = os:getpid(),
-    case net_kernel:start(list_to_atom("seqaudit_a_" ++ Id ++ "@localhost"),
-                          #{name_domain => shortnames}) of
+    case named("seqaudit_a_" ++ Id ++ "@localhost", deadline()) of
         {ok, _} ->
             Options = #{name => list_to_atom("seqaudit_b_" ++ Id), host => "localhost",
                         connection => standard_io,
@@ -20,3 +22,54 @@ start() ->
         {error, Reason} ->
             {error, Reason}
     end.
+
+%% The name server may not have noticed yet that the node of the last test gave the name back. Where
+%% there is no name server, waiting changes nothing.
+named(Name, Deadline) ->
+    Level = logger:get_primary_config(),
+    ok = logger:set_primary_config(level, none),
+    Started = net_kernel:start(list_to_atom(Name), #{name_domain => shortnames}),
+    ok = logger:set_primary_config(Level),
+    case {Started, erl_epmd:names("localhost"), erlang:monotonic_time(millisecond) < Deadline} of
+        {{error, _}, {ok, _}, true} -> receive after 50 -> named(Name, Deadline) end;
+        _ -> Started
+    end.
+
+%% Waits until the function returns true, and fails if it takes too long.
+until(Done) ->
+    until(Done, deadline()).
+
+until(Done, Deadline) ->
+    case {Done(), erlang:monotonic_time(millisecond) < Deadline} of
+        {true, _} -> ok;
+        {false, true} -> receive after 5 -> until(Done, Deadline) end;
+        {false, false} -> error({never, Done})
+    end.
+
+%% Waits until a collector's folder has so many events.
+on_disk(Folder, Count) ->
+    until(fun() -> in_folder(Folder, fun({event, _}, Sum) -> Sum + 1; (_, Sum) -> Sum end, 0) >= Count end).
+
+%% Waits until a collector has asked what these processes are called.
+met(Folder, Pids) ->
+    Wanted = [seqaudit_external:from_term(Pid) || Pid <- Pids],
+    until(fun() ->
+              [] =:= Wanted -- in_folder(Folder, fun({facts, #{processes := Known}}, Sum) -> [Pid || {Pid, _} <- Known] ++ Sum;
+                                                    (_, Sum) -> Sum
+                                                 end, [])
+          end).
+
+in_folder(Folder, Do, Acc) ->
+    {ok, Result} = seqaudit_events:fold(Folder, Do, Acc),
+    Result.
+
+%% Whether a system tracer is on there.
+is_traced(Node) ->
+    erpc:call(Node, seq_trace, get_system_tracer, []) =/= false.
+
+%% A process of that node prints under a token, as soon as a tracer is on.
+print_when_traced(Node) ->
+    until(fun() -> is_traced(Node) end),
+    ok = erpc:call(Node, seqaudit_test_server, print, [1, seen]).
+
+deadline() -> erlang:monotonic_time(millisecond) + ?DEADLINE_MS.

@@ -170,11 +170,13 @@ owner_ends_test() ->
 
 %% A traced process that writes to the collector leaves the collector untraced.
 collector_stays_out_test() ->
+    {module, _} = code:ensure_loaded(seqaudit_test_nodes),
     {2, _} = traced("stays_out", #{}, fun() ->
         seqaudit_trace:with_trace(1, fun() ->
             seq_trace:print(before),
             seqaudit_collector ! stray,
-            receive after 20 -> ok end,
+            Collector = whereis(seqaudit_collector),
+            seqaudit_test_nodes:until(fun() -> process_info(Collector, message_queue_len) =:= {message_queue_len, 0} end),
             seq_trace:print(behind)
         end)
     end),

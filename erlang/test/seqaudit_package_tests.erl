@@ -1,0 +1,52 @@
+%% The application as rebar3 packages it, where there is a rebar3 (Debian has one).
+-module(seqaudit_package_tests).
+
+-export([rebar3_test_/0, release_test/0]).
+
+%% rebar3 compiles, tests, makes the pages of the modules and the escript, with nothing from the network.
+%% The escript does from another folder what the command does: it collects, converts, audits and makes a page.
+rebar3_test_() ->
+    {timeout, 600, fun() ->
+        case os:find_executable("rebar3") of
+            false -> io:format(user, "rebar3: skipped, it isn't here~n", []);
+            Rebar -> packaged(Rebar, seqaudit_audits:file("package"))
+        end
+    end}.
+
+packaged(Rebar, Folder) ->
+    _ = file:del_dir_r(Folder),
+    ok = file:make_dir(Folder),
+    {0, _} = seqaudit_test_shell:run(["cd ", seqaudit_audits:home(), " && tar -c --exclude=test/out --exclude=test/ebin ",
+                    "rebar.config seqaudit-node src priv test | tar -x -C ", Folder]),
+    [{0, _} = seqaudit_test_shell:run(["cd ", Folder, " && HOME=", Folder, " ", Rebar, " ", Words])
+     || Words <- ["compile", "eunit", "edoc", "as escript escriptize"]],
+    true = filelib:is_regular(filename:join([Folder, "doc", "index.html"])),
+    Command = filename:join([Folder, "_build", "escript", "bin", "seqaudit-node"]),
+    {0, <<"usage: seqaudit-node COMMAND", _/binary>>} = seqaudit_test_shell:run(["cd / && ", Command, " --help"]),
+    case seqaudit_test_nodes:start() of
+        {ok, Stop, There} -> try collected(There, Command, Folder) after Stop() end;
+        {error, Reason} -> io:format(user, "the escript's collect: skipped, ~0tp~n", [Reason])
+    end.
+
+collected(There, Command, Folder) ->
+    Name = filename:join(Folder, "collected"),
+    Collect = ["env -C / ", Command, " collect --node ", atom_to_list(There), " -o ", Name],
+    {0, Said} = seqaudit_test_shell:terminated_when(Collect, Name,
+                                                    fun() -> seqaudit_test_nodes:print_when_traced(There) end),
+    {_, _} = binary:match(Said, <<"1 event of 1 process">>),
+    case seqaudit_audits:programs() of
+        [] -> io:format(user, "the escript's audit: skipped, there is no auditor~n", []);
+        Programs -> answered(lists:last(Programs), Command, Name)
+    end.
+
+answered(Program, Command, Name) ->
+    Variables = [{"SEQAUDIT", Program}, {"SEQTOOL", "/no/such/seqtool"}],
+    {0, <<"fits: 1 event of 1 process", _/binary>>} = seqaudit_test_shell:run(["cd / && ", Command, " audit ", Name], Variables),
+    {0, _} = seqaudit_test_shell:run(["cd / && ", Command, " chart ", Name, " --html ", Name, ".html"], Variables),
+    {ok, <<"<!doctype html>", _/binary>>} = file:read_file(Name ++ ".html").
+
+%% What is too old is said, of this Erlang and of a node.
+release_test() ->
+    "this Erlang is OTP 24, and collecting needs OTP 25 or later" = seqaudit_trace:format_error({otp, "24"}),
+    "node a@h is OTP 24, and collecting needs OTP 25 or later" =
+        seqaudit_trace:format_error({node, 'a@h', {otp, "24"}}).
