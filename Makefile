@@ -50,7 +50,7 @@ install: $(PROGRAMS:%=bin/%) ## copies the proved programs, man pages and comple
 	install -D -m 644 completions/seqtool.bash $(SHARE)/bash-completion/completions/seqaudit
 	install -D -m 644 -t $(SHARE)/zsh/site-functions completions/_seqtool
 
-test: layers docs ## the merge gate: all proofs from nothing, the wrong bodies, the tests (45 minutes)
+test: layers docs ## the merge gate: all proofs from nothing, the wrong bodies, the tests (more than an hour)
 	rt ci
 	@$(MAKE) --no-print-directory test-program
 	@$(MAKE) --no-print-directory test-erlang
@@ -67,13 +67,13 @@ docs: ## holds names, links and counts in the docs to the sources (2 seconds)
 BUILT = $(firstword $(wildcard $(CURDIR)/crates/seqaudit/out/seqaudit $(CURDIR)/bin/seqaudit))
 BUILT_TOOL = $(firstword $(wildcard $(CURDIR)/crates/seqtool/out/seqtool $(CURDIR)/bin/seqtool))
 
-# What no proof sees: the built program on examples/, its statuses, random traces beside a slow model, a million acts,
-# and faults. Python's seeds are fixed.
-test-program: ## the program that was built last: examples/, random traces, a million acts, faults (2 minutes)
+# What no proof sees: the built programs on examples/, their statuses and words, random traces beside a slow model, a
+# million acts and events, and faults. Python's seeds are fixed.
+test-program: ## the programs that were built last: examples/, random traces, a million acts, faults (2 minutes)
 	@.ci/program $(BUILT)
 	@examples/demo-seqtool $(BUILT_TOOL)
-	@if command -v python3 >/dev/null; then bench/hostile $(BUILT); \
-	else echo "There is no python3 here: the faults are skipped."; fi
+	@if command -v python3 >/dev/null; then .ci/seqtool $(BUILT_TOOL) && bench/hostile $(BUILT); \
+	else echo "There is no python3 here: seqtool's words and the faults are skipped."; fi
 
 # Traces of a real Erlang node, if there is one, by the program that was built last.
 test-erlang: ## the tests of erlang/, with the program that was built last (1 minute; needs erl)

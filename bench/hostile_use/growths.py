@@ -1,10 +1,11 @@
 """Refused growths: each request for memory, and for a thread, is refused in turn."""
 
 from . import model, shim
-from .inputs import INPUTS
-from .program import FAULT_MEMORY, Answer, Check
+from .inputs import FOUR_SCRIPTS, INPUTS
+from .program import FAULT_MEMORY, Answer, Check, expect
 
 FAULT_THREAD = Answer(4, b"fault thread\n")
+SCRIPTS = 4  # Of `FOUR_SCRIPTS`, each of which has a thread.
 MOST_GROWTHS = 10_000  # Far more than the short inputs need: a program that never ends is noticed.
 
 
@@ -30,6 +31,32 @@ def each_refused(program, library, name, rest):
         yield Check(f"growths: {name}: {which}: an end", f"growth {MOST_GROWTHS - 1} was refused too")
     yield Check(f"growths: {name}: {which}: some growth was refused", None if memory else "no run answered a fault",
                 note=f"{memory} refused runs answered a fault, {right} the right answer")
+
+
+def each_thread_refused(program, library, rest):
+    """The Nth thread is refused, or the Nth and all later ones: a fault for a script's, and the join does without one."""
+    which = "and all later ones" if rest else "alone"
+    for n in range(1, MOST_GROWTHS):
+        got, came = shim.run(program, library, ("drive",), FOUR_SCRIPTS, refuse_thread=n, refuse_rest=int(rest))
+        called = f"growths: four scripts driven: thread {n} {which}"
+        if n <= SCRIPTS:
+            yield Check(called, None if came and got == FAULT_THREAD else f"expected {FAULT_THREAD}\ngot {got}")
+            continue
+        is_right = model.is_right(("drive",), FOUR_SCRIPTS, got)
+        yield Check(called, None if is_right else f"each script has its thread, and the answer is wrong\ngot {got}")
+        if not came:
+            break
+
+
+def no_room_for_threads(program):
+    """Without a library: 1,024 scripts, whose threads' stacks of 2 MB don't fit so little address space."""
+    lines = [b"process <0.%d.0>\n" % number for number in range(1_024)]
+    text = b"seqtrace 1\n" + b"".join(lines) + b"acts\n" + b"".join(lines).replace(b"process", b"look")
+    for megabytes in (64, 128, 256, 512, 1_024):
+        got = program.run(("drive",), text, before=("prlimit", f"--as={megabytes << 20}"))
+        yield expect(f"growths: 1,024 scripts driven within {megabytes} MB of address space", FAULT_THREAD, got, text)
+    got = program.run(("drive",), text)
+    yield expect("growths: 1,024 scripts driven with room for their threads", Answer(0, text), got, text)
 
 
 def address_space(program):

@@ -1,6 +1,7 @@
 /* Refuses a growth, or fails a read or a write, of the program that it is loaded into by LD_PRELOAD, and says
  * `refused` on standard error when it does. The environment tells which:
  *   REFUSE_GROWTH=N   the Nth request for memory or for a thread; with REFUSE_REST=1 all later ones too
+ *   REFUSE_THREAD=N   the Nth request for a thread; with REFUSE_REST=1 all later ones too
  *   FAIL_READ=K       the first read of standard input after K bytes fails, and later ones work
  *   FAIL_WRITE=K      the first write to standard output after K bytes fails, and later ones work
  *   TAKE_NOTHING=K    the first write to standard output after K bytes takes no byte, and later ones work
@@ -18,8 +19,8 @@
 extern void *__libc_malloc(size_t), *__libc_calloc(size_t, size_t), *__libc_realloc(void *, size_t);
 extern void *__libc_memalign(size_t, size_t);
 
-static long growth, rest, fail_read = -1, fail_write = -1, take_nothing = -1, pieces;
-static long growths, read_so_far, written_so_far;
+static long growth, thread, rest, fail_read = -1, fail_write = -1, take_nothing = -1, pieces;
+static long growths, threads, read_so_far, written_so_far;
 
 static long number_of(const char *name, long otherwise) {
     const char *text = getenv(name);
@@ -33,6 +34,7 @@ __attribute__((constructor)) static void begin(void) {
     take_nothing = number_of("TAKE_NOTHING", -1);
     pieces = number_of("PIECES", 0);
     growth = number_of("REFUSE_GROWTH", 0);
+    thread = number_of("REFUSE_THREAD", 0);
 }
 
 static void tell(void) {
@@ -40,15 +42,17 @@ static void tell(void) {
     if (!__atomic_exchange_n(&told, 1, __ATOMIC_RELAXED)) syscall(SYS_write, 2, "refused\n", 8);
 }
 
-/* Counts a growth, and says whether it is refused. */
-static int refused(void) {
-    if (!growth) return 0;
-    long count = __atomic_add_fetch(&growths, 1, __ATOMIC_RELAXED);
-    if (count != growth && !(rest && count > growth)) return 0;
+/* Counts one more request, and says whether it is refused: the one of this number is, if that isn't 0. */
+static int refuses(long number, long *so_far) {
+    if (!number) return 0;
+    long count = __atomic_add_fetch(so_far, 1, __ATOMIC_RELAXED);
+    if (count != number && !(rest && count > number)) return 0;
     tell();
     errno = ENOMEM;
     return 1;
 }
+
+static int refused(void) { return refuses(growth, &growths); }
 
 void *malloc(size_t size) { return refused() ? NULL : __libc_malloc(size); }
 void *calloc(size_t count, size_t size) { return refused() ? NULL : __libc_calloc(count, size); }
@@ -66,9 +70,9 @@ void *mmap(void *at, size_t size, int protection, int flags, int file, off_t off
     return refused() ? MAP_FAILED : (void *)syscall(SYS_mmap, at, size, protection, flags, file, offset);
 }
 
-int pthread_create(pthread_t *thread, const pthread_attr_t *how, void *(*body)(void *), void *given) {
+int pthread_create(pthread_t *made, const pthread_attr_t *how, void *(*body)(void *), void *given) {
     int (*real)(pthread_t *, const pthread_attr_t *, void *(*)(void *), void *) = dlsym(RTLD_NEXT, "pthread_create");
-    return refused() ? EAGAIN : real(thread, how, body, given);
+    return refused() || refuses(thread, &threads) ? EAGAIN : real(made, how, body, given);
 }
 
 /* How much of a piece passes: up to the place of a fault, which comes once it stands at the front (-1, or 0 bytes). */
