@@ -172,7 +172,7 @@ pub own_count : (streams : List Stream) (v : ℕ) (p : Pid) (all : List Told)
 own_count streams v p all are =
     ap (count_by (is_untaken p)) are
     ∙ count_same (told_of streams v) (is_untaken p) (is_own_supply streams v p) (untaken_here streams v p)
-        (pids_of streams)
+    (pids_of streams)
 
 -- NEEDS
 

@@ -125,7 +125,7 @@ module _ (streams : List Stream) where
           | false ↦ λ not_first. inr (λ h. elim h.among [
             | inl same ↦ false≢true (sym not_first
                 ∙ ap (λ (x : Event). is_stamp x && (nat_lt 0 x.serial.prev && is_scarce streams x.serial.prev))
-                    (sym same)
+                (sym same)
                 ∙ and_from (is_stamp h.event) (nat_lt 0 h.event.serial.prev && is_scarce streams h.event.serial.prev)
                 h.stamps (and_from (nat_lt 0 h.event.serial.prev) (is_scarce streams h.event.serial.prev)
                 (lt-ltb 0 h.event.serial.prev h.asks.some) h.asks.scarce))

@@ -295,7 +295,7 @@ fronted before (m ∷ ms) ns counted left first second told untold none =
                 let few = rest.fewer v some in
                 let same = ap (needs_from v (before ++ e ∷ [])) apart in
                 let moved = move_fewer before (events r.before) e (events r.behind) receive in_turn parts.0 v
-                    some root in
+                some root in
                 let was = ap (needs_from v before) there in
                 omega arith;
           }

@@ -257,14 +257,14 @@ module _ (streams : List Stream) (p : Pid) (no_two : HasNoTwoScarce streams) whe
           (timely_both before (events best.marks ++ e ∷ []) (events r.marks) best.timely r.timely));
       as_first = λ v scarce some.
           let few = no_more streams before (events best.marks) (events m_front) e (events r.marks)
-              (events m_back) m_alike
+          (events m_back) m_alike
           best.as_first r.as_first v scarce some in
           let same = ap (needs_from v before) (events_append best.marks (told_mark e ∷ r.marks)) in
           let was = ap (needs_from v before) (events_append m_front (told_mark e ∷ m_back)) in
           omega arith;
       as_second = λ v scarce some.
           let few = no_more streams before (events best.marks) (events n_front) e (events r.marks)
-              (events n_back) n_alike
+          (events n_back) n_alike
           best.as_second r.as_second v scarce some in
           let same = ap (needs_from v before) (events_append best.marks (told_mark e ∷ r.marks)) in
           let was = ap (needs_from v before) (events_append n_front (told_mark e ∷ n_back)) in

@@ -11,24 +11,24 @@ returns c =
     let line = c.args.line.now in
     let restores =
     better restore_send_lines restore_lines
-        line c.of_restores_with_send.result c.of_restores.result c.max-restores.result
+    line c.of_restores_with_send.result c.of_restores.result c.max-restores.result
     c.max-restores.ensures c.of_restores_with_send.ensures c.of_restores.ensures in
     let tracers =
     better tracer_lines (restore_send_lines ++ restore_lines)
-        line c.of_tracers.result c.max-restores.result c.max-tracers.result
+    line c.of_tracers.result c.max-restores.result c.max-tracers.result
     c.max-tracers.ensures c.of_tracers.ensures restores in
     let flags =
     better flag_lines (tracer_lines ++ restore_send_lines ++ restore_lines)
-        line c.of_flags.result c.max-tracers.result c.max-flags.result
+    line c.of_flags.result c.max-tracers.result c.max-flags.result
     c.max-flags.ensures c.of_flags.ensures tracers in
     let tokens =
     better token_lines (flag_lines ++ tracer_lines ++ restore_send_lines ++ restore_lines)
-        line c.of_tokens.result c.max-flags.result c.max-tokens.result
+    line c.of_tokens.result c.max-flags.result c.max-tokens.result
     c.max-tokens.ensures c.of_tokens.ensures flags in
     let prints =
     better print_lines (token_lines ++ flag_lines ++ tracer_lines ++ restore_send_lines ++ restore_lines)
-        line c.of_prints.result c.max-tokens.result c.max-prints.result
+    line c.of_prints.result c.max-tokens.result c.max-prints.result
     c.max-prints.ensures c.of_prints.ensures tokens in
     better message_lines (print_lines ++ token_lines ++ flag_lines ++ tracer_lines ++ restore_send_lines ++ restore_lines)
-        line c.of_messages.result c.max-prints.result c.max.result
+    line c.of_messages.result c.max-prints.result c.max.result
     c.max.ensures c.of_messages.ensures prints

@@ -113,8 +113,8 @@ returns-in_err-told-clause-exact g c = λ e at pairs told n counted.
     on_err c.from_residual.result h
     (λ r. Meets {T = Unit {0}} SaysNothing
     (report_turn top streams marks old.world old.skipped n (move_by (item.Reported p i) e) i)
-        old.world old.acts r now.world now.acts)
-        c.from_residual.ensures.1
+    old.world old.acts r now.world now.acts)
+    c.from_residual.ensures.1
     (subst (λ (e : Event). Meets {T = Unit {0}} SaysNothing
     (report_turn top streams marks old.world old.skipped n (move_by (item.Reported p i) e) i)
     old.world old.acts (Err h) now.world now.acts) same
