@@ -11,7 +11,7 @@ FILE ?= examples/collected.txt
 SOURCES := crates.txt $(shell find crates -path '*/out' -prune -o -type f -print)
 CODE := crates.txt $(filter %.rt,$(SOURCES))
 
-.PHONY: help quick try program demo install test layers docs test-program test-erlang test-conformance bench hostile clean distclean
+.PHONY: help quick try program demo install test layout layers docs test-program test-erlang test-conformance bench hostile clean distclean
 .DELETE_ON_ERROR:
 
 help:
@@ -50,11 +50,15 @@ install: $(PROGRAMS:%=bin/%) ## copies the proved programs, man pages and comple
 	install -D -m 644 completions/seqtool.bash $(SHARE)/bash-completion/completions/seqaudit
 	install -D -m 644 -t $(SHARE)/zsh/site-functions completions/_seqtool
 
-test: layers docs ## the merge gate: all proofs from nothing, the wrong bodies, the tests (more than an hour)
+test: layout layers docs ## the merge gate: all proofs from nothing, the wrong bodies, the tests (more than an hour)
 	rt ci
 	@$(MAKE) --no-print-directory test-program
 	@$(MAKE) --no-print-directory test-erlang
 	@$(MAKE) --no-print-directory test-conformance
+
+# The gate asks for the layout of `rt fmt` too, but only after the proofs below a crate.
+layout: ## names the sources that rt fmt would lay out otherwise (3 seconds)
+	@.ci/layout
 
 # What a crate's proofs cite of another crate's proofs is its module of lemmas for callers alone.
 layers: ## looks which proofs cite another crate's (1 second)
