@@ -29,7 +29,7 @@ try: bin/quick/seqaudit ## runs the unproved program: COMMAND=.. FILE=.. (at onc
 	@echo 'An unproved run: "make program" proves seqaudit.' >&2
 	@bin/quick/seqaudit $(COMMAND) < $(FILE)
 
-program: $(PROGRAMS:%=bin/%) ## proves the program and all below it, and builds it in bin/ (15 minutes; after an edit what changed)
+program: $(PROGRAMS:%=bin/%) ## proves the program and all below it, and builds it in bin/ (26 minutes, seqaudit after 20; after an edit what changed)
 
 bin/%: $(SOURCES)
 	@.ci/prove $*
