@@ -17,7 +17,7 @@ CODE := crates.txt $(filter %.rt,$(SOURCES))
 help:
 	@awk -F ':.*## ' '/^[a-z-]+:.*## / { printf "make %-18s%s\n", $$1, $$2 }' $(MAKEFILE_LIST)
 
-quick: $(PROGRAMS:%=bin/quick/%) ## builds without proofs, in bin/quick/: small traces, 10,000 acts a second (1 minute)
+quick: $(PROGRAMS:%=bin/quick/%) ## builds both programs without proofs, slow ones for small traces, in bin/quick/ (1 to 2 minutes)
 
 bin/quick/%: $(CODE)
 	@echo "$* is built without its proofs, in about a minute." >&2
@@ -25,11 +25,11 @@ bin/quick/%: $(CODE)
 
 # What isn't the program's output goes to standard error. If the program fails, make says `Error` and the program's exit
 # status, and ends with 2 itself, as it always does.
-try: bin/quick/seqaudit ## runs the unproved program: COMMAND=.. FILE=.. (at once; 1 minute the first time)
+try: bin/quick/seqaudit ## runs the unproved seqaudit: COMMAND=.. FILE=.. (at once; 1 minute the first time)
 	@echo 'An unproved run: "make program" proves seqaudit.' >&2
 	@bin/quick/seqaudit $(COMMAND) < $(FILE)
 
-program: $(PROGRAMS:%=bin/%) ## proves the program and all below it, and builds it in bin/ (15 minutes; after an edit what changed)
+program: $(PROGRAMS:%=bin/%) ## proves both programs and all below them, and builds them in bin/ (26 minutes; after an edit less)
 
 bin/%: $(SOURCES)
 	@.ci/prove $*
@@ -50,7 +50,7 @@ install: $(PROGRAMS:%=bin/%) ## copies the proved programs, man pages and comple
 	install -D -m 644 completions/seqtool.bash $(SHARE)/bash-completion/completions/seqaudit
 	install -D -m 644 -t $(SHARE)/zsh/site-functions completions/_seqtool
 
-test: layout layers docs ## the merge gate: all proofs from nothing, the wrong bodies, the tests (more than an hour)
+test: layout layers docs ## the merge gate: all proofs from nothing, the wrong bodies, the tests (more than an hour on four cores)
 	rt ci
 	@$(MAKE) --no-print-directory test-program
 	@$(MAKE) --no-print-directory test-erlang
