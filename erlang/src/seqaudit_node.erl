@@ -56,6 +56,8 @@ commands() ->
 
 %% The commands on a trace that was collected stand in a module of their own.
 answer(Command, Options) ->
+    [complain("~ts was built without its proofs; `make program' builds one that is proved", [Program])
+     || Program <- seqaudit_program:unproved()],
     case Command(Options) of
         {usage, Text} -> usage(Text, []);
         {Status, Complaint} -> failed(Status, Complaint);

@@ -1,7 +1,7 @@
 %% @doc Runs the programs `seqaudit' and `seqtool'.
 -module(seqaudit_program).
 
--export([ask/2, ask/3, ask_if_known/3, find/0, find/1, run/3, with_text/2, format_error/1]).
+-export([ask/2, ask/3, ask_if_known/3, find/0, find/1, unproved/0, run/3, with_text/2, format_error/1]).
 
 %% The file goes to the program's standard input, which a port can't close.
 -define(SHELL, "exec \"$0\" \"$@\" <\"$SEQAUDIT_INPUT\"").
@@ -48,12 +48,13 @@ find() ->
     find("seqaudit").
 
 %% @doc Where a program is: where the variable of its name in capitals says, beside this application
-%% (in its folder or in `bin' beside that), or on the path.
+%% (in its folder, or in `bin' or `bin/quick' beside that), or on the path.
 -spec find(string()) -> {ok, file:filename()} | {error, {no_program, string(), [file:filename()]}
                                                        | {missing, string(), file:filename()}}.
 find(Name) ->
     Home = filename:dirname(filename:dirname(filename:absname(code:which(?MODULE)))),
-    Beside = [filename:join(Home, Name), filename:join([filename:dirname(Home), "bin", Name])],
+    Bin = filename:join(filename:dirname(Home), "bin"),
+    Beside = [filename:join(Home, Name), filename:join(Bin, Name), filename:join([Bin, "quick", Name])],
     Said = [File || File <- [os:getenv(string:uppercase(Name))], File =/= false],
     OnPath = [File || File <- [os:find_executable(Name)], File =/= false],
     case [File || File <- Said ++ Beside ++ OnPath, filelib:is_regular(File)] of
@@ -61,6 +62,12 @@ find(Name) ->
         _ when Said =/= [] -> {error, {missing, Name, hd(Said)}};
         [] -> {error, {no_program, Name, Beside}}
     end.
+
+%% @doc The programs that are asked and that `make quick' built, without their proofs.
+-spec unproved() -> [file:filename()].
+unproved() ->
+    [File || Name <- ["seqaudit", "seqtool"], {ok, File} <- [find(Name)],
+             lists:suffix(["bin", "quick", Name], filename:split(File))].
 
 %% @doc Runs a program with these words on this file: its exit status and what it wrote.
 -spec run(file:filename(), [string()], file:filename()) ->

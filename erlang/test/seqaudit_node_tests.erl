@@ -2,7 +2,7 @@
 -module(seqaudit_node_tests).
 
 -export([usage_test_/0, convert_test_/0, audit_and_chart_test_/0, no_program_test_/0, failing_program_test_/0, collect_test_/0,
-         printing/0]).
+         printing/0, unproved_test/0]).
 
 usage_test_() ->
     {timeout, 60, fun() ->
@@ -44,6 +44,22 @@ audit_and_chart_test_() ->
             {false, _} -> skipped
         end
     end}.
+
+%% What `make quick' built isn't proved, and is named.
+unproved_test() ->
+    File = filename:join([filename:dirname(seqaudit_audits:file("x")), "bin", "quick", "seqaudit"]),
+    ok = filelib:ensure_dir(File),
+    ok = file:write_file(File, <<>>),
+    Before = os:getenv("SEQAUDIT"),
+    true = os:putenv("SEQAUDIT", File),
+    try
+        [File] = [Program || Program <- seqaudit_program:unproved(), filename:basename(Program) =:= "seqaudit"]
+    after
+        case Before of
+            false -> os:unsetenv("SEQAUDIT");
+            _ -> os:putenv("SEQAUDIT", Before)
+        end
+    end.
 
 built() ->
     [Program || {ok, Program} <- [seqaudit_program:find()], seqaudit_audits:has(Program, "chart")].
