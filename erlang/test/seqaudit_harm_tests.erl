@@ -25,6 +25,7 @@ load_test_() ->
                                 seqaudit_trace:stop(),
                             true = Events > 1_000 andalso Dropped > 1_000,
                             [_] = [Note || Note <- Notes, string:find(Note, "were written over, about") =/= nomatch],
+                            [] = [Note || Note <- Notes, string:find(Note, "went down") =/= nomatch],
                             true = filelib:file_size(seqaudit_audits:file("load.events")) < 10_000_000
                     end),
         io:format(user, "load: ~b MB without a tracer, ~b MB with~n",
