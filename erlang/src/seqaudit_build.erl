@@ -2,14 +2,15 @@
 %%
 %% Of an event stays a record of a fixed size in one binary: numbers for its label, parties and
 %% message, its serial and its time. The terms themselves stand in tables, each once. So a million
-%% events take some tens of megabytes beside their different messages. Some events make a part,
-%% which may be made in another process; parts are put together one after the other.
+%% events take some tens of megabytes beside their different messages. Some events make a part, in
+%% which terms have numbers of their own. A part may be made in another process, and given the numbers
+%% of the tables there; only giving them goes from part to part.
 -module(seqaudit_build).
 
 -include("seqaudit_packed.hrl").
 
--export([new/0, item/2, context/1, part/2, add/2, fold/3]).
--export_type([build/0, packed/0, collected/0, context/0, part/0]).
+-export([new/0, item/2, context/1, part/2, add/2, number/2, renumber/2, append/2, fold/3]).
+-export_type([build/0, packed/0, collected/0, context/0, found/0, numbers/0]).
 
 %% The greatest serial number that the text of a bundle has.
 -define(GREATEST, 16#FFFF_FFFF_FFFF_FFFF).
@@ -43,8 +44,22 @@
                counts = #{} :: #{atom() => non_neg_integer()},
                own_events = 0 :: non_neg_integer()}).
 
--opaque part() :: #part{}.
 %% Some events, with numbers of their own for their terms.
+
+-record(found, {home :: home(),
+                actors :: [seqaudit_external:encoded()],
+                others :: [seqaudit_external:encoded()],
+                labels :: [seqaudit_external:encoded()],
+                values :: [seqaudit_external:encoded()],
+                known :: #{seqaudit_external:encoded() => seqaudit_events:about()},
+                counts :: #{atom() => non_neg_integer()},
+                own_events :: non_neg_integer()}).
+
+-opaque found() :: #found{}.
+%% What a part has beside its records: above all its terms, in the order of their numbers there.
+
+-opaque numbers() :: {Actors :: tuple(), Others :: tuple(), Labels :: tuple(), Values :: tuple()}.
+%% The numbers of a part's terms in the tables, by their numbers in the part.
 
 %% @doc Nothing taken in yet. The tables end with the process that makes them.
 -spec new() -> build().
@@ -65,34 +80,54 @@ context(#build{home = Home, own = Own, clock = Clock}) ->
     {Home, Own, Clock}.
 
 %% @doc What becomes of these events alone.
--spec part([binary()], context()) -> part().
+-spec part([binary()], context()) -> {packed(), found()}.
 part(Events, {Home, Own, Clock}) ->
-    lists:foldl(fun take/2, #part{home = Home, own = Own, clock = Clock}, Events).
+    Part = lists:foldl(fun take/2, #part{home = Home, own = Own, clock = Clock}, Events),
+    {Part#part.packed,
+     #found{home = Part#part.home, known = Part#part.known, counts = Part#part.counts,
+            own_events = Part#part.own_events,
+            actors = seqaudit_numbers:terms(Part#part.actors),
+            others = seqaudit_numbers:terms(Part#part.others),
+            labels = seqaudit_numbers:terms(Part#part.labels),
+            values = seqaudit_numbers:terms(Part#part.values)}}.
 
-%% @doc Takes a part in. Every term gets the number that it gets if the events come one by one.
--spec add(part(), build()) -> build().
-add(#part{packed = Packed} = Part, Build) ->
-    Actors = numbers(Part#part.actors, Build#build.actors),
-    Others = numbers(Part#part.others, Build#build.others),
-    Labels = numbers(Part#part.labels, Build#build.labels),
-    Values = numbers(Part#part.values, Build#build.values),
-    Parties = {Actors, Others},
-    Renumbered = << <<?PACKED(Kind, (element(Label + 1, Labels)), Prev, This,
-                              (renumbered(From, Parties)), (renumbered(To, Parties)),
-                              (element(Value + 1, Values)), Time)>>
-                    || <<?PACKED(Kind, Label, Prev, This, From, To, Value, Time)>> <= Packed >>,
-    Added = Build#build{packed = <<(Build#build.packed)/binary, Renumbered/binary>>,
-                        home = Part#part.home,
-                        known = maps:merge(Part#part.known, Build#build.known),
+%% @doc Takes a part in.
+-spec add({packed(), found()}, build()) -> build().
+add({Packed, Found}, Build) ->
+    {Numbers, Numbered} = number(Found, Build),
+    append(renumber(Packed, Numbers), Numbered).
+
+%% @doc Takes in what a part has beside its records. Every term gets the number that it gets if the
+%% events come one by one.
+-spec number(found(), build()) -> {numbers(), build()}.
+number(Found, Build) ->
+    Numbers = {numbers(Found#found.actors, Build#build.actors), numbers(Found#found.others, Build#build.others),
+               numbers(Found#found.labels, Build#build.labels), numbers(Found#found.values, Build#build.values)},
+    Added = Build#build{home = Found#found.home,
+                        known = maps:merge(Found#found.known, Build#build.known),
                         counts = maps:merge_with(fun(_, Before, More) -> Before + More end,
-                                                 Build#build.counts, Part#part.counts)},
-    case Part#part.own_events of
-        0 -> Added;
-        Own -> add(own, Own, Added)
+                                                 Build#build.counts, Found#found.counts)},
+    case Found#found.own_events of
+        0 -> {Numbers, Added};
+        Own -> {Numbers, add(own, Own, Added)}
     end.
 
-numbers(Few, Table) ->
-    list_to_tuple([seqaudit_numbers:number(Term, Table) || Term <- seqaudit_numbers:terms(Few)]).
+numbers(Terms, Table) ->
+    list_to_tuple(seqaudit_numbers:numbers(Terms, Table)).
+
+%% @doc The records of a part with the numbers of the tables.
+-spec renumber(packed(), numbers()) -> packed().
+renumber(Packed, {Actors, Others, Labels, Values}) ->
+    Parties = {Actors, Others},
+    << <<?PACKED(Kind, (element(Label + 1, Labels)), Prev, This,
+                 (renumbered(From, Parties)), (renumbered(To, Parties)),
+                 (element(Value + 1, Values)), Time)>>
+       || <<?PACKED(Kind, Label, Prev, This, From, To, Value, Time)>> <= Packed >>.
+
+%% @doc Puts records behind those that are there.
+-spec append(packed(), build()) -> build().
+append(Records, #build{packed = Packed} = Build) ->
+    Build#build{packed = <<Packed/binary, Records/binary>>}.
 
 renumbered(?NOBODY, _) -> ?NOBODY;
 renumbered(Party, {_, Others}) when Party >= ?OTHER -> ?OTHER bor element(Party - ?OTHER + 1, Others);

@@ -369,15 +369,22 @@ look(#state{look = {File, Offset}, folder = Folder} = State) ->
     meet(Infos, State#state{look = Place}).
 
 infos(<<0, Size:32, Bytes:Size/binary, Rest/binary>>, Used, Infos) ->
-    infos(Rest, Used + 5 + Size, case binary_to_term(Bytes) of
-                                     {seq_trace, _, Info} -> [Info | Infos];
-                                     {seq_trace, _, Info, _} -> [Info | Infos];
-                                     _ -> Infos
-                                 end);
+    infos(Rest, Used + 5 + Size, info(Bytes) ++ Infos);
 infos(<<1, _:32, Rest/binary>>, Used, Infos) ->
     infos(Rest, Used + 5, Infos);
 infos(_, Used, Infos) ->
     {Infos, Used}.
+
+%% A busy port may have written the file over since it was last looked at; then what stands behind the
+%% offset begins in the middle of an event, and is no term.
+info(Bytes) ->
+    try binary_to_term(Bytes, [safe]) of
+        {seq_trace, _, Info} -> [Info];
+        {seq_trace, _, Info, _} -> [Info];
+        _ -> []
+    catch
+        error:badarg -> []
+    end.
 
 %% Asks what the events' processes are called, once each.
 meet(Infos, #state{processes = Known} = State) ->

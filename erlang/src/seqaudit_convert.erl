@@ -247,9 +247,25 @@ spell(Party, {_, Others}) when Party >= ?OTHER -> element(Party - ?OTHER + 1, Ot
 spell(Party, {Actors, _}) -> element(Party + 1, Actors).
 
 %% The places of each process's events in the records, by its spelling; how many events name a party
-%% without a number, and how many don't.
+%% without a number, and how many don't. Each scheduler looks through a share of the records.
 streams(Packed, Spelled) ->
-    {Streams, Nameless, Places} =
+    Events = byte_size(Packed) div ?PACKED_SIZE,
+    Share = Events div erlang:system_info(schedulers_online) + 1,
+    Looking = [begun(fun() ->
+                             Part = binary:part(Packed, First * ?PACKED_SIZE,
+                                                min(Share, Events - First) * ?PACKED_SIZE),
+                             streams(Part, First, Spelled)
+                     end) || First <- lists:seq(0, Events - 1, Share)],
+    {Streams, Nameless} =
+        lists:foldl(fun(Worker, {Before, None}) ->
+                            {More, Other} = result(Worker),
+                            {maps:merge_with(fun(_, Places, Later) -> <<Places/binary, Later/binary>> end,
+                                             Before, More), None + Other}
+                    end, {#{}, 0}, Looking),
+    {Streams, Nameless, Events - Nameless}.
+
+streams(Packed, First, Spelled) ->
+    {Streams, Nameless, _} =
         seqaudit_build:fold(
           fun({Kind, _, _, _, From, To, _, _}, {Streams, Nameless, Place}) ->
                   case {spell(From, Spelled), spell(To, Spelled)} of
@@ -260,8 +276,8 @@ streams(Packed, Spelled) ->
                       {Sender, _} ->
                           {placed(Sender, Place, Streams), Nameless, Place + 1}
                   end
-          end, {#{}, 0, 0}, Packed),
-    {Streams, Nameless, Places - Nameless}.
+          end, {#{}, 0, First}, Packed),
+    {Streams, Nameless}.
 
 placed(Actor, Place, Streams) ->
     case Streams of
@@ -302,7 +318,7 @@ word(?PRINT) -> <<",{print,{">>.
 %% texts of some.
 terms(Sorted, Labels, {Known, Values}, Numbers, Out) ->
     ok = Out(seqaudit_legend:text(named(Sorted, Known), [], [], #{})),
-    ok = Out([entry("label", Number, Label, Numbers) || {Number, Label} <- Labels]),
+    ok = Out([entry(<<"label">>, Number, Label, Numbers, <<>>) || {Number, Label} <- Labels]),
     in_turn([fun() -> entries(First, Values, Numbers) end
              || First <- lists:seq(0, seqaudit_numbers:size(Values) - 1, ?SHARE)], Out).
 
@@ -323,13 +339,16 @@ in_turn([Worker | Workers], [Make | Makes], Out) ->
     in_turn(Workers ++ [Next], Makes, Out).
 
 entries(First, Table, Numbers) ->
-    Values = seqaudit_numbers:part(First, ?SHARE, Table),
-    iolist_to_binary([entry("value", Number, Value, Numbers)
-                      || {Number, Value} <- lists:zip(lists:seq(First, First + length(Values) - 1),
-                                                      Values)]).
+    {Text, _} = lists:foldl(fun(Value, {Before, Number}) ->
+                                    {entry(<<"value">>, Number, Value, Numbers, Before), Number + 1}
+                            end, {<<>>, First}, seqaudit_numbers:part(First, ?SHARE, Table)),
+    Text.
 
-entry(Kind, Number, Term, Numbers) ->
-    [Kind, $\t, integer_to_binary(Number), $\t, seqaudit_terms:utf8(Term, Numbers), $\n].
+%% Behind the entries before.
+entry(Kind, Number, Term, Numbers, Before) ->
+    Text = seqaudit_terms:append(Term, Numbers,
+                                 <<Before/binary, Kind/binary, $\t, (integer_to_binary(Number))/binary, $\t>>),
+    <<Text/binary, $\n>>.
 
 %% What the legend says of each process. A name that several had, one after the other, is told apart
 %% by the number.

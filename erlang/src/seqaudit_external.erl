@@ -161,12 +161,16 @@ skip_ascii(<<Three:24, Rest/binary>>, Size, More, Left)
 skip_ascii(<<C, Rest/binary>>, Size, More, Left) when Size > 0, C < 128 ->
     skip_ascii(Rest, Size - 1, More, Left);
 skip_ascii(<<Rest/binary>>, 0, More, Left) ->
-    case Rest of
-        <<_:More/binary, After/binary>> -> skip(After, Left - 1);
-        _ -> seldom
-    end;
+    skip_bytes(Rest, More, Left);
 skip_ascii(<<_/binary>>, _Size, _More, _Left) ->
     seldom.
+
+%% The first three lengths are those of an atom, a process and a reference.
+skip_bytes(<<Rest/binary>>, 0, Left) -> skip(Rest, Left - 1);
+skip_bytes(<<_:12/binary, Rest/binary>>, 12, Left) -> skip(Rest, Left - 1);
+skip_bytes(<<_:16/binary, Rest/binary>>, 16, Left) -> skip(Rest, Left - 1);
+skip_bytes(<<_:4/binary, Rest/binary>>, More, Left) when More >= 4 -> skip_bytes(Rest, More - 4, Left);
+skip_bytes(<<_/binary>>, _More, _Left) -> seldom.
 
 walk(<<Rest/binary>>, 0, _Depth, Done) ->
     {Done, Rest};
@@ -488,6 +492,11 @@ part(<<?NIL, Rest/binary>>) -> {leaf, nil, Rest};
 part(<<?SMALL_INTEGER, N, Rest/binary>>) -> {leaf, {integer, N}, Rest};
 part(<<?INTEGER, N:32/signed, Rest/binary>>) -> {leaf, {integer, N}, Rest};
 part(<<?ATOM, Size:16, Name:Size/binary, Rest/binary>>) -> {leaf, {atom, Name}, Rest};
+part(<<?NEW_PID, ?ATOM, Size:16, _:Size/binary, _:12/binary, Rest/binary>> = Bytes) ->
+    {leaf, {process, binary:part(Bytes, 0, byte_size(Bytes) - byte_size(Rest))}, Rest};
+part(<<?NEWER_REFERENCE, Words:16, ?ATOM, Size:16, _:Size/binary, _Creation:32, Rest0/binary>>) ->
+    {Ids, Rest} = ids(Words, Rest0, []),
+    {leaf, {reference, Ids}, Rest};
 part(<<?EXPORT, Rest/binary>>) ->
     {Module, Rest0} = one(Rest),
     {Function, Rest1} = one(Rest0),
@@ -496,6 +505,10 @@ part(<<?EXPORT, Rest/binary>>) ->
 part(Bytes) ->
     {Leaf, Rest} = one(Bytes),
     {leaf, leaf(Leaf), Rest}.
+
+%% The numbers of a reference, last first, as Erlang prints them.
+ids(0, Rest, Ids) -> {Ids, Rest};
+ids(Left, <<Id:32, Rest/binary>>, Ids) -> ids(Left - 1, Rest, [Id | Ids]).
 
 leaf(<<?SMALL_BIG, Size, Sign, N:Size/little-unit:8>>) -> {integer, signed(Sign, N)};
 leaf(<<?LARGE_BIG, Size:32, Sign, N:Size/little-unit:8>>) when Size =< ?PRINTED_BIG ->

@@ -1,15 +1,18 @@
 %% @doc Gives each different term a number, from 0 in the order of first sight.
 %%
-%% The terms are bytes and stand, both ways, in a table beside the heap, so that a million of them are neither
-%% copied nor looked through whenever memory is tidied.
+%% The terms are bytes and stand in tables beside the heap, so that a million of them are neither copied nor
+%% looked through whenever memory is tidied. Terms that are given together stand together.
 -module(seqaudit_numbers).
 
--export([new/0, number/2, size/1, part/3, listed/1, few/0, number_few/2, terms/1]).
+-export([new/0, number/2, numbers/2, size/1, part/3, listed/1, few/0, number_few/2, terms/1]).
 -export_type([table/0, few/0]).
 
 -compile({no_auto_import, [size/1]}).
 
--opaque table() :: ets:table().
+-record(table, {numbers :: ets:table(),    % the number of each term
+                listed :: ets:table()}).   % terms that came together, by the number of the first
+
+-opaque table() :: #table{}.
 
 -opaque few() :: {#{seqaudit_external:encoded() => non_neg_integer()}, [seqaudit_external:encoded()]}.
 %% The terms of some events, on the heap, where a number is found and given at half the cost.
@@ -17,47 +20,60 @@
 %% @doc A table without terms. It ends with the process that makes it; others may look terms up.
 -spec new() -> table().
 new() ->
-    ets:new(?MODULE, [set, protected]).
+    #table{numbers = ets:new(?MODULE, [set, protected]), listed = ets:new(?MODULE, [ordered_set, protected])}.
 
-%% @doc The term's number; a term that isn't in the table gets the next one. Of bytes that are a part
-%% of something larger a copy is kept.
+%% @doc The term's number; a term that isn't in the table gets the next one.
 -spec number(seqaudit_external:encoded(), table()) -> non_neg_integer().
 number(Term, Table) ->
-    case ets:lookup(Table, Term) of
-        [{_, Number}] ->
-            Number;
-        [] ->
-            Number = size(Table),
-            Copy = case binary:referenced_byte_size(Term) > byte_size(Term) of
-                       true -> binary:copy(Term);
-                       false -> Term
-                   end,
-            true = ets:insert_new(Table, [{Copy, Number}, {Number, Copy}]),
-            Number
-    end.
+    [Number] = numbers([Term], Table),
+    Number.
+
+%% @doc The numbers of terms; each that isn't in the table gets the next one.
+-spec numbers([seqaudit_external:encoded()], table()) -> [non_neg_integer()].
+numbers(Terms, #table{numbers = Numbers, listed = Listed} = Table) ->
+    First = size(Table),
+    Number = fun(Term, {Next, New}) ->
+                     case ets:insert_new(Numbers, {Term, Next}) of
+                         true -> {Next, {Next + 1, [Term | New]}};
+                         false -> {ets:lookup_element(Numbers, Term, 2), {Next, New}}
+                     end
+             end,
+    {Given, {_, New}} = lists:mapfoldl(Number, {First, []}, Terms),
+    true = New =:= [] orelse ets:insert(Listed, {First, lists:reverse(New)}),
+    Given.
 
 %% @doc How many terms have a number.
 -spec size(table()) -> non_neg_integer().
-size(Table) ->
-    ets:info(Table, size) div 2.
+size(#table{numbers = Numbers}) ->
+    ets:info(Numbers, size).
 
 %% @doc So many terms from this number on, in the order of their numbers.
 -spec part(non_neg_integer(), non_neg_integer(), table()) -> [seqaudit_external:encoded()].
-part(First, Count, Table) ->
-    [ets:lookup_element(Table, Number, 2)
-     || Number <- lists:seq(First, max(First, min(First + Count, size(Table))) - 1)].
+part(First, Count, #table{listed = Listed}) ->
+    case ets:prev(Listed, First + 1) of
+        '$end_of_table' -> [];
+        Begin -> part(Begin, First - Begin, Count, Listed)
+    end.
+
+part(Begin, Passed, Count, Listed) ->
+    Terms = lists:nthtail(Passed, ets:lookup_element(Listed, Begin, 2)),
+    case {Count - length(Terms), ets:next(Listed, Begin)} of
+        {Left, Next} when Left > 0, is_integer(Next) -> Terms ++ part(Next, 0, Left, Listed);
+        _ -> lists:sublist(Terms, Count)
+    end.
 
 %% @doc All terms in the order of their numbers.
 -spec listed(table()) -> [seqaudit_external:encoded()].
-listed(Table) ->
-    part(0, size(Table), Table).
+listed(#table{listed = Listed}) ->
+    lists:append([Terms || {_, Terms} <- ets:tab2list(Listed)]).
 
 %% @doc No terms yet.
 -spec few() -> few().
 few() ->
     {#{}, []}.
 
-%% @doc The term's number among these, and these with the term. No copy is made of the bytes.
+%% @doc The term's number among these, and these with the term. A copy is kept, as the bytes may be a
+%% part of something larger.
 -spec number_few(seqaudit_external:encoded(), few()) -> {non_neg_integer(), few()}.
 number_few(Term, {Numbers, LastFirst} = Few) ->
     case Numbers of
@@ -65,7 +81,8 @@ number_few(Term, {Numbers, LastFirst} = Few) ->
             {Number, Few};
         #{} ->
             Number = map_size(Numbers),
-            {Number, {Numbers#{Term => Number}, [Term | LastFirst]}}
+            Copy = binary:copy(Term),
+            {Number, {Numbers#{Copy => Number}, [Copy | LastFirst]}}
     end.
 
 %% @doc These terms in the order of their numbers.

@@ -213,8 +213,10 @@ term(Bytes, Place, Depth) ->
             map(Rest, Place, Depth + 1);
         <<"<<", Rest/binary>> ->
             binary(between(Rest), <<>>);
-        <<"<", C, Rest/binary>> when C >= $0, C =< $9 ->
-            opaque(pid, <<C, Rest/binary>>, Place);
+        <<"<", C, _/binary>> = Begin when C >= $0, C =< $9 ->
+            %% A part of the text; to put the digit in front again would copy the whole rest.
+            <<_, Rest/binary>> = Begin,
+            opaque(pid, Rest, Place);
         <<"#Ref<", Rest/binary>> -> opaque(reference, Rest, Place);
         <<"#Port<", Rest/binary>> -> opaque(port, Rest, Place);
         <<"#Fun<", Rest/binary>> -> function(Rest);

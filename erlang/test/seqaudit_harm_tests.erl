@@ -8,10 +8,11 @@
 -import(seqaudit_test_shell, [node_command/0, cookie/0, run/2, begin_run/2, ended/0, terminated_when/3]).
 
 -define(PAIRS, 200).
+-define(LOAD_MS, 5_000).
 -define(MEGABYTE, 1024).
 
-%% 200 pairs that write lists of 500 numbers to each other under tokens: the node takes less than 200
-%% MB more than without a tracer. LONG=1 has them write for 5 s, else for 2.
+%% 200 pairs that write lists of 500 numbers to each other under tokens for 5 s: the node takes less than
+%% 200 MB more than without a tracer.
 load_test_() ->
     {timeout, 240, fun() ->
         Without = peak(fun(_) -> ok end, fun() -> ok end),
@@ -24,6 +25,7 @@ load_test_() ->
                                 seqaudit_trace:stop(),
                             true = Events > 1_000 andalso Dropped > 1_000,
                             [_] = [Note || Note <- Notes, string:find(Note, "were written over, about") =/= nomatch],
+                            [] = [Note || Note <- Notes, string:find(Note, "went down") =/= nomatch],
                             true = filelib:file_size(seqaudit_audits:file("load.events")) < 10_000_000
                     end),
         io:format(user, "load: ~b MB without a tracer, ~b MB with~n",
@@ -57,8 +59,7 @@ peak(Begin, End) ->
     {ok, Stop, There} = seqaudit_test_nodes:start(),
     try
         Begin(There),
-        Milliseconds = case os:getenv("LONG") of false -> 2_000; _ -> 5_000 end,
-        Sent = erpc:call(There, seqaudit_test_server, load, [?PAIRS, Milliseconds]),
+        Sent = erpc:call(There, seqaudit_test_server, load, [?PAIRS, ?LOAD_MS]),
         true = Sent > ?PAIRS,
         {ok, Status} = file:read_file(filename:join(["/proc", erpc:call(There, os, getpid, []), "status"])),
         {match, [Peak]} = re:run(Status, "VmHWM:\\s+([0-9]+) kB", [{capture, [1], list}]),

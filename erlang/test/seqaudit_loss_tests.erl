@@ -3,7 +3,7 @@
 
 -export([net_split_test_/0, killed_node_test_/0, out_of_reach_test_/0, killed_collector_test_/0,
          killed_leader_test_/0, lost_owner_test_/0, stray_calls_test_/0, other_disk_test_/0,
-         late_events_test/0, broken_port_test/0, broken_disk_test_/0, stray_tokens_test_/0, own_events_test/0, late_names_test_/0,
+         late_events_test/0, written_over_test/0, broken_port_test/0, broken_disk_test_/0, stray_tokens_test_/0, own_events_test/0, late_names_test_/0,
          refused_options_test/0]).
 
 %% Runs a test on a second node.
@@ -189,6 +189,23 @@ stray_calls_test_() ->
         [before, behind] = printed(File),
         ok = one_note("1 messages to the collector were no trace events", Notes)
     end).
+
+%% A file that the port wrote over has no term where the collector looks for the next event; it goes on.
+written_over_test() ->
+    Name = seqaudit_audits:file("written_over"),
+    ok = seqaudit_trace:start(#{name => Name}),
+    Collector = whereis(seqaudit_collector),
+    ok = seqaudit_test_server:print(1, before),
+    [{_, Folder}] = seqaudit_trace:folders(),
+    on_disk(Folder, 1),
+    {Base, Suffix} = seqaudit_spool:base(Folder),
+    ok = file:write_file(Base ++ "0" ++ Suffix, <<0, 3:32, 131, 1, 2>>, [append]),
+    receive after 500 -> ok end,
+    Collector = whereis(seqaudit_collector),
+    true = is_traced(node()),
+    {ok, #{notes := Notes}} = seqaudit_trace:stop(),
+    [] = [Note || Note <- Notes, string:find(Note, "went down") =/= nomatch],
+    [before] = printed(Name).
 
 %% A trace file that can't be written any more, as on a full disk, ends the collecting with a note.
 broken_port_test() ->

@@ -3,7 +3,7 @@
 
 -export([damaged_files_test_/0, swapped_files_test_/0, no_atoms_test/0, forged_names_test/0,
          log_lines_test/0, out_of_range_test/0, unpacked_size_test/0, old_release_test/0,
-         equal_maps_test/0, version_1_test/0, ttb_names_test_/0, million_events_test_/0]).
+         equal_maps_test/0, version_1_test/0, ttb_names_test_/0, long_text_test_/0, million_events_test_/0]).
 
 %% 1,000 files with bytes flipped, cut, doubled or exchanged, by a fixed seed. Nothing crashes, no
 %% atom is made, and memory stays below ten times the file's size and 100 MB.
@@ -271,14 +271,25 @@ ttb(There) ->
     {ok, Terms} = file:read_file(Name ++ ".terms"),
     {_, _} = binary:match(Terms, <<"\tseqaudit_test_shop\t">>).
 
-%% 1,000,000 events convert in 10 s and 600 MB; that takes a machine with nothing else to do, so
-%% LONG=1 asks for it. Else 100,000 events in a tenth of the memory and some of the time.
+%% A text is read in time that grows as it does: 40,000 events in some seconds. A reader that looks at all that
+%% follows, once for each process, takes more than a minute.
+long_text_test_() ->
+    {timeout, 180, fun() ->
+        File = seqaudit_audits:file("long.txt"),
+        Line = fun(K) -> io_lib:format("~0p~n", [{seq_trace, 1, {send, {K, K + 1}, self(), self(), {from, self(), K}}}]) end,
+        ok = file:write_file(File, [Line(K) || K <- lists:seq(1, 40_000)]),
+        {Microseconds, {ok, #{events := 40_000}}} = timer:tc(fun() ->
+            seqaudit_convert:from_files([File], seqaudit_audits:file("long_text"))
+        end),
+        true = Microseconds < 30_000_000
+    end}.
+
+%% 1,000,000 events convert in 600 MB, and in 10 s on a machine with nothing else to do, so LONG=1 asks for
+%% that; a busy one has a minute.
 million_events_test_() ->
     {timeout, 300, fun() ->
-        {Calls, Seconds, Bytes} = case os:getenv("LONG") of
-                                      false -> {25_000, 20, 150_000_000};
-                                      _ -> {250_000, 10, 600_000_000}
-                                  end,
+        {Calls, Bytes} = {250_000, 600_000_000},
+        Seconds = case os:getenv("LONG") of false -> 60; _ -> 10 end,
         File = seqaudit_audits:file("many.trace"),
         ok = many_calls(File, Calls),
         Self = self(),
