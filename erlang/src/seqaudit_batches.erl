@@ -13,11 +13,11 @@
 -export_type([batches/0]).
 
 %% A batch is full with so many events, or with so many bytes of them.
--define(EVENTS, 4_000).
+-define(EVENTS, 1_000).
 -define(BYTES, 1_048_576).
 %% A process that takes a batch in begins with so many words of memory: it needs about as many, and
 %% ends with the batch.
--define(HEAP, 200_000).
+-define(HEAP, 60_000).
 
 -record(batches, {build :: seqaudit_build:build(),
                   events = [] :: [binary()],   % last first

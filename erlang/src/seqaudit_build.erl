@@ -218,13 +218,14 @@ place(_Event, {_, Own, _}, _To, #part{own = Own} = Part) ->
 place(_Event, _From, {_, Own, _}, #part{own = Own} = Part) ->
     Part#part{own_events = Part#part.own_events + 1};
 place({Kind, Label0, {Prev, This}, _, _, Message, Time0}, From0, To0, Part0) ->
-    {From, Part1} = index(From0, called(From0, Part0)),
-    {To, Part2} = index(To0, called(To0, Part1)),
-    {Label, Labels} = seqaudit_numbers:number_few(Label0, Part2#part.labels),
-    {Value, Values} = seqaudit_numbers:number_few(Message, Part2#part.values),
-    Time = time(Time0, Part2),
-    Packed = <<(Part2#part.packed)/binary, ?PACKED((kind(Kind)), Label, Prev, This, From, To, Value, Time)>>,
-    Placed = Part2#part{packed = Packed, labels = Labels, values = Values},
+    Part = called(To0, called(From0, Part0)),
+    {From, Actors0, Others0} = index(From0, Part#part.actors, Part#part.others),
+    {To, Actors, Others} = index(To0, Actors0, Others0),
+    {Label, Labels} = seqaudit_numbers:number_few(Label0, Part#part.labels),
+    {Value, Values} = seqaudit_numbers:number_few(Message, Part#part.values),
+    Time = time(Time0, Part),
+    Packed = <<(Part#part.packed)/binary, ?PACKED((kind(Kind)), Label, Prev, This, From, To, Value, Time)>>,
+    Placed = Part#part{packed = Packed, actors = Actors, others = Others, labels = Labels, values = Values},
     case Time of
         ?NO_TIME -> Placed;
         _ -> count(timestamps, Placed)
@@ -234,14 +235,14 @@ kind(send) -> ?SEND;
 kind('receive') -> ?RECEIVE;
 kind(print) -> ?PRINT.
 
-index(none, Part) ->
-    {?NOBODY, Part};
-index({actor, Bytes, _}, #part{actors = Actors} = Part) ->
+index(none, Actors, Others) ->
+    {?NOBODY, Actors, Others};
+index({actor, Bytes, _}, Actors, Others) ->
     {Number, More} = seqaudit_numbers:number_few(Bytes, Actors),
-    {Number, Part#part{actors = More}};
-index({other, Bytes, _}, #part{others = Others} = Part) ->
+    {Number, More, Others};
+index({other, Bytes, _}, Actors, Others) ->
     {Number, More} = seqaudit_numbers:number_few(Bytes, Others),
-    {?OTHER bor Number, Part#part{others = More}}.
+    {?OTHER bor Number, Actors, More}.
 
 %% What ttb's triple says a process is called.
 called({actor, Pid, Info}, #part{known = Known} = Part)

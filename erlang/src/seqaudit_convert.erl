@@ -88,20 +88,7 @@ text(Part) ->
 
 %% The tables of a conversion, and what it leaves on the heap, end with a process of its own.
 alone(Do) ->
-    result(begun(Do)).
-
-begun(Do) ->
-    Self = self(),
-    spawn_opt(fun() -> Self ! {self(), Do()} end, [monitor, {fullsweep_after, 10}]).
-
-result({Worker, Monitor}) ->
-    receive
-        {Worker, Result} ->
-            demonitor(Monitor, [flush]),
-            Result;
-        {'DOWN', Monitor, process, Worker, Reason} ->
-            error(Reason)
-    end.
+    seqaudit_workers:result(seqaudit_workers:begun(Do)).
 
 %% The local processes that nobody asked yet are asked now.
 asked(#build{actors = Actors, known = Known} = Build, Ask) ->
@@ -143,10 +130,10 @@ write_parts(Parts, Name) ->
                 is_map_key(Part, Parts)],
     Begun = [case Part of
                  terms -> here;
-                 _ -> begun(fun() -> write_file(File, Write) end)
+                 _ -> seqaudit_workers:begun(fun() -> write_file(File, Write) end)
              end || {File, Part, Write} <- Files],
     Here = [write_file(File, Write) || {File, terms, Write} <- Files],
-    Others = [result(Worker) || Worker <- Begun, Worker =/= here],
+    Others = [seqaudit_workers:result(Worker) || Worker <- Begun, Worker =/= here],
     case [Reason || {error, Reason} <- Here ++ Others] of
         [] -> {ok, [File || {File, _, _} <- Files]};
         [Reason | _] -> {error, Reason}
@@ -216,12 +203,17 @@ notes(Bytes, #{listed := Listed, collections := Collections, counts := Counts} =
 %% The parties that events name, in the order of their first events.
 used(Packed, {Actors, Others}) ->
     Seen = {atomics:new(length(Actors) + 1, []), atomics:new(length(Others) + 1, [])},
-    ok = seqaudit_build:fold(fun({_, _, _, _, From, To, _, _}, ok) ->
-                                     use(From, Seen),
-                                     use(To, Seen)
-                             end, ok, Packed),
+    [] = [Other || Other <- seqaudit_workers:shares(Packed, fun(Part, _) -> use_all(Part, Seen) end),
+                   Other =/= ok],
     {SeenActors, SeenOthers} = Seen,
     seen(Actors, SeenActors) ++ seen(Others, SeenOthers).
+
+use_all(<<?PACKED(_Kind, _Label, _Prev, _This, From, To, _Value, _Time), Rest/binary>>, Seen) ->
+    use(From, Seen),
+    use(To, Seen),
+    use_all(Rest, Seen);
+use_all(<<>>, _Seen) ->
+    ok.
 
 use(?NOBODY, _) -> ok;
 use(Party, {_, Others}) when Party >= ?OTHER -> atomics:put(Others, Party - ?OTHER + 1, 1);
@@ -247,36 +239,26 @@ spell(Party, {_, Others}) when Party >= ?OTHER -> element(Party - ?OTHER + 1, Ot
 spell(Party, {Actors, _}) -> element(Party + 1, Actors).
 
 %% The places of each process's events in the records, by its spelling; how many events name a party
-%% without a number, and how many don't. Each scheduler looks through a share of the records.
+%% without a number, and how many don't.
 streams(Packed, Spelled) ->
-    Events = byte_size(Packed) div ?PACKED_SIZE,
-    Share = Events div erlang:system_info(schedulers_online) + 1,
-    Looking = [begun(fun() ->
-                             Part = binary:part(Packed, First * ?PACKED_SIZE,
-                                                min(Share, Events - First) * ?PACKED_SIZE),
-                             streams(Part, First, Spelled)
-                     end) || First <- lists:seq(0, Events - 1, Share)],
+    Looked = seqaudit_workers:shares(Packed, fun(Part, First) -> streams(Part, First, Spelled, #{}, 0) end),
     {Streams, Nameless} =
-        lists:foldl(fun(Worker, {Before, None}) ->
-                            {More, Other} = result(Worker),
+        lists:foldl(fun({More, Other}, {Before, None}) ->
                             {maps:merge_with(fun(_, Places, Later) -> <<Places/binary, Later/binary>> end,
                                              Before, More), None + Other}
-                    end, {#{}, 0}, Looking),
-    {Streams, Nameless, Events - Nameless}.
+                    end, {#{}, 0}, Looked),
+    {maps:from_list([{spell(Party, Spelled), Places} || {Party, Places} <- maps:to_list(Streams)]),
+     Nameless, byte_size(Packed) div ?PACKED_SIZE - Nameless}.
 
-streams(Packed, First, Spelled) ->
-    {Streams, Nameless, _} =
-        seqaudit_build:fold(
-          fun({Kind, _, _, _, From, To, _, _}, {Streams, Nameless, Place}) ->
-                  case {spell(From, Spelled), spell(To, Spelled)} of
-                      {none, _} -> {Streams, Nameless + 1, Place + 1};
-                      {_, none} -> {Streams, Nameless + 1, Place + 1};
-                      {_, Receiver} when Kind =:= ?RECEIVE ->
-                          {placed(Receiver, Place, Streams), Nameless, Place + 1};
-                      {Sender, _} ->
-                          {placed(Sender, Place, Streams), Nameless, Place + 1}
-                  end
-          end, {#{}, 0, First}, Packed),
+streams(<<?PACKED(Kind, _Label, _Prev, _This, From, To, _Value, _Time), Rest/binary>>, Place, Spelled,
+        Streams, Nameless) ->
+    case spell(From, Spelled) =:= none orelse spell(To, Spelled) =:= none of
+        true -> streams(Rest, Place + 1, Spelled, Streams, Nameless + 1);
+        false when Kind =:= ?RECEIVE ->
+            streams(Rest, Place + 1, Spelled, placed(To, Place, Streams), Nameless);
+        false -> streams(Rest, Place + 1, Spelled, placed(From, Place, Streams), Nameless)
+    end;
+streams(<<>>, _Place, _Spelled, Streams, Nameless) ->
     {Streams, Nameless}.
 
 placed(Actor, Place, Streams) ->
@@ -301,14 +283,19 @@ lines(<<>>, _Packed, _Texts, _Out) ->
 lines(Places, Packed, Texts, Out) ->
     Size = min(byte_size(Places), 4 * ?AT_ONCE),
     <<Now:Size/binary, Later/binary>> = Places,
-    ok = Out([line(binary:part(Packed, Place * ?PACKED_SIZE, ?PACKED_SIZE), Texts)
-              || <<Place:32>> <= Now]),
+    ok = Out(append_lines(Now, Packed, Texts, <<>>)),
     lines(Later, Packed, Texts, Out).
 
-line(<<?PACKED(Kind, Label, Prev, This, From, To, Value, _Time)>>, {Spelled, Labels}) ->
-    [<<"{seq_trace,">>, element(Label + 1, Labels), word(Kind), integer_to_binary(Prev), $,,
-     integer_to_binary(This), <<"},">>, spell(From, Spelled), $,, spell(To, Spelled), $,,
-     integer_to_binary(Value), <<"}}\n">>].
+append_lines(<<Place:32, Places/binary>>, Packed, {Spelled, Labels} = Texts, Before) ->
+    Begin = Place * ?PACKED_SIZE,
+    <<_:Begin/binary, ?PACKED(Kind, Label, Prev, This, From, To, Value, _Time), _/binary>> = Packed,
+    Text = <<Before/binary, "{seq_trace,", (element(Label + 1, Labels))/binary, (word(Kind))/binary,
+             (integer_to_binary(Prev))/binary, $,, (integer_to_binary(This))/binary, "},",
+             (spell(From, Spelled))/binary, $,, (spell(To, Spelled))/binary, $,,
+             (integer_to_binary(Value))/binary, "}}\n">>,
+    append_lines(Places, Packed, Texts, Text);
+append_lines(<<>>, _Packed, _Texts, Text) ->
+    Text.
 
 word(?SEND) -> <<",{send,{">>;
 word(?RECEIVE) -> <<",{'receive',{">>;
@@ -319,24 +306,8 @@ word(?PRINT) -> <<",{print,{">>.
 terms(Sorted, Labels, {Known, Values}, Numbers, Out) ->
     ok = Out(seqaudit_legend:text(named(Sorted, Known), [], [], #{})),
     ok = Out([entry(<<"label">>, Number, Label, Numbers, <<>>) || {Number, Label} <- Labels]),
-    in_turn([fun() -> entries(First, Values, Numbers) end
-             || First <- lists:seq(0, seqaudit_numbers:size(Values) - 1, ?SHARE)], Out).
-
-%% Makes texts side by side, as many at a time as there are schedulers, and hands them on in turn.
-in_turn(Makes, Out) ->
-    {Now, Later} = lists:split(min(length(Makes), erlang:system_info(schedulers_online)), Makes),
-    in_turn([begun(Make) || Make <- Now], Later, Out).
-
-in_turn([], [], _Out) ->
-    ok;
-in_turn([Worker | Workers], [], Out) ->
-    ok = Out(result(Worker)),
-    in_turn(Workers, [], Out);
-in_turn([Worker | Workers], [Make | Makes], Out) ->
-    Text = result(Worker),
-    Next = begun(Make),
-    ok = Out(Text),
-    in_turn(Workers ++ [Next], Makes, Out).
+    seqaudit_workers:in_turn([fun() -> entries(First, Values, Numbers) end
+                              || First <- lists:seq(0, seqaudit_numbers:size(Values) - 1, ?SHARE)], Out).
 
 entries(First, Table, Numbers) ->
     {Text, _} = lists:foldl(fun(Value, {Before, Number}) ->

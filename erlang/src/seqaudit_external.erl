@@ -150,14 +150,13 @@ skip(<<?NEW_FLOAT, _:64, Rest/binary>>, Left) -> skip(Rest, Left - 1);
 skip(<<?MAP, Pairs:32, Rest/binary>>, Left) when Pairs < 2 -> skip(Rest, Left - 1 + 2 * Pairs);
 skip(<<_/binary>>, _) -> seldom.
 
-%% Behind a name of so many bytes come as many more that mean no matter. Seven bytes at once are
-%% still a small number.
-skip_ascii(<<Seven:56, Rest/binary>>, Size, More, Left)
-  when Size >= 7, Seven band 16#80808080808080 =:= 0 ->
-    skip_ascii(Rest, Size - 7, More, Left);
-skip_ascii(<<Three:24, Rest/binary>>, Size, More, Left)
-  when Size >= 3, Three band 16#808080 =:= 0 ->
-    skip_ascii(Rest, Size - 3, More, Left);
+%% Behind a name of so many bytes come as many more that mean no matter. Four bytes at once are what
+%% Erlang reads fastest.
+skip_ascii(<<Four:32, Rest/binary>>, Size, More, Left)
+  when Size >= 4, Four band 16#80808080 =:= 0 ->
+    skip_ascii(Rest, Size - 4, More, Left);
+skip_ascii(<<Two:16, Rest/binary>>, Size, More, Left) when Size >= 2, Two band 16#8080 =:= 0 ->
+    skip_ascii(Rest, Size - 2, More, Left);
 skip_ascii(<<C, Rest/binary>>, Size, More, Left) when Size > 0, C < 128 ->
     skip_ascii(Rest, Size - 1, More, Left);
 skip_ascii(<<Rest/binary>>, 0, More, Left) ->
@@ -295,7 +294,7 @@ utf8_atom(Name) ->
         false -> throw(damaged)
     end.
 
-is_ascii(<<Seven:56, Rest/binary>>) when Seven band 16#80808080808080 =:= 0 -> is_ascii(Rest);
+is_ascii(<<Four:32, Rest/binary>>) when Four band 16#80808080 =:= 0 -> is_ascii(Rest);
 is_ascii(<<C, Rest/binary>>) when C < 128 -> is_ascii(Rest);
 is_ascii(Rest) -> Rest =:= <<>>.
 

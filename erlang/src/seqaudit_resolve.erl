@@ -21,14 +21,16 @@
 %% @doc The events with their receivers, and what was decided, by kind.
 -spec resolve(seqaudit_build:build()) -> {seqaudit_build:packed(), counts()}.
 resolve(#build{packed = Packed} = Build) ->
-    Received = ets:new(received, [set, private]),
+    Received = ets:new(received, [set, protected, {read_concurrency, true}]),
     try want(Packed, Received, #{}) of
         Senders when map_size(Senders) =:= 0 ->
             {Packed, #{}};
         Senders ->
             ok = receivers(Packed, Received, Senders),
             Owners = owners(unreceived(Packed, Received), Build),
-            rewrite(Packed, Received, Owners, #{}, <<>>)
+            rewritten(seqaudit_workers:shares(Packed, fun(Part, _) ->
+                                                              rewrite(Part, Received, Owners, #{}, <<>>)
+                                                      end))
     after
         ets:delete(Received)
     end.
@@ -97,6 +99,12 @@ own(Alias, Owner, Owners) ->
         #{Alias := Other} when Other =/= Owner -> Owners#{Alias := several};
         #{} -> Owners
     end.
+
+rewritten(Shares) ->
+    {iolist_to_binary([Packed || {Packed, _} <- Shares]),
+     lists:foldl(fun({_, Counts}, Sum) ->
+                         maps:merge_with(fun(_, Before, More) -> Before + More end, Sum, Counts)
+                 end, #{}, Shares)}.
 
 rewrite(<<?KEYED(?SEND, Key, To0, Time), Rest/binary>>, Received, Owners, Counts, Done)
   when ?IS_OTHER(To0) ->
