@@ -12,6 +12,8 @@
   const INK = { message: "#333333", cause: "#0072b2", effect: "#d55e00", unreported: "#7a3e9d",
                 dim: "#c8c8c8", life: "#b5b5b5", reset: "#aa0000" };
   const LIST = 330, ABOVE = 10, MOST_ARROWS = 3000, MOST_LISTED = 500;
+  // How wide a lane is at first, and from where on names and terms are written beside each other.
+  const WIDEST = 220, NARROWEST = 24, UPRIGHT = 70;
   // Browsers take elements up to some 17 million pixels high; a longer trace is scrolled in larger steps.
   const TALLEST = 15e6;
   const VERBS = { s: "sends", h: "sends", r: "receives", p: "prints" };
@@ -104,7 +106,7 @@
     byId("space").style.width = listWidth() + Math.max(1, columns) * laneWidth + 60 + "px";
   }
 
-  const top = () => laneWidth < 70 ? 110 : 30;
+  const top = () => laneWidth < UPRIGHT ? 110 : 30;
   const listWidth = () => Math.min(LIST, Math.round(byId("view").clientWidth * 0.4));
 
   // A message's arrow by the places of its ends, in classes by length (each twice the one before), each
@@ -261,12 +263,14 @@
     pen.moveTo(x1, y1);
     if (x1 === x2) pen.bezierCurveTo(x1 + 40, y1, x1 + 40, y2, x2 + 4, y2); else pen.lineTo(x2, y2);
     pen.stroke();
+    // The tip touches the edge of the receive's disc.
     const angle = x1 === x2 ? Math.PI : Math.atan2(y2 - y1, x2 - x1), size = Math.min(9, rowHeight / 2);
+    const [tipX, tipY] = [x2 - markSize() * Math.cos(angle), y2 - markSize() * Math.sin(angle)];
     pen.setLineDash([]);
     pen.beginPath();
-    pen.moveTo(x2, y2);
-    pen.lineTo(x2 - size * Math.cos(angle - 0.4), y2 - size * Math.sin(angle - 0.4));
-    pen.lineTo(x2 - size * Math.cos(angle + 0.4), y2 - size * Math.sin(angle + 0.4));
+    pen.moveTo(tipX, tipY);
+    pen.lineTo(tipX - size * Math.cos(angle - 0.4), tipY - size * Math.sin(angle - 0.4));
+    pen.lineTo(tipX - size * Math.cos(angle + 0.4), tipY - size * Math.sin(angle + 0.4));
     pen.fill();
   }
 
@@ -277,9 +281,11 @@
     pen.fillText(passing.toLocaleString("en") + " more messages pass by; hide lanes or filter", width - 324, height - 7);
   }
 
+  const markSize = () => Math.max(1.5, Math.min(4.5, rowHeight / 4));
+
   // A send is a ring, a receive a disc, a print a diamond; an unreported event is dashed.
   function drawMark(pen, row, at, width) {
-    const [cx, cy, size] = [x(rows.lane[row]), y(at), Math.max(1.5, Math.min(4.5, rowHeight / 4))];
+    const [cx, cy, size] = [x(rows.lane[row]), y(at), markSize()];
     if (cx < listWidth() - 200 || cx > width + 200) return;
     stroke(pen, ink(row), isLit(row) ? 3 : 1.4, isPlain(row) ? [] : [2, 2]);
     pen.beginPath();
@@ -305,9 +311,9 @@
     pen.textAlign = leftwards ? "right" : "left";
     pen.lineWidth = 3;
     pen.strokeStyle = "#ffffff";
-    pen.strokeText(cut, cx + (leftwards ? -9 : 9), cy - 3);
+    pen.strokeText(cut, cx + (leftwards ? -9 : 9), cy - 5);
     pen.fillStyle = chosen >= 0 && !isLit(row) ? "#767676" : "#111111";
-    pen.fillText(cut, cx + (leftwards ? -9 : 9), cy - 3);
+    pen.fillText(cut, cx + (leftwards ? -9 : 9), cy - 5);
     pen.textAlign = "left";
   }
 
@@ -329,7 +335,7 @@
     byId("corner").style.height = top() + "px";
     const focused = document.activeElement?.dataset?.lane;
     names.replaceChildren(...inSight.map(lane => {
-      const name = element("button", { type: "button", class: laneWidth < 70 ? "name narrow" : "name",
+      const name = element("button", { type: "button", class: laneWidth < UPRIGHT ? "name narrow" : "name",
         "data-lane": lane, title: laneName(lane) + "\n" + visible(lanes[lane].pid) + "\n" + visible(lanes[lane].about),
         "aria-label": laneName(lane) + ", lane " + (column[lane] + 1) + "; Delete hides it, Alt with an arrow moves it" }, laneName(lane));
       name.style.left = x(lane) - listWidth() - laneWidth / 2 + 2 + "px";
@@ -523,6 +529,14 @@
     layOut();
   }
 
+  // At first the lanes fill the window. If they are too many for that, those of the first events stand first.
+  function fitLanes() {
+    const share = Math.floor((byId("view").clientWidth - listWidth() - 60) / Math.max(1, lanes.length));
+    laneWidth = Math.max(NARROWEST, Math.min(WIDEST, share));
+    layOut();
+    if (share < NARROWEST) orderByFirst();
+  }
+
   drawer("labels", section => boxes(section, "Labels", () => [...labels.keys()], label => visible(labels[label]), hiddenLabels, () => []));
   drawer("lanes", function fillLanes(section) {
     boxes(section, "Lanes", () => order, laneName, hiddenLanes, (lane, fill) => [
@@ -625,8 +639,7 @@
   byId("title").textContent = visible(data.title);
   byId("headline").append(element("span", { class: data.fits ? "" : "doubt" }, visible(data.headline)));
   if (data.notes.length > 0) byId("headline").append(element("small", {}, data.notes.map(visible).join("\n")));
-  if (lanes.length > 60) laneWidth = 90;
-  layOut();
+  fitLanes();
   draw();
   // A page is opened at an event by its name: page.html#shop%2324
   const named = decodeURIComponent(location.hash.slice(1));
