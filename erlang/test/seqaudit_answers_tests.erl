@@ -386,7 +386,9 @@ normal(Text) ->
                             {"#Fun<[^>]*>", "#Fun<~b>"}, {"seqaudit_[ab]_[0-9]+@localhost", "node~b"}]),
     lists:foldl(fun({Pattern, With}, Done) -> re:replace(Done, Pattern, With, [global, multiline, {return, binary}]) end,
                 Numbered, [{"[a-z_]+:[a-z_]+/[0-9]+ (?=<[0-9])", ""}, {"(?<=\\S)  +", "  "}, {"^ {3,}(?=\\S)", "  "},
-                           {"^(  )\\S.*(went down|are lost|were lost).*$", "\\1(what the collector lost)"}]).
+                           {"^(  )\\S.*(went down|are lost|were lost).*$", "\\1(what the collector lost)"},
+                           %% Whatever program was built last.
+                           {"^seqaudit-node: \\S+ was built without its proofs; .*\\n", ""}]).
 
 number(Pattern, Word, Text) ->
     case re:run(Text, Pattern, [global, {capture, first, binary}]) of
