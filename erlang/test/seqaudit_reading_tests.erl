@@ -10,7 +10,7 @@
 damaged_files_test_() ->
     {timeout, 300, fun() ->
         Originals = [{Suffix, Bytes} || {Suffix, File} <- originals(), {ok, Bytes} <- [file:read_file(File)]],
-        [_, _, _, _] = Originals,
+        [_, _, _, _, _] = Originals,
         _ = rand:seed(exsss, {35, 1, 2026}),
         _ = [converted(Suffix, Bytes) || {Suffix, Bytes} <- Originals],
         Atoms = erlang:system_info(atom_count),
@@ -45,7 +45,12 @@ originals() ->
          || {seq_trace, Label, {Kind, Serial, From, To, Message}, Time} <- Events,
             Bytes <- [term_to_binary({seq_trace, Label, {Kind, Serial, Triple(From), Triple(To), Message},
                                       Time})]]),
-    [{Suffix, Name ++ Suffix} || Suffix <- [".events", ".txt", ".bin", ".trace"]].
+    %% What ttb writes beside its trace: what each process is called.
+    Pids = lists:usort([Pid || {seq_trace, _, {_, _, From, To, _}, _} <- Events, Pid <- [From, To], is_pid(Pid)]),
+    ok = file:write_file(Name ++ ".trace.ti",
+        [[byte_size(Bytes), Bytes] || Pid <- Pids, Called <- [server, {erlang, apply, 2}],
+                                      Bytes <- [term_to_binary({pid, {Pid, Called}})]]),
+    [{Suffix, Name ++ Suffix} || Suffix <- [".events", ".txt", ".bin", ".trace", ".trace.ti"]].
 
 damaged(Bytes) ->
     lists:foldl(fun(_, Now) -> damage(rand:uniform(4), Now) end, Bytes, lists:seq(1, rand:uniform(3))).
@@ -72,14 +77,23 @@ damage(4, Bytes) ->
     <<Before:At/binary, _:4/binary, Behind/binary>> = Bytes,
     <<Before/binary, (rand:uniform(16#FFFF_FFFF)):32, Behind/binary>>.
 
-%% Whether the file became a bundle, or which sentence says why it didn't.
+%% Whether the file became a bundle, or a sentence said why it didn't. Names stand beside a trace that
+%% is whole, so however they are damaged there is a bundle.
+converted(".trace.ti", Bytes) ->
+    Trace = seqaudit_audits:file("damaged_names.trace"),
+    {ok, Size} = file:copy(seqaudit_audits:file("whole.trace"), Trace),
+    ok = file:write_file(Trace ++ ".ti", Bytes),
+    bundle = converted_in(Trace, Size + byte_size(Bytes));
 converted(Suffix, Bytes) ->
     File = seqaudit_audits:file("damaged" ++ Suffix),
     ok = file:write_file(File, Bytes),
+    converted_in(File, byte_size(Bytes)).
+
+converted_in(File, Size) ->
     {Peak, Result} = watched(fun() ->
         seqaudit_convert:from_files([File], seqaudit_audits:file("damaged_out"))
     end),
-    true = Peak < 10 * byte_size(Bytes) + 100_000_000,
+    true = Peak < 10 * Size + 100_000_000,
     case Result of
         {ok, #{notes := Notes}} ->
             [] = [Note || Note <- Notes, lists:member($\n, Note)],
