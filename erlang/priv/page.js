@@ -299,22 +299,29 @@
     pen.stroke();
     pen.setLineDash([]);
     if (row === chosen) { pen.strokeStyle = "#111"; pen.lineWidth = 2; pen.strokeRect(cx - 9, cy - 9, 18, 18); }
-    if ("omu".includes(rows.how[row])) { pen.fillStyle = INK.unreported; pen.fillText("?", cx - 16, cy + 4); }
-    if (rowHeight >= 14 && laneWidth >= 60 && rows.kind[row] !== "r") drawTerm(pen, row, cx, cy);
+    // Right above the mark neither a term nor a tip stands.
+    if ("omu".includes(rows.how[row])) writeOver(pen, "?", cx, cy - size - 3, "center", INK.unreported);
+    if (rowHeight >= 14 && laneWidth >= 60 && rows.kind[row] !== "r") drawTerm(pen, row, cx, isReset(at) ? cy - 1 : cy - 5);
   }
 
-  function drawTerm(pen, row, cx, cy) {
+  // Text on a white edge, so that lines under it don't cross it.
+  function writeOver(pen, text, textX, textY, align, colour) {
+    pen.textAlign = align;
+    pen.lineWidth = 3;
+    pen.strokeStyle = "#ffffff";
+    pen.strokeText(text, textX, textY);
+    pen.fillStyle = colour;
+    pen.fillText(text, textX, textY);
+    pen.textAlign = "left";
+  }
+
+  function drawTerm(pen, row, cx, base) {
     const leftwards = rows.other[row] >= 0 && column[rows.other[row]] >= 0
       && column[rows.other[row]] < column[rows.lane[row]];
     const most = Math.max(8, Math.floor(laneWidth / 6.2)), text = brief(row);
     const cut = text.length > most ? text.slice(0, most - 1) + "\u2026" : text;
-    pen.textAlign = leftwards ? "right" : "left";
-    pen.lineWidth = 3;
-    pen.strokeStyle = "#ffffff";
-    pen.strokeText(cut, cx + (leftwards ? -9 : 9), cy - 5);
-    pen.fillStyle = chosen >= 0 && !isLit(row) ? "#767676" : "#111111";
-    pen.fillText(cut, cx + (leftwards ? -9 : 9), cy - 5);
-    pen.textAlign = "left";
+    writeOver(pen, cut, cx + (leftwards ? -9 : 9), base, leftwards ? "right" : "left",
+              chosen >= 0 && !isLit(row) ? "#767676" : "#111111");
   }
 
   function element(tag, attributes, ...children) {
