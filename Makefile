@@ -24,8 +24,9 @@ bin/quick/%: $(CODE)
 	@.ci/quick $* $@
 
 # What isn't the program's output goes to standard error. If the program fails, make says `Error` and the program's exit
-# status, and ends with 2 itself, as it always does.
+# status, and ends with 2 itself, as it always does; the command that is printed ends with the program's.
 try: bin/quick/seqaudit ## runs the unproved seqaudit: COMMAND=.. FILE=.. (at once; 1 minute the first time)
+	@echo 'bin/quick/seqaudit $(COMMAND) < $(FILE)' >&2
 	@echo 'An unproved run: "make program" proves seqaudit.' >&2
 	@bin/quick/seqaudit $(COMMAND) < $(FILE)
 
