@@ -9,7 +9,7 @@
 
 -define(PAIRS, 200).
 -define(LOAD_MS, 5_000).
--define(MEGABYTE, 1024).
+-define(MEGABYTE, 1_048_576).
 
 %% 200 pairs that write lists of 500 numbers to each other under tokens for 5 s: the node takes less than
 %% 200 MB more than without a tracer.
@@ -54,17 +54,16 @@ load_without_port_test_() ->
         true = With - Without < 200 * ?MEGABYTE
     end}.
 
-%% The greatest memory that a node of its own took under the load, in kB.
+%% The greatest memory that a node of its own took under the load, in bytes.
 peak(Begin, End) ->
     {ok, Stop, There} = seqaudit_test_nodes:start(),
     try
         Begin(There),
         Sent = erpc:call(There, seqaudit_test_server, load, [?PAIRS, ?LOAD_MS]),
         true = Sent > ?PAIRS,
-        {ok, Status} = file:read_file(filename:join(["/proc", erpc:call(There, os, getpid, []), "status"])),
-        {match, [Peak]} = re:run(Status, "VmHWM:\\s+([0-9]+) kB", [{capture, [1], list}]),
+        Peak = seqaudit_test_nodes:peak(There),
         End(),
-        list_to_integer(Peak)
+        Peak
     after
         Stop()
     end.

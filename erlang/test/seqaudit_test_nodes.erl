@@ -1,7 +1,7 @@
 %% A second node on this machine, and waiting for what happens there.
 -module(seqaudit_test_nodes).
 
--export([start/0, until/1, on_disk/2, met/2, is_traced/1, print_when_traced/1]).
+-export([start/0, until/1, on_disk/2, met/2, is_traced/1, print_when_traced/1, peak/1]).
 
 %% A machine that is busy takes a while for what is done at once otherwise.
 -define(DEADLINE_MS, 30_000).
@@ -71,5 +71,11 @@ is_traced(Node) ->
 print_when_traced(Node) ->
     until(fun() -> is_traced(Node) end),
     ok = erpc:call(Node, seqaudit_test_server, print, [1, seen]).
+
+%% The greatest memory that the node has taken so far, in bytes, as the system counts it.
+peak(Node) ->
+    {ok, Status} = file:read_file(filename:join(["/proc", erpc:call(Node, os, getpid, []), "status"])),
+    {match, [Kilobytes]} = re:run(Status, "VmHWM:\\s+([0-9]+) kB", [{capture, [1], list}]),
+    1_024 * list_to_integer(Kilobytes).
 
 deadline() -> erlang:monotonic_time(millisecond) + ?DEADLINE_MS.
