@@ -56,7 +56,7 @@ fn place_of(item: Item) -> (Pid, u64)
 }
 
 /// What the checker makes of the acts that were built up to the event at this place.
-fn judged<const TOP: u64>(
+fn judge<const TOP: u64>(
     alloc: Global,
     streams: &Streams,
     acts: Sequence<Act>,
@@ -76,7 +76,10 @@ fn judged<const TOP: u64>(
 }
 
 /// What is found of streams without events: the checker accepts no acts.
-fn found_of_nothing<const TOP: u64>(alloc: Global, streams: &Streams) -> Result<Finding, AuditFault>
+fn finding_of_nothing<const TOP: u64>(
+    alloc: Global,
+    streams: &Streams,
+) -> Result<Finding, AuditFault>
     requires { IsOrder streams.now [] }
     ensures found { IfOk result (IsFinding TOP streams.now) }
     ensures exact { IfOk result (IsFoundAt TOP streams.now (Judged [] None)) }
@@ -94,7 +97,7 @@ fn found_of_nothing<const TOP: u64>(alloc: Global, streams: &Streams) -> Result<
 }
 
 /// What is found of streams that pairing accepts, with the items in their order.
-fn found<const TOP: u64>(
+fn finding_in_order<const TOP: u64>(
     alloc: Global,
     streams: &Streams,
     pids: &[Pid],
@@ -111,7 +114,7 @@ fn found<const TOP: u64>(
         IsPlain TOP streams.now → IfOk result IsCertificate }
 {
     if items.is_empty() {
-        return found_of_nothing::<TOP>(alloc, streams);
+        return finding_of_nothing::<TOP>(alloc, streams);
     }
     let end = items[items.len() - 1];
     let Ok(mut construction) = Construction::<TOP>::new(alloc, streams) else {
@@ -120,7 +123,7 @@ fn found<const TOP: u64>(
     match construction.open(pids) {
         Ok(()) => {}
         Err(Halt::Memory) => return Err(AuditFault::Memory),
-        Err(_) => return judged::<TOP>(alloc, streams, construction.into_acts(), place_of(end)),
+        Err(_) => return judge::<TOP>(alloc, streams, construction.into_acts(), place_of(end)),
     }
     for number in 0..items.len() {
         let (pid, index) = place_of(items[number]);
@@ -130,15 +133,15 @@ fn found<const TOP: u64>(
             Err(Halt::Uncaused) => return Ok(Finding::Unfit(pid, index, Reason::Uncaused)),
             Err(Halt::TooWide) => return Ok(Finding::Unfit(pid, index, Reason::TooWide)),
             Err(Halt::Stopped) => {
-                return judged::<TOP>(alloc, streams, construction.into_acts(), (pid, index));
+                return judge::<TOP>(alloc, streams, construction.into_acts(), (pid, index));
             }
         }
     }
-    judged::<TOP>(alloc, streams, construction.into_acts(), place_of(end))
+    judge::<TOP>(alloc, streams, construction.into_acts(), place_of(end))
 }
 
 /// What is found of streams.
-fn audited<const TOP: u64>(
+fn finding_of<const TOP: u64>(
     rt: &(impl Threads + Sync),
     alloc: Global,
     streams: &Streams,
@@ -162,7 +165,7 @@ fn audited<const TOP: u64>(
     let Ok(items) = order(rt, alloc, streams, &pairing) else {
         return Err(AuditFault::Memory);
     };
-    found::<TOP>(alloc, streams, pids, &pairing, items.as_slice())
+    finding_in_order::<TOP>(alloc, streams, pids, &pairing, items.as_slice())
 }
 
 /// Finds a certificate for the streams, or an event and the reason why none was found. Its acts
@@ -190,5 +193,5 @@ pub fn audit<const TOP: u64>(
     ensures plain_fits { IfOk result (λ found. IsPlain TOP streams.now → IsCertificate found) }
     ensures full_fits { IfOk result (λ found. IsFullyShown TOP streams.now → IsCertificate found) }
 {
-    audited::<TOP>(rt, alloc, streams)
+    finding_of::<TOP>(rt, alloc, streams)
 }

@@ -10,7 +10,7 @@ use Rattle.st_core.specs.declared.types.Label.{Label}
 use Rattle.st_core.specs.Run.{Stream, pids_of}
 use Rattle.st_order.specs.declared.item.Item.{Item}
 use Rattle.st_chart.specs.declared.charted.Charted.{Charted}
-use Rattle.st_chart.specs.Chart.{charted, all_charted, is_end, lanes}
+use Rattle.st_chart.specs.Chart.{charted_of, all_charted, is_end, lanes}
 use Rattle.st_chart.specs.Parts.{is_end_in}
 
 pub or_false : (b : Bool) → b ≡ (b || false)
@@ -37,7 +37,7 @@ module _ (streams : List Stream) (label : Label) where
       → list_any (λ x. is_end x.event p) (all_charted streams items label) ≡ list_any (is_end_in streams label p) items
   any_charted p [] = refl
   any_charted p (x ∷ items) =
-      one_charted p (charted streams label x) (all_charted streams items label)
+      one_charted p (charted_of streams label x) (all_charted streams items label)
       ∙ ap (λ (b : Bool). is_end_in streams label p x || b) (any_charted p items)
 
   filter_same : (f g : Pid → Bool) → ((p : Pid) → f p ≡ g p) → (ps : List Pid) → filter f ps ≡ filter g ps

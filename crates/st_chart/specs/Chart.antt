@@ -23,15 +23,15 @@ use Rattle.st_chart.specs.Words.{ended_line, place_words}
 -- ---- what is shown
 
 -- an item with its event, if that has the label
-abbrev pub charted : List Stream → Label → Item → Option Charted
-charted streams label x = elim (event_of streams x) [
+abbrev pub charted_of : List Stream → Label → Item → Option Charted
+charted_of streams label x = elim (event_of streams x) [
   | None ↦ None
   | Some e ↦ if e.label.0 == label.0 then Some (record { item = x; event = e }) else None
 ]
 
 -- the items with the label, in their order
 abbrev pub all_charted : List Stream → List Item → Label → List Charted
-all_charted streams items label = filter_map (charted streams label) items
+all_charted streams items label = filter_map (charted_of streams label) items
 
 -- p is an event's from or to
 abbrev pub is_end : Event → Pid → Bool

@@ -5,7 +5,7 @@ ghost use Rattle.std.specs.Option.{option_map_or};
 ghost use Rattle.st_core.specs.Pid.{pid_eq};
 ghost use Rattle.std.specs.List.{list_any};
 ghost use Rattle.st_order.specs.Labels.{item_has_label};
-ghost use Rattle.st_chart.specs.Chart.{charted, is_at, is_end};
+ghost use Rattle.st_chart.specs.Chart.{charted_of, is_at, is_end};
 
 use st_core::{Event, Kind, Label, Pid, Streams};
 use st_order::Item;
@@ -22,7 +22,7 @@ pub(crate) struct Charted {
 impl Charted {
     /// The item with its event, if that has the label; none if no event is at its place.
     pub(crate) fn of(streams: &Streams, label: Label, item: Item) -> Option<Charted>
-        ensures { result ≡ charted streams.now label item }
+        ensures { result ≡ charted_of streams.now label item }
     {
         let event = match item {
             Item::Reported(pid, index) => streams.event(pid, index),

@@ -50,7 +50,7 @@ fn ends_of(
 }
 
 /// Those of these pids that were noted.
-fn noted(alloc: Global, pids: &[Pid], ends: &HashSet<Pid>) -> Result<Vec<Pid>, AllocError>
+fn ends_among(alloc: Global, pids: &[Pid], ends: &HashSet<Pid>) -> Result<Vec<Pid>, AllocError>
     ensures { IfOk result (λ noted. noted.items ≡ filter (contains pid_eq ends.now) pids.now) }
 {
     let mut noted = Vec::new(alloc);
@@ -72,5 +72,5 @@ pub(crate) fn lanes_of(
     ensures { IfOk result (λ pids. pids.items ≡ lanes streams.now (all_charted streams.now items.now label)) }
 {
     let ends = ends_of(alloc, streams, label, items)?;
-    noted(alloc, streams.pids(), &ends)
+    ends_among(alloc, streams.pids(), &ends)
 }

@@ -14,7 +14,7 @@ use Rattle.st_order.specs.declared.item.Item.{Item}
 use Rattle.st_order.specs.declared.item.Item.TheVariants as item
 use Rattle.st_order.specs.declared.labels.Labelled.{Labelled}
 use Rattle.st_order.specs.Labels.{label_of, item_has_label, LabelsRise, IsByLabel}
-use Rattle.st_order.specs.Groups.{with_label, put_before, grouped}
+use Rattle.st_order.specs.Groups.{with_label, put_before, groups_of}
 use Rattle.st_order.proofs.Lists.{all_mapped}
 
 abbrev Group : Type 0
@@ -62,9 +62,9 @@ module _ (P : Label → Type 0) where
         | false ↦ (one, all)
       ]
 
-  all_grouped : (xs : List Labelled) → AllByRecursion (λ x. P x.label) xs → AllByRecursion (λ g. P g.0) (grouped xs)
+  all_grouped : (xs : List Labelled) → AllByRecursion (λ x. P x.label) xs → AllByRecursion (λ g. P g.0) (groups_of xs)
   all_grouped [] all = tt
-  all_grouped (x ∷ xs) all = all_put x (grouped xs) all.0 (all_grouped xs all.1)
+  all_grouped (x ∷ xs) all = all_put x (groups_of xs) all.0 (all_grouped xs all.1)
 
 apart_above : (m n : ℕ) → (n == m) ≡ false → m ≤ n → m < n
 apart_above m n apart low = grind (arith, nat_tests)
@@ -80,10 +80,10 @@ put_rises x (g ∷ gs) low up = elim (g.0.0 == x.label.0) as (λ b. (g.0.0 == x.
           ((above, all_mapped (λ h. g.0.0 < h.0.0) (λ h. number_of x < h.0.0) gs (λ h higher. omega arith) up.0), up)
     ] refl
 
-grouped_rise : (xs : List Labelled) → Climbs xs → LabelsRise (grouped xs)
+grouped_rise : (xs : List Labelled) → Climbs xs → LabelsRise (groups_of xs)
 grouped_rise [] up = tt
 grouped_rise (x ∷ xs) up =
-    put_rises x (grouped xs) (all_grouped (λ l. number_of x ≤ l.0) xs up.0) (grouped_rise xs up.1)
+    put_rises x (groups_of xs) (all_grouped (λ l. number_of x ≤ l.0) xs up.0) (grouped_rise xs up.1)
 
 -- A LABEL HAS A GROUP WHERE AN ITEM HAS IT
 
@@ -105,10 +105,10 @@ any_put label x (g ∷ gs) = elim (g.0.0 == x.label.0) as (λ b. (g.0.0 == x.lab
       | false ↦ λ is. refl
     ] refl
 
-any_grouped : (label : Label) (xs : List Labelled) → list_any (is_of label) (grouped xs) ≡ list_any (is_with label) xs
+any_grouped : (label : Label) (xs : List Labelled) → list_any (is_of label) (groups_of xs) ≡ list_any (is_with label) xs
 any_grouped label [] = refl
 any_grouped label (x ∷ xs) =
-    any_put label x (grouped xs) ∙ ap (λ (b : Bool). is_with label x || b) (any_grouped label xs)
+    any_put label x (groups_of xs) ∙ ap (λ (b : Bool). is_with label x || b) (any_grouped label xs)
 
 -- EACH GROUP HAS ALL ITEMS OF ITS LABEL
 
@@ -181,10 +181,10 @@ put_holds x xs (g ∷ gs) up low any all = elim (g.0.0 == x.label.0) as (λ b. (
           )
     ] refl
 
-grouped_hold : (xs : List Labelled) → Climbs xs → AllByRecursion (Holds xs) (grouped xs)
+grouped_hold : (xs : List Labelled) → Climbs xs → AllByRecursion (Holds xs) (groups_of xs)
 grouped_hold [] up = tt
 grouped_hold (x ∷ xs) up =
-    put_holds x xs (grouped xs) (grouped_rise xs up.1) (all_grouped (λ l. number_of x ≤ l.0) xs up.0)
+    put_holds x xs (groups_of xs) (grouped_rise xs up.1) (all_grouped (λ l. number_of x ≤ l.0) xs up.0)
     (λ label. any_grouped label xs) (grouped_hold xs up.1)
 
 -- WHAT A STABLE SORT KEEPS
@@ -275,7 +275,7 @@ listed streams xs ys (g ∷ gs) stable all = (
 
 pub grouped_by_label : (streams : List Stream) (xs : List Item) (ys : List Labelled)
     → IsSortedByKey number_of nat_cmp ys → IsStableByKey number_of nat_cmp (filter_map (with_label streams) xs) ys
-    → IsByLabel streams xs (grouped ys)
+    → IsByLabel streams xs (groups_of ys)
 grouped_by_label streams xs ys sorted stable =
     let climbs = climbs_from ys (IsNonDecreasingBy-from_sort number_of ys sorted) in
     record {
@@ -284,5 +284,5 @@ grouped_by_label streams xs ys sorted stable =
           any_grouped label ys ∙ any_filtered (is_with label) ys
           ∙ ap (list_any (λ x. true)) (kept_filter (filter_map (with_label streams) xs) ys label stable)
           ∙ sym (any_filtered (is_with label) (filter_map (with_label streams) xs)) ∙ labelled_any streams label xs;
-      lists = listed streams xs ys (grouped ys) stable (grouped_hold ys climbs);
+      lists = listed streams xs ys (groups_of ys) stable (grouped_hold ys climbs);
     }

@@ -22,6 +22,6 @@ put_before x (g ∷ gs) =
     if g.0.0 == x.label.0 then (g.0, x.item ∷ g.1) ∷ gs else (x.label, x.item ∷ []) ∷ g ∷ gs
 
 -- the groups of neighbours with one label, each with its label
-abbrev pub grouped : List Labelled → List (Label × List Item)
-grouped [] = []
-grouped (x ∷ xs) = put_before x (grouped xs)
+abbrev pub groups_of : List Labelled → List (Label × List Item)
+groups_of [] = []
+groups_of (x ∷ xs) = put_before x (groups_of xs)

@@ -3,7 +3,7 @@
 ghost use Rattle.std.specs.Prelude.{◌≡◌, ◌≤◌, ◌<◌, length, map, IfOk};
 ghost use Rattle.std.specs.List.{filter_map};
 ghost use Rattle.st_order.specs.Labels.{IsByLabel, label_of};
-ghost use Rattle.st_order.specs.Groups.{with_label, leading_with, grouped};
+ghost use Rattle.st_order.specs.Groups.{with_label, leading_with, groups_of};
 
 use crate::item::Item;
 use rayon::prelude::*;
@@ -76,11 +76,11 @@ fn items_of(alloc: Global, labelled: &[Labelled]) -> Result<Sequence<Item>, Allo
 }
 
 /// The groups of neighbours with one label, each with its label.
-fn grouped(
+fn groups_of(
     alloc: Global,
     labelled: &[Labelled],
 ) -> Result<Sequence<(Label, Sequence<Item>)>, AllocError>
-    ensures { IfOk result (λ groups. groups ≡ grouped labelled.now) }
+    ensures { IfOk result (λ groups. groups ≡ groups_of labelled.now) }
 {
     let mut groups = Sequence::new(alloc);
     let mut rest = labelled;
@@ -117,5 +117,5 @@ pub fn by_label(
             ensures { result ≡ one.now.label.0 }
         { one.label.0 },
     )?;
-    grouped(alloc, sorted)
+    groups_of(alloc, sorted)
 }

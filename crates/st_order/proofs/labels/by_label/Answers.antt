@@ -18,5 +18,5 @@ returns g c =
     let start = c.as_mut_slice-sorted.ensures.value ∙ c.in_ok-labelled.ensures in
     let after = c.par_sort_by_key.new.s in
     let kept = subst (λ (xs : List Labelled). IsStableByKey number_of nat_cmp xs after) start stable in
-    IfOk-then c.grouped.result _ _ c.grouped.ensures (λ v h.
+    IfOk-then c.groups_of.result _ _ c.groups_of.ensures (λ v h.
     subst (IsByLabel streams items) (sym h) (grouped_by_label streams items after sorted kept))
