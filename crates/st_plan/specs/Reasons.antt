@@ -15,12 +15,12 @@ most_skipped = 1000
 abbrev pub most_skipped_in_all : ℕ
 most_skipped_in_all = 1000000
 
--- 6: a stamp whose prev is below the clock, and isn't the last count
+-- a stamp whose prev is below the clock, and isn't the last count
 abbrev pub uncaused : List Move → Move → Bool
 uncaused earlier m = not (is_taking m) &&
     (not (m.event.serial.prev == last m.who earlier) && nat_lt m.event.serial.prev (clock m.who earlier))
 
--- 7: a stamp before which too many counts are missing, or too many with those before
+-- a stamp before which too many counts are missing, or too many with those before
 abbrev pub too_wide : List Move → Move → Bool
 too_wide earlier m = not (is_taking m) &&
     (nat_lt most_skipped (skip earlier m) || nat_lt most_skipped_in_all (skips (m ∷ earlier)))
