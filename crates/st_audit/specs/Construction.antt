@@ -22,7 +22,8 @@ use Rattle.st_order.specs.declared.item.Item.TheVariants as item
 use Rattle.st_order.specs.Order.{order}
 use Rattle.st_plan.specs.Marks.{all_told, Marks}
 use Rattle.st_plan.specs.Moves.{Move, moves}
-use Rattle.st_plan.specs.Reasons.{item_place, too_wide, uncaused}
+use Rattle.st_order.specs.Items.{item_place}
+use Rattle.st_plan.specs.Reasons.{too_wide, uncaused}
 use Rattle.st_plan.specs.Plain.{out_of_turn}
 use Rattle.st_plan.specs.Build.{acts_of, state_after, tracers_after}
 use Rattle.st_audit.specs.declared.finding.Reason.{Reason}

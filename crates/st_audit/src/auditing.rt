@@ -13,7 +13,6 @@ ghost use Rattle.st_audit.specs.Construction.{end_of, IsAudit, IsFoundAt, Judged
 ghost use Rattle.st_audit.specs.Findings.{fault_of, unfit_by, HandsOn, IsFinding, IsCertificate};
 ghost use Rattle.st_plan.specs.Plain.{IsPlain};
 ghost use Rattle.st_full.specs.Full.{IsFullyShown};
-ghost use Rattle.st_plan.specs.Reasons.{item_place};
 
 use crate::construction::{Construction, Halt};
 use crate::finding::{AuditFault, Finding, Reason};
@@ -25,8 +24,8 @@ use st_plan::Everything;
 use std::alloc::Global;
 use std::thread::Threads;
 
-/// A reason of pairing as a finding.
-fn unfit_by(fault: PairFault) -> Option<Finding>
+/// A reason of pairing as a finding; none if memory ran out.
+pub fn unfit_by(fault: PairFault) -> Option<Finding>
     ensures { result ≡ unfit_by fault }
 {
     match fault {
@@ -43,15 +42,6 @@ fn unfit_by(fault: PairFault) -> Option<Finding>
         PairFault::Mismatch(pid, index, sender, place) => {
             Some(Finding::Unfit(pid, index, Reason::Mismatch(sender, place)))
         }
-    }
-}
-
-/// Where an item stands in the streams: a hidden send stands where its receive does.
-fn place_of(item: Item) -> (Pid, u64)
-    ensures { result ≡ item_place item }
-{
-    match item {
-        Item::Reported(pid, index) | Item::Hidden(pid, index) => (pid, index),
     }
 }
 
@@ -123,10 +113,10 @@ fn finding_in_order<const TOP: u64>(
     match construction.open(pids) {
         Ok(()) => {}
         Err(Halt::Memory) => return Err(AuditFault::Memory),
-        Err(_) => return judge::<TOP>(alloc, streams, construction.into_acts(), place_of(end)),
+        Err(_) => return judge::<TOP>(alloc, streams, construction.into_acts(), end.place()),
     }
     for number in 0..items.len() {
-        let (pid, index) = place_of(items[number]);
+        let (pid, index) = items[number].place();
         match construction.append(alloc, streams, pairing, &Everything, items, number) {
             Ok(()) => {}
             Err(Halt::Memory) => return Err(AuditFault::Memory),
@@ -137,7 +127,7 @@ fn finding_in_order<const TOP: u64>(
             }
         }
     }
-    judge::<TOP>(alloc, streams, construction.into_acts(), place_of(end))
+    judge::<TOP>(alloc, streams, construction.into_acts(), end.place())
 }
 
 /// What is found of streams.

@@ -8,7 +8,7 @@ ghost use Rattle.st_core.specs.Pid.{pid_eq};
 ghost use Rattle.st_chart.specs.Chart.{all_charted, is_end, lanes};
 ghost use Rattle.st_chart.specs.Parts.{is_end_in};
 
-use crate::charted::Charted;
+use crate::charted::ChartedItem;
 use st_core::{Event, Label, Pid, Streams};
 use st_order::Item;
 use std::alloc::{AllocError, Global};
@@ -42,7 +42,7 @@ fn ends_of(
 {
     let mut ends = HashSet::new(alloc);
     for item in items {
-        if let Some(charted) = Charted::of(streams, label, *item) {
+        if let Some(charted) = ChartedItem::of(streams, label, *item) {
             note_ends(&mut ends, &charted.event)?;
         }
     }

@@ -5,11 +5,11 @@ use Rattle.std.proofs.lemmas.Bool.{eqb-true, eq-eqb}
 use Rattle.std.proofs.lemmas.Option.{same_Some}
 use Rattle.st_core.specs.declared.types.Label.{Label}
 use Rattle.st_order.specs.declared.item.Item.{Item}
-use Rattle.st_order.specs.declared.labels.Labelled.{Labelled}
+use Rattle.st_order.specs.declared.labels.LabelledItem.{LabelledItem}
 use Rattle.st_order.specs.Groups.{leading_with, put_before, groups_of}
 
-abbrev items_in : List Labelled → List Item
-items_in = map (λ (x : Labelled). x.item)
+abbrev items_in : List LabelledItem → List Item
+items_in = map (λ (x : LabelledItem). x.item)
 
 abbrev Group : Type 0
 Group = Label × List Item
@@ -18,10 +18,10 @@ same_label : (k l : Label) → (k.0 == l.0) ≡ true → k ≡ l
 same_label k l h = let number = eqb-true k.0 l.0 h in λ i. record { 0 = number i }
 
 -- the first group of a list that begins with x, and the groups of the rest
-abbrev cut_after : Labelled → ℕ → List Labelled → List Group
+abbrev cut_after : LabelledItem → ℕ → List LabelledItem → List Group
 cut_after x n xs = (x.label, x.item ∷ items_in (take n xs)) ∷ groups_of (drop n xs)
 
-pub grouped_after : (x : Labelled) (xs : List Labelled)
+pub grouped_after : (x : LabelledItem) (xs : List LabelledItem)
     → groups_of (x ∷ xs) ≡ cut_after x (leading_with x.label xs) xs
 grouped_after x [] = refl
 grouped_after x (y ∷ ys) = elim (y.label.0 == x.label.0) as (λ b. (y.label.0 == x.label.0) ≡ b
@@ -48,7 +48,7 @@ grouped_after x (y ∷ ys) = elim (y.label.0 == x.label.0) as (λ b. (y.label.0 
     ] refl
 
 -- so the first group is what leads with the first label
-pub grouped_cut : (x : Labelled) (rest : List Labelled) (n : ℕ) → n ≡ leading_with x.label (x ∷ rest)
+pub grouped_cut : (x : LabelledItem) (rest : List LabelledItem) (n : ℕ) → n ≡ leading_with x.label (x ∷ rest)
     → groups_of (x ∷ rest) ≡ (x.label, items_in (take n (x ∷ rest))) ∷ groups_of (drop n (x ∷ rest))
 grouped_cut x rest n is =
     let leads : leading_with x.label (x ∷ rest) ≡ leading_with x.label rest + 1 =
@@ -58,21 +58,21 @@ grouped_cut x rest n is =
     ∙ ap (λ (m : ℕ). (let g : Group = (x.label, items_in (take m (x ∷ rest))) in g) ∷ groups_of (drop m (x ∷ rest))) long
 
 -- one group goes from the rest to the groups so far
-pub group_passed : (all rest : List Labelled) (x : Labelled) (n : ℕ) (before after : List Group) (its : List Item)
-    (front others : List Labelled) → Some x ≡ slice_get rest 0 → n ≡ leading_with x.label rest
+pub group_passed : (all rest : List LabelledItem) (x : LabelledItem) (n : ℕ) (before after : List Group) (its : List Item)
+    (front others : List LabelledItem) → Some x ≡ slice_get rest 0 → n ≡ leading_with x.label rest
     → front ≡ take n rest → others ≡ drop n rest → its ≡ items_in front
     → before ++ groups_of rest ≡ groups_of all → after ≡ before ++ (x.label, its) ∷ []
     → after ++ groups_of others ≡ groups_of all
 group_passed all [] x n before after its front others first count led back are so given = absurd (cc)
 group_passed all (y ∷ rest) x n before after its front others first count led back are so given =
     let same = same_Some x y first in
-    let cut = grouped_cut y rest n (count ∙ ap (λ (z : Labelled). leading_with z.label (y ∷ rest)) same) in
+    let cut = grouped_cut y rest n (count ∙ ap (λ (z : LabelledItem). leading_with z.label (y ∷ rest)) same) in
     let g : Group = (x.label, its) in
     let h : Group = (y.label, items_in (take n (y ∷ rest))) in
     let one : g ≡ h = λ i. ((same i).label, (are ∙ ap items_in led) i) in
     ap (λ (gs : List Group). gs ++ groups_of others) given
     ∙ append_assoc before (g ∷ []) (groups_of others)
     ∙ ap (λ (k : Group). before ++ (k ∷ groups_of others)) one
-    ∙ ap (λ (l : List Labelled). before ++ (h ∷ groups_of l)) back
+    ∙ ap (λ (l : List LabelledItem). before ++ (h ∷ groups_of l)) back
     ∙ ap (λ (gs : List Group). before ++ gs) (sym cut)
     ∙ so

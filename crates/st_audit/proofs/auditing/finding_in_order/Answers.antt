@@ -22,9 +22,9 @@ use Rattle.st_audit.proofs.auditing.finding_in_order.Goals as goal
 
 pub judge-requires : goal.judge-requires
 judge-requires g c = record {
-  there = place_there c.args.streams.now c.args.items.now (length c.args.items.now - 1) _ c.place_of.result
+  there = place_there c.args.streams.now c.args.items.now (length c.args.items.now - 1) _ c.place.result
       c.requires.streams.draft.rising c.requires.order
-      (last_within (length c.args.items.now) (sym c.is_empty.ensures ∙ c.if-is_empty.false)) c.place_of.ensures;
+      (last_within (length c.args.items.now) (sym c.is_empty.ensures ∙ c.if-is_empty.false)) c.place.ensures;
   accepted = c.requires.accepted;
 }
 
@@ -34,15 +34,15 @@ returns-in-Err-Uncaused-clause-found g c =
     let xs = c.args.items.now in
     let n = c.loop-number.number in
     let within = c.loop-number-test.true in
-    let place = c.place_of-index.ensures in
-    let there = place_there streams xs n _ c.place_of-index.result c.requires.streams.draft.rising c.requires.order
+    let place = c.place-index.ensures in
+    let there = place_there streams xs n _ c.place-index.result c.requires.streams.draft.rising c.requires.order
     within place in
     let holds = uncaused_halt streams (take n xs) _ c.in-Err-Uncaused.field-0 c.in-Err-Uncaused.field-0-is
     (c.in-Err-Uncaused.ensures.halt _ (slice_get-get_or xs n _ within)) in (
       there,
       (
         c.requires.accepted,
-        holds_there uncaused streams xs n _ c.place_of-index.result c.requires.order within place holds,
+        holds_there uncaused streams xs n _ c.place-index.result c.requires.order within place holds,
       ),
     )
 
@@ -52,28 +52,28 @@ returns-in-Err-TooWide-clause-found g c =
     let xs = c.args.items.now in
     let n = c.loop-number.number in
     let within = c.loop-number-test.true in
-    let place = c.place_of-index.ensures in
-    let there = place_there streams xs n _ c.place_of-index.result c.requires.streams.draft.rising c.requires.order
+    let place = c.place-index.ensures in
+    let there = place_there streams xs n _ c.place-index.result c.requires.streams.draft.rising c.requires.order
     within place in
     let holds = too_wide_halt streams (take n xs) _ c.in-Err-TooWide.field-0 c.in-Err-TooWide.field-0-is
     (c.in-Err-TooWide.ensures.halt _ (slice_get-get_or xs n _ within)) in (
       there,
       (
         c.requires.accepted,
-        holds_there too_wide streams xs n _ c.place_of-index.result c.requires.order within place holds,
+        holds_there too_wide streams xs n _ c.place-index.result c.requires.order within place holds,
       ),
     )
 
 pub judge-requires-in-Err-Stopped-clause-there : goal.judge-requires-in-Err-Stopped-clause-there
 judge-requires-in-Err-Stopped-clause-there g c =
-    place_there c.args.streams.now c.args.items.now c.loop-number.number _ c.place_of-index.result
-    c.requires.streams.draft.rising c.requires.order c.loop-number-test.true c.place_of-index.ensures
+    place_there c.args.streams.now c.args.items.now c.loop-number.number _ c.place-index.result
+    c.requires.streams.draft.rising c.requires.order c.loop-number-test.true c.place-index.ensures
 
 pub judge-requires-2-clause-there : goal.judge-requires-2-clause-there
 judge-requires-2-clause-there g c =
-    place_there c.args.streams.now c.args.items.now (length c.args.items.now - 1) _ c.place_of-2.result
+    place_there c.args.streams.now c.args.items.now (length c.args.items.now - 1) _ c.place-2.result
     c.requires.streams.draft.rising c.requires.order
-    (last_within (length c.args.items.now) (sym c.is_empty.ensures ∙ c.if-is_empty.false)) c.place_of-2.ensures
+    (last_within (length c.args.items.now) (sym c.is_empty.ensures ∙ c.if-is_empty.false)) c.place-2.ensures
 
 pub returns-in-Err : goal.returns-in-Err
 returns-in-Err g c =
@@ -166,11 +166,11 @@ returns-in-Err-Uncaused-clause-plain_fits g c = λ pairs are plain.
     let streams = c.args.streams.now in
     let xs = c.args.items.now in
     let n = c.loop-number.number in
-    let at = c.place_of-index.result in
+    let at = c.place-index.result in
     let within = c.loop-number-test.true in
     let holds = uncaused_halt streams (take n xs) _ c.in-Err-Uncaused.field-0 c.in-Err-Uncaused.field-0-is
     (c.in-Err-Uncaused.ensures.halt _ (slice_get-get_or xs n _ within)) in
-    plain.settled.caused at.0 at.1 (holds_there uncaused streams xs n _ at c.requires.order within c.place_of-index.ensures
+    plain.settled.caused at.0 at.1 (holds_there uncaused streams xs n _ at c.requires.order within c.place-index.ensures
     holds)
 
 pub returns-in-Err-TooWide-clause-plain_fits : goal.returns-in-Err-TooWide-clause-plain_fits
@@ -178,11 +178,11 @@ returns-in-Err-TooWide-clause-plain_fits g c = λ pairs are plain.
     let streams = c.args.streams.now in
     let xs = c.args.items.now in
     let n = c.loop-number.number in
-    let at = c.place_of-index.result in
+    let at = c.place-index.result in
     let within = c.loop-number-test.true in
     let holds = too_wide_halt streams (take n xs) _ c.in-Err-TooWide.field-0 c.in-Err-TooWide.field-0-is
     (c.in-Err-TooWide.ensures.halt _ (slice_get-get_or xs n _ within)) in
-    plain.narrow at.0 at.1 (holds_there too_wide streams xs n _ at c.requires.order within c.place_of-index.ensures
+    plain.narrow at.0 at.1 (holds_there too_wide streams xs n _ at c.requires.order within c.place-index.ensures
     holds)
 
 pub returns-clause-plain_fits : goal.returns-clause-plain_fits
@@ -207,13 +207,13 @@ returns-in-Err-Uncaused-clause-exact g c = λ pairs are.
     let i = c.loop-number.invariant in
     let old = c.loop-number.construction in
     let now = c.append.new.self in
-    let at = c.place_of-index.result in
+    let at = c.place-index.result in
     let met : IsMet top streams xs n old.world old.acts now.world now.acts (Err halt.Uncaused) =
     subst (λ h. IsMet top streams xs n old.world old.acts now.world now.acts (Err h)) c.in-Err-Uncaused.field-0-is
     (λ x e here there. c.in-Err-Uncaused.ensures.exact x e here there pairs (λ p i. refl) i.told) in
     subst (λ end. IsFoundAt top streams end (finding.Unfit at.0 at.1 reason.Uncaused))
     (course_uncaused top streams c.requires.streams.draft.rising xs c.requires.order n _ c.loop-number-test.true
-    old.world old.acts (i.way pairs are) now.world now.acts at c.place_of-index.ensures met) refl
+    old.world old.acts (i.way pairs are) now.world now.acts at c.place-index.ensures met) refl
 
 pub returns-in-Err-TooWide-clause-exact : goal.returns-in-Err-TooWide-clause-exact
 returns-in-Err-TooWide-clause-exact g c = λ pairs are.
@@ -224,13 +224,13 @@ returns-in-Err-TooWide-clause-exact g c = λ pairs are.
     let i = c.loop-number.invariant in
     let old = c.loop-number.construction in
     let now = c.append.new.self in
-    let at = c.place_of-index.result in
+    let at = c.place-index.result in
     let met : IsMet top streams xs n old.world old.acts now.world now.acts (Err halt.TooWide) =
     subst (λ h. IsMet top streams xs n old.world old.acts now.world now.acts (Err h)) c.in-Err-TooWide.field-0-is
     (λ x e here there. c.in-Err-TooWide.ensures.exact x e here there pairs (λ p i. refl) i.told) in
     subst (λ end. IsFoundAt top streams end (finding.Unfit at.0 at.1 reason.TooWide))
     (course_too_wide top streams c.requires.streams.draft.rising xs c.requires.order n _ c.loop-number-test.true
-    old.world old.acts (i.way pairs are) now.world now.acts at c.place_of-index.ensures met) refl
+    old.world old.acts (i.way pairs are) now.world now.acts at c.place-index.ensures met) refl
 
 pub returns-in-Err-Stopped-clause-exact : goal.returns-in-Err-Stopped-clause-exact
 returns-in-Err-Stopped-clause-exact g c = λ pairs are.
@@ -241,13 +241,13 @@ returns-in-Err-Stopped-clause-exact g c = λ pairs are.
     let i = c.loop-number.invariant in
     let old = c.loop-number.construction in
     let now = c.append.new.self in
-    let at = c.place_of-index.result in
+    let at = c.place-index.result in
     let met : IsMet top streams xs n old.world old.acts now.world now.acts (Err halt.Stopped) =
     subst (λ h. IsMet top streams xs n old.world old.acts now.world now.acts (Err h)) c.in-Err-Stopped.field-0-is
     (λ x e here there. c.in-Err-Stopped.ensures.exact x e here there pairs (λ p i. refl) i.told) in
     subst (λ end. IfOk c.judge-in-Err-Stopped.result (IsFoundAt top streams end))
     (course_stops top streams c.requires.streams.draft.rising xs c.requires.order n _ c.loop-number-test.true
-    old.world old.acts (i.way pairs are) now.world now.acts at c.place_of-index.ensures met)
+    old.world old.acts (i.way pairs are) now.world now.acts at c.place-index.ensures met)
     (subst (λ acts. IfOk c.judge-in-Err-Stopped.result (IsFoundAt top streams (Judged acts (Some at))))
     c.into_acts-in-Err-Stopped.ensures c.judge-in-Err-Stopped.ensures.exact)
 
@@ -258,10 +258,10 @@ returns-clause-exact g c = λ pairs are.
     let xs = c.args.items.now in
     let n = c.loop-number.number in
     let now = c.loop-number.construction in
-    let at = c.place_of-2.result in
+    let at = c.place-2.result in
     let some = some_item (length xs) (sym c.is_empty.ensures ∙ c.if-is_empty.false) in
     subst (λ end. IfOk c.judge-2.result (IsFoundAt top streams end))
     (course_ends top streams xs n _ now.world now.acts at (c.loop-number.invariant.way pairs are) (omega arith) some
-    c.place_of-2.ensures)
+    c.place-2.ensures)
     (subst (λ acts. IfOk c.judge-2.result (IsFoundAt top streams (Judged acts (Some at)))) c.into_acts-2.ensures
     c.judge-2.ensures.exact)

@@ -6,7 +6,8 @@ use Rattle.st_core.specs.Laws.{NoReset}
 use Rattle.st_core.specs.Run.{pids_of, run_from, Shows}
 use Rattle.st_plan.specs.Build.{tracers_after}
 use Rattle.st_plan.specs.Marks.{told_only}
-use Rattle.st_plan.specs.Reasons.{item_place, too_wide, uncaused}
+use Rattle.st_order.specs.Items.{item_place}
+use Rattle.st_plan.specs.Reasons.{too_wide, uncaused}
 use Rattle.st_audit.proofs.Ending.{holds_there, too_wide_halt, uncaused_halt}
 use Rattle.st_audit.specs.declared.construction.Halt.TheVariants as halt
 use Rattle.st_audit.specs.Progress.{AreTold, Ran}
