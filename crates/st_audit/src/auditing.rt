@@ -1,6 +1,6 @@
 //! The auditor.
 
-ghost use Rattle.std.specs.Prelude.{◌≡◌, IfErr, IfOk, IsSome, None, [], ◌∷◌, Some};
+ghost use Rattle.std.specs.Prelude.{◌≡◌, ◌⊎◌, IfErr, IfOk, IsSome, None, [], ◌∷◌, Some};
 ghost use Rattle.st_core.specs.Run.{pids_of, Shows};
 ghost use Rattle.st_core.specs.Streams.{IsStreams};
 ghost use Rattle.std.specs.Option.{ForSome};
@@ -8,7 +8,7 @@ ghost use Rattle.st_order.specs.Order.{IsOrder};
 ghost use Rattle.st_pair.specs.Links.{IsPairing};
 ghost use Rattle.st_pair.specs.Pairing.{refusal, IsPairFault};
 ghost use Rattle.st_pair.specs.Places.{event_at};
-ghost use Rattle.st_pair.specs.Final.{IsPrevNotBefore, NeverShown, NeverShownInOneTrace};
+ghost use Rattle.st_pair.specs.Final.{RulesOut};
 ghost use Rattle.st_audit.specs.Construction.{end_of, IsAudit, IsFoundAt, Judged};
 ghost use Rattle.st_audit.specs.Findings.{fault_of, unfit_by, HandsOn, IsFinding, IsCertificate};
 ghost use Rattle.st_plan.specs.Plain.{IsPlain};
@@ -139,8 +139,8 @@ fn finding_of<const TOP: u64>(
     ensures found { IfOk result (IsFinding TOP streams.now) }
     ensures exact { IfOk result (IsAudit TOP streams.now) }
     ensures handed_on { IfOk result (HandsOn streams.now) }
-    ensures plain_fits { IfOk result (λ found. IsPlain TOP streams.now → IsCertificate found) }
-    ensures full_fits { IfOk result (λ found. IsFullyShown TOP streams.now → IsCertificate found) }
+    ensures certain { IfOk result (λ found.
+        IsPlain TOP streams.now ⊎ IsFullyShown TOP streams.now → IsCertificate found) }
 {
     let pids = streams.pids();
     let pairing = match pair(alloc, streams) {
@@ -174,14 +174,14 @@ pub fn audit<const TOP: u64>(
     // Unless memory runs out, the finding is the one that the streams determine.
     ensures exact { IfOk result (IsAudit TOP streams.now) }
 
-    // Which reasons are final: of the first no acts show the streams, of all four of pairing none without a reset.
-    ensures final_prev { IfOk result (λ found.
-        ForSome (fault_of found) (λ fault. IsPrevNotBefore fault → NeverShown streams.now)) }
-    ensures final_without_reset { IfOk result (λ found. IsSome (fault_of found) → NeverShownInOneTrace streams.now) }
+    // The reasons of pairing are final: no acts show streams with the first, and none without a
+    // reset streams with any.
+    ensures rules_out { IfOk result (λ found. ForSome (fault_of found) (RulesOut streams.now)) }
 
-    // And when it always finds a certificate: nothing stands against the streams, or some run reported all of itself.
-    ensures plain_fits { IfOk result (λ found. IsPlain TOP streams.now → IsCertificate found) }
-    ensures full_fits { IfOk result (λ found. IsFullyShown TOP streams.now → IsCertificate found) }
+    // It certainly finds a certificate if nothing stands against the streams, or if some run
+    // reported all of itself.
+    ensures certain { IfOk result (λ found.
+        IsPlain TOP streams.now ⊎ IsFullyShown TOP streams.now → IsCertificate found) }
 {
     finding_of::<TOP>(rt, alloc, streams)
 }

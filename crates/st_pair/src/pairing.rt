@@ -1,12 +1,12 @@
 //! What each receive follows.
 
-ghost use Rattle.std.specs.Prelude.{◌≡◌, ◌≢◌, false, List, map, None, Some, IfOk, IfErr, IfSome, IfNone};
+ghost use Rattle.std.specs.Prelude.{◌≡◌, false, List, map, None, Some, IfOk, IfErr, IfSome, IfNone};
 ghost use Rattle.std.specs.Prelude.{slice_get};
 ghost use Rattle.std.specs.List.{AllByRecursion};
 ghost use Rattle.st_core.specs.Pid.{pid_eq, IsRising};
 ghost use Rattle.st_core.specs.Run.{Stream};
 ghost use Rattle.st_pair.specs.Pairing.{source_at, receiver_at, refusal, IsPairFault};
-ghost use Rattle.st_pair.specs.Final.{IsPrevNotBefore, NeverShown, NeverShownInOneTrace};
+ghost use Rattle.st_pair.specs.Final.{RulesOut};
 ghost use Rattle.st_pair.specs.Links.{IsPairing, link_at, link_of, pairing_of, links_in, receiver_in, source_in};
 ghost use Rattle.st_pair.specs.Tables.{place_at_key, HasReceives, HasStamps};
 
@@ -241,9 +241,9 @@ pub fn pair(alloc: Global, streams: &Streams) -> Result<Pairing, PairFault>
     ensures ok { IfOk result (IsPairing streams.now) }
     ensures err { IfErr result (IsPairFault streams.now) }
 
-    // Which reasons are final: no acts show streams with the first, and none without a reset streams with any.
-    ensures final_prev { IfErr result (λ fault. IsPrevNotBefore fault → NeverShown streams.now) }
-    ensures final_without_reset { IfErr result (λ fault. fault ≢ PairFault.Memory → NeverShownInOneTrace streams.now) }
+    // Reasons are final: no acts show streams with the first, and none without a reset streams
+    // with any.
+    ensures rules_out { IfErr result (RulesOut streams.now) }
 {
     let tables = tables_of(alloc, streams)?;
     match pairing_of(alloc, streams, &tables.got, &tables.sent) {

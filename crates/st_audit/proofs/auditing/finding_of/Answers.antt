@@ -3,7 +3,7 @@ use Rattle.std.proofs.Common.{◌≡◌, None, rules, sym, ◌∙◌}
 use Rattle.st_order.specs.Order.{IsOrder}
 use Rattle.st_pair.specs.Pairing.{refusal}
 use Rattle.st_audit.proofs.Determined.{accepted_audit, refused_audit}
-use Rattle.st_audit.proofs.Fullness.{full_fits, refused_full}
+use Rattle.st_audit.proofs.Fullness.{certain_fits, refused_fits}
 use Rattle.st_audit.proofs.Refused.{handed}
 use Rattle.st_audit.proofs.auditing.finding_of.Goals as goal
 
@@ -12,14 +12,14 @@ returns-in-Some-clause-found g c =
     handed c.args.streams.now c.pids-pids.ensures.streams.draft.rising g.row.TOP c.in-Err.fault c.in-Some.finding
     c.in-Err.ensures.err (sym c.unfit_by.ensures ∙ c.in-Some.is)
 
-pub returns-in-Some-clause-full_fits : goal.returns-in-Some-clause-full_fits
-returns-in-Some-clause-full_fits g c =
-    refused_full g.row.TOP c.args.streams.now c.in-Err.fault c.in-Some.finding
+pub returns-in-Some-clause-certain : goal.returns-in-Some-clause-certain
+returns-in-Some-clause-certain g c =
+    refused_fits g.row.TOP c.args.streams.now c.in-Err.fault c.in-Some.finding
     c.pids-pids.ensures.streams.draft.rising c.in-Err.ensures.err (sym c.unfit_by.ensures ∙ c.in-Some.is)
 
-pub returns-clause-full_fits : goal.returns-clause-full_fits
-returns-clause-full_fits g c =
-    full_fits g.row.TOP c.args.streams.now c.pids-pids.ensures.streams.draft.rising c.finding_in_order.result
+pub returns-clause-certain : goal.returns-clause-certain
+returns-clause-certain g c =
+    certain_fits g.row.TOP c.args.streams.now c.pids-pids.ensures.streams.draft.rising c.finding_in_order.result
     (c.finding_in_order.ensures.plain_fits c.in-Ok.ensures.ok c.pids-pids.ensures.value)
 
 pub returns-in-Some-clause-exact : goal.returns-in-Some-clause-exact
