@@ -10,7 +10,7 @@ use Rattle.st_core.specs.declared.types.Want.TheVariants as want
 use Rattle.st_core.specs.Pid.{pid_on}
 use Rattle.st_core.specs.Run.{Stream}
 use Rattle.st_order.specs.Order.{order}
-use Rattle.st_plan.specs.Build.{unstamped}
+use Rattle.st_plan.specs.Build.{unstamped_token}
 use Rattle.st_audit.specs.declared.finding.Reason.TheVariants as reason
 use Rattle.st_audit.specs.Construction.{end_of, End, Judged, Unfounded}
 
@@ -43,7 +43,7 @@ abbrev of : Pid → List Event → Stream
 of p es = record { pid = p; events = es }
 
 abbrev dressed : Pid → Flags → Act
-dressed p f = act.Restore p (unstamped p (record { 0 = 1 }) f)
+dressed p f = act.Restore p (unstamped_token p (record { 0 = 1 }) f)
 
 abbrev ends : List Stream → End
 ends streams = end_of top streams (order streams)

@@ -25,7 +25,7 @@ use Rattle.st_core.specs.Step.{Acted, Outcome, acted, actor, reached, changed, p
 use Rattle.st_core.specs.Run.{run_from}
 use Rattle.st_core.proofs.ForCallers.{mapped, process_after, process_pid, run_parts, step_parts, pid_eq-refl}
 use Rattle.st_plan.specs.declared.plan.Start.{Start}
-use Rattle.st_plan.specs.Build.{dress, is_dressed, quiet, raise, ready, renew, renewed, silent, state_after, unstamped}
+use Rattle.st_plan.specs.Build.{dress, is_dressed, quiet, raise, ready, renew, renewed_start, silent, state_after, unstamped_token}
 use Rattle.st_plan.proofs.ForCallers.{is_alone}
 
 -- ONE ACT
@@ -316,7 +316,7 @@ all_both p (x ∷ xs) ys one two = (one.0, all_both p xs ys one.1 two)
 module _ (p : Pid) where
   dress_alone : (token : Option Token) (n : Label) (f : Flags) → AllByRecursion (is_alone p) (dress p token n f)
   dress_alone token n f = elim (is_dressed n f token) as (λ b. AllByRecursion (is_alone p)
-      (cond b [] (act.Restore p (unstamped p n f) ∷ []))) [ true ↦ tt | false ↦ (refl, tt) ]
+      (cond b [] (act.Restore p (unstamped_token p n f) ∷ []))) [ true ↦ tt | false ↦ (refl, tt) ]
 
   silent_alone : (n : ℕ) → AllByRecursion (is_alone p) (silent p n)
   silent_alone zero = tt
@@ -331,10 +331,10 @@ module _ (p : Pid) where
 
   raise_alone : (x : Start) (n : Label) (count : ℕ) (f : Flags) → AllByRecursion (is_alone p) (raise p x n count f)
   raise_alone x n count f = elim (nat_lt x.clock count) as (λ b. AllByRecursion (is_alone p)
-      (cond b (dress p x.token n quiet ++ (silent p (count - x.clock) ++ dress p (Some (unstamped p n quiet)) n f))
+      (cond b (dress p x.token n quiet ++ (silent p (count - x.clock) ++ dress p (Some (unstamped_token p n quiet)) n f))
       (dress p x.token n f))) [
-        | true ↦ brought_alone x.token n (count - x.clock) (dress p (Some (unstamped p n quiet)) n f)
-            (dress_alone (Some (unstamped p n quiet)) n f)
+        | true ↦ brought_alone x.token n (count - x.clock) (dress p (Some (unstamped_token p n quiet)) n f)
+            (dress_alone (Some (unstamped_token p n quiet)) n f)
         | false ↦ dress_alone x.token n f
       ]
 
@@ -351,8 +351,8 @@ module _ (p : Pid) where
 
   pub ready_alone : (x : Start) (n : Label) (s : Serial) (f : Flags) → AllByRecursion (is_alone p) (ready p x n s f)
   ready_alone x n s f = elim (s.prev == x.last) as (λ b. AllByRecursion (is_alone p)
-      (cond b (raise p x n (s.this - 1) f) (renew p x n s.prev ++ raise p (renewed p x n s.prev) n (s.this - 1) f))) [
+      (cond b (raise p x n (s.this - 1) f) (renew p x n s.prev ++ raise p (renewed_start p x n s.prev) n (s.this - 1) f))) [
         | true ↦ raise_alone x n (s.this - 1) f
-        | false ↦ all_both p (renew p x n s.prev) (raise p (renewed p x n s.prev) n (s.this - 1) f)
-            (renew_alone x n s.prev) (raise_alone (renewed p x n s.prev) n (s.this - 1) f)
+        | false ↦ all_both p (renew p x n s.prev) (raise p (renewed_start p x n s.prev) n (s.this - 1) f)
+            (renew_alone x n s.prev) (raise_alone (renewed_start p x n s.prev) n (s.this - 1) f)
       ]

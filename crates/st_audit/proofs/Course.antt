@@ -21,7 +21,7 @@ use Rattle.st_order.specs.Items.{event_of}
 use Rattle.st_order.specs.Order.{IsOrder}
 use Rattle.st_plan.specs.Marks.{all_told}
 use Rattle.st_plan.specs.Moves.{Move, earlier_of, move_by, moves}
-use Rattle.st_plan.specs.Reasons.{item_place}
+use Rattle.st_order.specs.Items.{item_place}
 use Rattle.st_plan.specs.Build.{state_after, tracers_after}
 use Rattle.st_plan.proofs.ForCallers.{earlier_more, item_is, one_move, order_there, IsThere}
 use Rattle.st_audit.specs.declared.construction.Halt.{Halt}

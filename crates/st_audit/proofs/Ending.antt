@@ -19,7 +19,8 @@ use Rattle.st_order.specs.Order.{IsOrder}
 use Rattle.st_plan.specs.Moves.{Move, move_by, moves, earlier_of}
 use Rattle.st_audit.specs.declared.construction.Halt.{Halt}
 use Rattle.st_audit.specs.declared.construction.Halt.TheVariants as halt
-use Rattle.st_plan.specs.Reasons.{item_place, too_wide, uncaused, HoldsAt}
+use Rattle.st_order.specs.Items.{item_place}
+use Rattle.st_plan.specs.Reasons.{too_wide, uncaused, HoldsAt}
 use Rattle.st_audit.specs.Progress.{HoldsOf, IsHalt}
 use Rattle.st_plan.proofs.ForCallers.{moves_append, one_move, order_there, IsAt, IsThere, item_is}
 

@@ -21,7 +21,7 @@ use Rattle.st_plan.specs.Marks.{Marks}
 use Rattle.st_plan.specs.Moves.{Move, clock, is_taking, last, move_by, skip, skips, earlier_of}
 use Rattle.st_plan.specs.Reasons.{most_skipped, most_skipped_in_all, too_wide, uncaused}
 use Rattle.st_plan.specs.Build.{start_of}
-use Rattle.st_audit.specs.Progress.{if_told, is_too_wide, is_uncaused, missing, AreCounted, HaltsAt}
+use Rattle.st_audit.specs.Progress.{if_told, is_too_wide, is_uncaused, missing_count, AreCounted, HaltsAt}
 use Rattle.st_audit.specs.Progress.{IsActed, IsCounted, IsHalt, IsHiddenDone, IsReportedDone, IsSoFar, IsStampHaltAt}
 use Rattle.st_plan.proofs.ForCallers.{earlier_more, hidden_clock}
 use Rattle.st_audit.proofs.Moved.{HasMoved, hidden_moves, reported_moves, taken_moves}
@@ -65,7 +65,7 @@ counted_next earlier m old new counted moved x r h =
 
 -- the counts of the moves before the item, if the process is there
 start_skips : (earlier : List Move) (m : Move) (l : LocalState) → is_taking m ≡ false → IsCounted earlier m.who l
-    → missing (start_of l) m.event.serial ≡ skip earlier m
+    → missing_count (start_of l) m.event.serial ≡ skip earlier m
 start_skips earlier m l stamps counted =
     ap (λ c. m.event.serial.this - 1 - c) counted.clocked
     ∙ ap (λ b. cond b 0 (m.event.serial.this - 1 - clock m.who earlier)) (sym stamps)
@@ -158,7 +158,7 @@ module _ (streams : List Stream) (ys : List Item) (old : State) (skipped : ℕ)
       ∙ ap (λ c. not (prev == h.before.local.last) && nat_lt prev c) (sym was.clocked) ∙ h.holds
 
   too_wide_by : (m : Move) → is_taking m ≡ false
-      → HaltsAt old m.who (λ x. is_too_wide skipped (missing x m.event.serial))
+      → HaltsAt old m.who (λ x. is_too_wide skipped (missing_count x m.event.serial))
       → too_wide (earlier_of streams ys) m ≡ true
   too_wide_by m stamps h =
       let earlier = earlier_of streams ys in
@@ -168,7 +168,7 @@ module _ (streams : List Stream) (ys : List Item) (old : State) (skipped : ℕ)
       stamps
       ∙ ap (λ k. nat_lt most_skipped k || nat_lt most_skipped_in_all (k + skips earlier))
       (sym (start_skips earlier m h.before.local stamps was))
-      ∙ ap (λ k. is_too_wide k (missing (start_of h.before.local) m.event.serial)) (sym so.missed) ∙ h.holds
+      ∙ ap (λ k. is_too_wide k (missing_count (start_of h.before.local) m.event.serial)) (sym so.missed) ∙ h.holds
 
   pub hidden_halt : (p : Pid) (i : ℕ) (h : Halt)
       → IsStampHaltAt streams p i (λ e. e.from) (λ e. true) old skipped h → IsHalt streams ys (item.Hidden p i) h

@@ -13,7 +13,7 @@ use Rattle.st_mail.specs.declared.outcome.Outcome.{Outcome as Told}
 use Rattle.st_world.specs.World.{outcome_to}
 use Rattle.st_plan.specs.declared.plan.Start.{Start}
 use Rattle.st_plan.specs.Build.{ready, start_of}
-use Rattle.st_audit.specs.Progress.{is_too_wide, is_uncaused, missing, StampsEvent, IsStampOf, Ran}
+use Rattle.st_audit.specs.Progress.{is_too_wide, is_uncaused, missing_count, StampsEvent, IsStampOf, Ran}
 
 allowed : (b : Bool) (k now : ℕ) → Some now ≡ cond b None (Some k) → now ≡ k
 allowed true k now h = absurd (none-some now (sym h))
@@ -30,7 +30,7 @@ pub stamped : (top : ℕ) (old : State) (skipped : ℕ) (p : Pid) (e : Event) (f
     (now : ℕ) (start : Start) (between : State) (a : Act)
     → option_map (λ (r : Process). start_of r.local) (process old p) ≡ Some start
     → is_uncaused start e.serial ≡ false
-    → Some now ≡ cond (is_too_wide skipped (missing start e.serial)) None (Some (missing start e.serial + skipped))
+    → Some now ≡ cond (is_too_wide skipped (missing_count start e.serial)) None (Some (missing_count start e.serial + skipped))
     → Ran top old (ready p start e.label e.serial f) between → IsStampOf p a
     → step top between a ≡ Some (outcome_to told new) → StampsEvent top old skipped p e f told new now
 stamped top old skipped p e f told new now start between a is caused within ran stamps steps =
@@ -44,6 +44,6 @@ stamped top old skipped p e f told new now start between a is caused within ran 
       stamp = a;
       stamps = stamps;
       steps = steps;
-      missed = allowed (is_too_wide skipped (missing start e.serial)) (missing start e.serial + skipped) now within
-          ∙ ap (λ x. missing x e.serial + skipped) (sym parts.2);
+      missed = allowed (is_too_wide skipped (missing_count start e.serial)) (missing_count start e.serial + skipped) now within
+          ∙ ap (λ x. missing_count x e.serial + skipped) (sym parts.2);
     }

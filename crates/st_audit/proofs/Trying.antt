@@ -15,14 +15,14 @@ use Rattle.st_plan.specs.Build.{state_after}
 use Rattle.st_plan.proofs.ForCallers.{run_append, state_append}
 use Rattle.st_audit.specs.declared.construction.Halt.{Halt}
 use Rattle.st_audit.specs.declared.construction.Halt.TheVariants as halt
-use Rattle.st_audit.specs.Construction.{attempt, last_report, tried, turn_by}
+use Rattle.st_audit.specs.Construction.{attempt, last_report, tried_acts, turn_by}
 use Rattle.st_audit.specs.Progress.{IsPlainHalt, IsStuck, Makes, Meets, Ran, TellsLast, TriesAct}
 
 -- ACTS THAT ARE TRIED
 
 abbrev tried_on : ℕ → List Act → Option Outcome → List Act
 tried_on top rest None = []
-tried_on top rest (Some o) = tried top o.after rest
+tried_on top rest (Some o) = tried_acts top o.after rest
 
 abbrev run_on : ℕ → List Act → Outcome → Option (List Outcome)
 run_on top rest o = option_map (λ os. o ∷ os) (run_from top o.after rest)
@@ -32,14 +32,14 @@ map_none f None h = refl
 map_none f (Some x) h = absurd (none-some (f x) (sym h))
 
 tried_after : (top : ℕ) (s : State) (xs ys : List Act) (os : List Outcome) → run_from top s xs ≡ Some os
-    → tried top s (xs ++ ys) ≡ xs ++ tried top (state_after s os) ys
+    → tried_acts top s (xs ++ ys) ≡ xs ++ tried_acts top (state_after s os) ys
 tried_after top s [] ys os runs =
-    subst (λ zs. tried top s ys ≡ tried top (state_after s zs) ys) (same_Some [] os runs) refl
+    subst (λ zs. tried_acts top s ys ≡ tried_acts top (state_after s zs) ys) (same_Some [] os runs) refl
 tried_after top s (x ∷ xs) ys os runs =
     let t = run_parts top s x xs os runs in
     ap (λ o. x ∷ tried_on top (xs ++ ys) o) t.is_first
     ∙ ap (λ zs. x ∷ zs) (tried_after top t.first.after xs ys t.others t.is_rest)
-    ∙ ap (λ zs. x ∷ (xs ++ tried top (state_after s zs) ys)) (sym t.is_whole)
+    ∙ ap (λ zs. x ∷ (xs ++ tried_acts top (state_after s zs) ys)) (sym t.is_whole)
 
 none_after : (top : ℕ) (s : State) (xs ys : List Act) (os : List Outcome) → run_from top s xs ≡ Some os
     → run_from top (state_after s os) ys ≡ None → run_from top s (xs ++ ys) ≡ None
@@ -54,7 +54,7 @@ none_after top s (x ∷ xs) ys os runs none =
 -- what comes after the first that has no step isn't tried
 record StuckBefore (top : ℕ) (s : State) (xs ys : List Act) : Type 0 where
   pub none : run_from top s (xs ++ ys) ≡ None
-  pub same : tried top s (xs ++ ys) ≡ tried top s xs
+  pub same : tried_acts top s (xs ++ ys) ≡ tried_acts top s xs
 
 front_stuck : (top : ℕ) (s : State) (xs ys : List Act) → run_from top s xs ≡ None → StuckBefore top s xs ys
 front_stuck top s [] ys h = absurd (none-some [] (sym h))
@@ -92,8 +92,8 @@ stuck_later top s t xs ys before mid halt.Uncaused now ran put stuck = tt
 stuck_later top s t xs ys before mid halt.TooWide now ran put stuck = tt
 stuck_later top s t xs ys before mid halt.Stopped now ran put stuck = (
   none_after top s xs ys ran.outcomes ran.runs (ap (λ u. run_from top u ys) (sym ran.after) ∙ stuck.0),
-  stuck.1 ∙ ap (λ zs. zs ++ tried top t ys) put ∙ append_assoc before xs (tried top t ys)
-      ∙ ap (λ u. before ++ (xs ++ tried top u ys)) ran.after
+  stuck.1 ∙ ap (λ zs. zs ++ tried_acts top t ys) put ∙ append_assoc before xs (tried_acts top t ys)
+      ∙ ap (λ u. before ++ (xs ++ tried_acts top u ys)) ran.after
       ∙ ap (λ zs. before ++ zs) (sym (tried_after top s xs ys ran.outcomes ran.runs)),
 )
 
@@ -155,7 +155,7 @@ made_meets top one two plan acts a old before (Err halt.TooWide) new now is_one 
     absurd plain
 made_meets top one two plan acts a old before (Err halt.Stopped) new now is_one is_two is makes plain stuck =
     record {
-      acts = tried top old (acts ++ a ∷ []);
+      acts = tried_acts top old (acts ++ a ∷ []);
       stopped = attempted top old one two plan (acts ++ a ∷ []) None is_one is_two is stuck.0;
       put = stuck.1;
     }
@@ -171,7 +171,7 @@ stuck_meets says top one two plan acts a old before halt.Memory new now is_one i
 stuck_meets says top one two plan acts a old before halt.Uncaused new now is_one is_two is plain stuck = absurd plain
 stuck_meets says top one two plan acts a old before halt.TooWide new now is_one is_two is plain stuck = absurd plain
 stuck_meets says top one two plan acts a old before halt.Stopped new now is_one is_two is plain stuck = record {
-  acts = tried top old (acts ++ a ∷ []);
+  acts = tried_acts top old (acts ++ a ∷ []);
   stopped = attempted top old one two plan (acts ++ a ∷ []) None is_one is_two is stuck.0;
   put = stuck.1;
 }

@@ -31,9 +31,9 @@ use Rattle.st_plan.specs.Reasons.{most_skipped, most_skipped_in_all, too_wide, u
 use Rattle.st_plan.specs.Build.{ready, start_of}
 use Rattle.st_audit.specs.declared.construction.Halt.{Halt}
 use Rattle.st_audit.specs.declared.construction.Halt.TheVariants as halt
-use Rattle.st_audit.specs.Construction.{acts_from, attempt, compared, event_eq, is_shown, kind_eq, last_report, turn}
+use Rattle.st_audit.specs.Construction.{acts_from, attempt, compared_turn, event_eq, is_shown, kind_eq, last_report, turn}
 use Rattle.st_audit.specs.Construction.{Turn, Through, Stopped, Refused}
-use Rattle.st_audit.specs.Progress.{is_too_wide, is_uncaused, missing, move_turn, report_turn, stamp_turn, test_at}
+use Rattle.st_audit.specs.Progress.{is_too_wide, is_uncaused, missing_count, move_turn, report_turn, stamp_turn, test_at}
 use Rattle.st_audit.specs.Progress.{IsSoFar, Meets, SaysNothing, TellsLast, TriesAct, WentThrough}
 
 -- at the exit of a `?`
@@ -51,19 +51,19 @@ within_bounds false k now h = refl
 stamp_turn_of : (top : ℕ) (s : State) (skipped : ℕ) (p : Pid) (e : Event) (f : Flags) (a : Act) (r : Process)
     → process s p ≡ Some r → stamp_turn top s skipped p e f a
     ≡ attempt top s (is_uncaused (start_of r.local) e.serial)
-    (is_too_wide skipped (missing (start_of r.local) e.serial))
+    (is_too_wide skipped (missing_count (start_of r.local) e.serial))
     (Some (ready p (start_of r.local) e.label e.serial f ++ a ∷ []))
 stamp_turn_of top s skipped p e f a r is = rw is refl
 
 -- by what the code found the process to have
 pub stamp_turn_is : (top : ℕ) (s : State) (skipped : ℕ) (p : Pid) (e : Event) (f : Flags) (a : Act) (start : Start)
     → option_map (λ (r : Process). start_of r.local) (process s p) ≡ Some start → stamp_turn top s skipped p e f a
-    ≡ attempt top s (is_uncaused start e.serial) (is_too_wide skipped (missing start e.serial))
+    ≡ attempt top s (is_uncaused start e.serial) (is_too_wide skipped (missing_count start e.serial))
     (Some (ready p start e.label e.serial f ++ a ∷ []))
 stamp_turn_is top s skipped p e f a start is =
     let parts = mapped (λ (r : Process). start_of r.local) (process s p) start is in
     stamp_turn_of top s skipped p e f a parts.0 parts.1
-    ∙ ap (λ (x : Start). attempt top s (is_uncaused x e.serial) (is_too_wide skipped (missing x e.serial))
+    ∙ ap (λ (x : Start). attempt top s (is_uncaused x e.serial) (is_too_wide skipped (missing_count x e.serial))
     (Some (ready p x e.label e.serial f ++ a ∷ []))) parts.2
 
 -- ONE EVENT
@@ -146,7 +146,7 @@ unlike e (Some d) other = elim (event_eq d e) as (λ b. event_eq d e ≡ b → b
   | false ↦ λ h. refl
 ] refl
 
-tries_compared : (m : Move) (t : Turn) → TriesAct t → TriesAct (compared m t)
+tries_compared : (m : Move) (t : Turn) → TriesAct t → TriesAct (compared_turn m t)
 tries_compared m (Through [] os) h = absurd h
 tries_compared m (Through (a ∷ acts) os) h = elim (is_shown m os) as
     (λ b. TriesAct (cond b (Through (a ∷ acts) os) (Stopped (a ∷ acts)))) [ true ↦ tt | false ↦ tt ]
@@ -157,12 +157,12 @@ tries_compared m (Refused r) h = absurd h
 -- a turn that goes no way on, compared
 compared_err : {T U : Type 0} (one : T → List Outcome → Type 0) (two : U → List Outcome → Type 0) (m : Move) (t : Turn)
     (old : State) (before : List Act) (h : Halt) (new : State) (now : List Act)
-    → Meets one t old before (Err h) new now → Meets two (compared m t) old before (Err h) new now
+    → Meets one t old before (Err h) new now → Meets two (compared_turn m t) old before (Err h) new now
 compared_err one two m t old before halt.Memory new now meets = tries_compared m t meets
-compared_err one two m t old before halt.Uncaused new now meets = ap (compared m) meets
-compared_err one two m t old before halt.TooWide new now meets = ap (compared m) meets
+compared_err one two m t old before halt.Uncaused new now meets = ap (compared_turn m) meets
+compared_err one two m t old before halt.TooWide new now meets = ap (compared_turn m) meets
 compared_err one two m t old before halt.Stopped new now meets =
-    record { acts = meets.acts; stopped = ap (compared m) meets.stopped; put = meets.put }
+    record { acts = meets.acts; stopped = ap (compared_turn m) meets.stopped; put = meets.put }
 
 module _ (top : ℕ) (streams : List Stream) (marks : Marks) (s : State) (skipped : ℕ) (n : ℕ) (p : Pid) (i : ℕ)
     (e : Event) (before : List Act) (new : State) (now : List Act) where
@@ -177,13 +177,13 @@ module _ (top : ℕ) (streams : List Stream) (marks : Marks) (s : State) (skippe
       → Meets {T = Unit {0}} SaysNothing whole s before (Err halt.Stopped) new now
   late_meets apart same = record {
     acts = [];
-    stopped = ap (λ b. cond (not b) (Stopped []) (compared move (move_turn top streams marks s skipped move)))
+    stopped = ap (λ b. cond (not b) (Stopped []) (compared_turn move (move_turn top streams marks s skipped move)))
         (not_equal n i apart);
     put = same ∙ sym (append-nil before);
   }
 
-  in_time : n ≡ i → whole ≡ compared move (move_turn top streams marks s skipped move)
-  in_time same = ap (λ b. cond (not b) (Stopped []) (compared move (move_turn top streams marks s skipped move)))
+  in_time : n ≡ i → whole ≡ compared_turn move (move_turn top streams marks s skipped move)
+  in_time same = ap (λ b. cond (not b) (Stopped []) (compared_turn move (move_turn top streams marks s skipped move)))
       (eq-eqb n i same)
 
   pub err_meets : (h : Halt) → n ≡ i
@@ -197,7 +197,7 @@ module _ (top : ℕ) (streams : List Stream) (marks : Marks) (s : State) (skippe
       (went : WentThrough TellsLast (move_turn top streams marks s skipped move) s before told new now) where
     chosen : (b : Bool) → is_shown move went.outcomes ≡ b
         → whole ≡ cond b (Through went.acts went.outcomes) (Stopped went.acts)
-    chosen b is = in_time same ∙ ap (compared move) went.through
+    chosen b is = in_time same ∙ ap (compared_turn move) went.through
         ∙ ap (λ c. cond c (Through went.acts went.outcomes) (Stopped went.acts)) is
 
     pub other_meets : (told.report ≡ Some e → ⊥)
@@ -275,14 +275,14 @@ module _ (top : ℕ) (streams : List Stream) (marks : Marks) (ys : List Item) (s
       ∙ ap (λ c. not (is_taking m) && (not (prev == last m.who (earlier_of streams ys)) && nat_lt prev c)) was.clocked
 
   same_too_wide : (r : Process) → process s m.who ≡ Some r
-      → (not (is_taking m) && test_at (λ x. is_too_wide skipped (missing x m.event.serial)) s m.who)
+      → (not (is_taking m) && test_at (λ x. is_too_wide skipped (missing_count x m.event.serial)) s m.who)
       ≡ too_wide (earlier_of streams ys) m
   same_too_wide r at =
       let was = so.counted m.who r at in
       let this = m.event.serial.this in
       let earlier = earlier_of streams ys in
       ap (λ o. not (is_taking m)
-      && option_map_or (λ (r : Process). is_too_wide skipped (missing (start_of r.local) m.event.serial)) o false) at
+      && option_map_or (λ (r : Process). is_too_wide skipped (missing_count (start_of r.local) m.event.serial)) o false) at
       ∙ elim (is_taking m) as (λ b. (not b && is_too_wide skipped (this - 1 - r.local.clock))
       ≡ (not b && (nat_lt most_skipped (cond b 0 (this - 1 - clock m.who earlier))
       || nat_lt most_skipped_in_all (cond b 0 (this - 1 - clock m.who earlier) + skips earlier)))) [
@@ -300,7 +300,7 @@ module _ (top : ℕ) (streams : List Stream) (marks : Marks) (ys : List Item) (s
         | None ↦ λ at. nowhere at
         | Some r ↦ λ at.
             ap (λ b. attempt top s b (not (is_taking m)
-            && test_at (λ x. is_too_wide skipped (missing x m.event.serial)) s m.who)
+            && test_at (λ x. is_too_wide skipped (missing_count x m.event.serial)) s m.who)
             (acts_from streams marks s m)) (same_uncaused r at)
             ∙ ap (λ b. attempt top s (uncaused (earlier_of streams ys) m) b (acts_from streams marks s m))
             (same_too_wide r at)
@@ -316,10 +316,10 @@ pub reported_turn : (top : ℕ) (streams : List Stream) (marks : Marks) (ys : Li
     ≡ turn top streams marks s (earlier_of streams ys) (move_by (item.Reported p i) e)
 reported_turn top streams marks ys s skipped so p i e =
     let m = move_by (item.Reported p i) e in
-    ap (λ t. cond (not (told p (earlier_of streams ys) == i)) (Stopped []) (compared m t))
+    ap (λ t. cond (not (told p (earlier_of streams ys) == i)) (Stopped []) (compared_turn m t))
     (move_turn_is top streams marks ys s skipped so m)
 
-compared_hidden : (p : Pid) (i : ℕ) (e : Event) (t : Turn) → t ≡ compared (move_by (item.Hidden p i) e) t
+compared_hidden : (p : Pid) (i : ℕ) (e : Event) (t : Turn) → t ≡ compared_turn (move_by (item.Hidden p i) e) t
 compared_hidden p i e (Through acts os) = refl
 compared_hidden p i e (Stopped acts) = refl
 compared_hidden p i e (Refused r) = refl

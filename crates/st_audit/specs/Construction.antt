@@ -22,7 +22,8 @@ use Rattle.st_order.specs.declared.item.Item.TheVariants as item
 use Rattle.st_order.specs.Order.{order}
 use Rattle.st_plan.specs.Marks.{all_told, Marks}
 use Rattle.st_plan.specs.Moves.{Move, moves}
-use Rattle.st_plan.specs.Reasons.{item_place, too_wide, uncaused}
+use Rattle.st_order.specs.Items.{item_place}
+use Rattle.st_plan.specs.Reasons.{too_wide, uncaused}
 use Rattle.st_plan.specs.Plain.{out_of_turn}
 use Rattle.st_plan.specs.Build.{acts_of, state_after, tracers_after}
 use Rattle.st_audit.specs.declared.finding.Reason.{Reason}
@@ -46,9 +47,9 @@ event_eq d e = d.label.0 == e.label.0 && (kind_eq d.kind e.kind && (d.serial.pre
     && d.value == e.value)))))
 
 -- the acts up to the first that has no step, and that one
-abbrev pub tried : ℕ → State → List Act → List Act
-tried top s [] = []
-tried top s (a ∷ rest) = a ∷ (elim (step top s a) [ None ↦ [] | Some o ↦ tried top o.after rest ])
+abbrev pub tried_acts : ℕ → State → List Act → List Act
+tried_acts top s [] = []
+tried_acts top s (a ∷ rest) = a ∷ (elim (step top s a) [ None ↦ [] | Some o ↦ tried_acts top o.after rest ])
 
 -- what the last of these reports; this report if there is none
 abbrev pub last_report : Option Event → List Outcome → Option Event
@@ -64,7 +65,7 @@ pub data Turn : Type 0 where
 
 -- acts go through if each has a step
 abbrev pub turn_by : ℕ → State → List Act → Option (List Outcome) → Turn
-turn_by top s acts None = Stopped (tried top s acts)
+turn_by top s acts None = Stopped (tried_acts top s acts)
 turn_by top s acts (Some os) = Through acts os
 
 -- the acts of a move, if there are any: first it must not be uncaused, then not too wide
@@ -86,15 +87,15 @@ is_shown m os = elim m.item [
 ]
 
 -- what goes through shows its event too
-abbrev pub compared : Move → Turn → Turn
-compared m (Through acts os) = if is_shown m os then Through acts os else Stopped acts
-compared m (Stopped acts) = Stopped acts
-compared m (Refused r) = Refused r
+abbrev pub compared_turn : Move → Turn → Turn
+compared_turn m (Through acts os) = if is_shown m os then Through acts os else Stopped acts
+compared_turn m (Stopped acts) = Stopped acts
+compared_turn m (Refused r) = Refused r
 
 -- what comes of a move from this state, after those earlier ones, if its event is told
 abbrev pub turn : ℕ → List Stream → Marks → State → List Move → Move → Turn
 turn top streams marks s earlier m = if out_of_turn earlier m then Stopped [] else
-    compared m (attempt top s (uncaused earlier m) (too_wide earlier m) (acts_from streams marks s m))
+    compared_turn m (attempt top s (uncaused earlier m) (too_wide earlier m) (acts_from streams marks s m))
 
 -- ALL ITEMS
 

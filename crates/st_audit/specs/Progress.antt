@@ -27,7 +27,7 @@ use Rattle.st_plan.specs.Reasons.{most_skipped, most_skipped_in_all, uncaused, t
 use Rattle.st_plan.specs.Build.{start_of, ready, state_after, GoesOn}
 use Rattle.st_plan.specs.Plain.{told, out_of_turn}
 use Rattle.st_audit.specs.declared.finding.Reason.TheVariants as reason
-use Rattle.st_audit.specs.Construction.{acts_from, attempt, compared, last_report, tried}
+use Rattle.st_audit.specs.Construction.{acts_from, attempt, compared_turn, last_report, tried_acts}
 use Rattle.st_audit.specs.Construction.{Turn, Through, Stopped, Refused}
 
 -- p's clock and last count are what the moves so far make of them
@@ -45,8 +45,8 @@ pub record IsSoFar (streams : List Stream) (xs : List Item) (s : State) (skipped
   pub missed : skipped ≡ skips (earlier_of streams xs)
 
 -- how many counts are missing before a serial
-abbrev pub missing : Start → Serial → ℕ
-missing x s = s.this - 1 - x.clock
+abbrev pub missing_count : Start → Serial → ℕ
+missing_count x s = s.this - 1 - x.clock
 
 -- the serial's prev is below the clock, and isn't the last count
 abbrev pub is_uncaused : Start → Serial → Bool
@@ -79,7 +79,7 @@ pub record StampsEvent (top : ℕ) (old : State) (skipped : ℕ) (p : Pid) (e : 
   pub stamp : Act
   pub stamps : IsStampOf p stamp
   pub steps : step top between stamp ≡ Some (outcome_to told new)
-  pub missed : skipped_now ≡ missing (start_of before.local) e.serial + skipped
+  pub missed : skipped_now ≡ missing_count (start_of before.local) e.serial + skipped
 
 -- p took the event's message from its queue
 pub record IsTaken (top : ℕ) (old : State) (p : Pid) (e : Event) (told : Told) (new : State) : Type 0 where
@@ -130,7 +130,7 @@ pub record HaltsAt (old : State) (p : Pid) (test : Start → Bool) : Type 0 wher
 -- why no stamp of the event's serial by p was tried, if it is for one of the auditor's reasons
 abbrev pub IsStampHalt : State → ℕ → Pid → Event → Halt → Type 0
 IsStampHalt old skipped p e halt.Uncaused = HaltsAt old p (λ x. is_uncaused x e.serial)
-IsStampHalt old skipped p e halt.TooWide = HaltsAt old p (λ x. is_too_wide skipped (missing x e.serial))
+IsStampHalt old skipped p e halt.TooWide = HaltsAt old p (λ x. is_too_wide skipped (missing_count x e.serial))
 IsStampHalt old skipped p e h = Unit {0}
 
 -- no reason of the auditor's own
@@ -220,7 +220,7 @@ pub record Serves (top : ℕ) (streams : List Stream) (marks : Marks) (earlier :
 
 -- one of the acts has no step, and these were tried
 abbrev pub IsStuck : ℕ → State → List Act → List Act → Halt → List Act → Type 0
-IsStuck top old plan before halt.Stopped now = (run_from top old plan ≡ None) × (now ≡ before ++ tried top old plan)
+IsStuck top old plan before halt.Stopped now = (run_from top old plan ≡ None) × (now ≡ before ++ tried_acts top old plan)
 IsStuck top old plan before h now = Unit {0}
 
 -- the acts went through, and the call says this of their outcomes
@@ -269,7 +269,7 @@ test_at test s p = option_map_or (λ r. test (start_of r.local)) (process s p) f
 -- what comes of this stamp of the event's serial by p
 abbrev pub stamp_turn : ℕ → State → ℕ → Pid → Event → Flags → Act → Turn
 stamp_turn top s skipped p e f a = attempt top s (test_at (λ x. is_uncaused x e.serial) s p)
-    (test_at (λ x. is_too_wide skipped (missing x e.serial)) s p)
+    (test_at (λ x. is_too_wide skipped (missing_count x e.serial)) s p)
     (option_map (λ r. ready p (start_of r.local) e.label e.serial f ++ a ∷ []) (process s p))
 
 -- what comes of p's taking the event's message
@@ -281,7 +281,7 @@ take_turn top s p e = attempt top s false false
 abbrev pub move_turn : ℕ → List Stream → Marks → State → ℕ → Move → Turn
 move_turn top streams marks s skipped m = attempt top s
     (not (is_taking m) && test_at (λ x. is_uncaused x m.event.serial) s m.who)
-    (not (is_taking m) && test_at (λ x. is_too_wide skipped (missing x m.event.serial)) s m.who)
+    (not (is_taking m) && test_at (λ x. is_too_wide skipped (missing_count x m.event.serial)) s m.who)
     (acts_from streams marks s m)
 
 -- so many events of p were told
@@ -291,4 +291,4 @@ IsCountedAs streams counts p n = (k : ℕ) → slice_get (pids_of streams) k ≡
 -- what comes of the event at (p, i) after so many events of p
 abbrev pub report_turn : ℕ → List Stream → Marks → State → ℕ → ℕ → Move → ℕ → Turn
 report_turn top streams marks s skipped told m i = if not (told == i) then Stopped []
-    else compared m (move_turn top streams marks s skipped m)
+    else compared_turn m (move_turn top streams marks s skipped m)

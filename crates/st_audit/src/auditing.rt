@@ -1,6 +1,6 @@
 //! The auditor.
 
-ghost use Rattle.std.specs.Prelude.{◌≡◌, IfErr, IfOk, IsSome, None, [], ◌∷◌, Some};
+ghost use Rattle.std.specs.Prelude.{◌≡◌, ◌⊎◌, IfErr, IfOk, IsSome, None, [], ◌∷◌, Some};
 ghost use Rattle.st_core.specs.Run.{pids_of, Shows};
 ghost use Rattle.st_core.specs.Streams.{IsStreams};
 ghost use Rattle.std.specs.Option.{ForSome};
@@ -8,12 +8,11 @@ ghost use Rattle.st_order.specs.Order.{IsOrder};
 ghost use Rattle.st_pair.specs.Links.{IsPairing};
 ghost use Rattle.st_pair.specs.Pairing.{refusal, IsPairFault};
 ghost use Rattle.st_pair.specs.Places.{event_at};
-ghost use Rattle.st_pair.specs.Final.{IsPrevNotBefore, NeverShown, NeverShownInOneTrace};
+ghost use Rattle.st_pair.specs.Final.{RulesOut};
 ghost use Rattle.st_audit.specs.Construction.{end_of, IsAudit, IsFoundAt, Judged};
 ghost use Rattle.st_audit.specs.Findings.{fault_of, unfit_by, HandsOn, IsFinding, IsCertificate};
 ghost use Rattle.st_plan.specs.Plain.{IsPlain};
 ghost use Rattle.st_full.specs.Full.{IsFullyShown};
-ghost use Rattle.st_plan.specs.Reasons.{item_place};
 
 use crate::construction::{Construction, Halt};
 use crate::finding::{AuditFault, Finding, Reason};
@@ -25,8 +24,8 @@ use st_plan::Everything;
 use std::alloc::Global;
 use std::thread::Threads;
 
-/// A reason of pairing as a finding.
-fn unfit_by(fault: PairFault) -> Option<Finding>
+/// A reason of pairing as a finding; none if memory ran out.
+pub fn unfit_by(fault: PairFault) -> Option<Finding>
     ensures { result ≡ unfit_by fault }
 {
     match fault {
@@ -46,17 +45,8 @@ fn unfit_by(fault: PairFault) -> Option<Finding>
     }
 }
 
-/// Where an item stands in the streams: a hidden send stands where its receive does.
-fn place_of(item: Item) -> (Pid, u64)
-    ensures { result ≡ item_place item }
-{
-    match item {
-        Item::Reported(pid, index) | Item::Hidden(pid, index) => (pid, index),
-    }
-}
-
 /// What the checker makes of the acts that were built up to the event at this place.
-fn judged<const TOP: u64>(
+fn judge<const TOP: u64>(
     alloc: Global,
     streams: &Streams,
     acts: Sequence<Act>,
@@ -76,7 +66,10 @@ fn judged<const TOP: u64>(
 }
 
 /// What is found of streams without events: the checker accepts no acts.
-fn found_of_nothing<const TOP: u64>(alloc: Global, streams: &Streams) -> Result<Finding, AuditFault>
+fn finding_of_nothing<const TOP: u64>(
+    alloc: Global,
+    streams: &Streams,
+) -> Result<Finding, AuditFault>
     requires { IsOrder streams.now [] }
     ensures found { IfOk result (IsFinding TOP streams.now) }
     ensures exact { IfOk result (IsFoundAt TOP streams.now (Judged [] None)) }
@@ -94,7 +87,7 @@ fn found_of_nothing<const TOP: u64>(alloc: Global, streams: &Streams) -> Result<
 }
 
 /// What is found of streams that pairing accepts, with the items in their order.
-fn found<const TOP: u64>(
+fn finding_in_order<const TOP: u64>(
     alloc: Global,
     streams: &Streams,
     pids: &[Pid],
@@ -111,7 +104,7 @@ fn found<const TOP: u64>(
         IsPlain TOP streams.now → IfOk result IsCertificate }
 {
     if items.is_empty() {
-        return found_of_nothing::<TOP>(alloc, streams);
+        return finding_of_nothing::<TOP>(alloc, streams);
     }
     let end = items[items.len() - 1];
     let Ok(mut construction) = Construction::<TOP>::new(alloc, streams) else {
@@ -120,25 +113,25 @@ fn found<const TOP: u64>(
     match construction.open(pids) {
         Ok(()) => {}
         Err(Halt::Memory) => return Err(AuditFault::Memory),
-        Err(_) => return judged::<TOP>(alloc, streams, construction.into_acts(), place_of(end)),
+        Err(_) => return judge::<TOP>(alloc, streams, construction.into_acts(), end.place()),
     }
     for number in 0..items.len() {
-        let (pid, index) = place_of(items[number]);
+        let (pid, index) = items[number].place();
         match construction.append(alloc, streams, pairing, &Everything, items, number) {
             Ok(()) => {}
             Err(Halt::Memory) => return Err(AuditFault::Memory),
             Err(Halt::Uncaused) => return Ok(Finding::Unfit(pid, index, Reason::Uncaused)),
             Err(Halt::TooWide) => return Ok(Finding::Unfit(pid, index, Reason::TooWide)),
             Err(Halt::Stopped) => {
-                return judged::<TOP>(alloc, streams, construction.into_acts(), (pid, index));
+                return judge::<TOP>(alloc, streams, construction.into_acts(), (pid, index));
             }
         }
     }
-    judged::<TOP>(alloc, streams, construction.into_acts(), place_of(end))
+    judge::<TOP>(alloc, streams, construction.into_acts(), end.place())
 }
 
 /// What is found of streams.
-fn audited<const TOP: u64>(
+fn finding_of<const TOP: u64>(
     rt: &(impl Threads + Sync),
     alloc: Global,
     streams: &Streams,
@@ -146,8 +139,8 @@ fn audited<const TOP: u64>(
     ensures found { IfOk result (IsFinding TOP streams.now) }
     ensures exact { IfOk result (IsAudit TOP streams.now) }
     ensures handed_on { IfOk result (HandsOn streams.now) }
-    ensures plain_fits { IfOk result (λ found. IsPlain TOP streams.now → IsCertificate found) }
-    ensures full_fits { IfOk result (λ found. IsFullyShown TOP streams.now → IsCertificate found) }
+    ensures certain { IfOk result (λ found.
+        IsPlain TOP streams.now ⊎ IsFullyShown TOP streams.now → IsCertificate found) }
 {
     let pids = streams.pids();
     let pairing = match pair(alloc, streams) {
@@ -162,7 +155,7 @@ fn audited<const TOP: u64>(
     let Ok(items) = order(rt, alloc, streams, &pairing) else {
         return Err(AuditFault::Memory);
     };
-    found::<TOP>(alloc, streams, pids, &pairing, items.as_slice())
+    finding_in_order::<TOP>(alloc, streams, pids, &pairing, items.as_slice())
 }
 
 /// Finds a certificate for the streams, or an event and the reason why none was found. Its acts
@@ -181,14 +174,14 @@ pub fn audit<const TOP: u64>(
     // Unless memory runs out, the finding is the one that the streams determine.
     ensures exact { IfOk result (IsAudit TOP streams.now) }
 
-    // Which reasons are final: of the first no acts show the streams, of all four of pairing none without a reset.
-    ensures final_prev { IfOk result (λ found.
-        ForSome (fault_of found) (λ fault. IsPrevNotBefore fault → NeverShown streams.now)) }
-    ensures final_without_reset { IfOk result (λ found. IsSome (fault_of found) → NeverShownInOneTrace streams.now) }
+    // The reasons of pairing are final: no acts show streams with the first, and none without a
+    // reset streams with any.
+    ensures rules_out { IfOk result (λ found. ForSome (fault_of found) (RulesOut streams.now)) }
 
-    // And when it always finds a certificate: nothing stands against the streams, or some run reported all of itself.
-    ensures plain_fits { IfOk result (λ found. IsPlain TOP streams.now → IsCertificate found) }
-    ensures full_fits { IfOk result (λ found. IsFullyShown TOP streams.now → IsCertificate found) }
+    // It certainly finds a certificate if nothing stands against the streams, or if some run
+    // reported all of itself.
+    ensures certain { IfOk result (λ found.
+        IsPlain TOP streams.now ⊎ IsFullyShown TOP streams.now → IsCertificate found) }
 {
-    audited::<TOP>(rt, alloc, streams)
+    finding_of::<TOP>(rt, alloc, streams)
 }

@@ -18,7 +18,7 @@ use std::alloc::{AllocError, Global};
 use std::thread::Threads;
 
 /// The acts of all items, in their order; none if one of them halts the construction.
-fn built<const TOP: u64, M: Tells>(
+fn build<const TOP: u64, M: Tells>(
     alloc: Global,
     streams: &Streams,
     pids: &[Pid],
@@ -72,5 +72,5 @@ pub fn told_acts<const TOP: u64, M: Tells>(
         Err(_) => return Ok(None),
     };
     let items = order(rt, alloc, streams, &pairing)?;
-    built::<TOP, M>(alloc, streams, pids, &pairing, marks, items.as_slice())
+    build::<TOP, M>(alloc, streams, pids, &pairing, marks, items.as_slice())
 }

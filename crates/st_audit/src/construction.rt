@@ -26,7 +26,7 @@ ghost use Rattle.st_order.specs.Order.{IsOrder};
 ghost use Rattle.st_world.specs.World.{outcome_to, place_in};
 ghost use Rattle.st_plan.specs.Build.{flags_of, ready, start_of, tracers_after, GoesOn};
 ghost use Rattle.st_plan.specs.Moves.{earlier_of, move_by};
-ghost use Rattle.st_audit.specs.Progress.{if_told, is_too_wide, is_uncaused, missing, AreCounted, IsClockBelow, IsHalt};
+ghost use Rattle.st_audit.specs.Progress.{if_told, is_too_wide, is_uncaused, missing_count, AreCounted, IsClockBelow, IsHalt};
 ghost use Rattle.st_audit.specs.Progress.{IsActed, IsActHalt, IsHiddenDone, IsPlainHalt, IsReportedDone, IsSoFar};
 ghost use Rattle.st_audit.specs.Progress.{StampsEvent, IsStampHalt, IsStampHaltAt, IsStampOf, IsTaken, Ran};
 ghost use Rattle.st_audit.specs.Progress.{AreTold, PutsActs, HasTold, IsNoStop, Makes, Serves, TellsOne};
@@ -80,8 +80,8 @@ fn is_uncaused(start: &Start, serial: Serial) -> bool
 }
 
 /// How many counts are missing before the serial's own.
-fn missing(start: &Start, serial: Serial) -> u64
-    ensures { result ≡ missing start.now serial }
+fn missing_count(start: &Start, serial: Serial) -> u64
+    ensures { result ≡ missing_count start.now serial }
 {
     serial.this.saturating_sub(1).saturating_sub(start.clock)
 }
@@ -276,7 +276,7 @@ impl<const TOP: u64> Construction<TOP> {
         if is_uncaused(&start, event.serial) {
             return Err(Halt::Uncaused);
         }
-        let Some(skipped) = with_skipped(self.skipped, missing(&start, event.serial)) else {
+        let Some(skipped) = with_skipped(self.skipped, missing_count(&start, event.serial)) else {
             return Err(Halt::TooWide);
         };
         self.skipped = skipped;

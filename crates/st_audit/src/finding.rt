@@ -4,25 +4,26 @@ use st_check::Verdict;
 use st_core::{Act, Pid, Sequence};
 use thiserror::Error;
 
-/// Why no certificate was found, for the event at the place that a finding names. The first four are
-/// the reasons of pairing, and the numbers are those of their order (own profile).
+/// Why no certificate was found, for the event at the place that a finding names. The reasons stand
+/// in the order in which they are tried: the first four are those of pairing, each over all events
+/// before any act is sought, and the others are tried item by item (own profile).
 #[derive(Debug, Drop)]
 pub enum Reason {
-    /// 2: the serial of the event doesn't rise: its prev isn't less than its this.
+    /// The serial of the event doesn't rise: its prev isn't less than its this.
     PrevNotBefore,
-    /// 3: the send or print counts no higher than that of its process at this index.
+    /// The send or print counts no higher than that of its process at this index.
     NotRising(u64),
-    /// 4: the receive has the sender and the count of the receive at this earlier place.
+    /// The receive has the sender and the count of the receive at this earlier place.
     Repeated(Pid, u64),
-    /// 5: the send or print at this place has the count of the receive, and isn't its send.
+    /// The send or print at this place has the count of the receive, and isn't its send.
     Mismatch(Pid, u64),
-    /// 6: the prev is below the clock of the process then, and isn't its last count: it names a
+    /// The prev is below the clock of the process then, and isn't its last count: it names a
     /// message that the process took before another one, or one that it never took.
     Uncaused,
-    /// 7: more counts are missing before the event than the auditor fills in: 1,000 before one item,
+    /// More counts are missing before the event than the auditor fills in: 1,000 before one item,
     /// or 1,000,000 in all.
     TooWide,
-    /// 8: the acts that the auditor tried come to this verdict, which is no yes.
+    /// The acts that the auditor tried come to this verdict, which is no yes.
     NotReplayed(Sequence<Act>, Verdict),
 }
 

@@ -10,6 +10,6 @@ mod construction;
 mod finding;
 pub mod laws;
 
-pub use auditing::audit;
+pub use auditing::{audit, unfit_by};
 pub use building::told_acts;
 pub use finding::{AuditFault, Finding, Reason};

@@ -13,7 +13,7 @@ use Rattle.st_core.specs.Streams.{events_of, stream_of}
 use Rattle.st_core.proofs.ForCallers.{pid_eq-true, pid_eq-same, pid_eq-swap, IsBelow-apart}
 use Rattle.st_pair.proofs.ForCallers.{is_at, at_get_or, events_in}
 use Rattle.st_chain.specs.declared.label_table.ChainKey.{ChainKey}
-use Rattle.st_chain.specs.Labels.{labelled}
+use Rattle.st_chain.specs.Labels.{labelled_indexes}
 use Rattle.st_chain.specs.Tabled.{chain_of, part_from, listed_under}
 use Rattle.st_chain.proofs.Backs.{missing_events}
 
@@ -58,11 +58,11 @@ passed_over : (p : Pid) (i : ℕ) (e : Event) (rest : List Event) (key : ChainKe
     → part_from p i (e ∷ rest) key ≡ part_from p (i + 1) rest key
 passed_over p i e rest key other = elim (pid_eq p key.pid)
     as (λ b. pid_eq p key.pid ≡ b
-    → cond b (labelled key.label i (e ∷ rest)) [] ≡ cond b (labelled key.label (i + 1) rest) []) [
+    → cond b (labelled_indexes key.label i (e ∷ rest)) [] ≡ cond b (labelled_indexes key.label (i + 1) rest) []) [
       | true ↦ λ own. elim (e.label.0 == key.label.0)
           as (λ b. (e.label.0 == key.label.0) ≡ b
-          → cond b (i ∷ labelled key.label (i + 1) rest) (labelled key.label (i + 1) rest)
-          ≡ labelled key.label (i + 1) rest) [
+          → cond b (i ∷ labelled_indexes key.label (i + 1) rest) (labelled_indexes key.label (i + 1) rest)
+          ≡ labelled_indexes key.label (i + 1) rest) [
             | true ↦ λ is. absurd (other (its_key p e key own is))
             | false ↦ λ is. refl
           ] refl
@@ -156,13 +156,13 @@ pub parts_are : (streams : List Stream) (key : ChainKey) → IsRising (pids_of s
     → listed_under streams key ≡ chain_of streams key
 parts_are [] key rising = refl
 parts_are (s ∷ rest) key rising = elim (pid_eq s.pid key.pid)
-    as (λ b. pid_eq s.pid key.pid ≡ b → cond b (labelled key.label 0 s.events) [] ++ listed_under rest key
-    ≡ labelled key.label 0 (events_in (cond b (Some s) (stream_of rest key.pid)))) [
+    as (λ b. pid_eq s.pid key.pid ≡ b → cond b (labelled_indexes key.label 0 s.events) [] ++ listed_under rest key
+    ≡ labelled_indexes key.label 0 (events_in (cond b (Some s) (stream_of rest key.pid)))) [
       | true ↦ λ own.
           let same = pid_eq-true s.pid key.pid own in
           let none = missing_events rest key.pid (all_apart (pids_of rest) s.pid key.pid same rising.0) in
-          ap (λ (l : List ℕ). labelled key.label 0 s.events ++ l)
-          (parts_are rest key rising.1 ∙ ap (labelled key.label 0) none)
-          ∙ append-nil (labelled key.label 0 s.events)
+          ap (λ (l : List ℕ). labelled_indexes key.label 0 s.events ++ l)
+          (parts_are rest key rising.1 ∙ ap (labelled_indexes key.label 0) none)
+          ∙ append-nil (labelled_indexes key.label 0 s.events)
       | false ↦ λ own. parts_are rest key rising.1
     ] refl

@@ -8,7 +8,7 @@ use Rattle.st_core.specs.Pid.{pid_eq, pid_cmp}
 use Rattle.st_core.specs.Run.{Stream}
 use Rattle.st_arena.specs.Arena.{Arena, list_at}
 use Rattle.st_chain.specs.declared.label_table.ChainKey.{ChainKey}
-use Rattle.st_chain.specs.Labels.{labelled, chain}
+use Rattle.st_chain.specs.Labels.{labelled_indexes, chain}
 
 -- by process, then label
 abbrev pub chain_key_cmp : ChainKey → ChainKey → Ordering
@@ -20,7 +20,7 @@ chain_of streams key = chain streams key.pid key.label
 
 -- what events of a process, the first of them at index i, have under the key
 abbrev pub part_from : Pid → ℕ → List Event → ChainKey → List ℕ
-part_from pid i events key = if pid_eq pid key.pid then labelled key.label i events else []
+part_from pid i events key = if pid_eq pid key.pid then labelled_indexes key.label i events else []
 
 -- what all processes have under the key
 abbrev pub listed_under : List Stream → ChainKey → List ℕ

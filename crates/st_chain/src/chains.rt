@@ -68,7 +68,7 @@ fn all_backs(alloc: Global, streams: &Streams) -> Result<Vec<Sequence<Option<u64
 }
 
 /// What is kept at an index.
-fn read(list: &[Option<u64>], index: u64) -> Option<u64>
+fn back_at(list: &[Option<u64>], index: u64) -> Option<u64>
     ensures { result ≡ option_and_then (λ x. x) (slice_get list.now index) }
 {
     match list.get(index as usize) {
@@ -78,7 +78,12 @@ fn read(list: &[Option<u64>], index: u64) -> Option<u64>
 }
 
 /// The last receive before the event at this place that its prev is of.
-fn earlier(streams: &Streams, backs: &[Sequence<Option<u64>>], pid: Pid, index: u64) -> Option<u64>
+fn receive_before(
+    streams: &Streams,
+    backs: &[Sequence<Option<u64>>],
+    pid: Pid,
+    index: u64,
+) -> Option<u64>
     requires sound { IsStreams streams.now }
     requires backs { backs.now ≡ map (λ s. backs_from s.events 0 s.events) streams.now }
     ensures { (e : EventValue) → slice_get (events_of streams.now pid) index ≡ Some e
@@ -86,7 +91,7 @@ fn earlier(streams: &Streams, backs: &[Sequence<Option<u64>>], pid: Pid, index: 
 {
     match streams.place_of(pid) {
         None => None,
-        Some(place) => read(backs[place].as_slice(), index),
+        Some(place) => back_at(backs[place].as_slice(), index),
     }
 }
 
@@ -155,7 +160,7 @@ impl<'a> Chains<'a> {
                 Some(Source::Hidden) | None => Some(Cause::Hidden),
             },
             Kind::Send | Kind::Print => {
-                match earlier(self.streams, self.backs.as_slice(), pid, index) {
+                match receive_before(self.streams, self.backs.as_slice(), pid, index) {
                     None => Some(Cause::Start),
                     Some(place) => Some(Cause::Event(pid, place)),
                 }

@@ -9,8 +9,8 @@ use Rattle.st_core.specs.declared.types.Pid.{Pid}
 use Rattle.st_core.specs.declared.types.Label.{Label}
 use Rattle.st_core.specs.Run.{Stream, pids_of}
 use Rattle.st_order.specs.declared.item.Item.{Item}
-use Rattle.st_chart.specs.declared.charted.Charted.{Charted}
-use Rattle.st_chart.specs.Chart.{charted, all_charted, is_end, lanes}
+use Rattle.st_chart.specs.declared.charted.ChartedItem.{ChartedItem}
+use Rattle.st_chart.specs.Chart.{charted_of, all_charted, is_end, lanes}
 use Rattle.st_chart.specs.Parts.{is_end_in}
 
 pub or_false : (b : Bool) → b ≡ (b || false)
@@ -25,10 +25,10 @@ any_more f xs i d lt =
     ∙ ap (λ (b : Bool). list_any f (take i xs) || b) (sym (or_false (f (get_or xs i d))))
 
 module _ (streams : List Stream) (label : Label) where
-  abbrev end_by : Pid → Option Charted → Bool
+  abbrev end_by : Pid → Option ChartedItem → Bool
   end_by p o = elim o [ None ↦ false | Some c ↦ is_end c.event p ]
 
-  one_charted : (p : Pid) (o : Option Charted) (rest : List Charted)
+  one_charted : (p : Pid) (o : Option ChartedItem) (rest : List ChartedItem)
       → list_any (λ x. is_end x.event p) (cons_option o rest) ≡ (end_by p o || list_any (λ x. is_end x.event p) rest)
   one_charted p None rest = refl
   one_charted p (Some c) rest = refl
@@ -37,7 +37,7 @@ module _ (streams : List Stream) (label : Label) where
       → list_any (λ x. is_end x.event p) (all_charted streams items label) ≡ list_any (is_end_in streams label p) items
   any_charted p [] = refl
   any_charted p (x ∷ items) =
-      one_charted p (charted streams label x) (all_charted streams items label)
+      one_charted p (charted_of streams label x) (all_charted streams items label)
       ∙ ap (λ (b : Bool). is_end_in streams label p x || b) (any_charted p items)
 
   filter_same : (f g : Pid → Bool) → ((p : Pid) → f p ≡ g p) → (ps : List Pid) → filter f ps ≡ filter g ps

@@ -9,8 +9,8 @@ use Rattle.st_core.specs.Run.{Stream}
 use Rattle.st_order.specs.declared.item.Item.{Item}
 use Rattle.st_text.specs.Writing.{Goes}
 use Rattle.st_text.proofs.ForCallers.{goes_then}
-use Rattle.st_chart.specs.declared.charted.Charted.{Charted}
-use Rattle.st_chart.specs.Chart.{charted, all_charted, item_line, lane_line, lane_lines}
+use Rattle.st_chart.specs.declared.charted.ChartedItem.{ChartedItem}
+use Rattle.st_chart.specs.Chart.{charted_of, all_charted, item_line, lane_line, lane_lines}
 use Rattle.st_chart.specs.Parts.{line_in}
 
 -- lanes behind lanes are numbered on
@@ -46,15 +46,15 @@ lanes_more puts failed ps i d {a} {c} {x} {z} lt g h =
     (goes_then puts failed (lane_lines 1 (take i ps)) (lane_line (i + 1) (get_or ps i d)) g h)
 
 module _ (streams : List Stream) (label : Label) (caused : List Stream) (ps : List Pid) where
-  abbrev pub line_by : Option Charted → List ℕ
+  abbrev pub line_by : Option ChartedItem → List ℕ
   line_by o = elim o [ None ↦ [] | Some c ↦ item_line caused ps c ]
 
   -- an item's line, by what is shown of it
-  pub line_of : (x : Item) (o : Option Charted) → charted streams label x ≡ o
+  pub line_of : (x : Item) (o : Option ChartedItem) → charted_of streams label x ≡ o
       → line_in streams label caused ps x ≡ line_by o
   line_of x o is = ap line_by is
 
-  one_line : (o : Option Charted) (rest : List Charted)
+  one_line : (o : Option ChartedItem) (rest : List ChartedItem)
       → line_by o ++ flat_map (item_line caused ps) rest ≡ flat_map (item_line caused ps) (cons_option o rest)
   one_line None rest = refl
   one_line (Some c) rest = refl
@@ -66,4 +66,4 @@ module _ (streams : List Stream) (label : Label) (caused : List Stream) (ps : Li
   lines_are [] = refl
   lines_are (x ∷ items) =
       ap (λ (t : List ℕ). line_in streams label caused ps x ++ t) (lines_are items)
-      ∙ one_line (charted streams label x) (all_charted streams items label)
+      ∙ one_line (charted_of streams label x) (all_charted streams items label)

@@ -9,7 +9,7 @@ use Rattle.st_text.specs.Spelling as spelled
 use Rattle.st_text.proofs.ForCallers.{front_some}
 use Rattle.st_audit.specs.declared.finding.Reason.{Reason}
 use Rattle.st_chart.specs.Words.{ended_line, place_words}
-use Rattle.st_chart.specs.declared.charted.Charted.{Charted}
+use Rattle.st_chart.specs.declared.charted.ChartedItem.{ChartedItem}
 use Rattle.st_chart.specs.Chart.{label_line, lane_lines, item_line, chart_lines}
 use Rattle.st_chart.specs.Report.{unfit_line, reason_words, event_line, evidence, unfit_text}
 
@@ -23,7 +23,7 @@ unfit_some streams p i r =
     front_some (first ++ event) (evidence streams p r)
     (front_some first event (line_some (codes "unfit " ++ place_words p i ++ codes " " ++ reason_words p r)))
 
-pub chart_some : (streams : List Stream) (label : Label) (ps : List Pid) (xs : List Charted)
+pub chart_some : (streams : List Stream) (label : Label) (ps : List Pid) (xs : List ChartedItem)
     → 0 < length (chart_lines streams label ps xs)
 chart_some streams label ps xs =
     front_some (label_line label ++ lane_lines 1 ps) (flat_map (item_line streams ps) xs)

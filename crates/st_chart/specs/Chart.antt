@@ -17,21 +17,21 @@ use Rattle.st_order.specs.Items.{event_of}
 use Rattle.st_chain.specs.declared.cause.Cause.{Cause}
 use Rattle.st_chain.specs.declared.cause.Cause.TheVariants as cause
 use Rattle.st_chain.specs.Causes.{cause_at}
-use Rattle.st_chart.specs.declared.charted.Charted.{Charted}
+use Rattle.st_chart.specs.declared.charted.ChartedItem.{ChartedItem}
 use Rattle.st_chart.specs.Words.{ended_line, place_words}
 
 -- ---- what is shown
 
 -- an item with its event, if that has the label
-abbrev pub charted : List Stream → Label → Item → Option Charted
-charted streams label x = elim (event_of streams x) [
+abbrev pub charted_of : List Stream → Label → Item → Option ChartedItem
+charted_of streams label x = elim (event_of streams x) [
   | None ↦ None
   | Some e ↦ if e.label.0 == label.0 then Some (record { item = x; event = e }) else None
 ]
 
 -- the items with the label, in their order
-abbrev pub all_charted : List Stream → List Item → Label → List Charted
-all_charted streams items label = filter_map (charted streams label) items
+abbrev pub all_charted : List Stream → List Item → Label → List ChartedItem
+all_charted streams items label = filter_map (charted_of streams label) items
 
 -- p is an event's from or to
 abbrev pub is_end : Event → Pid → Bool
@@ -40,7 +40,7 @@ is_end e p = pid_eq e.from p || option_map_or (λ q. pid_eq q p) e.to false
 -- ---- lanes
 
 -- the lanes: of the processes, whose pids rise, those that are from or to of an item that is shown
-abbrev pub lanes : List Stream → List Charted → List Pid
+abbrev pub lanes : List Stream → List ChartedItem → List Pid
 lanes streams xs = filter (λ p. list_any (λ x. is_end x.event p) xs) (pids_of streams)
 
 abbrev pub lane_line : ℕ → Pid → List ℕ
@@ -54,7 +54,7 @@ lane_lines k (p ∷ ps) = lane_line k p ++ lane_lines (k + 1) ps
 -- ---- marks
 
 -- p is where the item happened: a receive at its to, all else at its from
-abbrev pub is_at : Charted → Pid → Bool
+abbrev pub is_at : ChartedItem → Pid → Bool
 is_at x p = elim x.item [
   | item.Hidden q i ↦ pid_eq x.event.from p
   | item.Reported q i ↦ elim x.event.kind [
@@ -72,7 +72,7 @@ letter (item.Reported p i) kind.Receive = codes "   R"
 letter (item.Reported p i) kind.Print = codes "   P"
 
 -- the mark in p's lane
-abbrev pub mark : Charted → Pid → List ℕ
+abbrev pub mark : ChartedItem → Pid → List ℕ
 mark x p = if is_at x p then letter x.item x.event.kind else if is_end x.event p then codes "   ." else codes "   |"
 
 -- ---- words
@@ -99,20 +99,20 @@ origin_words streams (item.Hidden p i) = codes "unseen"
 -- ---- lines
 
 -- word, serial, value and cause
-abbrev pub item_words : List Stream → Charted → List ℕ
+abbrev pub item_words : List Stream → ChartedItem → List ℕ
 item_words streams x =
     item_word x.item x.event.kind ++ codes " " ++ spelled.serial x.event.serial ++ codes " " ++ decimal x.event.value
     ++ codes " " ++ origin_words streams x.item
 
 -- a mark in each lane, two spaces, and the words
-abbrev pub item_line : List Stream → List Pid → Charted → List ℕ
+abbrev pub item_line : List Stream → List Pid → ChartedItem → List ℕ
 item_line streams ps x = flat_map (mark x) ps ++ ended_line (codes "  " ++ item_words streams x)
 
 abbrev pub label_line : Label → List ℕ
 label_line label = ended_line (codes "label " ++ spelled.label label)
 
 -- the label, the lanes, and the items
-abbrev pub chart_lines : List Stream → Label → List Pid → List Charted → List ℕ
+abbrev pub chart_lines : List Stream → Label → List Pid → List ChartedItem → List ℕ
 chart_lines streams label ps xs =
     label_line label ++ lane_lines 1 ps ++ flat_map (item_line streams ps) xs
 

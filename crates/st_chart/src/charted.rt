@@ -5,34 +5,30 @@ ghost use Rattle.std.specs.Option.{option_map_or};
 ghost use Rattle.st_core.specs.Pid.{pid_eq};
 ghost use Rattle.std.specs.List.{list_any};
 ghost use Rattle.st_order.specs.Labels.{item_has_label};
-ghost use Rattle.st_chart.specs.Chart.{charted, is_at, is_end};
+ghost use Rattle.st_chart.specs.Chart.{charted_of, is_at, is_end};
 
 use st_core::{Event, Kind, Label, Pid, Streams};
 use st_order::Item;
 
 /// An item that a chart shows, with its event.
 #[derive(Clone, Copy, Debug)]
-pub(crate) struct Charted {
+pub(crate) struct ChartedItem {
     /// The item.
     pub(crate) item: Item,
     /// The event that it is about: of a hidden send its receive.
     pub(crate) event: Event,
 }
 
-impl Charted {
+impl ChartedItem {
     /// The item with its event, if that has the label; none if no event is at its place.
-    pub(crate) fn of(streams: &Streams, label: Label, item: Item) -> Option<Charted>
-        ensures { result ≡ charted streams.now label item }
+    pub(crate) fn of(streams: &Streams, label: Label, item: Item) -> Option<ChartedItem>
+        ensures { result ≡ charted_of streams.now label item }
     {
-        let event = match item {
-            Item::Reported(pid, index) => streams.event(pid, index),
-            Item::Hidden(pid, index) => streams.event(pid, index),
-        };
-        match event {
+        match item.event(streams) {
             None => None,
             Some(event) => {
                 if event.label.0 == label.0 {
-                    Some(Charted { item, event })
+                    Some(ChartedItem { item, event })
                 } else {
                     None
                 }
@@ -78,5 +74,5 @@ pub(crate) fn is_any_charted(streams: &Streams, label: Label, items: &[Item]) ->
 {
     items
         .iter()
-        .any(|item| Charted::of(streams, label, *item).is_some())
+        .any(|item| ChartedItem::of(streams, label, *item).is_some())
 }

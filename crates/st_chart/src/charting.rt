@@ -11,7 +11,7 @@ ghost use Rattle.st_chart.specs.Chart.{all_charted, lane_line, lane_lines, mark,
 ghost use Rattle.st_chart.specs.Chart.{chart_lines, chart_text};
 ghost use Rattle.st_chart.specs.Parts.{line_in};
 
-use crate::charted::{Charted, is_any_charted};
+use crate::charted::{ChartedItem, is_any_charted};
 use crate::fault::ChartFault;
 use crate::lanes::lanes_of;
 use crate::marks::{put_item, put_mark};
@@ -75,7 +75,7 @@ fn write_marks<W: ByteSink>(
     writer: &mut W,
     buffer: &mut Buffer,
     lanes: &[Pid],
-    charted: &Charted,
+    charted: &ChartedItem,
 ) -> Result<(), Device>
     ensures { WritesOn W.puts W.failed (flat_map (mark charted.now) lanes.now)
         writer.old writer.new buffer.old.items buffer.new.items result }
@@ -93,7 +93,7 @@ fn write_item<W: ByteSink>(
     buffer: &mut Buffer,
     chains: &Chains,
     lanes: &[Pid],
-    charted: &Charted,
+    charted: &ChartedItem,
 ) -> Result<(), Device>
     ensures { WritesOn W.puts W.failed (item_line chains.now lanes.now charted.now)
         writer.old writer.new buffer.old.items buffer.new.items result }
@@ -117,7 +117,7 @@ fn write_if_charted<W: ByteSink>(
     ensures { WritesOn W.puts W.failed (line_in streams.now label chains.now lanes.now item)
         writer.old writer.new buffer.old.items buffer.new.items result }
 {
-    match Charted::of(streams, label, item) {
+    match ChartedItem::of(streams, label, item) {
         None => Ok(()),
         Some(charted) => write_item(writer, buffer, chains, lanes, &charted),
     }

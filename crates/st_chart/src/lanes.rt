@@ -8,7 +8,7 @@ ghost use Rattle.st_core.specs.Pid.{pid_eq};
 ghost use Rattle.st_chart.specs.Chart.{all_charted, is_end, lanes};
 ghost use Rattle.st_chart.specs.Parts.{is_end_in};
 
-use crate::charted::Charted;
+use crate::charted::ChartedItem;
 use st_core::{Event, Label, Pid, Streams};
 use st_order::Item;
 use std::alloc::{AllocError, Global};
@@ -42,7 +42,7 @@ fn ends_of(
 {
     let mut ends = HashSet::new(alloc);
     for item in items {
-        if let Some(charted) = Charted::of(streams, label, *item) {
+        if let Some(charted) = ChartedItem::of(streams, label, *item) {
             note_ends(&mut ends, &charted.event)?;
         }
     }
@@ -50,7 +50,7 @@ fn ends_of(
 }
 
 /// Those of these pids that were noted.
-fn noted(alloc: Global, pids: &[Pid], ends: &HashSet<Pid>) -> Result<Vec<Pid>, AllocError>
+fn ends_among(alloc: Global, pids: &[Pid], ends: &HashSet<Pid>) -> Result<Vec<Pid>, AllocError>
     ensures { IfOk result (λ noted. noted.items ≡ filter (contains pid_eq ends.now) pids.now) }
 {
     let mut noted = Vec::new(alloc);
@@ -72,5 +72,5 @@ pub(crate) fn lanes_of(
     ensures { IfOk result (λ pids. pids.items ≡ lanes streams.now (all_charted streams.now items.now label)) }
 {
     let ends = ends_of(alloc, streams, label, items)?;
-    noted(alloc, streams.pids(), &ends)
+    ends_among(alloc, streams.pids(), &ends)
 }

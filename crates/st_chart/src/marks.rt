@@ -7,7 +7,7 @@ ghost use Rattle.st_chart.specs.Words.{ended_line};
 ghost use Rattle.st_chart.specs.Chart.{letter, mark, item_word, cause_words, origin_words, item_words};
 ghost use Rattle.st_chart.specs.Room.{mark_room, item_word_room, origin_room, item_room};
 
-use crate::charted::{Charted, is_end};
+use crate::charted::{ChartedItem, is_end};
 use crate::words::put_place;
 use st_chain::{Cause, Chains};
 use st_core::{Kind, Pid};
@@ -30,7 +30,7 @@ fn put_letter(buffer: &mut Buffer, item: Item, kind: Kind)
 }
 
 /// Appends an item's mark in a process's lane.
-pub(crate) fn put_mark(buffer: &mut Buffer, charted: &Charted, lane: Pid)
+pub(crate) fn put_mark(buffer: &mut Buffer, charted: &ChartedItem, lane: Pid)
     requires { array_vec_len buffer.old + mark_room ≤ buffer_room }
     ensures { buffer.new.items ≡ buffer.old.items ++ mark charted.now lane }
 {
@@ -89,7 +89,7 @@ fn put_origin(buffer: &mut Buffer, chains: &Chains, item: Item)
 }
 
 /// Appends an item's word, serial, value and cause.
-fn put_item_words(buffer: &mut Buffer, chains: &Chains, charted: &Charted)
+fn put_item_words(buffer: &mut Buffer, chains: &Chains, charted: &ChartedItem)
     requires { array_vec_len buffer.old + item_room ≤ buffer_room }
     ensures items { buffer.new.items ≡ buffer.old.items ++ item_words chains.now charted.now }
     ensures len { array_vec_len buffer.new ≤ array_vec_len buffer.old + item_room }
@@ -104,7 +104,7 @@ fn put_item_words(buffer: &mut Buffer, chains: &Chains, charted: &Charted)
 }
 
 /// Appends what follows the marks.
-pub(crate) fn put_item(buffer: &mut Buffer, chains: &Chains, charted: &Charted)
+pub(crate) fn put_item(buffer: &mut Buffer, chains: &Chains, charted: &ChartedItem)
     requires { array_vec_len buffer.old + line_room ≤ buffer_room }
     ensures { buffer.new.items ≡ buffer.old.items ++ ended_line (codes "  " ++ item_words chains.now charted.now) }
 {

@@ -20,7 +20,7 @@ use Rattle.st_world.specs.declared.outcome.StepFault.{StepFault}
 use Rattle.st_world.specs.declared.outcome.StepFault.TheVariants as fault
 use Rattle.st_world.specs.World.{IsFault}
 use Rattle.st_core.proofs.ForCallers.{step_no_actor, step_no_receiver}
-use Rattle.st_check.specs.Progress.{tags_of, count_of, counted, pair_to, stop_of, IsPassed, IsStop}
+use Rattle.st_check.specs.Progress.{tags_of, count_of, counts_with, pair_to, stop_of, IsPassed, IsStop}
 use Rattle.st_check.specs.declared.progress.Stop.TheVariants as stop
 use Rattle.st_check.proofs.Appended.{pair_of}
 use Rattle.st_check.proofs.Passing.{unlisted_stuck, stuck_more, passed_more, differs_more}
@@ -115,7 +115,7 @@ module _ (top : ℕ) (streams : List Stream) (acts : List Act) (n : ℕ) (d : Ac
     -- it passes
     pub passed_at : (counts' : List ℕ) (tags' : List (List ℕ)) (ps' : List (ℕ × ℕ)) (sent : Option ℕ)
         → ForSome o.report (λ e. slice_get events (get_or counts place 0) ≡ Some e)
-        → counts' ≡ counted counts place o.report
+        → counts' ≡ counts_with counts place o.report
         → ((t : Tags) → tags ≡ map t pids → tags' ≡ map (tags_after t n (get_or acts n d) o.place) pids)
         → ((t : Tags) → tags ≡ map t pids → pair_at t n (get_or acts n d) o.place ≡ pair_to n sent)
         → ps' ≡ ps ++ pair_to n (option_and o.report sent)

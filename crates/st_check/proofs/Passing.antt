@@ -21,7 +21,7 @@ use Rattle.st_core.specs.Verdict.{Passes}
 use Rattle.st_core.proofs.ForCallers.{zero_pids, pid_eq-true, pid_eq-same, pid_eq-swap}
 use Rattle.st_core.proofs.ForCallers.{run_parts, leaves_others}
 use Rattle.st_world.proofs.ForCallers.{map_agree}
-use Rattle.st_check.specs.Progress.{state_from, tags_of, count_of, counted, IsPassed}
+use Rattle.st_check.specs.Progress.{state_from, tags_of, count_of, counts_with, IsPassed}
 use Rattle.st_check.proofs.Appended.{length-run, run-append, state_from-append, stream-append, tags_from-append}
 use Rattle.st_check.proofs.Appended.{pair_of, pairs_from-append}
 use Rattle.st_check.proofs.Places.{map_at, entry_at, events_at}
@@ -128,7 +128,7 @@ module _ (acts : List Act) (a : Act) (os : List Outcome) (o : Outcome) (even : l
 
   counts_more : (pids : List Pid) (i : ℕ) → IsRising pids → slice_get pids i ≡ Some (actor a)
       → (report : Option Event) → o.report ≡ report
-      → counted (map (count_of acts os) pids) i report ≡ map (count_of (acts ++ a ∷ []) (os ++ o ∷ [])) pids
+      → counts_with (map (count_of acts os) pids) i report ≡ map (count_of (acts ++ a ∷ []) (os ++ o ∷ [])) pids
   counts_more pids i rising at None silent =
       map_agree (count_of acts os) (count_of (acts ++ a ∷ []) (os ++ o ∷ [])) pids
       (λ q. ap length (sym (stream_silent q silent)))
@@ -165,7 +165,7 @@ pub passed_more : (top : ℕ) (streams : List Stream) (acts : List Act) (s : Sta
     → (p : IsPassed top streams acts s counts tags ps) → step top s a ≡ Some o
     → ForSome o.report (λ e. slice_get (events_of streams (actor a)) (get_or counts i 0) ≡ Some e)
     → later ≡ map (tags_after (tags_of acts p.outcomes) n a o.place) (pids_of streams)
-    → IsPassed top streams (acts ++ a ∷ []) o.after (counted counts i o.report) later
+    → IsPassed top streams (acts ++ a ∷ []) o.after (counts_with counts i o.report) later
     (ps ++ pair_of (tags_of acts p.outcomes) n a o)
 passed_more top streams acts s counts tags ps a o i n later rising at number p h next are =
     let os = p.outcomes in
@@ -187,7 +187,7 @@ passed_more top streams acts s counts tags ps a o i n later rising at number p h
             ∙ ap (slice_get (events_of streams (actor a))) (sym count) ∙ next e is) (p.passing.fronts k d within);
       };
       is_state = state_from-append (zero_state (pids_of streams)) os o;
-      are_counts = ap (λ xs. counted xs i o.report) p.are_counts
+      are_counts = ap (λ xs. counts_with xs i o.report) p.are_counts
           ∙ counts_more acts a os o even (pids_of streams) i rising at o.report refl;
       are_tags = are
           ∙ ap (λ t. map t (pids_of streams)) (ap (λ k. tags_after (tags_of acts os) k a o.place) nth

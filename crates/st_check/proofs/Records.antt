@@ -21,7 +21,7 @@ use Rattle.st_core.specs.Laws.{IsReportAmong, ReportsAmong}
 use Rattle.st_core.proofs.ForCallers.{pid_eq-true, pid_eq-swap, all_at, position-none}
 use Rattle.st_core.proofs.ForCallers.{step_parts}
 use Rattle.st_core.proofs.ForCallers.{run_named}
-use Rattle.st_check.specs.Answers.{reported, AllRise}
+use Rattle.st_check.specs.Answers.{reported_streams, AllRise}
 use Rattle.st_check.proofs.Verdicts.{Rises, stream_rises}
 use Rattle.st_core.proofs.ForCallers.{run_sound}
 use Rattle.std.proofs.lemmas.List.Elements.{All-map}
@@ -35,20 +35,20 @@ use Rattle.st_core.proofs.ForCallers.{process_among}
 
 -- who is listed is among the pids
 lists-reported : (pids : List Pid) (acts : List Act) (os : List Outcome) (p : Pid)
-    → lists (reported pids acts os) p ≡ is_among pids p
+    → lists (reported_streams pids acts os) p ≡ is_among pids p
 lists-reported [] acts os p = refl
 lists-reported (q ∷ pids) acts os p =
     elim (pid_eq q p) as (λ b. is_some (cond b (Some (record { pid = q; events = stream acts os q }))
-    (stream_of (reported pids acts os) p)) ≡ (b || is_among pids p))
+    (stream_of (reported_streams pids acts os) p)) ≡ (b || is_among pids p))
     [ true ↦ refl | false ↦ lists-reported pids acts os p ]
 
 names-reported : (pids : List Pid) (acts : List Act) (os : List Outcome) (e : Event)
-    → names_listed (reported pids acts os) e ≡ names_among pids e
+    → names_listed (reported_streams pids acts os) e ≡ names_among pids e
 names-reported pids acts os e =
-    ap (λ b. b && option_map_or (lists (reported pids acts os)) e.to true) (lists-reported pids acts os e.from)
+    ap (λ b. b && option_map_or (lists (reported_streams pids acts os)) e.to true) (lists-reported pids acts os e.from)
     ∙ ap (λ b. is_among pids e.from && b) (to_same e.to)
   where
-    to_same : (to : Option Pid) → option_map_or (lists (reported pids acts os)) to true
+    to_same : (to : Option Pid) → option_map_or (lists (reported_streams pids acts os)) to true
         ≡ option_map_or (is_among pids) to true
     to_same None = refl
     to_same (Some q) = lists-reported pids acts os q
@@ -84,16 +84,16 @@ module _ (acts : List Act) (a : Act) (os : List Outcome) (o : Outcome) (even : l
       ] refl
 
   recorded_more : (pids : List Pid) (report : Option Event) → o.report ≡ report
-      → with_reported (reported pids acts os) (actor a) report ≡ reported pids (acts ++ a ∷ []) (os ++ o ∷ [])
+      → with_reported (reported_streams pids acts os) (actor a) report ≡ reported_streams pids (acts ++ a ∷ []) (os ++ o ∷ [])
   recorded_more [] None is = refl
   recorded_more [] (Some e) is = refl
   recorded_more (q ∷ pids) None is =
-      ap (λ es. let x : Stream = record { pid = q; events = es } in x ∷ reported pids acts os)
+      ap (λ es. let x : Stream = record { pid = q; events = es } in x ∷ reported_streams pids acts os)
       (sym (stream_silent acts a os o even q is))
       ∙ ap (λ xs. let x : Stream = record { pid = q; events = stream (acts ++ a ∷ []) (os ++ o ∷ []) q } in x ∷ xs)
       (recorded_more pids None is)
   recorded_more (q ∷ pids) (Some e) is =
-      ap (λ x. x ∷ added (reported pids acts os) (actor a) e) (record_one e is q)
+      ap (λ x. x ∷ added (reported_streams pids acts os) (actor a) e) (record_one e is q)
       ∙ ap (λ xs. let x : Stream = record { pid = q; events = stream (acts ++ a ∷ []) (os ++ o ∷ []) q } in x ∷ xs)
       (recorded_more pids (Some e) is)
 
@@ -104,7 +104,7 @@ replies_more (x ∷ os) o = ap (λ ys. x.reply ∷ ys) (replies_more os o)
 
 -- the start
 pub recorded_start : (top : ℕ) (pids : List Pid) (s : State) (streams : List Stream) (replies : List Reply)
-    → s ≡ zero_state pids → streams ≡ reported pids [] [] → replies ≡ [] → IsReplayedTo top pids [] s streams replies
+    → s ≡ zero_state pids → streams ≡ reported_streams pids [] [] → replies ≡ [] → IsReplayedTo top pids [] s streams replies
 recorded_start top pids s streams replies at_zero no_events no_replies =
     record { outcomes = []; runs = refl; is_state = at_zero; are_streams = no_events; are_replies = no_replies }
 
@@ -186,24 +186,24 @@ stream_among pids (a ∷ acts) (o ∷ os) p all =
 
 all_false : (pids : List Pid) (acts : List Act) (os : List Outcome) (es : List Event)
     → AllByRecursion (λ e. names_among pids e ≡ true) es
-    → AllByRecursion (λ e. not (names_listed (reported pids acts os) e) ≡ false) es
+    → AllByRecursion (λ e. not (names_listed (reported_streams pids acts os) e) ≡ false) es
 all_false pids acts os [] all = tt
 all_false pids acts os (e ∷ es) all = (ap not (names-reported pids acts os e ∙ all.0), all_false pids acts os es all.1)
 
 unlisted_rest : (pids : List Pid) (acts : List Act) (os : List Outcome) (rest : List Pid)
-    → AllZip (ReportsAmong pids) acts os → unlisted_among (reported pids acts os) (reported rest acts os) ≡ None
+    → AllZip (ReportsAmong pids) acts os → unlisted_among (reported_streams pids acts os) (reported_streams rest acts os) ≡ None
 unlisted_rest pids acts os [] all = refl
 unlisted_rest pids acts os (p ∷ rest) all =
-    let test = λ (e : Event). not (names_listed (reported pids acts os) e) in
+    let test = λ (e : Event). not (names_listed (reported_streams pids acts os) e) in
     ap (λ (k : Option ℕ). let o : Option (Pid × ℕ) =
-    elim k [ None ↦ unlisted_among (reported pids acts os) (reported rest acts os) | Some i ↦ Some (p, i) ] in o)
+    elim k [ None ↦ unlisted_among (reported_streams pids acts os) (reported_streams rest acts os) | Some i ↦ Some (p, i) ] in o)
     (position-none test (stream acts os p)
     (all_false pids acts os (stream acts os p) (stream_among pids acts os p all)))
     ∙ unlisted_rest pids acts os rest all
 
 -- the streams of a run name only its processes
 pub run_listed : (top : ℕ) (pids : List Pid) (acts : List Act) (os : List Outcome) → run top pids acts ≡ Some os
-    → unlisted (reported pids acts os) ≡ None
+    → unlisted (reported_streams pids acts os) ≡ None
 run_listed top pids acts os h = unlisted_rest pids acts os pids (run_named top pids acts os h)
 
 -- THE OPENED PROCESSES
@@ -217,20 +217,20 @@ rising_at (q ∷ pids) zero p rising at = tt
 rising_at (q ∷ pids) (suc k) p rising at = (all_at (IsBelow q) pids k p rising.0 at, rising_at pids k p rising.1 at)
 
 pub opened_last : (pids : List Pid) (p : Pid) → AllByRecursion (λ q. IsBelow q p) pids
-    → ComesLast (reported pids [] []) p
+    → ComesLast (reported_streams pids [] []) p
 opened_last [] p all = tt
 opened_last (q ∷ pids) p all = (all.0, opened_last pids p all.1)
 
 pub opened_more : (pids : List Pid) (k : ℕ) (d : Pid) → k < length pids
-    → reported (take k pids) [] [] ++ record { pid = get_or pids k d; events = [] } ∷ []
-    ≡ reported (take (k + 1) pids) [] []
+    → reported_streams (take k pids) [] [] ++ record { pid = get_or pids k d; events = [] } ∷ []
+    ≡ reported_streams (take (k + 1) pids) [] []
 opened_more pids k d within =
     sym (map_push (λ p. let x : Stream = record { pid = p; events = [] } in x) (take k pids) (get_or pids k d))
-    ∙ ap (λ ps. reported ps [] []) (sym (take_more pids k d within))
+    ∙ ap (λ ps. reported_streams ps [] []) (sym (take_more pids k d within))
 
 -- a pid of those that rise comes after those opened before it
 pub comes_last : (pids : List Pid) (k : ℕ) (d : Pid) (draft : List Stream) → IsRising pids → k < length pids
-    → draft ≡ reported (take k pids) [] [] → ComesLast draft (get_or pids k d)
+    → draft ≡ reported_streams (take k pids) [] [] → ComesLast draft (get_or pids k d)
 comes_last pids k d draft rising within are =
     subst (λ xs. ComesLast xs (get_or pids k d)) (sym are)
     (opened_last (take k pids) (get_or pids k d)
@@ -255,6 +255,6 @@ pub recorded_pids : (top : ℕ) (pids : List Pid) (acts : List Act) (s : State) 
     (replies : List Reply) → IsReplayedTo top pids acts s streams replies → pids ≡ pids_of streams
 recorded_pids top pids acts s streams replies p = reported_pids pids acts p.outcomes ∙ ap pids_of (sym p.are_streams)
   where
-    reported_pids : (ps : List Pid) (acts : List Act) (os : List Outcome) → ps ≡ pids_of (reported ps acts os)
+    reported_pids : (ps : List Pid) (acts : List Act) (os : List Outcome) → ps ≡ pids_of (reported_streams ps acts os)
     reported_pids [] acts os = refl
     reported_pids (q ∷ ps) acts os = ap (λ qs. q ∷ qs) (reported_pids ps acts os)

@@ -44,15 +44,15 @@ RisesOnYes streams (verdicts.Yes ps) = AllRise streams
 RisesOnYes streams v = Unit {0}
 
 -- what each process reported in the run of the acts
-abbrev pub reported : List Pid → List Act → List Outcome → List Stream
-reported pids acts os = map (λ p. record { pid = p; events = stream acts os p }) pids
+abbrev pub reported_streams : List Pid → List Act → List Outcome → List Stream
+reported_streams pids acts os = map (λ p. record { pid = p; events = stream acts os p }) pids
 
 -- the acts have a run over these pids, and these are its streams and its replies
 pub record RunsWith (top : ℕ) (pids : List Pid) (acts : List Act) (streams : List Stream)
     (replies : List Reply) : Type 0 where
   pub outcomes : List Outcome
   pub runs : run top pids acts ≡ Some outcomes
-  pub are_streams : streams ≡ reported pids acts outcomes
+  pub are_streams : streams ≡ reported_streams pids acts outcomes
   pub are_replies : replies ≡ map (λ o. o.reply) outcomes
 
 -- act n is the first that has no step

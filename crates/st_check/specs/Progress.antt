@@ -35,9 +35,9 @@ abbrev pub count_of : List Act → List Outcome → Pid → ℕ
 count_of acts os p = length (stream acts os p)
 
 -- the counts after an act of the process at this place: one more for it if it reported an event
-abbrev pub counted : List ℕ → ℕ → Option Event → List ℕ
-counted counts place None = counts
-counted counts place (Some e) = slice_set counts place (slice_index counts place + 1)
+abbrev pub counts_with : List ℕ → ℕ → Option Event → List ℕ
+counts_with counts place None = counts
+counts_with counts place (Some e) = slice_set counts place (slice_index counts place + 1)
 
 -- the lists after the number at this place of one was taken out
 abbrev pub without_tag : List (List ℕ) → ℕ → Option ℕ → List (List ℕ)

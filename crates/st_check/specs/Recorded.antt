@@ -9,7 +9,7 @@ use Rattle.st_core.specs.Step.{Outcome}
 use Rattle.st_core.specs.Run.{Stream, run}
 use Rattle.st_core.specs.Streams.{added}
 use Rattle.st_check.specs.Progress.{state_from}
-use Rattle.st_check.specs.Answers.{reported}
+use Rattle.st_check.specs.Answers.{reported_streams}
 
 -- the streams with what p reported, if it did
 abbrev pub with_reported : List Stream → Pid → Option Event → List Stream
@@ -22,5 +22,5 @@ pub record IsReplayedTo (top : ℕ) (pids : List Pid) (acts : List Act) (s : Sta
   pub outcomes : List Outcome
   pub runs : run top pids acts ≡ Some outcomes
   pub is_state : s ≡ state_from (zero_state pids) outcomes
-  pub are_streams : streams ≡ reported pids acts outcomes
+  pub are_streams : streams ≡ reported_streams pids acts outcomes
   pub are_replies : replies ≡ map (λ o. o.reply) outcomes

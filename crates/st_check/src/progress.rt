@@ -4,7 +4,7 @@
 ghost use Rattle.std.specs.Prelude.{◌≡◌, ◌<◌, ◌+◌, ◌++◌, ◌↔◌, [], length, take, slice_get, slice_index};
 ghost use Rattle.std.specs.Prelude.{Some, IsTrue, IfOk, IfErr, IfSome, IfNone, OnOk};
 ghost use Rattle.std.specs.Option.{ForSome};
-ghost use Rattle.st_check.specs.Progress.{counted, pair_to, stop_of, IsPassed, IsStop, IsLeft, NoneLeftBefore};
+ghost use Rattle.st_check.specs.Progress.{counts_with, pair_to, stop_of, IsPassed, IsStop, IsLeft, NoneLeftBefore};
 ghost use Rattle.st_core.specs.Run.{pids_of};
 ghost use Rattle.st_core.specs.Streams.{IsStreams};
 
@@ -114,7 +114,7 @@ impl<const TOP: u64> Progress<TOP> {
         requires { place < length self.old.counts.items }
         ensures next { IsTrue result ↔
             ForSome report (λ e. slice_get events.now (slice_index self.old.counts.items place) ≡ Some e) }
-        ensures counts { IsTrue result → self.new.counts.items ≡ counted self.old.counts.items place report }
+        ensures counts { IsTrue result → self.new.counts.items ≡ counts_with self.old.counts.items place report }
         ensures world { self.new.world ≡ self.old.world }
         ensures tags { self.new.tags ≡ self.old.tags }
         ensures pairs { self.new.pairs ≡ self.old.pairs }
@@ -131,7 +131,7 @@ impl<const TOP: u64> Progress<TOP> {
     }
 
     /// The first process with events left.
-    pub(crate) fn left(&self, streams: &Streams) -> Option<Pid>
+    pub(crate) fn first_left(&self, streams: &Streams) -> Option<Pid>
         requires { length self.now.counts.items ≡ length (pids_of streams.now) }
         ensures found { IfSome result (IsLeft streams.now self.now.counts.items) }
         ensures none { IfNone result (NoneLeftBefore streams.now self.now.counts.items (length (pids_of streams.now))) }

@@ -2,7 +2,7 @@
 
 ghost use Rattle.std.specs.Prelude.{◌≡◌, ◌<◌, ◌+◌, [], length, take, IfOk, IfErr, OnOk, MatchBool, None, true};
 ghost use Rattle.std.specs.Option.{ForSome};
-ghost use Rattle.st_check.specs.Answers.{reported, IsReplay, IsReplayFault, RisesOnRun};
+ghost use Rattle.st_check.specs.Answers.{reported_streams, IsReplay, IsReplayFault, RisesOnRun};
 ghost use Rattle.st_check.specs.Recorded.{with_reported, IsReplayedTo};
 ghost use Rattle.st_core.specs.Pid.{IsRising};
 ghost use Rattle.st_core.specs.Run.{pids_of, run};
@@ -71,7 +71,7 @@ impl<const TOP: u64> Recording<TOP> {
             Err(NewFault::NotRising) => return Err(ReplayFault::NotRising),
             Err(NewFault::Memory) => return Err(ReplayFault::Memory),
         };
-        let Ok(streams) = opened(alloc, pids) else {
+        let Ok(streams) = open_all(alloc, pids) else {
             return Err(ReplayFault::Memory);
         };
         Ok(Recording {
@@ -122,9 +122,9 @@ fn record(streams: &mut Draft, pid: Pid, report: Option<Event>) -> Result<(), Al
 }
 
 /// A draft of these processes, with no events.
-fn opened(alloc: Global, pids: &[Pid]) -> Result<Draft, AllocError>
+fn open_all(alloc: Global, pids: &[Pid]) -> Result<Draft, AllocError>
     requires { IsRising pids.now }
-    ensures { IfOk result (λ draft. draft ≡ reported pids.now [] []) }
+    ensures { IfOk result (λ draft. draft ≡ reported_streams pids.now [] []) }
 {
     let mut draft = Draft::new(alloc);
     for pid in pids {

@@ -5,7 +5,7 @@ use Rattle.st_core.specs.declared.types.Pid.{Pid}
 use Rattle.st_core.specs.declared.types.Act.{Act}
 use Rattle.st_core.specs.Step.{Outcome}
 use Rattle.st_core.specs.Run.{Stream, pids_of, run}
-use Rattle.st_check.specs.Answers.{SticksAt, reported}
+use Rattle.st_check.specs.Answers.{SticksAt, reported_streams}
 use Rattle.st_text.specs.declared.fault.ReadFault.{ReadFault}
 use Rattle.st_text.specs.Text.{spelling}
 use Rattle.st_text.specs.Fault.{fault}
@@ -16,7 +16,7 @@ use Rattle.st_commands.specs.Checked.{top, Spells, LacksActs}
 -- what the acts' run over the pids reports, as a bundle with the acts
 abbrev pub replayed : List Pid → List Act → List Outcome → Output
 replayed pids acts os =
-    record { text = spelling (record { streams = reported pids acts os; acts = Some acts }); status = 0 }
+    record { text = spelling (record { streams = reported_streams pids acts os; acts = Some acts }); status = 0 }
 
 -- act n has no step
 abbrev pub stuck : ℕ → Output

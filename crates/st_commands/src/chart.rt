@@ -4,14 +4,13 @@
 ghost use Rattle.std.specs.Prelude.{◌≡◌};
 ghost use Rattle.st_pair.specs.Links.{IsPairing};
 ghost use Rattle.st_pair.specs.Pairing.{IsPairFault};
-ghost use Rattle.st_audit.specs.Findings.{unfit_by};
 ghost use Rattle.st_commands.specs.Charted.{IsCharted};
 ghost use Rattle.st_commands.specs.Command.{Owes, Tells};
 ghost use Rattle.st_commands.specs.Parts.{ChartsTo, DrawsTo};
 
 use crate::answer::{tell_fault, tell_finding, tell_line};
 use crate::lines::OutputLine;
-use st_audit::{Finding, Reason};
+use st_audit::unfit_by;
 use st_chain::Chains;
 use st_chart::{ChartFault, chart};
 use st_core::{ByteSink, ByteSource, Label, Streams};
@@ -20,27 +19,6 @@ use st_pair::{PairFault, Pairing, pair};
 use st_text::{ReadFault, read};
 use std::alloc::Global;
 use std::thread::Threads;
-
-/// A reason of pairing as a finding; none if memory ran out.
-fn unfit_by(fault: PairFault) -> Option<Finding>
-    ensures { result ≡ unfit_by fault }
-{
-    match fault {
-        PairFault::Memory => None,
-        PairFault::PrevNotBefore(pid, index) => {
-            Some(Finding::Unfit(pid, index, Reason::PrevNotBefore))
-        }
-        PairFault::NotRising(pid, index, place) => {
-            Some(Finding::Unfit(pid, index, Reason::NotRising(place)))
-        }
-        PairFault::Repeated(pid, index, other, place) => {
-            Some(Finding::Unfit(pid, index, Reason::Repeated(other, place)))
-        }
-        PairFault::Mismatch(pid, index, sender, place) => {
-            Some(Finding::Unfit(pid, index, Reason::Mismatch(sender, place)))
-        }
-    }
-}
 
 /// Writes the report of why streams aren't paired, and returns its status.
 fn tell_unpaired<W: ByteSink>(

@@ -45,6 +45,11 @@ items_among all (s ∷ rest) = items_from all s.pid 0 s.events ++ items_among al
 abbrev pub items : List Stream → List Item
 items streams = items_among streams streams
 
+-- where an item stands in the streams: a hidden send where its receive does
+abbrev pub item_place : Item → Pid × ℕ
+item_place (item.Reported p i) = (p, i)
+item_place (item.Hidden p i) = (p, i)
+
 -- the event that an item is about: of a hidden send its receive; none if nothing stands at the item's place
 abbrev pub event_of : List Stream → Item → Option Event
 event_of streams (item.Reported p i) = event_at streams p i

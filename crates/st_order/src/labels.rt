@@ -3,7 +3,7 @@
 ghost use Rattle.std.specs.Prelude.{◌≡◌, ◌≤◌, ◌<◌, length, map, IfOk};
 ghost use Rattle.std.specs.List.{filter_map};
 ghost use Rattle.st_order.specs.Labels.{IsByLabel, label_of};
-ghost use Rattle.st_order.specs.Groups.{with_label, leading_with, grouped};
+ghost use Rattle.st_order.specs.Groups.{with_label, leading_with, groups_of};
 
 use crate::item::Item;
 use rayon::prelude::*;
@@ -13,7 +13,7 @@ use std::thread::Threads;
 
 /// An item with its label.
 #[derive(Clone, Copy, Debug, PartialEq, Eq)]
-pub struct Labelled {
+pub struct LabelledItem {
     /// The label of the event that the item is about.
     pub label: Label,
     /// The item.
@@ -24,11 +24,7 @@ pub struct Labelled {
 fn label_of(streams: &Streams, item: Item) -> Option<Label>
     ensures { result ≡ label_of streams.now item }
 {
-    let event = match item {
-        Item::Reported(pid, index) => streams.event(pid, index),
-        Item::Hidden(pid, index) => streams.event(pid, index),
-    };
-    match event {
+    match item.event(streams) {
         None => None,
         Some(event) => Some(event.label),
     }
@@ -39,20 +35,20 @@ fn with_labels(
     alloc: Global,
     streams: &Streams,
     items: &[Item],
-) -> Result<Vec<Labelled>, AllocError>
+) -> Result<Vec<LabelledItem>, AllocError>
     ensures { IfOk result (λ made. made.items ≡ filter_map (with_label streams.now) items.now) }
 {
     let mut labelled = Vec::with_capacity(alloc, items.len())?;
     for &item in items {
         if let Some(label) = label_of(streams, item) {
-            labelled.push(Labelled { label, item })?;
+            labelled.push(LabelledItem { label, item })?;
         }
     }
     Ok(labelled)
 }
 
 /// How many at the front have this label.
-fn leading_with(labelled: &[Labelled], label: Label) -> usize
+fn leading_with(labelled: &[LabelledItem], label: Label) -> usize
     ensures count { result ≡ leading_with label labelled.now }
     ensures within { result ≤ length labelled.now }
 {
@@ -65,7 +61,7 @@ fn leading_with(labelled: &[Labelled], label: Label) -> usize
 }
 
 /// The items alone.
-fn items_of(alloc: Global, labelled: &[Labelled]) -> Result<Sequence<Item>, AllocError>
+fn items_of(alloc: Global, labelled: &[LabelledItem]) -> Result<Sequence<Item>, AllocError>
     ensures { IfOk result (λ items. items ≡ map (λ x. x.item) labelled.now) }
 {
     let mut items = Vec::with_capacity(alloc, labelled.len())?;
@@ -76,11 +72,11 @@ fn items_of(alloc: Global, labelled: &[Labelled]) -> Result<Sequence<Item>, Allo
 }
 
 /// The groups of neighbours with one label, each with its label.
-fn grouped(
+fn groups_of(
     alloc: Global,
-    labelled: &[Labelled],
+    labelled: &[LabelledItem],
 ) -> Result<Sequence<(Label, Sequence<Item>)>, AllocError>
-    ensures { IfOk result (λ groups. groups ≡ grouped labelled.now) }
+    ensures { IfOk result (λ groups. groups ≡ groups_of labelled.now) }
 {
     let mut groups = Sequence::new(alloc);
     let mut rest = labelled;
@@ -113,9 +109,9 @@ pub fn by_label(
         rt,
         alloc,
         sorted,
-        |one: &Labelled| -> u32
+        |one: &LabelledItem| -> u32
             ensures { result ≡ one.now.label.0 }
         { one.label.0 },
     )?;
-    grouped(alloc, sorted)
+    groups_of(alloc, sorted)
 }

@@ -43,7 +43,7 @@ impl Row {
 }
 
 /// The row of an event whose greatest count so far is this.
-fn reported(pid: Pid, index: u64, height: u64, event: &Event) -> Row
+fn reported_row(pid: Pid, index: u64, height: u64, event: &Event) -> Row
     ensures { result ≡ reported_row pid index height event.now }
 {
     let rank = match event.kind {
@@ -61,7 +61,7 @@ fn reported(pid: Pid, index: u64, height: u64, event: &Event) -> Row
 }
 
 /// The row of the hidden send of a receive.
-fn hidden(pid: Pid, index: u64, event: &Event) -> Row
+fn hidden_row(pid: Pid, index: u64, event: &Event) -> Row
     ensures { result ≡ hidden_row pid index event.now }
 {
     Row {
@@ -131,9 +131,9 @@ fn put_rows(
     for (i, event) in events.iter().enumerate() {
         height = event.serial.this.max(height);
         if is_hidden(streams, pairing, pid, i as u64, event) {
-            rows.push(hidden(pid, i as u64, event))?;
+            rows.push(hidden_row(pid, i as u64, event))?;
         }
-        rows.push(reported(pid, i as u64, height, event))?;
+        rows.push(reported_row(pid, i as u64, height, event))?;
     }
     Ok(())
 }

@@ -27,7 +27,7 @@ use Rattle.st_pair.specs.declared.answer.PairFault.TheVariants as fault
 use Rattle.st_pair.specs.Places.{event_at, is_stamp, first}
 use Rattle.st_pair.specs.Pairing.{to_eq, agrees, prev_not_before, not_rising, repeated, mismatch, refusal}
 use Rattle.st_pair.specs.Pairing.{IsPairFault}
-use Rattle.st_pair.specs.Final.{NeverShown, NeverShownInOneTrace, IsPrevNotBefore}
+use Rattle.st_pair.specs.Final.{NeverShown, NeverShownInOneTrace, RulesOut}
 use Rattle.st_pair.proofs.Accepted.{Rule, got_rule}
 use Rattle.st_pair.proofs.Converse.{first_in, given_from, own_says, got_says}
 use Rattle.st_pair.proofs.Firsts.{events_in}
@@ -292,6 +292,11 @@ refused_never_shown streams f h top acts none shows =
       | reasons.ByMismatch found ↦ no_mismatch top streams acts os shows.1 shows.2 none f found
     ]
 
+-- the reason is a serial that doesn't rise
+abbrev pub IsPrevNotBefore : PairFault → Type 0
+IsPrevNotBefore (fault.PrevNotBefore p i) = Unit {0}
+IsPrevNotBefore f = ⊥
+
 -- if it is PrevNotBefore, which its own rule alone gives
 pub prev_never_shown : (streams : List Stream) (f : PairFault) → refusal streams ≡ Some f → IsPrevNotBefore f
     → NeverShown streams
@@ -316,23 +321,14 @@ prev_never_shown streams f h prev top acts shows =
 
 -- WHAT PAIRING ANSWERS
 
-fault_never : (streams : List Stream) (f : PairFault) → IsPairFault streams f → IsPrevNotBefore f → NeverShown streams
-fault_never streams (fault.PrevNotBefore p i) refused prev =
-    prev_never_shown streams (fault.PrevNotBefore p i) refused prev
-fault_never streams f refused prev = absurd prev
+-- what a reason rules out
+pub refusal_rules_out : (streams : List Stream) (f : PairFault) → refusal streams ≡ Some f → RulesOut streams f
+refusal_rules_out streams fault.Memory h = tt
+refusal_rules_out streams (fault.PrevNotBefore p i) h = prev_never_shown streams (fault.PrevNotBefore p i) h tt
+refusal_rules_out streams f h = refused_never_shown streams f h
 
-fault_never_in_one_trace : (streams : List Stream) (f : PairFault) → IsPairFault streams f → f ≢ fault.Memory
-    → NeverShownInOneTrace streams
-fault_never_in_one_trace streams fault.Memory refused other = absurd (other refl)
-fault_never_in_one_trace streams f refused other = refused_never_shown streams f refused
-
-if_err : {T E : Type 0} (P Q : E → Type 0) → ((e : E) → P e → Q e) → (r : Result T E) → IfErr r P → IfErr r Q
-if_err P Q more (Ok x) h = tt
-if_err P Q more (Err e) h = more e h
-
-module _ {T : Type 0} (streams : List Stream) (r : Result T PairFault) (refused : IfErr r (IsPairFault streams)) where
-  pub answered_never : IfErr r (λ f. IsPrevNotBefore f → NeverShown streams)
-  answered_never = if_err (IsPairFault streams) _ (fault_never streams) r refused
-
-  pub answered_never_in_one_trace : IfErr r (λ f. f ≢ fault.Memory → NeverShownInOneTrace streams)
-  answered_never_in_one_trace = if_err (IsPairFault streams) _ (fault_never_in_one_trace streams) r refused
+pub answered_rules_out : {T : Type 0} (streams : List Stream) (r : Result T PairFault) → IfErr r (IsPairFault streams)
+    → IfErr r (RulesOut streams)
+answered_rules_out streams (Ok x) h = tt
+answered_rules_out streams (Err fault.Memory) h = tt
+answered_rules_out streams (Err f) h = refusal_rules_out streams f h

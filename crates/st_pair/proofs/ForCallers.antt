@@ -11,7 +11,7 @@ pub use Rattle.st_pair.proofs.Ruled.{receive_unstamped}
 pub use Rattle.st_pair.proofs.Final.{stamp_not_received}
 pub use Rattle.st_pair.proofs.Owned.{own_rule}
 -- ---- what `refusal streams ≡ Some f` says of all acts, and acts that show streams of pairing
-pub use Rattle.st_pair.proofs.Final.{prev_never_shown, refused_never_shown}
+pub use Rattle.st_pair.proofs.Final.{refusal_rules_out, refused_never_shown}
 pub use Rattle.st_pair.proofs.FullyShown.{shown_accepted, send_shown}
 -- ---- what a rule gives first, in one stream and in all
 pub use Rattle.st_pair.proofs.Noted.{or_none, or_assoc}

@@ -16,7 +16,7 @@ use Rattle.st_pair.specs.declared.answer.Source.{Source}
 use Rattle.st_pair.specs.declared.pairing.Link.{Link}
 use Rattle.st_pair.specs.Places.{event_at, is_stamp}
 use Rattle.st_pair.specs.Pairing.{receive_of, stamp_of, source_of, source_at, receiver_at, is_send}
-use Rattle.st_pair.specs.Links.{Linked, sent_link, received_link, link_of, links_in, linked, IsPairing, link_rows}
+use Rattle.st_pair.specs.Links.{ProcessLinks, sent_link, received_link, link_of, links_in, pairing_of, IsPairing, link_rows}
 use Rattle.st_pair.specs.Links.{link_at}
 use Rattle.st_pair.specs.Links.{source_in, receiver_in}
 use Rattle.st_pair.proofs.Firsts.{is_at, at_get_or, events_in}
@@ -25,13 +25,13 @@ use Rattle.st_core.proofs.ForCallers.{place_within}
 -- ROWS
 
 pub row_missing : (ps : List Pid) (ls : List (List Link)) (p : Pid) → AllByRecursion (λ q. pid_eq q p ≡ false) ps
-    → find (λ (x : Linked). pid_eq x.pid p) (link_rows ps ls) ≡ None
+    → find (λ (x : ProcessLinks). pid_eq x.pid p) (link_rows ps ls) ≡ None
 row_missing [] ls p all = refl
 row_missing (q ∷ ps) [] p all = refl
 row_missing (q ∷ ps) (l ∷ ls) p all = rw all.0 (row_missing ps ls p all.1)
 
 pub row_found : (ps : List Pid) (ls : List (List Link)) (p : Pid) (i : ℕ) → length ls ≡ length ps → IsRising ps
-    → slice_get ps i ≡ Some p → find (λ (x : Linked). pid_eq x.pid p) (link_rows ps ls)
+    → slice_get ps i ≡ Some p → find (λ (x : ProcessLinks). pid_eq x.pid p) (link_rows ps ls)
     ≡ Some (record { pid = p; links = get_or ls i [] })
 row_found [] ls p i even rising at = absurd (cc)
 row_found (q ∷ ps) [] p i even rising at = absurd (omega arith)
@@ -39,12 +39,12 @@ row_found (q ∷ ps) (l ∷ ls) p zero even rising at = let same = same_Some q p
 row_found (q ∷ ps) (l ∷ ls) p (suc i) even rising at =
     rw (above_apart ps q p i rising.0 at) (row_found ps ls p i (omega arith) rising.1 at)
 
-abbrev row_links : Option Linked → List Link
+abbrev row_links : Option ProcessLinks → List Link
 row_links o = elim o [ None ↦ [] | Some x ↦ x.links ]
 
 pub row_none : (ps : List Pid) (ls : List (List Link)) (p : Pid) (i : ℕ)
     → AllByRecursion (λ q. pid_eq q p ≡ false) ps → None ≡ link_at (link_rows ps ls) p i
-row_none ps ls p i all = sym (ap (λ (o : Option Linked). slice_get (row_links o) i) (row_missing ps ls p all))
+row_none ps ls p i all = sym (ap (λ (o : Option ProcessLinks). slice_get (row_links o) i) (row_missing ps ls p all))
 
 pub row_read : (ps : List Pid) (ls : List (List Link)) (p : Pid) (k i : ℕ) (read : List Link) → length ls ≡ length ps
     → IsRising ps → slice_get ps k ≡ Some p → read ≡ get_or ls k read → slice_get read i ≡ link_at (link_rows ps ls) p i
@@ -52,12 +52,12 @@ row_read ps ls p k i read even rising at is =
     let below = place_within ps k p at in
     let within : k < length ls = omega arith in
     ap (λ (l : List Link). slice_get l i) (is ∙ get_or_default ls k read [] within)
-    ∙ sym (ap (λ (o : Option Linked). slice_get (row_links o) i) (row_found ps ls p k even rising at))
+    ∙ sym (ap (λ (o : Option ProcessLinks). slice_get (row_links o) i) (row_found ps ls p k even rising at))
 
 pub rows_linked : (all streams : List Stream)
-    → link_rows (pids_of streams) (map (links_in all) streams) ≡ linked all streams
+    → link_rows (pids_of streams) (map (links_in all) streams) ≡ pairing_of all streams
 rows_linked all [] = refl
-rows_linked all (s ∷ streams) = ap (λ (xs : List Linked). record { pid = s.pid; links = links_in all s } ∷ xs)
+rows_linked all (s ∷ streams) = ap (λ (xs : List ProcessLinks). record { pid = s.pid; links = links_in all s } ∷ xs)
     (rows_linked all streams)
 
 pub links_even : (all streams : List Stream) → length (map (links_in all) streams) ≡ length (pids_of streams)
@@ -99,12 +99,12 @@ slice_get_map f (x ∷ xs) zero = refl
 slice_get_map f (x ∷ xs) (suc i) = slice_get_map f xs i
 
 link_at_linked : (all streams : List Stream) (p : Pid) (i : ℕ)
-    → link_at (linked all streams) p i ≡ option_map (link_of all p) (event_at streams p i)
+    → link_at (pairing_of all streams) p i ≡ option_map (link_of all p) (event_at streams p i)
 link_at_linked all [] p i = refl
 link_at_linked all (s ∷ streams) p i = elim (pid_eq s.pid p)
     as (λ b. pid_eq s.pid p ≡ b → slice_get
     (row_links (cond b (Some (record { pid = s.pid; links = links_in all s }))
-    (find (λ (x : Linked). pid_eq x.pid p) (linked all streams)))) i
+    (find (λ (x : ProcessLinks). pid_eq x.pid p) (pairing_of all streams)))) i
     ≡ option_map (link_of all p) (slice_get (events_in (cond b (Some s) (stream_of streams p))) i)) [
       | true ↦ λ e. slice_get_map (link_of all s.pid) s.events i
           ∙ ap (λ (q : Pid). option_map (link_of all q) (slice_get s.events i)) (pid_eq-true s.pid p e)
@@ -154,9 +154,9 @@ receiver_link streams p e = elim e.kind
       | kind.Print ↦ refl
     ]
 
-module _ (streams : List Stream) (pairing : List Linked) (p : Pid) (i : ℕ) (made : IsPairing streams pairing) where
+module _ (streams : List Stream) (pairing : List ProcessLinks) (p : Pid) (i : ℕ) (made : IsPairing streams pairing) where
   read_link : link_at pairing p i ≡ option_map (link_of streams p) (event_at streams p i)
-  read_link = ap (λ (x : List Linked). link_at x p i) made.links ∙ link_at_linked streams streams p i
+  read_link = ap (λ (x : List ProcessLinks). link_at x p i) made.links ∙ link_at_linked streams streams p i
 
   pub source_read : option_and_then source_in (link_at pairing p i) ≡ source_at streams p i
   source_read = ap (option_and_then source_in) read_link ∙ elim (event_at streams p i)

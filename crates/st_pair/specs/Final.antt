@@ -14,7 +14,8 @@ NeverShown streams = (top : ℕ) (acts : List Act) → ¬ Shows top streams acts
 abbrev pub NeverShownInOneTrace : List Stream → Type 0
 NeverShownInOneTrace streams = (top : ℕ) (acts : List Act) → NoReset acts → ¬ Shows top streams acts
 
--- the reason is a serial that doesn't rise
-abbrev pub IsPrevNotBefore : PairFault → Type 0
-IsPrevNotBefore (fault.PrevNotBefore p i) = Unit {0}
-IsPrevNotBefore f = ⊥
+-- which acts a reason rules out: a serial that doesn't rise all of them, and the other reasons those without a reset
+abbrev pub RulesOut : List Stream → PairFault → Type 0
+RulesOut streams fault.Memory = Unit {0}
+RulesOut streams (fault.PrevNotBefore p i) = NeverShown streams
+RulesOut streams f = NeverShownInOneTrace streams

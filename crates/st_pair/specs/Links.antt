@@ -31,7 +31,7 @@ link_of streams p e = elim e.kind [
 ]
 
 -- a process with what each of its events is paired with
-pub record Linked : Type 0 where
+pub record ProcessLinks : Type 0 where
   pub pid : Pid
   pub links : List Link
 
@@ -39,16 +39,16 @@ abbrev pub links_in : List Stream → Stream → List Link
 links_in all s = map (link_of all s.pid) s.events
 
 -- these of all streams
-abbrev pub linked : List Stream → List Stream → List Linked
-linked all streams = map (λ s. record { pid = s.pid; links = links_in all s }) streams
+abbrev pub pairing_of : List Stream → List Stream → List ProcessLinks
+pairing_of all streams = map (λ s. record { pid = s.pid; links = links_in all s }) streams
 
 -- the streams have no reason against them, and these are what their events are paired with
-pub record IsPairing (streams : List Stream) (pairing : List Linked) : Type 0 where
+pub record IsPairing (streams : List Stream) (pairing : List ProcessLinks) : Type 0 where
   pub accepted : refusal streams ≡ None
-  pub links : pairing ≡ linked streams streams
+  pub links : pairing ≡ pairing_of streams streams
 
 -- each pid with its links
-abbrev pub link_rows : List Pid → List (List Link) → List Linked
+abbrev pub link_rows : List Pid → List (List Link) → List ProcessLinks
 link_rows [] lists = []
 link_rows (p ∷ ps) [] = []
 link_rows (p ∷ ps) (links ∷ lists) = record { pid = p; links = links } ∷ link_rows ps lists
@@ -59,7 +59,7 @@ pub record AreLinkLists (pids : List Pid) (lists : List (List Link)) : Type 0 wh
   pub rising : IsRising pids
 
 -- the link at a place
-abbrev pub link_at : List Linked → Pid → ℕ → Option Link
+abbrev pub link_at : List ProcessLinks → Pid → ℕ → Option Link
 link_at pairing p i = slice_get (elim (find (λ x. pid_eq x.pid p) pairing) [ None ↦ [] | Some x ↦ x.links ]) i
 
 -- of a receive, where its message came from

@@ -47,26 +47,26 @@ agrees f e = is_send f &&
     (f.label.0 == e.label.0 && (f.serial.prev == e.serial.prev && (to_eq f.to e.to && f.value == e.value)))
 
 -- A rule is a test on one event and its place, and gives the fault if it refuses the streams there. They
--- are tried in the order of their numbers, each over all places.
+-- are tried in the order in which they stand here, each over all places.
 
--- 2: prev isn't less than this
+-- prev isn't less than this
 abbrev pub prev_not_before : Pid → ℕ → Event → Option PairFault
 prev_not_before p i e = if nat_lt e.serial.prev e.serial.this then None else Some (fault.PrevNotBefore p i)
 
--- 3: a send or print, and the last one of its process before it has a count that isn't less. At the least such place
+-- a send or print, and the last one of its process before it has a count that isn't less. At the least such place
 -- the counts before it rise, so that no earlier one is greater than that of the last
 abbrev pub not_rising : List Stream → Pid → ℕ → Event → Option PairFault
 not_rising streams p i e = option_and_then (λ f.
     if not (is_stamp e) || nat_lt f.1.serial.this e.serial.this then None else Some (fault.NotRising p i f.0))
     (stamp_before (events_of streams p) i)
 
--- 4: a receive, and the first one with its from and this is another, which is then the earlier
+-- a receive, and the first one with its from and this is another, which is then the earlier
 abbrev pub repeated : List Stream → Pid → ℕ → Event → Option PairFault
 repeated streams p i e = option_and_then (λ at.
     if is_stamp e || (pid_eq at.0 p && at.1 == i) then None else Some (fault.Repeated p i at.0 at.1))
     (receive_of streams e.from e.serial.this)
 
--- 5: a receive whose sender has a send or print with its this that isn't its send
+-- a receive whose sender has a send or print with its this that isn't its send
 abbrev pub mismatch : List Stream → Pid → ℕ → Event → Option PairFault
 mismatch streams p i e = option_and_then (λ f.
     if is_stamp e || agrees f.1 e then None else Some (fault.Mismatch p i e.from f.0))

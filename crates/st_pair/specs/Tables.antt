@@ -73,7 +73,7 @@ HasReceives streams table = (k : Key) → table k ≡ receive_of streams k.from 
 abbrev pub HasStamps : List Stream → (Key → Option (Pid × ℕ)) → Type 0
 HasStamps streams table = (k : Key) → table k ≡ option_map (λ f. (k.from, f.0)) (stamp_of streams k.from k.this)
 
--- rule 3 in a stream of these events
+-- the rule `not_rising` in a stream of these events
 abbrev pub not_rising_in : List Event → Pid → ℕ → Event → Option PairFault
 not_rising_in es p i e = option_and_then
     (λ f. if not (is_stamp e) || nat_lt f.1.serial.this e.serial.this then None else Some (fault.NotRising p i f.0))

@@ -1,17 +1,17 @@
 //! What each receive follows.
 
-ghost use Rattle.std.specs.Prelude.{◌≡◌, ◌≢◌, false, List, map, None, Some, IfOk, IfErr, IfSome, IfNone};
+ghost use Rattle.std.specs.Prelude.{◌≡◌, false, List, map, None, Some, IfOk, IfErr, IfSome, IfNone};
 ghost use Rattle.std.specs.Prelude.{slice_get};
 ghost use Rattle.std.specs.List.{AllByRecursion};
 ghost use Rattle.st_core.specs.Pid.{pid_eq, IsRising};
 ghost use Rattle.st_core.specs.Run.{Stream};
 ghost use Rattle.st_pair.specs.Pairing.{source_at, receiver_at, refusal, IsPairFault};
-ghost use Rattle.st_pair.specs.Final.{IsPrevNotBefore, NeverShown, NeverShownInOneTrace};
-ghost use Rattle.st_pair.specs.Links.{IsPairing, link_at, link_of, linked, links_in, receiver_in, source_in};
+ghost use Rattle.st_pair.specs.Final.{RulesOut};
+ghost use Rattle.st_pair.specs.Links.{IsPairing, link_at, link_of, pairing_of, links_in, receiver_in, source_in};
 ghost use Rattle.st_pair.specs.Tables.{place_at_key, HasReceives, HasStamps};
 
 use crate::answer::{PairFault, Source};
-use crate::rules::{mismatch, not_rising, prev_not_before, repeated};
+use crate::rules::{mismatch, not_rising, prev_not_before, repetition};
 use crate::tables::{Table, receive_count, receives, stamps};
 use st_core::{Event, Kind, Pid, Sequence, Streams};
 use std::alloc::{AllocError, Global};
@@ -65,9 +65,9 @@ pub struct Pairing {
 
 impl Model for Pairing {
     ghost use Rattle.std.specs.Prelude.{List};
-    ghost use Rattle.st_pair.specs.Links.{Linked, link_rows, AreLinkLists};
+    ghost use Rattle.st_pair.specs.Links.{ProcessLinks, link_rows, AreLinkLists};
 
-    ghost Value = { List Linked };
+    ghost Value = { List ProcessLinks };
 
     ghost view = { λ a. link_rows a.pids.items a.links.items };
 
@@ -81,7 +81,7 @@ impl Pairing {
     {
         match place_of(&self.pids, pid) {
             None => None,
-            Some(place) => read(self.links[place].as_slice(), index),
+            Some(place) => nth_link(self.links[place].as_slice(), index),
         }
     }
 
@@ -107,7 +107,7 @@ impl Pairing {
 }
 
 /// The link at an index.
-fn read(links: &[Link], index: u64) -> Option<Link>
+fn nth_link(links: &[Link], index: u64) -> Option<Link>
     ensures { result ≡ slice_get links.now index }
 {
     links.get(index as usize).copied()
@@ -181,7 +181,7 @@ fn all_links(
 }
 
 /// The pairing of streams without a reason against them.
-fn linked(
+fn pairing_of(
     alloc: Global,
     streams: &Streams,
     got: &Table,
@@ -189,7 +189,7 @@ fn linked(
 ) -> Result<Pairing, AllocError>
     requires got { HasReceives streams.now (place_at_key got.now) }
     requires sent { HasStamps streams.now (place_at_key sent.now) }
-    ensures { IfOk result (λ pairing. pairing ≡ linked streams.now streams.now) }
+    ensures { IfOk result (λ pairing. pairing ≡ pairing_of streams.now streams.now) }
 {
     let links = all_links(alloc, streams, got, sent)?;
     let mut pids = Vec::new(alloc);
@@ -223,7 +223,7 @@ fn tables_of(alloc: Global, streams: &Streams) -> Result<Tables, PairFault>
     let Ok(got) = receives(alloc, streams, count) else {
         return Err(PairFault::Memory);
     };
-    if let Some(fault) = repeated(streams, &got) {
+    if let Some(fault) = repetition(streams, &got) {
         return Err(fault);
     }
     let stamp_count = (streams.total() as usize).saturating_sub(count);
@@ -241,12 +241,12 @@ pub fn pair(alloc: Global, streams: &Streams) -> Result<Pairing, PairFault>
     ensures ok { IfOk result (IsPairing streams.now) }
     ensures err { IfErr result (IsPairFault streams.now) }
 
-    // Which reasons are final: no acts show streams with the first, and none without a reset streams with any.
-    ensures final_prev { IfErr result (λ fault. IsPrevNotBefore fault → NeverShown streams.now) }
-    ensures final_without_reset { IfErr result (λ fault. fault ≢ PairFault.Memory → NeverShownInOneTrace streams.now) }
+    // Reasons are final: no acts show streams with the first, and none without a reset streams
+    // with any.
+    ensures rules_out { IfErr result (RulesOut streams.now) }
 {
     let tables = tables_of(alloc, streams)?;
-    match linked(alloc, streams, &tables.got, &tables.sent) {
+    match pairing_of(alloc, streams, &tables.got, &tables.sent) {
         Err(_) => Err(PairFault::Memory),
         Ok(pairing) => Ok(pairing),
     }

@@ -78,7 +78,7 @@ fn is_place(first: Pid, place: u64, pid: Pid, index: u64) -> bool
 }
 
 /// Whether one event is a receive that isn't the first from its sender with its count.
-fn repeated_at(
+fn repetition_at(
     streams: &Streams,
     table: &Table,
     pid: Pid,
@@ -104,12 +104,12 @@ fn repeated_at(
 }
 
 /// The first receive of one stream that isn't the first from its sender with its count.
-fn repeated_in(streams: &Streams, table: &Table, pid: Pid, events: &[Event]) -> Option<PairFault>
+fn repetition_in(streams: &Streams, table: &Table, pid: Pid, events: &[Event]) -> Option<PairFault>
     requires { HasReceives streams.now (place_at_key table.now) }
     ensures { result ≡ first_from (repeated streams.now) pid 0 events.now }
 {
     for (i, event) in events.iter().enumerate() {
-        if let Some(fault) = repeated_at(streams, table, pid, i as u64, event) {
+        if let Some(fault) = repetition_at(streams, table, pid, i as u64, event) {
             return Some(fault);
         }
     }
@@ -117,12 +117,12 @@ fn repeated_in(streams: &Streams, table: &Table, pid: Pid, events: &[Event]) -> 
 }
 
 /// The least place of a receive that isn't the first from its sender with its count.
-pub fn repeated(streams: &Streams, table: &Table) -> Option<PairFault>
+pub fn repetition(streams: &Streams, table: &Table) -> Option<PairFault>
     requires { HasReceives streams.now (place_at_key table.now) }
     ensures { result ≡ first (repeated streams.now) streams.now }
 {
     for &pid in streams.pids() {
-        if let Some(fault) = repeated_in(streams, table, pid, streams.events(pid)) {
+        if let Some(fault) = repetition_in(streams, table, pid, streams.events(pid)) {
             return Some(fault);
         }
     }

@@ -93,7 +93,7 @@ impl Model for Table {
 
 impl Table {
     /// The rows in the order of their keys; those of one key stay as they stand.
-    fn sorted(mut rows: Vec<Row>) -> Result<Table, AllocError>
+    fn from_rows(mut rows: Vec<Row>) -> Result<Table, AllocError>
         ensures { IfOk result (λ table. (k : KeyValue) → place_at_key table k ≡ place_at_key rows.items k) }
     {
         rows.sort_by_key(|row| row.key())?;
@@ -215,7 +215,7 @@ pub fn receives(alloc: Global, streams: &Streams, count: usize) -> Result<Table,
     ensures { IfOk result (λ table. HasReceives streams.now (place_at_key table)) }
 {
     let rows = receive_rows(alloc, streams, count)?;
-    Table::sorted(rows)
+    Table::from_rows(rows)
 }
 
 /// The places of all receives, in their order.
@@ -255,7 +255,7 @@ pub fn stamps(alloc: Global, streams: &Streams, count: usize) -> Result<Table, A
     ensures { IfOk result (λ table. HasStamps streams.now (place_at_key table)) }
 {
     let rows = stamp_rows(alloc, streams, count)?;
-    Table::sorted(rows)
+    Table::from_rows(rows)
 }
 
 /// The places of all sends and prints, in their order.

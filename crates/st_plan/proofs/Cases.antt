@@ -14,7 +14,7 @@ use Rattle.st_plan.specs.Marks.{all_streams, all_told, marks_of, told_streams, M
 use Rattle.st_plan.specs.Moves.{clock, last, moves, Move}
 use Rattle.st_plan.specs.Reasons.{too_wide, uncaused}
 use Rattle.st_plan.specs.Plain.{out_of_turn, told_all}
-use Rattle.st_plan.specs.Build.{construction, unstamped}
+use Rattle.st_plan.specs.Build.{construction, unstamped_token}
 
 abbrev top : ℕ
 top = 18446744073709551615
@@ -49,7 +49,7 @@ of p es = record { pid = p; events = es }
 
 abbrev restored : Pid → ℕ → Bool → Bool → Bool → Act
 restored p n s r q =
-    act.Restore p (unstamped p (record { 0 = n }) (record { send = s; receive = r; print = q }))
+    act.Restore p (unstamped_token p (record { 0 = n }) (record { send = s; receive = r; print = q }))
 
 -- what the function gives at each of these moves, after those before it
 abbrev along : {X : Type 0} → (List Move → Move → X) → List Move → List Move → List X

@@ -9,7 +9,8 @@ use Rattle.st_order.specs.declared.item.Item.{Item}
 use Rattle.st_order.specs.declared.item.Item.TheVariants as item
 use Rattle.st_order.specs.Order.{IsOrder}
 use Rattle.st_plan.specs.Moves.{Move, moves}
-use Rattle.st_plan.specs.Reasons.{item_place, uncaused}
+use Rattle.st_order.specs.Items.{item_place}
+use Rattle.st_plan.specs.Reasons.{uncaused}
 use Rattle.st_plan.specs.Plain.{out_of_turn, told, HoldsNowhere, IsSettled}
 
 -- ALONG THE MOVES

@@ -24,7 +24,7 @@ use Rattle.st_plan.specs.declared.plan.Start.{Start}
 use Rattle.st_plan.specs.Marks.{Marks}
 use Rattle.st_plan.specs.Moves.{Move, is_taking}
 use Rattle.st_plan.specs.Build.{act_of, acts_of, build, construction, dress, flags_of, is_dressed, opening, quiet}
-use Rattle.st_plan.specs.Build.{raise, ready, renew, renewed, silent, start_of, state_after, tracers_after, unstamped}
+use Rattle.st_plan.specs.Build.{raise, ready, renew, renewed_start, silent, start_of, state_after, tracers_after, unstamped_token}
 use Rattle.st_plan.proofs.Along.{all_append}
 
 abbrev IsNoReset : Act → Type 0
@@ -41,7 +41,7 @@ either false xs ys one two = two
 
 dress_none : (p : Pid) (token : Option Token) (n : Label) (f : Flags) → NoReset (dress p token n f)
 dress_none p token n f =
-    either (is_dressed n f token) [] (act.Restore p (unstamped p n f) ∷ []) tt (refl, tt)
+    either (is_dressed n f token) [] (act.Restore p (unstamped_token p n f) ∷ []) tt (refl, tt)
 
 silent_none : (p : Pid) (n : ℕ) → NoReset (silent p n)
 silent_none p zero = tt
@@ -58,17 +58,17 @@ renew_none p x n prev =
 
 raise_none : (p : Pid) (x : Start) (n : Label) (count : ℕ) (f : Flags) → NoReset (raise p x n count f)
 raise_none p x n count f =
-    let on = dress p (Some (unstamped p n quiet)) n f in
+    let on = dress p (Some (unstamped_token p n quiet)) n f in
     let up = silent p (count - x.clock) ++ on in
     either (nat_lt x.clock count) (dress p x.token n quiet ++ up) (dress p x.token n f)
     (append_none (dress p x.token n quiet) up (dress_none p x.token n quiet)
     (append_none (silent p (count - x.clock)) on (silent_none p (count - x.clock))
-    (dress_none p (Some (unstamped p n quiet)) n f)))
+    (dress_none p (Some (unstamped_token p n quiet)) n f)))
     (dress_none p x.token n f)
 
 ready_none : (p : Pid) (x : Start) (n : Label) (s : Serial) (f : Flags) → NoReset (ready p x n s f)
 ready_none p x n s f =
-    let again = renewed p x n s.prev in
+    let again = renewed_start p x n s.prev in
     either (s.prev == x.last) (raise p x n (s.this - 1) f) (renew p x n s.prev ++ raise p again n (s.this - 1) f)
     (raise_none p x n (s.this - 1) f)
     (append_none (renew p x n s.prev) (raise p again n (s.this - 1) f) (renew_none p x n s.prev)

@@ -21,8 +21,8 @@ use Rattle.st_core.specs.Stamp.{stamped_token}
 use Rattle.st_core.specs.Local.{default_token}
 use Rattle.st_core.specs.Step.{acted}
 use Rattle.st_plan.specs.declared.plan.Start.{Start}
-use Rattle.st_plan.specs.Build.{bool_eq, dress, flags_eq, is_dressed, quiet, raise, ready, renew, renewed, silent}
-use Rattle.st_plan.specs.Build.{start_of, unstamped}
+use Rattle.st_plan.specs.Build.{bool_eq, dress, flags_eq, is_dressed, quiet, raise, ready, renew, renewed_start, silent}
+use Rattle.st_plan.specs.Build.{start_of, unstamped_token}
 
 -- QUIET ACTS
 
@@ -102,12 +102,12 @@ same_label : (n m : Label) → (n.0 == m.0) ≡ true → n ≡ m
 same_label n m h = let number = eqb-true n.0 m.0 h in λ i. record { 0 = number i }
 
 restored : (top : ℕ) (p : Pid) (l : LocalState) (n : Label) (f : Flags)
-    → Reaches top p l (act.Restore p (unstamped p n f) ∷ []) l.clock l.last n f
+    → Reaches top p l (act.Restore p (unstamped_token p n f) ∷ []) l.clock l.last n f
 restored top p l n f = record {
-  end = record l { token = Some (unstamped p n f) };
-  token = unstamped p n f;
+  end = record l { token = Some (unstamped_token p n f) };
+  token = unstamped_token p n f;
   runs = (
-    record l { token = Some (unstamped p n f) },
+    record l { token = Some (unstamped_token p n f) },
     record { reply = reply.Previous l.token; alone = refl; acts = λ queue. refl },
     refl,
   );
@@ -140,7 +140,7 @@ dressed : (top : ℕ) (p : Pid) (l : LocalState) (token : Option Token) (n : Lab
     → is_dressed n f token ≡ is_dressed n f l.token → Reaches top p l (dress p token n f) l.clock l.last n f
 dressed top p l token n f same =
     elim (is_dressed n f token) as (λ b. is_dressed n f token ≡ b
-    → Reaches top p l (cond b [] (act.Restore p (unstamped p n f) ∷ [])) l.clock l.last n f) [
+    → Reaches top p l (cond b [] (act.Restore p (unstamped_token p n f) ∷ [])) l.clock l.last n f) [
       | true ↦ λ e. stays top p l n f l.token refl (sym same ∙ e)
       | false ↦ λ e. restored top p l n f
     ] refl
@@ -188,7 +188,7 @@ silent_reaches top p (suc k) l t n is label flags within =
 
 -- a token stands for each other of its label and flags
 alike : (t : Token) (n : Label) (g : Flags) (p : Pid) (l : LocalState) → l.token ≡ Some t → t.label ≡ n → t.flags ≡ g
-    → (m : Label) (f : Flags) → is_dressed m f (Some (unstamped p n g)) ≡ is_dressed m f l.token
+    → (m : Label) (f : Flags) → is_dressed m f (Some (unstamped_token p n g)) ≡ is_dressed m f l.token
 alike t n g p l is label flags m f = ap (λ (x : Label). x.0 == m.0 && flags_eq g f) (sym label)
     ∙ ap (λ (x : Flags). t.label.0 == m.0 && flags_eq x f) (sym flags) ∙ ap (is_dressed m f) (sym is)
 
@@ -199,7 +199,7 @@ raised : (top : ℕ) (p : Pid) (l : LocalState) (x : Start) (n : Label) (count :
     → l.clock ≤ count → count ≤ top → Reaches top p l (raise p x n count f) count l.last n f
 raised top p l x n count f same now least within =
     elim (nat_lt x.clock count) as (λ b. nat_lt x.clock count ≡ b → Reaches top p l
-    (cond b (dress p x.token n quiet ++ (silent p (count - x.clock) ++ dress p (Some (unstamped p n quiet)) n f))
+    (cond b (dress p x.token n quiet ++ (silent p (count - x.clock) ++ dress p (Some (unstamped_token p n quiet)) n f))
     (dress p x.token n f)) count l.last n f) [
       | true ↦ λ e.
           let less = ltb-true x.clock count e in
@@ -208,13 +208,13 @@ raised top p l x n count f same now least within =
           let two = silent_reaches top p (count - x.clock) one.end one.token n one.is one.label one.flags
           (omega arith) in
           let there = two.clocked in
-          let three = dressed top p two.end (Some (unstamped p n quiet)) n f
+          let three = dressed top p two.end (Some (unstamped_token p n quiet)) n f
           (alike two.token n quiet p two.end two.is two.label two.flags n f) in
           let last_parts = both_reach top p one.end (silent p (count - x.clock))
-          (dress p (Some (unstamped p n quiet)) n f) (one.end.clock + (count - x.clock)) one.end.last n quiet
+          (dress p (Some (unstamped_token p n quiet)) n f) (one.end.clock + (count - x.clock)) one.end.last n quiet
           two.end.clock two.end.last f two three in
           let all = both_reach top p l (dress p x.token n quiet)
-          (silent p (count - x.clock) ++ dress p (Some (unstamped p n quiet)) n f)
+          (silent p (count - x.clock) ++ dress p (Some (unstamped_token p n quiet)) n f)
           l.clock l.last n quiet two.end.clock two.end.last f one last_parts in
           record {
             end = all.end;
@@ -304,7 +304,7 @@ pub is_ready : (top : ℕ) (p : Pid) (l : LocalState) (n : Label) (s : Serial) (
     → s.this ≤ top → l.clock < s.this → (s.prev ≡ l.last) ⊎ (l.clock ≤ s.prev)
     → Reaches top p l (ready p (start_of l) n s f) (s.this - 1) s.prev n f
 is_ready top p l n s f rises within below caused =
-    let again = renewed p (start_of l) n s.prev in
+    let again = renewed_start p (start_of l) n s.prev in
     elim (s.prev == l.last) as (λ b. (s.prev == l.last) ≡ b → Reaches top p l
     (cond b (raise p (start_of l) n (s.this - 1) f)
     (renew p (start_of l) n s.prev ++ raise p again n (s.this - 1) f)) (s.this - 1) s.prev n f) [

@@ -43,12 +43,12 @@ is_dressed n f None = false
 is_dressed n f (Some t) = t.label.0 == n.0 && flags_eq t.flags f
 
 -- a token of this label and these flags, as it is restored
-abbrev pub unstamped : Pid → Label → Flags → Token
-unstamped p n f = record { label = n; flags = f; serial = record { prev = 0; this = 0 }; from = p }
+abbrev pub unstamped_token : Pid → Label → Flags → Token
+unstamped_token p n f = record { label = n; flags = f; serial = record { prev = 0; this = 0 }; from = p }
 
 -- gives p a token of this label and these flags, if it has none such
 abbrev pub dress : Pid → Option Token → Label → Flags → List Act
-dress p token n f = if is_dressed n f token then [] else act.Restore p (unstamped p n f) ∷ []
+dress p token n f = if is_dressed n f token then [] else act.Restore p (unstamped_token p n f) ∷ []
 
 -- so many prints of p that nobody sees
 abbrev pub silent : Pid → ℕ → List Act
@@ -64,19 +64,19 @@ renew p x n prev =
 -- the clock is brought up to that count, then the flags are put on
 abbrev pub raise : Pid → Start → Label → ℕ → Flags → List Act
 raise p x n count f = if nat_lt x.clock count
-    then dress p x.token n quiet ++ (silent p (count - x.clock) ++ dress p (Some (unstamped p n quiet)) n f)
+    then dress p x.token n quiet ++ (silent p (count - x.clock) ++ dress p (Some (unstamped_token p n quiet)) n f)
     else dress p x.token n f
 
 -- what p has after a new trace began at prev
-abbrev pub renewed : Pid → Start → Label → ℕ → Start
-renewed p x n prev =
-    record { token = Some (unstamped p n quiet); clock = max x.clock prev; last = prev }
+abbrev pub renewed_start : Pid → Start → Label → ℕ → Start
+renewed_start p x n prev =
+    record { token = Some (unstamped_token p n quiet); clock = max x.clock prev; last = prev }
 
 -- the acts after which p stands ready to stamp this serial under this label and these flags
 abbrev pub ready : Pid → Start → Label → Serial → Flags → List Act
 ready p x n s f = if s.prev == x.last
     then raise p x n (s.this - 1) f
-    else renew p x n s.prev ++ raise p (renewed p x n s.prev) n (s.this - 1) f
+    else renew p x n s.prev ++ raise p (renewed_start p x n s.prev) n (s.this - 1) f
 
 -- the flags under which an item stamps: an event is told under its own flag, and a send's message is received under a
 -- flag exactly if a receive that is told is paired with it

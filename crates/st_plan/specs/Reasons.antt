@@ -4,7 +4,7 @@ use Rattle.std.specs.Prelude.{◌≡◌, ℕ, ◌==◌, ◌&&◌, ◌||◌, nat_
 use Rattle.st_core.specs.declared.types.Pid.{Pid}
 use Rattle.st_core.specs.Run.{Stream}
 use Rattle.st_order.specs.declared.item.Item.{Item}
-use Rattle.st_order.specs.declared.item.Item.TheVariants as item
+use Rattle.st_order.specs.Items.{item_place}
 use Rattle.st_order.specs.Order.{IsOrder}
 use Rattle.st_plan.specs.Moves.{Move, moves, is_taking, clock, last, skip, skips}
 
@@ -15,20 +15,15 @@ most_skipped = 1000
 abbrev pub most_skipped_in_all : ℕ
 most_skipped_in_all = 1000000
 
--- 6: a stamp whose prev is below the clock, and isn't the last count
+-- a stamp whose prev is below the clock, and isn't the last count
 abbrev pub uncaused : List Move → Move → Bool
 uncaused earlier m = not (is_taking m) &&
     (not (m.event.serial.prev == last m.who earlier) && nat_lt m.event.serial.prev (clock m.who earlier))
 
--- 7: a stamp before which too many counts are missing, or too many with those before
+-- a stamp before which too many counts are missing, or too many with those before
 abbrev pub too_wide : List Move → Move → Bool
 too_wide earlier m = not (is_taking m) &&
     (nat_lt most_skipped (skip earlier m) || nat_lt most_skipped_in_all (skips (m ∷ earlier)))
-
--- where an item stands in the streams: a hidden send where its receive does
-abbrev pub item_place : Item → Pid × ℕ
-item_place (item.Reported p i) = (p, i)
-item_place (item.Hidden p i) = (p, i)
 
 -- in the order there is a move at place (p, i) of which the test holds
 pub record HoldsAt (test : List Move → Move → Bool) (streams : List Stream) (p : Pid) (i : ℕ) : Type 0 where

@@ -2,7 +2,7 @@
 //! nothing here steps a world.
 
 ghost use Rattle.std.specs.Prelude.{◌≡◌, ◌++◌, OnOk};
-ghost use Rattle.st_plan.specs.Build.{dress, flags_eq, is_dressed, raise, ready, renew, silent, unstamped};
+ghost use Rattle.st_plan.specs.Build.{dress, flags_eq, is_dressed, raise, ready, renew, silent, unstamped_token};
 
 use st_core::{Act, Component, Flags, Label, Pid, Serial, Token};
 use std::alloc::AllocError;
@@ -26,8 +26,8 @@ pub const QUIET: Flags = Flags {
 };
 
 /// A token of this label and these flags, as it is restored. The stamp gives it a serial.
-fn unstamped(pid: Pid, label: Label, flags: Flags) -> Token
-    ensures { result ≡ unstamped pid label flags }
+fn unstamped_token(pid: Pid, label: Label, flags: Flags) -> Token
+    ensures { result ≡ unstamped_token pid label flags }
 {
     Token {
         label,
@@ -67,7 +67,7 @@ fn dress(
     if is_dressed(token, label, flags) {
         return Ok(());
     }
-    plan.push(Act::Restore(pid, unstamped(pid, label, flags)))?;
+    plan.push(Act::Restore(pid, unstamped_token(pid, label, flags)))?;
     Ok(())
 }
 
@@ -115,7 +115,7 @@ fn raise(
     if start.clock < count {
         dress(plan, pid, start.token, label, QUIET)?;
         print_silently(plan, pid, count - start.clock)?;
-        let token = Some(unstamped(pid, label, QUIET));
+        let token = Some(unstamped_token(pid, label, QUIET));
         return dress(plan, pid, token, label, flags);
     }
     dress(plan, pid, start.token, label, flags)
@@ -139,7 +139,7 @@ pub fn ready(
     }
     renew(plan, pid, start, label, serial.prev)?;
     let renewed = Start {
-        token: Some(unstamped(pid, label, QUIET)),
+        token: Some(unstamped_token(pid, label, QUIET)),
         clock: start.clock.max(serial.prev),
         last: serial.prev,
     };

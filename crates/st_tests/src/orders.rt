@@ -100,6 +100,18 @@ fn labels_rise(rt: HostRuntime) -> Result<(), Fail> {
     Ok(())
 }
 
+/// A hidden send stands at the place of its receive, and is about it.
+#[test]
+fn an_item_is_about_the_event_at_its_place(rt: HostRuntime) -> Result<(), Fail> {
+    let streams = streams(rt.alloc(), CERTIFICATE)?;
+    for item in [Item::Reported(p30(), 1), Item::Hidden(p30(), 1)] {
+        same(&rt, &item.place(), &(p30(), 1));
+        same(&rt, &item.event(&streams), &streams.event(p30(), 1));
+        assert!(rt; item.event(&streams).is_some());
+    }
+    Ok(())
+}
+
 #[test]
 fn an_item_of_no_place_has_no_label(rt: HostRuntime) -> Result<(), Fail> {
     let streams = streams(rt.alloc(), CERTIFICATE)?;
@@ -280,9 +292,8 @@ fn plain_filter(
 ) -> Result<Vec<Item>, AllocError> {
     let mut found = Vec::new(alloc);
     for &item in items {
-        let (Item::Reported(pid, index) | Item::Hidden(pid, index)) = item;
-        if streams
-            .event(pid, index)
+        if item
+            .event(streams)
             .is_some_and(|event| event.label.0 == label)
         {
             found.push(item)?;

@@ -1,7 +1,6 @@
 //! The command `why`: what caused an event of the streams whose text the input is. The acts in the input are ignored.
 
 ghost use Rattle.std.specs.Prelude.{◌≡◌, IsSome, None};
-ghost use Rattle.st_audit.specs.Findings.{unfit_by};
 ghost use Rattle.st_commands.specs.Command.{Owes, Tells};
 ghost use Rattle.st_pair.specs.Links.{IsPairing};
 ghost use Rattle.st_pair.specs.Pairing.{IsPairFault, refusal};
@@ -12,33 +11,12 @@ ghost use Rattle.st_tool.specs.Why.{IsWhy};
 use crate::answer::{status_of, tell_fault, tell_finding, tell_line};
 use crate::lines::OutputLine;
 use crate::steps::send_steps;
-use st_audit::{Finding, Reason};
+use st_audit::unfit_by;
 use st_chain::Chains;
 use st_core::{ByteSink, ByteSource, Pid, Streams};
 use st_pair::{PairFault, Pairing, pair};
 use st_text::{ReadFault, read};
 use std::alloc::Global;
-
-/// A reason of pairing as a finding; none if memory ran out.
-fn unfit_by(fault: PairFault) -> Option<Finding>
-    ensures { result ≡ unfit_by fault }
-{
-    match fault {
-        PairFault::Memory => None,
-        PairFault::PrevNotBefore(pid, index) => {
-            Some(Finding::Unfit(pid, index, Reason::PrevNotBefore))
-        }
-        PairFault::NotRising(pid, index, place) => {
-            Some(Finding::Unfit(pid, index, Reason::NotRising(place)))
-        }
-        PairFault::Repeated(pid, index, other, place) => {
-            Some(Finding::Unfit(pid, index, Reason::Repeated(other, place)))
-        }
-        PairFault::Mismatch(pid, index, sender, place) => {
-            Some(Finding::Unfit(pid, index, Reason::Mismatch(sender, place)))
-        }
-    }
-}
 
 /// Writes why streams can't be paired.
 fn tell_unpaired<W: ByteSink>(

@@ -12,7 +12,7 @@ ghost use Rattle.st_world.specs.World.{place_in, token_of, AreOrdered, AreStampe
 
 use crate::node::{reset, trace};
 use crate::outcome::{NewFault, StepFault};
-use crate::rows::{number_of, numbered, zeros};
+use crate::rows::{number_of, pid_set, zeros};
 use indexmap::IndexSet;
 use st_core::{Act, Kind, Local, Message, Pid, Reply, Token, Want, is_rising};
 use st_mail::actor::{answer, event, inner, receive, stamped};
@@ -49,7 +49,7 @@ impl<const TOP: u64> Processes<TOP> {
         if !is_rising(pids) {
             return Err(NewFault::NotRising);
         }
-        let Ok(set) = numbered(alloc, pids) else {
+        let Ok(set) = pid_set(alloc, pids) else {
             return Err(NewFault::Memory);
         };
         let Ok(locals) = zeros(alloc, pids.len()) else {

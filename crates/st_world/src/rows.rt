@@ -11,7 +11,7 @@ use st_core::{Local, Pid};
 use std::alloc::{AllocError, Global};
 
 /// The pids, numbered in their order.
-pub(crate) fn numbered(alloc: Global, pids: &[Pid]) -> Result<IndexSet<Pid>, AllocError>
+pub(crate) fn pid_set(alloc: Global, pids: &[Pid]) -> Result<IndexSet<Pid>, AllocError>
     requires { IsRising pids.now }
     ensures { IfOk result (λ set. set.keys ≡ pids.now) }
 {

@@ -1,10 +1,11 @@
 //! Streams that no certificate was found for, each with its place and reason.
 
 use super::{MOST, found, restored};
-use crate::collected::{p30, same, streams};
-use st_audit::{Finding, Reason, audit};
+use crate::collected::{p30, p31, same, streams};
+use st_audit::{Finding, Reason, audit, unfit_by};
 use st_check::Verdict;
 use st_core::{Act, Draft, Event, Kind, Label, Pid, Sequence, Serial, Streams};
+use st_pair::PairFault;
 use std::alloc::Global;
 use std::process::Abort;
 use std::test::Fail;
@@ -37,6 +38,16 @@ fn not_replayed(rt: &impl Abort, reason: Reason) -> (Sequence<Act>, Verdict) {
         Reason::NotReplayed(acts, verdict) => (acts, verdict),
         _ => panic!(rt; "another reason"),
     }
+}
+
+/// A reason of pairing names the same places as a finding, and memory that ran out is none.
+#[test]
+fn a_reason_of_pairing_is_a_finding(rt: HostRuntime) {
+    let fault = PairFault::Mismatch(p30(), 1, p31(), 2);
+    let finding = unfit_by(fault).expect(&rt, "no finding");
+    let reason = reason_at(&rt, finding, (p30(), 1));
+    assert!(rt; matches!(reason, Reason::Mismatch(sender, 2) if sender == p31()));
+    assert!(rt; unfit_by(PairFault::Memory).is_none());
 }
 
 /// A clock of at most 3 is full after three prints, before the act that the event asks for.

@@ -9,4 +9,4 @@ returns c =
     let ends = contains pid_eq c.in_ok-ends.ends in
     let are =
     lanes_are c.args.streams.now c.args.label c.args.items.now ends (λ p. c.in_ok-ends.ensures p) in
-    rw are at (rw c.pids.ensures.value at c.noted.ensures)
+    rw are at (rw c.pids.ensures.value at c.ends_among.ensures)

@@ -10,7 +10,7 @@ returns-in-Some-clause-verdict g c =
     let kept = loop.progress in
     left_at_end g.row.TOP c.args.streams.now c.args.acts.now loop.number kept.world kept.counts.items kept.tags.lists
     kept.pairs
-    c.loop-number-test.false c.left.ensures.streams loop.invariant c.in-Some.pid c.in-Some.ensures.found
+    c.loop-number-test.false c.first_left.ensures.streams loop.invariant c.in-Some.pid c.in-Some.ensures.found
 
 pub returns-in-None-clause-verdict : goal.returns-in-None-clause-verdict
 returns-in-None-clause-verdict g c =
@@ -18,7 +18,7 @@ returns-in-None-clause-verdict g c =
     let kept = loop.progress in
     yes_at_end g.row.TOP c.args.streams.now c.args.acts.now loop.number kept.world kept.counts.items kept.tags.lists
     kept.pairs
-    c.loop-number-test.false c.left.ensures.streams loop.invariant c.into_pairs.result c.into_pairs.ensures
+    c.loop-number-test.false c.first_left.ensures.streams loop.invariant c.into_pairs.result c.into_pairs.ensures
     c.in-None.ensures.none
 
 pub returns-in-None-clause-follows : goal.returns-in-None-clause-follows

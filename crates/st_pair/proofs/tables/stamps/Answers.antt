@@ -4,4 +4,4 @@ use Rattle.st_pair.proofs.Noted.{ok_then}
 use Rattle.st_pair.proofs.tables.stamps.Goals as goal
 
 pub returns : goal.returns
-returns c = ok_then c.sorted.result _ _ c.sorted.ensures (λ table same k. same k ∙ c.in_ok-rows.ensures k)
+returns c = ok_then c.from_rows.result _ _ c.from_rows.ensures (λ table same k. same k ∙ c.in_ok-rows.ensures k)

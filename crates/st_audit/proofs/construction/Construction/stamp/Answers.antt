@@ -23,7 +23,7 @@ returns-clause-stamped g c =
     let planned : c.as_slice.result.now ≡ acts =
     c.as_slice.ensures.value ∙ c.in-Ok.ensures ∙ ap (λ xs. xs ++ acts) c.new-plan.ensures.items in
     let missed = c.in-Some-with_skipped.ensures
-    ∙ ap (λ k. cond (is_too_wide old.skipped k) None (Some (k + old.skipped))) c.missing.ensures in
+    ∙ ap (λ k. cond (is_too_wide old.skipped k) None (Some (k + old.skipped))) c.missing_count.ensures in
     let ran : Ran g.row.TOP old.world acts between =
     subst (λ xs. Ran g.row.TOP old.world xs between) planned c.in_ok-perform_all.ensures.ran in
     let now = c.perform.ensures.skipped ∙ c.in_ok-perform_all.ensures.skipped in
@@ -94,7 +94,7 @@ returns-in_err-perform_all-clause-exact g c =
     let planned : c.as_slice.result.now ≡ acts =
     c.as_slice.ensures.value ∙ c.in-Ok.ensures ∙ ap (λ xs. xs ++ acts) c.new-plan.ensures.items in
     let missed = c.in-Some-with_skipped.ensures
-    ∙ ap (λ k. cond (is_too_wide old.skipped k) None (Some (k + old.skipped))) c.missing.ensures in
+    ∙ ap (λ k. cond (is_too_wide old.skipped k) None (Some (k + old.skipped))) c.missing_count.ensures in
     let stuck : IsStuck top old.world (acts ++ a ∷ []) old.acts h now.acts =
     stuck_more top old.world acts (a ∷ []) old.acts h now.acts
     (subst (λ xs. IsStuck top old.world xs old.acts h now.acts) planned c.in_err-perform_all.ensures.stuck) in
@@ -122,7 +122,7 @@ returns-clause-exact g c =
     let planned : c.as_slice.result.now ≡ acts =
     c.as_slice.ensures.value ∙ c.in-Ok.ensures ∙ ap (λ xs. xs ++ acts) c.new-plan.ensures.items in
     let missed = c.in-Some-with_skipped.ensures
-    ∙ ap (λ k. cond (is_too_wide old.skipped k) None (Some (k + old.skipped))) c.missing.ensures in
+    ∙ ap (λ k. cond (is_too_wide old.skipped k) None (Some (k + old.skipped))) c.missing_count.ensures in
     let done = c.in_ok-perform_all.ensures in
     let ran : Ran top old.world acts between.world =
     subst (λ xs. Ran top old.world xs between.world) planned done.ran in
@@ -147,7 +147,7 @@ returns-in_default-ready-clause-exact g c =
     let a = c.args.act in
     let old = c.args.self.now in
     let missed = c.in-Some-with_skipped.ensures
-    ∙ ap (λ k. cond (is_too_wide old.skipped k) None (Some (k + old.skipped))) c.missing.ensures in
+    ∙ ap (λ k. cond (is_too_wide old.skipped k) None (Some (k + old.skipped))) c.missing_count.ensures in
     subst TriesAct
     (sym (stamp_turn_is top old.world old.skipped p e f a start (sym c.start.ensures ∙ c.in-Some.is)))
     (attempt_tries top _ _ _ (ready p start e.label e.serial f) a old.world

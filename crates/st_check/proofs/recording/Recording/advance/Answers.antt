@@ -28,11 +28,11 @@ record-requires-clause-listed g c =
     c.args.self.now.streams c.args.self.now.replies c.requires.within c.requires.recorded _ c.in-Ok.ensures.step
 
 pub record-requires-clause-own : goal.record-requires-clause-own
-record-requires-clause-own g c = λ e reported.
+record-requires-clause-own g c = λ e reported_streams.
     ap (λ (p : Pid). is_own p e) c.actor.ensures
     ∙ own_at g.row.TOP (pids_of c.args.self.now.streams) c.args.acts.now c.args.number _ c.args.self.now.world
     c.args.self.now.streams c.args.self.now.replies c.requires.within c.requires.recorded _ c.in-Ok.ensures.step e
-    reported
+    reported_streams
 
 pub returns : goal.returns
 returns g c =

@@ -11,6 +11,6 @@ returns-in-None c =
 pub returns-in-Some : goal.returns-in-Some
 returns-in-Some c =
     let at = rw c.deref.ensures.value at c.in-Some.ensures.found in
-    let read = rw c.as_slice.ensures at c.read.ensures in
+    let read = rw c.as_slice.ensures at c.nth_link.ensures in
     rw (← c.self.view_is) (read ∙ row_read _ _ c.args.pid _ c.args.index _ c.self.invariant.even
     c.self.invariant.rising at c.index.ensures)
