@@ -22,16 +22,17 @@ use Rattle.st_full.specs.Completed.{IsCompleted, IsShownInOneTrace}
 use Rattle.st_full.specs.Full.{IsFull}
 use Rattle.st_full.specs.Local.{IsNeedless}
 use Rattle.st_full.specs.Needs.{HoldsOfNone, is_late, is_rootless, marked_of}
+use Rattle.st_full.specs.Reasons.{HasNoReason}
 use Rattle.st_full.specs.Supply.{IsSupplied}
 use Rattle.st_full.specs.Wholes.{wholes_of}
-use Rattle.st_full.proofs.ForCallers.{decides, run_completed}
+use Rattle.st_full.proofs.ForCallers.{run_completed}
 use Rattle.st_complete.specs.declared.answer.Never.{Never}
 use Rattle.st_complete.specs.declared.answer.Never.TheVariants as never
 use Rattle.st_complete.specs.declared.answer.Answer.{Answer}
 use Rattle.st_complete.specs.declared.answer.Answer.TheVariants as answer
 use Rattle.st_complete.specs.Flaws.{LastHigher}
-use Rattle.st_complete.specs.Answers.{HoldsThere, IsAnswer, IsFinal, IsHigher, IsLastHigher, IsNeverFinal, IsReason}
-use Rattle.st_complete.specs.Answers.{IsOtherwiseShown}
+use Rattle.st_complete.specs.Answers.{is_too_high, HoldsThere, IsAnswer, IsFinal, IsHigher, IsLastHigher, IsNeverFinal}
+use Rattle.st_complete.specs.Answers.{IsOtherwiseShown, IsReason, IsRooted}
 
 -- THE LAST EVENT THAT COUNTS NO LOWER
 
@@ -169,7 +170,7 @@ abbrev pub AreShownIfNeedless : Type 0
 AreShownIfNeedless = (top : ℕ) (streams : List Stream) → IsRising (pids_of streams)
     → (IsShownInOneTrace top streams ↔ IsCompleted IsNeedless top streams)
 
--- a completion needs nothing; and without hidden sends an answer that is Open leaves none of the reasons that decide
+-- a completion needs nothing; and Open says that a send is hidden
 pub otherwise_shown : (top : ℕ) (streams : List Stream) (found : Answer) → AreShownIfNeedless → IsStreams streams
     → IsAnswer top streams found → IsOtherwiseShown top streams found
 otherwise_shown top streams (answer.Whole wholes) law sound is =
@@ -181,12 +182,20 @@ otherwise_shown top streams (answer.Whole wholes) law sound is =
     })
 otherwise_shown top streams (answer.Never p i reason) law sound is = tt
 otherwise_shown top streams (answer.Open p i) law sound is = λ sends.
-    (decides top streams sound sends).1 (record {
-      timely = is.rooted.timely;
-      founded = is.rooted.rooted;
-      supplied = is.supplied sends;
-      within = λ p i e at. not_above top e.serial.this (is.within p i e at);
-    })
+    let h = is.hidden in
+    false≢true (sym (sends.reported h.pid h.index h.event h.at) ∙ h.hides)
+
+-- STREAMS WITHOUT A REASON
+
+-- no reason that decides is left
+pub none_left : (top : ℕ) (streams : List Stream) → IsRooted streams → HoldsOfNone (is_too_high top) streams
+    → ((v : ℕ) → IsSupplied streams v) → HasNoReason top streams
+none_left top streams rooted within supplied = record {
+  timely = rooted.timely;
+  founded = rooted.rooted;
+  supplied = supplied;
+  within = λ p i e at. not_above top e.serial.this (within p i e at);
+}
 
 -- AN EVENT THAT IS LATE
 

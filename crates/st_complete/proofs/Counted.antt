@@ -54,7 +54,7 @@ process_noted old now more streams pids k d es rising are within is noted so_far
 
 -- LISTS THAT RISE
 
-abbrev AllAbove : ℕ → List ℕ → Type 0
+abbrev pub AllAbove : ℕ → List ℕ → Type 0
 AllAbove b cs = AllByRecursion (λ c. b < c) cs
 
 -- each is above all before it
@@ -67,7 +67,7 @@ abbrev pub IsIn : ℕ → List ℕ → Type 0
 IsIn c [] = ⊥
 IsIn c (d ∷ ds) = (c ≡ d) ⊎ IsIn c ds
 
-above_in : (b c : ℕ) (ds : List ℕ) → AllAbove b ds → IsIn c ds → b < c
+pub above_in : (b c : ℕ) (ds : List ℕ) → AllAbove b ds → IsIn c ds → b < c
 above_in b c [] all here = absurd here
 above_in b c (d ∷ ds) all here = elim here [
   | inl same ↦ (let high = all.0 in omega (arith, same))
@@ -226,7 +226,7 @@ in_either b (c ∷ cs) ds here = elim here [
   | inr later ↦ elim (in_either b cs ds later) [ inl own ↦ inl (inr own) | inr other ↦ inr other ]
 ]
 
-either_in : (b : ℕ) (cs ds : List ℕ) → IsIn b cs ⊎ IsIn b ds → IsIn b (cs ++ ds)
+pub either_in : (b : ℕ) (cs ds : List ℕ) → IsIn b cs ⊎ IsIn b ds → IsIn b (cs ++ ds)
 either_in b [] ds here = elim here [ inl none ↦ absurd none | inr other ↦ other ]
 either_in b (c ∷ cs) ds here = elim here [
   | inr other ↦ inr (either_in b cs ds (inr other))

@@ -2,7 +2,7 @@
 use Rattle.std.proofs.Common.{◌≡◌, ℕ, ◌+◌, ◌<◌, suc, Bool, true, false, cond, List, [], ◌∷◌, ◌++◌, length, get_or, max}
 use Rattle.std.proofs.Common.{take, drop, slice_get, Option, None, Some, option_and_then, refl, sym, ◌∙◌, ap, subst, arith}
 use Rattle.std.proofs.Common.{add-one, if◌then◌else◌}
-use Rattle.std.proofs.lemmas.Bool.{false≢true}
+use Rattle.std.specs.Prelude.{IsSome}
 use Rattle.std.proofs.lemmas.Option.{same_Some}
 use Rattle.st_core.specs.declared.types.Pid.{Pid}
 use Rattle.st_core.specs.declared.types.Event.{Event}
@@ -18,7 +18,7 @@ use Rattle.st_pair.specs.Places.{event_at, first, first_from, is_stamp}
 use Rattle.st_pair.specs.Tables.{or_else}
 use Rattle.st_pair.proofs.ForCallers.{event_none, first_from-at, first-loop, given_at, IsGiven}
 use Rattle.st_full.specs.Needs.{HoldsOfNone}
-use Rattle.st_complete.specs.Answers.{HoldsThere}
+use Rattle.st_complete.specs.Answers.{HidesSend, HoldsThere}
 use Rattle.st_plan.proofs.ForCallers.{take_more}
 use Rattle.st_order.specs.Items.{is_hidden}
 use Rattle.st_complete.specs.declared.flaws.Left.{Left}
@@ -148,9 +148,13 @@ pub hides_none : (streams : List Stream) → first (hides streams) streams ≡ N
 hides_none streams none = λ p i e at.
     none_false (is_hidden streams e) (p, i) (event_none (hides streams) streams none p i e at)
 
+-- where a place is given, the send of a receive is hidden, and an event is there
 pub hides_some : (streams : List Stream) (x : Pid × ℕ) → IsRising (pids_of streams)
-    → first (hides streams) streams ≡ Some x → HidesNone streams → ⊥
-hides_some streams x rising some none =
+    → first (hides streams) streams ≡ Some x → HidesSend streams × IsSome (event_at streams x.0 x.1)
+hides_some streams x rising some =
     let found = given_at (hides streams) streams x rising some in
-    let gives = gives_true (is_hidden streams found.event) x.0 found.pid x.1 found.index found.gives in
-    false≢true (sym (none found.pid found.index found.event found.at) ∙ gives.0)
+    let gives = gives_true (is_hidden streams found.event) x.0 found.pid x.1 found.index found.gives in (
+      record { pid = found.pid; index = found.index; event = found.event; at = found.at; hides = gives.0 },
+      subst (λ (y : Pid × ℕ). IsSome (event_at streams y.0 y.1)) gives.1
+          (subst (λ (o : Option Event). IsSome o) (sym found.at) refl),
+    )

@@ -6,3 +6,5 @@ pub mod Answered
 pub mod Counted
 pub mod Ranking
 pub mod Supplied
+pub mod Needed
+pub mod Constructed

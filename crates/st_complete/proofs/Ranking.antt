@@ -52,7 +52,7 @@ lists_last (x ∷ xs) p es =
     [ true ↦ refl | false ↦ lists_last xs p es ]
 
 -- an event of it stands behind its others
-added_last : (xs : List Stream) (p : Pid) (es : List Event) (e : Event) → ComesLast xs p
+pub added_last : (xs : List Stream) (p : Pid) (es : List Event) (e : Event) → ComesLast xs p
     → added (xs ++ record { pid = p; events = es } ∷ []) p e ≡ xs ++ record { pid = p; events = es ++ e ∷ [] } ∷ []
 added_last [] p es e last =
     ap (λ b. let x : Stream = cond b (record { pid = p; events = es ++ e ∷ [] }) (record { pid = p; events = es }) in

@@ -94,7 +94,7 @@ sent v q (x ∷ rest) =
 
 -- STAMPS
 
-abbrev has : ℕ → Event → Bool
+abbrev pub has : ℕ → Event → Bool
 has v e = is_stamp e && e.serial.this == v
 
 stamp_in : (v : ℕ) (q : Pid) (i : ℕ) (es : List Event)
@@ -134,14 +134,14 @@ not_some : {X : Type 0} (o : Option X) → not (is_some o) ≡ is_none o
 not_some None = refl
 not_some (Some x) = refl
 
-unused_here : (streams : List Stream) (v : ℕ) (q : Pid) → is_unused (told_of streams v q) ≡ is_free streams v q
+pub unused_here : (streams : List Stream) (v : ℕ) (q : Pid) → is_unused (told_of streams v q) ≡ is_free streams v q
 unused_here streams v q =
     ap (λ b. b && is_none (option_map (λ (f : ℕ × Event). f.1) (stamp_of streams q v)))
     (not_some (receive_of streams q v))
     ∙ ap (λ b. is_none (receive_of streams q v) && b) (elim (stamp_of streams q v) as (λ (o : Option (ℕ × Event)).
     is_none (option_map (λ (f : ℕ × Event). f.1) o) ≡ is_none o) [ None ↦ refl | Some f ↦ refl ])
 
-untaken_here : (streams : List Stream) (v : ℕ) (p q : Pid)
+pub untaken_here : (streams : List Stream) (v : ℕ) (p q : Pid)
     → is_untaken p (told_of streams v q) ≡ is_own_supply streams v p q
 untaken_here streams v p q =
     let to = λ (e : Event). is_send e && to_eq e.to (Some p) in

@@ -8,6 +8,7 @@ use Rattle.st_pair.specs.declared.answer.PairFault.TheVariants as fault
 use Rattle.st_pair.specs.Final.{NeverShownInOneTrace}
 use Rattle.st_pair.specs.Pairing.{refusal}
 use Rattle.st_pair.specs.Places.{event_at, is_stamp}
+use Rattle.st_order.specs.Items.{is_hidden}
 use Rattle.st_full.specs.Completed.{IsShownInOneTrace}
 use Rattle.st_full.specs.Needs.{HoldsOfNone, is_late, is_need, is_rootless}
 use Rattle.st_full.specs.Reasons.{HasEachSend}
@@ -78,13 +79,20 @@ abbrev pub IsFinal : ℕ → List Stream → Never → Type 0
 IsFinal top streams never.TooHigh = ¬ IsShownInOneTrace top streams
 IsFinal top streams reason = NeverShownInOneTrace streams
 
--- The streams are undecided: nothing that is read off the events of one process alone refuses them;
--- if no receive's send is hidden, there are no more needs of any prev than messages that may feed
--- them; and the event is there.
+-- the send of some receive is hidden
+pub record HidesSend (streams : List Stream) : Type 0 where
+  pub pid : Pid
+  pub index : ℕ
+  pub event : Event
+  pub at : event_at streams pid index ≡ Some event
+  pub hides : is_hidden streams event ≡ true
+
+-- The streams are undecided: the send of some receive is hidden; nothing that is read off the
+-- events of one process alone refuses them; and the event is there.
 pub record IsUndecided (top : ℕ) (streams : List Stream) (p : Pid) (i : ℕ) : Type 0 where
+  pub hidden : HidesSend streams
   pub rooted : IsRooted streams
   pub within : HoldsOfNone (is_too_high top) streams
-  pub supplied : HasEachSend streams → (v : ℕ) → IsSupplied streams v
   pub there : IsSome (event_at streams p i)
 
 -- a completion; a reason that holds at an event; or an event of undecided streams
@@ -98,9 +106,9 @@ abbrev pub IsNeverFinal : ℕ → List Stream → Answer → Type 0
 IsNeverFinal top streams (answer.Never p i reason) = IsFinal top streams reason
 IsNeverFinal top streams found = Unit {0}
 
--- If it is no Never, acts without a reset show the streams: if it is a completion, and, if each
--- receive has its send among the reported events, even if it is Open.
+-- If it is a completion, acts without a reset show the streams; and if each receive has its send
+-- among the reported events, it is a completion or a Never.
 abbrev pub IsOtherwiseShown : ℕ → List Stream → Answer → Type 0
 IsOtherwiseShown top streams (answer.Whole wholes) = IsShownInOneTrace top streams
 IsOtherwiseShown top streams (answer.Never p i reason) = Unit {0}
-IsOtherwiseShown top streams (answer.Open p i) = HasEachSend streams → IsShownInOneTrace top streams
+IsOtherwiseShown top streams (answer.Open p i) = ¬ HasEachSend streams

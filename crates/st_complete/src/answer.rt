@@ -36,9 +36,9 @@ pub enum Answer {
     Whole(Completion),
     /// None show them: the process and the index of an event, and why.
     Never(Pid, u64, Never),
-    /// Neither was found. The place is an event whose prev nobody could have sent at the choices
-    /// that were tried, or if a hidden send has that prev, its receive. If no send is hidden, acts
-    /// without a reset show the streams all the same.
+    /// Neither was found, which comes only if some receive's send is hidden. The place is an event
+    /// whose prev nobody could have sent at the choices that were tried, or if a hidden send has that
+    /// prev, its receive; and if the search named none, the first receive of a hidden send.
     Open(Pid, u64),
 }
 

@@ -7,7 +7,7 @@ ghost use Rattle.st_full.specs.Local.{IsNeedless};
 ghost use Rattle.st_plan.specs.Marks.{told_events, told_streams};
 ghost use Rattle.st_complete.specs.Completions.{marked_with, wholes_with, Completes};
 
-use crate::completion::{Completion, is_marked, marks_at};
+use crate::completion::{Completion, completion_of, is_marked, marks_at};
 use crate::flaws::{Flaw, has_flaw, has_hidden};
 use crate::writing::Candidate;
 use st_core::{Event, Pid, Sequence, Streams};
@@ -113,10 +113,5 @@ pub(crate) fn checked<const TOP: u64>(
     if !is_needless::<TOP>(alloc, &all)? {
         return Ok(None);
     }
-    let added = all.total().saturating_sub(streams.total());
-    Ok(Some(Completion {
-        streams: all,
-        told,
-        added,
-    }))
+    Ok(Some(completion_of(streams, all, told)))
 }

@@ -1,19 +1,18 @@
 //! The search for a completion.
 
-ghost use Rattle.std.specs.Prelude.{◌≡◌, ℕ, ◌≤◌, IfNone, IfOk, IfSome, None, Some, length};
-ghost use Rattle.std.specs.Option.{ForSome};
-ghost use Rattle.st_core.specs.Streams.{IsStreams};
+ghost use Rattle.std.specs.Prelude.{◌≡◌, ◌≤◌, true, IfOk, IsSome, None, length};
 ghost use Rattle.st_pair.specs.Links.{IsPairing};
 ghost use Rattle.st_pair.specs.Pairing.{refusal, IsPairFault};
+ghost use Rattle.st_pair.specs.Places.{event_at};
 ghost use Rattle.st_full.specs.Needs.{is_late, HoldsOfNone};
-ghost use Rattle.st_full.specs.Supply.{IsSupplied};
-ghost use Rattle.st_complete.specs.Answers.{is_too_high, HoldsThere, IsAnswer, IsNeverFinal, IsOtherwiseShown};
-ghost use Rattle.st_complete.specs.Answers.{IsRooted, IsUnsent};
+ghost use Rattle.st_complete.specs.Answers.{is_too_high, HidesSend, HoldsThere, IsAnswer, IsNeverFinal};
+ghost use Rattle.st_complete.specs.Answers.{IsOtherwiseShown, IsRooted};
 ghost use Rattle.st_complete.specs.Flaws.{HidesNone, LastHigher};
 
 use crate::answer::{Answer, CompleteFault, Never};
 use crate::checking::checked;
-use crate::flaws::{Flaw, find_flaw, has_hidden};
+use crate::constructing::construct;
+use crate::flaws::{Flaw, find_flaw, find_hidden};
 use crate::searching::{Found, search};
 use crate::supplying::{find_unsent, is_unsent};
 use crate::writing::Candidate;
@@ -23,7 +22,7 @@ use st_full::laws::{
     shown_streams_have_nothing_against_them,
 };
 use st_pair::{PairFault, Pairing, pair};
-use std::alloc::{AllocError, Global};
+use std::alloc::Global;
 
 /// The refusal of pairing as a reason.
 fn refused<const TOP: u64>(streams: &Streams, fault: PairFault) -> Result<Answer, CompleteFault>
@@ -78,67 +77,54 @@ fn late<const TOP: u64>(streams: &Streams, pid: Pid, index: u64) -> Answer
     Answer::Never(pid, index, Never::Late(higher as u64))
 }
 
-/// `Open` at the place of an event.
-fn open<const TOP: u64>(streams: &Streams, pid: Pid, index: u64) -> Option<Answer>
-    requires rooted { IsRooted streams.now }
-    requires within { HoldsOfNone (is_too_high TOP) streams.now }
-    requires supplied { HidesNone streams.now → (v : ℕ) → IsSupplied streams.now v }
-    ensures { IfSome result (IsAnswer TOP streams.now) }
+/// Whether the event is there.
+fn is_there(streams: &Streams, pid: Pid, index: u64) -> bool
+    ensures { result ≡ true → IsSome (event_at streams.now pid index) }
 {
-    match streams.event(pid, index) {
-        None => None,
-        Some(_) => Some(Answer::Open(pid, index)),
-    }
+    streams.event(pid, index).is_some()
 }
 
-/// The place of the first event.
-fn first_place(streams: &Streams) -> Option<(Pid, u64)> {
-    for &pid in streams.pids() {
-        if !streams.events(pid).is_empty() {
-            return Some((pid, 0));
-        }
-    }
-    None
-}
-
-/// `Open` at the place that the search named, or if it named none, at the first event.
+/// `Open` at the place that the search named, or if it named none, at this receive.
 fn open_at<const TOP: u64>(
     streams: &Streams,
     place: Option<(Pid, u64)>,
+    receive: (Pid, u64),
+) -> Answer
+    requires hidden { HidesSend streams.now }
+    requires rooted { IsRooted streams.now }
+    requires within { HoldsOfNone (is_too_high TOP) streams.now }
+    requires there { IsSome (event_at streams.now receive.0 receive.1) }
+    ensures { IsAnswer TOP streams.now result }
+{
+    if let Some((pid, index)) = place {
+        if is_there(streams, pid, index) {
+            return Answer::Open(pid, index);
+        }
+    }
+    Answer::Open(receive.0, receive.1)
+}
+
+/// What is said if no send is hidden: a reason, or a completion by its definition.
+pub(crate) fn decide_without_hidden<const TOP: u64>(
+    alloc: Global,
+    streams: &Streams,
 ) -> Result<Answer, CompleteFault>
     requires rooted { IsRooted streams.now }
     requires within { HoldsOfNone (is_too_high TOP) streams.now }
-    requires supplied { HidesNone streams.now → (v : ℕ) → IsSupplied streams.now v }
+    requires none { HidesNone streams.now }
     ensures { IfOk result (IsAnswer TOP streams.now) }
 {
-    let Some((pid, index)) = place.or(first_place(streams)) else {
-        return Err(CompleteFault::Memory);
-    };
-    match open::<TOP>(streams, pid, index) {
-        None => Err(CompleteFault::Memory),
-        Some(answer) => Ok(answer),
+    match find_unsent(alloc, streams) {
+        Err(_) => Err(CompleteFault::Memory),
+        Ok(Some((pid, index))) => Ok(Answer::Never(pid, index, Never::Unsent)),
+        Ok(None) => match construct::<TOP>(alloc, streams) {
+            Err(_) => Err(CompleteFault::Memory),
+            Ok(completion) => Ok(Answer::Whole(completion)),
+        },
     }
 }
 
-/// If no send is hidden, the first event that needs a message of which there are too few.
-fn unsent(
-    alloc: Global,
-    streams: &Streams,
-    pairing: &Pairing,
-) -> Result<Option<(Pid, u64)>, AllocError>
-    requires { IsPairing streams.now pairing.now }
-    ensures some { IfOk result (λ found. ForSome found (λ at. IsUnsent streams.now at.0 at.1)) }
-    ensures none { IfOk result (λ found. IfNone found
-        (HidesNone streams.now → (v : ℕ) → IsSupplied streams.now v)) }
-{
-    let hidden = has_hidden(streams, pairing);
-    if hidden {
-        return Ok(None);
-    }
-    find_unsent(alloc, streams)
-}
-
-/// What is said if the search found no completion: a reason, if there is one and no send is hidden.
+/// What is said if the search found no completion: if no send is hidden, a reason or a completion.
 fn unfound<const TOP: u64>(
     alloc: Global,
     streams: &Streams,
@@ -150,10 +136,9 @@ fn unfound<const TOP: u64>(
     requires paired { IsPairing streams.now pairing.now }
     ensures { IfOk result (IsAnswer TOP streams.now) }
 {
-    match unsent(alloc, streams, pairing) {
-        Err(_) => Err(CompleteFault::Memory),
-        Ok(Some((pid, index))) => Ok(Answer::Never(pid, index, Never::Unsent)),
-        Ok(None) => open_at::<TOP>(streams, place),
+    match find_hidden(streams, pairing) {
+        None => decide_without_hidden::<TOP>(alloc, streams),
+        Some(receive) => Ok(open_at::<TOP>(streams, place, receive)),
     }
 }
 
@@ -250,9 +235,9 @@ fn answered<const TOP: u64>(alloc: Global, streams: &Streams) -> Result<Answer, 
     }
 }
 
-/// A completion of the streams, or an event and the reason why they have none; or `Open` if neither
-/// is found. If no receive's send is hidden, acts without a reset show the streams exactly if the
-/// result isn't a `Never`. The same streams always get the same result.
+/// A completion of the streams, or an event and the reason why they have none. If no receive's send is
+/// hidden, it is one of the two; else it may be `Open`, if neither is found. The same streams always
+/// get the same result.
 pub fn complete<const TOP: u64>(alloc: Global, streams: &Streams) -> Result<Answer, CompleteFault>
     ensures answer { IfOk result (IsAnswer TOP streams.now) }
     ensures ruled_out { IfOk result (IsNeverFinal TOP streams.now) }

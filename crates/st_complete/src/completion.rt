@@ -3,8 +3,8 @@
 ghost use Rattle.std.specs.Prelude.{◌≡◌, length, option_map, slice_get, List, get_or, false, []};
 ghost use Rattle.st_core.specs.declared.types.Event.{Event as EventValue};
 ghost use Rattle.st_full.specs.Needs.{marked_of};
-ghost use Rattle.st_plan.specs.Marks.{all_streams, marks_of};
-ghost use Rattle.st_complete.specs.Completions.{added_in, marked_with};
+ghost use Rattle.st_plan.specs.Marks.{all_streams, marks_of, told_streams};
+ghost use Rattle.st_complete.specs.Completions.{added_in, marked_with, wholes_with};
 
 use st_core::{Pid, Sequence, Streams};
 use st_plan::Tells;
@@ -31,6 +31,23 @@ impl Model for Completion {
     ghost view = { λ a. wholes_with a.streams a.told.items };
 
     ghost invariant = { λ a. a.added ≡ added_in (wholes_with a.streams a.told.items) };
+}
+
+/// The completion of streams that has these events and marks: what it has more is untold.
+pub(crate) fn completion_of(
+    streams: &Streams,
+    all: Streams,
+    lists: Vec<Sequence<bool>>,
+) -> Completion
+    requires { told_streams (wholes_with all lists.items) ≡ streams.now }
+    ensures { result ≡ wholes_with all lists.items }
+{
+    let added = all.total().saturating_sub(streams.total());
+    Completion {
+        streams: all,
+        told: lists,
+        added,
+    }
 }
 
 /// The marks of the process at this place.

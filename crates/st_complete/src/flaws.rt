@@ -1,14 +1,15 @@
 //! What may be wrong with an event after those of its process before it, and the first event with
 //! such a flaw.
 
-ghost use Rattle.std.specs.Prelude.{◌≡◌, [], ◌∷◌, ◌++◌, false, true, List, IfNone, IfSome};
+ghost use Rattle.std.specs.Prelude.{◌≡◌, [], ◌∷◌, ◌++◌, false, List, IfNone, IfSome, IsSome};
 ghost use Rattle.st_core.specs.declared.types.Event.{Event as EventValue};
 ghost use Rattle.st_core.specs.Streams.{events_of};
 ghost use Rattle.st_pair.specs.Links.{IsPairing};
-ghost use Rattle.st_pair.specs.Places.{first, first_from, is_stamp};
-ghost use Rattle.st_core.specs.Laws.{prev_after};
+ghost use Rattle.st_pair.specs.Places.{event_at, first, first_from, is_stamp};
+ghost use Rattle.st_core.specs.Laws.{greatest_count, prev_after};
+ghost use Rattle.st_full.specs.Completion.{begins};
 ghost use Rattle.st_full.specs.Needs.{HoldsOfNone};
-ghost use Rattle.st_complete.specs.Answers.{HoldsThere};
+ghost use Rattle.st_complete.specs.Answers.{HidesSend, HoldsThere};
 ghost use Rattle.st_complete.specs.Flaws.{HidesNone};
 ghost use Rattle.st_complete.specs.Flaws.{flawed, hides, is_hidden_in, left_by, place_where, test_of};
 
@@ -107,6 +108,17 @@ impl Left {
     {
         is_stamp(event) && (event.serial.prev != self.prev && event.serial.prev < self.greatest)
     }
+
+    /// Whether the next event begins a trace below this count: its prev is another than what is left,
+    /// at least the greatest count and less than this.
+    pub(crate) fn begins(self, event: &Event, count: u64) -> bool
+        ensures { (es : List EventValue) → self ≡ left_by es
+            → result ≡ begins count (greatest_count es) (prev_after es) event.now }
+    {
+        is_stamp(event)
+            && (event.serial.prev != self.prev
+                && (event.serial.prev >= self.greatest && event.serial.prev < count))
+    }
 }
 
 /// The first of these events with the flaw.
@@ -189,15 +201,24 @@ pub(crate) fn has_flaw(streams: &Streams, flaw: Flaw) -> bool
     }
 }
 
-/// Whether the send of a receive is hidden.
-pub(crate) fn has_hidden(streams: &Streams, pairing: &Pairing) -> bool
+/// The least place of a receive whose send is hidden.
+pub(crate) fn find_hidden(streams: &Streams, pairing: &Pairing) -> Option<(Pid, u64)>
     requires { IsPairing streams.now pairing.now }
-    ensures none { result ≡ false → HidesNone streams.now }
-    ensures some { result ≡ true → ¬ HidesNone streams.now }
+    ensures none { IfNone result (HidesNone streams.now) }
+    ensures some { IfSome result (λ at. HidesSend streams.now) }
+    ensures there { IfSome result (λ at. IsSome (event_at streams.now at.0 at.1)) }
 {
     let _pids = streams.pids();
     match first_hidden(streams, pairing) {
-        None => false,
-        Some(_) => true,
+        None => None,
+        Some(place) => Some(place),
     }
+}
+
+/// Whether the send of a receive is hidden.
+pub(crate) fn has_hidden(streams: &Streams, pairing: &Pairing) -> bool
+    requires { IsPairing streams.now pairing.now }
+    ensures { result ≡ false → HidesNone streams.now }
+{
+    find_hidden(streams, pairing).is_some()
 }

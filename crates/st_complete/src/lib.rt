@@ -10,13 +10,17 @@ mod certifying;
 mod checking;
 mod completing;
 mod completion;
+mod constructing;
 mod feeding;
 mod flaws;
 mod placing;
 mod prices;
 mod renumbering;
 mod searching;
+mod supplies;
 mod supplying;
+#[cfg(test)]
+mod tests;
 mod writing;
 
 pub use answer::{Answer, Certificate, CertificateFault, CompleteFault, Never};

@@ -35,7 +35,7 @@ fn all_counts(alloc: Global, streams: &Streams) -> Result<Vec<u64>, AllocError>
 }
 
 /// 0 and all counts, each once, by rising count.
-fn counts_of(alloc: Global, streams: &Streams) -> Result<Vec<u64>, AllocError>
+pub(crate) fn counts_of(alloc: Global, streams: &Streams) -> Result<Vec<u64>, AllocError>
     ensures is { IfOk result (λ counts. counts.items ≡ counts_of streams.now) }
     ensures rises { IfOk result (λ counts. IsNonDecreasing counts.items) }
 {
@@ -71,7 +71,7 @@ fn renumbered_event(counts: &[u64], event: &Event) -> Event
 }
 
 /// Lists a process that comes last.
-fn open_last(draft: &mut Draft, pid: Pid) -> Result<(), AllocError>
+pub(crate) fn open_last(draft: &mut Draft, pid: Pid) -> Result<(), AllocError>
     requires { ComesLast draft.old pid }
     ensures { OnOk result (draft.new ≡ draft.old ++ ranked [] pid [] ∷ []) }
 {
@@ -83,7 +83,7 @@ fn open_last(draft: &mut Draft, pid: Pid) -> Result<(), AllocError>
 }
 
 /// Adds an event of a listed process.
-fn add_own(draft: &mut Draft, pid: Pid, event: Event) -> Result<(), AllocError>
+pub(crate) fn add_own(draft: &mut Draft, pid: Pid, event: Event) -> Result<(), AllocError>
     requires listed { lists draft.old pid ≡ true }
     requires own { is_own pid event ≡ true }
     ensures { OnOk result (draft.new ≡ added draft.old pid event) }
@@ -116,7 +116,7 @@ fn add_renumbered(
 }
 
 /// The streams of a draft in which every pid is listed.
-fn closed(draft: Draft) -> Streams
+pub(crate) fn closed(draft: Draft) -> Streams
     requires { unlisted draft ≡ None }
     ensures { result ≡ draft }
 {

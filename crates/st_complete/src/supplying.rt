@@ -43,14 +43,14 @@ fn is_send_to(event: &Event, pid: Pid) -> bool
 }
 
 /// Whether nothing is told.
-fn is_unused(told: &Told) -> bool
+pub(crate) fn is_unused(told: &Told) -> bool
     ensures { result ≡ is_unused told.now }
 {
     !told.received && told.stamp.is_none()
 }
 
 /// Whether a send to the process is told, and no receive of it.
-fn is_untaken(told: &Told, pid: Pid) -> bool
+pub(crate) fn is_untaken(told: &Told, pid: Pid) -> bool
     ensures { result ≡ is_untaken pid told.now }
 {
     match &told.stamp {
@@ -81,7 +81,7 @@ fn stamps(event: &Event, count: u64) -> bool
 }
 
 /// The first send or print of this count.
-fn stamp_in(events: &[Event], count: u64) -> Option<Event>
+pub(crate) fn stamp_in(events: &[Event], count: u64) -> Option<Event>
     ensures { result ≡ find (λ e. is_stamp e && e.serial.this == count) events.now }
 {
     for event in events {
@@ -134,7 +134,11 @@ fn told_of(streams: &Streams, found: &[Pid], pid: Pid, count: u64) -> Told
 }
 
 /// What is told of each process's count.
-fn all_told(alloc: Global, streams: &Streams, count: u64) -> Result<Vec<Told>, AllocError>
+pub(crate) fn all_told(
+    alloc: Global,
+    streams: &Streams,
+    count: u64,
+) -> Result<Vec<Told>, AllocError>
     ensures { IfOk result (λ all. all.items ≡ map (told_of streams.now count) (pids_of streams.now)) }
 {
     let found = senders_of(alloc, streams, count)?;

@@ -1,5 +1,0 @@
--- The event that is named is unsent.
-use Rattle.st_complete.proofs.completing.unfound.Goals as goal
-
-pub returns-in-Ok-Some : goal.returns-in-Ok-Some
-returns-in-Ok-Some g c = (c.requires.rooted, c.in-Ok-Some.ensures.some _ c.in-Ok-Some.field-0-is)
