@@ -27,7 +27,7 @@ Status 1: `never PID I WORD` and the events that it names; `open PID I`, undecid
 Status 5, with --as acts: `long`, there is a run, of more acts than the reader takes.";
 
 pub(crate) const RENUMBER: &str =
-    "Writes the streams with each count replaced by its rank; they have a run just if the given ones have";
+    "Writes the streams with each count replaced by its rank; if these have a run, so have the given ones";
 
 pub(crate) const RENUMBER_EXAMPLE: &str =
     "Example, for a tracer that came on when the clocks were high:
