@@ -1,6 +1,6 @@
 //! The program `seqtool`: what a person needs beside the exact `seqaudit`.
 //!
-//! It only joins `st_tool`, which says what each command writes and returns, to the outside.
+//! It only joins `st_words`, which says what each command writes and returns, to the outside.
 #![tactic(auto)]
 
 ghost use Rattle.std.specs.Prelude.{◌≡◌, MatchResult};
@@ -8,7 +8,8 @@ ghost use Rattle.std.specs.Prelude.{◌≡◌, MatchResult};
 use clap::Error;
 use clap::error::ErrorKind;
 use st_core::{ByteSink, ByteSource, ReadFrom, WriteTo};
-use st_tool::{Request, read_words, run, tell_no_device, tell_no_memory};
+use st_tool::{tell_no_device, tell_no_memory};
+use st_words::{Request, read_words, run};
 use std::process::ExitCode;
 use std::rt::Files;
 use std::thread::Threads;

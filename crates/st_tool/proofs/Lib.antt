@@ -3,5 +3,3 @@ pub mod Telling
 pub mod Rooms
 pub mod Backs
 pub mod Completions
-pub mod Numbers
-pub mod Templates

@@ -20,7 +20,7 @@ use Rattle.st_core.specs.declared.types.Pid.{Pid}
 use Rattle.st_pair.specs.Pairing.{refusal}
 use Rattle.st_tool.specs.Why.{ArePaired, IsWhy, Traced, Lacking, Unpaired, traced, no_event}
 use Rattle.st_tool.specs.Renumber.{IsRenumbered, Ranked, streams_output}
-use Rattle.st_tool.specs.declared.words.Form.{Form}
+use Rattle.st_tool.specs.declared.complete.Form.{Form}
 use Rattle.st_tool.specs.Complete.{IsCompleted, Answered}
 use Rattle.st_tool.specs.Parts.{CompletesTo, Finds, NoRoomToComplete}
 use Rattle.st_tool.specs.Parts.{TracesTo, OfBack, OfNoEvent, OfReason, NoRoomToTrace}

@@ -25,8 +25,8 @@ use Rattle.st_chart.specs.Report.{event_line, event_words}
 use Rattle.st_commands.specs.Output.{Output, refused}
 use Rattle.st_commands.specs.Checked.{top, Spells}
 use Rattle.st_commands.specs.Parts.{bundled}
-use Rattle.st_tool.specs.declared.words.Form.{Form}
-use Rattle.st_tool.specs.declared.words.Form.TheVariants as form
+use Rattle.st_tool.specs.declared.complete.Form.{Form}
+use Rattle.st_tool.specs.declared.complete.Form.TheVariants as form
 use Rattle.st_tool.specs.Renumber.{streams_output}
 
 -- ---- the added events

@@ -3,9 +3,6 @@ pub mod Begun
 pub mod Why
 pub mod Renumber
 pub mod Complete
-pub mod Command
--- What the column of `lint` is.
-pub mod Longest
 -- For the contracts of the functions that a command is made of.
 pub mod Lines
 pub mod Parts

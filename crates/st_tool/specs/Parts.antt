@@ -15,7 +15,7 @@ use Rattle.st_commands.specs.Output.{Output, no_memory}
 use Rattle.st_commands.specs.Audited.{report_output}
 use Rattle.st_tool.specs.Why.{traced, no_event}
 use Rattle.st_tool.specs.Renumber.{streams_output}
-use Rattle.st_tool.specs.declared.words.Form.{Form}
+use Rattle.st_tool.specs.declared.complete.Form.{Form}
 use Rattle.st_tool.specs.Complete.{Answers}
 use Rattle.st_complete.specs.declared.answer.Answer.{Answer}
 use Rattle.st_complete.specs.Answers.{IsAnswer, IsNeverFinal}

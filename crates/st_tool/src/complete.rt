@@ -9,7 +9,6 @@ ghost use Rattle.st_tool.specs.Parts.{CompletesTo};
 use crate::answer::{status_of, tell_bundle, tell_fault, tell_line, tell_streams};
 use crate::completion_lines::{send_added, send_never, send_open};
 use crate::lines::OutputLine;
-use crate::words::Form;
 use st_complete::{Answer, CertificateFault, CompleteFault, Completion, certificate, complete};
 use st_core::{ByteSink, ByteSource, Streams};
 use st_text::{ReadFault, read};
@@ -21,6 +20,17 @@ const TOP: u64 = u64::MAX;
 
 /// The most acts that the reader takes.
 const MOST_ACTS: u64 = 4_000_000;
+
+/// How a completion is written.
+#[derive(Clone, Copy, Debug, PartialEq, Eq)]
+pub enum Form {
+    /// A bundle of the streams that were read with acts that show them.
+    Acts,
+    /// A bundle of the completed streams.
+    Streams,
+    /// The events that were added, a line each.
+    Added,
+}
 
 /// Writes streams with acts that show them, which come from their completion.
 fn tell_acts<H: Threads + Sync, W: ByteSink>(

@@ -2,8 +2,8 @@
 //!
 //! The reader says which line and which of its refusals; the scan says the column. Lines and columns count from 1.
 
-use crate::column::column_below;
-use crate::scan::{Above, Expected, Place, Scan, Sort, common, rising_bytes};
+use crate::scan::{Expected, Place, Scan, Sort, common, rising_bytes};
+use st_column::{Above, column_below};
 use st_text::ReadFault;
 
 /// What could stand at the column.
@@ -40,6 +40,8 @@ pub(crate) struct Diagnosis<'a> {
 #[derive(Clone, Copy, Debug)]
 struct Context<'a> {
     above: Above,
+    /// The header lets pids of other nodes in.
+    wide: bool,
     /// The pid of the last process line.
     last: &'a [u8],
 }
@@ -49,6 +51,7 @@ impl<'a> Context<'a> {
     fn pass(&mut self, line: &'a [u8]) {
         if self.above == Above::Nothing {
             self.above = Above::Header;
+            self.wide = line == b"seqtrace 2".as_slice();
         } else if let Some(pid) = line.strip_prefix(b"process ".as_slice()) {
             self.above = Above::Process;
             self.last = pid;
@@ -68,6 +71,7 @@ fn between(bytes: &[u8], start: usize, end: usize) -> &[u8] {
 fn line_at(bytes: &[u8], number: u64) -> (&[u8], Context<'_>) {
     let mut context = Context {
         above: Above::Nothing,
+        wide: false,
         last: b"".as_slice(),
     };
     let mut n: u64 = 1;
@@ -161,23 +165,22 @@ fn remedy_of_place(line: &[u8], above: Above, expected: Expected) -> &'static st
     }
 }
 
-/// The first pid of these that isn't on node 0.
-fn first_away(line: &[u8], pids: &[Place]) -> Option<usize> {
-    for place in pids {
-        let node = place.start.saturating_add(1);
-        if line.get(node).copied() != Some(b'0') {
-            return Some(node);
-        }
-    }
-    None
-}
-
-/// What is wrong with a line that none of the grammar's lines is, or that may not stand where it does.
+/// What is wrong with a line that none of the grammar's lines is, or that may not stand where it does. If more of it is
+/// right by its form alone, it names a pid of a node that the header doesn't let in.
 fn wrong_line(bytes: &[u8], number: u64) -> Diagnosis<'_> {
     let (line, context) = line_at(bytes, number);
     let mut scan = Scan::new(line);
     let found = scan.whole(context.above);
-    let column = column_below(context.above, line);
+    let column = column_below(context.above, context.wide, line);
+    if column < scan.at() {
+        return Diagnosis {
+            number,
+            line,
+            column,
+            wanted: Wanted::Words("node 0 under seqtrace 1"),
+            remedy: "a bundle that names a pid of another node begins with seqtrace 2",
+        };
+    }
     match found {
         Err(expected) => Diagnosis {
             number,
@@ -186,19 +189,12 @@ fn wrong_line(bytes: &[u8], number: u64) -> Diagnosis<'_> {
             wanted: Wanted::Grammar(expected),
             remedy: remedy_of(line, column, context.above, expected),
         },
-        Ok(Sort::Header) => Diagnosis {
+        Ok(_) => Diagnosis {
             number,
             line,
             column: line.len().saturating_sub(1),
             wanted: Wanted::Words("1"),
             remedy: "no pid of a node other than 0 is named, so the header is seqtrace 1",
-        },
-        Ok(_) => Diagnosis {
-            number,
-            line,
-            column: first_away(line, scan.pids()).unwrap_or(0),
-            wanted: Wanted::Words("node 0 under seqtrace 1"),
-            remedy: "a bundle that names a pid of another node begins with seqtrace 2",
         },
     }
 }

@@ -4,6 +4,7 @@
 //! column is that of the first byte at which no line of the grammar goes on.
 
 use arrayvec::ArrayVec;
+use st_column::Above;
 
 /// What could stand at the first byte at which no line goes on.
 #[derive(Clone, Copy, Debug, PartialEq, Eq)]
@@ -18,19 +19,6 @@ pub(crate) enum Expected {
     NoLeadingZero,
     /// The end of the line.
     End,
-}
-
-/// What stands above a line.
-#[derive(Clone, Copy, Debug, PartialEq, Eq)]
-pub(crate) enum Above {
-    /// Nothing.
-    Nothing,
-    /// The header and no process.
-    Header,
-    /// A process, and maybe events.
-    Process,
-    /// The word `acts`.
-    Acts,
 }
 
 /// A pid of a line, by the columns where it begins and ends, counted from 0.

@@ -1,0 +1,34 @@
+-- What each command does to its reader and its writer.
+use Rattle.std.specs.Prelude.{ℕ, Bool, List}
+use Rattle.st_commands.specs.Output.{Output}
+use Rattle.st_commands.specs.Command.{Owes, OwesWithin, Tells}
+use Rattle.st_commands.specs.Checked.{IsCheckedWithin}
+use Rattle.st_commands.specs.Audited.{IsAuditedWithin}
+use Rattle.st_text.specs.Limits.{greater}
+use Rattle.st_words.specs.declared.words.Task.{Task}
+use Rattle.st_words.specs.declared.words.Task.TheVariants as task
+use Rattle.st_tool.specs.Complete.{IsCompleted}
+use Rattle.st_tool.specs.Renumber.{IsRenumbered}
+use Rattle.st_tool.specs.Why.{IsWhy}
+
+module _ {R W : Type 0} (gives : R → List ℕ → R → Type 0) (ended : R → Type 0) (read_failed : R → Bool) (reader read : R)
+    (puts : W → List ℕ → W → Type 0) (write_failed : W → Bool) (writer written : W) where
+  -- it read all bytes, and wrote the output that it owes of them
+  abbrev TellsOf : (List ℕ → Output → Type 0) → ℕ → Type 0
+  TellsOf IsOutput status =
+      Tells puts write_failed writer written (Owes gives ended read_failed reader read IsOutput) status
+
+  -- the same within the greater limits
+  abbrev TellsOfGreater : (List ℕ → Output → Type 0) → ℕ → Type 0
+  TellsOfGreater IsOutput status =
+      Tells puts write_failed writer written (OwesWithin greater gives ended read_failed reader read IsOutput) status
+
+  -- what each command does; of the words of `lint` and `explain` nothing is claimed
+  abbrev pub Does : Task → ℕ → Type 0
+  Does (task.Why p i) status = TellsOf (IsWhy p i) status
+  Does (task.Complete form) status = TellsOf (IsCompleted form) status
+  Does task.Renumber status = TellsOf IsRenumbered status
+  Does task.Check status = TellsOfGreater (IsCheckedWithin greater) status
+  Does task.Audit status = TellsOfGreater (IsAuditedWithin greater) status
+  Does task.Lint status = Unit {0}
+  Does task.Explain status = Unit {0}

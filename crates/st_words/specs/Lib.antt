@@ -1,0 +1,2 @@
+-- What public contracts cite: what each command owes.
+pub mod Command

@@ -1,0 +1,11 @@
+//! The command line of `seqtool`: `read_words` says what it asks for, and `run` does it.
+//!
+//! It stands apart from the commands, which know nothing of `clap`.
+#![tactic(auto)]
+
+mod help;
+mod program;
+mod words;
+
+pub use program::run;
+pub use words::{Request, Task, read_words};

@@ -1,0 +1,30 @@
+//! A run of the program: a command on a reader and a writer.
+
+ghost use Rattle.st_words.specs.Command.{Does};
+
+use crate::words::Task;
+use st_commands::{run_audit_within, run_check_within};
+use st_core::{ByteSink, ByteSource};
+use st_text::Limits;
+use st_tool::{run_complete, run_explain, run_lint, run_renumber, run_why};
+use std::thread::Threads;
+
+/// Does what the task asks for, and returns the exit status.
+pub fn run<H: AllocGlobal + Threads + Sync, R: ByteSource, W: ByteSink>(
+    rt: &H,
+    task: Task,
+    reader: &mut R,
+    writer: &mut W,
+) -> u8
+    ensures { Does R.gives R.ended R.failed reader.old reader.new W.puts W.failed writer.old writer.new task result }
+{
+    match task {
+        Task::Complete(form) => run_complete(rt, rt.alloc(), reader, writer, form),
+        Task::Renumber => run_renumber(rt.alloc(), reader, writer),
+        Task::Lint => run_lint(rt.alloc(), reader, writer),
+        Task::Explain => run_explain(rt.alloc(), reader, writer),
+        Task::Why(pid, index) => run_why(rt.alloc(), reader, writer, pid, index),
+        Task::Check => run_check_within(rt.alloc(), reader, writer, Limits::GREATER),
+        Task::Audit => run_audit_within(rt, rt.alloc(), reader, writer, Limits::GREATER),
+    }
+}
