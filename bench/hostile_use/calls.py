@@ -13,7 +13,7 @@ from .shim import SAID
 
 CRATES = Path(__file__).parents[2] / "crates"
 # A call answers want of memory or is right, and is right when it is asked again. The other tests want memory.
-HOLDS = re.compile(r"refused_growth|without_memory|machine::refused::|reads::|^(driver|join|pcb|system)::tests::")
+HOLDS = re.compile(r"refused_growth|without_memory|machine::refused::|reads::|^runtime::")
 # Twenty drives, of which another test makes one; counts of what a gate was told, to which an act adds when it is asked
 # again; and a sink that itself refuses.
 BUT = re.compile(r"four_busy_scripts|a_gate_is_told|a_sink_without_memory")

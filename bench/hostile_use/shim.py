@@ -21,9 +21,10 @@ def build(folder):
     return library
 
 
-def run(program, library, words, given, **faults):
-    """The answer under these faults, and whether one came; what the library says of it isn't part of the answer."""
+def run(program, library, words, given, seconds=30, **faults):
+    """The answer under these faults within so many seconds, and whether one came; what the library says of it isn't
+    part of the answer."""
     env = {"LD_PRELOAD": library} | {name.upper(): str(value) for name, value in faults.items()}
-    got = program.run(words, given, env=env)
+    got = program.run(words, given, env=env, seconds=seconds)
     came = got.complaint.startswith(SAID)
     return Answer(got.status, got.output, got.complaint.removeprefix(SAID)), came

@@ -190,7 +190,8 @@ fn write_verdict<W: ByteSink>(
     }
 }
 
-/// Writes one line to the writer.
+/// Writes one line to the writer. Not inlined, so that its buffer isn't on the stack of its callers.
+#[inline(never)]
 pub(crate) fn send_line<W: ByteSink>(writer: &mut W, line: OutputLine) -> Result<(), Device>
     ensures { WritesText W.puts W.failed (text_of line) writer.old writer.new result }
 {
@@ -199,7 +200,8 @@ pub(crate) fn send_line<W: ByteSink>(writer: &mut W, line: OutputLine) -> Result
     flush(writer, &mut buffer)
 }
 
-/// Writes a verdict to the writer.
+/// Writes a verdict to the writer. Not inlined, for the same reason.
+#[inline(never)]
 pub(crate) fn send_verdict<W: ByteSink>(writer: &mut W, verdict: &Verdict) -> Result<(), Device>
     ensures { WritesText W.puts W.failed (verdict_text (verdict_of verdict.now)) writer.old writer.new result }
 {

@@ -39,8 +39,9 @@ pub fn drive<const TOP: u64, const RANKS: u64, R: Threads + Wait + Sync, G: Gate
     drive_on::<TOP, RANKS, R, G>(rt, alloc, pids, scripts, gate, WORKER_STACK)
 }
 
-/// The same, each thread with a stack of so many bytes.
-fn drive_on<const TOP: u64, const RANKS: u64, R: Threads + Wait + Sync, G: Gate + Sync>(
+/// The same, each thread with a stack of so many bytes. An act of a whole node takes up to two kilobytes of it
+/// for each process of the node (`System::act`), and a thread whose stack is too small ends the program.
+pub fn drive_on<const TOP: u64, const RANKS: u64, R: Threads + Wait + Sync, G: Gate + Sync>(
     rt: &R,
     alloc: Global,
     pids: &[Pid],
@@ -155,6 +156,3 @@ fn seats_of(alloc: Global, ends: Vec<Ending>) -> Result<Vec<Seat>, AllocError>
     }
     Ok(seats)
 }
-
-#[cfg(test)]
-mod tests;

@@ -152,6 +152,3 @@ fn run_by_threads<const TOP: u64, const RANKS: u64, R: Threads + Sync>(
         replies: Sequence::from_vec(replies),
     })
 }
-
-#[cfg(test)]
-mod tests;

@@ -14,10 +14,9 @@ mod join;
 pub mod laws;
 mod pcb;
 mod system;
-#[cfg(test)]
-mod trial;
 
-pub use driver::drive;
+pub use driver::worker::WORKER_STACK;
+pub use driver::{drive, drive_on};
 pub use fault::{ActFault, DriveFault, JoinFault, OpenFault, PcbFault};
 pub use join::join_pieces;
 pub use join::record::Record;

@@ -109,7 +109,7 @@ impl<const TOP: u64, const RANKS: u64> Pcb<TOP, RANKS> {
     }
 
     /// The greatest rank in its log, 0 if that is empty.
-    pub(crate) fn last_rank(&self) -> u64
+    pub fn last_rank(&self) -> u64
         ensures value { result ≡ last_rank 0 self.now.log }
         ensures within { result ≤ RANKS }
     {
@@ -321,6 +321,3 @@ impl<const TOP: u64, const RANKS: u64> Pcb<TOP, RANKS> {
         Ok(told.reply)
     }
 }
-
-#[cfg(test)]
-mod tests;

@@ -440,6 +440,3 @@ fn take_processes<const TOP: u64, const RANKS: u64>(
     }
     all
 }
-
-#[cfg(test)]
-mod tests;

@@ -1,4 +1,4 @@
-//! Tests of all crates but for those of the runtime that use what is private, which stand beside its code.
+//! Tests of all crates that stand below the programs.
 //!
 //! They stand in a crate of their own: a crate that has tests is proved twice, with and without them.
 //!
@@ -17,6 +17,7 @@
 //! | `audits` | `st_audit` |
 //! | `completes` | `st_complete` |
 //! | `charts` | `st_chart`: charts and reports |
+//! | `runtime` | `st_runtime`: its calls; refusals, and if memory runs out |
 //! | `runs` | `st_runtime`: threads that meet, and records of driven scripts |
 //! | `commands` | `st_commands`: whole commands, byte for byte |
 //! | `sizes` | all: calls with 100,000 of what they take |
@@ -57,6 +58,8 @@ mod plans;
 mod reads;
 #[cfg(test)]
 mod runs;
+#[cfg(test)]
+mod runtime;
 #[cfg(test)]
 mod sizes;
 #[cfg(test)]

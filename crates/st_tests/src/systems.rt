@@ -41,7 +41,7 @@ fn make_many<R: Wait + Abort>(
 }
 
 /// The pieces of a system and its seats.
-fn gathered<R: Abort>(
+fn pieces_of<R: Abort>(
     rt: &R,
     system: Great,
     seats: Vec<Seat>,
@@ -60,7 +60,7 @@ fn a_hundred_thousand_acts_of_one_process_are_joined(rt: HostRuntime) -> Result<
     };
     let to_itself = Act::Send(p30(), p30(), 1);
     make_many(&rt, &system, seat, &to_itself, Reply::Done, MANY);
-    let pieces = gathered(&rt, system, seats);
+    let pieces = pieces_of(&rt, system, seats);
     match join_pieces(rt.alloc(), &pieces) {
         Ok(record) => same(&rt, &record.acts.len(), &MANY),
         Err(fault) => panic!(rt; "not joined: {fault:?}"),
@@ -79,6 +79,6 @@ fn a_system_of_a_hundred_thousand_processes_is_gathered(rt: HostRuntime) -> Resu
     };
     let away = Act::Send(Pid::on(0, 0), Pid::on(1, 49_999), 1);
     make_many(&rt, &system, seat, &away, Reply::Done, 1);
-    let _pieces = gathered(&rt, system, seats);
+    let _pieces = pieces_of(&rt, system, seats);
     Ok(())
 }

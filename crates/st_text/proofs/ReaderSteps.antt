@@ -26,7 +26,7 @@ pub record IsReading (limits : Limits) {S : Type 0} (gives : S → List ℕ → 
   pub counted : count ≡ length bytes
   pub limits_are : feed.limits ≡ limits
   pub few : count ≤ limits.bytes + 1
-  pub size : length buffer ≡ 65536
+  pub size : length buffer ≡ 8192
   pub mark : failed now ≡ failed old
   pub sound : 0 < count → failed old ≡ false
   pub memory : fed_refusal feed ≡ Some faults.Memory → HadGrowth limits gives bytes old

@@ -10,7 +10,7 @@ use st_core::ByteSource;
 use std::alloc::Global;
 
 /// The most bytes that are asked for at once.
-const PIECE: u64 = 65_536;
+const PIECE: u64 = 8_192;
 
 /// The bundle whose text the source gives, in pieces, within the standard limits: see `read_within`.
 pub fn read<S: ByteSource>(alloc: Global, source: &mut S) -> Result<Bundle, ReadFault>
@@ -38,7 +38,7 @@ pub fn read_within<S: ByteSource>(
     // The feed stops counting once it fails: the source is still read to its end then, for `Device` and `TooLarge` come
     // before `Memory`.
     let mut count: u64 = 0;
-    let mut buffer = [0u8; 65_536];
+    let mut buffer = [0u8; 8_192];
     while count <= most {
         // No byte past the first one too many is asked for.
         let room = (most + 1 - count).min(PIECE) as usize;

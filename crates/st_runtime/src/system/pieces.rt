@@ -38,7 +38,7 @@ impl<const TOP: u64, const RANKS: u64> Pieces<TOP, RANKS> {
     }
 
     /// The processes, without the seats.
-    pub(crate) fn into_processes(self) -> Vec<Pcb<TOP, RANKS>>
+    pub fn into_processes(self) -> Vec<Pcb<TOP, RANKS>>
         ensures processes { result.items ≡ self.entry.processes }
         ensures rising { IsRising (pids_in result.items) }
     {

@@ -1,12 +1,9 @@
 //! Worked acts in systems, on one thread and on two.
 
-use super::System;
-use crate::driver::worker::WORKER_STACK;
-use crate::fault::ActFault;
-use crate::system::gate::{Gate, OpenGate};
-use crate::system::seat::Seat;
-use crate::trial::{acted, gathered, opened, room};
+use super::{act_at_last, gather_at_last, open_at_last, room_at_last};
+use crate::collected::{same, same_at};
 use st_core::{Act, Component, Label, Pid, Reply, Serial, Want};
+use st_runtime::{ActFault, Gate, OpenGate, Seat, System, WORKER_STACK};
 use std::process::Abort;
 use std::sync::Wait;
 use std::sync::atomic::{AtomicU64, Ordering};
@@ -27,9 +24,9 @@ fn play<const TOP: u64, const RANKS: u64, R: Wait + Abort, G: Gate>(
 ) {
     for (act, expected) in acts {
         let made = seat.mine().len();
-        assert_eq!(rt; acted(rt, gate, system, seat, act), *expected);
+        same(rt, &act_at_last(rt, gate, system, seat, act), expected);
         let kept = made.saturating_add(usize::from(expected.is_ok()));
-        assert_eq!(rt; seat.mine().len(), kept);
+        same(rt, &seat.mine().len(), &kept);
     }
 }
 
@@ -85,13 +82,14 @@ fn refused_among(me: Pid) -> [Played; 9] {
 #[test]
 fn a_gate_is_told_of_acts_under_their_lock(rt: HostRuntime) -> Result<(), Fail> {
     let me = Pid::new(30);
-    let (system, seats) = opened::<3, 9>(rt.alloc(), &[me])?;
+    let (system, seats) = open_at_last::<3, 9>(rt.alloc(), &[me])?;
     for mut seat in seats {
         let gate = Counting::new();
         play(&rt, &gate, &system, &mut seat, &refused_among(me));
-        assert_eq!(rt; gate.before.load(Ordering::SeqCst), 7);
-        assert_eq!(rt; gate.after.load(Ordering::SeqCst), 7);
-        assert_eq!(rt; gate.acts.load(Ordering::SeqCst), 1 + 2 + 3 + 4 + 5 + 6);
+        same(&rt, &gate.before.load(Ordering::SeqCst), &7);
+        same(&rt, &gate.after.load(Ordering::SeqCst), &7);
+        let told = 1 + 2 + 3 + 4 + 5 + 6;
+        same(&rt, &gate.acts.load(Ordering::SeqCst), &told);
     }
     Ok(())
 }
@@ -100,7 +98,7 @@ fn a_gate_is_told_of_acts_under_their_lock(rt: HostRuntime) -> Result<(), Fail> 
 #[test]
 fn a_gate_is_told_of_acts_of_a_node_once(rt: HostRuntime) -> Result<(), Fail> {
     let me = Pid::new(30);
-    let (system, seats) = opened::<9, 3>(rt.alloc(), &[me, Pid::new(31)])?;
+    let (system, seats) = open_at_last::<9, 3>(rt.alloc(), &[me, Pid::new(31)])?;
     let Some(mut seat) = seats.into_iter().next() else {
         panic!(rt; "no seats");
     };
@@ -114,8 +112,8 @@ fn a_gate_is_told_of_acts_of_a_node_once(rt: HostRuntime) -> Result<(), Fail> {
     for (told, played) in (1..).zip(&acts) {
         let gate = Counting::new();
         play(&rt, &gate, &system, &mut seat, &[*played]);
-        assert_eq!(rt; gate.before.load(Ordering::SeqCst), 1, "before act {told}");
-        assert_eq!(rt; gate.after.load(Ordering::SeqCst), 1, "after act {told}");
+        same_at(&rt, told, &gate.before.load(Ordering::SeqCst), &1);
+        same_at(&rt, told, &gate.after.load(Ordering::SeqCst), &1);
     }
     Ok(())
 }
@@ -124,15 +122,15 @@ fn a_gate_is_told_of_acts_of_a_node_once(rt: HostRuntime) -> Result<(), Fail> {
 #[test]
 fn refused_acts_change_nothing(rt: HostRuntime) -> Result<(), Fail> {
     let me = Pid::new(30);
-    let (system, seats) = opened::<3, 9>(rt.alloc(), &[me])?;
+    let (system, seats) = open_at_last::<3, 9>(rt.alloc(), &[me])?;
     for mut seat in seats {
         play(&rt, &OpenGate, &system, &mut seat, &refused_among(me));
-        assert_eq!(rt; seat.mine().len(), 6);
-        let looked = acted(&rt, &OpenGate, &system, &mut seat, &Act::Look(me));
+        same(&rt, &seat.mine().len(), &6);
+        let looked = act_at_last(&rt, &OpenGate, &system, &mut seat, &Act::Look(me));
         let Ok(Reply::Current(Some(token))) = looked else {
             panic!(rt; "no token");
         };
-        assert_eq!(rt; token.serial, Serial { prev: 0, this: 3 });
+        same(&rt, &token.serial, &Serial { prev: 0, this: 3 });
     }
     Ok(())
 }
@@ -141,7 +139,7 @@ fn refused_acts_change_nothing(rt: HostRuntime) -> Result<(), Fail> {
 #[test]
 fn a_full_rank_keeps_what_was_made(rt: HostRuntime) -> Result<(), Fail> {
     let me = Pid::new(30);
-    let (system, seats) = opened::<3, 3>(rt.alloc(), &[me])?;
+    let (system, seats) = open_at_last::<3, 3>(rt.alloc(), &[me])?;
     let Some(mut seat) = seats.into_iter().next() else {
         panic!(rt; "no seats");
     };
@@ -154,7 +152,7 @@ fn a_full_rank_keeps_what_was_made(rt: HostRuntime) -> Result<(), Fail> {
         &mut seat,
         &[made, made, made, full],
     );
-    assert_eq!(rt; seat.mine().len(), 3);
+    same(&rt, &seat.mine().len(), &3);
     Ok(())
 }
 
@@ -163,18 +161,22 @@ fn a_full_rank_keeps_what_was_made(rt: HostRuntime) -> Result<(), Fail> {
 fn a_reset_leaves_the_log_of_another_node(rt: HostRuntime) -> Result<(), Fail> {
     let here = Pid::on(1, 30);
     let away = Pid::on(2, 31);
-    let (system, seats) = opened::<9, 9>(rt.alloc(), &[here, away])?;
+    let (system, seats) = open_at_last::<9, 9>(rt.alloc(), &[here, away])?;
     let Some(mut seat) = seats.into_iter().next() else {
         panic!(rt; "no seats");
     };
     let send = Act::Send(here, away, 5);
     let acts = [(send, Ok(Reply::Done)), (Act::Reset(here), Ok(Reply::Done))];
     play(&rt, &OpenGate, &system, &mut seat, &acts);
-    let pieces = gathered(system, Vec::new(rt.alloc())).ok_or("not gathered")?;
-    for process in pieces.processes {
+    let pieces = gather_at_last(system, Vec::new(rt.alloc())).ok_or("not gathered")?;
+    for process in pieces.into_processes() {
         if process.pid() == away {
-            assert_eq!(rt; process.log().len(), 1);
-            assert_eq!(rt; process.log().first().map(|entry| entry.act), Some(send));
+            same(&rt, &process.log().len(), &1);
+            same(
+                &rt,
+                &process.log().first().map(|entry| entry.act),
+                &Some(send),
+            );
         }
     }
     Ok(())
@@ -186,7 +188,7 @@ fn acts_of_a_node_leave_other_nodes(rt: HostRuntime) -> Result<(), Fail> {
     let here = Pid::on(1, 30);
     let beside = Pid::on(1, 31);
     let away = Pid::on(2, 31);
-    let (system, seats) = opened::<9, 9>(rt.alloc(), &[here, beside, away])?;
+    let (system, seats) = open_at_last::<9, 9>(rt.alloc(), &[here, beside, away])?;
     for mut seat in seats {
         if seat.pid() == here {
             let acts = [
@@ -208,8 +210,8 @@ fn acts_of_a_node_leave_other_nodes(rt: HostRuntime) -> Result<(), Fail> {
             play(&rt, &OpenGate, &system, &mut seat, &[traced]);
         }
     }
-    let pieces = gathered(system, Vec::new(rt.alloc())).ok_or("not gathered")?;
-    for process in pieces.processes {
+    let pieces = gather_at_last(system, Vec::new(rt.alloc())).ok_or("not gathered")?;
+    for process in pieces.into_processes() {
         let (entries, rank) = if process.pid() == here {
             (7, 7)
         } else if process.pid() == beside {
@@ -217,8 +219,8 @@ fn acts_of_a_node_leave_other_nodes(rt: HostRuntime) -> Result<(), Fail> {
         } else {
             (2, 3)
         };
-        assert_eq!(rt; process.log().len(), entries);
-        assert_eq!(rt; process.last_rank(), rank);
+        same(&rt, &process.log().len(), &entries);
+        same(&rt, &process.last_rank(), &rank);
     }
     Ok(())
 }
@@ -235,7 +237,7 @@ fn on_worker_stack<R: Threads + Wait + Sync + Abort>(
 ) -> Option<Result<Reply, ActFault>> {
     thread::scope(thread::scope_env(), rt, |scope| {
         let thread = thread::Builder::new().stack_size(WORKER_STACK);
-        match thread.spawn_scoped(scope, || acted(rt, &OpenGate, system, seat, act)) {
+        match thread.spawn_scoped(scope, || act_at_last(rt, &OpenGate, system, seat, act)) {
             Ok(thread) => Some(thread.join(rt)),
             Err(_) => None,
         }
@@ -245,11 +247,11 @@ fn on_worker_stack<R: Threads + Wait + Sync + Abort>(
 // The locks of a node take a frame each, and a worker's stack has room for those of 1,024 processes.
 #[test]
 fn a_reset_of_a_large_node_fits_a_workers_stack(rt: HostRuntime) -> Result<(), Fail> {
-    let mut pids = room(rt.alloc(), MANY as usize)?;
+    let mut pids = room_at_last(rt.alloc(), MANY as usize)?;
     for number in 0..MANY {
         pids.push(Pid::new(number))?;
     }
-    let (system, seats) = opened::<9, 9>(rt.alloc(), pids.as_slice())?;
+    let (system, seats) = open_at_last::<9, 9>(rt.alloc(), pids.as_slice())?;
     let Some(mut seat) = seats.into_iter().next() else {
         panic!(rt; "no seats");
     };
@@ -258,6 +260,6 @@ fn a_reset_of_a_large_node_fits_a_workers_stack(rt: HostRuntime) -> Result<(), F
         None => on_worker_stack(&rt, &system, &mut seat, &reset),
         answer => answer,
     };
-    assert_eq!(rt; answer, Some(Ok(Reply::Done)));
+    same(&rt, &answer, &Some(Ok(Reply::Done)));
     Ok(())
 }

@@ -1,14 +1,12 @@
-//! Worked steps of processes that are lent. Each call is made once more if memory ran out: in a run
-//! of which one request for memory fails, the second result is the right one.
+//! Worked steps of processes that are lent.
 
 ghost use Rattle.std.specs.Prelude.{◌≡◌, ◌<◌, true, IfOk, OnOk};
 ghost use Rattle.st_core.specs.Step.{actor};
 ghost use Rattle.st_runtime.specs.Pcb.{is_alone, IsBetween, IsSame};
 
-use super::Pcb;
-use crate::fault::PcbFault;
-use crate::pcb::entry::Entry;
+use crate::collected::same;
 use st_core::{Act, Component, Label, Pid, Reply, Serial, Want};
+use st_runtime::{Entry, Pcb, PcbFault};
 use std::alloc::{AllocError, Global};
 use std::process::Abort;
 use std::test::Fail;
@@ -16,7 +14,7 @@ use std::test::Fail;
 /// A process with a clock and ranks up to 9.
 type Small = Pcb<9, 9>;
 
-fn fresh(alloc: Global, pid: Pid) -> Result<Small, AllocError>
+fn new_at_last(alloc: Global, pid: Pid) -> Result<Small, AllocError>
     ensures { IfOk result (λ x. x.process.pid ≡ pid) }
 {
     match Small::new(alloc, pid) {
@@ -25,7 +23,7 @@ fn fresh(alloc: Global, pid: Pid) -> Result<Small, AllocError>
     }
 }
 
-fn acted(process: &mut Small, act: &Act) -> Result<Reply, PcbFault>
+fn step_at_last(process: &mut Small, act: &Act) -> Result<Reply, PcbFault>
     requires alone { is_alone act.now ≡ true }
     requires me { actor act.now ≡ process.old.process.pid }
     ensures { process.new.process.pid ≡ process.old.process.pid }
@@ -36,7 +34,7 @@ fn acted(process: &mut Small, act: &Act) -> Result<Reply, PcbFault>
     }
 }
 
-fn sent(from: &mut Small, to: &mut Small, act: &Act) -> Result<Reply, PcbFault>
+fn send_at_last(from: &mut Small, to: &mut Small, act: &Act) -> Result<Reply, PcbFault>
     requires { IsBetween act.now from.old.process.pid to.old.process.pid }
     ensures from_pid { from.new.process.pid ≡ from.old.process.pid }
     ensures to_pid { to.new.process.pid ≡ to.old.process.pid }
@@ -48,7 +46,7 @@ fn sent(from: &mut Small, to: &mut Small, act: &Act) -> Result<Reply, PcbFault>
 }
 
 /// Makes room for one entry.
-fn prepared(process: &mut Small) -> Result<(), AllocError>
+fn prepare_at_last(process: &mut Small) -> Result<(), AllocError>
     ensures same { IsSame process.old process.new }
     ensures room { OnOk result (0 < process.new.spare) }
 {
@@ -59,9 +57,9 @@ fn prepared(process: &mut Small) -> Result<(), AllocError>
 }
 
 fn assert_ranks(rt: &impl Abort, process: &Small, ranks: &[u64]) {
-    assert_eq!(rt; process.log().len(), ranks.len());
+    same(rt, &process.log().len(), &ranks.len());
     for (entry, rank) in process.log().iter().zip(ranks) {
-        assert_eq!(rt; entry.rank, *rank);
+        same(rt, &entry.rank, rank);
     }
 }
 
@@ -70,16 +68,24 @@ fn assert_ranks(rt: &impl Abort, process: &Small, ranks: &[u64]) {
 fn two_processes_by_hand(rt: HostRuntime) -> Result<(), Fail> {
     let p30 = Pid::new(30);
     let p31 = Pid::new(31);
-    let mut one = fresh(rt.alloc(), p30)?;
-    let mut other = fresh(rt.alloc(), p31)?;
+    let mut one = new_at_last(rt.alloc(), p30)?;
+    let mut other = new_at_last(rt.alloc(), p31)?;
     let set = Act::Set(p30, Component::Label(Label(1)));
-    assert_eq!(rt; acted(&mut one, &set), Ok(Reply::Old(None)));
+    same(&rt, &step_at_last(&mut one, &set), &Ok(Reply::Old(None)));
     let send = Act::Send(p30, p31, 5);
-    assert_eq!(rt; sent(&mut one, &mut other, &send), Ok(Reply::Done));
+    same(
+        &rt,
+        &send_at_last(&mut one, &mut other, &send),
+        &Ok(Reply::Done),
+    );
     let receive = Act::Receive(p31, Want::First);
-    assert_eq!(rt; acted(&mut other, &receive), Ok(Reply::Mail(p30, 5)));
-    prepared(&mut one)?;
-    prepared(&mut other)?;
+    same(
+        &rt,
+        &step_at_last(&mut other, &receive),
+        &Ok(Reply::Mail(p30, 5)),
+    );
+    prepare_at_last(&mut one)?;
+    prepare_at_last(&mut other)?;
     assert!(rt; one.last_rank() < 4);
     assert!(rt; other.last_rank() < 4);
     let reset = Entry {
@@ -94,11 +100,12 @@ fn two_processes_by_hand(rt: HostRuntime) -> Result<(), Fail> {
     assert_ranks(&rt, &one, &[1, 2, 4]);
     assert_ranks(&rt, &other, &[2, 3, 4]);
     let carried = one.log().get(1).and_then(|entry| entry.carried);
-    assert_eq!(rt;
-        carried.map(|token| token.serial),
-        Some(Serial { prev: 0, this: 1 })
+    same(
+        &rt,
+        &carried.map(|token| token.serial),
+        &Some(Serial { prev: 0, this: 1 }),
     );
-    assert_eq!(rt; one.local().clock(), 0);
-    assert_eq!(rt; other.local().clock(), 0);
+    same(&rt, &one.local().clock(), &0);
+    same(&rt, &other.local().clock(), &0);
     Ok(())
 }

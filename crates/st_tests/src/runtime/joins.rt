@@ -1,13 +1,9 @@
 //! Pieces that fit, and pieces that don't.
 
-use super::join_pieces;
-use crate::fault::{ActFault, JoinFault};
-use crate::join::record::Record;
-use crate::pcb::Pcb;
-use crate::system::gate::OpenGate;
-use crate::system::pieces::Pieces;
-use crate::trial::{acted, gathered, opened, room};
+use super::{act_at_last, gather_at_last, open_at_last, room_at_last};
+use crate::collected::same;
 use st_core::{Act, Component, Pid, Reply, is_rising};
+use st_runtime::{ActFault, JoinFault, OpenGate, Pcb, Pieces, Record, join_pieces};
 use std::alloc::{AllocError, Global};
 use std::process::Abort;
 use std::test::Fail;
@@ -21,7 +17,7 @@ fn without_seats(
     alloc: Global,
     processes: Vec<Small>,
 ) -> Result<Pieces<9, 9>, AllocError> {
-    let mut pids = room(alloc, processes.len())?;
+    let mut pids = room_at_last(alloc, processes.len())?;
     for process in processes.as_slice() {
         let Ok(()) = pids.push(process.pid()) else {
             return Err(AllocError);
@@ -31,15 +27,15 @@ fn without_seats(
     Ok(Pieces::new(processes, Vec::new(alloc)))
 }
 
-fn assert_not_joined(rt: &impl Abort, joined: Result<Record, JoinFault>, expected: JoinFault) {
-    match joined {
+fn assert_not_joined(rt: &impl Abort, answer: Result<Record, JoinFault>, expected: JoinFault) {
+    match answer {
         Ok(_) => panic!(rt; "joined"),
-        Err(fault) => assert_eq!(rt; fault, expected),
+        Err(fault) => same(rt, &fault, &expected),
     }
 }
 
 /// The record; joined a second time if memory ran out the first time.
-fn joined(alloc: Global, pieces: &Pieces<9, 9>) -> Result<Record, JoinFault> {
+fn join_at_last(alloc: Global, pieces: &Pieces<9, 9>) -> Result<Record, JoinFault> {
     match join_pieces(alloc, pieces) {
         Err(JoinFault::Memory) => join_pieces(alloc, pieces),
         answer => answer,
@@ -51,16 +47,16 @@ fn joined(alloc: Global, pieces: &Pieces<9, 9>) -> Result<Record, JoinFault> {
 fn missing_entry(rt: HostRuntime) -> Result<(), Fail> {
     let from = Pid::new(30);
     let to = Pid::new(31);
-    let (system, seats) = opened::<9, 9>(rt.alloc(), &[from, to])?;
+    let (system, seats) = open_at_last::<9, 9>(rt.alloc(), &[from, to])?;
     for mut seat in seats {
         if seat.pid() == from {
-            let sent = acted(&rt, &OpenGate, &system, &mut seat, &Act::Send(from, to, 1));
-            assert_eq!(rt; sent, Ok(Reply::Done));
+            let sent = act_at_last(&rt, &OpenGate, &system, &mut seat, &Act::Send(from, to, 1));
+            same(&rt, &sent, &Ok(Reply::Done));
         }
     }
-    let gathered = gathered(system, Vec::new(rt.alloc())).ok_or("not gathered")?;
-    let mut processes = room(rt.alloc(), 2)?;
-    for process in gathered.processes {
+    let pieces = gather_at_last(system, Vec::new(rt.alloc())).ok_or("not gathered")?;
+    let mut processes = room_at_last(rt.alloc(), 2)?;
+    for process in pieces.into_processes() {
         if process.pid() == from {
             processes.push(process)?;
         }
@@ -72,17 +68,17 @@ fn missing_entry(rt: HostRuntime) -> Result<(), Fail> {
     processes.push(fresh)?;
     let pieces = without_seats(&rt, rt.alloc(), processes)?;
     let missing = JoinFault::Missing(from, 0);
-    assert_not_joined(&rt, joined(rt.alloc(), &pieces), missing);
+    assert_not_joined(&rt, join_at_last(rt.alloc(), &pieces), missing);
     Ok(())
 }
 
 #[test]
 fn no_seats(rt: HostRuntime) -> Result<(), Fail> {
     let least = Pid::new(30);
-    let (system, _) = opened::<9, 9>(rt.alloc(), &[least, Pid::new(31)])?;
-    let pieces = gathered(system, Vec::new(rt.alloc())).ok_or("not gathered")?;
+    let (system, _) = open_at_last::<9, 9>(rt.alloc(), &[least, Pid::new(31)])?;
+    let pieces = gather_at_last(system, Vec::new(rt.alloc())).ok_or("not gathered")?;
     let differs = JoinFault::SeatDiffers(least);
-    assert_not_joined(&rt, joined(rt.alloc(), &pieces), differs);
+    assert_not_joined(&rt, join_at_last(rt.alloc(), &pieces), differs);
     Ok(())
 }
 
@@ -91,8 +87,8 @@ fn no_seats(rt: HostRuntime) -> Result<(), Fail> {
 #[test]
 fn refused_growths_leave_no_trace(rt: HostRuntime) -> Result<(), Fail> {
     let pids = [Pid::new(30), Pid::new(31), Pid::new(32)];
-    let (system, seats) = opened::<9, 9>(rt.alloc(), &pids)?;
-    let mut used = room(rt.alloc(), pids.len())?;
+    let (system, seats) = open_at_last::<9, 9>(rt.alloc(), &pids)?;
+    let mut used = room_at_last(rt.alloc(), pids.len())?;
     for mut seat in seats {
         let me = seat.pid();
         let acts = [
@@ -101,14 +97,18 @@ fn refused_growths_leave_no_trace(rt: HostRuntime) -> Result<(), Fail> {
             (Act::Reset(me), Reply::Done),
         ];
         for (act, reply) in &acts {
-            assert_eq!(rt; acted(&rt, &OpenGate, &system, &mut seat, act), Ok(*reply));
+            same(
+                &rt,
+                &act_at_last(&rt, &OpenGate, &system, &mut seat, act),
+                &Ok(*reply),
+            );
         }
         used.push(seat)?;
     }
-    let pieces = gathered(system, used).ok_or("not gathered")?;
-    let record = joined(rt.alloc(), &pieces)?;
-    assert_eq!(rt; record.acts.len(), 9);
-    assert_eq!(rt; record.streams.pids(), pids.as_slice());
+    let pieces = gather_at_last(system, used).ok_or("not gathered")?;
+    let record = join_at_last(rt.alloc(), &pieces)?;
+    same(&rt, &record.acts.len(), &9);
+    same(&rt, &record.streams.pids(), &pids.as_slice());
     Ok(())
 }
 
@@ -117,29 +117,29 @@ fn refused_growths_leave_no_trace(rt: HostRuntime) -> Result<(), Fail> {
 #[test]
 fn a_refused_reset_leaves_no_trace(rt: HostRuntime) -> Result<(), Fail> {
     let pids = [Pid::new(30), Pid::new(31), Pid::new(32), Pid::new(33)];
-    let (system, seats) = opened::<9, 9>(rt.alloc(), &pids)?;
-    let mut used = room(rt.alloc(), pids.len())?;
+    let (system, seats) = open_at_last::<9, 9>(rt.alloc(), &pids)?;
+    let mut used = room_at_last(rt.alloc(), pids.len())?;
     let mut made = 4;
     for mut seat in seats {
         let me = seat.pid();
         if me == pids[0] {
             match system.act(&rt, &OpenGate, &mut seat, &Act::Reset(me)) {
                 Ok(reply) => {
-                    assert_eq!(rt; reply, Reply::Done);
+                    same(&rt, &reply, &Reply::Done);
                     made = 5;
                 }
                 Err(fault) => {
-                    assert_eq!(rt; fault, ActFault::Memory);
+                    same(&rt, &fault, &ActFault::Memory);
                     assert!(rt; seat.mine().is_empty());
                 }
             }
         }
-        let looked = acted(&rt, &OpenGate, &system, &mut seat, &Act::Look(me));
-        assert_eq!(rt; looked, Ok(Reply::Current(None)));
+        let looked = act_at_last(&rt, &OpenGate, &system, &mut seat, &Act::Look(me));
+        same(&rt, &looked, &Ok(Reply::Current(None)));
         used.push(seat)?;
     }
-    let pieces = gathered(system, used).ok_or("not gathered")?;
-    let record = joined(rt.alloc(), &pieces)?;
-    assert_eq!(rt; record.acts.len(), made);
+    let pieces = gather_at_last(system, used).ok_or("not gathered")?;
+    let record = join_at_last(rt.alloc(), &pieces)?;
+    same(&rt, &record.acts.len(), &made);
     Ok(())
 }

@@ -1,10 +1,8 @@
 //! Driven scripts: refusals, and what is left if memory runs out.
 
-use super::{drive, drive_on};
-use crate::fault::{ActFault, DriveFault};
-use crate::join::record::Record;
-use crate::system::gate::{Gate, OpenGate};
+use crate::collected::same;
 use st_core::{Act, Component, Label, Pid, Sequence, Want};
+use st_runtime::{ActFault, DriveFault, Gate, OpenGate, Record, drive, drive_on};
 use std::alloc::Global;
 use std::process::Abort;
 use std::sync::Wait;
@@ -12,22 +10,21 @@ use std::test::Fail;
 use std::thread::Threads;
 
 /// Drives these scripts, which are as many as the pids; once more if memory or a thread was refused.
-fn driven<const TOP: u64, const RANKS: u64, R: Threads + Wait + Sync + Abort, G: Gate + Sync>(
-    rt: &R,
-    alloc: Global,
-    gate: &G,
-    pids: &[Pid],
-    scripts: &[&[Act]],
-) -> Result<Record, DriveFault> {
-    match driven_once::<TOP, RANKS, R, G>(rt, alloc, gate, pids, scripts) {
+fn drive_at_last<
+    const TOP: u64,
+    const RANKS: u64,
+    R: Threads + Wait + Sync + Abort,
+    G: Gate + Sync,
+>(rt: &R, alloc: Global, gate: &G, pids: &[Pid], scripts: &[&[Act]]) -> Result<Record, DriveFault> {
+    match drive_once::<TOP, RANKS, R, G>(rt, alloc, gate, pids, scripts) {
         Err(DriveFault::Memory | DriveFault::Thread) => {
-            driven_once::<TOP, RANKS, R, G>(rt, alloc, gate, pids, scripts)
+            drive_once::<TOP, RANKS, R, G>(rt, alloc, gate, pids, scripts)
         }
         answer => answer,
     }
 }
 
-fn driven_once<const TOP: u64, const RANKS: u64, R: Threads + Wait + Sync + Abort, G: Gate + Sync>(
+fn drive_once<const TOP: u64, const RANKS: u64, R: Threads + Wait + Sync + Abort, G: Gate + Sync>(
     rt: &R,
     alloc: Global,
     gate: &G,
@@ -53,9 +50,9 @@ fn assert_refused<const TOP: u64, const RANKS: u64, R: Threads + Wait + Sync + A
     scripts: &[&[Act]],
     expected: DriveFault,
 ) {
-    match driven::<TOP, RANKS, R, OpenGate>(rt, alloc, &OpenGate, pids, scripts) {
+    match drive_at_last::<TOP, RANKS, R, OpenGate>(rt, alloc, &OpenGate, pids, scripts) {
         Ok(_) => panic!(rt; "driven"),
-        Err(fault) => assert_eq!(rt; fault, expected),
+        Err(fault) => same(rt, &fault, &expected),
     }
 }
 
@@ -89,9 +86,15 @@ fn a_send_to_another_node(rt: HostRuntime) -> Result<(), Fail> {
     let here = Pid::on(1, 30);
     let away = Pid::on(2, 31);
     let script = [Act::Send(here, away, 5), Act::Reset(here)];
-    let record = driven::<9, 9, _, _>(&rt, rt.alloc(), &OpenGate, &[here, away], &[&script, &[]])?;
-    assert_eq!(rt; record.acts.as_slice(), script.as_slice());
-    assert_eq!(rt; record.streams.pids(), [here, away].as_slice());
+    let record = drive_at_last::<9, 9, _, _>(
+        &rt,
+        rt.alloc(),
+        &OpenGate,
+        &[here, away],
+        &[&script, &[]],
+    )?;
+    same(&rt, &record.acts.as_slice(), &script.as_slice());
+    same(&rt, &record.streams.pids(), &[here, away].as_slice());
     Ok(())
 }
 
@@ -119,7 +122,7 @@ fn a_refused_thread_is_told(rt: HostRuntime) {
     };
     match refused {
         Ok(_) => panic!(rt; "driven"),
-        Err(fault) => assert_eq!(rt; fault, DriveFault::Thread),
+        Err(fault) => same(&rt, &fault, &DriveFault::Thread),
     }
 }
 
@@ -172,6 +175,6 @@ fn a_refused_growth_is_answered(rt: HostRuntime) -> Result<(), Fail> {
         Err(DriveFault::Memory | DriveFault::Thread) => four_busy(&rt, rt.alloc())?,
         answer => answer?,
     };
-    assert_eq!(rt; acts, 200);
+    same(&rt, &acts, &200);
     Ok(())
 }

@@ -1,20 +1,22 @@
-//! Calls that tests make once more if memory ran out. In a run of which one request for memory fails
-//! there is ample memory afterwards, and the second result is the right one.
+//! Calls of `st_runtime`: refusals, and what is left if memory runs out. Each call is made once more if memory ran
+//! out: in a run of which one request for memory fails, the second result is the right one.
 
 ghost use Rattle.std.specs.Prelude.{◌≡◌, [], IfOk};
 
-use crate::fault::{ActFault, OpenFault};
-use crate::system::System;
-use crate::system::gate::Gate;
-use crate::system::pieces::Pieces;
-use crate::system::seat::Seat;
+mod acts;
+mod drives;
+mod joins;
+mod steps;
+
+use crate::collected::same;
 use st_core::{Act, Pid, Reply};
+use st_runtime::{ActFault, Gate, OpenFault, Pieces, Seat, System};
 use std::alloc::{AllocError, Global};
 use std::process::Abort;
 use std::sync::Wait;
 
 /// An empty list with room for so many.
-pub fn room<T>(alloc: Global, count: usize) -> Result<Vec<T>, AllocError>
+fn room_at_last<T>(alloc: Global, count: usize) -> Result<Vec<T>, AllocError>
     ensures { IfOk result (λ v. v.items ≡ []) }
 {
     match Vec::with_capacity(alloc, count) {
@@ -24,7 +26,7 @@ pub fn room<T>(alloc: Global, count: usize) -> Result<Vec<T>, AllocError>
 }
 
 /// Opens a system.
-pub fn opened<const TOP: u64, const RANKS: u64>(
+fn open_at_last<const TOP: u64, const RANKS: u64>(
     alloc: Global,
     pids: &[Pid],
 ) -> Result<(System<TOP, RANKS>, Vec<Seat>), OpenFault> {
@@ -35,7 +37,7 @@ pub fn opened<const TOP: u64, const RANKS: u64>(
 }
 
 /// Makes an act. If memory runs out, its seat stays as it was.
-pub fn acted<const TOP: u64, const RANKS: u64, R: Wait + Abort, G: Gate>(
+fn act_at_last<const TOP: u64, const RANKS: u64, R: Wait + Abort, G: Gate>(
     rt: &R,
     gate: &G,
     system: &System<TOP, RANKS>,
@@ -45,7 +47,7 @@ pub fn acted<const TOP: u64, const RANKS: u64, R: Wait + Abort, G: Gate>(
     let made = seat.mine().len();
     match system.act(rt, gate, seat, act) {
         Err(ActFault::Memory) => {
-            assert_eq!(rt; seat.mine().len(), made);
+            same(rt, &seat.mine().len(), &made);
             system.act(rt, gate, seat, act)
         }
         answer => answer,
@@ -53,7 +55,7 @@ pub fn acted<const TOP: u64, const RANKS: u64, R: Wait + Abort, G: Gate>(
 }
 
 /// Gathers the pieces.
-pub fn gathered<const TOP: u64, const RANKS: u64>(
+fn gather_at_last<const TOP: u64, const RANKS: u64>(
     system: System<TOP, RANKS>,
     seats: Vec<Seat>,
 ) -> Option<Pieces<TOP, RANKS>> {
