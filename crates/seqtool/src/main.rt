@@ -27,8 +27,9 @@ fn words_of(rt: &HostRuntime) -> io::Result<Vec<String>> {
     Ok(words)
 }
 
-/// Does what the words ask for, on the file that they name or on standard input.
-fn serve<H: AllocGlobal + Files + Threads + Sync, R: ByteSource, W: ByteSink>(
+/// Does what the words ask for, on the file that they name or on standard input. A file that can't be opened is named on
+/// standard error, beside the output of a device that failed.
+fn serve<H: AllocGlobal + Files + Threads + Sync + Eprint, R: ByteSource, W: ByteSink>(
     rt: &H,
     request: &Request<'_>,
     input: &mut R,
@@ -38,7 +39,10 @@ fn serve<H: AllocGlobal + Files + Threads + Sync, R: ByteSource, W: ByteSink>(
         None => run(rt, request.task, input, writer),
         Some(path) => match fs::open(rt, path) {
             Ok(file) => run(rt, request.task, &mut ReadFrom::new(file), writer),
-            Err(_) => tell_no_device(writer),
+            Err(error) => {
+                let _ = eprintln!(rt; "error: {path} can't be opened: {error}");
+                tell_no_device(writer)
+            }
         },
     }
 }

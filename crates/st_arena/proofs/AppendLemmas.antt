@@ -143,17 +143,17 @@ module _ {T : Type 0} (old new : ℕ → Option (Node T)) (ends : List Ends) (co
     (sound : AreChains old ends count capacity) (list : ℕ) (in_range : list < length ends) (after : Ends) (value : T)
     (change : Appends old new (ends_at ends list) after value) where
   -- the keys of the list from then on: those that it had, then the new one
-  append_row : ℕ → ℕ
+  pub append_row : ℕ → ℕ
   append_row place = cond (ltb place (len_of (ends_at ends list))) (sound.key list place) change.key
 
   -- below the old length they are those that the list had
-  append_row-below : (place : ℕ) → place < len_of (ends_at ends list) → append_row place ≡ sound.key list place
+  pub append_row-below : (place : ℕ) → place < len_of (ends_at ends list) → append_row place ≡ sound.key list place
   unfolding append_row
   append_row-below place within =
       cond-true (ltb place (len_of (ends_at ends list))) (sound.key list place) change.key (lt-ltb place _ within)
 
   -- and at the old length the new one
-  append_row-end : append_row (len_of (ends_at ends list)) ≡ change.key
+  pub append_row-end : append_row (len_of (ends_at ends list)) ≡ change.key
   unfolding append_row
   append_row-end =
       cond-false (ltb (len_of (ends_at ends list)) (len_of (ends_at ends list)))
@@ -171,7 +171,7 @@ module _ {T : Type 0} (old new : ℕ → Option (Node T)) (ends : List Ends) (co
           sound.disjoint other list place last differs inside (omega arith) (same ∙ (sound.chain list).last last is)
 
   -- the nodes of all other lists stay as they were
-  append_others : (other place : ℕ) → other ≢ list → place < len_of (ends_at ends other)
+  pub append_others : (other place : ℕ) → other ≢ list → place < len_of (ends_at ends other)
       → SameAt old new (sound.key other place)
   append_others other place differs inside =
       let not_new =
@@ -184,7 +184,7 @@ module _ {T : Type 0} (old new : ℕ → Option (Node T)) (ends : List Ends) (co
       }
 
   -- the list is a chain under its new keys
-  append_here : IsChain new after append_row
+  pub append_here : IsChain new after append_row
   append_here =
       append_chain old new (ends_at ends list) (sound.key list) (sound.chain list) after value change append_row
       append_row-below append_row-end

@@ -133,6 +133,18 @@ module _ {T : Type 0} (old new : ℕ → Option (Node T)) (ends : List Ends) (co
   pub list_of_map : get_or (map (items_of old) ends) list [] ≡ items_of old (ends_at ends list)
   list_of_map = get_or-map (items_of old) ends list no_ends [] in_range
 
+-- a sound arena is sound with more room
+pub more_room : {T : Type 0} (slots : ℕ → Option (Node T)) (ends : List Ends) (count capacity : ℕ)
+    → AreChains slots ends count capacity → (more : ℕ) → capacity ≤ more → AreChains slots ends count more
+more_room slots ends count capacity sound more grown =
+    record {
+      key = sound.key;
+      chain = sound.chain;
+      disjoint = sound.disjoint;
+      total = sound.total;
+      within = omega (arith, sound.within, grown);
+    }
+
 -- ---- an arena whose lists are all empty
 pub empty_sound : {T : Type 0} (slots : ℕ → Option (Node T)) (empty : Ends) (lists capacity : ℕ) → empty.len ≡ 0
     → AreChains slots (replicate lists empty) 0 capacity

@@ -114,7 +114,7 @@ module _ {T : Type 0} (old new : ℕ → Option (Node T)) (ends : List Ends) (co
       }
 
   -- each list is a chain still, under the same keys
-  change_chain : (other : ℕ) → IsChain new (ends_at ends other) (sound.key other)
+  pub change_chain : (other : ℕ) → IsChain new (ends_at ends other) (sound.key other)
   change_chain other =
       record {
         held = λ place inside.

@@ -7,4 +7,5 @@ mod CallLemmas
 mod AppendLemmas
 mod UnlinkLemmas
 mod ChangeLemmas
+mod LadderLemmas
 mod ListLemmas

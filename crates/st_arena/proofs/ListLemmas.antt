@@ -1,7 +1,7 @@
 -- What the code read as the ends of a list (`found`) are its ends, so what holds of the chain of each list holds of
 -- the one that a call names.
 use Rattle.std.proofs.Common.{◌≡◌, ℕ, zero, suc, ◌+◌, ◌<◌, ◌≤◌, List, [], ◌∷◌, ◌++◌, length, get_or, map, set}
-use Rattle.std.proofs.Common.{Option, Some, None, IsSome, remove, slice_get, refl, sym, ap, ◌∙◌, arith}
+use Rattle.std.proofs.Common.{Option, Some, None, IsSome, IfSome, remove, slice_get, refl, sym, ap, ◌∙◌, arith}
 use Rattle.std.specs.List.{AllZip}
 use Rattle.std.proofs.lemmas.List.{length-map, get_or_read}
 use Rattle.std.proofs.lemmas.List.Sums.{sum_by-set}
@@ -10,12 +10,14 @@ use Rattle.st_arena.specs.declared.node.Node.{Node}
 use Rattle.st_arena.specs.declared.node.Ends.{Ends}
 use Rattle.st_arena.specs.Calls.{Computes}
 use Rattle.st_arena.specs.Chain.{len_of, no_ends, ends_at, item_of, items_of, key_after, IsChained, AreChains}
+use Rattle.st_arena.specs.Chain.{keys_of, AreLadders, KeepsLadder}
 use Rattle.st_arena.specs.Chain.{Appends, Unlinks, ChangesItems}
 use Rattle.st_arena.proofs.CallLemmas.{map-from_AllZip}
 use Rattle.st_arena.proofs.ChainLemmas.{length-items_of, held_after, last_after, item_after, key_after-first}
 use Rattle.st_arena.proofs.ArenaLemmas.{list_of_map}
-use Rattle.st_arena.proofs.AppendLemmas.{append_sound, append_lists}
-use Rattle.st_arena.proofs.UnlinkLemmas.{unlink_sound, unlink_lists}
+use Rattle.st_arena.proofs.AppendLemmas.{append_here, append_sound, append_lists}
+use Rattle.st_arena.proofs.UnlinkLemmas.{unlink_here, unlink_sound, unlink_lists}
+use Rattle.st_arena.proofs.LadderLemmas.{append_ladder, append_ladders, unlink_ladder, unlink_ladders, change_ladders}
 use Rattle.st_arena.proofs.ChangeLemmas.{change_sound, change_lists, change_each}
 
 module _ {T : Type 0} (slots : ℕ → Option (Node T)) (ends : List Ends) (count capacity : ℕ)
@@ -83,6 +85,11 @@ module _ {T : Type 0} (slots : ℕ → Option (Node T)) (ends : List Ends) (coun
       by_len (suc last) is positive =
           rw (last_after slots found chained last is) (held_after slots found chained last (omega arith))
 
+  -- the list's ladder, if it has one, holds the keys of the nodes
+  pub ladder_is : (ladders : ℕ → Option (List ℕ)) → AreLadders slots ends ladders
+      → IfSome (ladders list) (λ l. l ≡ keys_of slots found)
+  ladder_is ladders have = rw found_is (have list)
+
   module _ (new : ℕ → Option (Node T)) (after : Ends) where
     module _ (value : T) (change : Appends slots new found after value) where
       -- a push on the ends that were read is one on the list's
@@ -97,6 +104,26 @@ module _ {T : Type 0} (slots : ℕ → Option (Node T)) (ends : List Ends) (coun
       -- and the value stands at the end of that list alone
       pub push_lists : map (items_of new) (set ends list after) ≡ set lists list (get_or lists list [] ++ value ∷ [])
       push_lists = rw view at (append_lists slots new ends count capacity sound list in_ends after value appends)
+
+      -- the list is a chain with the value at its end
+      pub push_chained : IsChained new after
+      push_chained = record {
+        key = _;
+        chain = append_here slots new ends count capacity sound list
+            in_ends after value appends;
+      }
+
+      -- and its ladder has the new node's key to come
+      pub push_ladder : (ladders : ℕ → Option (List ℕ)) → AreLadders slots ends ladders
+          → IfSome (ladders list) (λ l. l ++ after.last ∷ [] ≡ keys_of new after)
+      push_ladder ladders have =
+          append_ladder slots new ends count capacity sound ladders have list in_ends after value appends
+
+      -- once it has it, all ladders are right
+      pub push_ladders : (ladders later : ℕ → Option (List ℕ)) → AreLadders slots ends ladders
+          → KeepsLadder ladders later list (keys_of new after) → AreLadders new (set ends list after) later
+      push_ladders ladders later have =
+          append_ladders slots new ends count capacity sound ladders have list in_ends after value appends later
 
     module _ (place key : ℕ) (value : T) (change : Unlinks slots new found after place key value)
         (within : place < found.len) (is_there : key ≡ key_after slots found.first place) where
@@ -127,6 +154,29 @@ module _ {T : Type 0} (slots : ℕ → Option (Node T)) (ends : List Ends) (coun
           rw view at
           (unlink_lists slots new ends count capacity sound list in_ends after place key value unlinks inside there)
 
+      -- the list is a chain without the node at the place
+      pub take_chained : IsChained new after
+      take_chained =
+          record {
+            key = _;
+            chain = unlink_here slots new ends count capacity sound list in_ends after place key value unlinks inside
+                there;
+          }
+
+      -- and its ladder has that node's key to lose
+      pub take_ladder : (ladders : ℕ → Option (List ℕ)) → AreLadders slots ends ladders
+          → IfSome (ladders list) (λ l. remove l place ≡ keys_of new after)
+      take_ladder ladders have =
+          unlink_ladder slots new ends count capacity sound ladders have list in_ends after place key value unlinks
+          inside there
+
+      -- once it has lost it, all ladders are right
+      pub take_ladders : (ladders later : ℕ → Option (List ℕ)) → AreLadders slots ends ladders
+          → KeepsLadder ladders later list (keys_of new after) → AreLadders new (set ends list after) later
+      take_ladders ladders later have =
+          unlink_ladders slots new ends count capacity sound ladders have list in_ends after place key value unlinks
+          inside there later
+
   module _ (new : ℕ → Option (Node T)) (R : T → T → Type 0)
       (change : ChangesItems slots new R found.first found.len) where
     -- a change under the ends that were read is one of the list
@@ -137,6 +187,11 @@ module _ {T : Type 0} (slots : ℕ → Option (Node T)) (ends : List Ends) (coun
     pub changed_sound : (new_count new_capacity : ℕ) → new_count ≡ count → new_capacity ≡ capacity
         → AreChains new ends new_count new_capacity
     changed_sound = change_sound slots new ends count capacity sound list in_ends R changes
+
+    -- and all ladders are right still
+    pub changed_ladders : (ladders : ℕ → Option (List ℕ)) → AreLadders slots ends ladders → AreLadders new ends ladders
+    changed_ladders ladders have =
+        change_ladders slots new ends count capacity sound ladders have list in_ends R changes
 
     -- the changed list, among all lists
     new_list : get_or (map (items_of new) ends) list [] ≡ items_of new (ends_at ends list)

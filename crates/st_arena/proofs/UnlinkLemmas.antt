@@ -187,17 +187,17 @@ module _ {T : Type 0} (old new : ℕ → Option (Node T)) (ends : List Ends) (co
     (place gone : ℕ) (value : T) (change : Unlinks old new (ends_at ends list) after place gone value)
     (within : place < len_of (ends_at ends list)) (is_there : gone ≡ sound.key list place) where
   -- the keys of the list from then on: those that it had, without the one at the place
-  unlink_row : ℕ → ℕ
+  pub unlink_row : ℕ → ℕ
   unlink_row other = cond (ltb other place) (sound.key list other) (sound.key list (suc other))
 
   -- before the place they are those that the list had
-  unlink_row-below : (other : ℕ) → other < place → unlink_row other ≡ sound.key list other
+  pub unlink_row-below : (other : ℕ) → other < place → unlink_row other ≡ sound.key list other
   unfolding unlink_row
   unlink_row-below other before =
       cond-true (ltb other place) (sound.key list other) (sound.key list (suc other)) (lt-ltb other place before)
 
   -- from there on those a place further
-  unlink_row-above : (other : ℕ) → place ≤ other → unlink_row other ≡ sound.key list (suc other)
+  pub unlink_row-above : (other : ℕ) → place ≤ other → unlink_row other ≡ sound.key list (suc other)
   unfolding unlink_row
   unlink_row-above other behind =
       cond-false (ltb other place) (sound.key list other) (sound.key list (suc other)) (le-ltb other place behind)
@@ -221,7 +221,7 @@ module _ {T : Type 0} (old new : ℕ → Option (Node T)) (ends : List Ends) (co
           ∙ (sound.chain list).previous before (omega arith))
 
   -- the nodes of all other lists stay as they were
-  unlink_others : (other there : ℕ) → other ≢ list → there < len_of (ends_at ends other)
+  pub unlink_others : (other there : ℕ) → other ≢ list → there < len_of (ends_at ends other)
       → SameAt old new (sound.key other there)
   unlink_others other there differs inside =
       let not_gone = not_here other there place differs inside within gone is_there in
@@ -235,7 +235,7 @@ module _ {T : Type 0} (old new : ℕ → Option (Node T)) (ends : List Ends) (co
       }
 
   -- the list is a chain under its new keys
-  unlink_here : IsChain new after unlink_row
+  pub unlink_here : IsChain new after unlink_row
   unlink_here =
       unlink_chain old new (ends_at ends list) (sound.key list) (sound.chain list) after place gone value change
       within is_there unlink_row unlink_row-below unlink_row-above

@@ -1,6 +1,6 @@
 -- How a list lies in the arena: its nodes, linked by the keys under which the slab keeps them.
 -- No public clause cites this module.
-use Rattle.std.specs.Prelude.{◌≡◌, ◌≢◌, ℕ, zero, suc, ◌<◌, ◌≤◌, List, [], ◌∷◌, Option, Some, None, IsSome}
+use Rattle.std.specs.Prelude.{◌≡◌, ◌≢◌, ℕ, zero, suc, ◌<◌, ◌≤◌, List, [], ◌∷◌, ◌++◌, Option, Some, None, IsSome, IfSome}
 use Rattle.std.specs.Prelude.{sum_by, slice_index_or}
 use Rattle.std.specs.Option.{option_map, option_map_or}
 use Rattle.st_arena.specs.declared.node.Node.{Node}
@@ -53,6 +53,19 @@ module _ {T : Type 0} (slots : ℕ → Option (Node T)) where
   key_after first zero = first
   key_after first (suc steps) = next_key (slots (key_after first steps))
 
+  -- the keys of so many nodes in a row, from a key on
+  abbrev pub keys : ℕ → ℕ → List ℕ
+  keys zero first = []
+  keys (suc count) first = keys count first ++ key_after first count ∷ []
+
+  -- the keys of a list's nodes
+  abbrev pub keys_of : Ends → List ℕ
+  keys_of ends = keys ends.len ends.first
+
+  -- each ladder holds the keys of its list's nodes; `ladders` gives that of a list which has one
+  abbrev pub AreLadders : List Ends → (ℕ → Option (List ℕ)) → Type 0
+  AreLadders ends ladders = (list : ℕ) → IfSome (ladders list) (λ ladder. ladder ≡ keys_of (ends_at ends list))
+
   -- the nodes of a list stand under the keys key 0, key 1, .., each once, and each names its neighbours.
   -- What the last node names as its next, and the first as its previous, is left open
   pub record IsChain (ends : Ends) (key : ℕ → ℕ) : Type 0 where
@@ -76,6 +89,12 @@ module _ {T : Type 0} (slots : ℕ → Option (Node T)) where
         → other_place < len_of (ends_at ends other) → key list place ≢ key other other_place
     pub total : sum_by len_of ends ≡ node_count
     pub within : node_count ≤ capacity
+
+-- the ladders after a change of one list: it has that of these keys or none, and each other one has
+-- the ladder that it had
+pub record KeepsLadder (old new : ℕ → Option (List ℕ)) (list : ℕ) (wanted : List ℕ) : Type 0 where
+  pub here : IfSome (new list) (λ ladder. ladder ≡ wanted)
+  pub others : (other : ℕ) → other ≢ list → new other ≡ old other
 
 -- how one change of the slots, from old to new, tells in them
 module _ {T : Type 0} (old new : ℕ → Option (Node T)) where

@@ -5,12 +5,17 @@
 //! before it with the one change that the call names. If memory runs out no list has changed, and
 //! the value that was to be pushed comes back.
 //!
+//! A list in which a take has walked far has a ladder from then on: the keys of its nodes by place,
+//! in an `st_ranks` tree, which follows each push and take. It is only an aid. If memory for it runs
+//! out, the list does without one and is walked, until a take that walks far finds memory.
+//!
 //! | Call | Cost | Memory |
 //! |---|---|---|
 //! | `new`, `reserve` | as many steps as lists, or as values held | takes some |
-//! | `push_back` | constant, unless the arena grows | takes some if nothing is spare |
-//! | `push_reserved`, `len`, `list_count` | constant | none |
-//! | `get`, `take_at` | as many steps as the place is from the nearer end | none |
+//! | `push_back` | as `push_reserved`, unless the arena grows | takes some if nothing is spare |
+//! | `push_reserved`, `take_at` | as many steps as the list's length has bits, on average | some for a ladder |
+//! | `get` | the same if the list has a ladder, else as many as the place is from the nearer end | none |
+//! | `len`, `list_count` | constant | none |
 //! | `find_any` | as many steps as the place is from the nearer end | none |
 //! | `find_first`, `change_all` | as many steps as the list has items | none |
 //! | `walk` | constant, as is each of its steps | none |
@@ -20,6 +25,7 @@
 #![tactic(auto)]
 
 mod chain;
+mod ladder;
 mod lists;
 mod node;
 mod walk;

@@ -1,10 +1,12 @@
 //! The arena of lists, and all that a caller does with it but the walk.
 
-use crate::chain::{any_answered, append, change_items, first_answered, key_at, unlink};
+use crate::chain::{any_answered, append, change_items, first_answered, unlink};
+use crate::ladder::{Ladders, find_key, follow_push, follow_take};
 use crate::node::{Ends, NONE, Node};
 use crate::walk::Walk;
 use slab::Slab;
 use std::alloc::{AllocError, AllocFailed, Global};
+use std::collections::HashMap;
 use std::marker::Model;
 
 /// A fixed number of lists whose nodes lie in one arena.
@@ -12,8 +14,10 @@ use std::marker::Model;
 /// A contract sees the lists, and `spare`: how many more values fit with no allocation.
 #[derive(Drop)]
 pub struct Lists<T> {
+    alloc: Global,
     nodes: Slab<Node<T>>,
     ends: Vec<Ends>,
+    ladders: Ladders,
 }
 
 impl<T> Model for Lists<T> {
@@ -25,14 +29,17 @@ impl<T> Model for Lists<T> {
 
     ghost coded = { arena_code T.code };
 
-    ghost use Rattle.st_arena.specs.Chain.{items_of, AreChains};
+    ghost use Rattle.std.specs.Prelude.{nat_eq};
+    ghost use Rattle.std.specs.HashMap.{get as get_in};
+    ghost use Rattle.st_arena.specs.Chain.{items_of, AreChains, AreLadders};
 
     ghost view = { λ a. record {
       lists = map (items_of (get a.nodes)) a.ends.items;
       spare = a.nodes.capacity - slab_len a.nodes;
     } };
 
-    ghost invariant = { λ a. AreChains (get a.nodes) a.ends.items (slab_len a.nodes) a.nodes.capacity };
+    ghost invariant = { λ a. AreChains (get a.nodes) a.ends.items (slab_len a.nodes) a.nodes.capacity
+        × AreLadders (get a.nodes) a.ends.items (get_in nat_eq a.ladders) };
 }
 
 impl<T> Lists<T> {
@@ -56,8 +63,10 @@ impl<T> Lists<T> {
         };
         let ends = vec![in alloc; empty; lists]?;
         Ok(Lists {
+            alloc,
             nodes: Slab::new(alloc),
             ends,
+            ladders: HashMap::new(alloc),
         })
     }
 
@@ -105,6 +114,7 @@ impl<T> Lists<T> {
     {
         let ends = append(&mut self.nodes, self.ends[list], value);
         self.ends[list] = ends;
+        follow_push(&mut self.ladders, list, self.alloc, &self.nodes, ends);
     }
 
     /// How many lists there are: each call takes a list's number below this.
@@ -131,7 +141,7 @@ impl<T> Lists<T> {
         if place >= ends.len {
             return None;
         }
-        let key = key_at(&self.nodes, ends, place);
+        let key = find_key(&self.ladders, list, &self.nodes, ends, place);
         Some(&self.nodes[key].value)
     }
 
@@ -149,9 +159,17 @@ impl<T> Lists<T> {
         if place >= ends.len {
             return None;
         }
-        let key = key_at(&self.nodes, ends, place);
+        let key = find_key(&self.ladders, list, &self.nodes, ends, place);
         let (ends, value) = unlink(&mut self.nodes, ends, place, key);
         self.ends[list] = ends;
+        follow_take(
+            &mut self.ladders,
+            list,
+            place,
+            self.alloc,
+            &self.nodes,
+            ends,
+        );
         Some(value)
     }
 

@@ -94,7 +94,7 @@ hidden_goes streams marks p i e r acts are is_to =
     let made : acts_of streams marks r (move_by (item.Hidden p i) e) ≡ None = rw is_to refl in
     none-some acts (sym made ∙ are)
 
-only : (o : Option Event) (b : Bool) (e : Event) → option_to_list o ++ [] ≡ cond b (e ∷ []) [] → o ≡ if_told b e
+pub only : (o : Option Event) (b : Bool) (e : Event) → option_to_list o ++ [] ≡ cond b (e ∷ []) [] → o ≡ if_told b e
 only None true e h = absurd (cc)
 only None false e h = refl
 only (Some x) true e h = ap (λ (x : Event). Some x) (cc)

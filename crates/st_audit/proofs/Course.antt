@@ -33,7 +33,7 @@ use Rattle.st_audit.specs.Construction.{Turn, Through, Stopped, Refused}
 use Rattle.st_audit.specs.Progress.{Meets, Ran, SaysNothing}
 
 -- how the course goes on after a turn
-abbrev went_on : ℕ → List Stream → Option (Pid × ℕ) → State → List Move → List Act → Move → List Move → Turn → End
+abbrev pub went_on : ℕ → List Stream → Option (Pid × ℕ) → State → List Move → List Act → Move → List Move → Turn → End
 went_on top streams end s earlier acts m ms (Through more os) =
     course top streams end (state_after s os) (m ∷ earlier) (acts ++ more) ms
 went_on top streams end s earlier acts m ms (Stopped more) = Judged (acts ++ more) (Some (item_place m.item))
@@ -159,7 +159,7 @@ module _ (top : ℕ) (streams : List Stream) (rising : IsRising (pids_of streams
 
 -- THE END
 
-last_at : (o : Option Item) (xs : List Item) (k : ℕ) (d : Item) → length xs ≡ suc k
+pub last_at : (o : Option Item) (xs : List Item) (k : ℕ) (d : Item) → length xs ≡ suc k
     → last_or o xs ≡ Some (get_or xs k d)
 last_at o [] k d h = absurd (omega arith)
 last_at o (x ∷ []) zero d h = refl

@@ -15,7 +15,7 @@ use Rattle.st_audit.specs.declared.finding.Finding.{Finding}
 use Rattle.st_audit.specs.Findings.{unfit_by, IsCertificate}
 
 -- what certainly fits is plain, since the streams of a run that reports all of itself are
-certain_plain : (top : ℕ) (streams : List Stream) → IsRising (pids_of streams)
+pub certain_plain : (top : ℕ) (streams : List Stream) → IsRising (pids_of streams)
     → IsPlain top streams ⊎ IsFullyShown top streams → IsPlain top streams
 certain_plain top streams rising (inl plain) = plain
 certain_plain top streams rising (inr full) =

@@ -22,3 +22,5 @@ mod Fullness
 mod Ending
 mod Stamping
 mod Track
+mod Holding
+mod Fitting

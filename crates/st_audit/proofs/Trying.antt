@@ -100,7 +100,7 @@ stuck_later top s t xs ys before mid halt.Stopped now ran put stuck = (
 -- THE ATTEMPT
 
 -- acts that no reason stands against
-attempted : (top : ℕ) (s : State) (one two : Bool) (plan : Option (List Act)) (acts : List Act)
+pub attempted : (top : ℕ) (s : State) (one two : Bool) (plan : Option (List Act)) (acts : List Act)
     (o : Option (List Outcome))
     → one ≡ false → two ≡ false → plan ≡ Some acts → run_from top s acts ≡ o
     → attempt top s one two plan ≡ turn_by top s acts o
@@ -124,7 +124,7 @@ attempt_tries top one two plan acts a s is_one is_two is =
     subst TriesAct (sym (attempted top s one two plan (acts ++ a ∷ []) o is_one is_two is refl))
     (tries_push top s acts a o)
 
-last_report-push : (r : Option _) (os : List Outcome) (o : Outcome) → last_report r (os ++ o ∷ []) ≡ o.report
+pub last_report-push : (r : Option _) (os : List Outcome) (o : Outcome) → last_report r (os ++ o ∷ []) ≡ o.report
 last_report-push r [] o = refl
 last_report-push r (p ∷ os) o = last_report-push p.report os o
 

@@ -119,7 +119,7 @@ event_eq-true d e h =
       value = value i;
     }
 
-event_eq-same : (e : Event) → event_eq e e ≡ true
+pub event_eq-same : (e : Event) → event_eq e e ≡ true
 event_eq-same e =
     rw (
       eq-eqb e.label.0 e.label.0 refl,

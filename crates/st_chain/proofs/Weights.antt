@@ -10,9 +10,8 @@ use Rattle.st_core.specs.Run.{Stream}
 use Rattle.st_core.specs.Streams.{events_of}
 use Rattle.st_core.proofs.ForCallers.{not_true}
 use Rattle.st_pair.specs.declared.answer.Source.TheVariants as source
-use Rattle.st_pair.specs.Places.{event_at, is_stamp, first_from}
+use Rattle.st_pair.specs.Places.{event_at, is_stamp, first_from, or_else}
 use Rattle.st_pair.specs.Pairing.{stamp_of, refusal}
-use Rattle.st_pair.specs.Tables.{or_else}
 use Rattle.st_pair.proofs.ForCallers.{own_rule}
 use Rattle.st_pair.proofs.ForCallers.{stamp_at}
 use Rattle.st_pair.proofs.ForCallers.{IsPaired, paired, serial_rises}

@@ -1,6 +1,6 @@
 -- What each event follows, and the events of one label. Public contracts cite these two.
 pub mod Causes
 pub mod Labels
--- For the parts of two modules alone: `src/label_table.rt`, and `src/chains.rt`.
+-- For the parts alone: of `src/label_table.rt`, and of `src/chains.rt`.
 pub mod Tabled
 pub mod Kept

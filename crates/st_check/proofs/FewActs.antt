@@ -17,7 +17,7 @@ use Rattle.st_core.specs.Pid.{pid_eq}
 use Rattle.st_core.specs.State.{LocalState, Process, State, process, zero_state}
 use Rattle.st_core.specs.Stamp.{stamped_token, stamp, stamp_any}
 use Rattle.st_core.specs.Local.{has_label}
-use Rattle.st_core.specs.Collected.{is_among}
+use Rattle.st_core.specs.Streams.{is_among}
 use Rattle.st_core.specs.Step.{Acted, Outcome, actor, receiver, acted, answers, prints, sends, outcome_of, step}
 use Rattle.st_core.specs.Run.{run_from}
 use Rattle.st_core.specs.Laws.{IsStamped, IsSound}

@@ -3,7 +3,7 @@ use Rattle.std.specs.Prelude.{◌≡◌, ℕ, ◌≤◌, ◌&&◌, Bool, true, L
 use Rattle.std.specs.List.{list_all}
 use Rattle.st_core.specs.declared.types.Pid.{Pid}
 use Rattle.st_core.specs.declared.types.Act.{Act}
-use Rattle.st_core.specs.Collected.{is_among}
+use Rattle.st_core.specs.Streams.{is_among}
 use Rattle.st_core.specs.Step.{actor, receiver}
 use Rattle.st_core.specs.Run.{run}
 

@@ -14,10 +14,9 @@ use Rattle.st_core.specs.Run.{Stream}
 use Rattle.st_core.specs.Streams.{events_of}
 use Rattle.st_pair.specs.declared.answer.PairFault.{PairFault}
 use Rattle.st_pair.specs.declared.answer.PairFault.TheVariants as pairing
-use Rattle.st_pair.specs.Places.{is_stamp, first_from, first}
+use Rattle.st_pair.specs.Places.{is_stamp, first_from, first, or_else}
 use Rattle.st_pair.specs.Pairing.{stamp_before, stamp_of, receive_of, agrees, prev_not_before, not_rising, repeated}
 use Rattle.st_pair.specs.Pairing.{mismatch, first_rule, refusal}
-use Rattle.st_pair.specs.Tables.{or_else}
 use Rattle.st_pair.proofs.ForCallers.{paired}
 use Rattle.st_order.specs.declared.item.Item.{Item}
 use Rattle.st_order.specs.Order.{IsOrder, order}

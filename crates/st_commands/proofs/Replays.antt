@@ -7,7 +7,8 @@ use Rattle.st_check.specs.Answers.{IsReplay}
 use Rattle.st_check.specs.declared.verdict.Replayed.{Replayed}
 use Rattle.st_check.specs.declared.verdict.Replayed.TheVariants as answers
 use Rattle.st_commands.specs.Checked.{top}
-use Rattle.st_commands.specs.Parts.{ReplaysTo, Runs, Sticks, bundled, replayed_output}
+use Rattle.st_commands.specs.Parts.{ReplaysTo, Runs, Sticks, replayed_output}
+use Rattle.st_commands.specs.Output.{bundled}
 
 replays_on : (streams : List Stream) (acts : List Act) (r : Replayed) → IsReplay top (pids_of streams) acts r
     → ReplaysTo streams acts (replayed_output r acts)

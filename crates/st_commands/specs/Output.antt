@@ -1,10 +1,13 @@
 -- What the program writes and returns: a text of whole lines, and an exit status (own profile).
 -- The status is 0 for a yes or a run, 1 for a no, 2 for a faulty input, 3 for a faulty command line, and 4 if
 -- memory runs out or a device fails.
-use Rattle.std.specs.Prelude.{ℕ, List, ◌++◌, codes, decimal}
+use Rattle.std.specs.Prelude.{ℕ, List, Some, ◌++◌, codes, decimal}
 use Rattle.std.specs.List.{flat_map}
+use Rattle.st_core.specs.declared.types.Act.{Act}
+use Rattle.st_core.specs.Run.{Stream}
 use Rattle.st_core.specs.Verdict.{Verdict, Stuck, Differs, Left, Yes}
 use Rattle.st_text.specs.Spelling as spelled
+use Rattle.st_text.specs.Text.{spelling}
 use Rattle.st_text.specs.declared.fault.ReadFault.{ReadFault}
 use Rattle.st_text.specs.declared.fault.ReadFault.TheVariants as faults
 use Rattle.st_chart.specs.Words.{ended_line}
@@ -38,6 +41,12 @@ verdict_status (Left p) = 1
 
 abbrev pub judged : Verdict → Output
 judged v = record { text = verdict_text v; status = verdict_status v }
+
+-- ---- bundles
+
+-- the text of streams and acts
+abbrev pub bundled : List Stream → List Act → Output
+bundled streams acts = record { text = spelling (record { streams = streams; acts = Some acts }); status = 0 }
 
 -- ---- faults
 

@@ -21,8 +21,8 @@ use Rattle.st_runtime.specs.declared.fault.DriveFault.{DriveFault}
 use Rattle.st_runtime.specs.declared.fault.DriveFault.TheVariants as drive
 use Rattle.st_runtime.specs.declared.join.record.Record.{Record}
 use Rattle.st_runtime.specs.Driven.{IsDriven, IsDriveFault}
-use Rattle.st_text.specs.Text.{Contents, spelling}
-use Rattle.st_commands.specs.Output.{Output, judged, no_acts, no_memory}
+use Rattle.st_text.specs.Text.{Contents}
+use Rattle.st_commands.specs.Output.{Output, bundled, judged, no_acts, no_memory}
 use Rattle.st_commands.specs.Checked.{top}
 use Rattle.st_commands.specs.Replayed.{replayed, stuck}
 use Rattle.st_commands.specs.Audited.{report_output}
@@ -82,10 +82,6 @@ pub data DrivesTo (streams : List Stream) (acts : List Act) : Output → Type 0 
 pub data OfBundle (OfActs : List Stream → List Act → Output → Type 0) (c : Contents) : Output → Type 0 where
   OfSome : (acts : List Act) (out : Output) → c.acts ≡ Some acts → OfActs c.streams acts out → OfBundle OfActs c out
   OfNone : c.acts ≡ None → OfBundle OfActs c no_acts
-
--- the text of streams and acts
-abbrev pub bundled : List Stream → List Act → Output
-bundled streams acts = record { text = spelling (record { streams = streams; acts = Some acts }); status = 0 }
 
 abbrev pub replayed_output : Replayed → List Act → Output
 replayed_output (answers.Ran streams replies) acts = bundled streams acts

@@ -5,8 +5,7 @@ ghost use Rattle.st_check.specs.Answers.{verdict_of};
 ghost use Rattle.st_commands.specs.Audited.{finding_status, report_output};
 ghost use Rattle.st_commands.specs.Command.{Delivers};
 ghost use Rattle.st_commands.specs.Lines.{text_of};
-ghost use Rattle.st_commands.specs.Output.{verdict_status, fault_status, judged, refusal_output, refused};
-ghost use Rattle.st_commands.specs.Parts.{bundled};
+ghost use Rattle.st_commands.specs.Output.{verdict_status, fault_status, judged, refusal_output, refused, bundled};
 
 use crate::lines::{OutputLine, send_line, send_verdict};
 use crate::words::Refusal;

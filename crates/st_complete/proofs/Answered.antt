@@ -1,7 +1,8 @@
 -- Why the reasons hold, and why they are final: what acts without a reset show has a full
 -- completion, in which none of them holds. And why acts show the streams otherwise: a completion
 -- needs nothing, and if each receive has its send, the reasons decide.
-use Rattle.std.proofs.Common.{◌≡◌, ◌↔◌, ℕ, ◌<◌, ◌≤◌, zero, suc, ◌&&◌, nat_lt, not, Bool, true, false, cond, List}
+use Rattle.std.proofs.Common.{◌≡◌, ◌↔◌, inl, inr, ℕ, ◌<◌, ◌≤◌, zero, suc, ◌&&◌, nat_lt, not, Bool, true}
+use Rattle.std.proofs.Common.{false, cond, List}
 use Rattle.std.proofs.Common.{[], ◌∷◌, map, find, slice_get, take, Option, Some, None, refl, sym, ◌∙◌, ap, subst, arith}
 use Rattle.std.proofs.lemmas.Bool.{false≢true}
 use Rattle.std.proofs.lemmas.Bool.Decides.{nat_tests}
@@ -25,7 +26,7 @@ use Rattle.st_full.specs.Needs.{HoldsOfNone, is_late, is_rootless, marked_of}
 use Rattle.st_full.specs.Reasons.{HasNoReason}
 use Rattle.st_full.specs.Supply.{IsSupplied}
 use Rattle.st_full.specs.Wholes.{wholes_of}
-use Rattle.st_full.proofs.ForCallers.{run_completed}
+use Rattle.st_full.proofs.ForCallers.{run_completed, told_zeros_final}
 use Rattle.st_complete.specs.declared.answer.Never.{Never}
 use Rattle.st_complete.specs.declared.answer.Never.TheVariants as never
 use Rattle.st_complete.specs.declared.answer.Answer.{Answer}
@@ -137,29 +138,33 @@ above : (top this : ℕ) → nat_lt top this ≡ true → this ≤ top → ⊥
 above top this is below = let high : top < this = grind (arith, nat_tests, is) in omega (arith, high, below)
 
 reason_final : (top : ℕ) (streams : List Stream) (p : Pid) (i : ℕ) (reason : Never) → HaveNothingAgainst
-    → IsRising (pids_of streams) → IsReason top streams p i reason → IsFinal top streams reason
-reason_final top streams p i never.PrevNotBefore law rising is = refused_never_shown streams (fault.PrevNotBefore p i) is
-reason_final top streams p i (never.NotRising j) law rising is = refused_never_shown streams (fault.NotRising p i j) is
-reason_final top streams p i (never.Repeated q j) law rising is =
+    → IsStreams streams → IsReason top streams p i reason → IsFinal top streams reason
+reason_final top streams p i never.PrevNotBefore law sound is = refused_never_shown streams (fault.PrevNotBefore p i) is
+reason_final top streams p i (never.NotRising j) law sound is = refused_never_shown streams (fault.NotRising p i j) is
+reason_final top streams p i (never.Repeated q j) law sound is =
     refused_never_shown streams (fault.Repeated p i q j) is
-reason_final top streams p i (never.Mismatch q j) law rising is =
+reason_final top streams p i (never.Mismatch q j) law sound is =
     refused_never_shown streams (fault.Mismatch p i q j) is
-reason_final top streams p i (never.Late j) law rising is = λ most acts none shows.
-    never_holds is_late streams p i (law most streams acts shows none rising).0 is.1
-reason_final top streams p i never.Unfounded law rising is = λ most acts none shows.
-    never_holds is_rootless streams p i (law most streams acts shows none rising).1 is.2
-reason_final top streams p i never.Unsent law rising is = λ most acts none shows.
-    is.1.unsupplied ((law most streams acts shows none rising).2 is.1.event.serial.prev)
-reason_final top streams p i never.TooHigh law rising is = λ shown.
-    let full = run_completed top streams shown.acts shown.shows shown.one_trace rising in
+reason_final top streams p i (never.Late j) law sound is = λ most acts none shows.
+    never_holds is_late streams p i (law most streams acts shows none sound.draft.rising).0 is.1
+reason_final top streams p i never.Unfounded law sound is = λ most acts none shows.
+    elim is.2 [
+      | inl rootless ↦ never_holds is_rootless streams p i (law most streams acts shows none sound.draft.rising).1
+          rootless
+      | inr behind ↦ told_zeros_final most streams sound is.0 p i behind acts none shows
+    ]
+reason_final top streams p i never.Unsent law sound is = λ most acts none shows.
+    is.1.unsupplied ((law most streams acts shows none sound.draft.rising).2 is.1.event.serial.prev)
+reason_final top streams p i never.TooHigh law sound is = λ shown.
+    let full = run_completed top streams shown.acts shown.shows shown.one_trace sound.draft.rising in
     above top is.1.event.serial.this is.1.holds
     (shown_within top streams (wholes_of top streams shown.acts shown.shows.0) full.0 full.2 p i is.1.event is.1.at)
 
-pub never_final : (top : ℕ) (streams : List Stream) (found : Answer) → HaveNothingAgainst → IsRising (pids_of streams)
+pub never_final : (top : ℕ) (streams : List Stream) (found : Answer) → HaveNothingAgainst → IsStreams streams
     → IsAnswer top streams found → IsNeverFinal top streams found
-never_final top streams (answer.Whole wholes) law rising is = tt
-never_final top streams (answer.Never p i reason) law rising is = reason_final top streams p i reason law rising is
-never_final top streams (answer.Open p i) law rising is = tt
+never_final top streams (answer.Whole wholes) law sound is = tt
+never_final top streams (answer.Never p i reason) law sound is = reason_final top streams p i reason law sound is
+never_final top streams (answer.Open p i) law sound is = tt
 
 -- STREAMS THAT ARE SHOWN
 

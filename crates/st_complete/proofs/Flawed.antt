@@ -14,15 +14,14 @@ use Rattle.st_core.proofs.ForCallers.{greatest_push, prev_push}
 use Rattle.st_pair.specs.declared.answer.Source.{Source}
 use Rattle.st_pair.specs.declared.answer.Source.TheVariants as source
 use Rattle.st_pair.specs.Pairing.{source_at, source_of}
-use Rattle.st_pair.specs.Places.{event_at, first, first_from, is_stamp}
-use Rattle.st_pair.specs.Tables.{or_else}
+use Rattle.st_pair.specs.Places.{event_at, first, first_from, is_stamp, or_else}
 use Rattle.st_pair.proofs.ForCallers.{event_none, first_from-at, first-loop, given_at, IsGiven}
 use Rattle.st_full.specs.Needs.{HoldsOfNone}
 use Rattle.st_complete.specs.Answers.{HidesSend, HoldsThere}
 use Rattle.st_plan.proofs.ForCallers.{take_more}
 use Rattle.st_order.specs.Items.{is_hidden}
 use Rattle.st_complete.specs.declared.flaws.Left.{Left}
-use Rattle.st_complete.specs.Flaws.{flawed, hides, HidesNone, is_hidden_in, left_by, place_where}
+use Rattle.st_complete.specs.Flaws.{flaw_place, hides, HidesNone, is_hidden_in, left_by, place_where}
 
 -- what events leave with one more
 pub left_more : (es : List Event) (i : ℕ) (e : Event) → slice_get es i ≡ Some e
@@ -83,9 +82,9 @@ same_from r t p same i (e ∷ es) = ap (λ (o : Option (Pid × ℕ)). or_else o 
 
 -- the events of a process are those of its stream
 pub in_streams : (test : List Event → Event → Bool) (streams : List Stream) (p : Pid) (es : List Event)
-    → es ≡ events_of streams p → first_from (place_where test es) p 0 es ≡ first_from (flawed test streams) p 0 es
+    → es ≡ events_of streams p → first_from (place_where test es) p 0 es ≡ first_from (flaw_place test streams) p 0 es
 in_streams test streams p es is =
-    same_from (place_where test es) (flawed test streams) p
+    same_from (place_where test es) (flaw_place test streams) p
     (λ i e. ap (λ (l : List Event). place_where test l p i e) is) 0 es
 
 module _ (rule : Pid → ℕ → Event
@@ -128,7 +127,7 @@ none_false false x is = refl
 
 -- where a test gives a place, it holds there
 pub holds_there : (test : List Event → Event → Bool) (streams : List Stream) (p : Pid) (i : ℕ)
-    → IsGiven (flawed test streams) streams (p, i) → HoldsThere test streams p i
+    → IsGiven (flaw_place test streams) streams (p, i) → HoldsThere test streams p i
 holds_there test streams p i found =
     let given = gives_true (test (take found.index (events_of streams found.pid)) found.event) p found.pid i found.index
     found.gives in
@@ -140,9 +139,10 @@ holds_there test streams p i found =
 
 -- where it gives none, it holds of none
 pub holds_of_none : (test : List Event → Event → Bool) (streams : List Stream)
-    → first (flawed test streams) streams ≡ None → HoldsOfNone test streams
+    → first (flaw_place test streams) streams ≡ None → HoldsOfNone test streams
 holds_of_none test streams none = λ p i e at.
-    none_false (test (take i (events_of streams p)) e) (p, i) (event_none (flawed test streams) streams none p i e at)
+    none_false (test (take i (events_of streams p)) e) (p, i)
+    (event_none (flaw_place test streams) streams none p i e at)
 
 pub hides_none : (streams : List Stream) → first (hides streams) streams ≡ None → HidesNone streams
 hides_none streams none = λ p i e at.

@@ -6,5 +6,6 @@ pub mod Answered
 pub mod Counted
 pub mod Ranking
 pub mod Supplied
+pub mod ZeroBehind
 pub mod Needed
 pub mod Constructed

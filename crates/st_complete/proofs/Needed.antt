@@ -21,7 +21,7 @@ use Rattle.st_full.specs.Completion.{needs_of, own, supplied_by, supplies, suppl
 use Rattle.st_full.specs.Needs.{is_need}
 use Rattle.st_full.specs.Renumbering.{counts_of}
 use Rattle.st_full.specs.Supply.{is_free, is_own_supply}
-use Rattle.st_complete.specs.declared.supplying.Told.{Told}
+use Rattle.st_complete.specs.declared.unsent.Told.{Told}
 use Rattle.st_complete.specs.Counts.{all_counts, counts_in}
 use Rattle.st_complete.specs.Told.{is_untaken, is_unused, told_of}
 use Rattle.st_complete.proofs.Counted.{above_in, AllAbove, Climbs, IsIn, counts_climb, counts_has, either_in}

@@ -16,7 +16,7 @@ use Rattle.st_core.specs.Streams.{added, AreOwn, ComesLast, events_of, is_own, l
 use Rattle.st_core.proofs.ForCallers.{all_at, IsBelow-apart, pid_eq-refl}
 use Rattle.st_pair.proofs.ForCallers.{blank, take_map}
 use Rattle.st_full.specs.Renumbering.{event_with, rank, with_counts}
-use Rattle.st_complete.specs.Counts.{ranked}
+use Rattle.st_complete.specs.Counts.{ranked_stream}
 use Rattle.st_complete.proofs.Counted.{stream_here}
 
 -- RANKS
@@ -64,9 +64,9 @@ added_last (x ∷ xs) p es e last =
 
 -- one event more
 pub ranked_more : (counts : List ℕ) (old now next : List Stream) (p : Pid) (es : List Event) (i : ℕ) → ComesLast old p
-    → i < length es → now ≡ old ++ ranked counts p (take i es) ∷ []
+    → i < length es → now ≡ old ++ ranked_stream counts p (take i es) ∷ []
     → next ≡ added now p (event_with (rank counts) (get_or es i blank))
-    → next ≡ old ++ ranked counts p (take (i + 1) es) ∷ []
+    → next ≡ old ++ ranked_stream counts p (take (i + 1) es) ∷ []
 ranked_more counts old now next p es i last within is step =
     let f = event_with (rank counts) in
     step
@@ -108,12 +108,12 @@ own_events streams pids k d es rising own are within is =
 pub streams_more : (counts : List ℕ) (streams : List Stream) (pids : List Pid) (k : ℕ) (d : Pid) (es : List Event)
     (now next : List Stream) → IsRising (pids_of streams) → pids ≡ pids_of streams → k < length pids
     → es ≡ events_of streams (get_or pids k d) → now ≡ with_counts (rank counts) (take k streams)
-    → next ≡ now ++ ranked counts (get_or pids k d) es ∷ []
+    → next ≡ now ++ ranked_stream counts (get_or pids k d) es ∷ []
     → next ≡ with_counts (rank counts) (take (k + 1) streams)
 streams_more counts streams pids k d es now next rising are within is so_far step =
     let at = stream_here streams pids k d es rising are within is in
     let one : suc k ≡ k + 1 = omega arith in
     step
-    ∙ ap (λ xs. xs ++ ranked counts (get_or pids k d) es ∷ []) so_far
-    ∙ sym (take_map (λ (x : Stream). ranked counts x.pid x.events) streams k _ at)
+    ∙ ap (λ xs. xs ++ ranked_stream counts (get_or pids k d) es ∷ []) so_far
+    ∙ sym (take_map (λ (x : Stream). ranked_stream counts x.pid x.events) streams k _ at)
     ∙ ap (λ n. with_counts (rank counts) (take n streams)) one

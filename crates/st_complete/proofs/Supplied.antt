@@ -26,7 +26,7 @@ use Rattle.st_pair.proofs.ForCallers.{blank}
 use Rattle.st_full.specs.Needs.{is_need}
 use Rattle.st_full.specs.Supply.{excess, is_free, is_own_supply, needs, needs_from, IsSupplied}
 use Rattle.st_full.proofs.ForCallers.{need_of}
-use Rattle.st_complete.specs.declared.supplying.Told.{Told}
+use Rattle.st_complete.specs.declared.unsent.Told.{Told}
 use Rattle.st_complete.specs.Told.{is_untaken, is_unused, senders, senders_in, told_of, AllSupplied, AreSupplied}
 use Rattle.st_complete.proofs.Counted.{drop_stream, stream_here}
 

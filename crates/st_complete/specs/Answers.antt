@@ -1,5 +1,6 @@
 -- What the results mean: a completion, or a place and a reason why no acts without a reset show the streams.
-use Rattle.std.specs.Prelude.{◌≡◌, ℕ, ◌<◌, ◌≤◌, nat_lt, Bool, true, false, List, take, slice_get, Some, None, IsSome}
+use Rattle.std.specs.Prelude.{◌≡◌, ◌⊎◌, ℕ, ◌<◌, ◌≤◌, nat_lt, Bool, true, false, List, take, slice_get, Some}
+use Rattle.std.specs.Prelude.{None, IsSome}
 use Rattle.st_core.specs.declared.types.Pid.{Pid}
 use Rattle.st_core.specs.declared.types.Event.{Event}
 use Rattle.st_core.specs.Run.{Stream}
@@ -10,6 +11,7 @@ use Rattle.st_pair.specs.Pairing.{refusal}
 use Rattle.st_pair.specs.Places.{event_at, is_stamp}
 use Rattle.st_order.specs.Items.{is_hidden}
 use Rattle.st_full.specs.Completed.{IsShownInOneTrace}
+use Rattle.st_full.specs.FinalReasons.{IsZeroBehind}
 use Rattle.st_full.specs.Needs.{HoldsOfNone, is_late, is_need, is_rootless}
 use Rattle.st_full.specs.Reasons.{HasEachSend}
 use Rattle.st_full.specs.Supply.{IsSupplied}
@@ -35,6 +37,11 @@ pub record IsLastHigher (streams : List Stream) (p : Pid) (i j : ℕ) : Type 0 w
   pub receives : is_stamp receive ≡ false
   pub high : event.serial.this ≤ receive.serial.this
   pub last : (k : ℕ) (f : Event) → j < k → k < i → event_at streams p k ≡ Some f → f.serial.this < event.serial.this
+
+-- event i of p is a need of 0, or tells of one: it is a send or print with prev 0 or the receive of such a send, and
+-- another event tells of one of the same process with a lower count and another prev
+abbrev pub IsUnfounded : List Stream → Pid → ℕ → Type 0
+IsUnfounded streams p i = HoldsThere is_rootless streams p i ⊎ IsZeroBehind streams p i
 
 -- event i of p is a need, and there are more needs of its prev than messages that may feed them
 pub record IsUnsent (streams : List Stream) (p : Pid) (i : ℕ) : Type 0 where
@@ -70,7 +77,7 @@ IsReason top streams p i (never.Mismatch q j) = refusal streams ≡ Some (fault.
 IsReason top streams p i (never.Late j) =
     (refusal streams ≡ None) × HoldsThere is_late streams p i × IsLastHigher streams p i j
 IsReason top streams p i never.Unfounded =
-    (refusal streams ≡ None) × HoldsOfNone is_late streams × HoldsThere is_rootless streams p i
+    (refusal streams ≡ None) × HoldsOfNone is_late streams × IsUnfounded streams p i
 IsReason top streams p i never.Unsent = IsRooted streams × IsUnsent streams p i
 IsReason top streams p i never.TooHigh = IsRooted streams × HoldsThere (is_too_high top) streams p i
 
@@ -88,10 +95,12 @@ pub record HidesSend (streams : List Stream) : Type 0 where
   pub hides : is_hidden streams event ≡ true
 
 -- The streams are undecided: the send of some receive is hidden; nothing that is read off the
--- events of one process alone refuses them; and the event is there.
+-- events of one process alone refuses them, and no two events tell of a need of 0; and the event is
+-- there.
 pub record IsUndecided (top : ℕ) (streams : List Stream) (p : Pid) (i : ℕ) : Type 0 where
   pub hidden : HidesSend streams
   pub rooted : IsRooted streams
+  pub founded : (q : Pid) (j : ℕ) → ¬ IsZeroBehind streams q j
   pub within : HoldsOfNone (is_too_high top) streams
   pub there : IsSome (event_at streams p i)
 

@@ -16,5 +16,5 @@ all_counts [] = []
 all_counts (x ∷ rest) = counts_in x.events ++ all_counts rest
 
 -- the stream of p with these events, each count replaced by its rank
-abbrev pub ranked : List ℕ → Pid → List Event → Stream
-ranked counts p es = record { pid = p; events = map (event_with (rank counts)) es }
+abbrev pub ranked_stream : List ℕ → Pid → List Event → Stream
+ranked_stream counts p es = record { pid = p; events = map (event_with (rank counts)) es }

@@ -31,8 +31,8 @@ test_of (flaw.TooHigh top) es e = is_too_high top es e
 abbrev pub place_where : (List Event → Event → Bool) → List Event → Pid → ℕ → Event → Option (Pid × ℕ)
 place_where test es p i e = if test (take i es) e then Some (p, i) else None
 
-abbrev pub flawed : (List Event → Event → Bool) → List Stream → Pid → ℕ → Event → Option (Pid × ℕ)
-flawed test streams p i e = place_where test (events_of streams p) p i e
+abbrev pub flaw_place : (List Event → Event → Bool) → List Stream → Pid → ℕ → Event → Option (Pid × ℕ)
+flaw_place test streams p i e = place_where test (events_of streams p) p i e
 
 -- the place of a receive of a hidden send
 abbrev pub hides : List Stream → Pid → ℕ → Event → Option (Pid × ℕ)

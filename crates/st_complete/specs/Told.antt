@@ -11,7 +11,7 @@ use Rattle.st_pair.specs.Pairing.{is_send, receive_of, stamp_of, to_eq}
 use Rattle.st_pair.specs.Places.{is_stamp}
 use Rattle.st_full.specs.Needs.{is_need}
 use Rattle.st_full.specs.Supply.{IsSupplied}
-use Rattle.st_complete.specs.declared.supplying.Told.{Told}
+use Rattle.st_complete.specs.declared.unsent.Told.{Told}
 
 -- whose messages of this count these events receive
 abbrev pub senders_in : ℕ → List Event → List Pid

@@ -10,12 +10,12 @@ use st_core::{Pid, Sequence, Streams};
 use st_plan::Tells;
 use std::marker::Model;
 
-/// All events of each process, and for each whether it is told: 1 byte an event more than the
-/// streams take.
+/// All events of each process, and for each whether it is told, that is, whether it stands in the
+/// streams that were completed. It takes 1 byte an event more than the streams of all events.
 #[derive(Debug, Drop)]
 pub struct Completion {
     pub(crate) streams: Streams,
-    /// By place of the process; events past the end of its marks are untold.
+    /// The marks of each process, by its place; events past the end of the marks are untold.
     pub(crate) told: Vec<Sequence<bool>>,
     /// How many events are untold.
     pub(crate) added: u64,
@@ -33,7 +33,7 @@ impl Model for Completion {
     ghost invariant = { λ a. a.added ≡ added_in (wholes_with a.streams a.told.items) };
 }
 
-/// The completion of streams that has these events and marks: what it has more is untold.
+/// The completion of the streams with all these events and their marks.
 pub(crate) fn completion_of(
     streams: &Streams,
     all: Streams,
@@ -60,7 +60,7 @@ pub(crate) fn marks_at(lists: &[Sequence<bool>], place: usize) -> &[bool]
     }
 }
 
-/// A mark; past the end there is none, and events there are untold.
+/// The mark at this index; events past the end of the marks are untold.
 pub(crate) fn is_marked(marks: &[bool], index: usize) -> bool
     ensures { result ≡ get_or marks.now index false }
 {
@@ -70,7 +70,7 @@ pub(crate) fn is_marked(marks: &[bool], index: usize) -> bool
     false
 }
 
-/// The mark of an event, of so many; events past the end of the marks are untold.
+/// The mark of the event at this index, if a process with so many events has it.
 fn mark_at(event_count: u64, marks: &[bool], index: u64) -> Option<bool>
     ensures { (es : List EventValue) → length es ≡ event_count →
         result ≡ option_map (λ m. m.told) (slice_get (marked_with es marks.now) index) }

@@ -11,7 +11,8 @@ ghost use Rattle.st_full.specs.Completion.{begins};
 ghost use Rattle.st_full.specs.Needs.{HoldsOfNone};
 ghost use Rattle.st_complete.specs.Answers.{HidesSend, HoldsThere};
 ghost use Rattle.st_complete.specs.Flaws.{HidesNone};
-ghost use Rattle.st_complete.specs.Flaws.{flawed, hides, is_hidden_in, left_by, place_where, test_of};
+ghost use Rattle.st_complete.specs.Flaws.{flaw_place, hides, is_hidden_in, left_by, place_where};
+ghost use Rattle.st_complete.specs.Flaws.{test_of};
 
 use st_core::{Event, Kind, Pid, Streams};
 use st_pair::{Pairing, Source};
@@ -31,9 +32,10 @@ pub(crate) struct Left {
 pub(crate) enum Flaw {
     /// A send or print that counts no higher than one of them.
     Late,
-    /// A send or print with a prev that they don't leave and no new trace has: a receive is missing.
+    /// A send or print with a prev that they don't leave and no new trace has: a receive is
+    /// missing.
     Need,
-    /// One with prev 0, which no receive has as its count.
+    /// A need with prev 0, which no receive has as its count.
     Rootless,
     /// An event that counts above this.
     TooHigh(u64),
@@ -82,7 +84,8 @@ impl Left {
 
     /// What is left with one event more.
     pub(crate) fn after(self, event: &Event) -> Left
-        ensures { (es : List EventValue) → self ≡ left_by es → result ≡ left_by (es ++ event.now ∷ []) }
+        ensures { (es : List EventValue) → self ≡ left_by es → result
+            ≡ left_by (es ++ event.now ∷ []) }
     {
         Left {
             greatest: self.greatest.max(event.serial.this),
@@ -104,13 +107,14 @@ impl Left {
 
     /// Whether a receive of the event's prev is missing before it.
     pub(crate) fn lacks(self, event: &Event) -> bool
-        ensures { (es : List EventValue) → self ≡ left_by es → result ≡ test_of Flaw.Need es event.now }
+        ensures { (es : List EventValue) → self ≡ left_by es → result
+            ≡ test_of Flaw.Need es event.now }
     {
         is_stamp(event) && (event.serial.prev != self.prev && event.serial.prev < self.greatest)
     }
 
-    /// Whether the next event begins a trace below this count: its prev is another than what is left,
-    /// at least the greatest count and less than this.
+    /// Whether the next event begins a trace below this count: its prev is another than what is
+    /// left, at least the greatest count and less than this.
     pub(crate) fn begins(self, event: &Event, count: u64) -> bool
         ensures { (es : List EventValue) → self ≡ left_by es
             → result ≡ begins count (greatest_count es) (prev_after es) event.now }
@@ -137,7 +141,7 @@ fn first_in(pid: Pid, events: &[Event], flaw: Flaw) -> Option<(Pid, u64)>
 
 /// The least place of an event with the flaw.
 pub(crate) fn first_flaw(streams: &Streams, flaw: Flaw) -> Option<(Pid, u64)>
-    ensures { result ≡ first (flawed (test_of flaw) streams.now) streams.now }
+    ensures { result ≡ first (flaw_place (test_of flaw) streams.now) streams.now }
 {
     for &pid in streams.pids() {
         if let Some(place) = first_in(pid, streams.events(pid), flaw) {
@@ -191,7 +195,7 @@ pub(crate) fn find_flaw(streams: &Streams, flaw: Flaw) -> Option<(Pid, u64)>
     }
 }
 
-/// Whether an event has the flaw.
+/// Whether some event has the flaw.
 pub(crate) fn has_flaw(streams: &Streams, flaw: Flaw) -> bool
     ensures { result ≡ false → HoldsOfNone (test_of flaw) streams.now }
 {
@@ -215,7 +219,7 @@ pub(crate) fn find_hidden(streams: &Streams, pairing: &Pairing) -> Option<(Pid, 
     }
 }
 
-/// Whether the send of a receive is hidden.
+/// Whether the send of some receive is hidden.
 pub(crate) fn has_hidden(streams: &Streams, pairing: &Pairing) -> bool
     requires { IsPairing streams.now pairing.now }
     ensures { result ≡ false → HidesNone streams.now }

@@ -1,30 +1,31 @@
 //! What a trace lacks: the events that must have happened unreported, or why no run has it.
 //!
-//! `complete` gives streams a completion: whole streams of which they are what was told, and which
-//! acts without a reset show. Or it names an event and a reason that is final. `certificate` writes
-//! the acts of a completion. `renumbered` makes the counts of streams small.
+//! `complete` finds a completion of streams: whole streams that acts without a reset show, and of
+//! which the streams are the told events. Or it names an event and the reason why there is none.
+//! `certificate` writes the acts of a completion. `renumbered` makes the counts of streams small.
 #![tactic(auto)]
 
 mod answer;
-mod certifying;
-mod checking;
-mod completing;
+mod candidate;
+mod certificates;
 mod completion;
-mod constructing;
-mod feeding;
+mod construction;
+mod decision;
+mod feeds;
 mod flaws;
-mod placing;
+mod judge;
+mod places;
 mod prices;
-mod renumbering;
-mod searching;
+mod ranks;
+mod search;
 mod supplies;
-mod supplying;
 #[cfg(test)]
 mod tests;
-mod writing;
+mod unsent;
+mod zeros;
 
 pub use answer::{Answer, Certificate, CertificateFault, CompleteFault, Never};
-pub use certifying::certificate;
-pub use completing::complete;
+pub use certificates::certificate;
 pub use completion::Completion;
-pub use renumbering::renumbered;
+pub use decision::complete;
+pub use ranks::renumbered;

@@ -1,16 +1,17 @@
 //! What a need of a count costs.
 
-use crate::feeding::Need;
+use crate::feeds::Need;
 use std::alloc::{AllocError, Global};
 
-/// The price of each scarce count; any other costs nothing.
+/// The price of each scarce count; other counts cost nothing.
 #[derive(Debug, Drop)]
 pub(crate) struct Prices {
     /// Counts and prices, by rising count.
     rows: Vec<(u64, u64)>,
 }
 
-/// What a scarce count costs at first.
+/// What a need of a scarce count costs at first. It is at least 2, since a price rises by its half,
+/// rounded down.
 const FIRST_PRICE: u64 = 4;
 
 impl Prices {
@@ -23,7 +24,12 @@ impl Prices {
         Ok(Prices { rows })
     }
 
-    /// The row of the count, if it is scarce.
+    /// Whether no count is scarce.
+    pub(crate) fn is_empty(&self) -> bool {
+        self.rows.is_empty()
+    }
+
+    /// The place of the count's row, if the count is scarce.
     fn place_of(&self, count: u64) -> Option<usize> {
         let at = self.rows.partition_point(|row| row.0 < count);
         if self.rows.get(at)?.0 == count {
@@ -41,7 +47,7 @@ impl Prices {
         }
     }
 
-    /// Raises the price of a count that too many need.
+    /// Raises the price of a count of which there are too few messages, by half.
     pub(crate) fn raise(&mut self, count: u64) {
         if let Some(at) = self.place_of(count) {
             if let Some(row) = self.rows.get_mut(at) {

@@ -1,4 +1,4 @@
-//! Who sends what feeds each need, if no send is hidden.
+//! Whose message each need gets, if no send is hidden.
 
 ghost use Rattle.std.specs.Prelude.{◌≡◌, ◌-◌, ◌++◌, [], drop, filter, length, map, IfOk, OnOk};
 ghost use Rattle.st_core.specs.Run.{pids_of};
@@ -8,13 +8,13 @@ ghost use Rattle.st_full.specs.Supply.{is_free};
 ghost use Rattle.st_complete.specs.Told.{told_of};
 
 use crate::flaws::Left;
-use crate::renumbering::counts_of;
-use crate::supplying::{Told, all_told, is_untaken, is_unused};
+use crate::ranks::counts_of;
+use crate::unsent::{Told, all_told, is_untaken, is_unused};
 use st_core::{Event, Pid, Streams};
 use std::alloc::{AllocError, Global};
 use std::marker::Model;
 
-/// A need, and the process whose message feeds it.
+/// A need, and the process whose message it gets.
 #[derive(Clone, Copy, Debug)]
 pub(crate) struct Supply {
     /// The event that needs a message; its prev is the message's count.
@@ -50,8 +50,9 @@ fn needs_of(alloc: Global, events: &[Event], count: u64) -> Result<Vec<Event>, A
     Ok(needs)
 }
 
-/// Who told of a send of the count to this process that nobody is told to have received.
-fn own(
+/// The processes with a reported send of the count to this process, if no receive of it is
+/// reported.
+fn own_senders(
     alloc: Global,
     streams: &Streams,
     all: &[Told],
@@ -71,8 +72,8 @@ fn own(
     Ok(senders)
 }
 
-/// Of whose count nothing is told.
-fn free_of(
+/// The processes of which nothing is told at this count.
+fn free_senders(
     alloc: Global,
     streams: &Streams,
     all: &[Told],
@@ -92,7 +93,7 @@ fn free_of(
     Ok(free)
 }
 
-/// Adds a supply of each need, from the sender at the same place, as long as there are some.
+/// Adds a supply of each need from the sender at the same place, as long as there are senders.
 fn add_supplied(
     supplies: &mut Vec<Supply>,
     pid: Pid,
@@ -115,8 +116,8 @@ fn add_supplied(
     Ok(())
 }
 
-/// The processes behind the first so many.
-fn behind(pids: &[Pid], count: usize) -> &[Pid]
+/// The processes behind the first `count`.
+fn rest_behind(pids: &[Pid], count: usize) -> &[Pid]
     ensures { result.now ≡ drop count pids.now }
 {
     if count < pids.len() {
@@ -125,8 +126,8 @@ fn behind(pids: &[Pid], count: usize) -> &[Pid]
     &[]
 }
 
-/// Adds the supplies of a count to one process, its own first, and returns the free processes that
-/// are left.
+/// Adds the supplies of a count for the needs of one process, first from its own senders, then from
+/// free processes. Returns the free processes that are left.
 fn add_supplies_to<'a>(
     alloc: Global,
     supplies: &mut Vec<Supply>,
@@ -145,14 +146,14 @@ fn add_supplies_to<'a>(
         - length (own streams.now count pid)) free.now) }
 {
     let needs = needs_of(alloc, streams.events(pid), count)?;
-    let mut senders = own(alloc, streams, all, pid, count)?;
+    let mut senders = own_senders(alloc, streams, all, pid, count)?;
     let taken = needs.len().saturating_sub(senders.len());
     senders.extend_from_slice(free)?;
     add_supplied(supplies, pid, &needs, &senders)?;
-    Ok(behind(free, taken))
+    Ok(rest_behind(free, taken))
 }
 
-/// Adds the supplies of a count to all processes.
+/// Adds the supplies of a count for the needs of all processes.
 fn add_supplies(
     alloc: Global,
     supplies: &mut Vec<Supply>,
@@ -164,7 +165,7 @@ fn add_supplies(
         (pids_of streams.now)) }
 {
     let all = all_told(alloc, streams, count)?;
-    let free = free_of(alloc, streams, &all, count)?;
+    let free = free_senders(alloc, streams, &all, count)?;
     let mut left = free.as_slice();
     for &pid in streams.pids() {
         left = add_supplies_to(alloc, supplies, streams, &all, left, pid, count)?;
@@ -172,8 +173,8 @@ fn add_supplies(
     Ok(())
 }
 
-/// A supply of each need, by rising count. It looks at all events once for each count that stands in
-/// the streams, which takes a time quadratic in the events.
+/// A supply of each need, by rising count. It looks at all events once for each count in the
+/// streams, which takes a time quadratic in the events.
 pub(crate) fn supplies(alloc: Global, streams: &Streams) -> Result<Vec<Supply>, AllocError>
     ensures { IfOk result (λ found. found.items ≡ supplies streams.now) }
 {

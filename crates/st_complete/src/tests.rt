@@ -1,12 +1,14 @@
 //! The completion by its definition: of worked streams, as they were completed by hand, and of
-//! generated ones, each through the checker that judges what the search finds.
+//! generated ones, each through the checker that judges what the search finds. And needs of 0 that
+//! two events tell.
 
-use crate::answer::{Answer, CompleteFault};
-use crate::checking::checked;
-use crate::completing::decide_without_hidden;
+use crate::answer::{Answer, CompleteFault, Never};
+use crate::candidate::Candidate;
 use crate::completion::Completion;
+use crate::decision::{answer_by_definition, complete};
 use crate::flaws::{Flaw, find_flaw, find_hidden};
-use crate::writing::Candidate;
+use crate::judge::judge;
+use crate::ranks::renumbered;
 use st_core::{Draft, Event, Kind, Label, Pid, Serial, Streams};
 use st_pair::pair;
 use std::alloc::{AllocError, Global};
@@ -49,7 +51,7 @@ fn print(prev: u64, this: u64, from: Pid) -> Event {
 
 /// 30 printed 3 and 5, and then goes on from a message of 3 that nobody reported; and these events
 /// of 31, if it is there.
-fn needing(alloc: Global, others: Option<&[Event]>) -> Result<Streams, Fail> {
+fn needing_streams(alloc: Global, others: Option<&[Event]>) -> Result<Streams, Fail> {
     let mut draft = Draft::new(alloc);
     draft.open(p30())?;
     for (prev, this) in [(0, 3), (0, 5), (3, 6)] {
@@ -65,7 +67,10 @@ fn needing(alloc: Global, others: Option<&[Event]>) -> Result<Streams, Fail> {
 }
 
 /// The completion by its definition, if no send is hidden and nothing stands against the streams.
-fn constructed(alloc: Global, streams: &Streams) -> Result<Option<Completion>, CompleteFault> {
+fn constructed_completion(
+    alloc: Global,
+    streams: &Streams,
+) -> Result<Option<Completion>, CompleteFault> {
     let Ok(pairing) = pair(alloc, streams) else {
         return Ok(None);
     };
@@ -81,14 +86,14 @@ fn constructed(alloc: Global, streams: &Streams) -> Result<Option<Completion>, C
     if let Some(_) = find_flaw(streams, Flaw::TooHigh(MOST)) {
         return Ok(None);
     }
-    match decide_without_hidden::<MOST>(alloc, streams)? {
+    match answer_by_definition::<MOST>(alloc, streams)? {
         Answer::Whole(completion) => Ok(Some(completion)),
         Answer::Never(..) | Answer::Open(..) => Ok(None),
     }
 }
 
 /// The completion once more, as the checker lets it through.
-fn judged(
+fn judge_again(
     alloc: Global,
     streams: &Streams,
     completion: Completion,
@@ -98,7 +103,7 @@ fn judged(
         told,
         added: _,
     } = completion;
-    checked::<MOST>(alloc, streams, Candidate { streams: all, told })
+    judge::<MOST>(alloc, streams, Candidate { streams: all, told })
 }
 
 /// Asserts that the completion has this untold event, and so many.
@@ -111,8 +116,8 @@ fn assert_added(
     wanted: Event,
     added: u64,
 ) -> Result<(), Fail> {
-    let completion = constructed(alloc, streams)?.ok_or("not completed")?;
-    let completion = judged(alloc, streams, completion)?.ok_or("refused")?;
+    let completion = constructed_completion(alloc, streams)?.ok_or("not completed")?;
+    let completion = judge_again(alloc, streams, completion)?.ok_or("refused")?;
     assert_eq!(rt; completion.added(), added);
     assert_eq!(rt; completion.told(pid, index), Some(false));
     assert_eq!(rt; completion.streams().event(pid, index), Some(wanted));
@@ -122,21 +127,21 @@ fn assert_added(
 #[test]
 fn a_reported_send_serves_the_need(rt: HostRuntime) -> Result<(), Fail> {
     let sent = event(Kind::Send, 0, 3, p31(), Some(p30()), 7);
-    let streams = needing(rt.alloc(), Some(&[sent]))?;
+    let streams = needing_streams(rt.alloc(), Some(&[sent]))?;
     let wanted = event(Kind::Receive, 0, 3, p31(), Some(p30()), 7);
     assert_added(&rt, rt.alloc(), &streams, p30(), 2, wanted, 1)
 }
 
 #[test]
 fn a_free_process_sends(rt: HostRuntime) -> Result<(), Fail> {
-    let streams = needing(rt.alloc(), Some(&[]))?;
+    let streams = needing_streams(rt.alloc(), Some(&[]))?;
     let wanted = event(Kind::Send, 0, 3, p31(), Some(p30()), 0);
     assert_added(&rt, rt.alloc(), &streams, p31(), 0, wanted, 2)
 }
 
 #[test]
 fn the_invented_send_begins_the_trace(rt: HostRuntime) -> Result<(), Fail> {
-    let streams = needing(rt.alloc(), Some(&[print(2, 5, p31())]))?;
+    let streams = needing_streams(rt.alloc(), Some(&[print(2, 5, p31())]))?;
     let wanted = event(Kind::Send, 2, 3, p31(), Some(p30()), 0);
     assert_added(&rt, rt.alloc(), &streams, p31(), 0, wanted, 2)
 }
@@ -155,9 +160,76 @@ fn a_process_alone_sent_to_itself(rt: HostRuntime) -> Result<(), Fail> {
 
 #[test]
 fn nobody_is_free_to_send(rt: HostRuntime) -> Result<(), Fail> {
-    let streams = needing(rt.alloc(), None)?;
-    assert!(rt; constructed(rt.alloc(), &streams)?.is_none());
+    let streams = needing_streams(rt.alloc(), None)?;
+    assert!(rt; constructed_completion(rt.alloc(), &streams)?.is_none());
     Ok(())
+}
+
+/// 30 printed 2 with this prev, and 31 received its send of 3 with prev 0, which nobody reported.
+fn zero_behind(alloc: Global, prev: u64) -> Option<Streams> {
+    let mut draft = Draft::new(alloc);
+    draft.open(p30()).ok()?;
+    draft.add(p30(), print(prev, 2, p30())).ok()?;
+    draft.open(p31()).ok()?;
+    let received = event(Kind::Receive, 0, 3, p30(), Some(p31()), 5);
+    draft.add(p31(), received).ok()?;
+    draft.close().ok()
+}
+
+#[test]
+fn two_events_tell_of_a_need_of_0(rt: HostRuntime) -> Result<(), Fail> {
+    let streams = zero_behind(rt.alloc(), 1).ok_or("no streams")?;
+    let answer = complete::<MOST>(rt.alloc(), &streams)?;
+    let Answer::Never(pid, index, Never::Unfounded) = answer else {
+        panic!(rt; "another answer");
+    };
+    assert_eq!(rt; pid, p31());
+    assert_eq!(rt; index, 0);
+    Ok(())
+}
+
+#[test]
+fn a_prev_of_0_behind_another_is_no_need(rt: HostRuntime) -> Result<(), Fail> {
+    let streams = zero_behind(rt.alloc(), 0).ok_or("no streams")?;
+    let answer = complete::<MOST>(rt.alloc(), &streams)?;
+    assert!(rt; matches!(answer, Answer::Whole(_)));
+    Ok(())
+}
+
+/// These streams, at the second try if memory runs out.
+fn made_streams(rt: &impl Abort, alloc: Global) -> Streams {
+    match zero_behind(alloc, 1) {
+        Some(streams) => streams,
+        None => zero_behind(alloc, 1).expect(rt, "no streams at the second try"),
+    }
+}
+
+/// If memory runs out the call says so, and the same call decides afterwards.
+#[test]
+fn after_memory_ran_out_the_same_call_refuses(rt: HostRuntime) {
+    let alloc = rt.alloc();
+    let streams = made_streams(&rt, alloc);
+    let answer = match complete::<MOST>(alloc, &streams) {
+        Err(CompleteFault::Memory) => complete::<MOST>(alloc, &streams),
+        answer => answer,
+    };
+    assert!(rt; matches!(answer, Ok(Answer::Never(_, 0, Never::Unfounded))));
+}
+
+/// Renumbering says so too, and the same call renumbers afterwards.
+#[test]
+fn after_memory_ran_out_the_same_call_renumbers(rt: HostRuntime) {
+    let alloc = rt.alloc();
+    let streams = made_streams(&rt, alloc);
+    let ranked = match renumbered(alloc, &streams) {
+        Err(AllocError) => renumbered(alloc, &streams),
+        ranked => ranked,
+    };
+    let ranked = ranked.expect(&rt, "not renumbered at the second try");
+    assert_eq!(rt;
+        ranked.event(p31(), 0).map(|event| event.serial.this),
+        Some(3)
+    );
 }
 
 /// A generator of numbers: a linear congruence (Knuth's multiplier).
@@ -193,8 +265,8 @@ fn left_by(events: &[Event]) -> u64 {
     }
 }
 
-/// The next send or print of a process: its count rises, and its prev is the one that is left, or at
-/// times a lower count.
+/// The next send or print of a process: its count rises, and its prev is the one that is left, or
+/// at times a lower count.
 fn stamp(random: &mut Random, pid: Pid, left: u64, step: u64) -> Event {
     let lower = random.below(step);
     let prev = if random.below(4) == 0 { lower } else { left };
@@ -205,7 +277,7 @@ fn stamp(random: &mut Random, pid: Pid, left: u64, step: u64) -> Event {
 }
 
 /// Made-up streams of three processes, in which each receive has its send.
-fn generated(alloc: Global, random: &mut Random) -> Result<Streams, Fail> {
+fn generated_streams(alloc: Global, random: &mut Random) -> Result<Streams, Fail> {
     let mut draft = Draft::new(alloc);
     for number in 30..33u16 {
         draft.open(Pid::new(number))?;
@@ -233,9 +305,9 @@ fn generated_streams_are_completed(rt: HostRuntime) -> Result<(), Fail> {
     let mut random = Random { state: 7 };
     let mut completed: u64 = 0;
     for _ in 0..ROUNDS {
-        let streams = generated(alloc, &mut random)?;
-        if let Some(completion) = constructed(alloc, &streams)? {
-            assert!(rt; judged(alloc, &streams, completion)?.is_some());
+        let streams = generated_streams(alloc, &mut random)?;
+        if let Some(completion) = constructed_completion(alloc, &streams)? {
+            assert!(rt; judge_again(alloc, &streams, completion)?.is_some());
             completed = completed.wrapping_add(1);
         }
     }

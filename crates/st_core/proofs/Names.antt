@@ -25,8 +25,7 @@ use Rattle.st_core.specs.Pick.{pick}
 use Rattle.st_core.specs.Report.{flag_of, report}
 use Rattle.st_core.specs.Step.{Acted, Outcome, acted, actor, receiver, answers, sends, prints, untraced, changed, step}
 use Rattle.st_core.specs.Run.{run, run_from}
-use Rattle.st_core.specs.Streams.{is_of}
-use Rattle.st_core.specs.Collected.{is_among}
+use Rattle.st_core.specs.Streams.{is_of, is_among}
 use Rattle.st_core.specs.Laws.{IsStamped, IsSound, IsReportAmong, ReportsAmong}
 use Rattle.st_core.proofs.Pids.{pid_eq-same}
 use Rattle.st_core.proofs.Others.{process_pid, mapped, step_parts, run_parts, leaves_others}

@@ -6,8 +6,6 @@ use Rattle.st_core.specs.declared.types.Event.{Event}
 use Rattle.st_core.specs.Pid.{IsRising}
 use Rattle.st_core.specs.Run.{Stream}
 use Rattle.st_core.specs.Streams.{AreOwn, total_of}
--- Under this name too, for proofs that cite them here.
-pub use Rattle.st_core.specs.Streams.{is_among, names_among}
 
 -- each pid with its events
 abbrev pub collected : List Pid → List (List Event) → List Stream

@@ -14,6 +14,6 @@ pub mod Streams
 pub mod Laws
 pub mod Device
 pub mod Passed
--- Apart from these: how `Draft` keeps its streams, and the laws of `Recorder`.
-pub mod Collected
 pub mod Rows
+-- For the parts alone: how `Draft` keeps its streams.
+pub mod Collected

@@ -9,9 +9,9 @@ ghost use Rattle.std.specs.Prelude.{slice_index_or};
 ghost use Rattle.std.specs.List.{AllByRecursion};
 ghost use Rattle.st_core.specs.Pid.{pid_eq, IsBelow, IsRising};
 ghost use Rattle.st_core.specs.Run.{pids_of};
-ghost use Rattle.st_core.specs.Streams.{lists, events_of, total_of, unlisted, is_own, added, ComesLast, IsOpenFault};
+ghost use Rattle.st_core.specs.Streams.{lists, events_of, total_of, unlisted, is_own, added, ComesLast, IsOpenFault, is_among, names_among};
 ghost use Rattle.st_core.specs.Streams.{IsAddFault, IsDraft, IsStreams};
-ghost use Rattle.st_core.specs.Collected.{is_among, names_among, first_failing};
+ghost use Rattle.st_core.specs.Collected.{first_failing};
 
 use crate::places::Places;
 use crate::sequence::Sequence;

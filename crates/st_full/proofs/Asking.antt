@@ -10,12 +10,10 @@ use Rattle.st_core.specs.declared.types.Pid.{Pid}
 use Rattle.st_core.specs.declared.types.Event.{Event}
 use Rattle.st_core.specs.Pid.{pid_eq, IsRising}
 use Rattle.st_core.specs.Run.{Stream, pids_of}
-use Rattle.st_core.specs.Streams.{events_of, lists, stream_of}
-use Rattle.st_core.specs.Collected.{is_among}
+use Rattle.st_core.specs.Streams.{events_of, lists, stream_of, is_among}
 use Rattle.st_core.proofs.ForCallers.{pid_eq-refl, pid_same}
-use Rattle.st_pair.specs.Places.{event_at, first_from, is_stamp}
+use Rattle.st_pair.specs.Places.{event_at, first_from, is_stamp, or_else}
 use Rattle.st_pair.specs.Pairing.{receive_of, stamp_of}
-use Rattle.st_pair.specs.Tables.{or_else}
 use Rattle.st_pair.proofs.ForCallers.{event_none, events_in, from_none, given_at, given_from, got_rule, own_rule}
 use Rattle.st_full.proofs.Accepting.{FitTogether}
 use Rattle.st_full.proofs.Putting.{is_placed, more, stays, with_events, with_pids}

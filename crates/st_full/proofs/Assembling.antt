@@ -6,9 +6,8 @@ use Rattle.std.proofs.Common.{refl, sym, ◌∙◌, ap, arith}
 use Rattle.std.proofs.lemmas.Bool.{cases_lt}
 use Rattle.st_core.specs.declared.types.Pid.{Pid}
 use Rattle.st_core.specs.declared.types.Event.{Event}
-use Rattle.st_core.specs.Collected.{is_among}
 use Rattle.st_core.specs.Run.{Stream}
-use Rattle.st_core.specs.Streams.{events_of, IsStreams, lists}
+use Rattle.st_core.specs.Streams.{events_of, IsStreams, lists, is_among}
 use Rattle.st_pair.specs.Pairing.{refusal}
 use Rattle.st_pair.proofs.ForCallers.{paired}
 use Rattle.st_plan.specs.Marks.{all_streams}

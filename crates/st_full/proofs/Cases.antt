@@ -31,6 +31,7 @@ use Rattle.st_plan.specs.Marks.{all_streams, Marked, Whole}
 use Rattle.st_full.specs.Completion.{completion}
 use Rattle.st_full.specs.Needs.{is_late, is_need, is_rootless}
 use Rattle.st_full.specs.Reasons.{Late, StandsAgainst, TooHigh, Unfounded, Unsent}
+use Rattle.st_full.specs.Renumbering.{count_of_rank, counts_of, renumbered_streams, with_counts}
 use Rattle.st_full.specs.Supply.{excess, is_free}
 use Rattle.st_full.specs.Wholes.{wholes_of}
 use Rattle.st_full.proofs.Against.{shown_nothing}
@@ -358,7 +359,10 @@ two_completed = refl
 abbrev far : Pid
 far = pid_on 1 30
 
-far_completed : completion (record { pid = a; events = alone } ∷ record { pid = far; events = [] } ∷ [])
+abbrev far_streams : List Stream
+far_streams = record { pid = a; events = alone } ∷ record { pid = far; events = [] } ∷ []
+
+far_completed : completion far_streams
     ≡ whole a (
     told_event (event kind.Print 1 0 3 a None 1)
     ∷ told_event (event kind.Print 1 0 5 a None 2)
@@ -455,11 +459,46 @@ is_needless streams = accepts (refusal streams) && are_clean streams
 
 needless : (is_needless (all_streams (completion own_streams)) ≡ true)
     × (is_needless (all_streams (completion two_streams)) ≡ true)
+    × (is_needless (all_streams (completion far_streams)) ≡ true)
     × (is_needless (all_streams (completion begun)) ≡ true)
     × (is_needless (all_streams (completion to_itself)) ≡ true)
-needless = (refl, refl, refl, refl)
+needless = (refl, refl, refl, refl, refl)
 
 -- Before, each has a need.
-needy : (is_needless own_streams ≡ false) × (is_needless two_streams ≡ false) × (is_needless begun ≡ false)
+needy : (is_needless own_streams ≡ false) × (is_needless two_streams ≡ false)
+    × (is_needless far_streams ≡ false) × (is_needless begun ≡ false)
     × (is_needless to_itself ≡ false)
-needy = (refl, refl, refl, refl)
+needy = (refl, refl, refl, refl, refl)
+
+-- RENUMBERING
+
+-- The streams above with a free process, with greater counts in the same order.
+abbrev high : List Stream
+high =
+    record {
+      pid = a;
+      events = event kind.Print 1 0 3000 a None 1
+          ∷ event kind.Print 1 0 50000 a None 2
+          ∷ event kind.Print 1 3000 60001 a None 3
+          ∷ [];
+    }
+    ∷ record { pid = b; events = [] }
+    ∷ []
+
+high_counts : counts_of high ≡ 0 ∷ 3000 ∷ 50000 ∷ 60001 ∷ []
+high_counts = refl
+
+high_renumbered : renumbered_streams high
+    ≡ record {
+      pid = a;
+      events = event kind.Print 1 0 1 a None 1
+          ∷ event kind.Print 1 0 2 a None 2
+          ∷ event kind.Print 1 1 3 a None 3
+          ∷ [];
+    }
+    ∷ record { pid = b; events = [] }
+    ∷ []
+high_renumbered = refl
+
+put_back : with_counts (count_of_rank (counts_of high)) (renumbered_streams high) ≡ high
+put_back = refl

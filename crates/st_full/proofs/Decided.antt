@@ -10,8 +10,7 @@ use Rattle.st_core.specs.declared.types.Pid.{Pid}
 use Rattle.st_core.specs.declared.types.Event.{Event}
 use Rattle.st_core.specs.Pid.{pid_eq}
 use Rattle.st_core.specs.Run.{Stream, pids_of}
-use Rattle.st_core.specs.Streams.{events_of, IsStreams, lists}
-use Rattle.st_core.specs.Collected.{is_among}
+use Rattle.st_core.specs.Streams.{events_of, IsStreams, lists, is_among}
 use Rattle.st_core.proofs.ForCallers.{pid_eq-refl}
 use Rattle.st_pair.specs.declared.answer.Source.{Source}
 use Rattle.st_pair.specs.declared.answer.Source.TheVariants as source

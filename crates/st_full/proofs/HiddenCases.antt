@@ -24,7 +24,7 @@ use Rattle.st_pair.specs.Pairing.{refusal}
 use Rattle.st_plan.specs.Marks.{all_streams}
 use Rattle.st_full.specs.Choice.{HasChoice}
 use Rattle.st_full.specs.FinalReasons.{HasNoFinalReason, HasZeroBehindStamp, IsReported, IsStampOf}
-use Rattle.st_full.specs.FinalReasons.{Late, least_excess, StandsAgainstAll, TooHigh, Unfounded}
+use Rattle.st_full.specs.FinalReasons.{IsZeroBehind, Late, least_excess, StandsAgainstAll, TooHigh, Unfounded}
 use Rattle.st_full.specs.FinalReasons.{Unsent}
 use Rattle.st_full.specs.HiddenSends.{are_timely, hidden_from, hidden_send, hidden_sends, least}
 use Rattle.st_full.specs.HiddenSends.{mixes}
@@ -35,6 +35,7 @@ use Rattle.st_full.specs.Supply.{excess, is_free, is_own_supply, needs, needs_fr
 use Rattle.st_full.proofs.Choosing.{exactly_chosen}
 use Rattle.st_full.proofs.Leasts.{Among, frees, owns, placed, smallest_low}
 use Rattle.st_full.proofs.Starting.{timely_from}
+use Rattle.st_full.proofs.StampsTold.{told_zeros_final}
 use Rattle.st_full.proofs.Untold.{first_of, hidden_is, same_pids}
 
 abbrev a : Pid
@@ -131,6 +132,28 @@ rootless_told = record {
   some = omega arith;
   is_zero = refl;
 }
+
+-- The print of a and the receive of its message by b tell it.
+rootless_behind : IsZeroBehind rootless b 0
+rootless_behind = record {
+  event = got a b 0 3;
+  at = refl;
+  is_zero = refl;
+  pid = a;
+  index = 0;
+  first = printed a 1 2;
+  first_at = refl;
+  same = refl;
+  lower = omega arith;
+  above = omega arith;
+}
+
+rootless_never : (top : ℕ) (acts : List Act) → NoReset acts → ¬ Shows top rootless acts
+rootless_never top =
+    told_zeros_final top rootless (record {
+      draft = record { rising = ((refl, tt), (tt, tt)); own = ((refl, tt), ((refl, tt), tt)) };
+      listed = refl;
+    }) refl b 0 rootless_behind
 
 abbrev rooted : List Stream
 rooted = stream a (got b a 0 2 ∷ []) ∷ stream b (got a b 0 3 ∷ []) ∷ []

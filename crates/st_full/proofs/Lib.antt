@@ -1,6 +1,4 @@
 -- The lemmas; what upper crates may cite is in `ForCallers`.
-mod Cases
-mod HiddenCases
 pub mod Telling
 pub mod Turning
 pub mod Plainness
@@ -48,6 +46,7 @@ pub mod Untold
 pub mod Leasts
 pub mod Scarcely
 pub mod Zeros
+pub mod StampsTold
 pub mod Reported
 pub mod Fewest
 pub mod Together
@@ -60,3 +59,5 @@ pub mod Combining
 pub mod Stretching
 pub mod Best
 pub mod ForCallers
+mod Cases
+mod HiddenCases

@@ -8,10 +8,9 @@ use Rattle.std.proofs.lemmas.Option.{none-some, same_Some}
 use Rattle.std.specs.List.{AllByRecursion, count_by}
 use Rattle.st_core.specs.declared.types.Pid.{Pid}
 use Rattle.st_core.specs.declared.types.Event.{Event}
-use Rattle.st_core.specs.Collected.{is_among}
 use Rattle.st_core.specs.Pid.{pid_eq}
 use Rattle.st_core.specs.Run.{Stream, pids_of}
-use Rattle.st_core.specs.Streams.{events_of}
+use Rattle.st_core.specs.Streams.{events_of, is_among}
 use Rattle.st_core.proofs.ForCallers.{pid_same}
 use Rattle.st_pair.specs.Places.{event_at}
 use Rattle.st_full.specs.Needs.{HoldsOfNone, is_late, is_rootless}

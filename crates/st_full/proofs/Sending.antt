@@ -9,8 +9,7 @@ use Rattle.st_core.specs.declared.types.Event.{Event}
 use Rattle.st_core.specs.Pid.{pid_eq}
 use Rattle.st_core.specs.Laws.{IsReportAmong}
 use Rattle.st_core.specs.Run.{Stream, pids_of}
-use Rattle.st_core.specs.Streams.{events_of, lists}
-use Rattle.st_core.specs.Collected.{is_among}
+use Rattle.st_core.specs.Streams.{events_of, lists, is_among}
 use Rattle.st_core.proofs.ForCallers.{pid_eq-refl, pid_same}
 use Rattle.st_pair.specs.Places.{event_at, is_stamp}
 use Rattle.st_pair.specs.Pairing.{receive_of, stamp_of}

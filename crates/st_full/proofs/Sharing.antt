@@ -11,8 +11,7 @@ use Rattle.st_core.specs.declared.types.Pid.{Pid}
 use Rattle.st_core.specs.declared.types.Event.{Event}
 use Rattle.st_core.specs.Pid.{pid_eq, IsBelow, IsRising}
 use Rattle.st_core.specs.Run.{Stream, pids_of}
-use Rattle.st_core.specs.Streams.{events_of, lists}
-use Rattle.st_core.specs.Collected.{is_among}
+use Rattle.st_core.specs.Streams.{events_of, lists, is_among}
 use Rattle.st_core.proofs.ForCallers.{and_false, IsBelow-apart, pid_eq-swap, pid_same}
 use Rattle.st_pair.specs.Pairing.{is_send, receive_of, stamp_of, to_eq}
 use Rattle.st_full.specs.Completion.{count_of, needs_of, own, supplied_by, supplies_of, Supply}

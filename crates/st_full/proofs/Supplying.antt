@@ -18,8 +18,7 @@ use Rattle.st_core.specs.declared.types.Event.{Event}
 use Rattle.st_core.specs.Pid.{pid_eq, IsBelow, IsRising}
 use Rattle.st_core.specs.Laws.{AreAllListed, IsLeastUnlisted}
 use Rattle.st_core.specs.Run.{Stream, pids_of}
-use Rattle.st_core.specs.Streams.{events_of, is_own, is_of, lists, stream_of, AreOwn, IsStreams}
-use Rattle.st_core.specs.Collected.{is_among}
+use Rattle.st_core.specs.Streams.{events_of, is_own, is_of, lists, stream_of, AreOwn, IsStreams, is_among}
 use Rattle.st_core.proofs.ForCallers.{all_at, IsBelow-apart, pid_eq-refl, pid_eq-swap, pid_same, unlisted_is_least}
 use Rattle.st_pair.specs.declared.answer.PairFault.TheVariants as fault
 use Rattle.st_pair.specs.Places.{event_at, is_stamp}

@@ -14,8 +14,7 @@ use Rattle.st_core.specs.declared.types.Event.{Event}
 use Rattle.st_core.specs.Laws.{greatest_count, IsReportAmong}
 use Rattle.st_core.specs.Pid.{pid_eq, IsRising}
 use Rattle.st_core.specs.Run.{Stream, pids_of}
-use Rattle.st_core.specs.Streams.{events_of, IsStreams, lists, stream_of}
-use Rattle.st_core.specs.Collected.{names_among}
+use Rattle.st_core.specs.Streams.{events_of, IsStreams, lists, stream_of, names_among}
 use Rattle.st_core.proofs.ForCallers.{pid_eq-refl, pid_same}
 use Rattle.st_pair.specs.Places.{event_at, is_stamp}
 use Rattle.st_pair.specs.Pairing.{agrees, is_send, receive_of, refusal, stamp_of, to_eq}

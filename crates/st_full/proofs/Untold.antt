@@ -111,11 +111,11 @@ send_stamps e send = elim e.kind as (λ k.
     ] send
 
 -- the receive of a count, and that the hidden send of the count is its send if no stamp is reported
-record IsGot (streams : List Stream) (q : Pid) (v : ℕ) : Type 0 where
-  taken : IsTaken streams q v
-  sends : option_and_then (λ (at : Pid × ℕ). event_at streams at.0 at.1) (receive_of streams q v) ≡ Some taken.event
+pub record IsGot (streams : List Stream) (q : Pid) (v : ℕ) : Type 0 where
+  pub taken : IsTaken streams q v
+  pub sends : option_and_then (λ (at : Pid × ℕ). event_at streams at.0 at.1) (receive_of streams q v) ≡ Some taken.event
 
-got_if : (streams : List Stream) (q : Pid) (v : ℕ) → IsRising (pids_of streams)
+pub got_if : (streams : List Stream) (q : Pid) (v : ℕ) → IsRising (pids_of streams)
     → is_some (receive_of streams q v) ≡ true → IsGot streams q v
 got_if streams q v rising some =
     let find = option_and_then (λ (at : Pid × ℕ). event_at streams at.0 at.1) in

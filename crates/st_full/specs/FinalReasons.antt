@@ -72,3 +72,18 @@ pub record HasZeroBehindReceive (streams : List Stream) (p : Pid) : Type 0 where
   pub stamped : IsReported streams p later
   pub behind : index < stamped.index
   pub is_zero : later.serial.prev ≡ 0
+
+-- Each event tells of a stamp of the process that it is from: a send or print is this stamp, and a receive took its
+-- message. Event i of p tells of one with prev 0, and some event of one of the same process with a lower count and
+-- another prev.
+pub record IsZeroBehind (streams : List Stream) (p : Pid) (i : ℕ) : Type 0 where
+  pub event : Event
+  pub at : event_at streams p i ≡ Some event
+  pub is_zero : event.serial.prev ≡ 0
+  pub pid : Pid
+  pub index : ℕ
+  pub first : Event
+  pub first_at : event_at streams pid index ≡ Some first
+  pub same : first.from ≡ event.from
+  pub lower : first.serial.this < event.serial.this
+  pub above : 0 < first.serial.prev

@@ -19,7 +19,7 @@ ghost use Rattle.st_full.specs.Choice.{HasChoice, IsChoice};
 ghost use Rattle.st_full.specs.Completed.{IsCompleted, IsShownInOneTrace};
 ghost use Rattle.st_full.specs.Completion.{completion};
 ghost use Rattle.st_full.specs.FinalReasons.{FinalReason, HasNoFinalReason, HasZeroBehindReceive, HasZeroBehindStamp};
-ghost use Rattle.st_full.specs.FinalReasons.{StandsAgainstAll};
+ghost use Rattle.st_full.specs.FinalReasons.{IsZeroBehind, StandsAgainstAll};
 ghost use Rattle.st_full.specs.Full.{IsFull};
 ghost use Rattle.st_full.specs.HiddenSends.{HasBestPlacing, least, placings};
 ghost use Rattle.st_full.specs.Local.{IsNeedless};
@@ -225,6 +225,14 @@ pub fn zeros_behind_others_are_final()
     ensures { (top : ℕ) (streams : List Stream) → IsRising (pids_of streams) → (p : Pid)
         → HasZeroBehindStamp streams p ⊎ HasZeroBehindReceive streams p → (acts : List Act) → NoReset acts
         → ¬ Shows top streams acts }
+{}
+
+/// Two events tell it, whether they are sends, prints or receives: if pairing accepts streams, and one
+/// event tells of a stamp with prev 0, and another one of a stamp of the same process with a lower
+/// count and another prev, no acts without a reset show the streams.
+pub fn zeros_told_behind_others_are_final()
+    ensures { (top : ℕ) (streams : List Stream) → IsStreams streams → refusal streams ≡ None → (p : Pid) (i : ℕ)
+        → IsZeroBehind streams p i → (acts : List Act) → NoReset acts → ¬ Shows top streams acts }
 {}
 
 /// If none of the four final reasons stands against streams, and their hidden sends have places at

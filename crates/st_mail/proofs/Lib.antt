@@ -1,6 +1,7 @@
 -- The lemmas; what upper crates may cite is in `ForCallers`.
 mod Picks
 mod Fits
+mod Finders
 mod Fronts
 mod Boxes
 pub mod ForCallers

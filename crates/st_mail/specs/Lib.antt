@@ -1,5 +1,6 @@
 -- What public contracts cite: mailboxes as lists of messages, and the actor's part of an act.
 pub mod Mail
 pub mod Actor
--- What only the mailboxes need: how they keep what was wiped.
+-- For the parts alone: how the mailboxes keep what was wiped, and how they find a message.
 pub mod Wiped
+pub mod Found

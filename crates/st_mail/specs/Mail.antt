@@ -1,9 +1,8 @@
 -- Mailboxes as lists of messages: what the contracts of the mailboxes say.
-use Rattle.std.specs.Prelude.{ℕ, ◌==◌, ◌&&◌, Bool, false, List, [], Option, Some, None, remove, slice_index_or}
-use Rattle.st_core.specs.declared.types.Pid.{Pid}
+use Rattle.std.specs.Prelude.{ℕ, List, [], Option, Some, None, remove, slice_index_or}
 use Rattle.st_core.specs.declared.types.Message.{Message}
-use Rattle.st_core.specs.declared.types.Token.{Token}
-use Rattle.st_core.specs.Pid.{pid_eq}
+-- whether a token has this from, and this as its own count
+pub use Rattle.st_index.specs.Index.{bears_stamp}
 
 -- the queue of each box, from its oldest message on, and for how many more messages there is room
 pub record Mail : Type 0 where
@@ -18,8 +17,3 @@ queue_in boxes i = slice_index_or boxes i []
 abbrev pub left_by : Option (ℕ × Message) → List Message → List Message
 left_by None queue = queue
 left_by (Some found) queue = remove queue found.0
-
--- the token has this from, and this as its own count
-abbrev pub bears_stamp : Pid → ℕ → Option Token → Bool
-bears_stamp from this None = false
-bears_stamp from this (Some t) = pid_eq t.from from && t.serial.this == this

@@ -9,15 +9,15 @@ ghost use Rattle.st_core.specs.Step.{untraced};
 ghost use Rattle.st_arena.specs.Calls.{PassesOnce};
 ghost use Rattle.st_mail.specs.Mail.{queue_in, left_by, bears_stamp};
 
-use st_arena::Lists;
-use st_core::{Message, Pid, Token, Want};
+use crate::queues::Queues;
+use st_core::{Message, Pid, Want};
 use std::alloc::{AllocError, Global};
 use std::marker::Model;
 
 /// The queues of the mailboxes 0, 1, 2 and so on.
 #[derive(Drop)]
 pub struct Mailboxes {
-    queues: Lists<Message>,
+    queues: Queues,
 
     // How many messages at the front of each mailbox were wiped: what is stored of them may still have
     // its token, which counts for nothing. A wipe is of all that lie there, so it leaves no gap.
@@ -45,16 +45,6 @@ fn untraced(message: Message) -> Message
     }
 }
 
-/// Whether the token has this from, and this as its own count.
-fn is_stamp(from: Pid, this: u64, token: &Option<Token>) -> bool
-    ensures { result ≡ bears_stamp from this token.now }
-{
-    match token {
-        None => false,
-        Some(token) => token.from == from && token.serial.this == this,
-    }
-}
-
 impl Mailboxes {
     /// As many empty mailboxes as `count`, with room for no message yet. Fails if memory runs
     /// out.
@@ -62,7 +52,7 @@ impl Mailboxes {
         ensures empty { IfOk result (λ mail. mail.boxes ≡ replicate count []) }
         ensures spare { IfOk result (λ mail. mail.spare ≡ 0) }
     {
-        let queues = Lists::new(alloc, count)?;
+        let queues = Queues::new(alloc, count)?;
         let wiped = vec![in alloc; 0; count]?;
         Ok(Mailboxes { queues, wiped })
     }
@@ -113,9 +103,7 @@ impl Mailboxes {
         ensures had_room { 0 < self.old.spare → self.old.spare ≡ self.new.spare + 1 }
         ensures spare_stays { OnErr result (self.old.spare ≤ self.new.spare) }
     {
-        let Ok(()) = self.queues.push_back(mailbox, message) else {
-            return Err(AllocError);
-        };
+        self.queues.push_back(mailbox, message)?;
         Ok(())
     }
 
@@ -161,10 +149,7 @@ impl Mailboxes {
         requires { mailbox < length self.now.boxes }
         ensures { result ≡ position (λ m. pid_eq m.from from) (queue_in self.now.boxes mailbox) }
     {
-        let matches = |message: &Message| -> bool
-            ensures { result ≡ pid_eq message.now.from from }
-        { message.from == from };
-        self.queues.find_first(mailbox, &matches)
+        self.queues.find_from(mailbox, from)
     }
 
     /// The least place with a message of this value.
@@ -172,10 +157,7 @@ impl Mailboxes {
         requires { mailbox < length self.now.boxes }
         ensures { result ≡ position (λ m. m.value == value) (queue_in self.now.boxes mailbox) }
     {
-        let matches = |message: &Message| -> bool
-            ensures { result ≡ (message.now.value == value) }
-        { message.value == value };
-        self.queues.find_first(mailbox, &matches)
+        self.queues.find_value(mailbox, value)
     }
 
     /// The least place with a message from this process and of this value.
@@ -183,10 +165,7 @@ impl Mailboxes {
         requires { mailbox < length self.now.boxes }
         ensures { result ≡ position (λ m. pid_eq m.from from && m.value == value) (queue_in self.now.boxes mailbox) }
     {
-        let matches = |message: &Message| -> bool
-            ensures { result ≡ (pid_eq message.now.from from && message.now.value == value) }
-        { message.from == from && message.value == value };
-        self.queues.find_first(mailbox, &matches)
+        self.queues.find_both(mailbox, from, value)
     }
 
     /// Takes the message that a receive with this pattern takes, and returns its place and itself.
@@ -199,6 +178,7 @@ impl Mailboxes {
         ensures spare { self.new.spare ≡ self.old.spare + (if is_some result then 1 else 0) }
     {
         let Some(place) = self.find(mailbox, want) else {
+            self.queues.count_walk(mailbox);
             return None;
         };
         let message = self.queues.take_at(mailbox, place).unwrap();
@@ -216,10 +196,8 @@ impl Mailboxes {
         requires { mailbox < length self.now.boxes }
         ensures { result ≡ position (λ m. bears_stamp from this m.token) (queue_in self.now.boxes mailbox) }
     {
-        let wiped = self.wiped[mailbox];
-        let mut kept = self.queues.walk(mailbox).skip(wiped as usize);
-        let place = kept.position(|message| is_stamp(from, this, &message.token))?;
-        Some(wiped + place as u64)
+        self.queues
+            .find_stamp(mailbox, from, this, self.wiped[mailbox])
     }
 
     /// The same if no two messages of the mailbox have such a token. It is looked for from both ends at
@@ -232,10 +210,7 @@ impl Mailboxes {
         if self.wiped[mailbox] > 0 {
             return self.place_of(mailbox, from, this);
         }
-        let bears = |message: &Message| -> bool
-            ensures { result ≡ bears_stamp from this message.now.token }
-        { is_stamp(from, this, &message.token) };
-        self.queues.find_any(mailbox, &bears)
+        self.queues.find_one_stamp(mailbox, from, this)
     }
 
     /// Takes the tokens of the messages in the mailbox away. The messages stay. It takes no longer for

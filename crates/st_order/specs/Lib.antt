@@ -3,7 +3,7 @@ pub mod Items
 pub mod Order
 pub mod Labels
 pub mod Turn
--- For the parts of one module each: `src/row.rt`, `src/sorting.rt` and `src/labels.rt`.
+-- For the parts alone: of `src/row.rt`, of `src/sorting.rt` and of `src/labels.rt`.
 pub mod Row
 pub mod Sorting
 pub mod Groups

@@ -16,10 +16,9 @@ use Rattle.st_core.proofs.ForCallers.{pid_eq-true}
 use Rattle.st_pair.specs.declared.answer.PairFault.TheVariants as fault
 use Rattle.st_pair.specs.declared.answer.Source.{Source}
 use Rattle.st_pair.specs.declared.answer.Source.TheVariants as source
-use Rattle.st_pair.specs.Places.{event_at, is_stamp, first_from, first}
+use Rattle.st_pair.specs.Places.{event_at, is_stamp, first_from, first, or_else}
 use Rattle.st_pair.specs.Pairing.{stamp_before, stamp_of, receive_of, is_send, agrees, not_rising, mismatch}
 use Rattle.st_pair.specs.Pairing.{source_of, source_at, receiver_at}
-use Rattle.st_pair.specs.Tables.{or_else}
 use Rattle.st_pair.proofs.Accepted.{Rule, IsPaired, event_none, from_none, got_rule, once_place, cond_none}
 use Rattle.st_pair.proofs.Firsts.{is_at, events_in}
 use Rattle.st_pair.proofs.Owned.{own_rule}

@@ -5,7 +5,8 @@ use Rattle.std.proofs.Common.{Result, Ok, Err, IfOk}
 use Rattle.st_core.specs.declared.types.Pid.{Pid}
 use Rattle.st_pair.specs.declared.tables.Key.{Key}
 use Rattle.st_pair.specs.declared.tables.Row.{Row}
-use Rattle.st_pair.specs.Tables.{key_eq, key_of, place_at_key, or_else, here}
+use Rattle.st_pair.specs.Tables.{key_eq, key_of, place_at_key, here}
+use Rattle.st_pair.specs.Places.{or_else}
 
 module _ {X : Type 0} where
   pub or_none : (o : Option X) → or_else o None ≡ o

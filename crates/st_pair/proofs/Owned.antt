@@ -10,8 +10,8 @@ use Rattle.st_core.specs.Streams.{stream_of}
 use Rattle.st_core.proofs.ForCallers.{pid_eq-true, IsBelow-apart, pid_eq-swap}
 use Rattle.st_pair.specs.declared.tables.Key.{Key}
 use Rattle.st_pair.specs.Pairing.{stamp_of}
-use Rattle.st_pair.specs.Places.{is_stamp, first_from, first}
-use Rattle.st_pair.specs.Tables.{or_else, stamp_rule}
+use Rattle.st_pair.specs.Places.{is_stamp, first_from, first, or_else}
+use Rattle.st_pair.specs.Tables.{stamp_rule}
 use Rattle.st_pair.proofs.Noted.{or_none}
 
 -- the rule of `stamp_of`

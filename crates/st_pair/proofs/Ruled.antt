@@ -12,9 +12,9 @@ use Rattle.st_core.specs.Run.{Stream}
 use Rattle.st_core.specs.Streams.{events_of}
 use Rattle.st_pair.specs.declared.answer.PairFault.{PairFault}
 use Rattle.st_pair.specs.declared.answer.PairFault.TheVariants as fault
-use Rattle.st_pair.specs.Places.{is_stamp, first_from}
+use Rattle.st_pair.specs.Places.{is_stamp, first_from, or_else}
 use Rattle.st_pair.specs.Pairing.{stamp_before, stamp_of, receive_of, not_rising, repeated, mismatch, agrees}
-use Rattle.st_pair.specs.Tables.{or_else, not_rising_in}
+use Rattle.st_pair.specs.Tables.{not_rising_in}
 use Rattle.st_pair.proofs.Owned.{own_rule, placed}
 use Rattle.st_pair.proofs.Firsts.{first_from-at}
 

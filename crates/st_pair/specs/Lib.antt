@@ -4,5 +4,5 @@ pub mod Pairing
 pub mod Final
 pub mod Links
 pub mod Laws
--- For the parts of one module alone: `src/tables.rt`.
+-- For the parts alone: of `src/tables.rt`.
 pub mod Tables

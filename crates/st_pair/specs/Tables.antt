@@ -47,10 +47,6 @@ place_at_key rows k = option_map (λ r. (r.pid, r.index)) (find (λ r. key_eq (k
 abbrev pub place_under : Key → Row → Option (Pid × ℕ)
 place_under k r = if key_eq (key_of r) k then Some (r.pid, r.index) else None
 
--- the first if it is there, else the second
-abbrev pub or_else : {X : Type 0} → Option X → Option X → Option X
-or_else o rest = elim o [ None ↦ rest | Some x ↦ Some x ]
-
 -- the place where the key is this one
 abbrev pub here : {X : Type 0} → Key → X → Key → Option X
 here key place k = if key_eq key k then Some place else None

@@ -8,10 +8,10 @@ ghost use Rattle.std.specs.Prelude.{◌≡◌, ◌≤◌, IfOk, IsTrue, OnOk, le
 ghost use Rattle.std.specs.List.Sorted.{IsSortedByKey};
 ghost use Rattle.st_core.specs.Run.{Stream};
 ghost use Rattle.st_pair.specs.declared.tables.Key.{Key as KeyValue};
-ghost use Rattle.st_pair.specs.Places.{first_from};
+ghost use Rattle.st_pair.specs.Places.{first_from, or_else};
 ghost use Rattle.st_pair.specs.Tables.{AreBelow, AreNotBelow, HasReceives, HasStamps, here, is_below, row_key_cmp};
 ghost use Rattle.st_pair.specs.Tables.{key_of};
-ghost use Rattle.st_pair.specs.Tables.{or_else, place_at_key, place_under, receive_rule, stamp_rule};
+ghost use Rattle.st_pair.specs.Tables.{place_at_key, place_under, receive_rule, stamp_rule};
 
 use crate::guesses::Guesses;
 use st_core::{Event, Kind, Pid, Streams};

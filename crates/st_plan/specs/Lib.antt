@@ -1,8 +1,7 @@
 -- What public contracts cite: which streams are explained, over the reasons against an item, over the counts along the
--- order; and which of their events are told.
+-- order; which of their events are told; and, in `Build`, the acts that are built for an item.
 pub mod Marks
 pub mod Plain
 pub mod Reasons
 pub mod Moves
--- The acts that are built for an item.
 pub mod Build

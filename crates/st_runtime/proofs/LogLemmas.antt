@@ -1,7 +1,6 @@
 -- A log with one legal entry of a greater rank more keeps what its type keeps, since those before stay as they are.
-use Rattle.std.proofs.Common.{◌≡◌, ℕ, suc, ◌-◌, ◌<◌, ◌≤◌, List, [], ◌∷◌, ◌++◌, length, Some, refl, sym, ap, ◌∙◌}
+use Rattle.std.proofs.Common.{◌≡◌, ℕ, ◌<◌, ◌≤◌, List, [], ◌∷◌, ◌++◌, length, refl, sym}
 use Rattle.std.proofs.Common.{subst, arith}
-use Rattle.std.specs.Prelude.{slice_get}
 use Rattle.st_core.specs.declared.types.Pid.{Pid}
 use Rattle.st_core.specs.declared.types.Message.{Message}
 use Rattle.st_core.specs.State.{LocalState, Process}
@@ -26,15 +25,6 @@ RanksRise-push low (x ∷ xs) e rises above = (rises.0, RanksRise-push x.rank xs
 last_rank-push : (low : ℕ) (log : List Entry) (e : Entry) → last_rank low (log ++ e ∷ []) ≡ e.rank
 last_rank-push low [] e = refl
 last_rank-push low (x ∷ xs) e = last_rank-push x.rank xs e
-
--- the last entry has the last rank
-pub last_rank-last : (low : ℕ) (log : List Entry) (e : Entry)
-    → Some e ≡ slice_get log (length log - 1) → e.rank ≡ last_rank low log
-last_rank-last low [] e is = cc
-last_rank-last low (x ∷ []) e is = let same : e ≡ x = cc in ap (λ (y : Entry). y.rank) same
-last_rank-last low (x ∷ y ∷ ys) e is =
-    let place : length (x ∷ y ∷ ys) - 1 ≡ suc (length (y ∷ ys) - 1) = omega arith in
-    last_rank-last x.rank (y ∷ ys) e (is ∙ ap (slice_get (x ∷ y ∷ ys)) place)
 
 -- a rank that may come next in a log
 pub record IsNext (ranks : ℕ) (log : List Entry) (n : ℕ) : Type 0 where

@@ -9,7 +9,7 @@ use Rattle.std.specs.Result.{result_ok}
 use Rattle.std.proofs.lemmas.Option.{slice_get-get_or}
 use Rattle.st_core.specs.declared.types.Pid.{Pid}
 use Rattle.st_core.specs.Pid.{pid_cmp, pid_eq}
-use Rattle.st_core.specs.Collected.{is_among}
+use Rattle.st_core.specs.Streams.{is_among}
 use Rattle.st_core.proofs.ForCallers.{pid_cmp-Equal, pid_eq-true, is_among-found}
 use Rattle.st_core.proofs.ForCallers.{is_among-missing}
 

@@ -9,7 +9,7 @@ use Rattle.st_core.specs.Pid.{pid_eq}
 use Rattle.st_core.specs.State.{Process, State, process, zero_state}
 use Rattle.st_core.specs.Step.{Acted, Outcome, actor, receiver, touches, changed, outcome_of}
 use Rattle.st_core.specs.Run.{Stream, run, run_from, stream, pids_of}
-use Rattle.st_core.specs.Collected.{is_among}
+use Rattle.st_core.specs.Streams.{is_among}
 use Rattle.st_core.proofs.ForCallers.{pid_eq-true, some_of, step_done, run_from-more}
 use Rattle.st_core.proofs.ForCallers.{changed_pid, changed_untouched}
 use Rattle.st_core.proofs.ForCallers.{process_pid, process-map, mapped}

@@ -13,7 +13,7 @@ use Rattle.st_core.specs.Pid.{pid_eq, IsRising}
 use Rattle.st_core.specs.Step.{Outcome, actor}
 use Rattle.st_core.specs.Run.{Stream, pids_of, stream}
 use Rattle.st_core.specs.Streams.{stream_of, lists, names_listed, unlisted_among, is_own, AreOwn, IsStreams}
-use Rattle.st_core.specs.Collected.{is_among, names_among}
+use Rattle.st_core.specs.Streams.{is_among, names_among}
 use Rattle.st_core.specs.Laws.{IsReportAmong, ReportsAmong}
 use Rattle.st_core.proofs.ForCallers.{pid_eq-true, position-none}
 use Rattle.st_core.proofs.ForCallers.{run_named}

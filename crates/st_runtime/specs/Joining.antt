@@ -1,6 +1,7 @@
 -- The steps of joining: where an entry stands, the least pid that isn't seated, each process's own entries, and streams
 -- to which one report after the other is added.
-use Rattle.std.specs.Prelude.{◌≡◌, ℕ, List, map, filter, Option, Some, None, if◌then◌else◌, All, Contains, IfSome}
+use Rattle.std.specs.Prelude.{◌≡◌, ℕ, ◌<◌, List, length, map, filter, Option, Some, None, if◌then◌else◌, All}
+use Rattle.std.specs.Prelude.{Contains, IfSome}
 use Rattle.std.specs.Prelude.{slice_get}
 use Rattle.std.specs.Borrow.{Bor}
 use Rattle.std.specs.Ordering.{is_lt}
@@ -16,8 +17,10 @@ use Rattle.st_core.specs.Streams.{added}
 use Rattle.st_runtime.specs.declared.pcb.entry.Entry.{Entry}
 use Rattle.st_runtime.specs.declared.join.record.Record.{Record}
 use Rattle.st_runtime.specs.Joined.{IsMerged, IsOneRun, streams_of}
+use Rattle.st_runtime.specs.Logs.{Logged}
 use Rattle.st_runtime.specs.Pcb.{Control}
 use Rattle.st_runtime.specs.Pieces.{Parts, IsSeated, IsWhole}
+use Rattle.st_runtime.specs.Rows.{entry_at}
 
 -- the process of this pid is there and has the entry
 pub record HasAt (xs : List Control) (p : Pid) (e : Entry) : Type 0 where
@@ -56,9 +59,17 @@ pub record IsLogged (top : ℕ) (xs : List Control) (r : Record) : Type 0 where
   pub acts : r.acts ≡ map (λ e. e.act) entries
   pub replies : r.replies ≡ map (λ e. e.reply) entries
 
+-- the entry that is referred to by its log and its place there
+abbrev pub referred : Bor Logged × ℕ → Entry
+referred r = entry_at r.0.now.entries r.1
+
+-- the log has so many entries
+abbrev pub IsThere : Bor Logged × ℕ → Type 0
+IsThere r = r.1 < length r.0.now.entries
+
 -- the acts of entries that are referred to, and what they answered
-abbrev pub IsReadOut : List (Bor Entry) → List Act → List Reply → Type 0
-IsReadOut refs acts replies = (acts ≡ map (λ r. r.now.act) refs) × (replies ≡ map (λ r. r.now.reply) refs)
+abbrev pub IsReadOut : List (Bor Logged × ℕ) → List Act → List Reply → Type 0
+IsReadOut refs acts replies = (acts ≡ map (λ r. (referred r).act) refs) × (replies ≡ map (λ r. (referred r).reply) refs)
 
 -- a process's own entries
 abbrev pub own_of : Pid → List Entry → List Entry

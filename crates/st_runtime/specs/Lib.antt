@@ -8,8 +8,9 @@ pub mod System
 pub mod Pieces
 pub mod Joined
 pub mod Driven
--- For the contracts of the crate's parts alone.
+-- For the parts alone.
 pub mod Inside
+pub mod Rows
 pub mod Locked
 pub mod Joining
 pub mod Working

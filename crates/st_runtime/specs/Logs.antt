@@ -62,3 +62,8 @@ RanksRise low (e ∷ es) = (low < e.rank) × RanksRise e.rank es
 abbrev pub last_rank : ℕ → List Entry → ℕ
 last_rank low [] = low
 last_rank low (e ∷ es) = last_rank e.rank es
+
+-- what contracts see of a log: its entries, and for how many more it has room
+pub record Logged : Type 0 where
+  pub entries : List Entry
+  pub spare : ℕ

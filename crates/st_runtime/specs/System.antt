@@ -4,7 +4,7 @@ use Rattle.st_core.specs.declared.types.Pid.{Pid}
 use Rattle.st_core.specs.declared.types.Act.{Act}
 use Rattle.st_core.specs.declared.types.Act.TheVariants as act
 use Rattle.st_core.specs.Step.{actor, receiver}
-use Rattle.st_core.specs.Collected.{is_among}
+use Rattle.st_core.specs.Streams.{is_among}
 
 -- the actor, and a send's receiver, are among these
 abbrev pub knows : List Pid → Act → Bool

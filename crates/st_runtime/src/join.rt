@@ -5,7 +5,7 @@ ghost use Rattle.std.specs.Thread.{IsSync};
 ghost use Rattle.st_core.specs.Pid.{IsRising};
 ghost use Rattle.st_core.specs.Streams.{IsStreams};
 ghost use Rattle.st_runtime.specs.Joined.{IsJoined, streams_of};
-ghost use Rattle.st_runtime.specs.Joining.{IsLogged, IsReadOut};
+ghost use Rattle.st_runtime.specs.Joining.{IsLogged, IsReadOut, IsThere};
 ghost use Rattle.st_runtime.specs.Pcb.{IsKept};
 ghost use Rattle.st_runtime.specs.Pieces.{pids_in, AreWhole, IsFit, IsJoinFault};
 
@@ -141,7 +141,8 @@ fn run_by_threads<const TOP: u64, const RANKS: u64, R: Threads + Sync>(
             ensures { IfOk result (λ s. s ≡ streams_of processes.entry.now) }
         { streams_of(alloc, processes) },
         || -> Result<(Vec<Act>, Vec<Reply>), AllocError>
-            requires { IsSync R.row }
+            requires sync { IsSync R.row }
+            requires there { All IsThere entries.now }
             ensures { IfOk result (λ r. IsReadOut entries.entry.now r.0.items r.1.items) }
         { acts_and_replies(rt, alloc, entries) },
     );

@@ -22,6 +22,7 @@ pub use join::join_pieces;
 pub use join::record::Record;
 pub use pcb::Pcb;
 pub use pcb::entry::Entry;
+pub use pcb::log::Log;
 pub use system::System;
 pub use system::gate::{Gate, OpenGate};
 pub use system::pieces::Pieces;

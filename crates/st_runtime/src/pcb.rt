@@ -15,10 +15,11 @@ pub mod acts;
 pub mod entry;
 pub mod log;
 pub mod parts;
+pub mod row;
 
 use crate::fault::PcbFault;
 use crate::pcb::entry::Entry;
-use crate::pcb::log::{last_rank, room, room_in_both};
+use crate::pcb::log::{Log, room, room_in_both};
 use crate::pcb::parts::{reach, receive_one, send};
 use st_core::{Act, Local, Message, Pid, Reply, Want};
 use st_mail::Mailboxes;
@@ -38,12 +39,10 @@ pub struct Pcb<const TOP: u64, const RANKS: u64> {
     pid: Pid,
     local: Local<TOP>,
     queue: Mailboxes,
-    log: Vec<Entry>,
+    log: Log,
 }
 
 impl<const TOP: u64, const RANKS: u64> Model for Pcb<TOP, RANKS> {
-    ghost use Rattle.std.specs.Prelude.{◌-◌, vec_len};
-    ghost use Rattle.std.specs.Vec.{vec_capacity};
     ghost use Rattle.st_mail.specs.Actor.{process_of};
     ghost use Rattle.st_mail.specs.Mail.{queue_in};
     ghost use Rattle.st_runtime.specs.Inside.{IsInside};
@@ -53,11 +52,11 @@ impl<const TOP: u64, const RANKS: u64> Model for Pcb<TOP, RANKS> {
 
     ghost view = { λ a. record {
       process = process_of a.pid a.local (queue_in a.queue.boxes 0);
-      log = a.log.items;
-      spare = vec_capacity a.log - vec_len a.log;
+      log = a.log.entries;
+      spare = a.log.spare;
     } };
 
-    ghost invariant = { λ a. IsInside TOP RANKS a.pid a.local a.queue.boxes a.log.items };
+    ghost invariant = { λ a. IsInside TOP RANKS a.pid a.local a.queue.boxes a.log.entries };
 }
 
 impl<const TOP: u64, const RANKS: u64> Pcb<TOP, RANKS> {
@@ -76,7 +75,7 @@ impl<const TOP: u64, const RANKS: u64> Pcb<TOP, RANKS> {
         ensures room { IfOk result (λ x. x.spare ≡ room) }
     {
         let queue = Mailboxes::new(alloc, 1)?;
-        let log = Vec::with_capacity(alloc, room)?;
+        let log = Log::with_capacity(alloc, room)?;
         Ok(Pcb {
             apart: [0; CACHE_LINE],
             pid,
@@ -94,11 +93,11 @@ impl<const TOP: u64, const RANKS: u64> Pcb<TOP, RANKS> {
     }
 
     /// The entries of the acts that touched it, in order. Their ranks rise, and they give its state.
-    pub fn log(&self) -> &[Entry]
-        ensures value { result.now ≡ self.now.log }
+    pub fn log(&self) -> &Log
+        ensures value { result.now.entries ≡ self.now.log }
         ensures kept { IsKept TOP RANKS self.now.process self.now.log }
     {
-        self.log.as_slice()
+        &self.log
     }
 
     /// What it keeps for tracing.
@@ -113,7 +112,7 @@ impl<const TOP: u64, const RANKS: u64> Pcb<TOP, RANKS> {
         ensures value { result ≡ last_rank 0 self.now.log }
         ensures within { result ≤ RANKS }
     {
-        last_rank(self.log.as_slice())
+        self.log.last_rank()
     }
 
     /// Makes room for one entry. Fails if memory runs out.
@@ -122,7 +121,7 @@ impl<const TOP: u64, const RANKS: u64> Pcb<TOP, RANKS> {
         ensures room { OnOk result (0 < self.new.spare) }
         ensures succeeds { 0 < self.old.spare → IsOk result }
     {
-        self.log.reserve(1)
+        self.log.reserve()
     }
 
     /// An act that touches this process alone, which is its actor. It fails with the first of
@@ -190,7 +189,7 @@ impl<const TOP: u64, const RANKS: u64> Pcb<TOP, RANKS> {
         ensures spare { self.old.spare ≡ self.new.spare + 1 }
     {
         reach(self.pid, &mut self.local, &mut self.queue, &entry.act);
-        self.log.push_reserved(*entry);
+        self.log.push_reserved(entry);
     }
 
     /// An act that leaves its queue.
@@ -211,7 +210,7 @@ impl<const TOP: u64, const RANKS: u64> Pcb<TOP, RANKS> {
         };
         let rank = room(&mut self.log, RANKS)?;
         self.local = local;
-        self.log.push_reserved(Entry {
+        self.log.push_reserved(&Entry {
             rank,
             act: *act,
             reply: told.reply,
@@ -233,7 +232,7 @@ impl<const TOP: u64, const RANKS: u64> Pcb<TOP, RANKS> {
     {
         let rank = room(&mut self.log, RANKS)?;
         let told = receive_one(self.pid, &mut self.local, &mut self.queue, want);
-        self.log.push_reserved(Entry {
+        self.log.push_reserved(&Entry {
             rank,
             act: Act::Receive(self.pid, *want),
             reply: told.reply,
@@ -271,7 +270,7 @@ impl<const TOP: u64, const RANKS: u64> Pcb<TOP, RANKS> {
             return Err(PcbFault::Memory);
         };
         self.local = local;
-        self.log.push_reserved(Entry {
+        self.log.push_reserved(&Entry {
             rank,
             act: Act::Send(me, me, value),
             reply: told.reply,
@@ -316,8 +315,8 @@ impl<const TOP: u64, const RANKS: u64> Pcb<TOP, RANKS> {
             carried: message.token,
         };
         from.local = local;
-        from.log.push_reserved(entry);
-        to.log.push_reserved(entry);
+        from.log.push_reserved(&entry);
+        to.log.push_reserved(&entry);
         Ok(told.reply)
     }
 }

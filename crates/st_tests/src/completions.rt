@@ -7,7 +7,7 @@ use std::alloc::Global;
 use std::test::Fail;
 
 /// How many messages were received.
-const RECEIVES: u64 = 50_000;
+const RECEIVES: u64 = 100_000;
 
 /// 31 received so many messages of 30, whose sends nobody reported.
 fn received(alloc: Global) -> Result<Streams, Fail> {
@@ -29,7 +29,9 @@ fn received(alloc: Global) -> Result<Streams, Fail> {
 }
 
 #[test]
-fn fifty_thousand_hidden_sends_are_completed_and_certified(rt: HostRuntime) -> Result<(), Fail> {
+fn a_hundred_thousand_hidden_sends_are_completed_and_certified(
+    rt: HostRuntime,
+) -> Result<(), Fail> {
     let streams = received(rt.alloc())?;
     let Answer::Whole(completion) = complete::<{ u64::MAX }>(rt.alloc(), &streams)? else {
         panic!(rt; "not completed");
@@ -39,6 +41,6 @@ fn fifty_thousand_hidden_sends_are_completed_and_certified(rt: HostRuntime) -> R
     let found = certificate::<{ u64::MAX }>(&rt, rt.alloc(), &streams, &completion, limit)?;
     same(&rt, &(found.pairs.len() as u64), &RECEIVES);
     let ranked = renumbered(rt.alloc(), completion.streams())?;
-    same(&rt, &ranked.total(), &100_000);
+    same(&rt, &ranked.total(), &(2 * RECEIVES));
     Ok(())
 }

@@ -6,8 +6,10 @@
 //! |---|---|
 //! | `machine` | `st_core`: types, local steps, streams, devices |
 //! | `text`, `reads` | `st_text`; `reads`: if memory runs out |
-//! | `lists` | `st_arena` |
-//! | `mailboxes` | `st_mail` |
+//! | `ranks` | `st_ranks` |
+//! | `lists`, `long_lists` | `st_arena`; `long_lists`: lists with a ladder |
+//! | `index` | `st_index` |
+//! | `mailboxes`, `queues` | `st_mail`; `queues`: long queues beside a plain vector |
 //! | `world` | `st_world` |
 //! | `pairs` | `st_pair` |
 //! | `chains` | `st_chain` |
@@ -43,7 +45,11 @@ mod completes;
 #[cfg(test)]
 mod completions;
 #[cfg(test)]
+mod index;
+#[cfg(test)]
 mod lists;
+#[cfg(test)]
+mod long_lists;
 #[cfg(test)]
 mod machine;
 #[cfg(test)]
@@ -54,6 +60,10 @@ mod orders;
 mod pairs;
 #[cfg(test)]
 mod plans;
+#[cfg(test)]
+mod queues;
+#[cfg(test)]
+mod ranks;
 #[cfg(test)]
 mod reads;
 #[cfg(test)]

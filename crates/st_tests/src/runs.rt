@@ -124,3 +124,11 @@ fn four_scripts_of_fifty_acts_are_one_run_each_time(rt: HostRuntime) -> Result<(
     }
     Ok(())
 }
+
+// One on each node. No clause says that there is memory for so many.
+#[test]
+fn two_scripts_of_fifty_thousand_acts_are_one_run(rt: HostRuntime) -> Result<(), Fail> {
+    let events = assert_driven(&rt, rt.alloc(), 1, 50_000)?;
+    assert!(rt; events > 0);
+    Ok(())
+}

@@ -6,6 +6,7 @@ ghost use Rattle.std.specs.Prelude.{◌≡◌, [], IfOk};
 mod acts;
 mod drives;
 mod joins;
+mod logs;
 mod steps;
 
 use crate::collected::same;

@@ -1,8 +1,8 @@
-//! Systems of 100,000 processes, and of as many acts, by one thread. No clause says that these calls have enough
-//! memory, so the prover accepts a body that gives up at some size; these tests don't.
+//! Systems of 100,000 processes, and of as many acts of each kind of call, by one thread. No clause says that these calls
+//! have enough memory, so the prover accepts a body that gives up at some size; these tests don't.
 
-use crate::collected::{p30, same};
-use st_core::{Act, Pid, Reply};
+use crate::collected::{p30, p31, same};
+use st_core::{Act, Pid, Reply, Want};
 use st_runtime::{OpenGate, Pieces, Seat, System, join_pieces};
 use std::alloc::Global;
 use std::process::Abort;
@@ -52,20 +52,46 @@ fn pieces_of<R: Abort>(
     }
 }
 
-#[test]
-fn a_hundred_thousand_acts_of_one_process_are_joined(rt: HostRuntime) -> Result<(), Fail> {
-    let (system, mut seats) = Great::open(rt.alloc(), &[p30()])?;
+/// Makes the act of 30 so many times beside 31, and asserts that the record has all of them.
+fn assert_joined<R: Wait + Abort>(
+    rt: &R,
+    alloc: Global,
+    act: &Act,
+    reply: Reply,
+) -> Result<(), Fail> {
+    let (system, mut seats) = Great::open(alloc, &[p30(), p31()])?;
     let Some(seat) = seats.first_mut() else {
         panic!(rt; "no seats");
     };
-    let to_itself = Act::Send(p30(), p30(), 1);
-    make_many(&rt, &system, seat, &to_itself, Reply::Done, MANY);
-    let pieces = pieces_of(&rt, system, seats);
-    match join_pieces(rt.alloc(), &pieces) {
-        Ok(record) => same(&rt, &record.acts.len(), &MANY),
+    make_many(rt, &system, seat, act, reply, MANY);
+    let pieces = pieces_of(rt, system, seats);
+    match join_pieces(alloc, &pieces) {
+        Ok(record) => same(rt, &record.acts.len(), &MANY),
         Err(fault) => panic!(rt; "not joined: {fault:?}"),
     }
     Ok(())
+}
+
+#[test]
+fn a_hundred_thousand_acts_of_one_process_are_joined(rt: HostRuntime) -> Result<(), Fail> {
+    let alloc = rt.alloc();
+    assert_joined(&rt, alloc, &Act::Print(p30(), 1), Reply::Done)?;
+    assert_joined(
+        &rt,
+        alloc,
+        &Act::Receive(p30(), Want::First),
+        Reply::Nothing,
+    )?;
+    assert_joined(&rt, alloc, &Act::Send(p30(), p30(), 1), Reply::Done)
+}
+
+// Each stands in the logs of both processes.
+#[test]
+fn a_hundred_thousand_acts_on_two_processes_are_joined(rt: HostRuntime) -> Result<(), Fail> {
+    let alloc = rt.alloc();
+    assert_joined(&rt, alloc, &Act::Send(p30(), p31(), 1), Reply::Done)?;
+    assert_joined(&rt, alloc, &Act::Reset(p30()), Reply::Done)?;
+    assert_joined(&rt, alloc, &Act::Tracer(p30(), false), Reply::Was(false))
 }
 
 // They aren't joined: each pid is looked for among all seats.

@@ -1,5 +1,5 @@
 -- What a text is, which fault it has, what is answered and written of it, and the laws of that: each promise of a
--- public contract rests on these modules alone. Apart stands what only the parts of the reader need: `Parts`.
+-- public contract rests on these modules alone.
 pub mod Spelling
 pub mod Range
 pub mod Limits
@@ -14,4 +14,5 @@ pub mod Fed
 pub mod Room
 pub mod Writing
 pub mod Laws
+-- For the parts alone: of the reader.
 pub mod Parts

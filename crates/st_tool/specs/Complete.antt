@@ -22,9 +22,8 @@ use Rattle.st_complete.specs.Answers.{IsAnswer, IsNeverFinal}
 use Rattle.st_complete.specs.Completions.{added_in}
 use Rattle.st_chart.specs.Words.{ended_line, place_words}
 use Rattle.st_chart.specs.Report.{event_line, event_words}
-use Rattle.st_commands.specs.Output.{Output, refused}
+use Rattle.st_commands.specs.Output.{Output, refused, bundled}
 use Rattle.st_commands.specs.Checked.{top, Spells}
-use Rattle.st_commands.specs.Parts.{bundled}
 use Rattle.st_tool.specs.declared.complete.Form.{Form}
 use Rattle.st_tool.specs.declared.complete.Form.TheVariants as form
 use Rattle.st_tool.specs.Renumber.{streams_output}

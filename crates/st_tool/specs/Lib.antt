@@ -3,6 +3,6 @@ pub mod Begun
 pub mod Why
 pub mod Renumber
 pub mod Complete
--- For the contracts of the functions that a command is made of.
+-- For the parts alone: the functions that a command is made of.
 pub mod Lines
 pub mod Parts

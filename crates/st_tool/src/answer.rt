@@ -3,8 +3,7 @@
 ghost use Rattle.std.specs.Prelude.{◌≡◌, MatchResult};
 ghost use Rattle.st_commands.specs.Audited.{finding_status, report_output};
 ghost use Rattle.st_commands.specs.Command.{Delivers};
-ghost use Rattle.st_commands.specs.Output.{fault_status, no_device, no_memory, refused};
-ghost use Rattle.st_commands.specs.Parts.{bundled};
+ghost use Rattle.st_commands.specs.Output.{fault_status, no_device, no_memory, refused, bundled};
 ghost use Rattle.st_tool.specs.Lines.{text_of};
 ghost use Rattle.st_tool.specs.Renumber.{streams_output};
 

@@ -2,7 +2,7 @@
 //!
 //! The reader says which line and which of its refusals; the scan says the column. Lines and columns count from 1.
 
-use crate::scan::{Expected, Place, Scan, Sort, common, rising_bytes};
+use crate::scan::{Expected, Place, Scan, Sort, begins_act, common, rising_bytes};
 use st_column::{Above, column_below};
 use st_text::ReadFault;
 
@@ -137,31 +137,53 @@ fn remedy_of(line: &[u8], column: usize, above: Above, expected: Expected) -> &'
         Some(b'r') if expected == Expected::Thing("send, 'receive' or print") => {
             "the word 'receive' stands in quotes"
         }
-        _ => remedy_of_place(line, above, expected),
+        Some(byte) if byte >= 128 => "a byte that isn't ASCII: leave it out",
+        byte => remedy_of_place(line, byte, above, expected),
     }
 }
 
-/// What to do about a line that breaks off otherwise.
-fn remedy_of_place(line: &[u8], above: Above, expected: Expected) -> &'static str {
+/// What to do about a line that breaks off otherwise, at this byte or at its end.
+fn remedy_of_place(
+    line: &[u8],
+    byte: Option<u8>,
+    above: Above,
+    expected: Expected,
+) -> &'static str {
     match expected {
-        Expected::Number("a label", _) => "labels are numbers here: give each term a number",
+        Expected::Number("a label", _) => match byte {
+            Some(b'0'..=b'9') => "no label is greater: number the labels anew",
+            _ => "labels are numbers here: give each term a number",
+        },
         Expected::Number("a pid's node" | "a pid's number", _) => {
             "a pid is <NODE.NUMBER.0> with numbers up to 65535: number the processes anew"
         }
-        Expected::Number(_, _) => "numbers are digits alone, and none is greater than this one",
+        Expected::Number(_, _) => match byte {
+            Some(b'0'..=b'9') => "no number is greater",
+            _ => "a number is digits alone: give each term a number",
+        },
         Expected::NoLeadingZero => "write the number without its leading 0",
         Expected::Thing("0, the third part of a pid") => "the third part of a pid is 0",
-        Expected::Thing("an act") => {
-            if line == b"acts".as_slice() {
-                "the word acts stands once"
-            } else {
-                "below the word acts stand acts alone: processes and events stand above it"
-            }
+        Expected::End => "nothing stands behind that: leave the rest out",
+        _ => remedy_of_line(line, above),
+    }
+}
+
+/// What to do about a line of a kind that doesn't stand there.
+fn remedy_of_line(line: &[u8], above: Above) -> &'static str {
+    let is_event = line.starts_with(b"{seq_trace,");
+    let is_process = line.starts_with(b"process <");
+    match above {
+        Above::Nothing => "write seqtrace 1, or seqtrace 2 if a pid of another node is named",
+        Above::Header if is_event => "an event stands below the line of its process",
+        Above::Header | Above::Process if begins_act(line) => "acts stand below a line acts",
+        Above::Acts if line == b"acts".as_slice() => "the word acts stands once",
+        Above::Acts if is_event || is_process => {
+            "below the word acts stand acts alone: processes and events stand above it"
         }
-        _ => match above {
-            Above::Nothing => "write seqtrace 1, or seqtrace 2 if a pid of another node is named",
-            Above::Header | Above::Process | Above::Acts => "",
-        },
+        Above::Acts if !begins_act(line) => {
+            "acts are send, receive, print, printat, set, clear, look, reset, restore and tracer"
+        }
+        Above::Header | Above::Process | Above::Acts => "",
     }
 }
 

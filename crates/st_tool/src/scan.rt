@@ -366,6 +366,11 @@ const ACTS: [&str; 10] = [
     "reset ",
 ];
 
+/// Whether a line begins with an act's word.
+pub(crate) fn begins_act(line: &[u8]) -> bool {
+    ACTS.iter().any(|word| line.starts_with(word.as_bytes()))
+}
+
 /// The number of the first act that has nothing behind its actor.
 const BARE: usize = 7;
 

@@ -37,9 +37,9 @@ pub struct Request<'a> {
     pub file: Option<&'a str>,
 }
 
-/// The bundle's file, which every command takes last.
+/// The trace's file, which every command takes last.
 fn file_arg<'a>(alloc: Global) -> Arg<'a> {
-    Arg::new(alloc, "FILE").help("The bundle's file; standard input if it is left out")
+    Arg::new(alloc, "FILE").help("The trace's file; standard input if it is left out")
 }
 
 /// A command that takes nothing but the file.
@@ -59,7 +59,7 @@ fn plain_command<'a>(
 fn complete_command<'a>(alloc: Global) -> Result<Command<'a>, AllocError> {
     let form = Arg::new(alloc, "FORM")
         .long("as")
-        .help("What to write: the added events, all streams, or acts that show the given streams")
+        .help("What to write: added events, all streams, or acts for the trace")
         .value_parser(["added", "streams", "acts"].as_slice())
         .default_value("added");
     Command::new(alloc, "complete")
@@ -73,11 +73,11 @@ fn complete_command<'a>(alloc: Global) -> Result<Command<'a>, AllocError> {
 fn why_command<'a>(alloc: Global) -> Result<Command<'a>, AllocError> {
     let pid = Arg::new(alloc, "PID")
         .required(true)
-        .help("The process, as <0.31.0> or 0.31.0");
+        .help("The process, as 0.31.0, or '<0.31.0>' in quotes");
     let index = Arg::new(alloc, "I")
         .required(true)
         .value_parser(clap::value_parser!(u64))
-        .help("The number of the event in the process's stream, counted from 0");
+        .help("The number of the event among those of its process, from 0");
     Command::new(alloc, "why")
         .about(help::WHY)
         .after_help(help::WHY_EXAMPLE)

@@ -3,7 +3,13 @@ mod Pids
 mod States
 pub mod ForCallers
 mod RowLemmas
-mod Nodes
+mod Groups
+mod Wipes
+mod Making
+mod Marks
+mod Kept
+mod Acting
+mod NodeActs
 mod Once
 mod Steps
 mod Answering

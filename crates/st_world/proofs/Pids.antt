@@ -59,7 +59,7 @@ insert_next ps i d rising h = rw (absent ps i d rising h) (sym (take_more ps i d
 
 -- THE PROCESSES OF A NODE
 
-cases_lt : (m n : ℕ) → (m < n) ⊎ (n ≤ m)
+pub cases_lt : (m n : ℕ) → (m < n) ⊎ (n ≤ m)
 cases_lt m n = by (ltb m n) refl
   where
     by : (b : Bool) → ltb m n ≡ b → (m < n) ⊎ (n ≤ m)

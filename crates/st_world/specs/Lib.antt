@@ -1,4 +1,5 @@
 -- What the public calls of a world return.
 pub mod World
--- What the parts of a world need: how its rows make one state.
+-- For the parts alone: how the rows of a world make one state, and its processes by node.
 pub mod Rows
+pub mod Nodes

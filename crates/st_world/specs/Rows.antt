@@ -6,6 +6,7 @@ use Rattle.st_core.specs.Pid.{node_of, IsRising}
 use Rattle.st_core.specs.State.{LocalState, State}
 use Rattle.st_core.specs.Laws.{IsSound}
 use Rattle.st_mail.specs.Actor.{process_of}
+use Rattle.st_world.specs.Nodes.{Groups, flags, flagged, AreByNode, IsCleanOrListed}
 
 -- the processes of rows of one length
 abbrev pub state_of : List Pid → List LocalState → List (List Message) → State
@@ -22,6 +23,16 @@ pub record AreAligned (pids : List Pid) (locals : List LocalState) (queues : Lis
 pub record AreRows (top : ℕ) (pids : List Pid) (locals : List LocalState) (queues : List (List Message)) : Type 0 where
   pub aligned : AreAligned pids locals queues
   pub sound : All (IsSound top) (state_of pids locals queues)
+
+-- what a world keeps, of which the mark traced of each process is that of its node: its rows, the
+-- nodes of its pids, and
+-- each process that a reset of its node would change is listed there
+pub record AreKept (top : ℕ) (pids : List Pid) (g : Groups) (locals : List LocalState) (queues : List (List Message))
+    : Type 0 where
+  pub rows : AreRows top pids (flagged (flags g) locals) queues
+  pub locals_len : length locals ≡ length pids
+  pub by_node : AreByNode pids g.places
+  pub listed : (i : ℕ) → i < length pids → IsCleanOrListed g locals queues i
 
 -- the processes of the node are those from start up to end
 pub record IsNodeRange (node : ℕ) (pids : List Pid) (start end : ℕ) : Type 0 where

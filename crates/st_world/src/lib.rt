@@ -6,6 +6,7 @@
 #![tactic(auto)]
 
 mod node;
+mod nodes;
 mod outcome;
 mod processes;
 mod rows;

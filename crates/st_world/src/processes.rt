@@ -10,7 +10,7 @@ ghost use Rattle.st_mail.specs.Actor.{is_inner};
 ghost use Rattle.st_mail.specs.Mail.{bears_stamp};
 ghost use Rattle.st_world.specs.World.{place_in, token_of, AreOrdered, AreStamped, IsNewFault, IsStep};
 
-use crate::node::{reset, trace};
+use crate::nodes::Nodes;
 use crate::outcome::{NewFault, StepFault};
 use crate::rows::{number_of, pid_set, zeros};
 use indexmap::IndexSet;
@@ -24,19 +24,24 @@ use std::marker::Model;
 #[derive(Drop)]
 pub(crate) struct Processes<const TOP: u64> {
     pids: IndexSet<Pid>,
+
+    // Each but for the mark traced, which is that of the process's node.
     locals: Vec<Local<TOP>>,
     queues: Mailboxes,
+    nodes: Nodes,
 }
 
 impl<const TOP: u64> Model for Processes<TOP> {
     ghost use Rattle.st_core.specs.State.{State};
-    ghost use Rattle.st_world.specs.Rows.{state_of, AreRows};
+    ghost use Rattle.st_world.specs.Nodes.{flags, flagged};
+    ghost use Rattle.st_world.specs.Rows.{state_of, AreKept};
 
     ghost Value = { State };
 
-    ghost view = { λ a. state_of a.pids.keys a.locals.items a.queues.boxes };
+    ghost view = { λ a.
+        state_of a.pids.keys (flagged (flags a.nodes) a.locals.items) a.queues.boxes };
 
-    ghost invariant = { λ a. AreRows TOP a.pids.keys a.locals.items a.queues.boxes };
+    ghost invariant = { λ a. AreKept TOP a.pids.keys a.nodes a.locals.items a.queues.boxes };
 }
 
 impl<const TOP: u64> Processes<TOP> {
@@ -58,10 +63,14 @@ impl<const TOP: u64> Processes<TOP> {
         let Ok(queues) = Mailboxes::new(alloc, pids.len()) else {
             return Err(NewFault::Memory);
         };
+        let Ok(nodes) = Nodes::new(alloc, pids) else {
+            return Err(NewFault::Memory);
+        };
         Ok(Processes {
             pids: set,
             locals,
             queues,
+            nodes,
         })
     }
 
@@ -149,6 +158,7 @@ impl<const TOP: u64> Processes<TOP> {
         let Some(number) = number_of(&self.pids, me) else {
             return Err(StepFault::Unknown);
         };
+        self.nodes.ready(number, &mut self.locals[number]);
         let Ok(outcome) = inner(me, &mut self.locals[number], act) else {
             return Err(StepFault::ClockFull);
         };
@@ -162,6 +172,7 @@ impl<const TOP: u64> Processes<TOP> {
         let Some(number) = number_of(&self.pids, me) else {
             return Err(StepFault::Unknown);
         };
+        self.nodes.ready(number, &mut self.locals[number]);
         Ok(receive(me, &mut self.locals[number], &mut self.queues, number, want))
     }
 
@@ -176,6 +187,8 @@ impl<const TOP: u64> Processes<TOP> {
         let Some(to_number) = number_of(&self.pids, to) else {
             return Err(StepFault::Unknown);
         };
+        self.nodes.ready(from_number, &mut self.locals[from_number]);
+        self.nodes.touch(to_number);
         let Ok(local) = stamped(me, &self.locals[from_number]) else {
             return Err(StepFault::ClockFull);
         };
@@ -200,10 +213,11 @@ impl<const TOP: u64> Processes<TOP> {
     fn reset(&mut self, me: Pid) -> Result<Outcome, StepFault>
         ensures { IsStep TOP self.old (Act.Reset me) result self.new }
     {
-        let Some(_) = number_of(&self.pids, me) else {
+        let Some(number) = number_of(&self.pids, me) else {
             return Err(StepFault::Unknown);
         };
-        reset(me, self.pids.as_slice(), &mut self.locals, &mut self.queues);
+        self.nodes.wipe(number, &mut self.locals, &mut self.queues);
+        self.nodes.clear(number);
         Ok(answer(Reply::Done))
     }
 
@@ -214,8 +228,7 @@ impl<const TOP: u64> Processes<TOP> {
         let Some(number) = number_of(&self.pids, me) else {
             return Err(StepFault::Unknown);
         };
-        let was = self.locals[number].traced();
-        trace(me, on, self.pids.as_slice(), &mut self.locals);
+        let was = self.nodes.trace(number, on);
         Ok(answer(Reply::Was(was)))
     }
 }

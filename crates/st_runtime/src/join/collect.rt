@@ -10,6 +10,7 @@ ghost use Rattle.st_runtime.specs.Joining.{report_at, with_report};
 
 use crate::pcb::Pcb;
 use crate::pcb::entry::Entry;
+use crate::pcb::log::Log;
 use st_core::{AddFault, Draft, OpenFault, Pid, Streams};
 use std::alloc::{AllocError, Global};
 
@@ -32,10 +33,11 @@ pub fn streams_of<const TOP: u64, const RANKS: u64>(
 }
 
 /// Opens the process's stream and fills it.
-fn add_stream(draft: &mut Draft, pid: Pid, log: &[Entry]) -> Result<(), AllocError>
+fn add_stream(draft: &mut Draft, pid: Pid, log: &Log) -> Result<(), AllocError>
     requires last { ComesLast draft.old pid }
-    requires own { AllByRecursion (λ e. is_own pid e ≡ true) (reports_of pid log.now) }
-    ensures { OnOk result (draft.new ≡ draft.old ++ record { pid = pid; events = reports_of pid log.now } ∷ []) }
+    requires own { AllByRecursion (λ e. is_own pid e ≡ true) (reports_of pid log.now.entries) }
+    ensures { OnOk result (draft.new
+        ≡ draft.old ++ record { pid = pid; events = reports_of pid log.now.entries } ∷ []) }
 {
     match draft.open(pid) {
         Ok(()) => fill(draft, pid, log),
@@ -45,15 +47,15 @@ fn add_stream(draft: &mut Draft, pid: Pid, log: &[Entry]) -> Result<(), AllocErr
 }
 
 /// Adds the process's own reports to its stream, the last one.
-fn fill(draft: &mut Draft, pid: Pid, log: &[Entry]) -> Result<(), AllocError>
+fn fill(draft: &mut Draft, pid: Pid, log: &Log) -> Result<(), AllocError>
     requires listed { lists draft.old pid ≡ true }
-    requires own { AllByRecursion (λ e. is_own pid e ≡ true) (reports_of pid log.now) }
+    requires own { AllByRecursion (λ e. is_own pid e ≡ true) (reports_of pid log.now.entries) }
     ensures { OnOk result ((xs : List Stream)
         → ComesLast xs pid → draft.old ≡ xs ++ record { pid = pid; events = [] } ∷ []
-        → draft.new ≡ xs ++ record { pid = pid; events = reports_of pid log.now } ∷ []) }
+        → draft.new ≡ xs ++ record { pid = pid; events = reports_of pid log.now.entries } ∷ []) }
 {
-    for entry in log {
-        add_entry(draft, pid, entry)?;
+    for place in 0..log.len() {
+        add_entry(draft, pid, &log.at(place))?;
     }
     Ok(())
 }

@@ -1,48 +1,52 @@
 //! The entries of all logs as one list. Each process's own entries are all entries, and each once: so
 //! one stable sort by rank of these merges the logs. They stay in the logs, and are only referred to.
 
-ghost use Rattle.std.specs.Prelude.{◌≡◌, ◌++◌, map, All, IfOk, OnOk};
+ghost use Rattle.std.specs.Prelude.{◌≡◌, ◌<◌, ◌++◌, length, map, All, IfOk, OnOk};
 ghost use Rattle.st_core.specs.Pid.{IsRising};
 ghost use Rattle.st_runtime.specs.Pcb.{IsKept};
 ghost use Rattle.st_runtime.specs.Pieces.{pids_in, AreWhole};
 ghost use Rattle.st_runtime.specs.Joined.{IsMerged};
-ghost use Rattle.st_runtime.specs.Joining.{flat_of, own_of, IsReadOut};
+ghost use Rattle.st_runtime.specs.Joining.{flat_of, own_of, referred, IsReadOut, IsThere};
+ghost use Rattle.st_runtime.specs.Rows.{entry_at};
 
 use crate::pcb::Pcb;
 use crate::pcb::entry::Entry;
+use crate::pcb::log::Log;
 use st_core::{Act, Pid, Reply};
 use std::alloc::{AllocError, Global};
 use std::marker::Model;
 use std::thread::{Threads, join};
 
-/// An entry that stays in its log. Its rank stands beside the reference, so that the sort fetches no
+/// An entry that stays at its place in its log. Its rank stands beside, so that the sort fetches no
 /// entry.
 #[derive(Drop)]
 struct Ranked<'a> {
     rank: u64,
-    entry: &'a Entry,
+    log: &'a Log,
+    place: usize,
 }
 
 impl<'a> Model for Ranked<'a> {
-    ghost use Rattle.std.specs.Prelude.{◌≡◌};
+    ghost use Rattle.std.specs.Prelude.{◌≡◌, ◌<◌, length};
     ghost use Rattle.st_runtime.specs.declared.pcb.entry.Entry.{Entry};
+    ghost use Rattle.st_runtime.specs.Rows.{entry_at};
 
     ghost Value = { Entry };
 
-    ghost view = { λ r. r.entry.now };
+    ghost view = { λ r. entry_at r.log.now.entries r.place };
 
-    ghost invariant = { λ r. r.rank ≡ r.entry.now.rank };
+    ghost invariant = { λ r. (r.place < length r.log.now.entries)
+        × (r.rank ≡ (entry_at r.log.now.entries r.place).rank) };
 }
 
 impl<'a> Ranked<'a> {
-    /// This entry.
-    fn of(entry: &'a Entry) -> Ranked<'a>
-        ensures { result ≡ entry.now }
+    /// The entry at this place of the log, whose rank is this.
+    fn new(rank: u64, log: &'a Log, place: usize) -> Ranked<'a>
+        requires place { place < length log.now.entries }
+        requires rank { rank ≡ (entry_at log.now.entries place).rank }
+        ensures { result ≡ entry_at log.now.entries place }
     {
-        Ranked {
-            rank: entry.rank,
-            entry,
-        }
+        Ranked { rank, log, place }
     }
 
     /// The entry's rank.
@@ -53,14 +57,18 @@ impl<'a> Ranked<'a> {
     }
 }
 
+/// An entry that is referred to: its log, and its place there.
+pub type Reference<'a> = (&'a Log, usize);
+
 /// The entries of all logs, each once, by rising rank and then actor.
 pub fn merge_logs<const TOP: u64, const RANKS: u64>(
     alloc: Global,
     processes: &[Pcb<TOP, RANKS>],
-) -> Result<Vec<&Entry>, AllocError>
+) -> Result<Vec<Reference<'_>>, AllocError>
     requires { IsRising (pids_in processes.now) }
     ensures merged { IfOk result (λ v. AreWhole processes.now
-        → IsMerged processes.now (map (λ r. r.now) v.items)) }
+        → IsMerged processes.now (map referred v.items)) }
+    ensures there { IfOk result (λ v. All IsThere v.items) }
     ensures kept { OnOk result (All (λ x. IsKept TOP RANKS x.process x.log) processes.now) }
 {
     let mut all = own_entries(alloc, processes)?;
@@ -69,12 +77,13 @@ pub fn merge_logs<const TOP: u64, const RANKS: u64>(
 }
 
 /// The same entries, without their ranks beside them.
-fn drop_ranks<'a>(alloc: Global, all: Vec<Ranked<'a>>) -> Result<Vec<&'a Entry>, AllocError>
-    ensures { IfOk result (λ v. map (λ r. r.now) v.items ≡ all.entry.items) }
+fn drop_ranks<'a>(alloc: Global, all: Vec<Ranked<'a>>) -> Result<Vec<Reference<'a>>, AllocError>
+    ensures entries { IfOk result (λ v. map referred v.items ≡ all.entry.items) }
+    ensures there { IfOk result (λ v. All IsThere v.items) }
 {
     let mut entries = Vec::with_capacity(alloc, all.len())?;
     for own in all {
-        let Ok(()) = entries.push(own.entry) else {
+        let Ok(()) = entries.push((own.log, own.place)) else {
             return Err(AllocError);
         };
     }
@@ -97,12 +106,13 @@ fn own_entries<const TOP: u64, const RANKS: u64>(
 }
 
 /// Adds a process's own entries.
-fn push_own<'a>(all: &mut Vec<Ranked<'a>>, pid: Pid, log: &'a [Entry]) -> Result<(), AllocError>
-    ensures { OnOk result (all.new.items ≡ all.old.items ++ own_of pid log.now) }
+fn push_own<'a>(all: &mut Vec<Ranked<'a>>, pid: Pid, log: &'a Log) -> Result<(), AllocError>
+    ensures { OnOk result (all.new.items ≡ all.old.items ++ own_of pid log.now.entries) }
 {
-    for entry in log {
+    for place in 0..log.len() {
+        let entry = log.at(place);
         if entry.act.actor() == pid {
-            let Ok(()) = all.push(Ranked::of(entry)) else {
+            let Ok(()) = all.push(Ranked::new(entry.rank, log, place)) else {
                 return Err(AllocError);
             };
         }
@@ -110,13 +120,23 @@ fn push_own<'a>(all: &mut Vec<Ranked<'a>>, pid: Pid, log: &'a [Entry]) -> Result
     Ok(())
 }
 
+/// The entry that is referred to.
+fn entry_of(reference: &Reference<'_>) -> Entry
+    requires { IsThere reference.now }
+    ensures { result ≡ referred reference.now }
+{
+    let (log, place) = *reference;
+    log.at(place)
+}
+
 /// The acts of entries.
-pub fn acts_of(alloc: Global, entries: &[&Entry]) -> Result<Vec<Act>, AllocError>
-    ensures { IfOk result (λ v. v.items ≡ map (λ e. e.now.act) entries.now) }
+pub fn acts_of(alloc: Global, entries: &[Reference<'_>]) -> Result<Vec<Act>, AllocError>
+    requires { All IsThere entries.now }
+    ensures { IfOk result (λ v. v.items ≡ map (λ r. (referred r).act) entries.now) }
 {
     let mut acts = Vec::with_capacity(alloc, entries.len())?;
-    for entry in entries {
-        let Ok(()) = acts.push(entry.act) else {
+    for reference in entries {
+        let Ok(()) = acts.push(entry_of(reference).act) else {
             return Err(AllocError);
         };
     }
@@ -124,12 +144,13 @@ pub fn acts_of(alloc: Global, entries: &[&Entry]) -> Result<Vec<Act>, AllocError
 }
 
 /// What the acts of entries returned.
-pub fn replies_of(alloc: Global, entries: &[&Entry]) -> Result<Vec<Reply>, AllocError>
-    ensures { IfOk result (λ v. v.items ≡ map (λ e. e.now.reply) entries.now) }
+pub fn replies_of(alloc: Global, entries: &[Reference<'_>]) -> Result<Vec<Reply>, AllocError>
+    requires { All IsThere entries.now }
+    ensures { IfOk result (λ v. v.items ≡ map (λ r. (referred r).reply) entries.now) }
 {
     let mut replies = Vec::with_capacity(alloc, entries.len())?;
-    for entry in entries {
-        let Ok(()) = replies.push(entry.reply) else {
+    for reference in entries {
+        let Ok(()) = replies.push(entry_of(reference).reply) else {
             return Err(AllocError);
         };
     }
@@ -140,17 +161,20 @@ pub fn replies_of(alloc: Global, entries: &[&Entry]) -> Result<Vec<Reply>, Alloc
 pub fn acts_and_replies<R: Threads + Sync>(
     rt: &R,
     alloc: Global,
-    entries: &[&Entry],
+    entries: &[Reference<'_>],
 ) -> Result<(Vec<Act>, Vec<Reply>), AllocError>
+    requires { All IsThere entries.now }
     ensures { IfOk result (λ r. IsReadOut entries.now r.0.items r.1.items) }
 {
     let (acts, replies) = join(
         rt,
         || -> Result<Vec<Act>, AllocError>
-            ensures { IfOk result (λ v. v.items ≡ map (λ e. e.now.act) entries.entry.now) }
+            requires { All IsThere entries.now }
+            ensures { IfOk result (λ v. v.items ≡ map (λ r. (referred r).act) entries.entry.now) }
         { acts_of(alloc, entries) },
         || -> Result<Vec<Reply>, AllocError>
-            ensures { IfOk result (λ v. v.items ≡ map (λ e. e.now.reply) entries.entry.now) }
+            requires { All IsThere entries.now }
+            ensures { IfOk result (λ v. v.items ≡ map (λ r. (referred r).reply) entries.entry.now) }
         { replies_of(alloc, entries) },
     );
     let acts = acts?;

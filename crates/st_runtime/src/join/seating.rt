@@ -9,6 +9,7 @@ use crate::join::same::{is_same_act, is_same_reply};
 use crate::join::whole::place_in;
 use crate::pcb::Pcb;
 use crate::pcb::entry::Entry;
+use crate::pcb::log::Log;
 use crate::system::seat::Seat;
 use st_core::{Act, Pid, Reply};
 
@@ -94,9 +95,9 @@ pub fn is_seated<const TOP: u64, const RANKS: u64>(
 }
 
 /// Whether the one seat of the pid is that of this log.
-fn has_only_seat(seats: &[Seat], pid: Pid, log: &[Entry]) -> bool
+fn has_only_seat(seats: &[Seat], pid: Pid, log: &Log) -> bool
     ensures { IsTrue result
-        ↔ (seats_at seats.now pid ≡ record { pid = pid; mine = calls_of pid log.now } ∷ []) }
+        ↔ (seats_at seats.now pid ≡ record { pid = pid; mine = calls_of pid log.now.entries } ∷ []) }
 {
     for (place, seat) in seats.iter().enumerate() {
         if seat.pid() == pid {
@@ -119,13 +120,14 @@ fn has_no_seat(seats: &[Seat], pid: Pid) -> bool
 }
 
 /// Whether these are the calls of the pid in the log.
-fn holds_calls(mine: &[(Act, Reply)], pid: Pid, log: &[Entry]) -> bool
-    ensures { IsTrue result ↔ (mine.now ≡ calls_of pid log.now) }
+fn holds_calls(mine: &[(Act, Reply)], pid: Pid, log: &Log) -> bool
+    ensures { IsTrue result ↔ (mine.now ≡ calls_of pid log.now.entries) }
 {
     let mut next = 0;
-    for entry in log {
+    for place in 0..log.len() {
+        let entry = log.at(place);
         if entry.act.actor() == pid {
-            if next >= mine.len() || !is_call(&mine[next], entry) {
+            if next >= mine.len() || !is_call(&mine[next], &entry) {
                 return false;
             }
             next += 1;

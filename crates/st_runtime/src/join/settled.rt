@@ -14,12 +14,9 @@ use crate::join::whole::{is_everywhere, place_in};
 use crate::pcb::Pcb;
 use crate::pcb::acts::{is_wide, receiver_of};
 use crate::pcb::entry::Entry;
+use crate::pcb::log::Log;
 use st_core::Pid;
 use std::alloc::Global;
-
-/// Among so many entries the rank is looked for one after another, since the processor fetches those
-/// ahead; only past them by halves.
-const NEAR: usize = 64;
 
 /// Whether it is seen that all entries are whole: those that a process made are, and each entry of any
 /// log is in the log of the process that made it.
@@ -44,11 +41,11 @@ pub fn are_seen_settled<const TOP: u64, const RANKS: u64>(
     alloc: Global,
     processes: &[Pcb<TOP, RANKS>],
     here: Pid,
-    log: &[Entry],
+    log: &Log,
 ) -> bool
     requires rising { IsRising (pids_in processes.now) }
-    requires here { All (HasAt processes.now here) log.now }
-    ensures { IsTrue result → All (IsSettled processes.now here) log.now }
+    requires here { All (HasAt processes.now here) log.now.entries }
+    ensures { IsTrue result → All (IsSettled processes.now here) log.now.entries }
 {
     match vec![in alloc; 0; processes.len()] {
         Ok(mut places) => are_settled(processes, &mut places, here, log),
@@ -61,14 +58,14 @@ fn are_settled<const TOP: u64, const RANKS: u64>(
     processes: &[Pcb<TOP, RANKS>],
     places: &mut [usize],
     here: Pid,
-    log: &[Entry],
+    log: &Log,
 ) -> bool
     requires rising { IsRising (pids_in processes.now) }
-    requires here { All (HasAt processes.now here) log.now }
-    ensures { IsTrue result → All (IsSettled processes.now here) log.now }
+    requires here { All (HasAt processes.now here) log.now.entries }
+    ensures { IsTrue result → All (IsSettled processes.now here) log.now.entries }
 {
-    for entry in log {
-        if !is_settled(processes, places, here, entry) {
+    for place in 0..log.len() {
+        if !is_settled(processes, places, here, &log.at(place)) {
             return false;
         }
     }
@@ -134,29 +131,12 @@ fn sees_at<const TOP: u64, const RANKS: u64>(
 
 /// Whether the log is seen to have the entry, which is looked for from this place on. The place becomes
 /// that at which the search ended.
-fn sees(log: &[Entry], place: &mut usize, entry: &Entry) -> bool
-    ensures { IsTrue result → Contains log.now entry.now }
+fn sees(log: &Log, place: &mut usize, entry: &Entry) -> bool
+    ensures { IsTrue result → Contains log.now.entries entry.now }
 {
-    *place = place_from(log, *place, entry.rank);
+    *place = log.place_from(*place, entry.rank);
     match log.get(*place) {
-        Some(kept) => is_same(kept, entry),
+        Some(kept) => is_same(&kept, entry),
         None => false,
-    }
-}
-
-/// The place of the rank in a log, if it is there from this place on. A guess, on which no promise
-/// rests.
-fn place_from(log: &[Entry], from: usize, rank: u64) -> usize {
-    let Some(rest) = log.get(from..) else {
-        return from;
-    };
-    let near = rest.iter().take(NEAR).position(|kept| kept.rank >= rank);
-    from.saturating_add(near.unwrap_or_else(|| far_place(rest, rank)))
-}
-
-/// The same, if it isn't near.
-fn far_place(rest: &[Entry], rank: u64) -> usize {
-    match rest.binary_search_by_key(&rank, |kept| kept.rank) {
-        Ok(place) | Err(place) => place,
     }
 }

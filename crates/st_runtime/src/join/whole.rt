@@ -16,6 +16,7 @@ use crate::join::settled::are_seen_whole;
 use crate::pcb::Pcb;
 use crate::pcb::acts::{is_wide, receiver_of};
 use crate::pcb::entry::Entry;
+use crate::pcb::log::Log;
 use st_core::{Act, Pid};
 use std::alloc::Global;
 
@@ -53,17 +54,17 @@ fn least_missing<const TOP: u64, const RANKS: u64>(
 fn missing_in<const TOP: u64, const RANKS: u64>(
     processes: &[Pcb<TOP, RANKS>],
     here: Pid,
-    log: &[Entry],
+    log: &Log,
 ) -> Option<usize>
     requires rising { IsRising (pids_in processes.now) }
-    requires here { All (HasAt processes.now here) log.now }
-    ensures { MatchOption result (All (IsWhole processes.now) log.now) (λ i.
-        (i < length log.now) × All (IsWhole processes.now) (take i log.now)
-        × ((d : Entry) → ¬ IsWhole processes.now (slice_index_or log.now i d))) }
+    requires here { All (HasAt processes.now here) log.now.entries }
+    ensures { MatchOption result (All (IsWhole processes.now) log.now.entries) (λ i.
+        (i < length log.now.entries) × All (IsWhole processes.now) (take i log.now.entries)
+        × ((d : Entry) → ¬ IsWhole processes.now (slice_index_or log.now.entries i d))) }
 {
-    for (i, entry) in log.iter().enumerate() {
-        if !is_whole(processes, here, entry) {
-            return Some(i);
+    for place in 0..log.len() {
+        if !is_whole(processes, here, &log.at(place)) {
+            return Some(place);
         }
     }
     None
@@ -194,12 +195,12 @@ pub fn place_in<const TOP: u64, const RANKS: u64>(
 }
 
 /// Whether the log has the entry. Its ranks rise, so that there is one place for it.
-fn has_entry(log: &[Entry], entry: &Entry) -> bool
-    requires { RanksRise 0 log.now }
-    ensures { MatchBool result (Contains log.now entry.now) (¬ Contains log.now entry.now) }
+fn has_entry(log: &Log, entry: &Entry) -> bool
+    requires { RanksRise 0 log.now.entries }
+    ensures { MatchBool result (Contains log.now.entries entry.now) (¬ Contains log.now.entries entry.now) }
 {
-    match log.binary_search_by_key(&entry.rank, |kept| kept.rank) {
-        Ok(place) => is_same(&log[place], entry),
+    match log.search(entry.rank) {
+        Ok(place) => is_same(&log.at(place), entry),
         Err(_) => false,
     }
 }

@@ -1,64 +1,232 @@
-//! Logs: their greatest rank, and room in them for one entry more.
+//! The log of one process, and room in logs for one entry more.
 
-ghost use Rattle.std.specs.Prelude.{◌≡◌, ◌≢◌, ◌+◌, ◌<◌, ◌≤◌, ◌↔◌, max, Err, IfOk, OnOk, vec_len};
+ghost use Rattle.std.specs.Prelude.{◌≡◌, ◌≢◌, ◌+◌, ◌<◌, ◌≤◌, ◌↔◌, ◌⊎◌, [], ◌∷◌, ◌++◌, length, max};
+ghost use Rattle.std.specs.Prelude.{slice_get, slice_index_or, Err, IfOk, OnOk, IsOk, IsTrue, vec_len};
+ghost use Rattle.std.specs.List.Sorted.{IsBinarySearchResult, IsSearchInRange};
+ghost use Rattle.std.specs.Ordering.{nat_cmp};
 ghost use Rattle.std.specs.Vec.{vec_capacity};
 ghost use Rattle.st_runtime.specs.Logs.{last_rank};
+ghost use Rattle.st_runtime.specs.Rows.{unranked, unranked_in, IsPlaced};
 
 use crate::fault::PcbFault;
 use crate::pcb::entry::Entry;
+use crate::pcb::row::{Content, Row, Unranked, content_of};
+use std::alloc::{AllocError, Global};
+use std::marker::Model;
 
-/// The greatest rank in a log, whose ranks rise; 0 if it is empty.
-pub fn last_rank(log: &[Entry]) -> u64
-    ensures { result ≡ last_rank 0 log.now }
-{
-    match log.last() {
-        Some(entry) => entry.rank,
-        None => 0,
+/// Among so many entries a rank is looked for one after another, since the processor fetches those
+/// ahead; only past them by halves.
+const NEAR: usize = 64;
+
+/// So many entries can stand apart, since a row has 32 bits for the place of one.
+const MOST_APART: usize = 4_294_967_295;
+
+/// The entries of the acts that touched one process, in order. An entry of a reset or a tracer change
+/// takes 16 bytes and at most as many again as room to grow; any other takes 192.
+#[derive(Drop)]
+pub struct Log {
+    rows: Vec<Row>,
+    apart: Vec<Unranked>,
+    // For so many more entries there is room in both, whatever is logged.
+    reserved: usize,
+}
+
+impl Model for Log {
+    ghost use Rattle.std.specs.Vec.{vec_capacity};
+    ghost use Rattle.st_runtime.specs.Logs.{Logged};
+
+    ghost Value = { Logged };
+
+    ghost use Rattle.st_runtime.specs.Rows.{entries_of, IsLog};
+
+    ghost view = { λ l. record {
+      entries = entries_of l.rows.items l.apart.items;
+      spare = l.reserved;
+    } };
+
+    ghost invariant = { λ l.
+        IsLog l.rows.items l.apart.items (vec_capacity l.rows) (vec_capacity l.apart) l.reserved };
+}
+
+impl Log {
+    /// An empty log with room for so many entries. Fails if memory runs out, or if there are more than
+    /// can stand apart.
+    pub(crate) fn with_capacity(alloc: Global, capacity: usize) -> Result<Log, AllocError>
+        ensures entries { IfOk result (λ log. log.entries ≡ []) }
+        ensures room { IfOk result (λ log. log.spare ≡ capacity) }
+    {
+        if capacity > MOST_APART {
+            return Err(AllocError);
+        }
+        Ok(Log {
+            rows: Vec::with_capacity(alloc, capacity)?,
+            apart: Vec::with_capacity(alloc, capacity)?,
+            reserved: capacity,
+        })
+    }
+
+    /// The number of entries.
+    pub fn len(&self) -> usize
+        ensures { result ≡ length self.now.entries }
+    {
+        self.rows.len()
+    }
+
+    /// Whether there are no entries.
+    pub fn is_empty(&self) -> bool
+        ensures { IsTrue result ↔ (self.now.entries ≡ []) }
+    {
+        self.rows.is_empty()
+    }
+
+    /// The entry at this place, counted from 0, if there are so many.
+    pub fn get(&self, place: usize) -> Option<Entry>
+        ensures { result ≡ slice_get self.now.entries place }
+    {
+        if place < self.len() {
+            Some(self.at(place))
+        } else {
+            None
+        }
+    }
+
+    /// The entry at this place.
+    pub(crate) fn at(&self, place: usize) -> Entry
+        requires { place < length self.now.entries }
+        ensures { result ≡ slice_index_or self.now.entries place result }
+    {
+        let row = self.rows[place];
+        row.content
+            .unranked(self.apart.as_slice())
+            .with_rank(row.rank)
+    }
+
+    /// The greatest rank, if ranks rise; 0 if the log is empty.
+    pub(crate) fn last_rank(&self) -> u64
+        ensures { result ≡ last_rank 0 self.now.entries }
+    {
+        match self.rows.last() {
+            Some(row) => row.rank,
+            None => 0,
+        }
+    }
+
+    /// Where a search by halves for this rank ends. If ranks rise and one is this, it is its place.
+    pub(crate) fn search(&self, rank: u64) -> Result<usize, usize>
+        ensures range { IsSearchInRange result (length self.now.entries) }
+        ensures position { IsBinarySearchResult (λ e. nat_cmp e.rank rank) self.now.entries result }
+    {
+        self.rows.binary_search_by_key(&rank, |row| row.rank)
+    }
+
+    /// The place of the rank, if ranks rise and it is there from this place on. A guess, on which no
+    /// promise rests.
+    pub(crate) fn place_from(&self, from: usize, rank: u64) -> usize {
+        let Some(rest) = self.rows.get(from..) else {
+            return from;
+        };
+        match rest.iter().take(NEAR).position(|row| row.rank >= rank) {
+            Some(near) => from.saturating_add(near),
+            None => match self.search(rank) {
+                Ok(place) | Err(place) => place,
+            },
+        }
+    }
+
+    /// Makes room for one entry. Fails if memory runs out, or if as many as can stand apart do.
+    pub(crate) fn reserve(&mut self) -> Result<(), AllocError>
+        ensures entries { self.new.entries ≡ self.old.entries }
+        ensures spare { self.old.spare ≤ self.new.spare }
+        ensures room { OnOk result (0 < self.new.spare) }
+        ensures succeeds { 0 < self.old.spare → IsOk result }
+    {
+        if self.reserved > 0 {
+            return Ok(());
+        }
+        if self.apart.len() >= MOST_APART {
+            return Err(AllocError);
+        }
+        self.rows.reserve(1)?;
+        self.apart.reserve(1)?;
+        self.reserved = 1;
+        Ok(())
+    }
+
+    /// Appends an entry, for which there is room.
+    pub(crate) fn push_reserved(&mut self, entry: &Entry)
+        requires { 0 < self.old.spare }
+        ensures entries { self.new.entries ≡ self.old.entries ++ entry.now ∷ [] }
+        ensures spare { self.old.spare ≡ self.new.spare + 1 }
+    {
+        let content = keep_content(&mut self.apart, entry);
+        self.rows.push_reserved(Row {
+            rank: entry.rank,
+            content,
+        });
+        self.reserved -= 1;
     }
 }
 
+/// What a row says of the entry, which is put apart if a row can't say all of it.
+fn keep_content(apart: &mut Vec<Unranked>, entry: &Entry) -> Content
+    requires room { vec_len apart.old < vec_capacity apart.old }
+    requires places { vec_len apart.old < 4294967295 }
+    ensures says { unranked_in apart.new.items result ≡ unranked entry.now }
+    ensures placed { IsPlaced (length apart.new.items) result }
+    ensures apart { (apart.new.items ≡ apart.old.items)
+        ⊎ (apart.new.items ≡ apart.old.items ++ unranked entry.now ∷ []) }
+    ensures capacity { vec_capacity apart.new ≡ vec_capacity apart.old }
+{
+    if let Some(content) = content_of(entry) {
+        return content;
+    }
+    let place = apart.len() as u32;
+    apart.push_reserved(Unranked::of(entry));
+    Content::Apart(place)
+}
+
 /// Makes room for one entry, and returns its rank.
-pub fn room(log: &mut Vec<Entry>, ranks: u64) -> Result<u64, PcbFault>
-    requires { last_rank 0 log.old.items ≤ ranks }
-    ensures rank { IfOk result (λ n. (n ≡ last_rank 0 log.old.items + 1) × (n ≤ ranks)) }
-    ensures items { log.new.items ≡ log.old.items }
-    ensures room { OnOk result (vec_len log.new < vec_capacity log.new) }
-    ensures full { (result ≡ Err PcbFault.RankFull) ↔ (last_rank 0 log.old.items ≡ ranks) }
-    ensures memory { vec_len log.old < vec_capacity log.old → result ≢ Err PcbFault.Memory }
+pub fn room(log: &mut Log, ranks: u64) -> Result<u64, PcbFault>
+    requires { last_rank 0 log.old.entries ≤ ranks }
+    ensures rank { IfOk result (λ n. (n ≡ last_rank 0 log.old.entries + 1) × (n ≤ ranks)) }
+    ensures entries { log.new.entries ≡ log.old.entries }
+    ensures room { OnOk result (0 < log.new.spare) }
+    ensures full { (result ≡ Err PcbFault.RankFull) ↔ (last_rank 0 log.old.entries ≡ ranks) }
+    ensures memory { 0 < log.old.spare → result ≢ Err PcbFault.Memory }
     ensures clock { result ≢ Err PcbFault.ClockFull }
 {
-    let last = last_rank(log.as_slice());
+    let last = log.last_rank();
     if last == ranks {
         return Err(PcbFault::RankFull);
     }
-    let Ok(()) = log.reserve(1) else {
+    let Ok(()) = log.reserve() else {
         return Err(PcbFault::Memory);
     };
     Ok(last + 1)
 }
 
 /// Makes room for one entry in both logs, and returns its rank.
-pub fn room_in_both(a: &mut Vec<Entry>, b: &mut Vec<Entry>, ranks: u64) -> Result<u64, PcbFault>
-    requires a { last_rank 0 a.old.items ≤ ranks }
-    requires b { last_rank 0 b.old.items ≤ ranks }
+pub fn room_in_both(a: &mut Log, b: &mut Log, ranks: u64) -> Result<u64, PcbFault>
+    requires a { last_rank 0 a.old.entries ≤ ranks }
+    requires b { last_rank 0 b.old.entries ≤ ranks }
     ensures rank { IfOk result (λ n.
-        (n ≡ max (last_rank 0 a.old.items) (last_rank 0 b.old.items) + 1) × (n ≤ ranks)) }
-    ensures a_items { a.new.items ≡ a.old.items }
-    ensures b_items { b.new.items ≡ b.old.items }
-    ensures a_room { OnOk result (vec_len a.new < vec_capacity a.new) }
-    ensures b_room { OnOk result (vec_len b.new < vec_capacity b.new) }
+        (n ≡ max (last_rank 0 a.old.entries) (last_rank 0 b.old.entries) + 1) × (n ≤ ranks)) }
+    ensures a_entries { a.new.entries ≡ a.old.entries }
+    ensures b_entries { b.new.entries ≡ b.old.entries }
+    ensures a_room { OnOk result (0 < a.new.spare) }
+    ensures b_room { OnOk result (0 < b.new.spare) }
     ensures full { (result ≡ Err PcbFault.RankFull)
-        ↔ (max (last_rank 0 a.old.items) (last_rank 0 b.old.items) ≡ ranks) }
+        ↔ (max (last_rank 0 a.old.entries) (last_rank 0 b.old.entries) ≡ ranks) }
     ensures clock { result ≢ Err PcbFault.ClockFull }
 {
-    let last = last_rank(a.as_slice()).max(last_rank(b.as_slice()));
+    let last = a.last_rank().max(b.last_rank());
     if last == ranks {
         return Err(PcbFault::RankFull);
     }
-    let Ok(()) = a.reserve(1) else {
+    let Ok(()) = a.reserve() else {
         return Err(PcbFault::Memory);
     };
-    let Ok(()) = b.reserve(1) else {
+    let Ok(()) = b.reserve() else {
         return Err(PcbFault::Memory);
     };
     Ok(last + 1)

@@ -1,7 +1,7 @@
 //! Where pids stand in a list that rises.
 
 ghost use Rattle.std.specs.Prelude.{◌≡◌, ◌≤◌, length, is_some, nat_lt, slice_get, Some, IfSome};
-ghost use Rattle.st_core.specs.Collected.{is_among};
+ghost use Rattle.st_core.specs.Streams.{is_among};
 ghost use Rattle.st_core.specs.Pid.{node_of, IsRising};
 
 use st_core::Pid;

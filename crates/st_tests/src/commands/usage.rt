@@ -1,7 +1,7 @@
 //! Words that ask for no command: the usage line, and status 3. The input isn't read.
 
 use super::expect;
-use st_commands::{Task, read_words};
+use st_commands::{Refusal, Task, read_words};
 use st_core::Label;
 use std::test::Fail;
 
@@ -50,5 +50,14 @@ fn labels_are_read(rt: HostRuntime) -> Result<(), Fail> {
         let task = read_words(rt.alloc(), &words);
         assert_eq!(rt; task, Ok(Task::Chart(Label(label))), "{word}");
     }
+    Ok(())
+}
+
+// So many aren't out of memory.
+#[test]
+fn a_hundred_thousand_words_are_told_the_usage(rt: HostRuntime) -> Result<(), Fail> {
+    let words = vec![in rt.alloc(); "check"; 100_000]?;
+    let task = read_words(rt.alloc(), words.as_slice());
+    assert!(rt; task == Err(Refusal::Usage));
     Ok(())
 }

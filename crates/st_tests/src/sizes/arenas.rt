@@ -6,7 +6,8 @@ use super::MANY;
 use crate::collected::{p30, p31, same};
 use st_arena::Lists;
 use st_core::{
-    Act, ByteSink, Component, Draft, Label, MemorySink, Message, Pid, Recorder, Serial, Token,
+    Act, ByteSink, ByteSource, Component, Draft, Label, MemorySink, MemorySource, Message, Pid,
+    Recorder, Serial, Token,
 };
 use st_mail::Mailboxes;
 use st_world::World;
@@ -127,6 +128,16 @@ fn a_recorder_keeps_a_hundred_thousand_bytes(rt: HostRuntime) -> Result<(), Fail
     let sink = MemorySink::new(rt.alloc(), LENGTH, None)?;
     let mut recorder = Recorder::new(rt.alloc(), sink);
     assert!(rt; recorder.put(text.as_slice()) == Ok(LENGTH));
+    same(&rt, &recorder.passed(), &text.as_slice());
+    Ok(())
+}
+
+#[test]
+fn a_recorder_keeps_a_hundred_thousand_bytes_that_were_read(rt: HostRuntime) -> Result<(), Fail> {
+    let text = vec![in rt.alloc(); b'x'; LENGTH]?;
+    let mut piece = vec![in rt.alloc(); 0; LENGTH]?;
+    let mut recorder = Recorder::new(rt.alloc(), MemorySource::new(text.as_slice(), None));
+    assert!(rt; recorder.take(piece.as_mut_slice()) == Ok(LENGTH));
     same(&rt, &recorder.passed(), &text.as_slice());
     Ok(())
 }

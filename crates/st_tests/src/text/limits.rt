@@ -72,3 +72,29 @@ fn bytes(rt: HostRuntime) -> Result<(), Fail> {
     same(&rt, &refusal(&rt, answer), &ReadFault::TooLarge);
     Ok(())
 }
+
+/// Puts the line at the end so many times.
+fn put_lines(text: &mut Vec<u8>, line: &str, times: u64) -> Result<(), AllocError> {
+    for _ in 0..times {
+        text.extend_from_slice(line.as_bytes())?;
+    }
+    Ok(())
+}
+
+// No clause says that there is memory for what the limits let through.
+#[test]
+fn a_hundred_thousand_events_and_acts(rt: HostRuntime) -> Result<(), Fail> {
+    let mut text = Vec::new(rt.alloc());
+    put_lines(&mut text, "seqtrace 1\nprocess <0.0.0>\n", 1)?;
+    put_lines(
+        &mut text,
+        "{seq_trace,0,{print,{0,1},<0.0.0>,[],0}}\n",
+        100_000,
+    )?;
+    put_lines(&mut text, "acts\n", 1)?;
+    put_lines(&mut text, "look <0.0.0>\n", 100_000)?;
+    let bundle = read(rt.alloc(), &mut MemorySource::new(&text, None))?;
+    same(&rt, &bundle.streams.total(), &100_000);
+    same(&rt, &bundle.acts.map(|acts| acts.len()), &Some(100_000));
+    Ok(())
+}

@@ -1,4 +1,5 @@
-//! The world agrees with the slow machine on random lists of acts over two nodes.
+//! The world agrees with the slow machine on random lists of acts over three nodes, among them many
+//! resets and tracer changes.
 
 ghost use Rattle.std.specs.Prelude.{◌<◌};
 
@@ -35,14 +36,16 @@ impl Random {
         self.below(4) != 0
     }
 
-    /// One of four processes on two nodes, or seldom one that is not there.
+    /// One of six processes on three nodes, or seldom one that is not there.
     fn pid(&mut self) -> Pid {
         match self.below(25) {
             0 => Pid::new(99),
             1..=6 => Pid::new(30),
             7..=12 => Pid::new(31),
-            13..=18 => Pid::on(1, 30),
-            _ => Pid::on(1, 31),
+            13..=14 => Pid::new(32),
+            15..=18 => Pid::on(1, 30),
+            19..=21 => Pid::on(1, 31),
+            _ => Pid::on(2, 30),
         }
     }
 
@@ -85,7 +88,7 @@ impl Random {
 
     fn act(&mut self) -> Act {
         let me = self.pid();
-        match self.below(40) {
+        match self.below(44) {
             0..=10 => Act::Send(me, self.pid(), self.below(3)),
             11..=20 => Act::Receive(me, self.want()),
             21..=24 => Act::Print(me, self.below(3)),
@@ -94,7 +97,7 @@ impl Random {
             34 => Act::Clear(me),
             35 => Act::Restore(me, self.token()),
             36 => Act::Look(me),
-            37 => Act::Reset(me),
+            37..=40 => Act::Reset(me),
             _ => Act::Tracer(me, self.truth()),
         }
     }
@@ -127,7 +130,14 @@ fn act_in_both(
 
 #[test]
 fn agrees_with_the_slow_machine(rt: HostRuntime) -> Result<(), Fail> {
-    let pids = [Pid::new(30), Pid::new(31), Pid::on(1, 30), Pid::on(1, 31)];
+    let pids = [
+        Pid::new(30),
+        Pid::new(31),
+        Pid::new(32),
+        Pid::on(1, 30),
+        Pid::on(1, 31),
+        Pid::on(2, 30),
+    ];
     let mut random = Random { state: 5 };
     for _ in 0..2_000 {
         let mut world = World::<TOP>::new(rt.alloc(), &pids)?;

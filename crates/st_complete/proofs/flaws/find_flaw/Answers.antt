@@ -1,7 +1,7 @@
 -- What the rule gives first it gives at some place.
 use Rattle.std.proofs.Common.{sym}
 use Rattle.st_pair.proofs.ForCallers.{given_at}
-use Rattle.st_complete.specs.Flaws.{flawed, test_of}
+use Rattle.st_complete.specs.Flaws.{flaw_place, test_of}
 use Rattle.st_complete.proofs.Flawed.{holds_there, holds_of_none}
 use Rattle.st_complete.proofs.flaws.find_flaw.Goals as goal
 
@@ -10,5 +10,5 @@ returns-in-None-clause-none c = holds_of_none (test_of c.args.flaw) c.args.strea
 
 pub returns-in-Some-clause-some : goal.returns-in-Some-clause-some
 returns-in-Some-clause-some c = holds_there (test_of c.args.flaw) c.args.streams.now _ _
-    (given_at (flawed (test_of c.args.flaw)
+    (given_at (flaw_place (test_of c.args.flaw)
     c.args.streams.now) c.args.streams.now _ c.pids-is_streams.ensures.streams.draft.rising (sym c.in-Some.ensures))

@@ -1,6 +1,6 @@
 -- A list without such an event can be left out of the search.
 use Rattle.std.proofs.Common.{sym, ◌∙◌, ◌<◌, length, arith, add-one}
-use Rattle.st_core.specs.Collected.{names_among}
+use Rattle.st_core.specs.Streams.{names_among}
 use Rattle.st_core.proofs.Collections.{first_failing-drop}
 use Rattle.st_core.proofs.streams.first_failing.Goals as goal
 

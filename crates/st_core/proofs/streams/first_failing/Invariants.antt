@@ -1,6 +1,7 @@
 -- A list without such an event can be left out of the search.
 use Rattle.std.proofs.Common.{◌≡◌, drop}
-use Rattle.st_core.specs.Collected.{names_among, first_failing}
+use Rattle.st_core.specs.Collected.{first_failing}
+use Rattle.st_core.specs.Streams.{names_among}
 use Rattle.st_core.proofs.streams.first_failing.Given as goal
 
 -- what is left has the first such event of all

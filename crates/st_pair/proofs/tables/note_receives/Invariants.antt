@@ -1,8 +1,8 @@
 -- So far a key's place is that from before, or else that of the first such receive of the taken events.
 use Rattle.std.proofs.Common.{◌≡◌, drop}
 use Rattle.st_pair.specs.declared.tables.Key.{Key}
-use Rattle.st_pair.specs.Places.{first_from}
-use Rattle.st_pair.specs.Tables.{place_at_key, or_else, receive_rule}
+use Rattle.st_pair.specs.Places.{first_from, or_else}
+use Rattle.st_pair.specs.Tables.{place_at_key, receive_rule}
 use Rattle.st_pair.proofs.tables.note_receives.Given as goal
 
 -- the table with what is left comes to the table at first with all

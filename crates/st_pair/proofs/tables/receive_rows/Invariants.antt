@@ -1,8 +1,8 @@
 -- So far a key's place among the rows is that of the first such receive of the streams that were taken.
 use Rattle.std.proofs.Common.{◌≡◌, drop}
 use Rattle.st_pair.specs.declared.tables.Key.{Key}
-use Rattle.st_pair.specs.Places.{first}
-use Rattle.st_pair.specs.Tables.{place_at_key, or_else, receive_rule}
+use Rattle.st_pair.specs.Places.{first, or_else}
+use Rattle.st_pair.specs.Tables.{place_at_key, receive_rule}
 use Rattle.st_pair.proofs.tables.receive_rows.Given as goal
 
 -- the table with what is left comes to all

@@ -1,7 +1,6 @@
 -- The acts show the streams; running out of memory is an answer of its own.
 use Rattle.std.proofs.Common.{refl}
-use Rattle.st_commands.specs.Output.{no_memory}
-use Rattle.st_commands.specs.Parts.{bundled}
+use Rattle.st_commands.specs.Output.{no_memory, bundled}
 use Rattle.st_complete.specs.declared.answer.Answer.TheVariants as answer
 use Rattle.st_tool.specs.Complete.{Certifies, IsLong, long}
 use Rattle.st_tool.specs.Parts.{Finds, NoRoomToComplete}

@@ -1,16 +1,14 @@
 -- The test looks at no token, so it finds the same place in what is stored.
-use Rattle.std.proofs.Common.{rules, ◌==◌, refl, ap, ◌∙◌}
+use Rattle.std.proofs.Common.{◌==◌, refl, ap, ◌∙◌}
 use Rattle.st_core.specs.declared.types.Message.{Message}
 use Rattle.st_mail.proofs.Boxes.{in_stored, found}
 use Rattle.st_mail.proofs.mailboxes.Mailboxes.find_value.Goals as goal
 
-pub find_first-requires-clause-in_range : goal.find_first-requires-clause-in_range
-find_first-requires-clause-in_range c =
-    in_stored _ _ c.self.invariant _ (ap (λ m. m.boxes) c.self.view_is) c.args.mailbox c.requires
+pub find_value-requires : goal.find_value-requires
+find_value-requires c = in_stored _ _ c.self.invariant _ (ap (λ m. m.boxes) c.self.view_is) c.args.mailbox c.requires
 
 pub returns : goal.returns
 returns c =
-    let test = λ (m : Message). m.value == c.args.value in
-    c.find_first.ensures.position test (λ k m b there answers. search rules)
+    c.find_value.ensures
     ∙ found _ _ c.self.invariant _ (ap (λ m. m.boxes) c.self.view_is) c.args.mailbox c.requires _ refl
-    test (λ m. refl)
+    (λ (m : Message). m.value == c.args.value) (λ m. refl)

@@ -31,10 +31,16 @@ index_mut-requires c =
     let within = in_counts _ _ c.self.invariant _ (ap (λ m. m.boxes) c.self.view_is) c.args.mailbox c.requires in
     omega (arith, within, c.self.inside.wiped.ok.0)
 
+-- NOTHING IS FOUND
+
+pub count_walk-requires : goal.count_walk-requires
+count_walk-requires c =
+    in_stored _ _ c.self.invariant _ (ap (λ m. m.boxes) c.self.view_is) c.args.mailbox c.requires
+
 -- BEHIND THE WIPED FRONT
 
-pub invariant_of-self : goal.invariant_of-self
-invariant_of-self c =
+pub invariant_of-self-then-place-wiped : goal.invariant_of-self-then-place-wiped
+invariant_of-self-then-place-wiped c =
     let count =
     read_count _ _ c.self.invariant _ (ap (λ m. m.boxes) c.self.view_is) c.args.mailbox c.requires
     c.index-wiped.result.now c.index-wiped.ensures in

@@ -6,8 +6,8 @@ use Rattle.st_runtime.specs.Joined.{reports_of}
 use Rattle.st_runtime.proofs.Collecting.{of}
 use Rattle.st_runtime.proofs.join.collect.fill.Given as goal
 
-abbrev pub invariant-loop-entry : goal.invariant-loop-entry
-invariant-loop-entry l =
+abbrev pub invariant-loop-place : goal.invariant-loop-place
+invariant-loop-place l =
     (lists l.draft l.pid ≡ true)
     × ((xs : List Stream) → ComesLast xs l.pid → l.initial.draft ≡ xs ++ of l.pid [] ∷ []
-    → l.draft ≡ xs ++ of l.pid (reports_of l.pid (take l.entry-index l.log)) ∷ [])
+    → l.draft ≡ xs ++ of l.pid (reports_of l.pid (take l.place l.log.entries)) ∷ [])

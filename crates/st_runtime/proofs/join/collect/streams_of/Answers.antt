@@ -22,6 +22,6 @@ add_stream-requires-clause-own g c =
     let ps = c.args.processes.now in
     let p = c.process-item.result in
     let Own : Pid → List Entry → Type 0 = λ q log. AllByRecursion (λ e. is_own q e ≡ true) (reports_of q log) in
-    subst (λ q. Own q c.log.result.now) (sym c.pid.ensures) (subst (Own p.process.pid) (sym c.log.ensures.value)
+    subst (λ q. Own q c.log.result.now.entries) (sym c.pid.ensures) (subst (Own p.process.pid) (sym c.log.ensures.value)
     (reports_own ps c.loop-process.process-index p c.loop-process-test.true c.process-item.is
     c.requires.draft.own))

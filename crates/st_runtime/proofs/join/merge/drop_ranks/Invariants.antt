@@ -1,8 +1,8 @@
 -- So far the references show the entries that were taken.
 use Rattle.std.proofs.Common.{◌≡◌, map}
-use denote.Ref.{Bor}
-use Rattle.st_runtime.specs.declared.pcb.entry.Entry.{Entry}
+use Rattle.std.specs.Prelude.{All}
+use Rattle.st_runtime.specs.Joining.{referred, IsThere}
 use Rattle.st_runtime.proofs.join.merge.drop_ranks.Given as goal
 
 abbrev pub invariant-loop-own : goal.invariant-loop-own
-invariant-loop-own l = map (λ (r : Bor Entry). r.now) l.entries.items ≡ l.yielded
+invariant-loop-own l = (map referred l.entries.items ≡ l.yielded) × All IsThere l.entries.items

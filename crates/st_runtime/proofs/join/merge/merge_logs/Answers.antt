@@ -23,4 +23,4 @@ returns-clause-merged g c =
     (λ a r f h. search rules))
     (subst (λ (es : List Entry). IsStableBy by_rank es sorted) c.in_ok-all.ensures.items
     (c.sort_by_key.ensures.stable (λ e. e.rank) (answers_always _ _ _ (λ f a r h i. search rules))))
-    whole)) c.drop_ranks.ensures
+    whole)) c.drop_ranks.ensures.entries

@@ -4,7 +4,7 @@ use Rattle.st_runtime.specs.Pieces.{calls_of}
 use Rattle.st_runtime.proofs.join.seating.holds_calls.Given as goal
 
 -- what is left of the calls and of the log decides
-abbrev pub invariant-loop-entry : goal.invariant-loop-entry
-invariant-loop-entry l =
+abbrev pub invariant-loop-place : goal.invariant-loop-place
+invariant-loop-place l =
     (l.next ≤ length l.mine)
-    × ((l.mine ≡ calls_of l.pid l.log) ↔ (drop l.next l.mine ≡ calls_of l.pid (drop l.entry-index l.log)))
+    × ((l.mine ≡ calls_of l.pid l.log.entries) ↔ (drop l.next l.mine ≡ calls_of l.pid (drop l.place l.log.entries)))

@@ -4,5 +4,5 @@ use Rattle.std.specs.Prelude.{All}
 use Rattle.st_runtime.specs.Joining.{IsSettled}
 use Rattle.st_runtime.proofs.join.settled.are_settled.Given as goal
 
-abbrev pub invariant-loop-entry : goal.invariant-loop-entry
-invariant-loop-entry g l = All (IsSettled l.processes l.here) (take l.entry-index l.log)
+abbrev pub invariant-loop-place : goal.invariant-loop-place
+invariant-loop-place g l = All (IsSettled l.processes l.here) (take l.place l.log.entries)

@@ -1,15 +1,18 @@
 -- The first entry that isn't whole has the least place, since those before it are.
 use Rattle.std.proofs.lemmas.List.Elements.{All-more}
-use Rattle.std.proofs.Common.{arith}
+use Rattle.std.proofs.Common.{◌<◌, length, arith, subst}
 use Rattle.st_runtime.proofs.Members.{All-past}
 use Rattle.st_runtime.specs.Pieces.{IsWhole}
 use Rattle.st_runtime.proofs.join.whole.missing_in.Goals as goal
 
-pub loop-i-preserved : goal.loop-i-preserved
-loop-i-preserved g c =
-    All-more (IsWhole c.args.processes.now) c.args.log.now c.loop-i.i _ c.loop-i-test.true c.loop-i.invariant
-    c.if-not-is_whole.ensures
+pub loop-place-preserved : goal.loop-place-preserved
+loop-place-preserved g c =
+    let Whole = IsWhole c.args.processes.now in
+    let log = c.args.log.now.entries in
+    let i = c.loop-place.place in
+    let within : i < length log = omega (arith, c.loop-place-test.true, c.len-place-end.ensures) in
+    All-more Whole log i c.at.result within c.loop-place.invariant (subst Whole c.at.ensures c.if-not-is_whole.ensures)
 
 pub returns : goal.returns
-returns g c = All-past (IsWhole c.args.processes.now) c.loop-i.i c.args.log.now
-    (omega (arith, c.loop-i-test.false)) c.loop-i.invariant
+returns g c = All-past (IsWhole c.args.processes.now) c.loop-place.place c.args.log.now.entries
+    (omega (arith, c.loop-place-test.false, c.len-place-end.ensures)) c.loop-place.invariant

@@ -16,7 +16,7 @@ invariant_of-self g c =
     let p = c.self.inside.pid in
     let l = c.self.inside.local in
     let boxes = c.self.inside.queue.boxes in
-    let log = c.self.inside.log.items in
+    let log = c.self.inside.log.entries in
     let m = c.reach.new.local in
     let boxes' = c.reach.new.queue.boxes in
     let e = c.args.entry.now in
@@ -42,6 +42,6 @@ invariant_of-self g c =
       above = rw (ap (λ (x : Control). last_rank 0 x.log) view) c.requires.above;
       within = c.requires.within;
     } in
-    rw c.push_reserved.ensures.items
+    rw c.push_reserved.ensures.entries
     (inside_push g.row.TOP g.row.RANKS p l boxes log e m boxes' c.self.invariant c.reach.ensures.one_box
     c.reach.ensures.fit part next)

@@ -14,7 +14,7 @@ invariant_of-self-2 g c =
     let l = c.self.inside.local in
     let boxes = c.self.inside.queue.boxes in
     let queue = queue_in boxes 0 in
-    let log = c.self.inside.log.items in
+    let log = c.self.inside.log.entries in
     let m = c.inner.new.local in
     let a = c.args.act.now in
     let told = c.in-Ok.told in
@@ -25,7 +25,7 @@ invariant_of-self-2 g c =
     let next : IsNext g.row.RANKS log n = record { above = omega (arith, rank.0); within = rank.1 } in
     let own = inner_part g.row.TOP a p l m queue n told c.requires.inner mine (c.in-Ok.ensures.acted queue) in
     let part = own_is_part g.row.TOP (process_of p l queue) e (process_of p m queue) mine own in
-    rw (c.push_reserved.ensures.items, c.in_ok-rank.ensures.items)
+    rw (c.push_reserved.ensures.entries, c.in_ok-rank.ensures.entries)
     (inside_push g.row.TOP g.row.RANKS p l boxes log e m boxes c.self.invariant c.self.invariant.one_box
     c.self.invariant.fit part next)
 
@@ -44,5 +44,5 @@ returns-clause-ok g c =
       act = refl;
       reply = refl;
       rank = c.in_ok-rank.ensures.rank.0;
-      log = c.push_reserved.ensures.items ∙ ap (λ xs. xs ++ e ∷ []) c.in_ok-rank.ensures.items;
+      log = c.push_reserved.ensures.entries ∙ ap (λ xs. xs ++ e ∷ []) c.in_ok-rank.ensures.entries;
     })

@@ -12,7 +12,7 @@ invariant_of-self-2 g c =
     let p = c.self.inside.pid in
     let l = c.self.inside.local in
     let boxes = c.self.inside.queue.boxes in
-    let log = c.self.inside.log.items in
+    let log = c.self.inside.log.entries in
     let one = c.receive_one-told in
     let m = one.new.local in
     let boxes' = one.new.queue.boxes in
@@ -24,7 +24,7 @@ invariant_of-self-2 g c =
     one.ensures.acted in
     let before = process_of p l (queue_in boxes 0) in
     let part = own_is_part g.row.TOP before e (process_of p m (queue_in boxes' 0)) refl own in
-    rw (c.push_reserved.ensures.items, c.in_ok-rank.ensures.items)
+    rw (c.push_reserved.ensures.entries, c.in_ok-rank.ensures.entries)
     (inside_push g.row.TOP g.row.RANKS p l boxes log e m boxes' c.self.invariant one.ensures.one_box one.ensures.fit
     part next)
 
@@ -43,5 +43,5 @@ returns-clause-ok g c =
       act = refl;
       reply = refl;
       rank = c.in_ok-rank.ensures.rank.0;
-      log = c.push_reserved.ensures.items ∙ ap (λ xs. xs ++ e ∷ []) c.in_ok-rank.ensures.items;
+      log = c.push_reserved.ensures.entries ∙ ap (λ xs. xs ++ e ∷ []) c.in_ok-rank.ensures.entries;
     })

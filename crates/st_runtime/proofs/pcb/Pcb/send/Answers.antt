@@ -18,7 +18,7 @@ invariant_of-from-2 g c =
     let m = c.send.new.local in
     let told = c.in-Ok.told in
     let t = c.token.result in
-    let log = c.from.inside.log.items in
+    let log = c.from.inside.log.entries in
     let n = c.in_ok-rank.rank in
     let pid : Control → _ = λ x. x.process.pid in
     let apart : pid_eq p q ≡ false =
@@ -31,7 +31,7 @@ invariant_of-from-2 g c =
     } in
     let rank = c.in_ok-rank.ensures.rank in
     let next : IsNext g.row.RANKS log n = record { above = omega (arith, rank.0); within = rank.1 } in
-    rw (c.push_reserved.ensures.items, c.in_ok-rank.ensures.a_items)
+    rw (c.push_reserved.ensures.entries, c.in_ok-rank.ensures.a_entries)
     (sender_inside g.row.TOP g.row.RANKS p q v l m c.from.inside.queue.boxes log n told t c.from.invariant apart
     sent next)
 
@@ -46,7 +46,7 @@ invariant_of-to-2 g c =
     let t = c.token.result in
     let boxes = c.to.inside.queue.boxes in
     let boxes' = c.put.new.self.boxes in
-    let log = c.to.inside.log.items in
+    let log = c.to.inside.log.entries in
     let n = c.in_ok-rank.rank in
     let pid : Control → _ = λ x. x.process.pid in
     let apart : pid_eq p q ≡ false =
@@ -63,7 +63,7 @@ invariant_of-to-2 g c =
     } in
     let rank = c.in_ok-rank.ensures.rank in
     let next : IsNext g.row.RANKS log n = record { above = omega (arith, rank.0); within = rank.1 } in
-    rw (c.push_reserved-2.ensures.items, c.in_ok-rank.ensures.b_items)
+    rw (c.push_reserved-2.ensures.entries, c.in_ok-rank.ensures.b_entries)
     (receiver_inside g.row.TOP g.row.RANKS p q v l m c.to.inside.local boxes boxes' log n told t c.to.invariant apart
     sent put next)
 
@@ -99,6 +99,6 @@ returns-clause-ok g c =
     (receiver_part g.row.TOP p q v l m c.to.inside.local boxes boxes' n told t sent put)
     (record {
       rank = c.in_ok-rank.ensures.rank.0;
-      from = c.push_reserved.ensures.items ∙ ap (λ xs. xs ++ e ∷ []) c.in_ok-rank.ensures.a_items;
-      to = c.push_reserved-2.ensures.items ∙ ap (λ xs. xs ++ e ∷ []) c.in_ok-rank.ensures.b_items;
+      from = c.push_reserved.ensures.entries ∙ ap (λ xs. xs ++ e ∷ []) c.in_ok-rank.ensures.a_entries;
+      to = c.push_reserved-2.ensures.entries ∙ ap (λ xs. xs ++ e ∷ []) c.in_ok-rank.ensures.b_entries;
     }))

@@ -14,7 +14,7 @@ invariant_of-self-2 g c =
     let t = c.token-token.result in
     let boxes = c.self.inside.queue.boxes in
     let boxes' = c.put.new.self.boxes in
-    let log = c.self.inside.log.items in
+    let log = c.self.inside.log.entries in
     let n = c.in_ok-rank.rank in
     let sent : IsSent g.row.TOP p p v l m told t = record {
       acts = c.in-Ok.ensures.acted;
@@ -28,7 +28,7 @@ invariant_of-self-2 g c =
     } in
     let rank = c.in_ok-rank.ensures.rank in
     let next : IsNext g.row.RANKS log n = record { above = omega (arith, rank.0); within = rank.1 } in
-    rw (c.push_reserved.ensures.items, c.in_ok-rank.ensures.items)
+    rw (c.push_reserved.ensures.entries, c.in_ok-rank.ensures.entries)
     (itself_inside g.row.TOP g.row.RANKS p v l m boxes boxes' log n told t c.self.invariant sent put next)
 
 pub returns-clause-ok : goal.returns-clause-ok
@@ -59,5 +59,5 @@ returns-clause-ok g c =
       act = refl;
       reply = refl;
       rank = c.in_ok-rank.ensures.rank.0;
-      log = c.push_reserved.ensures.items ∙ ap (λ xs. xs ++ e ∷ []) c.in_ok-rank.ensures.items;
+      log = c.push_reserved.ensures.entries ∙ ap (λ xs. xs ++ e ∷ []) c.in_ok-rank.ensures.entries;
     })

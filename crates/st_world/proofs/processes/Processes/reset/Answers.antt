@@ -1,77 +1,78 @@
--- A reset of the rows is that of the state, since it changes each process of the node, and no other.
-use Rattle.std.proofs.Common.{◌≡◌, Some, None, inl, position, length, get_or, refl, sym, ◌∙◌, ap, arith}
-use Rattle.std.proofs.lemmas.List.{get_or_default, with_items_is}
+-- A reset of the rows is that of the state: it changes each process of the node that is listed, and
+-- the others are clean.
+use Rattle.std.proofs.Common.{◌≡◌, Some, None, inl, position, length, sym, ◌∙◌, ap, subst}
+use Rattle.std.proofs.lemmas.List.{with_items_is}
 use Rattle.std.specs.Vec.{with_items}
 use Rattle.st_core.specs.declared.types.Act.TheVariants as act
 use Rattle.st_core.specs.declared.types.Reply.TheVariants as reply
 use Rattle.st_core.specs.Pid.{pid_eq}
-use Rattle.st_core.specs.State.{LocalState, State, zero_local}
-use Rattle.st_mail.specs.declared.outcome.Outcome.{Outcome as Told}
-use Rattle.st_world.specs.Rows.{state_of}
-use Rattle.st_world.specs.World.{outcome_to}
-use Rattle.st_world.proofs.Answering.{refused_unknown, answered, rows_after}
-use Rattle.st_world.proofs.RowLemmas.{unknown, number_within}
-use Rattle.st_world.proofs.Steps.{step_node}
+use Rattle.st_core.specs.State.{State}
+use Rattle.st_world.specs.Nodes.{flags, flagged}
+use Rattle.st_world.specs.Rows.{state_of, AreKept}
+use Rattle.st_world.proofs.Answering.{refused_unknown, answered}
+use Rattle.st_world.proofs.NodeActs.{own_pid, told_of, reset_step, reset_kept, reset_listed}
+use Rattle.st_world.proofs.RowLemmas.{unknown}
 use Rattle.st_world.proofs.processes.Processes.reset.Goals as goal
 
 pub returns-in_default : goal.returns-in_default
 returns-in_default g c =
     let ps = c.self.inside.pids.keys in
-    let ls = c.self.inside.locals.items in
+    let ls = flagged (flags c.self.inside.nodes) c.self.inside.locals.items in
     let bs = c.self.inside.queues.boxes in
     let at : position (λ p. pid_eq p c.args.me) c.self.inside.pids.keys ≡ None =
     sym c.number_of.ensures ∙ c.in_default.is in
-    let gone = unknown ps ls bs c.self.invariant.aligned c.args.me at in
+    let gone = unknown ps ls bs c.self.invariant.rows.aligned c.args.me at in
     rw (← c.self.view_is) (refused_unknown g.row.TOP (state_of ps ls bs) (act.Reset c.args.me) (inl gone))
 
 pub invariant_of-self : goal.invariant_of-self
 invariant_of-self g c =
     let ps = c.self.inside.pids.keys in
-    let ls = c.self.inside.locals.items in
+    let raw = c.self.inside.locals.items in
     let bs = c.self.inside.queues.boxes in
-    let i = c.in-Some.field-0 in
-    let l : LocalState = get_or c.self.inside.locals.items c.in-Some.field-0 zero_local in
-    let at : position (λ p. pid_eq p c.args.me) c.self.inside.pids.keys ≡ Some c.in-Some.field-0 =
+    let i = c.in-Some.number in
+    let at : position (λ p. pid_eq p c.args.me) c.self.inside.pids.keys ≡ Some c.in-Some.number =
     sym c.number_of.ensures ∙ c.in-Some.is in
-    let node =
-    step_node g.row.TOP ps ls bs c.self.invariant.aligned (act.Reset c.args.me) i l reply.Done refl (λ t x. refl) at
-    (get_or_default ls i zero_local l
-    (omega (arith, number_within ps c.args.me i at, c.self.invariant.aligned.locals_len)))
-    refl in
-    let told : Told = record { reply = reply.Done; report = None; place = None } in
-    let after = rw (c.as_slice.ensures.keys, c.deref_mut.ensures.value) at c.reset.ensures.state in
-    let aligned = c.reset.ensures.aligned in
-    let items : (with_items c.self.inside.locals c.reset.new.locals).items ≡ c.reset.new.locals =
-    with_items_is c.self.inside.locals c.reset.new.locals (c.reset.auto.locals ∙ c.deref_mut.ensures.len) in
-    let written = ap (λ x. state_of ps x c.reset.new.queues.boxes) items in
-    let steps = node ∙ ap (λ (x : State). Some (outcome_to told x)) (sym (written ∙ after)) in
-    rows_after g.row.TOP ps ls (with_items c.self.inside.locals c.reset.new.locals).items bs c.reset.new.queues.boxes
-    (act.Reset c.args.me) told c.self.invariant
-    (ap length items ∙ c.reset.auto.locals ∙ ap length c.deref_mut.ensures.value)
-    (aligned.queues_len ∙ ap length c.as_slice.ensures.keys ∙ sym c.self.invariant.aligned.queues_len) steps
+    let ls2 = c.wipe.new.locals in
+    let bs2 = c.wipe.new.queues.boxes in
+    let own = rw c.deref_mut.ensures.value at c.wipe.ensures in
+    let pid = own_pid g.row.TOP ps c.self.inside.nodes raw bs c.self.invariant c.args.me i at c.clear.new.self
+    c.clear.ensures.places in
+    let state = own.state ps c.args.me c.self.invariant.by_node pid c.self.invariant.listed in
+    let items : (with_items c.self.inside.locals c.wipe.new.locals).items ≡ c.wipe.new.locals =
+    with_items_is c.self.inside.locals c.wipe.new.locals (c.wipe.auto.locals ∙ c.deref_mut.ensures.len) in
+    let locals_len = c.wipe.auto.locals ∙ ap length c.deref_mut.ensures.value in
+    let queues_len = own.queues_len ∙ c.self.invariant.by_node.len in
+    subst (λ x. AreKept g.row.TOP ps c.clear.new.self x bs2) (sym items)
+    (reset_kept g.row.TOP ps c.self.inside.nodes raw bs c.self.invariant c.args.me i at c.clear.new.self
+    c.clear.ensures.places c.clear.ensures.tracers ls2 bs2 locals_len queues_len state
+    (reset_listed g.row.TOP ps c.self.inside.nodes raw bs c.self.invariant c.args.me i at c.clear.new.self
+    c.clear.ensures.places ls2 bs2 own.wiped own.others c.clear.ensures.others))
 
 pub returns : goal.returns
 returns g c =
     let ps = c.self.inside.pids.keys in
-    let ls = c.self.inside.locals.items in
+    let raw = c.self.inside.locals.items in
     let bs = c.self.inside.queues.boxes in
-    let i = c.in-Some.field-0 in
-    let l : LocalState = get_or c.self.inside.locals.items c.in-Some.field-0 zero_local in
-    let at : position (λ p. pid_eq p c.args.me) c.self.inside.pids.keys ≡ Some c.in-Some.field-0 =
+    let i = c.in-Some.number in
+    let at : position (λ p. pid_eq p c.args.me) c.self.inside.pids.keys ≡ Some c.in-Some.number =
     sym c.number_of.ensures ∙ c.in-Some.is in
-    let node =
-    step_node g.row.TOP ps ls bs c.self.invariant.aligned (act.Reset c.args.me) i l reply.Done refl (λ t x. refl) at
-    (get_or_default ls i zero_local l
-    (omega (arith, number_within ps c.args.me i at, c.self.invariant.aligned.locals_len)))
-    refl in
-    let told : Told = record { reply = reply.Done; report = None; place = None } in
-    let after = rw (c.as_slice.ensures.keys, c.deref_mut.ensures.value) at c.reset.ensures.state in
-    let aligned = c.reset.ensures.aligned in
-    let items : (with_items c.self.inside.locals c.reset.new.locals).items ≡ c.reset.new.locals =
-    with_items_is c.self.inside.locals c.reset.new.locals (c.reset.auto.locals ∙ c.deref_mut.ensures.len) in
-    let written = ap (λ x. state_of ps x c.reset.new.queues.boxes) items in
-    let steps = node ∙ ap (λ (x : State). Some (outcome_to told x)) (sym (written ∙ after)) in
+    let ls2 = c.wipe.new.locals in
+    let bs2 = c.wipe.new.queues.boxes in
+    let own = rw c.deref_mut.ensures.value at c.wipe.ensures in
+    let pid = own_pid g.row.TOP ps c.self.inside.nodes raw bs c.self.invariant c.args.me i at c.clear.new.self
+    c.clear.ensures.places in
+    let state = own.state ps c.args.me c.self.invariant.by_node pid c.self.invariant.listed in
+    let items : (with_items c.self.inside.locals c.wipe.new.locals).items ≡ c.wipe.new.locals =
+    with_items_is c.self.inside.locals c.wipe.new.locals (c.wipe.auto.locals ∙ c.deref_mut.ensures.len) in
+    let locals_len = c.wipe.auto.locals ∙ ap length c.deref_mut.ensures.value in
+    let queues_len = own.queues_len ∙ c.self.invariant.by_node.len in
+    let ls = flagged (flags c.self.inside.nodes) c.self.inside.locals.items in
+    let step =
+    reset_step g.row.TOP ps c.self.inside.nodes raw bs c.self.invariant c.args.me i at c.clear.new.self
+    c.clear.ensures.places c.clear.ensures.tracers ls2 bs2 locals_len queues_len state in
+    let whole = rw (← items) at step in
+    let after : State =
+    state_of ps (flagged (flags c.clear.new.self) (with_items c.self.inside.locals c.wipe.new.locals).items) bs2 in
     rw (← c.self.view_is) (rw c.answer.ensures
-    (answered g.row.TOP (state_of ps ls bs) (act.Reset c.args.me) told
-    (state_of ps (with_items c.self.inside.locals c.reset.new.locals).items c.reset.new.queues.boxes)
-    c.self.invariant.sound steps))
+    (answered g.row.TOP (state_of ps ls bs) (act.Reset c.args.me) (told_of reply.Done) after
+    c.self.invariant.rows.sound whole))

@@ -1,0 +1,6 @@
+-- The lemma says it.
+use Rattle.st_audit.proofs.Fitting.{certain_streams_fit}
+use Rattle.st_audit.proofs.laws.certain_streams_fit.Goals as goal
+
+pub returns : goal.returns
+returns c = certain_streams_fit

@@ -1,0 +1,6 @@
+-- The lemma says it.
+use Rattle.st_audit.proofs.Holding.{findings_hold}
+use Rattle.st_audit.proofs.laws.findings_hold.Goals as goal
+
+pub returns : goal.returns
+returns c = findings_hold

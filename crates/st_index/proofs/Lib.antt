@@ -1,0 +1,5 @@
+mod PairLemmas
+mod SlotLemmas
+mod Searches
+mod KeyLemmas
+mod IndexLemmas

@@ -1,0 +1,20 @@
+-- Slots that have a key.
+use Rattle.std.specs.Prelude.{◌≡◌, ℕ, ◌<◌, ◌≤◌, Bool, true, false, Option, IfSome, IfNone}
+use Rattle.std.specs.declared.cmp.Ordering.{Ordering}
+use Rattle.std.specs.Ordering.{nat_cmp, ordering_then}
+use Rattle.std.specs.BTreeSet.{contains}
+use Rattle.st_index.specs.declared.keyed.Keyed.{Keyed}
+
+-- by key, then slot
+abbrev pub pair_cmp : {K : Type 0} → (K → K → Ordering) → K × ℕ → K × ℕ → Ordering
+pair_cmp cmp p q = ordering_then (cmp p.0 q.0) (nat_cmp p.1 q.1)
+
+-- whether the slot has this key
+abbrev pub has_key : {K : Type 0} → (K → K → Ordering) → Keyed K → K → ℕ → Bool
+has_key cmp keyed k s = contains (pair_cmp cmp) keyed.pairs (k, s)
+
+-- the least number from start on that passes the test
+abbrev pub IsFirst : (ℕ → Bool) → ℕ → Option ℕ → Type 0
+IsFirst test start found = IfSome found (λ s. (start ≤ s) × (test s ≡ true)
+    × ((k : ℕ) → start ≤ k → k < s → test k ≡ false))
+    × IfNone found ((k : ℕ) → start ≤ k → test k ≡ false)

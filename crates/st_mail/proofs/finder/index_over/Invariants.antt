@@ -1,0 +1,10 @@
+-- The index is one of the messages so far, and has room for those that are left.
+use Rattle.std.proofs.Common.{◌+◌, ◌≤◌, length, map}
+use Rattle.st_arena.specs.Arena.{list_at}
+use Rattle.st_index.specs.Index.{IsIndexOf, room}
+use Rattle.st_mail.proofs.finder.index_over.Given as goal
+
+abbrev pub invariant-loop-message : goal.invariant-loop-message
+invariant-loop-message l =
+    IsIndexOf l.index (map (λ message. message.now) l.yielded)
+    × (length (list_at l.lists l.list) ≤ length l.yielded + room l.index)

@@ -1,0 +1,221 @@
+//! The stored queues. One in which calls have walked far has an index.
+
+ghost use Rattle.std.specs.Prelude.{◌≡◌, ◌+◌, ◌<◌, ◌≤◌, ◌==◌, ◌&&◌, ◌++◌, [], ◌∷◌, IfNone, IfOk, IsOk, OnOk};
+ghost use Rattle.std.specs.Prelude.{OnErr, OnSome};
+ghost use Rattle.std.specs.Prelude.{drop, length, option_map, position, remove, replicate, slice_get, slice_set};
+ghost use Rattle.std.specs.Prelude.{option_copied};
+ghost use Rattle.st_core.specs.Pid.{pid_eq};
+ghost use Rattle.st_arena.specs.Arena.{list_at};
+ghost use Rattle.st_arena.specs.Calls.{PassesOnce};
+ghost use Rattle.st_mail.specs.Mail.{bears_stamp};
+
+use crate::finder::Finder;
+use st_arena::Lists;
+use st_core::{Message, Pid, Token};
+use std::alloc::{AllocError, Global};
+use std::marker::Model;
+
+/// The lists of messages of all queues. A contract sees them as those of `st_arena`: what finds their
+/// messages isn't seen.
+#[derive(Drop)]
+pub(crate) struct Queues {
+    alloc: Global,
+    lists: Lists<Message>,
+    // Of each list, how its messages are found.
+    finders: Vec<Finder>,
+}
+
+impl Model for Queues {
+    ghost use Rattle.st_arena.specs.Arena.{Arena};
+    ghost use Rattle.st_core.specs.declared.types.Message.{Message};
+    ghost use Rattle.st_mail.specs.Found.{AllFound};
+
+    ghost Value = { Arena Message };
+
+    ghost view = { λ a. a.lists };
+
+    ghost invariant = { λ a. AllFound a.finders.items a.lists.lists };
+}
+
+/// Whether the token has this from, and this as its own count.
+fn is_stamp(from: Pid, this: u64, token: &Option<Token>) -> bool
+    ensures { result ≡ bears_stamp from this token.now }
+{
+    match token {
+        None => false,
+        Some(token) => token.from == from && token.serial.this == this,
+    }
+}
+
+impl Queues {
+    /// As many empty queues, with room for no message yet. Fails if memory runs out.
+    pub(crate) fn new(alloc: Global, count: usize) -> Result<Queues, AllocError>
+        ensures empty { IfOk result (λ queues. queues.lists ≡ replicate count []) }
+        ensures spare { IfOk result (λ queues. queues.spare ≡ 0) }
+    {
+        let lists = Lists::new(alloc, count)?;
+        let mut finders = Vec::with_capacity(alloc, count)?;
+        for _ in 0..count {
+            finders.push(Finder::new())?;
+        }
+        Ok(Queues {
+            alloc,
+            lists,
+            finders,
+        })
+    }
+
+    /// Makes room for `count` more messages, in any queues. If there is room already, nothing changes.
+    /// Fails if memory runs out.
+    pub(crate) fn reserve(&mut self, count: usize) -> Result<(), AllocError>
+        ensures room { OnOk result (count ≤ self.new.spare) }
+        ensures succeeds { count ≤ self.old.spare → IsOk result }
+        ensures had_room { count ≤ self.old.spare → self.new ≡ self.old }
+        ensures spare { self.old.spare ≤ self.new.spare }
+        ensures lists_stay { self.new.lists ≡ self.old.lists }
+    {
+        self.lists.reserve(count)
+    }
+
+    /// How many messages lie in the queue.
+    pub(crate) fn len(&self, queue: usize) -> u64
+        requires { queue < length self.now.lists }
+        ensures { result ≡ length (list_at self.now queue) }
+    {
+        self.lists.len(queue)
+    }
+
+    /// The message at this place of the queue, if it is that long.
+    pub(crate) fn get(&self, queue: usize, place: u64) -> Option<&Message>
+        requires { queue < length self.now.lists }
+        ensures { option_copied result ≡ slice_get (list_at self.now queue) place }
+    {
+        self.lists.get(queue, place)
+    }
+
+    /// Adds the message at the end of the queue. Fails only if there is no room and memory runs out.
+    pub(crate) fn push_back(&mut self, queue: usize, message: Message) -> Result<(), AllocError>
+        requires { queue < length self.old.lists }
+        ensures pushed { OnOk result (
+            self.new.lists ≡ slice_set self.old.lists queue (list_at self.old queue ++ message ∷ [])) }
+        ensures succeeds { 0 < self.old.spare → IsOk result }
+        ensures lists_stay { OnErr result (self.new.lists ≡ self.old.lists) }
+        ensures spare { self.old.spare ≤ self.new.spare + 1 }
+        ensures had_room { 0 < self.old.spare → self.old.spare ≡ self.new.spare + 1 }
+        ensures spare_stays { OnErr result (self.old.spare ≤ self.new.spare) }
+    {
+        self.reserve(1)?;
+        self.push_reserved(queue, message);
+        Ok(())
+    }
+
+    /// Adds the message at the end of the queue, which has room for it.
+    pub(crate) fn push_reserved(&mut self, queue: usize, message: Message)
+        requires in_range { queue < length self.old.lists }
+        requires room { 0 < self.old.spare }
+        ensures pushed { self.new.lists
+            ≡ slice_set self.old.lists queue (list_at self.old queue ++ message ∷ []) }
+        ensures spare { self.old.spare ≡ self.new.spare + 1 }
+    {
+        self.lists.push_reserved(queue, message);
+        self.finders[queue].push(self.alloc, &self.lists, queue, &message);
+    }
+
+    /// Takes the message at this place out of the queue, if it is that long. Its room is there for the
+    /// next one, in any queue.
+    pub(crate) fn take_at(&mut self, queue: usize, place: u64) -> Option<Message>
+        requires { queue < length self.old.lists }
+        ensures value { result ≡ slice_get (list_at self.old queue) place }
+        ensures taken { OnSome result (
+            self.new.lists ≡ slice_set self.old.lists queue (remove (list_at self.old queue) place)) }
+        ensures spare { OnSome result (self.new.spare ≡ self.old.spare + 1) }
+        ensures nothing_there { IfNone result (self.new ≡ self.old) }
+    {
+        let message = self.lists.take_at(queue, place)?;
+        self.finders[queue].remove(self.alloc, &self.lists, queue, place, &message);
+        Some(message)
+    }
+
+    /// Counts a walk through the whole queue that found nothing, after enough of which the queue gets an
+    /// index.
+    pub(crate) fn count_walk(&mut self, queue: usize)
+        requires { queue < length self.old.lists }
+        ensures { self.new ≡ self.old }
+    {
+        let passed = self.lists.len(queue);
+        self.finders[queue].count_walk(self.alloc, &self.lists, queue, passed);
+    }
+
+    /// The least place with a message from this process.
+    pub(crate) fn find_from(&self, queue: usize, from: Pid) -> Option<u64>
+        requires { queue < length self.now.lists }
+        ensures { result ≡ position (λ m. pid_eq m.from from) (list_at self.now queue) }
+    {
+        if let Finder::Index(index) = &self.finders[queue] {
+            return index.find_from(from);
+        }
+        let matches = |message: &Message| -> bool
+            ensures { result ≡ pid_eq message.now.from from }
+        { message.from == from };
+        self.lists.find_first(queue, &matches)
+    }
+
+    /// The least place with a message of this value.
+    pub(crate) fn find_value(&self, queue: usize, value: u64) -> Option<u64>
+        requires { queue < length self.now.lists }
+        ensures { result ≡ position (λ m. m.value == value) (list_at self.now queue) }
+    {
+        if let Finder::Index(index) = &self.finders[queue] {
+            return index.find_value(value);
+        }
+        let matches = |message: &Message| -> bool
+            ensures { result ≡ (message.now.value == value) }
+        { message.value == value };
+        self.lists.find_first(queue, &matches)
+    }
+
+    /// The least place with a message from this process and of this value.
+    pub(crate) fn find_both(&self, queue: usize, from: Pid, value: u64) -> Option<u64>
+        requires { queue < length self.now.lists }
+        ensures { result ≡ position (λ m. pid_eq m.from from && m.value == value) (list_at self.now queue) }
+    {
+        if let Finder::Index(index) = &self.finders[queue] {
+            return index.find_both(from, value);
+        }
+        let matches = |message: &Message| -> bool
+            ensures { result ≡ (pid_eq message.now.from from && message.now.value == value) }
+        { message.from == from && message.value == value };
+        self.lists.find_first(queue, &matches)
+    }
+
+    /// The least place from `start` on whose message has a token with this from, and this as its own
+    /// count.
+    pub(crate) fn find_stamp(&self, queue: usize, from: Pid, this: u64, start: u64) -> Option<u64>
+        requires { queue < length self.now.lists }
+        ensures { result ≡ option_map (λ k. start + k)
+            (position (λ m. bears_stamp from this m.token) (drop start (list_at self.now queue))) }
+    {
+        if let Finder::Index(index) = &self.finders[queue] {
+            return index.find_stamp(from, this, start);
+        }
+        let mut kept = self.lists.walk(queue).skip(start as usize);
+        let place = kept.position(|message| is_stamp(from, this, &message.token))?;
+        Some(start + place as u64)
+    }
+
+    /// The place whose message has such a token, if one message at most has. Without an index it is
+    /// looked for from both ends at once.
+    pub(crate) fn find_one_stamp(&self, queue: usize, from: Pid, this: u64) -> Option<u64>
+        requires within { queue < length self.now.lists }
+        requires one { PassesOnce (λ m. bears_stamp from this m.token) (list_at self.now queue) }
+        ensures { result ≡ position (λ m. bears_stamp from this m.token) (list_at self.now queue) }
+    {
+        if let Finder::Index(index) = &self.finders[queue] {
+            return index.find_stamp(from, this, 0);
+        }
+        let bears = |message: &Message| -> bool
+            ensures { result ≡ bears_stamp from this message.now.token }
+        { is_stamp(from, this, &message.token) };
+        self.lists.find_any(queue, &bears)
+    }
+}

@@ -1,0 +1,5 @@
+-- The lemmas; what upper crates may cite is in `ForCallers`.
+mod TreeLemmas
+pub mod RankLemmas
+pub mod QueueLemmas
+pub mod ForCallers

@@ -1,0 +1,15 @@
+-- The climb from a slot.
+use Rattle.std.proofs.Common.{◌≡◌, ◌+◌, ◌<◌, ◌≤◌}
+use Rattle.st_ranks.specs.Tree.{count_at, sums, wide}
+use Rattle.st_ranks.proofs.tree.rank_in.Given as goal
+
+-- what was added and what stands before the place on this level are what stands before the slot
+abbrev pub invariant-loop-level : goal.invariant-loop-level
+invariant-loop-level l =
+    (l.sum + sums (count_at l.counts) l.start l.place ≡ sums (count_at l.counts) l.fn.size l.fn.slot)
+    × (l.start ≡ wide l.level)
+    × (l.place < l.start)
+    × (l.level ≤ l.fn.height)
+
+abbrev pub decreases-loop-level : goal.decreases-loop-level
+decreases-loop-level l = l.level

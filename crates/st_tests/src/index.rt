@@ -1,0 +1,56 @@
+//! An index beside a queue of three messages.
+
+ghost use Rattle.std.specs.Prelude.{◌≡◌, ◌+◌, ◌<◌, IfOk};
+ghost use Rattle.st_index.specs.Index.{IsIndex, room};
+
+use crate::collected::{p30, p31, same};
+use st_core::{Message, Pid, Serial, Token};
+use st_index::Index;
+use std::alloc::{AllocError, Global};
+use std::test::Fail;
+
+/// A message of this value, with a token of its sender that has this own count.
+fn stamped(from: Pid, value: u64, this: u64) -> Message {
+    let mut token = Token::made_by(from);
+    token.serial = Serial { prev: 0, this };
+    Message {
+        from,
+        value,
+        token: Some(token),
+    }
+}
+
+/// The index with one message more.
+fn pushed(mut index: Index, message: &Message) -> Result<Index, AllocError>
+    requires index { IsIndex index }
+    requires room { 0 < room index }
+    ensures index { IfOk result (λ next. IsIndex next) }
+    ensures room { IfOk result (λ next. room next + 1 ≡ room index) }
+{
+    index.push(message)?;
+    Ok(index)
+}
+
+/// An index of 8 and 9 from 30, and 8 from 31, whose stamps are 6, 7 and 7.
+fn three_indexed(alloc: Global) -> Result<Index, AllocError>
+    ensures index { IfOk result (λ index. IsIndex index) }
+{
+    let none = Index::new(alloc, 3)?;
+    let one = pushed(none, &stamped(p30(), 8, 6))?;
+    let two = pushed(one, &stamped(p30(), 9, 7))?;
+    let three = pushed(two, &stamped(p31(), 8, 7))?;
+    Ok(three)
+}
+
+#[test]
+fn an_index_finds_the_least_place_of_each_key(rt: HostRuntime) -> Result<(), Fail> {
+    let index = three_indexed(rt.alloc())?;
+    same(&rt, &index.find_from(p31()), &Some(2));
+    same(&rt, &index.find_value(8), &Some(0));
+    same(&rt, &index.find_both(p31(), 8), &Some(2));
+    same(&rt, &index.find_both(p31(), 9), &None);
+    same(&rt, &index.find_stamp(p30(), 7, 0), &Some(1));
+    same(&rt, &index.find_stamp(p30(), 7, 2), &None);
+    same(&rt, &index.room(), &1);
+    Ok(())
+}
