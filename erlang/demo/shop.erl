@@ -10,7 +10,7 @@ start() ->
     [{ok, _} = gen_server:start({local, Name}, ?MODULE, Name, []) || Name <- [stock, post, shop]],
     ok.
 
-%% Orders so many of a thing; answers how many are left.
+%% Orders so many of a thing; returns how many are left.
 order(Thing, Count) ->
     gen_server:call(shop, {order, Thing, Count}).
 

@@ -11,6 +11,8 @@
   // What is drawn. Each colour has a shape or a dash of its own beside it.
   const INK = { message: "#333333", cause: "#0072b2", effect: "#d55e00", unreported: "#7a3e9d",
                 dim: "#c8c8c8", life: "#b5b5b5", reset: "#aa0000" };
+  // A message is put into the panel in pieces, of which a browser lays out those in sight, and so many in a frame.
+  const PIECE = 16384, PIECES = 4;
   const LIST = 330, ABOVE = 10, MOST_ARROWS = 3000, MOST_LISTED = 500;
   // How wide a lane is at first, and from where on names and terms are written beside each other.
   const WIDEST = 220, NARROWEST = 24, UPRIGHT = 70;
@@ -18,7 +20,7 @@
   const TALLEST = 15e6;
   const VERBS = { s: "sends", h: "sends", r: "receives", p: "prints" };
 
-  let rowHeight = 22, laneWidth = 150, step = 1;
+  let rowHeight = 22, laneWidth = 150, step = 1, isZoomed = false;
   let order = lanes.map((_, lane) => lane);
   const hiddenLanes = new Set();
   const hiddenLabels = new Set(data.only === null ? [] : labels.keys());
@@ -33,10 +35,13 @@
     /[\u0000-\u001f\u007f-\u009f\u061c\u200b-\u200f\u2028-\u202e\u2060-\u206f\ufeff\ud800-\udfff]/gu,
     sign => "\\x{" + sign.codePointAt(0).toString(16).toUpperCase() + "}");
   const laneName = lane => visible(lanes[lane].name);
-  const whole = row => rows.term[row] < 0 ? "(an unknown message)" : visible(terms[rows.term[row]].at(-1));
+  // A term is what a row shows, the text of the message if that is another, and its length if that is cut.
+  const message = row => rows.term[row] < 0 ? "(an unknown message)" : terms[rows.term[row]][1] ?? terms[rows.term[row]][0];
   const brief = row => rows.term[row] < 0 ? "(an unknown message)" : visible(terms[rows.term[row]][0]);
   const isPlain = row => rows.plain[row] === "1";
   const seconds = nanos => (nanos / 1e9).toFixed(6) + " s";
+  const number = many => many.toLocaleString("en");
+  const counted = (many, one, several = one + "s") => number(many) + " " + (many === 1 ? one : several);
 
   // The effects of each row: row r's are listed from offset[r] to offset[r + 1].
   const offset = new Int32Array(count + 1), listed = new Int32Array(count);
@@ -45,6 +50,14 @@
   const filled = offset.slice();
   for (let row = 0; row < count; row++) if (rows.cause[row] >= 0) listed[filled[rows.cause[row]]++] = row;
   const effectsOf = row => Array.from(listed.subarray(offset[row], offset[row + 1]));
+
+  // Sends whose message arrives at an event here, and rows that follow an unreported receive as one before does.
+  const arrived = new Uint8Array(count), again = new Uint8Array(count);
+  for (let row = 0; row < count; row++)
+    if ("su".includes(rows.how[row]) && rows.cause[row] >= 0) {
+      again[row] = rows.how[row] === "u" ? arrived[rows.cause[row]] : 0;
+      arrived[rows.cause[row]] = 1;
+    }
 
   const eventName = row => rows.kind[row] === "h"
     ? "the send of " + eventName(listed[offset[row]]) : laneName(rows.lane[row]) + "#" + rows.at[row];
@@ -69,7 +82,9 @@
 
   function layOut() {
     const inChain = row => !chainOnly || chosen < 0 || row === chosen || causes.has(row) || effects.has(row);
-    const columns = order.filter(lane => !hiddenLanes.has(lane) && (!chainOnly || chosen < 0 || chainLanes().has(lane)));
+    const used = labelledLanes();
+    const columns = order.filter(lane => !hiddenLanes.has(lane) && used.has(lane)
+                                         && (!chainOnly || chosen < 0 || chainLanes().has(lane)));
     column.fill(-1);
     columns.forEach((lane, at) => { column[lane] = at; });
     const kept = [];
@@ -83,10 +98,18 @@
     sortArrows();
     layOutSpace(columns.length);
     byId("list").setAttribute("aria-rowcount", shown.length);
-    byId("corner").textContent = shown.length.toLocaleString("en") + " of " + count.toLocaleString("en")
-      + " events, " + columns.length.toLocaleString("en") + " of " + lanes.length.toLocaleString("en") + " processes";
+    byId("corner").textContent = number(shown.length) + " of " + counted(count, "event") + ", "
+      + number(columns.length) + " of " + counted(lanes.length, "process", "processes");
     find(byId("search").value, false);
     redraw();
+  }
+
+  // The lanes that messages or prints with the labels of the filter touch.
+  function labelledLanes() {
+    const used = new Set();
+    for (let row = 0; row < count; row++)
+      if (!hiddenLabels.has(rows.label[row])) used.add(rows.lane[row]).add(rows.other[row]);
+    return used;
   }
 
   // The lanes on which the chain of the chosen event has rows.
@@ -186,6 +209,7 @@
     drawGround(pen, first, last, inSight, width, height);
     drawChain(pen);
     const passing = drawArrows(pen, first, last);
+    for (let at = first; at <= last; at++) drawEnd(pen, shown[at], at);
     for (let at = first; at <= last; at++) drawMark(pen, shown[at], at, width);
     if (passing > 0) drawPassing(pen, passing, width, height);
     pen.restore();
@@ -239,10 +263,12 @@
     pen.setLineDash(dash);
   }
 
-  // Arrows with an end in sight come first; the number of those that aren't drawn is the result.
+  // Arrows with an end in sight come first; the number of those that aren't drawn is the result. Of the events that
+  // follow one unreported receive the first alone has its arrow, and the others have one if they are lit.
   function drawArrows(pen, first, last) {
     const near = row => place[row] <= last || place[rows.cause[row]] >= first;
-    const found = arrowsWithin(first, last).filter(row => place[rows.cause[row]] <= last);
+    const found = arrowsWithin(first, last).filter(row => place[rows.cause[row]] <= last
+                                                          && (!again[row] || isLit(row) && isLit(rows.cause[row])));
     const ends = found.filter(near);
     const drawn = ends.length > MOST_ARROWS
       ? ends.filter(row => isLit(row) || place[row] <= last && place[rows.cause[row]] >= first).slice(0, MOST_ARROWS)
@@ -264,7 +290,7 @@
     if (x1 === x2) pen.bezierCurveTo(x1 + 40, y1, x1 + 40, y2, x2 + 4, y2); else pen.lineTo(x2, y2);
     pen.stroke();
     // The tip touches the edge of the receive's disc.
-    const angle = x1 === x2 ? Math.PI : Math.atan2(y2 - y1, x2 - x1), size = Math.min(9, rowHeight / 2);
+    const angle = x1 === x2 ? Math.PI : Math.atan2(y2 - y1, x2 - x1), size = Math.min(lit ? 13 : 9, rowHeight / 2);
     const [tipX, tipY] = [x2 - markSize() * Math.cos(angle), y2 - markSize() * Math.sin(angle)];
     pen.setLineDash([]);
     pen.beginPath();
@@ -274,11 +300,25 @@
     pen.fill();
   }
 
+  // A message whose receive isn't in the trace ends in a bar on the lane of the process that it was sent to.
+  function drawEnd(pen, row, at) {
+    const other = rows.other[row];
+    if (!"sh".includes(rows.kind[row]) || arrived[row] || other < 0 || column[other] < 0 || other === rows.lane[row]) return;
+    const lit = isLit(row);
+    stroke(pen, ink(row), lit ? 3 : 1.2, isPlain(row) ? [] : [6, 4]);
+    pen.beginPath();
+    pen.moveTo(x(rows.lane[row]), y(at));
+    pen.lineTo(x(other), y(at));
+    pen.stroke();
+    pen.setLineDash([]);
+    pen.fillRect(x(other) - 1.5, y(at) - rowHeight / 3, 3, rowHeight * 2 / 3);
+  }
+
   function drawPassing(pen, passing, width, height) {
     pen.fillStyle = "#fff3b0";
     pen.fillRect(width - 330, height - 22, 330, 22);
     pen.fillStyle = "#111";
-    pen.fillText(passing.toLocaleString("en") + " more messages pass by; hide lanes or filter", width - 324, height - 7);
+    pen.fillText(counted(passing, "more message") + " not drawn; hide lanes or labels", width - 324, height - 7);
   }
 
   const markSize = () => Math.max(1.5, Math.min(4.5, rowHeight / 4));
@@ -403,12 +443,13 @@
     byId("chain").disabled = row < 0;
     chainOf = -1;
     if (chainOnly) layOut();
-    if (row >= 0) reveal(row);
+    // The panel takes a part of the window; what is left has to show the event.
     showPanel();
+    if (row >= 0) reveal(row);
     draw();
     if (focus && row >= 0) byId("list").querySelector(`[data-row="${row}"]`)?.focus({ preventScroll: true });
     byId("live").textContent = row < 0 ? "no event is chosen"
-      : eventName(row) + ": " + causes.size + " causes, " + effects.size + " effects";
+      : eventName(row) + ": " + counted(causes.size, "cause") + ", " + counted(effects.size, "effect");
   }
 
   function reveal(row) {
@@ -426,8 +467,9 @@
   const link = (row, text) => element("button", { type: "button", class: "link", onclick: () => choose(row) }, text);
 
   function showPanel() {
-    const panel = byId("panel");
+    const panel = byId("panel"), wasHidden = panel.hidden;
     panel.hidden = chosen < 0;
+    if (panel.hidden !== wasHidden) refitLanes(false);
     if (chosen < 0) return;
     const row = chosen, before = rows.cause[row], facts = [];
     const fact = (term, ...value) => facts.push(element("dt", {}, term), element("dd", {}, ...value));
@@ -444,25 +486,61 @@
     const after = effectsOf(row);
     panel.replaceChildren(
       element("h2", {}, eventName(row)), element("dl", {}, ...facts),
-      element("h2", {}, "Message"), element("pre", { tabindex: "0" }, whole(row)),
-      element("h2", {}, "Causes: " + causes.size + ", effects: " + effects.size),
+      element("h2", { id: "length" }, lengthText(row)),
+      element("button", { type: "button", id: "copy", onclick: () => copyText(visible(message(row))) }, "Copy the message"),
+      messageElement(row),
+      element("h2", {}, "Causes: " + number(causes.size) + ", effects: " + number(effects.size)),
       element("ul", {}, ...after.slice(0, 50).map(one => element("li", {}, link(one, eventName(one) + ": " + sentence(one)))),
               ...(after.length > 50 ? [element("li", {}, "and " + (after.length - 50) + " more")] : [])),
       element("button", { type: "button", onclick: () => choose(-1) }, "Close"));
   }
 
+  function lengthText(row) {
+    const length = rows.term[row] < 0 ? 0 : terms[rows.term[row]][2] ?? 0;
+    return length === 0 ? "Message" : `Message, the first ${number(data.most)} characters of ${number(length)}`;
+  }
+
+  function messageElement(row) {
+    const text = message(row), made = element("pre", { tabindex: "0", id: "message" });
+    const fill = from => {
+      let to = from;
+      for (let piece = 0; piece < PIECES && to < text.length; piece++) {
+        const begin = to;
+        to = Math.min(text.length, begin + PIECE);
+        if (/[\ud800-\udbff]/.test(text[to - 1])) to++;
+        made.append(element("div", {}, visible(text.slice(begin, to))));
+      }
+      if (to < text.length) requestAnimationFrame(() => { if (made.isConnected) fill(to); });
+    };
+    fill(0);
+    return made;
+  }
+
+  // The browser asks what to copy. The newer way to copy needs a permission, which a page of a file may not get.
+  function copyText(text) {
+    const answer = event => { event.clipboardData.setData("text/plain", text); event.preventDefault(); };
+    document.addEventListener("copy", answer);
+    byId("live").textContent = document.execCommand("copy") ? "the message is copied" : "this browser copies nothing";
+    document.removeEventListener("copy", answer);
+  }
+
   // Searching
+
+  // The texts in which a term is searched, made when it is searched first.
+  const searched = [];
+  const textsOf = term => searched[term] ??=
+    terms[term].filter(text => typeof text === "string").map(text => visible(text).toLowerCase());
 
   function find(words, jump = true) {
     const wanted = words.trim().toLowerCase();
     matches = [];
     if (wanted !== "") {
-      const inTerm = terms.map(term => term.some(text => visible(text).toLowerCase().includes(wanted)));
+      const inTerm = terms.map((_, term) => textsOf(term).some(text => text.includes(wanted)));
       for (const row of shown)
         if (rows.term[row] >= 0 && inTerm[rows.term[row]] || eventName(row).toLowerCase().includes(wanted)) matches.push(row);
     }
     matched = new Set(matches);
-    byId("found").textContent = wanted === "" ? "" : matches.length.toLocaleString("en") + " found";
+    byId("found").textContent = wanted === "" ? "" : number(matches.length) + " found";
     if (jump && matches.length > 0) goToMatch(1);
     redraw();
   }
@@ -473,7 +551,7 @@
     const at = exact >= 0 ? exact + by : by > 0 ? (after < 0 ? 0 : after) : (after < 0 ? matches.length : after) - 1;
     const next = (at + matches.length) % matches.length;
     choose(matches[next], false);
-    byId("found").textContent = (next + 1).toLocaleString("en") + " of " + matches.length.toLocaleString("en");
+    byId("found").textContent = number(next + 1) + " of " + number(matches.length);
   }
 
   // Labels and lanes
@@ -536,12 +614,23 @@
     layOut();
   }
 
+  const shareOf = count => Math.floor((byId("view").clientWidth - listWidth() - 60) / Math.max(1, count));
+
   // At first the lanes fill the window. If they are too many for that, those of the first events stand first.
   function fitLanes() {
-    const share = Math.floor((byId("view").clientWidth - listWidth() - 60) / Math.max(1, lanes.length));
+    const used = labelledLanes(), share = shareOf(lanes.filter((_, lane) => used.has(lane)).length);
     laneWidth = Math.max(NARROWEST, Math.min(WIDEST, share));
     layOut();
     if (share < NARROWEST) orderByFirst();
+  }
+
+  // They go on filling what the panel leaves of it, until somebody zooms. The names don't turn for the panel, since all
+  // rows would move then.
+  function refitLanes(mayTurn) {
+    const count = order.filter(lane => column[lane] >= 0).length, isNarrow = laneWidth < UPRIGHT;
+    const least = isNarrow || mayTurn ? NARROWEST : UPRIGHT, most = isNarrow && !mayTurn ? UPRIGHT - 1 : WIDEST;
+    if (!isZoomed) laneWidth = Math.max(least, Math.min(most, shareOf(count)));
+    layOutSpace(count);
   }
 
   drawer("labels", section => boxes(section, "Labels", () => [...labels.keys()], label => visible(labels[label]), hiddenLabels, () => []));
@@ -553,17 +642,21 @@
       onclick: () => { orderByFirst(); fillLanes(section); } }, "Order by first event"));
   });
   drawer("help", section => section.replaceChildren(
-    element("h2", {}, "Key"),
+    element("h2", {}, "Legend"),
     element("ul", {}, ...[
       "ring: a send; disc: a receive; diamond: a print",
       "arrow: a message, from its send to its receive; time runs downwards",
+      "a line that ends in a bar: a message whose receive isn't in the trace",
       "dashed: unreported; it happened, but nobody reported it",
-      "?: the cause may not have been reported",
+      "?: what the event follows may be unreported",
       "\u25cf the chosen event; \u2191 its causes, blue; \u2193 its effects, orange",
-      "double line: a reset stands between",
-      "arrow keys: the event above or below; Page and Home, End: further",
-      "c: to its cause; e: to its first effect; Escape: no event is chosen",
-      "/: search; + and -: zoom; Delete on a name: hide that lane; Alt with an arrow: move it"
+      "double line: a reset, or another run, begins below it",
+      "arrow keys, Page Up and Down, Home, End: go to another event",
+      "c: go to its cause; e: go to its first effect; Escape: choose no event",
+      "...: there a message goes on; the panel has it whole",
+      ...(data.most === null ? [] : [`all messages together have more than ${number(data.limit)} characters: of the longest `
+        + `this page has the first ${number(data.most)}, and the panel says so`]),
+      "/: search; + and -: zoom; on a name, Delete hides that lane, Alt with an arrow moves it"
     ].map(text => element("li", {}, text)))));
 
   // Keys and the mouse
@@ -595,6 +688,7 @@
 
   function zoom(by) {
     const view = byId("view"), [middle] = sight();
+    isZoomed = true;
     laneWidth = Math.max(16, Math.min(400, laneWidth * by));
     rowHeight = Math.max(4, Math.min(40, rowHeight * by));
     layOutSpace(order.filter(lane => column[lane] >= 0).length);
@@ -641,7 +735,7 @@
     if (event.ctrlKey) { event.preventDefault(); zoom(event.deltaY < 0 ? 1.1 : 1 / 1.1); }
   }, { passive: false });
   document.addEventListener("keydown", onKey);
-  window.addEventListener("resize", () => { layOutSpace(order.filter(lane => column[lane] >= 0).length); redraw(); });
+  window.addEventListener("resize", () => { refitLanes(true); redraw(); });
 
   byId("title").textContent = visible(data.title);
   byId("headline").append(element("span", { class: data.fits ? "" : "doubt" }, visible(data.headline)));

@@ -71,7 +71,7 @@ wish(Options, Cuts) ->
 
 %% The outcome of the audit, and of each part between resets if there are any.
 with_outcome(#{streams := Streams} = Trace, Do) ->
-    case seqaudit_outcome:ask(Streams) of
+    case ask(Streams, Trace) of
         {ok, #{said := never, finding := {Reason, _}} = Outcome} when Reason =/= <<"prevnotbefore">> ->
             case seqaudit_parts:split(Streams) of
                 [_] -> Do(Trace#{outcome => Outcome, parts => []});
@@ -86,9 +86,16 @@ with_outcome(#{streams := Streams} = Trace, Do) ->
 with_parts([], Outcomes, Trace, Do) ->
     Do(Trace#{parts => lists:reverse(Outcomes)});
 with_parts([Part | Parts], Outcomes, Trace, Do) ->
-    case seqaudit_outcome:ask(Part) of
+    case ask(Part, Trace) of
         {ok, Outcome} -> with_parts(Parts, [{Part, Outcome} | Outcomes], Trace, Do);
         {error, Reason} -> {?SYSTEM, seqaudit_program:format_error(Reason)}
+    end.
+
+%% The outcome, which knows whether the trace was cut and whether the collectors lost anything.
+ask(Streams, #{cut := Note, notes := Notes}) ->
+    case seqaudit_outcome:ask(Streams) of
+        {ok, Outcome} -> {ok, Outcome#{cut => Note =/= "", lost => seqaudit_explain:losses(Notes) =/= ""}};
+        {error, Reason} -> {error, Reason}
     end.
 
 %% @doc Says whether a run has the trace and what it lacks, and keeps what shows it.
@@ -98,7 +105,7 @@ audit(#{"" := [Name]} = Options) ->
         with_outcome(Trace, fun(Audited) -> audit(Audited, Options) end)
     end);
 audit(_) ->
-    {usage, "audit needs the NAME of a bundle"}.
+    {usage, "audit takes the NAME of one trace"}.
 
 audit(#{name := Name, legend := Legend, notes := Notes, cut := Cut, outcome := Outcome,
         parts := Parts, streams := Streams, timed := Times}, Options) ->
@@ -110,8 +117,9 @@ audit(#{name := Name, legend := Legend, notes := Notes, cut := Cut, outcome := O
                       #{"--whole" := _} -> seqaudit_explain:whole(Outcome, Legend);
                       #{} -> ""
                   end]),
+    ok = seqaudit_convert:remove_answers(Name),
     Kept = [{Name ++ ".answer", Answer}
-            | [{Name ++ ".part" ++ integer_to_list(Which) ++ ".answer", PartAnswer}
+            | [{seqaudit_convert:part_answer(Name, Which), PartAnswer}
                || {Which, {_, #{answer := PartAnswer}}} <- lists:enumerate(Parts)]],
     lists:max([keep(File, Text, status(Said, Answer)) || {File, Text} <- Kept]).
 
@@ -151,16 +159,20 @@ chart(#{"" := [Name], "--html" := _} = Options) ->
         end)
     end);
 chart(_) ->
-    {usage, "chart needs the NAME of a bundle and --label, or --html"}.
+    {usage, "chart takes the NAME of one trace, and --label or --html"}.
 
 %% A trace that the programs don't take as a whole may be taken when it is cut to the label.
 chart_label(Number, Label, #{streams := Streams, legend := Legend, times := Times} = Trace, Options) ->
     with_outcome(Trace, fun
         (#{outcome := #{said := fault}}) ->
-            {ok, Cut, Note} = seqaudit_cut:cut(Streams, #{labels => [Label]}, Legend, Times),
-            with_outcome(Trace#{streams := Cut, cut := Note}, fun(Audited) ->
-                charts(Number, Audited, Options)
-            end);
+            case seqaudit_cut:cut(Streams, #{labels => [Label]}, Legend, Times) of
+                {ok, Cut, Note} ->
+                    with_outcome(Trace#{streams := Cut, cut := Note}, fun(Audited) ->
+                        charts(Number, Audited, Options)
+                    end);
+                {error, Reason} ->
+                    {?UNFIT, seqaudit_cut:format_error(Reason)}
+            end;
         (Audited) ->
             charts(Number, Audited, Options)
     end).
@@ -197,7 +209,7 @@ chart_streams(Number, Which, Streams, Title, #{legend := Legend, timed := Times}
             Chart = seqaudit_chart:identify(Read, seqaudit_causes:rows(Streams)),
             io:put_chars([[Title, $\n] || Title =/= ""]),
             io:put_chars(seqaudit_chart:text(Chart, Legend, Times)),
-            draw(Chart, Which, Audited, maps:get("--svg", Options, []));
+            draw(Chart, Which, Title, Audited, maps:get("--svg", Options, []));
         {ok, {?UNFIT, <<"no label", _/binary>>}} ->
             io:put_chars([[Title, ": "] || Title =/= ""]),
             io:put_chars(["nothing has the label ", seqaudit_legend:label(Number, Legend), $\n]),
@@ -212,16 +224,23 @@ chart_streams(Number, Which, Streams, Title, #{legend := Legend, timed := Times}
             {?SYSTEM, seqaudit_program:format_error(Reason)}
     end.
 
-draw(Chart, Which, #{legend := Legend} = Audited, [File | _]) ->
-    Heading = unicode:characters_to_list(seqaudit_explain:headline(maps:get(outcome, Audited), Legend)),
-    case seqaudit_draw:svg(Chart, string:trim(Heading), Legend) of
+draw(Chart, Which, Title, #{legend := Legend, outcome := Outcome, notes := Notes}, [File | _]) ->
+    Heading = #{part => Title, said => line(seqaudit_explain:headline(Outcome, Legend)),
+                fits => fits(Outcome), losses => line(seqaudit_explain:losses(Notes))},
+    case seqaudit_draw:svg(Chart, Heading, Legend) of
         {ok, Drawing} ->
             keep(part_file(File, Which), unicode:characters_to_binary(Drawing), ?FITS);
         {error, Reason} ->
             {?INPUT, seqaudit_draw:format_error(Reason)}
     end;
-draw(_Chart, _Which, _Audited, []) ->
+draw(_Chart, _Which, _Title, _Audited, []) ->
     ?FITS.
+
+%% The text in one line.
+line(Text) ->
+    lists:append(lists:join(" ", string:lexemes(unicode:characters_to_list(Text), "\n"))).
+
+fits(#{said := Said}) -> Said =:= fits orelse Said =:= completed.
 
 part_file(File, "") -> File;
 part_file(File, Which) ->
@@ -245,7 +264,7 @@ why(#{"" := [Name], "--event" := [Event | _]} = Options) ->
         end)
     end);
 why(_) ->
-    {usage, "why needs the NAME of a bundle and --event"}.
+    {usage, "why takes the NAME of one trace, and --event"}.
 
 why(Event, Shown, Options, #{legend := Legend, timed := Times}) ->
     Found = [{Place, Streams} || Streams <- Shown,
@@ -269,8 +288,11 @@ shown(#{parts := [], outcome := #{streams := Streams}}) -> [Streams];
 shown(#{parts := Parts}) -> [Streams || {_, #{streams := Streams}} <- Parts].
 
 %% Causes of a trace that doesn't fit are told with the doubt first.
-doubt(#{said := Said}, _Legend) when Said =:= fits; Said =:= completed -> "";
-doubt(Outcome, Legend) -> seqaudit_explain:headline(Outcome, Legend).
+doubt(Outcome, Legend) ->
+    case fits(Outcome) of
+        true -> "";
+        false -> seqaudit_explain:headline(Outcome, Legend)
+    end.
 
 keep(File, Text, Status) ->
     case seqaudit_convert:write_own(File, Text) of

@@ -124,7 +124,7 @@ actor(#{from := From}) -> From.
 %% @doc The streams with the unreported events that `seqtool complete' found: its streams of all
 %% events, in which those of these streams stand in their order, with their numbers.
 %%
-%% The tool looks at counts alone. Where they leave a choice, what an engineer would expect is taken:
+%% The tool looks at counts alone. If they leave a choice, what an engineer would expect is taken:
 %% of several messages with the count that an event needs one with its label, and of the places where
 %% an unreported send may have been the one behind the receive that it says it follows.
 -spec complete(streams(), {All :: streams(), Added :: [{pid_text(), non_neg_integer()}]}) ->

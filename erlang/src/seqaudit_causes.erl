@@ -2,7 +2,7 @@
 %%
 %% Rows stand in the one order that `seqaudit' uses for all processes: by the greatest count that a
 %% process has reached, sends and prints before receives, then by process. So rows and causes are
-%% those of `seqaudit chart', over all labels at once. Where the chart has `start', this module
+%% those of `seqaudit chart', over all labels at once. If the chart has `start', this module
 %% tells beginnings from events whose cause wasn't reported.
 -module(seqaudit_causes).
 

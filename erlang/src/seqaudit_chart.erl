@@ -93,7 +93,7 @@ index(Is, [Mark | Marks], Place) ->
     end.
 
 %% @doc The chart as text: each event by its name, with its term and what it follows by. The marks of
-%% unreported events are small letters. Where there are times, the name has one behind it, and a
+%% unreported events are small letters. If there are times, the name has one behind it, and a
 %% receive how long its message was under way.
 -spec text(chart(), seqaudit_legend:legend(), seqaudit_times:times()) -> unicode:chardata().
 text(#{label := Label, lanes := Lanes, rows := Rows}, Legend, Times) ->

@@ -6,7 +6,7 @@
 %% <ul>
 %% <li>A trace port of `runtime_tools' writes wrapped files: once they have their total size, the
 %% oldest events are written over. How many bytes came is known, so what was lost is known too.</li>
-%% <li>Where `runtime_tools' isn't there, the collector itself is the tracer. It has the first events
+%% <li>If `runtime_tools' isn't there, the collector itself is the tracer. It has the first events
 %% written up to the total size and counts those beyond; {@link seqaudit_scribe} writes them, so that
 %% the collector is always back at its queue. It looks at that with each event, and takes itself off
 %% when it grows faster than it is emptied.</li>
@@ -34,7 +34,7 @@
 %% The wrapped files share the total size.
 -define(FILES, 8).
 -define(BYTES, 268_435_456).
-%% Where the collector itself is the tracer it runs before others, as it has to see that it falls
+%% If the collector itself is the tracer it runs before others, as it has to see that it falls
 %% behind. The tracer is taken off when so many bytes wait in its queue and for the disk. An event in
 %% a queue takes up to eight times the bytes that it has in a file.
 -define(QUEUE_BYTES, 8_388_608).
@@ -290,7 +290,7 @@ stray(State) ->
 ended(Why, #state{ended = no} = State) -> State#state{ended = {Why, erlang:universaltime()}};
 ended(_Why, State) -> State.
 
-%% Where the collector itself is the tracer, it writes the event.
+%% If the collector itself is the tracer, it writes the event.
 event(Event, Info, #state{by = {scribe, _}, kept = Kept, written = Written} = State0) ->
     Bytes = term_to_binary(Event),
     Size = byte_size(Bytes) + 5,

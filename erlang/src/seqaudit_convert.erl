@@ -3,6 +3,8 @@
 %% <dl>
 %% <dt>`NAME.seqtrace'</dt><dd>the text of the bundle: the stream of each process</dd>
 %% <dt>`NAME.terms'</dt><dd>what each number stands for ({@link seqaudit_legend})</dd>
+%% <dt>`NAME.messages'</dt><dd>the whole texts of the messages that are cut there, if any are
+%% ({@link seqaudit_messages})</dd>
 %% <dt>`NAME.notes'</dt><dd>what was decided, dropped or can't be represented, a line each</dd>
 %% <dt>`NAME.times'</dt><dd>when each event happened, if the events say it
 %% ({@link seqaudit_times})</dd>
@@ -12,7 +14,8 @@
 
 -include("seqaudit_packed.hrl").
 
--export([from_files/2, from_files/3, files/2, convert/1, write_own/2, format_error/1]).
+-export([from_files/2, from_files/3, files/2, convert/1, write_own/2, part_answer/2, remove_answers/1,
+         format_error/1]).
 -export_type([bundle/0, summary/0]).
 
 -type bundle() :: #{seqtrace := binary(), terms := iodata(), notes := [string()],
@@ -32,6 +35,8 @@
 %% So many lines are made at once, and the texts of so many values.
 -define(AT_ONCE, 1_000).
 -define(SHARE, 5_000).
+%% A process makes the whole texts of messages with so many bytes together, or of one.
+-define(WHOLE_SHARE, 1_000_000).
 
 %% The parts of a bundle, each a function that hands its text on piece by piece.
 -type part() :: fun((fun((iodata()) -> ok)) -> ok).
@@ -59,8 +64,8 @@ fold_files([File | Files], Batches) ->
         {error, Reason} -> {error, Reason}
     end.
 
-%% @doc Converts collections: writes `NAME.seqtrace', `NAME.terms' and `NAME.notes', and `NAME.times'
-%% if there are times.
+%% @doc Converts collections: writes `NAME.seqtrace', `NAME.terms' and `NAME.notes', `NAME.times' if
+%% there are times, and `NAME.messages' if texts are cut.
 -spec files([seqaudit_events:collection()], file:filename()) ->
           {ok, summary()} | {error, {file, file:filename(), term()}}.
 files(Collections, Name) ->
@@ -71,9 +76,9 @@ files(Collections, Name) ->
 convert(Collections) ->
     alone(fun() ->
         {Parts, Facts} = parts(taken(Collections)),
-        Texts = maps:map(fun(_, Part) -> iolist_to_binary(text(Part)) end, Parts),
+        Texts = maps:map(fun(_, Part) -> iolist_to_binary(text(Part)) end, maps:with([seqtrace, terms], Parts)),
         {Sizes, Notes} = notes(byte_size(maps:get(seqtrace, Texts)), Facts),
-        maps:merge(maps:with([seqtrace, terms], Texts), Sizes#{notes => Notes})
+        maps:merge(Texts, Sizes#{notes => Notes})
     end).
 
 taken(Collections) ->
@@ -111,6 +116,8 @@ write(Build, Name) ->
     true = garbage_collect(),
     case write_parts(Parts, Name) of
         {ok, Files} ->
+            _ = [file:delete(Name ++ ".times") || not is_map_key(times, Parts)],
+            ok = remove_answers(Name),
             {Sizes, Notes} = notes(filelib:file_size(Name ++ ".seqtrace"), Facts),
             NotesFile = Name ++ ".notes",
             Lines = unicode:characters_to_binary([[Note, $\n] || Note <- Notes]),
@@ -122,21 +129,46 @@ write(Build, Name) ->
             {error, Reason}
     end.
 
-%% The texts of the terms are made of the tables, which are this process's own; meanwhile others
-%% write the rest.
+%% @doc Removes what was said of an earlier trace of this name.
+-spec remove_answers(file:filename()) -> ok.
+remove_answers(Name) ->
+    _ = file:delete(Name ++ ".answer"),
+    remove_parts(Name, 1).
+
+remove_parts(Name, Which) ->
+    case file:delete(part_answer(Name, Which)) of
+        ok -> remove_parts(Name, Which + 1);
+        {error, _} -> ok
+    end.
+
+%% @doc The file with what was said of a part between resets.
+-spec part_answer(file:filename(), pos_integer()) -> file:filename().
+part_answer(Name, Which) ->
+    lists:append([Name, ".part", integer_to_list(Which), ".answer"]).
+
+%% The texts of the terms are made of the tables, which are this process's own, and then the whole texts
+%% of those that were cut; meanwhile others write the rest.
 write_parts(Parts, Name) ->
     Files = [{Name ++ Suffix, Part, maps:get(Part, Parts)}
-             || {Part, Suffix} <- [{seqtrace, ".seqtrace"}, {terms, ".terms"}, {times, ".times"}],
+             || {Part, Suffix} <- [{seqtrace, ".seqtrace"}, {terms, ".terms"}, {messages, ".messages"},
+                                   {times, ".times"}],
                 is_map_key(Part, Parts)],
-    Begun = [case Part of
-                 terms -> here;
-                 _ -> seqaudit_workers:begun(fun() -> write_file(File, Write) end)
-             end || {File, Part, Write} <- Files],
-    Here = [write_file(File, Write) || {File, terms, Write} <- Files],
-    Others = [seqaudit_workers:result(Worker) || Worker <- Begun, Worker =/= here],
+    Begun = [seqaudit_workers:begun(fun() -> write_file(File, Write) end)
+             || {File, Part, Write} <- Files, not is_of_tables(Part)],
+    Here = [write_file(File, Write) || {File, Part, Write} <- Files, is_of_tables(Part)],
+    Others = [seqaudit_workers:result(Worker) || Worker <- Begun],
     case [Reason || {error, Reason} <- Here ++ Others] of
-        [] -> {ok, [File || {File, _, _} <- Files]};
+        [] -> {ok, [File || {File, Part, _} <- Files, Part =/= messages orelse has_messages(File)]};
         [Reason | _] -> {error, Reason}
+    end.
+
+is_of_tables(Part) -> Part =:= terms orelse Part =:= messages.
+
+%% Without any whole text the file is removed again.
+has_messages(File) ->
+    case filelib:file_size(File) > byte_size(seqaudit_messages:header()) of
+        true -> true;
+        false -> ok =/= file:delete(File)
     end.
 
 %% @doc Writes a file that its owner alone may read, since it has the contents of messages.
@@ -187,9 +219,11 @@ parts(#build{actors = Actors, others = Others} = Build) ->
     Bundle = fun(Out) -> bundle(Sorted, Streams, Packed, {Spelled, LabelTexts}, Out) end,
     Known = Build#build.known,
     Values = Build#build.values,
-    Terms = fun(Out) -> terms(Sorted, ByLabel, {Known, Values}, Numbers, Out) end,
+    Dots = atomics:new(seqaudit_numbers:size(Values) + 1, []),
+    Terms = fun(Out) -> terms(Sorted, ByLabel, {Known, Values}, {Numbers, Dots}, Out) end,
+    Messages = fun(Out) -> messages(Values, {Numbers, Dots}, Out) end,
     Times = fun(Out) -> seqaudit_times:write(Sorted, Streams, Packed, Out) end,
-    {maps:from_list([{seqtrace, Bundle}, {terms, Terms}]
+    {maps:from_list([{seqtrace, Bundle}, {terms, Terms}, {messages, Messages}]
                     ++ [{times, Times} || is_map_key(timestamps, Counts)]),
      #{collections => lists:reverse(Build#build.collections), counts => Counts, listed => Sorted,
        labels => ByLabel, events => Placed, kept => Kept}}.
@@ -302,18 +336,72 @@ word(?RECEIVE) -> <<",{'receive',{">>;
 word(?PRINT) -> <<",{print,{">>.
 
 %% The legend, whose first lines `seqaudit_legend' makes. The values may be many, so a process makes the
-%% texts of some.
-terms(Sorted, Labels, {Known, Values}, Numbers, Out) ->
+%% texts of some. It notes which of them have dots: all those that are cut do.
+terms(Sorted, Labels, {Known, Values}, {Numbers, Dots}, Out) ->
     ok = Out(seqaudit_legend:text(named(Sorted, Known), [], [], #{})),
     ok = Out([entry(<<"label">>, Number, Label, Numbers, <<>>) || {Number, Label} <- Labels]),
-    seqaudit_workers:in_turn([fun() -> entries(First, Values, Numbers) end
-                              || First <- lists:seq(0, seqaudit_numbers:size(Values) - 1, ?SHARE)], Out).
+    seqaudit_workers:in_turn([fun() ->
+                                      Entries = entries(First, Values, Numbers),
+                                      ok = note_dots(First, Entries, Dots),
+                                      Entries
+                              end || First <- shares(Values)], Out).
+
+%% The first values of the shares.
+shares(Values) -> lists:seq(0, seqaudit_numbers:size(Values) - 1, ?SHARE).
 
 entries(First, Table, Numbers) ->
     {Text, _} = lists:foldl(fun(Value, {Before, Number}) ->
                                     {entry(<<"value">>, Number, Value, Numbers, Before), Number + 1}
                             end, {<<>>, First}, seqaudit_numbers:part(First, ?SHARE, Table)),
     Text.
+
+note_dots(First, Entries, Dots) ->
+    case binary:match(Entries, <<"...">>) of
+        nomatch ->
+            ok;
+        _ ->
+            Lines = binary:split(Entries, <<"\n">>, [global]),
+            lists:foreach(fun({Number, Line}) ->
+                                  case binary:match(Line, <<"...">>) of
+                                      nomatch -> ok;
+                                      _ -> atomics:put(Dots, Number + 1, 1)
+                                  end
+                          end, lists:enumerate(First, Lines))
+    end.
+
+%% The whole texts of the values that are cut in the legend.
+messages(Values, {Numbers, Dots}, Out) ->
+    ok = Out(seqaudit_messages:header()),
+    lists:foreach(fun(First) ->
+                          Last = min(First + ?SHARE, seqaudit_numbers:size(Values)) - 1,
+                          Noted = [Number || Number <- lists:seq(First, Last), atomics:get(Dots, Number + 1) =:= 1],
+                          ok = messages(Noted, First, Values, Numbers, Out)
+                  end, shares(Values)).
+
+messages([], _First, _Values, _Numbers, _Out) ->
+    ok;
+messages(Noted, First, Values, Numbers, Out) ->
+    Terms = list_to_tuple(seqaudit_numbers:part(First, ?SHARE, Values)),
+    Numbered = [{Number, element(Number - First + 1, Terms)} || Number <- Noted],
+    seqaudit_workers:in_turn([fun() -> [whole(Number, Term, Numbers) || {Number, Term} <- Some] end
+                              || Some <- some(Numbered, 0, [])], Out).
+
+%% In lists of terms that have so many bytes together.
+some([], _Bytes, Some) ->
+    [lists:reverse(Some)];
+some([{_, Term} = One | Others], Bytes, Some) ->
+    case Bytes + byte_size(Term) of
+        More when More > ?WHOLE_SHARE, Some =/= [] -> [lists:reverse(Some) | some([One | Others], 0, [])];
+        More -> some(Others, More, [One | Some])
+    end.
+
+%% The entry of a value, if dots stand in its text since it is cut.
+whole(Number, Term, Numbers) ->
+    Whole = seqaudit_terms:whole(Term, Numbers),
+    case seqaudit_terms:append(Term, Numbers, <<>>) of
+        Whole -> [];
+        _ -> seqaudit_messages:entry(Number, Whole)
+    end.
 
 %% Behind the entries before.
 entry(Kind, Number, Term, Numbers, Before) ->

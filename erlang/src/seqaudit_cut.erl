@@ -24,8 +24,10 @@ cut(Streams, Wish, Legend, Times) ->
         {ok, Wanted} ->
             Left = [{Pid, [Event || Event <- Events, lists:all(fun(Is) -> Is(Pid, Event) end, Wanted)]}
                     || {Pid, Events} <- Streams],
-            Cut = named(Left),
-            {ok, Cut, note(Streams, Cut)};
+            case named(Left) of
+                [] -> {error, {nothing_left, seqaudit_bundle:events(Streams)}};
+                Cut -> {ok, Cut, note(Streams, Cut)}
+            end;
         {error, Reason} ->
             {error, Reason}
     end.
@@ -133,6 +135,8 @@ format_error(no_times) ->
     "this trace has no times (NAME.times), so it can't be cut by them; trace with a timestamp flag";
 format_error({no_seconds, Word}) ->
     text("~ts is no time; --from and --to take seconds after the first event, as 1.5", [Word]);
+format_error({nothing_left, Events}) ->
+    text("no event is left of ~ts: none has all that the options ask for", [seqaudit_explain:count(Events, "event")]);
 format_error({no_process, _, _} = Reason) ->
     seqaudit_bundle:format_error(Reason);
 format_error(Reason) ->

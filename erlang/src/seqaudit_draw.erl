@@ -1,8 +1,8 @@
 %% @doc Draws a chart as a sequence diagram in SVG, for a document.
 %%
 %% A lane for each process under its name, time downwards by the chart's rows, each under the name of
-%% its event. An arrow goes from each send to its receive; what nobody reported is dashed, and an
-%% arrow ends in a bar if the chart has no receive. Prints are diamonds. An event whose cause
+%% its event. An arrow goes from each send, a ring, to its receive, a disc; what nobody reported is
+%% dashed, and an arrow ends in a bar if the chart has no receive. Prints are diamonds. An event whose cause
 %% wasn't reported has a question mark. What is shortened beside a mark is whole in its tooltip, with
 %% the serial and the cause.
 -module(seqaudit_draw).
@@ -24,22 +24,29 @@
 -define(TEXT, 44).
 -define(NAME, 24).
 -define(HEADING, 200).
+-define(WARNING, "class=\"w\" ").
 
 -define(STYLE,
         "text{font:11px 'DejaVu Sans',Verdana,sans-serif;fill:#222}"
         ".t{paint-order:stroke;stroke:#fff;stroke-width:3px}"
-        ".n{fill:#999;text-anchor:end}.h{font-size:15px}.b{fill:#eef2f7;stroke:#9fb3c8}"
+        ".n{fill:#767676;text-anchor:end}.h{font-size:15px}.w{fill:#a00000;font-weight:bold}"
+        ".b{fill:#eef2f7;stroke:#9fb3c8}"
         ".l{stroke:#cbd5e0}.z{fill:#fafbfc}"
-        ".s{stroke:#1a5fb4;fill:none;stroke-width:1.4}.s circle,.r{fill:#1a5fb4}"
-        ".d{stroke:#b35900;fill:none;stroke-width:1.4;stroke-dasharray:6 4}.d circle{fill:#fff}"
+        ".s{stroke:#1a5fb4;fill:none;stroke-width:1.4}.r{fill:#1a5fb4}"
+        ".d{stroke:#b35900;fill:none;stroke-width:1.4;stroke-dasharray:6 4}"
+        ".o{fill:#fff;stroke:#1a5fb4;stroke-width:1.4}"
         ".u{fill:#fff;stroke:#b35900;stroke-width:1.4;stroke-dasharray:2 2}"
         ".q{fill:#b35900;font-weight:bold}.p{fill:#26803b}"
         "g:hover>.s,g:hover>.d{stroke-width:3}g:hover>.t{font-weight:bold}").
 
 -type place() :: {Lane :: pos_integer(), Row :: non_neg_integer()}.
 
-%% @doc The text of the drawing, with what the audit says above it.
--spec svg(seqaudit_chart:chart(), unicode:chardata(), seqaudit_legend:legend()) ->
+-type heading() :: #{part := string(), said := string(), fits := boolean(), losses := string()}.
+%% What stands above the drawing: which part of a trace it is, if there are several, what the audit
+%% says, and what was lost.
+
+%% @doc The text of the drawing.
+-spec svg(seqaudit_chart:chart(), heading(), seqaudit_legend:legend()) ->
           {ok, unicode:chardata()} | {error, {too_many_rows, pos_integer()}}.
 svg(#{rows := Rows}, _Heading, _Legend) when length(Rows) > ?MOST_ROWS ->
     {error, {too_many_rows, length(Rows)}};
@@ -57,10 +64,9 @@ svg(#{label := Label, lanes := Lanes, rows := Rows}, Heading, Legend) ->
      "markerHeight=\"10\" orient=\"auto\"><path d=\"M2 0V10\" stroke=\"#1a5fb4\" "
      "stroke-width=\"2\"/></marker></defs>\n",
      "<rect width=\"100%\" height=\"100%\" fill=\"#fff\"/>\n",
-     format("<text class=\"h\" x=\"12\" y=\"26\">label ~ts: ~b rows, ~b processes</text>\n",
-            [escape(label(Label, Legend)), length(Rows), length(Lanes)]),
-     format("<text x=\"12\" y=\"46\">~ts</text>\n", [escape(short(Heading, ?HEADING))]),
-     key(Rows),
+     heading(Heading, [label(Label, Legend), ": ", seqaudit_explain:count(length(Rows), "row"), ", ",
+                       seqaudit_explain:count(length(Lanes), "process")]),
+     key(Rows, Arrivals),
      zebra(length(Rows), Width),
      [life_line(Lane, Height) || Lane <- lists:seq(1, length(Lanes))],
      %% Texts and names come last, so that no arrow hides them.
@@ -79,6 +85,14 @@ format_error({too_many_rows, Rows}) ->
     lists:flatten(format("the chart has ~b rows, and a drawing takes ~b; use the page (--html FILE), "
                          "or cut the trace (--process, --from, --to)", [Rows, ?MOST_ROWS])).
 
+heading(#{part := Part, said := Said, fits := Fits, losses := Losses}, About) ->
+    [format("<text class=\"h\" x=\"12\" y=\"26\">label ~ts</text>\n",
+            [escape([About, [[", ", Part] || Part =/= ""]])]),
+     format("<text ~tsx=\"12\" y=\"46\">~ts</text>\n",
+            [case Fits of true -> ""; false -> ?WARNING end, escape(short(Said, ?HEADING))]),
+     [format("<text ~tsx=\"12\" y=\"86\">~ts</text>\n", [?WARNING, escape(short(Losses, ?HEADING))])
+      || Losses =/= ""]].
+
 %% Where each send arrives: at its receive, or at the event that follows a receive nobody reported.
 arrivals(Numbered) ->
     Guessed = [{Send, {{mark_lane(Row), Number}, unreported}}
@@ -95,17 +109,25 @@ row_name(#{shown := #{hidden := true}}, _Legend) -> "unreported";
 row_name(#{shown := #{id := Id}}, Legend) -> seqaudit_why:name(Id, Legend).
 
 %% What the drawing has that isn't plain.
-key(Rows) ->
-    Unreported = [Row || #{shown := #{id := Id}} = Row <- Rows, reported(Id) =:= unreported],
+key(Rows, Arrivals) ->
+    Unreceived = [Row || #{kind := Kind, shown := #{id := Id}} = Row <- Rows,
+                         Kind =:= <<"send">>, not is_map_key(Id, Arrivals)],
+    Unreported = [Row || #{shown := #{id := Id, cause := Cause}} = Row <- Rows,
+                         reported(Id) =:= unreported orelse is_guessed(Cause)],
     Doubtful = [Row || #{shown := #{cause := Cause}} = Row <- Rows, is_doubtful(Cause)],
     [["<g class=\"d\"><path d=\"M12 62H48\"/></g><circle class=\"u\" cx=\"30\" cy=\"62\" r=\"4\"/>"
-      "<text x=\"56\" y=\"66\">unreported: nobody reported it, but it happened</text>\n"
+      "<text x=\"56\" y=\"66\">unreported: it happened, but nobody reported it</text>\n"
       || Unreported =/= []],
      ["<text class=\"q\" x=\"352\" y=\"66\">?</text>"
-      "<text x=\"364\" y=\"66\">its cause may not have been reported</text>\n" || Doubtful =/= []]].
+      "<text x=\"364\" y=\"66\">what it follows may be unreported</text>\n" || Doubtful =/= []],
+     ["<g class=\"s\"><path d=\"M592 62H628\" marker-end=\"url(#x)\"/></g>"
+      "<text x=\"640\" y=\"66\">a message whose receive isn't in the chart</text>\n" || Unreceived =/= []]].
 
-is_doubtful({unreported, _}) -> true;
-is_doubtful(Cause) -> Cause =:= open orelse Cause =:= missing.
+is_doubtful(Cause) -> is_guessed(Cause) orelse Cause =:= open orelse Cause =:= missing.
+
+%% Whether it follows a receive that nobody reported.
+is_guessed({unreported, _}) -> true;
+is_guessed(_) -> false.
 
 arrow_head(Id, Colour) ->
     format("<marker id=\"~ts\" viewBox=\"0 0 10 10\" refX=\"9\" refY=\"5\" markerWidth=\"8\" "
@@ -158,8 +180,7 @@ symbol(Number, #{kind := <<"receive">>, shown := #{id := Id}} = Row, _Arrivals) 
                 reported -> "s r";
                 unreported -> "u"
             end,
-    format("<circle class=\"~ts\" cx=\"~b\" cy=\"~b\" r=\"3.5\"/>",
-           [Class, x(lane($R, Row)), y(Number)]);
+    circle(Class, {lane($R, Row), Number});
 symbol(Number, #{shown := #{id := Id}} = Row, Arrivals) ->
     Sender = mark_lane(Row),
     {To, Reported} = maps:get(Id, Arrivals, {none, reported(Id)}),
@@ -172,8 +193,13 @@ symbol(Number, #{shown := #{id := Id}} = Row, Arrivals) ->
                         none -> {"x", {other(Row), Number}};
                         _ -> {Class, To}
                     end,
-    format("<g class=\"~ts\"><circle cx=\"~b\" cy=\"~b\" r=\"3\"/><path d=\"~ts\" "
-           "marker-end=\"url(#~ts)\"/></g>", [Class, x(From), y(From), path(From, Target), End]).
+    %% A send that was reported is a whole circle, also if its receive wasn't.
+    [format("<g class=\"~ts\"><path d=\"~ts\" marker-end=\"url(#~ts)\"/></g>",
+            [Class, path(From, Target), End]),
+     circle(case reported(Id) of reported -> "o"; unreported -> "u" end, From)].
+
+circle(Class, Place) ->
+    format("<circle class=\"~ts\" cx=\"~b\" cy=\"~b\" r=\"3.5\"/>", [Class, x(Place), y(Place)]).
 
 mark_lane(#{kind := <<"hidden">>} = Row) -> lane($H, Row);
 mark_lane(#{kind := <<"send">>} = Row) -> lane($S, Row);

@@ -18,27 +18,36 @@
 %% @doc The outcome in one line.
 -spec headline(seqaudit_outcome:outcome(), seqaudit_legend:legend()) -> unicode:chardata().
 headline(#{said := Said, streams := Streams} = Outcome, _Legend) when Said =:= fits; Said =:= completed ->
-    Events = length(reported(Streams)),
-    [format("fits: ~ts of ~ts ~ts a run", [count(Events, "event"), count(length(Streams), "process"),
-                                           case Events of 1 -> "is"; _ -> "are" end]),
-     left_out(missing(Outcome)), $\n];
+    [format("fits: ~ts of ~ts", [count(length(reported(Streams)), "event"),
+                                 count(length(Streams), "process")]),
+     left_out(missing(Outcome), Outcome), $\n];
 headline(#{said := never, finding := {<<"prevnotbefore">> = Reason, Found}}, Legend) ->
-    format("doesn't fit: no run has it~ts (~ts)~n", [about(Found, Legend), Reason]);
+    format("doesn't fit: no run reports this trace~ts (~ts)~n",
+           [about(", because of ", Found, Legend), Reason]);
 headline(#{said := never, finding := {Reason, Found}}, Legend) ->
-    format("doesn't fit: no run without a reset has it~ts (~ts)~n", [about(Found, Legend), Reason]);
+    format("doesn't fit: no run without a reset reports this trace~ts (~ts)~n",
+           [about(", because of ", Found, Legend), Reason]);
 headline(#{said := open, finding := {_, Found}}, Legend) ->
-    format("not known: neither a run was found, nor a reason why there is none~ts~n",
-           [about(Found, Legend)]);
+    format("not known: no run was found that reports this trace, and no reason why there is none~ts~n",
+           [about("; the search ended at ", Found, Legend)]);
 headline(#{said := unexplained, finding := {Reason, Found}}, Legend) ->
-    format("not explained: no run was found~ts (~ts)~n", [about(Found, Legend), Reason]);
+    format("not explained: no run was found that reports this trace~ts (~ts)~n",
+           [about("; the search ended at ", Found, Legend), Reason]);
 headline(#{said := fault, fault := Fault}, _Legend) ->
     format("~ts: ~ts~n", [Fault, fault(Fault)]).
 
 reported(Streams) ->
     [Event || {_, Events} <- Streams, #{at := At} = Event <- Events, is_integer(At)].
 
-about([], _Legend) -> "";
-about([{{Pid, At}, _} | _], Legend) -> [", because of ", seqaudit_bundle:name(Pid, At, Legend)].
+about(_Words, [], _Legend) -> "";
+about(Words, [{{Pid, At}, _} | _], Legend) -> [Words, seqaudit_bundle:name(Pid, At, Legend)].
+
+%% What a cut took away is missing too, and may have been reported.
+unreported_or_cut(#{cut := true}) -> "nobody reported or that the cut took away";
+unreported_or_cut(#{}) -> "nobody reported".
+
+what_is_missing(#{cut := true}) -> "What nobody reported, or what the cut took away:\n";
+what_is_missing(#{}) -> "What nobody reported:\n".
 
 %% The unreported events, each as a function of the legend, and how many stamps more.
 missing(#{said := Said, streams := Streams}) ->
@@ -49,7 +58,7 @@ missing(#{said := Said, streams := Streams}) ->
                 _ -> []
             end,
     Gaps#{events => Added ++ [{hidden, Row} || Row <- Hidden]
-              ++ [{unreceived, Row} || Row <- Unreceived],
+              ++ [{unreceived, Row, Send} || {Row, Send} <- Unreceived],
           stamps => lists:sum([Count || {_, Count} <- Silent]),
           leaps => lists:sum([Count || {_, Count} <- Jumps])}.
 
@@ -57,11 +66,16 @@ missing(#{said := Said, streams := Streams}) ->
 unreported(Streams) ->
     [{added, Row} || #{hidden := false, id := {_, {_, _}}} = Row <- seqaudit_causes:rows(Streams)].
 
-left_out(#{events := [], stamps := 0, leaps := 0}) ->
+%% What is known to be gone, by a cut or from the collectors' notes, was left out though no event tells of it.
+left_out(#{events := [], stamps := 0, leaps := 0}, #{streams := []}) ->
+    "";
+left_out(#{events := [], stamps := 0, leaps := 0}, #{cut := Cut, lost := Lost}) when Cut; Lost ->
+    "; nothing is missing between them";
+left_out(#{events := [], stamps := 0, leaps := 0}, _Outcome) ->
     "; nothing was left out";
-left_out(#{events := Events, stamps := Stamps, leaps := Leaps}) ->
+left_out(#{events := Events, stamps := Stamps, leaps := Leaps}, Outcome) ->
     [", with ",
-     lists:join(", ", [[count(length(Events), "event"), " that nobody reported"] || Events =/= []]
+     lists:join(", ", [[count(length(Events), "event"), " that ", unreported_or_cut(Outcome)] || Events =/= []]
                 ++ [count(Stamps, "silent stamp") || Stamps > 0]
                 ++ [count(Leaps, "jump of a counter") || Leaps > 0])].
 
@@ -69,6 +83,7 @@ left_out(#{events := Events, stamps := Stamps, leaps := Leaps}) ->
 -spec count(non_neg_integer(), string()) -> string().
 count(1, Thing) -> "1 " ++ Thing;
 count(N, "process") -> number(N) ++ " processes";
+count(N, "entry") -> number(N) ++ " entries";
 count(N, "jump of a counter") -> number(N) ++ " jumps of counters";
 count(N, Thing) -> number(N) ++ " " ++ Thing ++ "s".
 
@@ -87,20 +102,19 @@ outcome(Outcome, Notes, Legend) ->
 details(#{said := Said} = Outcome, Legend) when Said =:= fits; Said =:= completed ->
     #{events := Events, silent := Silent, before := Before, spawns := Spawns, jumps := Jumps} =
         missing(Outcome),
-    [["What nobody reported:\n" || Events =/= []],
+    [[what_is_missing(Outcome) || Events =/= []],
      [["  ", missing_event(Event, Legend), $\n] || Event <- lists:sublist(Events, ?LISTED)],
      [["  and ", number(length(Events) - ?LISTED), " more\n"] || length(Events) > ?LISTED],
-     ["Nothing tells what the messages were that aren't known, nor whether others sent them.\n"
+     ["What the unknown messages were can't be told, nor whether other processes sent them.\n"
       || lists:any(fun is_invented/1, Events)],
-     [["Silent stamps are counts that no event has: ", counted(Silent, Legend),
+     [["Silent stamps are counts that no event here has: ", counted(Silent, Legend),
        ". They were prints, or sends whose receives weren't reported either.\n"] || Silent =/= []],
-     [["Counters stood higher than anything reported tells: ", counted(Jumps, Legend),
-       ". Something was received there, or stamped, that wasn't reported.\n"] || Jumps =/= []],
-     [["Counters go on from trace to trace, and past what isn't reported. Before its first send or "
-       "print here, that of ", listed(Before, " stood at ", Legend), ".\n"] || Before =/= []],
-     [["As it answers a spawn, OTP moves the counter of the spawning process on. It did so ",
-       listed([{Pid, times(Count)} || {Pid, Count} <- Spawns], " ", Legend), ".\n"]
-      || Spawns =/= []],
+     [["A counter jumps if it stands higher than anything reported explains: ", often(Jumps, Legend),
+       ". Something was received or stamped there that wasn't reported.\n"] || Jumps =/= []],
+     [["Counters go on from trace to trace, and count what isn't reported too. Before the first send or "
+       "print here, the counter of ", stood(Before, Legend), ".\n"] || Before =/= []],
+     [["When OTP answers a spawn, it moves the counter of the process that asked for it: ",
+       often(Spawns, Legend), ".\n"] || Spawns =/= []],
      renumbered(Outcome)];
 details(#{said := fault}, _Legend) ->
     "";
@@ -114,30 +128,33 @@ details(#{finding := {Reason, Found}} = Outcome, Legend) ->
 tool(there) ->
     "";
 tool(not_there) ->
-    "For what the trace lacks, seqtool is needed, and it isn't there: `make program' builds it, and the "
-    "variable SEQTOOL says where it is.\n";
+    "seqtool would say what the trace lacks, but it isn't there: `make program' builds it (`make quick' "
+    "unproved), and the variable SEQTOOL says where it is.\n";
 tool({failed, Fault}) ->
-    format("For what the trace lacks, seqtool was asked; it said: ~ts~n", [Fault]).
+    format("seqtool was asked what the trace lacks; it said: ~ts~n", [Fault]).
 
 renumbered(#{renumbered := true}) ->
-    "The counts were renumbered for the audit, which changes no answer; serials stand here as the node "
-    "had them.\n";
+    "The counts were renumbered for the audit, which doesn't change the answer; the serials shown here "
+    "are the node's own.\n";
 renumbered(#{}) -> "".
 
 times(1) -> "once";
 times(Count) -> [number(Count), " times"].
 
-counted(Counts, Legend) ->
-    lists:join(", ", [[number(Count), " in ", process(Pid, Legend)] || {Pid, Count} <- Counts]).
+often(Counts, Legend) ->
+    listed([["that of ", process(Pid, Legend), $\s, times(Count)] || {Pid, Count} <- Counts]).
 
-%% So many processes are named; the rest are counted.
-listed(Counts, Word, Legend) ->
-    Texts = [[process(Pid, Legend), Word, case is_integer(Count) of
-                                              true -> number(Count);
-                                              false -> Count
-                                          end] || {Pid, Count} <- lists:sublist(Counts, ?LISTED)],
-    More = [["of ", number(length(Counts) - ?LISTED), " more elsewhere"] || length(Counts) > ?LISTED],
-    lists:join(", ", Texts ++ More).
+stood([{First, Count} | Counts], Legend) ->
+    listed([[process(First, Legend), " stood at ", number(Count)]
+            | [["that of ", process(Pid, Legend), " at ", number(One)] || {Pid, One} <- Counts]]).
+
+counted(Counts, Legend) ->
+    listed([[number(Count), " of ", process(Pid, Legend)] || {Pid, Count} <- Counts]).
+
+%% What is said of each of several processes; the first of them are named.
+listed(Texts) ->
+    More = [["and so of ", number(length(Texts) - ?LISTED), " more processes"] || length(Texts) > ?LISTED],
+    lists:join(", ", lists:sublist(Texts, ?LISTED) ++ More).
 
 is_invented({added, #{invented := Invented}}) -> Invented;
 is_invented(_) -> false.
@@ -145,9 +162,9 @@ is_invented(_) -> false.
 missing_event({added, #{id := {Pid, At}} = Row}, Legend) ->
     [seqaudit_bundle:name(Pid, At, Legend), ": ", sentence(Row, Legend)];
 missing_event({hidden, #{id := {sent_to, {Pid, At}}} = Row}, Legend) ->
-    [sentence(Row, Legend), ", which is received as ", seqaudit_bundle:name(Pid, At, Legend)];
-missing_event({unreceived, #{id := {Pid, At}, cause := {unreported, {From, Sent}}}}, Legend) ->
-    [process(Pid, Legend), " receives ", seqaudit_bundle:name(From, Sent, Legend), " before ",
+    [sentence(Row, Legend), ", received as ", seqaudit_bundle:name(Pid, At, Legend)];
+missing_event({unreceived, #{id := {Pid, At}}, #{event := Send} = Row}, Legend) ->
+    [sentence(Row#{event := Send#{kind := 'receive'}}, Legend), ", before ",
      seqaudit_bundle:name(Pid, At, Legend)].
 
 found({{Pid, At}, Event}, Legend) ->
@@ -157,7 +174,7 @@ found({{Pid, At}, Event}, Legend) ->
 -spec sentence(seqaudit_bundle:event() | seqaudit_causes:row(), seqaudit_legend:legend()) ->
           unicode:chardata().
 sentence(#{invented := true, event := #{kind := Kind, from := From, to := To} = Event}, Legend) ->
-    [sentence(Kind, process(From, Legend), process(To, Legend), "a message that isn't known"), serial(Event, Legend)];
+    [sentence(Kind, process(From, Legend), process(To, Legend), "an unknown message"), serial(Event, Legend)];
 sentence(#{event := Event}, Legend) ->
     sentence(Event, Legend);
 sentence(#{kind := Kind, from := From, to := To, value := Value} = Event, Legend) ->
@@ -185,7 +202,7 @@ losses(Notes) ->
 
 %% Names and labels, which may say anything, stand in notes of their own.
 is_loss(Note) ->
-    re:run(Note, "^(labels that|numbered, as|nodes are numbered)", [unicode]) =:= nomatch
+    re:run(Note, "^(labels that|no processes, or|nodes are numbered)", [unicode]) =:= nomatch
         andalso re:run(Note, "dropped|lost|went down|ended early|written over|cut or damaged|"
                        "took the collector's place|won't take|no events came", [unicode]) =/= nomatch.
 
@@ -202,17 +219,19 @@ parts(Outcomes, Parts, Legend) ->
 reset_places(Parts, Legend) ->
     case seqaudit_parts:places(Parts) of
         [Places] ->
-            ["A reset explains it, or a second run in the same trace. It stands ",
+            ["A reset explains it, or two runs in one trace. The reset came ",
              reset_at(Places, Legend), ".\n"];
         Several ->
-            ["Resets explain it, or several runs in the same trace:\n",
+            ["Resets explain it, or several runs in one trace. They came\n",
              [format("  ~b. ~ts~n", [Which, reset_at(Places, Legend)])
               || {Which, Places} <- lists:enumerate(Several)]]
     end.
 
 reset_at(Places, Legend) ->
-    lists:join(", ", [reset_place(Place, Legend) || {_, Last, First} = Place <- Places,
-                                                    Last =/= none, First =/= none]).
+    case [Place || {_, Last, First} = Place <- Places, Last =/= none, First =/= none] of
+        [] -> "between events of different processes";
+        Known -> listed([reset_place(Place, Legend) || Place <- Known])
+    end.
 
 reset_place({Pid, Last, First}, Legend) ->
     ["after ", seqaudit_bundle:name(Pid, Last, Legend), " and before ",
@@ -278,62 +297,62 @@ act(_, _Prints, _Legend) ->
 
 %% What a reason means, and what to look at.
 reason(<<"prevnotbefore">>) ->
-    {"an event's prev isn't below its this. No run does that: the file was changed, or a token's "
-     "serial was set by hand.",
+    {"the first number of an event's serial isn't below its second. No run does that: the file was "
+     "changed, or a token's serial was set by hand.",
      "seq_trace:set_token/2 with serial, and tokens that set_token/1 puts back."};
 reason(<<"notrising">>) ->
-    {"the two events stamped by one process don't rise: its clock went back. Only a reset does "
-     "that.",
+    {"one process stamped both events, and the later one has no higher count: its counter went back. "
+     "Only a reset does that.",
      "seq_trace:reset_trace/0 between the two; a token that set_token/1 puts back, which moves the "
-     "clock of a standard node; files of two runs converted as one."};
+     "counter of a standard node; files of two runs converted as one."};
 reason(<<"repeated">>) ->
-    {"one stamp was received twice. Only a reset at the sender's node does that.",
+    {"messages with one sender and one count were received twice. Only a reset at the sender's node "
+     "lets it send a count again.",
      "seq_trace:reset_trace/0; events that were collected twice, by a second tracer or by files of "
      "the same run; a send that was resolved to the wrong process (NAME.notes)."};
 reason(<<"mismatch">>) ->
-    {"a receive and the event that its sender stamped with the same number are not of one message. "
-     "Only a reset does that.",
+    {"what was received isn't what its sender sent with this count. Only a reset lets it use a count "
+     "again.",
      "files of two runs converted as one; seq_trace:reset_trace/0; sends that were resolved or not "
      "(NAME.notes)."};
 reason(<<"late">>) ->
-    {"the process had received a message with this count or a higher one before: a clock never falls "
-     "behind what was received. Only a reset puts it back.",
+    {"the process had received a message with this count or a higher one before, and its counter never "
+     "falls behind what it received. Only a reset puts it back.",
      "seq_trace:reset_trace/0 between the two; a token that set_token/1 puts back, which moves the "
-     "clock of a standard node; files of two runs converted as one."};
+     "counter of a standard node; files of two runs converted as one."};
 reason(<<"unfounded">>) ->
-    {"the event says that it follows nothing (prev 0), and its process had received a message of a "
-     "trace before. Only a reset makes a process forget that.",
+    {"by its serial the event follows nothing, but its process had received a message of a trace "
+     "before. Only a reset makes a process forget that.",
      "seq_trace:reset_trace/0 before the event; a token that set_token/1 puts back; files of two "
      "runs converted as one."};
 reason(<<"unsent">>) ->
-    {"more events follow a message with this count than there are processes that can have sent one, "
-     "as each process stamps a count once. Only a reset lets it stamp a count again.",
+    {"more events follow messages with this count than there are processes that can have sent one, "
+     "as each process uses a count once. Only a reset lets it use a count again.",
      "seq_trace:reset_trace/0; a token that set_token/1 puts back; processes that took part and "
      "aren't in the trace (--process or --label cut them, or their node was lost)."};
 reason(<<"open">>) ->
-    {"sends were unreported in so many places that not all ways to order them were tried.",
-     "the send flag: with it on, the question is always decided. A cut to fewer processes or labels "
-     "may be decided too."};
+    {"so many sends are unreported that seqtool couldn't try all orders of them.",
+     "the send flag: with it on, seqtool always decides. A cut to fewer processes or labels may help too."};
 reason(<<"uncaused">>) ->
-    {"the event follows something that its process received and the trace doesn't have. This need "
-     "not be a fault: the auditor looks for no unreported receive.",
+    {"the event follows something that its process received and that isn't in the trace. That need "
+     "not be a fault: seqaudit by itself looks for no unreported receives.",
      "flags that were off (set send, receive and print); events that were dropped (NAME.notes); a "
      "token put back by set_token/1 after a receive; a process spawned inside the trace."};
 reason(<<"toowide">>) ->
-    {"too many stamps are missing: more than 1,000 before this event, or 1,000,000 in all.",
+    {"too many counts are missing: more than 1,000 before this event, or 1,000,000 in all.",
      "a tracer that came on long after the token was set: begin with reset, or set the token after "
      "the start; flags that were off for long; a process that spawned another inside the trace."};
 reason(<<"notreplayed">>) ->
-    {"the acts that the auditor made don't show the trace. This need not be a fault: it tries one "
-     "order, and no other.",
+    {"the run that seqaudit tried reports something else. That need not be a fault: it tries one order "
+     "of the events, and no other.",
      "messages with a lower serial that were received after ones with a higher; flags that were "
      "off."}.
 
 fault(<<"fault too large">>) ->
-    "the bundle has more than 67,108,864 bytes; cut it with --label, --process, --from and --to";
+    "the trace has more than 67,108,864 bytes; cut it with --label, --process, --from and --to";
 fault(<<"fault too many ", _/binary>>) ->
-    "the bundle has more than 1,024 processes or 1,000,000 events; cut it with --label, "
+    "the trace has more than 1,024 processes or 1,000,000 events; cut it with --label, "
     "--process, --from and --to";
-fault(<<"fault memory">>) -> "there isn't memory enough; trace for a shorter time";
-fault(<<"fault device">>) -> "the bundle couldn't be read, or the answer not be written";
-fault(_) -> "this isn't a bundle as seqaudit-node convert writes it; convert the events anew".
+fault(<<"fault memory">>) -> "the program ran out of memory; trace for a shorter time, or cut the trace";
+fault(<<"fault device">>) -> "the trace couldn't be read, or the answer couldn't be written";
+fault(_) -> "this isn't a bundle as `seqaudit-node convert' writes it; convert the events again".

@@ -6,12 +6,14 @@
 
 -type counted() :: [{seqaudit_bundle:pid_text(), pos_integer()}].
 
--type gaps() :: #{hidden := [seqaudit_causes:row()], unreceived := [seqaudit_causes:row()],
+-type gaps() :: #{hidden := [seqaudit_causes:row()],
+                  unreceived := [{Event :: seqaudit_causes:row(), Send :: seqaudit_causes:row()}],
                   before := counted(), spawns := counted(), silent := counted(),
                   jumps := counted()}.
 %% <dl>
 %% <dt>`hidden'</dt><dd>the sends that only their receives tell of</dd>
-%% <dt>`unreceived'</dt><dd>the first event that follows each message whose receive wasn't reported</dd>
+%% <dt>`unreceived'</dt><dd>the first event that follows each message whose receive wasn't reported,
+%% and the send of that message</dd>
 %% <dt>`before'</dt><dd>where the counter of a process stood before its first stamp, if not at 0</dd>
 %% <dt>`spawns'</dt><dd>how often OTP moved a counter on as it answered a spawn</dd>
 %% <dt>`silent'</dt><dd>how many stamps came between a process's events and were not reported</dd>
@@ -25,7 +27,9 @@ find(Streams) ->
     Index = seqaudit_causes:index(Rows),
     Counted = [{Pid, counters(Pid, Events, Index)} || {Pid, Events} <- Streams],
     #{hidden => [Row || #{hidden := true} = Row <- Rows],
-      unreceived => firsts([Row || #{cause := {unreported, _}} = Row <- Rows]),
+      unreceived => [{Row, maps:get(Send, Index)}
+                     || #{cause := {unreported, Send}} = Row
+                            <- firsts([Row || #{cause := {unreported, _}} = Row <- Rows])],
       before => counted(before, Counted), spawns => counted(spawns, Counted),
       silent => counted(silent, Counted),
       jumps => counted(jumps, Counted)}.

@@ -12,13 +12,16 @@
 -define(HEADER, <<"seqaudit terms 1">>).
 
 %% Messages of gen_server: a call, a cast, and the replies to an alias and to a reference; and those
-%% by which OTP spawns a process. What is captured is shown.
+%% by which OTP spawns a process. A number stands for what is captured.
 -define(TAG, "(?:\\[alias\\|#Ref<[0-9.]*>\\]|#Ref<[0-9.]*>)").
--define(BRIEF, [{"^\\{'\\$gen_call',\\{[^,]*," ?TAG "\\},(.*)\\}$", "call "},
-                {"^\\{'\\$gen_cast',(.*)\\}$", "cast "},
-                {"^\\{spawn_request,#Ref<[0-9.]*>,[^,]*,[^,]*,\\{(.*)$", "spawn {"},
-                {"^\\{spawn_reply,#Ref<[0-9.]*>,ok,(.*)\\}$", "spawned "},
-                {"^\\{" ?TAG ",(.*)\\}$", "reply "}]).
+-define(BRIEF, [{"^\\{'\\$gen_call',\\{[^,]*," ?TAG "\\},(.*)\\}$", ["call ", 1]},
+                {"^\\{'\\$gen_cast',(.*)\\}$", ["cast ", 1]},
+                {"^\\{spawn_request,#Ref<[0-9.]*>,[^,]*,[^,]*,\\{([^,{}]*),([^,{}]*),([0-9]+)\\},"
+                 "\\[[a-z_,]*\\],[a-z_]*,(.*)\\}$", ["spawn ", 1, ":", 2, "/", 3, " ", 4]},
+                {"^\\{spawn_request,#Ref<[0-9.]*>,[^,]*,[^,]*,\\{([^,{}]*),([^,{}]*),([0-9]+)\\}",
+                 ["spawn ", 1, ":", 2, "/", 3]},
+                {"^\\{spawn_reply,#Ref<[0-9.]*>,ok,(.*)\\}$", ["spawned ", 1]},
+                {"^\\{" ?TAG ",(.*)\\}$", ["reply ", 1]}]).
 
 -opaque legend() :: #{{process | about | label | value, binary()} => binary()}.
 
@@ -89,10 +92,15 @@ brief(Number, Legend) ->
 
 brief_text(Text, []) ->
     Text;
-brief_text(Text, [{Pattern, Word} | Patterns]) ->
-    case re:run(Text, Pattern, [unicode, dotall, {capture, [1], binary}]) of
-        {match, [Inner]} -> iolist_to_binary([Word, Inner]);
-        nomatch -> brief_text(Text, Patterns)
+brief_text(Text, [{Pattern, Parts} | Patterns]) ->
+    case re:run(Text, Pattern, [unicode, dotall, {capture, all_but_first, binary}]) of
+        {match, Captured} ->
+            iolist_to_binary([case is_integer(Part) of
+                                  true -> lists:nth(Part, Captured);
+                                  false -> Part
+                              end || Part <- Parts]);
+        nomatch ->
+            brief_text(Text, Patterns)
     end.
 
 %% @doc The number of the label that is printed so, or is the term that this text spells, or has

@@ -25,23 +25,32 @@ main(Words) ->
 %% @doc Runs the command, and returns its status.
 -spec run([string()]) -> ?FITS..?SYSTEM.
 run([Help | _]) when Help =:= "--help"; Help =:= "-h"; Help =:= "help" ->
-    io:put_chars(help()),
+    io:put_chars(seqaudit_help:all()),
     ?FITS;
 run([Command | Words]) ->
-    case {lists:keyfind(Command, 1, commands()), lists:member("--help", Words)} of
-        {false, _} ->
-            usage("there is no command ~ts", [Command]);
-        {_, true} ->
-            io:put_chars(help()),
-            ?FITS;
-        {{_, Valued, Flags, Do}, false} ->
-            case options(Words, Valued, Flags, #{}) of
-                {ok, Options} -> Do(Options);
-                {error, Word} -> usage("~ts doesn't know ~ts, or lacks its value", [Command, Word])
-            end
+    case lists:keyfind(Command, 1, commands()) of
+        false -> usage("there is no command ~ts", [Command]);
+        Found -> run(Found, Words)
     end;
 run([]) ->
     usage("a command is missing", []).
+
+run({Command, Valued, Flags, Do}, Words) ->
+    case {lists:member("--help", Words) orelse lists:member("-h", Words),
+          options(Words, Valued, Flags, #{})} of
+        {true, _} ->
+            io:put_chars(seqaudit_help:of_command(Command)),
+            ?FITS;
+        {false, {ok, Options}} ->
+            case Do(Options) of
+                {usage, Text} -> usage(Command, Text, []);
+                Status -> Status
+            end;
+        {false, {error, {unknown, Word}}} ->
+            usage(Command, "~ts has no option ~ts", [Command, Word]);
+        {false, {error, {no_value, Word}}} ->
+            usage(Command, "~ts needs a value", [Word])
+    end.
 
 %% Each command with its options that have a value, and those that have none.
 commands() ->
@@ -56,44 +65,25 @@ commands() ->
 
 %% The commands on a trace that was collected stand in a module of their own.
 answer(Command, Options) ->
-    [complain("~ts was built without its proofs; `make program' builds one that is proved", [Program])
-     || Program <- seqaudit_program:unproved()],
+    case seqaudit_program:unproved() of
+        [] -> ok;
+        Unproved -> complain("built without proofs: ~ts; `make program' builds what is proved",
+                             [lists:join(" and ", Unproved)])
+    end,
     case Command(Options) of
-        {usage, Text} -> usage(Text, []);
+        {usage, Text} -> {usage, Text};
         {Status, Complaint} -> failed(Status, Complaint);
         Status -> Status
     end.
 
-help() ->
-    "usage: seqaudit-node COMMAND\n"
-    "  collect --node N@H .. -o NAME [--seconds S] [--trigger M:F/A --label TERM [--times]]\n"
-    "          [--bytes BYTES] [--limit EVENTS] [--folder FOLDER] [--reset]\n"
-    "          [--cookie-file FILE | --cookie C]\n"
-    "      traces the nodes for so long, or until Ctrl-C, and writes NAME.events and what convert\n"
-    "      writes; --trigger sets a token with this label wherever the function is called, --times\n"
-    "      with timestamps; --bytes is the total size of each node's files, which stand in --folder\n"
-    "      there; --reset takes all tokens off first, so that clocks begin at 0. The cookie may\n"
-    "      stand in the variable SEQAUDIT_COOKIE too; on the command line others can see it\n"
-    "  convert FILE .. -o NAME\n"
-    "      makes NAME.seqtrace, NAME.terms, NAME.notes, and NAME.times if there are timestamps, of\n"
-    "      files of events: NAME.events, a collector's folder, term_to_binary of a list, a trace\n"
-    "      file of dbg or ttb, or text\n"
-    "  audit NAME [--whole] [--parts]\n"
-    "      says whether a run has NAME.seqtrace and what it lacks, and keeps what shows it in\n"
-    "      NAME.answer; --whole prints the events and acts, --parts all of each part between resets\n"
-    "  chart NAME --label TERM [--svg FILE] [--html FILE]\n"
-    "      prints the chart of a label with names and terms, and draws it, for a document or as a\n"
-    "      page to look at; the page alone needs no label\n"
-    "  why NAME --event PROCESS#N [--effects]\n"
-    "      tells the chain from an event back to its beginning, and what came of it\n"
-    "  audit, chart and why cut the trace first: --label TERM .. --process NAME ..\n"
-    "      --from SECONDS --to SECONDS (after the first event; needs NAME.times)\n"
-    "status: 0 done or fits, 1 unfit or not there, 2 a file isn't understood,\n"
-    "        3 the command isn't, 4 a file, a node or the program can't be had\n".
-
 usage(Format, Values) ->
     complain(Format, Values),
-    io:put_chars(standard_error, help()),
+    io:put_chars(standard_error, seqaudit_help:all()),
+    ?USAGE.
+
+usage(Command, Format, Values) ->
+    complain(Format, Values),
+    io:put_chars(standard_error, seqaudit_help:usage(Command)),
     ?USAGE.
 
 complain(Format, Values) ->
@@ -104,7 +94,7 @@ failed(Status, Text) ->
     Status.
 
 -spec options([string()], [string()], [string()], options()) ->
-          {ok, options()} | {error, string()}.
+          {ok, options()} | {error, {unknown | no_value, string()}}.
 options([], _Valued, _Flags, Options) ->
     {ok, Options};
 options([Word | Words], Valued, Flags, Options) ->
@@ -113,7 +103,8 @@ options([Word | Words], Valued, Flags, Options) ->
         {false, true, _} -> options(Words, Valued, Flags, add(Word, "", Options));
         {false, false, _} when hd(Word) =/= $- ->
             options(Words, Valued, Flags, add("", Word, Options));
-        _ -> {error, Word}
+        {true, _, []} -> {error, {no_value, Word}};
+        _ -> {error, {unknown, Word}}
     end.
 
 add(Option, Value, Options) ->
@@ -122,10 +113,10 @@ add(Option, Value, Options) ->
 collect(#{"--node" := Nodes, "-o" := [Name]} = Options) when not is_map_key("", Options) ->
     case collect_options(lists:reverse(Nodes), Options) of
         {ok, Wait, Start} -> collect(connect(hd(Nodes), Options), Start#{name => Name}, Wait);
-        {error, Text} -> usage("~ts", [Text])
+        {error, Text} -> {usage, Text}
     end;
 collect(_) ->
-    usage("collect needs --node and -o", []).
+    {usage, "collect takes --node and -o, and no words but options"}.
 
 %% How long to collect, and what seqaudit_trace:start/1 takes.
 collect_options(Nodes, Options) ->
@@ -150,8 +141,8 @@ whole(Option, Least, Options) ->
         #{Option := [Word | _]} ->
             case string:to_integer(Word) of
                 {Number, ""} when is_integer(Number), Number >= Least -> Number;
-                _ -> throw("--seconds and --limit take whole numbers, and so does --bytes: "
-                           ++ Option ++ " can't be " ++ Word)
+                _ -> throw(Option ++ " can't be " ++ Word ++ "; it takes a whole number, "
+                           ++ integer_to_list(Least) ++ " or more")
             end;
         #{} -> none
     end.
@@ -276,4 +267,4 @@ convert(#{"" := Files, "-o" := [Name]}) ->
             failed(?INPUT, seqaudit_events:format_error(Reason))
     end;
 convert(_) ->
-    usage("convert needs a file of events and -o", []).
+    {usage, "convert takes files of events, and -o"}.

@@ -58,13 +58,12 @@ notes(#{collections := Collections, counts := Counts, listed := Listed, labels :
                   converted(Counts),
                   limits(Sizes),
                   several("nodes are numbered by name: ", nodes_of(Listed)),
-                  several("numbered, as they are no processes or their number was taken: ",
+                  several("no processes, or their number was taken, so they have free numbers: ",
                           renumbered(Listed)),
-                  several("labels that are no whole numbers in range: ", labels(Labels))]).
+                  several("labels that aren't numbers from 0 to 4294967295 have numbers: ", labels(Labels))]).
 
 nothing(#{events := 0}) ->
-    ["no events came; a token is to be set while the tracer is on, as seqaudit_trace:with_trace/2 "
-     "does"];
+    ["no events came; set a token while the tracer is on, as seqaudit_trace:with_trace/2 does"];
 nothing(_) ->
     [].
 
@@ -86,17 +85,19 @@ collected(#{facts := Facts} = Collection) ->
 lost(_Node, #{lost := _, tracer := _}) ->
     [];
 lost(Node, #{lost := Reason} = Facts) ->
-    [case Facts of
-         #{where := Where} ->
-             text("~ts: its collector went down (~ts); its events are in ~ts there, and "
-                  "`seqaudit-node convert' takes that folder", [Node, reason(Reason), reason(Where)]);
-         #{kept := Kept} ->
-             text("~ts: its collector went down (~ts); what came before, ~b events, is here",
-                  [Node, reason(Reason), Kept]);
-         #{} ->
-             text("~ts: its collector went down (~ts), and all of its events are lost",
-                  [Node, reason(Reason)])
-     end];
+    [text("~ts: ~ts~ts",
+          [Node,
+           case seqaudit_external:view(Reason) of
+               {atom, <<"noconnection">>} -> "the node was lost, or the connection to it";
+               _ -> text("its collector went down (~ts)", [reason(Reason)])
+           end,
+           case Facts of
+               #{where := Where} -> text("; its events are in ~ts there, and `seqaudit-node convert' "
+                                         "takes that folder", [reason(Where)]);
+               #{kept := Kept} -> text("; what it wrote before, ~ts, is here",
+                                       [seqaudit_explain:count(Kept, "event")]);
+               #{} -> ", and all of its events are lost"
+           end])];
 lost(_Node, _Facts) ->
     [].
 
@@ -165,18 +166,21 @@ tracer(Node, gone) ->
     [text("~ts: the former system tracer is there no more, so the node has none now", [Node])].
 
 converted(Counts) ->
-    [text(Format, [count(Kind, Counts)])
+    [text(Format, [seqaudit_explain:count(count(Kind, Counts), thing(Kind))])
      || {Kind, Format} <-
-            [{timestamps, "~b timestamps were left out"},
-             {by_receive, "~b sends to an alias or a name: their receive says which process it is"},
-             {by_request, "~b sends to an alias: the request that handed it out says whose it is"},
-             {ambiguous, "~b sends to an alias or a name that two receives or requests fit: it isn't "
-              "known whose it was, and it stands as a process of its own"},
-             {unresolved, "~b sends to an alias or a name that nothing resolves; it stands as a "
-              "process of its own"},
-             {strays, "~b entries were no events of seq_trace and were left out"},
-             {nameless, "~b events were left out: more than 65,536 processes of a node, or nodes"}],
+            [{by_receive, "~ts to an alias or a name: the receive of each says which process that is"},
+             {by_request, "~ts to an alias: the request that handed it out says whose it is"},
+             {ambiguous, "~ts to an alias or a name that two receives or requests fit: it isn't known "
+              "whose it was, and it stands as a process of its own"},
+             {unresolved, "~ts to an alias or a name that nothing resolves; it stands as a process of "
+              "its own"},
+             {strays, "~ts that aren't events of seq_trace were left out"},
+             {nameless, "~ts of more than 65,536 processes of a node, or nodes, were left out"}],
         count(Kind, Counts) > 0].
+
+thing(strays) -> "entry";
+thing(nameless) -> "event";
+thing(_) -> "send".
 
 limits(Sizes) ->
     [text("seqaudit won't take this bundle: it has ~b ~ts, and the reader takes ~b; trace for a "

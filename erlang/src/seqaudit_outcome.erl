@@ -19,7 +19,8 @@
           tool := there | not_there | {failed, Fault :: binary()},
           answer := binary(),
           finding => finding(),
-          fault => binary()}.
+          fault => binary(),
+          cut => boolean()}.
 %% What is said:
 %% <dl>
 %% <dt>`fits'</dt><dd>a run has the streams, and `answer' is the bundle that shows it</dd>
@@ -30,8 +31,9 @@
 %% <dt>`unexplained'</dt><dd>`seqaudit' found no run, and there is no `seqtool' to ask</dd>
 %% <dt>`fault'</dt><dd>a program didn't take the bundle</dd>
 %% </dl>
-%% `answer' is otherwise what the program said. `renumbered' says whether counts were replaced, and `tool' whether `seqtool' was
-%% there and did what it was asked.
+%% `answer' is otherwise what the program said. `renumbered' says whether counts were replaced, `tool'
+%% whether `seqtool' was there and did what it was asked, and `cut' whether the streams are what a cut
+%% left of others.
 
 -define(FITS, 0).
 -define(UNFIT, 1).

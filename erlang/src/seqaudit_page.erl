@@ -5,28 +5,29 @@
 %% that it is in, and the script puts it into the page as text. The sources are in `priv'.
 -module(seqaudit_page).
 
--export([html/2, format_error/1]).
+-export([html/2, html/3, format_error/1]).
 
 -define(NONCE_BYTES, 18).
+%% So many characters all messages of a page have together: a page is one file that a browser reads and
+%% keeps as a whole, and searches as a whole at each key.
+-define(CHARACTERS, 32_000_000).
 
-%% @doc The text of the page. `Label' is the number of the one that is shown at first, `<<>>' for all
-%% of them.
+%% @equiv html(Audited, Label, 32_000_000)
 -spec html(map(), binary()) -> {ok, iodata()} | {error, term()}.
 html(Audited, Label) ->
-    case sources(["page.html", "page.css", "page.js"], []) of
-        {ok, [Frame, Style, Script]} ->
-            case nonce() of
-                {ok, Nonce} ->
-                    #{name := Name} = Audited,
-                    Title = escape(filename:basename(Name)),
-                    {ok, fill(Frame, #{<<"NONCE">> => Nonce, <<"STYLE">> => Style,
-                                       <<"SCRIPT">> => Script, <<"TITLE">> => Title,
-                                       <<"DATA">> => data(Audited, Label)})};
-                {error, Reason} ->
-                    {error, Reason}
-            end;
-        {error, Reason} ->
-            {error, Reason}
+    html(Audited, Label, ?CHARACTERS).
+
+%% @doc The text of the page. `Label' is the number of the one that is shown at first, `<<>>' for all
+%% of them. Each message stands in it whole and once; if they have more characters than `Limit', the
+%% longest are cut.
+-spec html(map(), binary(), pos_integer()) -> {ok, iodata()} | {error, term()}.
+html(#{name := Name} = Audited, Label, Limit) ->
+    case {sources(["page.html", "page.css", "page.js"], []), nonce(), data(Audited, Label, Limit)} of
+        {{ok, [Frame, Style, Script]}, {ok, Nonce}, {ok, Data}} ->
+            {ok, fill(Frame, #{<<"NONCE">> => Nonce, <<"STYLE">> => Style, <<"SCRIPT">> => Script,
+                               <<"TITLE">> => escape(filename:basename(Name)), <<"DATA">> => Data})};
+        Made ->
+            {error, hd([Reason || {error, Reason} <- tuple_to_list(Made)])}
     end.
 
 sources([], Texts) ->
@@ -70,13 +71,14 @@ escape(Text) ->
      end || C <- unicode:characters_to_list(Text)].
 
 %% @doc A reason of this module in words, with what to do about it.
--spec format_error({file, file:filename(), term()}) -> string().
+-spec format_error(term()) -> string().
+format_error({messages, Reason}) ->
+    seqaudit_messages:format_error(Reason);
 format_error({file, File, Reason}) ->
     lists:flatten(io_lib:format("~ts: ~ts; a page is made of what stands there",
                                 [File, file:format_error(Reason)])).
 
-data(#{name := Name, legend := Legend, notes := Notes, cut := Cut, outcome := Outcome,
-       parts := Parts, times := Times}, Label) ->
+data(#{name := Name, legend := Legend, outcome := Outcome, parts := Parts} = Audited, Label, Limit) ->
     Shown = case Parts of
                 [] -> [maps:get(streams, Outcome)];
                 _ -> [Streams || {_, #{streams := Streams}} <- Parts]
@@ -84,22 +86,35 @@ data(#{name := Name, legend := Legend, notes := Notes, cut := Cut, outcome := Ou
     PartRows = [seqaudit_causes:rows(Streams) || Streams <- Shown],
     Resets = lists:droplast(sums([length(Rows) || Rows <- PartRows], 0)),
     Rows = lists:append([[{Part, Row} || Row <- Rows] || {Part, Rows} <- lists:enumerate(PartRows)]),
-    Pids = lanes(hd(Shown), Rows),
-    Labels = distinct([Number || {_, #{event := #{label := Number}}} <- Rows]),
     Values = distinct([Value || {_, #{event := #{value := Value}, invented := false}} <- Rows]),
-    Said = maps:get(said, Outcome),
-    object([{"title", text(filename:basename(Name))},
-            {"headline", text(string:trim(unicode:characters_to_list(
-                                            seqaudit_explain:headline(Outcome, Legend))))},
-            {"fits", atom_to_binary(Said =:= fits orelse Said =:= completed)},
-            {"notes", array([text(Line) || Line <- lines([Cut, seqaudit_explain:losses(Notes),
-                                                          resets(Parts, Legend)])])},
-            {"only", only(Label, Labels)},
-            {"resets", array([integer_to_binary(Row) || Row <- Resets])},
-            {"lanes", array([lane(Pid, Legend) || Pid <- Pids])},
-            {"labels", array([text(seqaudit_legend:label(Number, Legend)) || Number <- Labels])},
-            {"terms", array([term(Value, Legend) || Value <- Values])},
-            {"rows", columns(Rows, numbers(Pids), numbers(Labels), numbers(Values), Times)}]).
+    case seqaudit_messages:read(Name ++ ".messages", Values, Legend, Limit) of
+        {ok, Texts, Most} ->
+            Terms = [term(seqaudit_legend:brief(Value, Legend), maps:get(Value, Texts), Most) || Value <- Values],
+            {ok, object(about(Audited, Resets)
+                        ++ [{"most", case Most of infinity -> <<"null">>; _ -> integer_to_binary(Most) end},
+                            {"limit", integer_to_binary(Limit)},
+                            {"terms", array(Terms)}
+                            | rows(Rows, lanes(hd(Shown), Rows), Values, Label, Audited)])};
+        {error, Reason} ->
+            {error, {messages, Reason}}
+    end.
+
+about(#{name := Name, legend := Legend, notes := Notes, cut := Cut, outcome := #{said := Said} = Outcome,
+        parts := Parts}, Resets) ->
+    [{"title", text(filename:basename(Name))},
+     {"headline", text(string:trim(unicode:characters_to_list(
+                                     seqaudit_explain:headline(Outcome, Legend))))},
+     {"fits", atom_to_binary(Said =:= fits orelse Said =:= completed)},
+     {"notes", array([text(Line) || Line <- lines([Cut, seqaudit_explain:losses(Notes),
+                                                   resets(Parts, Legend)])])},
+     {"resets", array([integer_to_binary(Row) || Row <- Resets])}].
+
+rows(Rows, Pids, Values, Label, #{legend := Legend, times := Times}) ->
+    Labels = distinct([Number || {_, #{event := #{label := Number}}} <- Rows]),
+    [{"only", only(Label, Labels)},
+     {"lanes", array([lane(Pid, Legend) || Pid <- Pids])},
+     {"labels", array([text(seqaudit_legend:label(Number, Legend)) || Number <- Labels])},
+     {"rows", columns(Rows, numbers(Pids), numbers(Labels), numbers(Values), Times)}].
 
 %% The number of the first row of each part after the first; the last one is the number of all rows.
 sums([], _Sum) -> [];
@@ -135,12 +150,12 @@ lane(Pid, Legend) ->
     object([{"name", text(seqaudit_legend:process(Pid, Legend))}, {"pid", text(Pid)},
             {"about", text(seqaudit_legend:about(Pid, Legend))}]).
 
-%% What is shown beside a mark, and the whole term if that is another.
-term(Value, Legend) ->
-    case {seqaudit_legend:brief(Value, Legend), seqaudit_legend:value(Value, Legend)} of
-        {Whole, Whole} -> array([text(Whole)]);
-        {Brief, Whole} -> array([text(Brief), text(Whole)])
-    end.
+%% What is shown beside a mark, the whole text if that is another, and how many characters it had if it
+%% is cut.
+term(Brief, {Begin, Length}, Most) when Length > Most ->
+    array([text(seqaudit_messages:first(Most, Brief)), text(Begin), integer_to_binary(Length)]);
+term(Whole, {Whole, _}, _Most) -> array([text(Whole)]);
+term(Brief, {Whole, _}, _Most) -> array([text(Brief), text(Whole)]).
 
 %% The rows, a list for each thing that is known of them.
 columns(Rows, Lanes, Labels, Values, Times) ->
@@ -212,13 +227,26 @@ array(Values) ->
     [$[, lists:join($,, Values), $]].
 
 %% A text as JSON writes it, with a number for each character that a page or its reader could take
-%% for something else.
-text(Text) ->
-    [$", [character(C) || C <- unicode:characters_to_list(Text)], $"].
+%% for something else. A long one is made in one binary, as a list takes many times its size.
+text(Text) when is_binary(Text) -> append_text(Text, <<$">>);
+text(Text) -> text(unicode:characters_to_binary(Text)).
 
-character(C) when C >= $a, C =< $z; C >= $A, C =< $Z; C >= $0, C =< $9 -> C;
-character(C) when C >= 16#20, C < 16#7F, C =/= $", C =/= $\\, C =/= $<, C =/= $>, C =/= $& -> C;
-character(C) when C < 16#10000 -> io_lib:format("\\u~4.16.0b", [C]);
-character(C) ->
-    io_lib:format("\\u~4.16.0b\\u~4.16.0b", [16#D800 + ((C - 16#10000) bsr 10),
-                                             16#DC00 + ((C - 16#10000) band 16#3FF)]).
+append_text(<<C, Rest/binary>>, Before)
+  when C >= 16#20, C < 16#7F, C =/= $", C =/= $\\, C =/= $<, C =/= $>, C =/= $& ->
+    append_text(Rest, <<Before/binary, C>>);
+append_text(<<C/utf8, Rest/binary>>, Before) when C < 16#10000 ->
+    append_text(Rest, append_unit(C, Before));
+append_text(<<C/utf8, Rest/binary>>, Before) ->
+    First = append_unit(16#D800 + ((C - 16#10000) bsr 10), Before),
+    append_text(Rest, append_unit(16#DC00 + ((C - 16#10000) band 16#3FF), First));
+append_text(<<_, Rest/binary>>, Before) ->
+    append_text(Rest, append_unit(16#FFFD, Before));
+append_text(<<>>, Before) ->
+    <<Before/binary, $">>.
+
+append_unit(Unit, Before) ->
+    <<A:4, B:4, C:4, D:4>> = <<Unit:16>>,
+    <<Before/binary, "\\u", (digit(A)), (digit(B)), (digit(C)), (digit(D))>>.
+
+digit(N) when N < 10 -> $0 + N;
+digit(N) -> $a + N - 10.

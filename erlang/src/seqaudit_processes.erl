@@ -1,7 +1,7 @@
 %% @doc Gives each party of a trace a process of the bundle, and a name that people read.
 %%
 %% A process keeps its number: `<0.80.0>' of the only node stays `<0.80.0>'. Nodes are numbered from
-%% 0 by name, so that a process has one number from whichever node it is seen. Where another process
+%% 0 by name, so that a process has one number from whichever node it is seen. If another process
 %% has the number (after 32,768 spawns Erlang counts on in the pid's last number) or it is above
 %% 65,535, and for what is no process, a number is taken that nobody has, from 65,535 downwards.
 -module(seqaudit_processes).

@@ -3,7 +3,7 @@
 %% A node reports the `to' of a send as the program wrote it: a process, its alias (the replies of
 %% `gen_server' since OTP 24), a name on another node. Its receive names the process. So a send to
 %% an alias or a name is resolved by the receive with the same from, serial, label and message; else,
-%% for an alias, by the request that handed the alias out. Where two processes fit, as after a reset,
+%% for an alias, by the request that handed the alias out. If two processes fit, as after a reset,
 %% it isn't known who received it; then, and if nothing fits, the alias or the name stays a party
 %% of its own.
 -module(seqaudit_resolve).

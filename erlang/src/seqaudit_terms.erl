@@ -1,14 +1,15 @@
 %% @doc Numbers for labels, and the text of terms.
 %%
 %% Terms are compared whole and printed cut: whatever a program sends, its text is made in time that
-%% grows no faster than the term, and isn't longer than a person reads. It is made of a term's bytes
-%% ({@link seqaudit_external}), so that a term of a file is printed and never made.
+%% grows no faster than the term, and isn't longer than a person reads. A message that is cut there is
+%% printed whole too, for the page. A text is made of a term's bytes ({@link seqaudit_external}), so that
+%% a term of a file is printed and never made.
 -module(seqaudit_terms).
 
--export([label_numbers/1, text/1, text/2, encoded/1, encoded/2, append/3, atom/1, plain/1, call/1, short/2]).
+-export([label_numbers/1, text/1, text/2, encoded/1, encoded/2, append/3, whole/2, atom/1, plain/1, call/1, short/2]).
 
 -define(GREATEST_LABEL, 4_294_967_295).
-%% Labels that are no whole numbers in range are numbered from here.
+%% Labels that aren't numbers from 0 to the greatest are numbered from here.
 -define(FIRST_LABEL, 1_000_000).
 
 %% What is printed of a term: this many parts of it, this deep, this many bytes of a binary and
@@ -21,6 +22,13 @@
 %% Maps of this size are printed in the order of their keys.
 -define(ORDERED, 32).
 
+%% A whole text has all parts, bytes and characters, but goes no deeper than this: each part within a part
+%% takes memory while it is printed, and a file of some bytes can have millions.
+-define(WHOLE_DEPTH, 10_000).
+-define(ALL, 1_000_000_000_000).
+%% So many characters are put in quotes at once.
+-define(QUOTED, 1_000).
+
 %% The characters with which an atom without quotes begins, and which it may have behind that.
 -define(IS_SMALL_ASCII(C), C >= $a, C =< $z).
 -define(IS_SMALL(C), (C >= $a andalso C =< $z orelse C >= 16#DF andalso C =< 16#FF andalso C =/= 16#F7)).
@@ -28,6 +36,10 @@
                         orelse C =:= $@ orelse C >= 16#C0 andalso C =< 16#DE andalso C =/= 16#D7)).
 
 -type numbers() :: seqaudit_processes:numbers().
+
+%% How a term is printed: the numbers of its processes, how many bytes of a binary and characters of a
+%% text are shown, and from which depth on (it counts down) maps stay in the order of the bytes.
+-record(style, {numbers :: numbers(), bytes = ?BYTES :: pos_integer(), unordered = 0 :: non_neg_integer()}).
 
 %% @doc A number for each different label: its own if it is a whole number in range, else one
 %% that no label has.
@@ -75,7 +87,7 @@ encoded(Term, Numbers) ->
 %% @doc The text of a term in UTF-8 behind other text. Of a million terms it is made in one binary.
 -spec append(seqaudit_external:encoded(), numbers(), binary()) -> binary().
 append(Term, Numbers, Before) ->
-    {Text, _, _} = print(Term, ?DEPTH, ?PARTS, Numbers, Before),
+    {Text, _, _} = print(Term, ?DEPTH, ?PARTS, #style{numbers = Numbers}, Before),
     Size = byte_size(Before),
     case byte_size(Text) - Size =< ?CHARACTERS of
         true ->
@@ -86,6 +98,14 @@ append(Term, Numbers, Before) ->
             <<Before/binary, (unicode:characters_to_binary(Short))/binary>>
     end.
 
+%% @doc The text of a term in UTF-8, not cut. Dots stand only for what is more than 10,000 parts deep and
+%% for a number of more than 500 bytes.
+-spec whole(seqaudit_external:encoded(), numbers()) -> binary().
+whole(Term, Numbers) ->
+    Style = #style{numbers = Numbers, bytes = ?ALL, unordered = ?WHOLE_DEPTH - ?DEPTH},
+    {Text, _, _} = print(Term, ?WHOLE_DEPTH, ?ALL, Style, <<>>),
+    Text.
+
 %% @doc The text, or its first characters and three dots.
 -spec short(string(), pos_integer()) -> string().
 short(Text, Length) ->
@@ -95,77 +115,125 @@ short(Text, Length) ->
     end.
 
 %% Puts the text of the first term of the bytes behind the text before; returns it with how many parts
-%% are left for what follows, and the bytes behind the term. Where no parts are left nothing is read any
+%% are left for what follows, and the bytes behind the term. If no parts are left, nothing is read any
 %% more; dots stand for what is left out.
-print(Bytes, _Depth, 0, _, Before) -> {<<Before/binary, "...">>, 0, Bytes};
+print(_Bytes, _Depth, 0, _, Before) -> {<<Before/binary, "...">>, 0, unread};
 print(Bytes, 0, Parts, _, Before) ->
     {ok, _, Rest} = seqaudit_external:take(Bytes),
     {<<Before/binary, "...">>, Parts, Rest};
-print(Bytes, Depth, Parts, Numbers, Before) ->
+print(Bytes, Depth, Parts, Style, Before) ->
     case seqaudit_external:part(Bytes) of
         {tuple, Arity, Rest} ->
-            {Text, Left, After} = print_parts(Arity, Rest, Depth - 1, Parts - 1, Numbers, <<Before/binary, ${>>),
+            {Text, Left, After} = print_parts(Arity, Rest, Depth - 1, Parts - 1, Style, <<Before/binary, ${>>),
             {<<Text/binary, $}>>, Left, After};
         {list, Length, Rest} ->
-            print_list(Length, Rest, Bytes, Depth, Parts, Numbers, Before);
+            print_list(Length, Rest, Bytes, Depth, Parts, Style, Before);
         {string, String, Rest} ->
-            Text = print_string(binary_to_list(String), Parts - 1),
-            {<<Before/binary, Text/binary>>, max(0, Parts - 1), Rest};
+            {print_string(String, Parts - 1, Style, Before), max(0, Parts - 1), Rest};
         {map, Pairs, Rest} ->
-            {Text, Left, After} = print_map(Pairs, Rest, Depth - 1, Parts - 1, Numbers, <<Before/binary, "#{">>),
+            {Text, Left, After} = print_map(Pairs, Rest, Depth - 1, Parts - 1, Style, <<Before/binary, "#{">>),
             {<<Text/binary, $}>>, Left, After};
         {leaf, Leaf, Rest} ->
-            {leaf(Leaf, Numbers, Before), Parts - 1, Rest}
+            {leaf(Leaf, Style, Before), Parts - 1, Rest}
     end.
 
 print_parts(0, Rest, _Depth, Parts, _, Before) -> {Before, Parts, Rest};
-print_parts(_, Rest, _Depth, 0, _, Before) -> {<<Before/binary, "...">>, 0, Rest};
-print_parts(Left, Bytes, Depth, Parts, Numbers, Before) ->
-    {Text, PartsLeft, Rest} = print(Bytes, Depth, Parts, Numbers, Before),
-    print_parts(Left - 1, Rest, Depth, PartsLeft, Numbers, separated(Left, Text)).
+print_parts(_, _Rest, _Depth, 0, _, Before) -> {<<Before/binary, "...">>, 0, unread};
+print_parts(Left, Bytes, Depth, Parts, Style, Before) ->
+    {Text, PartsLeft, Rest} = print(Bytes, Depth, Parts, Style, Before),
+    print_parts(Left - 1, Rest, Depth, PartsLeft, Style, separated(Left, Text)).
 
 %% A comma stands between the parts.
 separated(1, Text) -> Text;
 separated(_, Text) -> <<Text/binary, $,>>.
 
 %% A list of characters is a text, of which the first are shown.
-print_list(Length, Elements, Bytes, Depth, Parts, Numbers, Before) ->
-    case seqaudit_external:characters(Length, Elements, ?BYTES + 1) of
-        {ok, Characters} ->
+print_list(Length, Elements, Bytes, Depth, Parts, Style, Before) ->
+    case list_text(Length, Elements, Style#style.bytes) of
+        {ok, Text} ->
             {ok, _, Rest} = seqaudit_external:take(Bytes),
-            {<<Before/binary, (quoted(short(Characters, ?BYTES), $"))/binary>>, Parts - 1, Rest};
+            {append_quoted(Text, Before), Parts - 1, Rest};
         other ->
-            {Text, Left, Tail} = print_parts(Length, Elements, Depth - 1, Parts - 1, Numbers, <<Before/binary, $[>>),
-            print_tail(Text, Tail, Depth - 1, Left, Numbers)
+            {Text, Left, Tail} = print_parts(Length, Elements, Depth - 1, Parts - 1, Style, <<Before/binary, $[>>),
+            print_tail(Text, Tail, Depth - 1, Left, Style)
     end.
 
-print_tail(Text, Bytes, _Depth, 0, _Numbers) -> {<<Text/binary, $]>>, 0, Bytes};
-print_tail(Text, Bytes, Depth, Parts, Numbers) ->
+%% The characters of a list that shows, if all of them are printable. A whole text is made in one binary.
+list_text(Length, Elements, ?BYTES) ->
+    case seqaudit_external:characters(Length, Elements, ?BYTES + 1) of
+        {ok, Characters} -> {ok, short(Characters, ?BYTES)};
+        other -> other
+    end;
+list_text(Length, Elements, _Most) ->
+    whole_text(Length, Elements, <<>>).
+
+whole_text(0, Bytes, Text) ->
+    case seqaudit_external:part(Bytes) of
+        {leaf, nil, _} -> {ok, Text};
+        _ -> other
+    end;
+whole_text(Left, Bytes, Text) ->
+    case seqaudit_external:part(Bytes) of
+        {leaf, {integer, C}, Rest} ->
+            case io_lib:printable_unicode_list([C]) of
+                true -> whole_text(Left - 1, Rest, <<Text/binary, C/utf8>>);
+                false -> other
+            end;
+        _ ->
+            other
+    end.
+
+print_tail(Text, unread, _Depth, 0, _Style) -> {<<Text/binary, $]>>, 0, unread};
+print_tail(Text, Bytes, Depth, Parts, Style) ->
     case seqaudit_external:part(Bytes) of
         {leaf, nil, Rest} ->
             {<<Text/binary, $]>>, Parts, Rest};
         _ ->
-            {Tail, Left, Rest} = print(Bytes, Depth, Parts, Numbers, <<Text/binary, $|>>),
+            {Tail, Left, Rest} = print(Bytes, Depth, Parts, Style, <<Text/binary, $|>>),
             {<<Tail/binary, $]>>, Left, Rest}
     end.
 
 %% Bytes that are no characters are a list of numbers.
-print_string(Bytes, Parts) ->
-    Begin = lists:sublist(Bytes, ?BYTES + 1),
-    case {io_lib:printable_unicode_list(Begin), length(Bytes) =< Parts} of
-        {true, _} -> quoted(short(Begin, ?BYTES), $");
-        {false, true} -> iolist_to_binary([$[, lists:join($,, [integer_to_list(Byte) || Byte <- Bytes]), $]]);
+print_string(String, Parts, #style{bytes = Most}, Before) ->
+    Begin = binary_to_list(binary:part(String, 0, min(byte_size(String), Most + 1))),
+    case {io_lib:printable_unicode_list(Begin), byte_size(String) =< Parts} of
+        {true, _} -> append_quoted(short(Begin, Most), Before);
+        {false, true} -> <<(append_bytes(String, <<Before/binary, $[>>))/binary, $]>>;
         {false, false} ->
-            iolist_to_binary([$[, [[integer_to_list(Byte), $,] || Byte <- lists:sublist(Bytes, Parts)], "...]"])
+            Shown = append_bytes(binary:part(String, 0, Parts), <<Before/binary, $[>>),
+            <<Shown/binary, (separator(Parts))/binary, "...]">>
     end.
 
-print_map(Pairs, Bytes, Depth, Parts, Numbers, Before) when Pairs > 1, Pairs =< ?ORDERED ->
+%% What stands between so many parts and the next.
+separator(0) -> <<>>;
+separator(_) -> <<$,>>.
+
+append_bytes(<<Byte>>, Before) -> <<Before/binary, (integer_to_binary(Byte))/binary>>;
+append_bytes(<<Byte, Rest/bitstring>>, Before) ->
+    append_bytes(Rest, <<Before/binary, (integer_to_binary(Byte))/binary, $,>>);
+append_bytes(<<>>, Before) -> Before;
+append_bytes(Bits, Before) ->
+    Size = bit_size(Bits),
+    <<Number:Size>> = Bits,
+    <<Before/binary, (integer_to_binary(Number))/binary, $:, (integer_to_binary(Size))/binary>>.
+
+append_quoted(Text, Before) when is_binary(Text) ->
+    <<(append_text(Text, <<Before/binary, $">>))/binary, $">>;
+append_quoted(Characters, Before) ->
+    <<Before/binary, (quoted(Characters, $"))/binary>>.
+
+escaped(Characters) ->
+    Quoted = quoted(Characters, $"),
+    binary:part(Quoted, 1, byte_size(Quoted) - 2).
+
+print_map(Pairs, Bytes, Depth, Parts, Style, Before)
+  when Pairs > 1, Pairs =< ?ORDERED, Depth >= Style#style.unordered ->
     {Keyed, Rest} = pairs(Pairs, Bytes, []),
     {Text, Left} = print_pairs([{Key, Value} || {_, Key, Value} <- lists:sort(Keyed)], Depth, Parts,
-                               Numbers, Before),
+                               Style, Before),
     {Text, Left, Rest};
-print_map(Pairs, Bytes, Depth, Parts, Numbers, Before) ->
-    print_pairs(Pairs, Bytes, Depth, Parts, Numbers, Before).
+print_map(Pairs, Bytes, Depth, Parts, Style, Before) ->
+    print_pairs(Pairs, Bytes, Depth, Parts, Style, Before).
 
 pairs(0, Rest, Done) -> {Done, Rest};
 pairs(Left, Bytes, Done) ->
@@ -173,7 +241,7 @@ pairs(Left, Bytes, Done) ->
     {ok, Value, Rest} = seqaudit_external:take(Rest0),
     pairs(Left - 1, Rest, [{order(Key), Key, Value} | Done]).
 
-%% Numbers stand before atoms, and these before all else, as Erlang orders them.
+%% Style stand before atoms, and these before all else, as Erlang orders them.
 order(Key) ->
     case {seqaudit_external:number(Key), seqaudit_external:view(Key)} of
         {Number, _} when is_integer(Number) -> {0, Number};
@@ -183,22 +251,22 @@ order(Key) ->
 
 print_pairs([], _Depth, Parts, _, Before) -> {Before, Parts};
 print_pairs(_, _Depth, 0, _, Before) -> {<<Before/binary, "...">>, 0};
-print_pairs([{Key, Value} | Pairs], Depth, Parts, Numbers, Before) ->
-    {KeyText, Left, _} = print(Key, Depth, Parts, Numbers, Before),
-    {Text, Left1, _} = print(Value, Depth, Left, Numbers, <<KeyText/binary, " => ">>),
-    print_pairs(Pairs, Depth, Left1, Numbers, separated(length(Pairs) + 1, Text)).
+print_pairs([{Key, Value} | Pairs], Depth, Parts, Style, Before) ->
+    {KeyText, Left, _} = print(Key, Depth, Parts, Style, Before),
+    {Text, Left1, _} = print(Value, Depth, Left, Style, <<KeyText/binary, " => ">>),
+    print_pairs(Pairs, Depth, Left1, Style, separated(length(Pairs) + 1, Text)).
 
 print_pairs(0, Rest, _Depth, Parts, _, Before) -> {Before, Parts, Rest};
-print_pairs(_, Rest, _Depth, 0, _, Before) -> {<<Before/binary, "...">>, 0, Rest};
-print_pairs(Left, Bytes, Depth, Parts, Numbers, Before) ->
-    {Key, Left0, Rest0} = print(Bytes, Depth, Parts, Numbers, Before),
-    {Text, Left1, Rest} = print(Rest0, Depth, Left0, Numbers, <<Key/binary, " => ">>),
-    print_pairs(Left - 1, Rest, Depth, Left1, Numbers, separated(Left, Text)).
+print_pairs(_, _Rest, _Depth, 0, _, Before) -> {<<Before/binary, "...">>, 0, unread};
+print_pairs(Left, Bytes, Depth, Parts, Style, Before) ->
+    {Key, Left0, Rest0} = print(Bytes, Depth, Parts, Style, Before),
+    {Text, Left1, Rest} = print(Rest0, Depth, Left0, Style, <<Key/binary, " => ">>),
+    print_pairs(Left - 1, Rest, Depth, Left1, Style, separated(Left, Text)).
 
 leaf(nil, _, Before) -> <<Before/binary, "[]">>;
 leaf({atom, Name}, _, Before) -> <<Before/binary, (atom_text(Name))/binary>>;
 leaf({integer, Number}, _, Before) -> <<Before/binary, (integer_to_binary(Number))/binary>>;
-leaf({process, Process}, Numbers, Before) ->
+leaf({process, Process}, #style{numbers = Numbers}, Before) ->
     case Numbers of
         #{Process := {Node, Number}} ->
             <<Before/binary, $<, (integer_to_binary(Node))/binary, $., (integer_to_binary(Number))/binary, ".0>">>;
@@ -206,7 +274,56 @@ leaf({process, Process}, Numbers, Before) ->
             <<Before/binary, (process(Process, Numbers))/binary>>
     end;
 leaf({reference, Ids}, _, Before) -> <<(numbered(Ids, <<Before/binary, "#Ref<0">>))/binary, $>>>;
+leaf({bits, Bits}, #style{bytes = Most}, Before) when bit_size(Bits) > 8 * ?BYTES, bit_size(Bits) =< 8 * Most ->
+    append_bits(Bits, Before);
 leaf(Leaf, _, Before) -> <<Before/binary, (iolist_to_binary(seldom(Leaf)))/binary>>.
+
+%% A large binary as Erlang prints a small one: as text if all of it is printable, else as numbers.
+append_bits(Bits, Before) ->
+    case spelling(Bits) of
+        numbers -> <<(append_bytes(Bits, <<Before/binary, "<<">>))/binary, ">>">>;
+        utf8 -> <<(append_text(Bits, <<Before/binary, "<<\"">>))/binary, "\"/utf8>>">>;
+        ascii -> <<(append_text(Bits, <<Before/binary, "<<\"">>))/binary, "\">>">>;
+        latin1 ->
+            Text = unicode:characters_to_binary(Bits, latin1),
+            <<(append_text(Text, <<Before/binary, "<<\"">>))/binary, "\">>">>
+    end.
+
+%% In what characters a binary is written: in those of UTF-8 if it is UTF-8, else in those of Latin-1.
+spelling(Bits) when not is_binary(Bits) -> numbers;
+spelling(Bits) ->
+    case utf8(Bits, ascii) of
+        none -> latin1(Bits);
+        Spelling -> Spelling
+    end.
+
+utf8(<<C, Rest/binary>>, Spelling) when C >= $\s, C < 127 -> utf8(Rest, Spelling);
+utf8(<<C/utf8, Rest/binary>>, Spelling) ->
+    case io_lib:printable_list([C]) of
+        true when C < 128; Spelling =:= numbers -> utf8(Rest, Spelling);
+        true -> utf8(Rest, utf8);
+        false -> utf8(Rest, numbers)
+    end;
+utf8(<<>>, Spelling) -> Spelling;
+utf8(_, _Spelling) -> none.
+
+latin1(<<C, Rest/binary>>) ->
+    case io_lib:printable_latin1_list([C]) of
+        true -> latin1(Rest);
+        false -> numbers
+    end;
+latin1(<<>>) -> latin1.
+
+%% A long text in UTF-8 is escaped some at a time, as a list takes many times its size.
+append_text(<<>>, Before) -> Before;
+append_text(Text, Before) ->
+    Most = min(byte_size(Text), ?QUOTED),
+    {Characters, Size} = case unicode:characters_to_list(binary:part(Text, 0, Most)) of
+                             {incomplete, Whole, Begun} -> {Whole, Most - byte_size(Begun)};
+                             Whole -> {Whole, Most}
+                         end,
+    <<_:Size/binary, Later/binary>> = Text,
+    append_text(Later, <<Before/binary, (escaped(Characters))/binary>>).
 
 numbered([], Before) -> Before;
 numbered([Id | Ids], Before) -> numbered(Ids, <<Before/binary, $., (integer_to_binary(Id))/binary>>).

@@ -125,12 +125,12 @@ took(Receive, #{messages := Messages}) ->
 
 seconds(Nanoseconds) -> text("~.6f s", [Nanoseconds / 1.0e9]).
 
-%% @doc As {@link summary/1}, of these streams alone; nothing if none of their events has a time.
+%% @doc As {@link summary/1}, of these streams alone; nothing if fewer than two of their events have a time.
 -spec summary(seqaudit_bundle:streams(), times()) -> string().
 summary(Streams, #{events := Events, messages := Messages} = Times) ->
     Shown = [{Pid, At} || {Pid, Reported} <- Streams, #{at := At} <- Reported],
     case maps:with(Shown, Events) of
-        None when map_size(None) =:= 0 -> "";
+        Few when map_size(Few) < 2 -> "";
         Some ->
             First = lists:min(maps:values(Some)),
             Since = maps:map(fun(_, Time) -> Time - First end, Some),

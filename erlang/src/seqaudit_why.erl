@@ -25,7 +25,7 @@ time(Id, Times) ->
         Time -> [", at ", Time]
     end.
 
-by({spawned, _}) -> "(OTP moved its counter on as it answered a spawn) ";
+by({spawned, _}) -> "(OTP moved the counter when it answered a spawn) ";
 by({unreported, _}) -> "(by a receive that nobody reported) ";
 by({_, {sent_to, _}}) -> "(nobody reported it) ";
 by({_, {_, {_, _}}}) -> "(nobody reported it) ";
@@ -37,9 +37,9 @@ ending(#{cause := open, event := #{prev := Prev}}) ->
     io_lib:format("There the trace begins, with the counter at ~b, or the event follows something that "
                   "nobody reported.~n", [Prev]);
 ending(#{cause := missing}) ->
-    "What that follows, nobody reported.\n";
+    "Nobody reported what that follows.\n";
 ending(#{cause := unseen}) ->
-    "Nobody reported that send, so what it follows isn't known.\n";
+    "Nobody reported that send, so it isn't known what it follows.\n";
 ending(_) ->
     "There the chain runs into itself: these events don't fit.\n".
 
@@ -51,8 +51,8 @@ effects(Place, Rows, Legend, Times) ->
         [] ->
             [name(Place, Legend), " caused nothing that was reported.\n"];
         Effects ->
-            [io_lib:format("~ts caused ~b, in an order that may have been theirs:~n",
-                           [name(Place, Legend), length(Effects)]),
+            [io_lib:format("~ts caused ~ts, here in an order in which they can have happened:~n",
+                           [name(Place, Legend), seqaudit_explain:count(length(Effects), "event")]),
              [["  ", name(Id, Legend), ": ", seqaudit_explain:sentence(Row, Legend), time(Id, Times),
                ", ", cause(Cause, Legend), $\n]
               || #{id := Id, cause := Cause} = Row <- lists:sublist(Effects, ?LISTED)],
@@ -65,7 +65,7 @@ effects(Place, Rows, Legend, Times) ->
 name({sent_to, {Pid, At}}, Legend) -> ["the send of ", seqaudit_bundle:name(Pid, At, Legend)];
 name({Pid, At}, Legend) -> seqaudit_bundle:name(Pid, At, Legend).
 
-%% @doc What a row follows by, in a few words.
+%% @doc What a row follows, in a few words.
 -spec cause(seqaudit_causes:cause(), seqaudit_legend:legend()) -> unicode:chardata().
 cause({sent, {sent_to, _}}, _Legend) -> "after an unreported send";
 cause({spawned, Id}, Legend) -> ["after ", name(Id, Legend), ", a spawn's answer"];

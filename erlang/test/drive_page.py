@@ -1,7 +1,8 @@
 #!/usr/bin/env python3
 """Drives a page of seqaudit-node in headless chromium, by its debugging pipe, and checks what it does.
 
-    drive_page.py CHECK PAGE [PICTURE]      CHECK: chain, hostile, large, picture, reset
+    drive_page.py CHECK PAGE [PICTURE]      CHECK: chain, unreceived, hostile, whole, limit, large,
+                                            picture, reset
 
 Ends with status 0 if all is as it should be, with 1 and a line for each thing that isn't, and with 77
 where there is no chromium or it can't be started.
@@ -43,6 +44,7 @@ class Browser:
         self.session = self.call("Target.attachToTarget", targetId=target, flatten=True)["sessionId"]
         for domain in ("Page", "Runtime", "Log", "Network"):
             self.call(domain + ".enable")
+        self.call("Performance.enable", timeDomain="threadTicks")
         self.call("Page.navigate", url="file://" + os.path.abspath(page))
         self.until("document.readyState === 'complete' && document.querySelector('#list') !== null")
 
@@ -180,6 +182,9 @@ def chain(browser, checks):
     browser.click("#labels li:nth-child(2) input")
     checks.same("without a label", len(browser.texts("#list .event")), 8)
     browser.click("#labels li:nth-child(2) input")
+    browser.click("#labels li:nth-child(1) input")
+    checks.same("the lanes of a label", browser.texts("#names .name"), ["alice", "carol"])
+    browser.click("#labels li:nth-child(1) input")
     browser.click("#labels-button")
     browser.click("#search")
     browser.call("Input.insertText", text="TAKE")
@@ -211,6 +216,56 @@ def chain(browser, checks):
                 label.startswith("bob#1; bob sends {take,apple} to carol; after bob#0; label {order,7}; 0.000200 s"))
 
 
+# Whether the canvas has a line or a bar there, darker than a lane is.
+INKED = """((x, y) => {
+  const canvas = document.querySelector("#canvas"), box = canvas.getBoundingClientRect();
+  const ratio = canvas.width / box.width;
+  const at = [x - box.left - 6, y - box.top - 4, 12, 8].map(one => Math.round(one * ratio));
+  const dots = canvas.getContext("2d").getImageData(...at).data;
+  for (let dot = 0; dot < dots.length; dot += 4)
+    if (dots[dot + 3] > 100 && Math.min(dots[dot], dots[dot + 1], dots[dot + 2]) < 140) return true;
+  return false;
+})(%d, %d)"""
+
+
+def unreceived(browser, checks):
+    """Alice's message to bob, which he must have received before he prints twice, and one to carol of which nobody has
+    a receive; carol prints too."""
+    checks.same("rows", browser.texts("#list .event"), ["alice#0", "carol#0", "alice#1", "bob#0", "bob#1"])
+
+    def lanes():
+        return [middle(browser, f"#names [data-lane='{lane}']")[0] for lane in range(3)]
+
+    alice, bob, carol = lanes()
+    sent, _, left, follows, again = (middle(browser, f"#list [data-row='{row}']")[1] for row in range(5))
+
+    def inked(x1, y1, x2, y2):
+        return browser.ask(INKED % (x1 + 0.6 * (x2 - x1), y1 + 0.6 * (y2 - y1)))
+
+    checks.true("an arrow goes to the first event that follows the message", inked(alice, sent, bob, follows))
+    checks.true("none goes to the second: it isn't another message", not inked(alice, sent, bob, again))
+    checks.true("the other message reaches the lane of carol", inked(bob, left, carol, left))
+    checks.true("it ends in a bar", browser.ask(INKED % (carol, left + 8)))
+    # The panel takes a part of the window, and the lanes fill the rest.
+    browser.click("#list [data-row='4']")
+    alice, bob, narrow = lanes()
+    checks.true("the second has the arrow if it is chosen", inked(alice, sent, bob, again))
+    checks.true(f"the lanes make room for the panel: {narrow}, {carol}", narrow < carol)
+    browser.key("Escape")
+    checks.same("and take it back", lanes()[2], carol)
+    # If they are wider, as somebody zoomed, the lane of the chosen event is in sight.
+    for _ in range(4):
+        browser.click("#larger")
+    browser.click("#list [data-row='1']")
+    left, end = browser.ask("[...['#list', '#view']].map(it => document.querySelector(it).getBoundingClientRect().right)")
+    checks.true("the lane of the chosen event is in sight", left < lanes()[2] < end)
+
+
+def middle(browser, selector):
+    return browser.ask(f"(() => {{ const b = document.querySelector({json.dumps(selector)}).getBoundingClientRect();"
+                       " return [b.left + b.width / 2, b.top + b.height / 2]; })()")
+
+
 def hostile(browser, checks):
     """Nothing of a message or a name runs, and each shows as the text that it is."""
     checks.same("elements in rows", browser.ask(
@@ -237,23 +292,81 @@ def hostile(browser, checks):
     browser.events.clear()
 
 
+# The texts of the long messages, as the page shows them.
+LONG = ["{text,\"</script><b>&\\\"'\\e\\x{202E}\u05e9\U0001F600" + 100000 * "x" + "end\"}",
+        "{bytes,<<\"" + 16666 * "<!-- y" + "\">>}",
+        "[" + ",".join(map(str, range(5001000, 5005000))) + "]",
+        "<<" + ",".join(1000 * ["0,255"]) + ">>",
+        60 * "{" + "bottom" + 60 * "}",
+        "{short,\"...\"}"]
+
+
+def whole(browser, checks):
+    """Each message stands whole in the panel, is copied whole, and is found by its end; rows have short forms."""
+    for row, text in enumerate(LONG):
+        browser.click(f"#list [data-row='{row}']")
+        browser.until(f"document.querySelector('#message').textContent.length >= {len(text)}")
+        shown = browser.ask("document.querySelector('#message').textContent")
+        checks.true(f"message {row} is whole: {len(shown)} characters, {shown[:40]} .. {shown[-40:]}", shown == text)
+        checks.same("its heading", browser.texts("#length"), ["Message"])
+        brief = browser.texts(f"#list [data-row='{row}'] .term")[0]
+        checks.true(f"row {row} is short: {len(brief)} characters", len(brief) <= 2040)
+    checks.same("elements of a message", browser.ask("document.querySelectorAll('#panel b, #panel script').length"), 0)
+    browser.click("#list [data-row='0']")
+    scrolls = browser.ask("(() => { const it = document.querySelector('#message'); it.scrollTop = 1e9;"
+                          " return it.scrollTop > 0 && it.scrollHeight > it.clientHeight; })()")
+    checks.true("a long message scrolls", scrolls)
+    # The page answers first, so what it said is seen behind it.
+    browser.ask("window.addEventListener('copy', event => { window.copied = event.clipboardData.getData('text/plain'); })")
+    browser.click("#copy")
+    browser.until("window.copied !== undefined")
+    checks.true("it is copied whole", browser.ask("window.copied") == LONG[0])
+    browser.click("#search")
+    browser.call("Input.insertText", text="xEND")
+    browser.frame()
+    checks.same("found by its end", browser.texts("#found"), ["1 found"])
+    # Each message stands once in the page.
+    source = browser.ask("document.querySelector('#data').textContent")
+    checks.same("how often a message stands there", source.count(1000 * "x" + "end"), 1)
+    checks.true("the legend says where a message is whole", any("the panel has it whole" in text for text in legend(browser)))
+
+
+def limit(browser, checks):
+    """Long messages are cut to one length, and the panel and the legend say so; the others are whole."""
+    most = browser.ask("JSON.parse(document.querySelector('#data').textContent).most")
+    whole = [len(text) for text in LONG]
+    whole[0] -= len("\\x{202E}") - 1
+    checks.same("a length at which all fit", sum(min(most, one) for one in whole) <= 60000 <
+                sum(min(most + 1, one) for one in whole), True)
+    for row, text in enumerate(LONG):
+        browser.click(f"#list [data-row='{row}']")
+        browser.frame()
+        shown = browser.ask("document.querySelector('#message').textContent")
+        if whole[row] > most:
+            length = len(shown) - (len("\\x{202E}") - 1 if row == 0 else 0)
+            checks.true(f"message {row} is cut to {most}: {length}", text.startswith(shown) and length == most)
+            checks.same("its heading", browser.texts("#length"),
+                        [f"Message, the first {most:,} characters of {whole[row]:,}"])
+        else:
+            checks.true(f"message {row} is whole", shown == text)
+            checks.same("its heading", browser.texts("#length"), ["Message"])
+    said = f"all messages together have more than 60,000 characters: of the longest this page has the first {most:,}"
+    checks.true("the legend says so", any(said in text for text in legend(browser)))
+
+
+def legend(browser):
+    browser.click("#help-button")
+    texts = browser.texts("#help li")
+    browser.click("#help-button")
+    return texts
+
+
 def large(browser, checks):
     """100,000 rows and 1,000 lanes scroll within 100 ms a frame, and only what is in sight is there."""
     checks.same("rows", browser.ask("document.querySelector('#list').ariaRowCount"), "100000")
-    frames = browser.ask("""(async () => {
-      const view = document.querySelector("#view"), frames = [];
-      const next = () => new Promise(done => requestAnimationFrame(done));
-      await next();
-      for (let k = 0; k < 120; k++) {
-        const begin = performance.now();
+    within(browser, checks, "frames", 120, """
         view.scrollTop = (k * 7919) % 100 / 100 * view.scrollHeight + k * 13;
-        view.scrollLeft = (k * 104729) % 100 / 100 * view.scrollWidth;
-        await next(); await next();
-        frames.push((performance.now() - begin) / 2);
-      }
-      return frames;
-    })()""")
-    within(checks, "frames", frames)
+        view.scrollLeft = (k * 104729) % 100 / 100 * view.scrollWidth;""")
     checks.true("few elements", browser.ask("document.querySelectorAll('*').length") < 1000)
     # Choosing the last event, from which a long chain goes back.
     begin = time.monotonic()
@@ -262,7 +375,7 @@ def large(browser, checks):
     print(f"the last event chosen in {1000 * (time.monotonic() - begin):.0f} ms")
     checks.same("the last row", browser.ask("document.querySelector('#list .chosen').ariaRowIndex"), "100000")
     panel = browser.ask("document.querySelector('#panel').textContent")
-    checks.true(f"a chain of 20,000 events: {panel[-300:]}", "Causes: 19999, effects: 0" in panel)
+    checks.true(f"a chain of 20,000 events: {panel[-300:]}", "Causes: 19,999, effects: 0" in panel)
     begin = time.monotonic()
     browser.click("#search")
     browser.call("Input.insertText", text="MESSAGE,77")
@@ -271,25 +384,44 @@ def large(browser, checks):
     checks.same("found", browser.texts("#found"), ["1,100 found"])
     for _ in range(12):
         browser.click("#smaller")
+    browser.key("Escape")
+    within(browser, checks, "frames with messages of 100,000 characters", 30, """
+        document.querySelector(`#list [data-row="${[...document.querySelectorAll("#list .row")][k % 20].dataset.row}"]`).click();
+        if (k % 10 === 5) view.scrollTop += 4000;""")
+    within(browser, checks, "frames zoomed out", 30, "view.scrollTop = k / 30 * view.scrollHeight;")
+
+
+def within(browser, checks, what, count, scroll):
+    """Scrolls so often, two frames each. The page takes less than 100 ms of processor time for a frame,
+    and nine of ten frames come within 100 ms, unless the machine has more to do than it has processors:
+    then the browser waits for its turn."""
+    before = busy(browser)
     frames = browser.ask("""(async () => {
       const view = document.querySelector("#view"), frames = [];
       const next = () => new Promise(done => requestAnimationFrame(done));
-      for (let k = 0; k < 30; k++) {
+      await next();
+      for (let k = 0; k < COUNT; k++) {
         const begin = performance.now();
-        view.scrollTop = k / 30 * view.scrollHeight;
+        SCROLL
         await next(); await next();
         frames.push((performance.now() - begin) / 2);
       }
       return frames;
-    })()""")
-    within(checks, "frames zoomed out", frames)
-
-
-def within(checks, what, frames):
-    """Nine of ten frames, as a machine that does other things too may keep the browser waiting."""
+    })()""".replace("COUNT", str(count)).replace("SCROLL", scroll))
+    took = 1000 * (busy(browser) - before) / (2 * count)
     frames.sort()
-    print(f"{what}: median {frames[len(frames) // 2]:.1f} ms, longest {frames[-1]:.1f} ms")
-    checks.true(f"{what} within 100 ms: {frames[-5:]}", frames[len(frames) * 9 // 10] < 100)
+    print(f"{what}: median {frames[len(frames) // 2]:.1f} ms, longest {frames[-1]:.1f} ms; "
+          f"processor time {took:.1f} ms")
+    checks.true(f"{what} take processor time", took > 0)
+    checks.true(f"{what} within 100 ms of processor time: {took}", took < 100)
+    checks.true(f"{what} within 100 ms: {frames[-5:]}",
+                frames[len(frames) * 9 // 10] < 100 or os.getloadavg()[0] > os.cpu_count())
+
+
+def busy(browser):
+    """Seconds of processor time that the page has taken so far."""
+    metrics = browser.call("Performance.getMetrics")["metrics"]
+    return next(one["value"] for one in metrics if one["name"] == "TaskDuration")
 
 
 def reset(browser, checks):

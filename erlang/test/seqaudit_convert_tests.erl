@@ -76,8 +76,8 @@ aliases_test() ->
                       {seq_trace, 0, {send, {1, 3}, B, R2, {R2, ok}}},
                       {seq_trace, 0, {'receive', {1, 2}, B, C, {R1, ok}}}]),
     ["<0.31.0>", "<0.31.0>", "<0.32.0>", "<0.30.0>"] = receivers(send, Bundle),
-    true = noted("1 sends to an alias or a name: their receive says", Bundle),
-    true = noted("1 sends to an alias: the request that handed it out", Bundle).
+    true = noted("1 send to an alias or a name: the receive of each says", Bundle),
+    true = noted("1 send to an alias: the request that handed it out", Bundle).
 
 %% After a reset a server stamps its replies as before: label and message tell them apart, whichever
 %% client comes first.
@@ -104,7 +104,7 @@ ambiguous_aliases_test() ->
     Received = fun(To) -> {seq_trace, 1, {'receive', {1, 2}, S, To, {R, ok}}} end,
     Two = convert([Send, Received(A), Received(B)]),
     ["<0.65535.0>"] = receivers(send, Two),
-    true = noted("1 sends to an alias or a name that two receives or requests fit", Two),
+    true = noted("1 send to an alias or a name that two receives or requests fit", Two),
     ["<0.31.0>"] = receivers(send, convert([Send, Received(A), Received(A)])),
     Asks = fun(Owner) ->
                    {seq_trace, 1, {'receive', {0, 1}, Owner, S, {'$gen_call', {Owner, [alias | R]}, x}}}
@@ -148,7 +148,7 @@ counts_test() ->
             [{seq_trace, 1, {print, {0, 1}, self(), [], x}} | Strays]}]),
     true = has(Dropped, "a@h: 2 events came beyond the limit"),
     true = has(Own, "a@h: 1 events that named the collector"),
-    true = has(Left, "6 entries were no events").
+    true = has(Left, "6 entries that aren't events").
 
 %% What the program's reader won't take is said.
 limits_test() ->
@@ -162,12 +162,12 @@ too_many_test_() ->
         Events = [{seq_trace, 1, {print, {0, 1}, pid('a@h', N, Serial), [], x}}
                   || Serial <- [0, 1, 2], N <- lists:seq(0, 32_767)],
         #{events := 65_536, processes := 65_536, dropped := 32_768, notes := Notes} = convert(Events),
-        true = lists:any(fun(Note) -> has(Note, "32768 events were left out: more than 65,536") end, Notes)
+        true = lists:any(fun(Note) -> has(Note, "32,768 events of more than 65,536 processes") end, Notes)
     end}.
 
 lost_test() ->
     #{events := 0, notes := [_, Note]} = seqaudit_convert:convert([#{node => 'a@h', lost => noconnection}]),
-    true = has(Note, "a@h: its collector went down (noconnection)").
+    true = has(Note, "a@h: the node was lost, or the connection to it, and all of its events are lost").
 
 %% Large terms are cut in what is printed, and not in what is compared. The time is the processor's, as
 %% a machine that does other things too may keep the test waiting.

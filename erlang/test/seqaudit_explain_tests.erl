@@ -1,8 +1,8 @@
 %% Answers and charts with names and terms in the place of numbers.
 -module(seqaudit_explain_tests).
 
--export([whole_test/0, fits_test/0, completed_test/0, labels_test/0, places_test/0, reasons_test/0, no_tool_test/0, faults_test/0,
-         losses_test/0, chart_test/0, drawing_test/0, drawing_is_safe_test/0, large_drawing_test_/0,
+-export([whole_test/0, fits_test/0, many_test/0, unreceived_test/0, completed_test/0, labels_test/0, places_test/0, reasons_test/0, no_tool_test/0, faults_test/0,
+         losses_test/0, chart_test/0, drawing_test/0, dashed_test/0, drawing_is_safe_test/0, large_drawing_test_/0,
          too_large_drawing_test/0, brief_test/0, legend_test/0]).
 
 legend() ->
@@ -42,10 +42,17 @@ whole_test() ->
 
 %% What a fits says of hidden sends, of counters that stood high, of silent stamps and of spawns.
 fits_test() ->
-    <<"fits: 2 events of 2 processes are a run; nothing was left out\n">> =
+    <<"fits: 2 events of 2 processes; nothing was left out\n">> =
         said(outcome(fits, streams("seqtrace 1\nprocess <0.30.0>\n"
                                    "{seq_trace,17,{send,{0,1},<0.30.0>,<0.31.0>,7}}\nprocess <0.31.0>\n"
                                    "{seq_trace,17,{'receive',{0,1},<0.30.0>,<0.31.0>,7}}\n"))),
+    %% Nothing says so of a trace that was cut, or of which something was lost, or that has no events.
+    Print = streams("seqtrace 1\nprocess <0.30.0>\n{seq_trace,17,{print,{0,1},<0.30.0>,[],7}}\n"),
+    [<<"fits: 1 event of 1 process; nothing is missing between them\n">> =
+         said((outcome(fits, Print))#{cut => Cut, lost => Lost}) || {Cut, Lost} <- [{true, false}, {false, true}]],
+    <<"fits: 1 event of 1 process; nothing was left out\n">> =
+        said((outcome(fits, Print))#{cut => false, lost => false}),
+    <<"fits: 0 events of 0 processes\n">> = said(outcome(fits, [])),
     Gaps = "seqtrace 1\nprocess <0.30.0>\n"
            "{seq_trace,17,{print,{4999,5000},<0.30.0>,[],7}}\n"
            "{seq_trace,17,{print,{4999,5003},<0.30.0>,[],7}}\n"
@@ -53,12 +60,39 @@ fits_test() ->
            "{seq_trace,17,{'receive',{0,3},<0.30.0>,<0.31.0>,6}}\n"
            "{seq_trace,17,{send,{63,64},<0.31.0>,<0.30.0>,7}}\n",
     has(said((outcome(fits, streams(Gaps)))#{renumbered := true}),
-        ["fits: 5 events of 2 processes are a run, with 1 event that nobody reported, 2 silent stamps, 1 jump of a counter",
-         "Counters stood higher than anything reported tells: 1 in alice.",
-         "  alice sends {ok,six} to bob & <co>, serial {0,3}, label 17, which is received as bob & <co>#0\n",
-         "counts that no event has: 2 in alice",
-         "Before its first send or print here, that of alice stood at 4,999.\n",
-         "It did so bob & <co> once.\n", "serials stand here as the node had them"]).
+        ["fits: 5 events of 2 processes, with 1 event that nobody reported, 2 silent stamps, 1 jump of a counter",
+         "A counter jumps if it stands higher than anything reported explains: that of alice once.",
+         "What nobody reported:\n",
+         "  alice sends {ok,six} to bob & <co>, serial {0,3}, label 17, received as bob & <co>#0\n",
+         "counts that no event here has: 2 of alice",
+         "Before the first send or print here, the counter of alice stood at 4,999.\n",
+         "it moves the counter of the process that asked for it: that of bob & <co> once.\n",
+         "the serials shown here are the node's own"]),
+    has(said((outcome(fits, streams(Gaps)))#{cut => true}),
+        ["with 1 event that nobody reported or that the cut took away, ", "What nobody reported, or what the cut took away:\n"]).
+
+%% Of many processes the first are named, and so are the places of a reset.
+many_test() ->
+    Print = fun(Pid, This) -> io_lib:format("{seq_trace,17,{print,{~b,~b},~ts,[],7}}~n", [This - 1, This, Pid]) end,
+    Many = fun(From) ->
+               streams(["seqtrace 1\n", [["process ", pid(K), $\n, Print(pid(K), From)] || K <- lists:seq(1, 50)]])
+           end,
+    has(said(outcome(fits, Many(9))), [", that of <0.120.0> at 8, and so of 30 more processes.\n"]),
+    Numbered = [{Pid, [Event#{at := 1} || Event <- Events]} || {Pid, Events} <- Many(1)],
+    has(unicode:characters_to_binary(seqaudit_explain:reset_places([Many(1), Numbered], legend())),
+        ["The reset came after <0.101.0>#0 and before <0.101.0>#1, ", ", and so of 30 more processes.\n"]),
+    [One, Other] = [[{<<"<0.30.0>">>, []}, {<<"<0.31.0>">>, []}] || _ <- [1, 2]],
+    [{_, [Event]} | _] = Many(1),
+    <<"A reset explains it, or two runs in one trace. The reset came between events of different processes.\n">> =
+        unicode:characters_to_binary(seqaudit_explain:reset_places(
+            [lists:keyreplace(<<"<0.30.0>">>, 1, One, {<<"<0.30.0>">>, [Event]}),
+             lists:keyreplace(<<"<0.31.0>">>, 1, Other, {<<"<0.31.0>">>, [Event]})], legend())).
+
+%% A receive that nobody reported is told with its message, as what is received in it is known.
+unreceived_test() ->
+    has(said(outcome(completed, streams("seqtrace 1\nprocess <0.30.0>\n{seq_trace,17,{send,{0,1},<0.30.0>,<0.31.0>,6}}\n"
+                                        "process <0.31.0>\n{seq_trace,17,{print,{1,2},<0.31.0>,[],7}}\n"))),
+        ["  bob & <co> receives {ok,six} from alice, serial {0,1}, label 17, before bob & <co>#0\n"]).
 
 %% Added events stand under the event before which they happened; an invented message isn't shown.
 completed_test() ->
@@ -76,10 +110,11 @@ completed_test() ->
     Completed = seqaudit_bundle:complete(Streams, {Added, [{<<"<0.30.0>">>, 1}, {<<"<0.31.0>">>, 1},
                                                            {<<"<0.31.0>">>, 3}]}),
     has(said(outcome(completed, Completed)),
-        ["fits: 3 events of 2 processes are a run, with 3 events that nobody reported",
-         "  alice#1~1: alice sends a message that isn't known to bob & <co>, serial {0,2}, label 17\n",
+        ["fits: 3 events of 2 processes, with 3 events that nobody reported",
+         "  alice#1~1: alice sends an unknown message to bob & <co>, serial {0,2}, label 17\n",
          "  bob & <co>#1~1: bob & <co> receives start from alice, serial {0,1}, label 17\n",
-         "  bob & <co>#2~1: bob & <co> receives a message that isn't known from alice"]),
+         "  bob & <co>#2~1: bob & <co> receives an unknown message from alice",
+         "What the unknown messages were can't be told"]),
     [{ok, {<<"<0.31.0>">>, {2, 1}}}, {ok, {<<"<0.30.0>">>, 0}}] =
         [seqaudit_bundle:find(Name, Completed, legend()) || Name <- ["bob & <co>#2~1", "<0.30.0>#0"]],
     [{error, {no_event_name, "alice"}}, {error, {no_process, <<"carol">>, _}}, {error, {no_event, "alice#9", [0]}}] =
@@ -115,39 +150,40 @@ reasons_test() ->
     Event = #{kind => 'receive', label => <<"17">>, prev => 2, this => 4, from => <<"<0.30.0>">>,
               to => <<"<0.31.0>">>, value => <<"6">>, at => 3},
     [has(said((outcome(Said, []))#{finding => {Reason, [{{<<"<0.31.0>">>, 3}, Event}]}}),
-         [Begin, "because of bob & <co>#3",
+         [Begin, " bob & <co>#3",
           "  bob & <co>#3: bob & <co> receives {ok,six} from alice, serial {2,4}, label 17\n",
           "What it means: ", "What to look at: "])
-     || {Said, Begin, Reasons} <- [{never, "doesn't fit: no run has it", [<<"prevnotbefore">>]},
-                                   {never, "doesn't fit: no run without a reset has it",
+     || {Said, Begin, Reasons} <- [{never, "doesn't fit: no run reports this trace, because of", [<<"prevnotbefore">>]},
+                                   {never, "doesn't fit: no run without a reset reports this trace, because of",
                                     [<<"notrising">>, <<"repeated">>, <<"mismatch">>,
                                      <<"late">>, <<"unfounded">>, <<"unsent">>]},
-                                   {open, "not known", [<<"open">>]},
-                                   {unexplained, "not explained",
+                                   {open, "not known: no run was found", [<<"open">>]},
+                                   {unexplained, "not explained: no run was found",
                                     [<<"uncaused">>, <<"toowide">>, <<"notreplayed">>]}],
         Reason <- Reasons].
 
 %% Where there is no seqtool it says so, and what it would be good for.
 no_tool_test() ->
     has(said((outcome(unexplained, []))#{tool := not_there, finding => {<<"uncaused">>, []}}),
-        ["For what the trace lacks, seqtool is needed, and it isn't there"]).
+        ["seqtool would say what the trace lacks, but it isn't there"]).
 
 faults_test() ->
     has(said((outcome(fault, []))#{fault => <<"fault too large">>}),
-        ["fault too large: the bundle has more than 67,108,864 bytes; cut it"]),
+        ["fault too large: the trace has more than 67,108,864 bytes; cut it"]),
     has(said((outcome(fault, []))#{fault => <<"fault line 3">>}), ["fault line 3: this isn't a bundle"]).
 
 %% Notes that tell of losses stand in the answer.
 losses_test() ->
     Lost = <<"a@h: its collector went down (noconnection), and all of its events are lost">>,
     Text = unicode:characters_to_binary(
-             seqaudit_explain:losses([<<"4 timestamps were left out">>, Lost,
-                                      <<"labels that are no whole numbers in range: 1000000 is lost">>,
+             seqaudit_explain:losses([<<"4 sends to an alias: the request that handed it out says whose it is">>, Lost,
+                                      <<"labels that aren't numbers from 0 to 4294967295 have numbers: 1000000 is lost">>,
+                                      <<"no processes, or their number was taken, so they have free numbers: <0.9.0> is lost">>,
                                       <<"a@h: more came than the files hold, and the oldest 9 bytes were written over">>,
                                       <<"a@h: 7 events came beyond the limit and were dropped">>])),
     <<"The trace isn't whole:\n  a@h: its", _/binary>> = Text,
     has(Text, ["7 events came beyond", "the oldest 9 bytes"]),
-    [nomatch, nomatch] = [binary:match(Text, Part) || Part <- [<<"timestamps">>, <<"labels">>]].
+    [nomatch, nomatch] = [binary:match(Text, Part) || Part <- [<<"alias">>, <<"labels">>]].
 
 chart() ->
     chart(<<"label 1000000\nlane 1 <0.30.0>\nlane 2 <0.31.0>\n"
@@ -186,17 +222,34 @@ chart_test() ->
 
 drawing_test() ->
     Drawing = drawn(chart()),
-    has(Drawing, ["label {order,7}: 8 rows, 2 processes", ">alice<", "bob &amp; &lt;co&gt;",
-                  ">call {get,&quot;5 &lt; 6&quot;}</text>", "registered as alice", "the audit's line",
+    has(Drawing, ["label {order,7}: 8 rows, 2 processes, part 2 of 3<", ">alice<", "bob &amp; &lt;co&gt;",
+                  ">call {get,&quot;5 &lt; 6&quot;}</text>", "registered as alice", "<text class=\"w\" x=\"12\" y=\"46\">the audit's line<", ">The trace isn't whole<",
                   "bob &amp; &lt;co&gt;#1: send {2,3}, after bob &amp; &lt;co&gt;#0\n{ok,six}",
-                  "unreported: hidden {0,2}, unreported\n", "its cause may not have been reported"]),
-    %% One dashed arrow, one that arrives, and two whose receives nobody reported; one question mark.
-    [1, 1, 2, 2, 2] = [length(binary:matches(Drawing, Part))
+                  "unreported: hidden {0,2}, unreported\n", "what it follows may be unreported",
+                  "a message whose receive isn't in the chart"]),
+    %% One dashed arrow, one that arrives, and two whose receives nobody reported; one question mark. The legend has one more
+    %% of the last two.
+    [1, 1, 3, 2, 2] = [length(binary:matches(Drawing, Part))
                        || Part <- [<<"url(#d)">>, <<"url(#s)">>, <<"url(#x)">>, <<"class=\"p\"">>, <<">?<">>]].
 
 drawn(Chart) ->
-    {ok, Drawing} = seqaudit_draw:svg(Chart, "the audit's line", legend()),
+    drawn(Chart, #{part => "part 2 of 3", said => "the audit's line", fits => false, losses => "The trace isn't whole"}).
+
+drawn(Chart, Heading) ->
+    {ok, Drawing} = seqaudit_draw:svg(Chart, Heading, legend()),
     unicode:characters_to_binary(Drawing).
+
+heading(Said) -> #{part => "", said => Said, fits => true, losses => ""}.
+
+%% A send that was reported is drawn whole, though nobody reported its receive: dashed is only what is unreported.
+dashed_test() ->
+    Drawing = drawn(chart(<<"label 17\nlane 1 <0.30.0>\nlane 2 <0.31.0>\n   S   .  send     {0,1} 6 start\n   |   P  print    {1,2} 7 start\n">>,
+                          "seqtrace 1\nprocess <0.30.0>\n{seq_trace,17,{send,{0,1},<0.30.0>,<0.31.0>,6}}\n"
+                          "process <0.31.0>\n{seq_trace,17,{print,{1,2},<0.31.0>,[],7}}\n"), heading("fits")),
+    has(Drawing, ["unreported: it happened, but nobody reported it"]),
+    %% The one that is dashed stands in the legend.
+    [1, 1, 1] = [length(binary:matches(Drawing, Part)) || Part <- [<<"url(#d)">>, <<"<circle class=\"o\"">>, <<"<circle class=\"u\"">>]],
+    [] = [Part || Part <- [<<"part ">>, <<"class=\"w\"">>, <<"whose receive isn't">>], binary:match(Drawing, Part) =/= nomatch].
 
 %% No character that XML doesn't allow comes into a drawing, whatever the names are.
 drawing_is_safe_test() ->
@@ -206,7 +259,7 @@ drawing_is_safe_test() ->
     {ok, Legend} = seqaudit_legend:read(File),
     Chart = chart(<<"label 1\nlane 1 <0.30.0>\n   P  print    {0,1} 7 start\n">>,
                   "seqtrace 1\nprocess <0.30.0>\n{seq_trace,1,{print,{0,1},<0.30.0>,[],7}}\n"),
-    {ok, Text} = seqaudit_draw:svg(Chart, Name, Legend),
+    {ok, Text} = seqaudit_draw:svg(Chart, heading(Name), Legend),
     Drawing = unicode:characters_to_list(Text),
     [] = [C || C <- Drawing, C < 16#20 andalso C =/= $\n orelse C =:= 16#FFFF].
 
@@ -221,7 +274,7 @@ large_drawing_test_() ->
     end}.
 
 too_large_drawing_test() ->
-    {error, {too_many_rows, 2002} = Reason} = seqaudit_draw:svg(large(2002), "", legend()),
+    {error, {too_many_rows, 2002} = Reason} = seqaudit_draw:svg(large(2002), heading(""), legend()),
     has(unicode:characters_to_binary(seqaudit_draw:format_error(Reason)), ["use the page (--html FILE)"]).
 
 %% Sends and their receives, from lane to lane.
@@ -261,14 +314,14 @@ brief_test() ->
     Texts = [{'$gen_call', {self(), [alias | Ref]}, {get, 1}}, {'$gen_call', {self(), Ref}, {get, 1}},
              {'$gen_cast', {put, 1}}, {[alias | Ref], {ok, 1}}, {Ref, {ok, 1}},
              {spawn_request, Ref, self(), self(), {m, f, 1}, [link], spawn_reply, [x]},
-             {spawn_reply, Ref, ok, self()}, {ok, Ref}],
+             {spawn_request, Ref, self(), self(), {m, f, 1}, []}, {spawn_reply, Ref, ok, self()}, {ok, Ref}],
     File = seqaudit_audits:file("brief.terms"),
     ok = file:write_file(File, seqaudit_legend:text([], [], lists:enumerate(Texts), #{})),
     {ok, Legend} = seqaudit_legend:read(File),
     [<<"call {get,1}">>, <<"call {get,1}">>, <<"cast {put,1}">>, <<"reply {ok,1}">>,
-     <<"reply {ok,1}">>, <<"spawn {m,f,1},[link],spawn_reply,[x]}">>, <<"spawned <", _/binary>>,
+     <<"reply {ok,1}">>, <<"spawn m:f/1 [x]">>, <<"spawn m:f/1">>, <<"spawned <", _/binary>>,
      <<"{ok,#Ref<", _/binary>>] =
-        [seqaudit_legend:brief(integer_to_binary(K), Legend) || K <- lists:seq(1, 8)].
+        [seqaudit_legend:brief(integer_to_binary(K), Legend) || K <- lists:seq(1, 9)].
 
 legend_test() ->
     File = seqaudit_audits:file("broken.terms"),

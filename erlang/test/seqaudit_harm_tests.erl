@@ -10,13 +10,15 @@
 -define(PAIRS, 200).
 -define(LOAD_MS, 5_000).
 -define(MEGABYTE, 1_048_576).
+-define(TWO_SCHEDULERS, ["+S", "2:2"]).
 
-%% 200 pairs that write lists of 500 numbers to each other under tokens for 5 s: the node takes less than
-%% 200 MB more than without a tracer.
+%% 200 pairs that write lists of 500 numbers to each other under tokens for 5 s: a node with two
+%% schedulers takes less than 200 MB more than without a tracer. With more free processors these pairs
+%% report more than a port writes, and what it hasn't written is held (docs/ERLANG.md).
 load_test_() ->
     {timeout, 240, fun() ->
-        Without = peak(fun(_) -> ok end, fun() -> ok end),
-        With = peak(fun(There) ->
+        Without = peak(?TWO_SCHEDULERS, fun(_) -> ok end, fun() -> ok end),
+        With = peak(?TWO_SCHEDULERS, fun(There) ->
                             ok = seqaudit_trace:start(#{nodes => [There], bytes => 8_000_000,
                                                         name => seqaudit_audits:file("load")})
                     end,
@@ -25,7 +27,8 @@ load_test_() ->
                                 seqaudit_trace:stop(),
                             true = Events > 1_000 andalso Dropped > 1_000,
                             [_] = [Note || Note <- Notes, string:find(Note, "were written over, about") =/= nomatch],
-                            [] = [Note || Note <- Notes, string:find(Note, "went down") =/= nomatch],
+                            [] = [Note || Note <- Notes, Lost <- ["went down", "was lost"],
+                                          string:find(Note, Lost) =/= nomatch],
                             true = filelib:file_size(seqaudit_audits:file("load.events")) < 10_000_000
                     end),
         io:format(user, "load: ~b MB without a tracer, ~b MB with~n",
@@ -36,8 +39,8 @@ load_test_() ->
 %% Without runtime_tools the collector takes itself off in time, within the same bound.
 load_without_port_test_() ->
     {timeout, 240, fun() ->
-        Without = peak(fun(_) -> ok end, fun() -> ok end),
-        With = peak(fun(There) ->
+        Without = peak([], fun(_) -> ok end, fun() -> ok end),
+        With = peak([], fun(There) ->
                             ok = erpc:call(There, seqaudit_test_server, without_runtime_tools, []),
                             ok = seqaudit_trace:start(#{nodes => [There], bytes => 8_000_000,
                                                         name => seqaudit_audits:file("load_without")})
@@ -54,9 +57,9 @@ load_without_port_test_() ->
         true = With - Without < 200 * ?MEGABYTE
     end}.
 
-%% The greatest memory that a node of its own took under the load, in bytes.
-peak(Begin, End) ->
-    {ok, Stop, There} = seqaudit_test_nodes:start(),
+%% The greatest memory that a node of its own, with these arguments, took under the load, in bytes.
+peak(Arguments, Begin, End) ->
+    {ok, Stop, There} = seqaudit_test_nodes:start(Arguments),
     try
         Begin(There),
         Sent = erpc:call(There, seqaudit_test_server, load, [?PAIRS, ?LOAD_MS]),
@@ -125,7 +128,11 @@ collect_until_kill_test_() ->
         {0, Said} = terminated_when([node_command(), " collect ", Node, " -o ", Name], Name,
                                     fun() -> seqaudit_test_nodes:print_when_traced(There) end),
         {_, _} = binary:match(Said, <<"1 event of 1 process">>),
-        false = erpc:call(There, seq_trace, get_system_tracer, [])
+        false = erpc:call(There, seq_trace, get_system_tracer, []),
+        %% The node traced and did nothing else: only what collects is loaded there.
+        Loaded = [Module || {Module, _} <- erpc:call(There, code, all_loaded, []),
+                            string:prefix(atom_to_list(Module), "seqaudit_") =/= nomatch],
+        [] = Loaded -- [seqaudit_trace, seqaudit_collector, seqaudit_scribe, seqaudit_spool, seqaudit_test_server]
     end).
 
 %% Calls of a function set the token, with timestamps, until the end; the program has no word of it.
@@ -202,7 +209,7 @@ collect_errors_test_() ->
                                   {"--node a@h --trigger shop:order/2", <<"--trigger and --label go together">>},
                                   {"--node a@h --trigger a:b/1 --label '{x'", <<"{x is no Erlang term">>},
                                   {"--node a@h --times", <<"--times goes with --trigger">>},
-                                  {"--node a@h --frobnicate", <<"collect doesn't know --frobnicate">>}]],
+                                  {"--node a@h --frobnicate", <<"collect has no option --frobnicate">>}]],
         {4, Small} = run([node_command(), " collect --node nobody@localhost --cookie c --bytes 10 -o ", Name], []),
         {_, _} = binary:match(Small, <<"bytes can't be 10: it is a whole number of bytes, 65536 or more">>)
     end}.

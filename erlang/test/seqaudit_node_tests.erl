@@ -8,13 +8,32 @@ usage_test_() ->
     {timeout, 60, fun() ->
         {0, Help} = command("--help"),
         {_, _} = binary:match(Help, <<"usage: seqaudit-node COMMAND">>),
-        {0, Help} = command("audit --help"),
+        %% Each command is in the help, and has its own, with all of its options.
+        [begin
+             {_, _} = binary:match(Help, <<"\n  ", Command/binary, " ">>),
+             {0, <<"usage: seqaudit-node ", Its/binary>> = Same} = command([Command, " --help"]),
+             {0, Same} = command([Command, " x -h"]),
+             [] = [Option || Option <- Options, binary:match(Its, Option) =:= nomatch]
+         end || {Command, Options} <- [{<<"collect">>, [<<"--node">>, <<"-o">>, <<"--seconds">>, <<"--trigger">>, <<"--label">>,
+                                                        <<"--times">>, <<"--reset">>, <<"--bytes">>, <<"--limit">>, <<"--folder">>,
+                                                        <<"--cookie-file">>, <<"--cookie ">>, <<"SEQAUDIT_COOKIE">>]},
+                                       {<<"convert">>, [<<"FILE">>, <<"-o">>]},
+                                       {<<"audit">>, [<<"--whole">>, <<"--parts">>, <<"--label">> | cuts()]},
+                                       {<<"chart">>, [<<"--svg">>, <<"--html">>, <<"--label">> | cuts()]},
+                                       {<<"why">>, [<<"--event">>, <<"--effects">>, <<"--label">> | cuts()]}]],
+        [{_, _} = binary:match(Said, Sentence)
+         || {Words, Sentence} <- [{"audit x --frob", <<"audit has no option --frob\nusage: seqaudit-node audit NAME">>},
+                                  {"why x --event", <<"--event needs a value\nusage: seqaudit-node why NAME">>},
+                                  {"frobnicate", <<"there is no command frobnicate\nusage: seqaudit-node COMMAND">>}],
+            {3, Said} <- [command(Words)]],
         [{3, _} = command(Words)
          || Words <- ["", "frobnicate", "audit", "audit a b", "audit a --label", "chart a", "why a",
                       "convert x", "collect --node a@h", "collect -o x", "convert -o"]],
         {3, Text} = command("collect --node a@h --seconds ten -o x"),
-        {_, _} = binary:match(Text, <<"--seconds and --limit take whole numbers">>)
+        {_, _} = binary:match(Text, <<"--seconds can't be ten; it takes a whole number, 1 or more">>)
     end}.
+
+cuts() -> [<<"--process">>, <<"--from">>, <<"--to">>].
 
 convert_test_() ->
     {timeout, 60, fun() ->
@@ -73,7 +92,7 @@ asked(Name, Program) ->
     {_, _} = binary:match(Whole, <<", label {request,<<\"abc\">>}">>),
     {0, Chart} = command(["chart ", Name, " --label '{request, <<\"abc\">>}' --svg ", Name, ".svg"], Program),
     {_, _} = binary:match(Chart, <<"label {request,<<\"abc\">>}\n">>),
-    {_, _} = binary:match(Chart, <<"fits: 12 events of 2 processes are a run; nothing was left out\nlabel">>),
+    {_, _} = binary:match(Chart, <<"fits: 12 events of 2 processes; nothing was left out\nlabel">>),
     {_, _} = binary:match(Chart, <<" call 1  start\n">>),
     {ok, <<"<?xml", _/binary>>} = file:read_file(Name ++ ".svg"),
     {1, Other} = command(["chart ", Name, " --label other"], Program),
@@ -84,7 +103,7 @@ asked(Name, Program) ->
     {0, _} = command(["convert ", capture("exclude_idiom_after_receive"), " -o ", Unfit]),
     {1, Why} = command(["audit ", Unfit], Program),
     {_, _} = binary:match(Why, <<"(uncaused)">>),
-    {_, _} = binary:match(Why, <<"seqtool is needed, and it isn't there">>).
+    {_, _} = binary:match(Why, <<"seqtool would say what the trace lacks, but it isn't there">>).
 
 %% A program that knows no audit is said to be one.
 no_program_test_() ->

@@ -22,7 +22,7 @@ node_goes_down_test_() ->
                 seqaudit_trace:with_trace(1, fun() -> seq_trace:print(here) end),
                 Stop(),
                 {ok, #{events := 1, notes := Notes}} = seqaudit_trace:stop(),
-                [_] = [Note || Note <- Notes, string:find(Note, "its collector went down") =/= nomatch];
+                [_] = [Note || Note <- Notes, string:find(Note, "the node was lost, or the connection to it") =/= nomatch];
             {error, Reason} ->
                 io:format(user, "a node that goes down: skipped, ~0tp~n", [Reason])
         end

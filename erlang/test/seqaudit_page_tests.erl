@@ -1,7 +1,8 @@
 %% The page, driven in headless chromium where there is one.
 -module(seqaudit_page_tests).
 
--export([chain_test_/0, hostile_test_/0, large_test_/0, reset_test_/0, pictures_test_/0, data_test/0]).
+-export([chain_test_/0, unreceived_test_/0, hostile_test_/0, large_test_/0, reset_test_/0, pictures_test_/0,
+         data_test/0, whole_test_/0, whole_text_test/0, limit_test_/0, most_test/0, damaged_messages_test/0]).
 
 chain_test_() ->
     {timeout, 180, fun() -> driven("chain", "chain", chain()) end}.
@@ -25,6 +26,21 @@ chain() ->
             [{7, {order, 7}}, {8, other}],
             [{0, {order, apple}}, {1, {take, apple}}, {2, {left, 7}}, {3, {done, 7}}, {4, last}],
             maps:from_list([{{list_to_binary(Pid), At}, Time} || {Pid, At, Time} <- Times])).
+
+%% Messages whose receives nobody reported.
+unreceived_test_() ->
+    {timeout, 180, fun() ->
+        driven("unreceived", "unreceived", audited("unreceived", "seqtrace 1\nprocess <0.1.0>\n"
+            "{seq_trace,7,{send,{0,1},<0.1.0>,<0.2.0>,0}}\n"
+            "{seq_trace,7,{send,{0,2},<0.1.0>,<0.3.0>,1}}\n"
+            "process <0.2.0>\n"
+            "{seq_trace,7,{print,{1,2},<0.2.0>,[],2}}\n"
+            "{seq_trace,7,{print,{1,3},<0.2.0>,[],3}}\n"
+            "process <0.3.0>\n"
+            "{seq_trace,7,{print,{0,1},<0.3.0>,[],4}}\n",
+            [{"<0.1.0>", "alice"}, {"<0.2.0>", "bob"}, {"<0.3.0>", "carol"}], [{7, {order, 7}}],
+            [{0, ask}, {1, tell}, {2, one}, {3, two}, {4, three}], #{}))
+    end}.
 
 audited(Name, Bundle, Names, Labels, Values, Times) ->
     File = seqaudit_audits:file(Name ++ ".terms"),
@@ -79,8 +95,107 @@ hostile() ->
     {ok, Legend} = seqaudit_legend:read(File),
     Audited#{legend := Legend}.
 
+%% Messages of 100,000 characters, as a node sends them and `convert' writes them, stand whole in the panel.
+whole_test_() ->
+    {timeout, 180, fun() -> driven("whole", "whole", long_messages("whole")) end}.
+
+%% A whole text is what Erlang prints: large binaries of all kinds, long texts, and more parts than a short text has.
+whole_text_test() ->
+    Many = fun(Bytes) -> binary:copy(Bytes, 700) end,
+    Terms = [Many(<<"a\"b\\c\n">>), Many(<<"\e\d">>), Many(<<"é"/utf8>>), Many(<<"é", 16#85/utf8>>), Many(<<200>>),
+             <<(Many(<<"é"/utf8>>))/binary, 200>>, Many(<<"a", 0>>), <<(Many(<<"a">>))/binary, 1:3>>,
+             {Many(<<"é"/utf8>>), lists:duplicate(5_000, $")}, lists:seq(1, 3_000), lists:seq(1, 2_000) ++ tail,
+             maps:from_list([{N, [N, 1.5, {}]} || N <- lists:seq(1, 32)]), lists:duplicate(999, x) ++ tail],
+    [begin
+         Printed = unicode:characters_to_binary(io_lib:format("~0tp", [Term])),
+         {Printed, _} = {seqaudit_terms:whole(seqaudit_external:from_term(Term), #{}), Term}
+     end || Term <- Terms].
+
+%% Of 240,000 characters 60,000 fit: the long messages are cut, the others are whole.
+limit_test_() ->
+    {timeout, 180, fun() ->
+        {ok, Page} = seqaudit_page:html(long_messages("limit"), <<>>, 60_000),
+        File = seqaudit_audits:file("limit.html"),
+        ok = file:write_file(File, Page),
+        drive("limit", File)
+    end}.
+
+%% What drive_page.py knows: two long texts with all that a page could take for more than text, numbers, bytes, a
+%% term that is deeper than a row shows, and a short one.
+long_messages(Name) ->
+    Messages = [{text, "</script><b>&\"'" ++ [27, 16#202E, 16#5E9, 16#1F600] ++ lists:duplicate(100_000, $x) ++ "end"},
+                {bytes, binary:copy(<<"<!-- y">>, 16_666)},
+                lists:seq(5_001_000, 5_004_999),
+                binary:copy(<<0, 255>>, 1_000),
+                lists:foldl(fun(_, Term) -> {Term} end, bottom, lists:seq(1, 60)),
+                {short, "..."}],
+    Events = [{seq_trace, 7, {print, {N, N + 1}, self(), [], Message}} || {N, Message} <- lists:enumerate(0, Messages)],
+    Bundle = seqaudit_audits:file(Name),
+    {ok, #{events := 6, files := Files}} = seqaudit_convert:files([#{node => node(), events => Events}], Bundle),
+    true = lists:member(Bundle ++ ".messages", Files),
+    8#600 = seqaudit_audits:mode(Bundle ++ ".messages"),
+    {ok, Legend} = seqaudit_legend:read(Bundle ++ ".terms"),
+    {ok, Streams} = seqaudit_bundle:read(Bundle ++ ".seqtrace"),
+    #{name => Bundle, legend => Legend, times => #{}, notes => [], cut => "", parts => [],
+      outcome => #{said => fits, streams => Streams, renumbered => false, tool => there, answer => <<>>}}.
+
+%% The longest texts are cut to the greatest length at which all fit, and none if they fit.
+most_test() ->
+    File = seqaudit_audits:file("most.messages"),
+    Lengths = [{<<"0">>, 10}, {<<"1">>, 500}, {<<"2">>, 30}, {<<"3">>, 400}],
+    ok = file:write_file(File, [seqaudit_messages:header(),
+                                [seqaudit_messages:entry(binary_to_integer(Value), text(Length))
+                                 || {Value, Length} <- Lengths]]),
+    TermsFile = seqaudit_audits:file("most.terms"),
+    ok = file:write_file(TermsFile, "seqaudit terms 1\n"),
+    {ok, Legend} = seqaudit_legend:read(TermsFile),
+    Values = [Value || {Value, _} <- Lengths],
+    Read = fun(Limit) ->
+                   {ok, Texts, Most} = seqaudit_messages:read(File, Values, Legend, Limit),
+                   Lengths = [{Value, Length} || {Value, {_, Length}} <- lists:sort(maps:to_list(Texts))],
+                   Kept = [string:length(element(1, maps:get(Value, Texts))) || Value <- Values],
+                   true = lists:all(fun(Value) ->
+                                            {Begin, Length} = maps:get(Value, Texts),
+                                            lists:prefix(unicode:characters_to_list(Begin),
+                                                         unicode:characters_to_list(text(Length)))
+                                    end, Values),
+                   {Most, Kept}
+           end,
+    {infinity, [10, 500, 30, 400]} = Read(940),
+    {499, [10, 499, 30, 400]} = Read(939),
+    {400, [10, 400, 30, 400]} = Read(840),
+    {399, [10, 399, 30, 399]} = Read(839),
+    {30, [10, 30, 30, 30]} = Read(100),
+    {5, [5, 5, 5, 5]} = Read(20).
+
+%% Characters of one to four bytes.
+text(Length) ->
+    unicode:characters_to_binary([lists:nth(K rem 4 + 1, [$a, 16#E9, 16#5E9, 16#1F600]) || K <- lists:seq(1, Length)]).
+
+%% A file of whole texts that is damaged is named, with the line.
+damaged_messages_test() ->
+    Audited = #{name := Name} = long_messages("damaged"),
+    {ok, Text} = file:read_file(Name ++ ".messages"),
+    [begin
+         ok = file:write_file(Name ++ ".messages", Damaged),
+         {error, Reason} = seqaudit_page:html(Audited, <<>>),
+         {_, _} = string:take(seqaudit_page:format_error(Reason), [$\n]),
+         true = string:find(seqaudit_page:format_error(Reason), Said) =/= nomatch
+     end || {Damaged, Said} <- [{<<"other">>, "damaged.messages, line 1, is no entry"}, {<<>>, "line 1"},
+                                {[Text, "value\t7\tcut"], "line 7, is no entry"},
+                                {[Text, "value\tno text\n"], "line 7, is no entry"}]].
+
+%% A hundred of its messages have 100,000 characters.
 large_test_() ->
-    {timeout, 300, fun() -> driven("large", "large", large(1000, 100_000)) end}.
+    {timeout, 300, fun() ->
+        Name = seqaudit_audits:file("large"),
+        ok = file:write_file(Name ++ ".messages",
+                             [seqaudit_messages:header(),
+                              [seqaudit_messages:entry(N, <<"{message,", (integer_to_binary(N))/binary, ",\"",
+                                                            (binary:copy(<<"x">>, 100_000))/binary, "\"}">>)
+                               || N <- lists:seq(5, 999, 10)]]),
+        driven("large", "large", (large(1000, 100_000))#{name := Name})
+    end}.
 
 pictures_test_() ->
     {timeout, 300, fun() ->

@@ -1,19 +1,23 @@
 %% A second node on this machine, and waiting for what happens there.
 -module(seqaudit_test_nodes).
 
--export([start/0, until/1, on_disk/2, met/2, is_traced/1, print_when_traced/1, peak/1]).
+-export([start/0, start/1, until/1, on_disk/2, met/2, is_traced/1, print_when_traced/1, peak/1]).
 
 %% A machine that is busy takes a while for what is done at once otherwise.
 -define(DEADLINE_MS, 30_000).
 
 %% Returns how to stop it and what it is called; this node's name comes before it.
 start() ->
+    start([]).
+
+%% The same of a node with these arguments too.
+start(Arguments) ->
     Id = os:getpid(),
     case named("seqaudit_a_" ++ Id ++ "@localhost", deadline()) of
         {ok, _} ->
             Options = #{name => list_to_atom("seqaudit_b_" ++ Id), host => "localhost",
                         connection => standard_io,
-                        args => ["-setcookie", atom_to_list(erlang:get_cookie())]},
+                        args => ["-setcookie", atom_to_list(erlang:get_cookie()) | Arguments]},
             {ok, Peer, Node} = peer:start(Options),
             true = net_kernel:connect_node(Node),
             {_, Binary, File} = code:get_object_code(seqaudit_test_server),

@@ -2,7 +2,7 @@
 -module(seqaudit_trace_tests).
 
 -export([fitting_test_/0, term_labels_test/0, registered_names_test/0,
-         initial_call_test/0, timestamps_test/0,
+         initial_call_test/0, timestamps_test/0, same_name_test/0,
          full_collector_test/0, former_tracer_is_put_back_test/0,
          former_tracer_is_gone_test/0, second_tracer_stays_test/0,
          owner_ends_test/0, collector_stays_out_test/0, token_is_taken_off_test/0,
@@ -113,8 +113,26 @@ timestamps_test() ->
     seqaudit_trace:with_trace(1, [monotonic_timestamp | ?FLAGS],
                               fun() -> gen_server:call(Server, hello) end),
     {ok, #{events := 4, dropped := 0, notes := Notes}} = seqaudit_trace:stop(),
-    true = lists:member("4 timestamps were left out", Notes),
-    ok_or_skipped(seqaudit_audits:fits(seqaudit_audits:file("timestamps"))).
+    [] = [Note || Note <- Notes, string:find(Note, "timestamp") =/= nomatch],
+    File = seqaudit_audits:file("timestamps"),
+    {ok, #{events := Times}} = seqaudit_times:read(File ++ ".times"),
+    4 = map_size(Times),
+    ok_or_skipped(seqaudit_audits:fits(File)).
+
+%% What belongs to an earlier trace of the same name doesn't stay beside a new one.
+same_name_test() ->
+    Name = seqaudit_audits:file("same_name"),
+    Traced = fun(Flags) ->
+                 ok = seqaudit_trace:start(#{name => Name}),
+                 seqaudit_trace:with_trace(1, Flags, fun() -> seq_trace:print(x) end),
+                 {ok, _} = seqaudit_trace:stop()
+             end,
+    Traced([print, timestamp]),
+    Answers = [Name ++ ".answer" | [seqaudit_convert:part_answer(Name, Part) || Part <- [1, 2]]],
+    [ok = file:write_file(File, "of the earlier trace") || File <- Answers],
+    true = filelib:is_regular(Name ++ ".times"),
+    Traced([print]),
+    [] = [File || File <- [Name ++ ".times" | Answers], filelib:is_regular(File)].
 
 full_collector_test() ->
     Name = seqaudit_audits:file("full"),

@@ -3,11 +3,12 @@
 
     slow_seqaudit.py audit | check | chart --label N    < BUNDLE
 
-It answers what `seqaudit` answers, in the same words and with the same status, on every text that is
+It writes what `seqaudit` writes, in the same words and with the same status, for every text that is
 a bundle. It has no limits and names the refusals of the reader only as `fault line N`.
 """
 
 import re
+import signal
 import sys
 from dataclasses import dataclass, field, replace
 
@@ -477,6 +478,8 @@ def answer(words, text):
 
 
 def main():
+    # What reads the output may end first, as `head` does.
+    signal.signal(signal.SIGPIPE, signal.SIG_DFL)
     lines, status = answer(sys.argv[1:], sys.stdin.read())
     sys.stdout.writelines(line + "\n" for line in lines)
     sys.exit(status)

@@ -7,6 +7,7 @@
 tries no other choice: where that leaves a need without a sender, it says `open`.
 """
 
+import signal
 import sys
 from collections import defaultdict
 from dataclasses import dataclass, replace
@@ -250,6 +251,8 @@ def report(streams, unfit):
 
 
 def main():
+    # What reads the output may end first, as `head` does.
+    signal.signal(signal.SIGPIPE, signal.SIG_DFL)
     lines, status = answer(sys.argv[1:], sys.stdin.read())
     sys.stdout.writelines(line + "\n" for line in lines)
     sys.exit(status)
