@@ -3,7 +3,8 @@
 //! `model runs SEED COUNT` writes traces of runs without a reset, with reports dropped; `model small
 //! SEED COUNT` writes small streams of any kind. Each is one line of numbers for the driver. `model judge KIND
 //! TRACES ANSWERS` reads both and says what doesn't agree: of `runs` a `never`; of `small` each answer, against a
-//! search through all runs of up to the greatest count that the streams have. It counts the answers.
+//! search through all runs of up to the greatest count that the streams have. It counts the answers, those that are
+//! `open` by whether some stretch has two scarce prevs.
 
 use std::collections::HashSet;
 use std::fs::File;
@@ -349,6 +350,51 @@ fn hides(streams: &Streams) -> bool {
     })
 }
 
+// STRETCHES WITH TWO SCARCE PREVS
+
+/// The stamps of a process that are reported or whose message is received, by count, and whether each is reported.
+fn stamps(streams: &Streams, p: usize) -> Vec<(bool, Event)> {
+    let mut all: Vec<(bool, Event)> = streams[p].iter().filter(|e| e.kind != RECEIVE).map(|e| (true, *e)).collect();
+    let hidden = |e: &&Event| {
+        e.kind == RECEIVE && e.other == p && !streams[p].iter().any(|f| f.kind != RECEIVE && f.this == e.this)
+    };
+    all.extend(streams.iter().flatten().filter(hidden).map(|e| (false, *e)));
+    all.sort_by_key(|stamp| stamp.1.this);
+    all
+}
+
+/// Whether too few messages of this count are left if each stamp with this prev needs one.
+fn is_scarce(streams: &Streams, prev: u64) -> bool {
+    let taken = |q: usize| streams.iter().flatten().any(|e| e.kind == RECEIVE && e.other == q && e.this == prev);
+    let stamp = |q: usize| streams[q].iter().find(|e| e.kind != RECEIVE && e.this == prev);
+    let (mut free, mut wanted) = (0, 0);
+    for p in 0..streams.len() {
+        let own = |q: &usize| !taken(*q) && stamp(*q).is_some_and(|e| e.kind == SEND && e.other == p);
+        let needs = stamps(streams, p).iter().filter(|s| s.1.prev == prev).count();
+        wanted += needs.saturating_sub((0..streams.len()).filter(own).count());
+        free += usize::from(!taken(p) && stamp(p).is_none());
+    }
+    wanted > free
+}
+
+fn has_two_scarce(streams: &Streams) -> bool {
+    (0..streams.len()).any(|p| {
+        let mut here = HashSet::new();
+        for (reported, e) in stamps(streams, p) {
+            if e.prev > 0 && is_scarce(streams, e.prev) {
+                here.insert(e.prev);
+            }
+            if here.len() > 1 {
+                return true;
+            }
+            if reported {
+                here.clear();
+            }
+        }
+        false
+    })
+}
+
 fn judge(kind: &str, traces: &str, answers: &str) -> io::Result<()> {
     let traces = BufReader::new(File::open(traces)?).lines();
     let answers = BufReader::new(File::open(answers)?).lines();
@@ -387,7 +433,9 @@ fn judge(kind: &str, traces: &str, answers: &str) -> io::Result<()> {
                         complaint = "never, but the search finds a run".to_string();
                     }
                     if words[0] == "open" {
-                        name = format!("open, and there is {} run", if has { "a" } else { "no" });
+                        let two = if has_two_scarce(&streams) { "a" } else { "no" };
+                        let run = if has { "a" } else { "no" };
+                        name = format!("open, {two} stretch with two scarce prevs, and there is {run} run");
                     }
                 }
             }

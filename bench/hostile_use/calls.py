@@ -1,5 +1,5 @@
-"""Refused growths of library calls: each test that promises to hold where a growth is refused, in a process of its own
-in which the Nth growth is refused, for N = 1, 2, .. until a run meets no refusal."""
+"""Memory that runs out in library calls: each test that promises to hold then, in a process of its own in which the Nth
+request for memory is refused, for N = 1, 2, .. until a run meets no refusal."""
 
 import os
 import re
@@ -7,16 +7,16 @@ import shutil
 import subprocess
 from pathlib import Path
 
-from .growths import MOST_GROWTHS
+from .memory import MOST_REQUESTS
 from .program import Check
 from .shim import SAID
 
 CRATES = Path(__file__).parents[2] / "crates"
-# A call answers want of memory or is right, and is right when it is asked again. The other tests want memory.
+# A call says that memory ran out or is right, and is right when it is asked again. The other tests need memory.
 HOLDS = re.compile(r"refused_growth|without_memory|machine::refused::|reads::|^runtime::")
 # Twenty drives, of which another test makes one; counts of what a gate was told, to which an act adds when it is asked
-# again; and a sink that itself refuses.
-BUT = re.compile(r"four_busy_scripts|a_gate_is_told|a_sink_without_memory")
+# again; a sink that itself refuses; and thousands of requests for 200 logs, of which another test fills one.
+BUT = re.compile(r"four_busy_scripts|a_gate_is_told|a_sink_without_memory|two_thousand_resets")
 ENDED = b"test result: ok"
 
 
@@ -53,27 +53,27 @@ def names_of(program):
 
 
 def run(program, library, name, n):
-    """Whether the test held where its Nth growth was refused, and whether one was."""
-    env = os.environ | {"LD_PRELOAD": library, "REFUSE_GROWTH": str(n)}
+    """Whether the test held as its Nth request was refused, and whether one was."""
+    env = os.environ | {"LD_PRELOAD": library, "REFUSE_REQUEST": str(n)}
     ran = subprocess.run([program, name], env=env, stdin=subprocess.DEVNULL, stdout=subprocess.PIPE,
                          stderr=subprocess.PIPE, timeout=600)
     return ran.returncode == 0 and ENDED in ran.stdout, SAID in ran.stderr
 
 
 def each_refused(library, crate):
-    """The Nth growth is refused in each test of this crate that promises to hold."""
+    """The Nth request is refused in each test of this crate that promises to hold."""
     program, complaint = build(crate)
     yield Check(f"calls: {crate}: its tests hold without refusals", complaint)
     names = [] if complaint else names_of(program)
     for name in names:
         refused = 0
-        for n in range(1, MOST_GROWTHS):
+        for n in range(1, MOST_REQUESTS):
             held, came = run(program, library, name, n)
-            yield Check(f"calls: {crate}: {name}: growth {n}", None if held else "the test failed")
+            yield Check(f"calls: {crate}: {name}: request {n}", None if held else "the test failed")
             if not came:
                 break
             refused += 1
         else:
-            yield Check(f"calls: {crate}: {name}: an end", f"growth {MOST_GROWTHS - 1} was refused too")
-        yield Check(f"calls: {crate}: {name}: some growth was refused", None if refused else "none was",
-                    note=f"{refused} growths were refused")
+            yield Check(f"calls: {crate}: {name}: an end", f"request {MOST_REQUESTS - 1} was refused too")
+        yield Check(f"calls: {crate}: {name}: some request was refused", None if refused else "none was",
+                    note=f"{refused} requests were refused")

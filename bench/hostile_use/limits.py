@@ -118,6 +118,6 @@ def measured(program, cases, seconds):
         note = f"{' '.join(words)}, {len(text) / 1e6:.1f} MB in, {len(got.output) / 1e6:.1f} MB out: " \
                f"{taken:.2f} s, peak {megabytes} MB"
         if got.status == -9:
-            yield Check(f"limits: {name}", f"no answer in {seconds} s", note)
+            yield Check(f"limits: {name}", f"no output in {seconds} s", note)
         else:
             yield expect(f"limits: {name}", wanted, got, text, note)

@@ -1,4 +1,4 @@
-"""What the program has to answer, by slow readings of `docs/FORMATS.md` and of the rules: the reader's first refusal,
+"""What the program has to write, by slow readings of `docs/FORMATS.md` and of the rules: the reader's first refusal,
 and what the slow auditor of `erlang/test` says of a text that has none."""
 
 import importlib.util
@@ -29,7 +29,7 @@ def pattern(shape):
 
 
 def pids_of(line, shapes):
-    """The shape of a line and the pids that it names, or None where it has none of these shapes."""
+    """The shape of a line and the pids that it names, or None if it has none of these shapes."""
     for shape in shapes:
         if found := pattern(shape).fullmatch(line):
             kinds, pids = re.findall("%(.)", shape), []
@@ -106,7 +106,7 @@ def replayed(text):
 
 
 def expected(words, text):
-    """The answer that each command but `drive` owes the bytes; of `drive` only where it refuses them."""
+    """What each command but `drive` has to write of the bytes; of `drive` only if it refuses them."""
     fault = first_fault(text)
     if fault is None and words[0] in ("check", "replay", "drive") and b"\nacts\n" not in text:
         fault = "no acts"

@@ -14,7 +14,7 @@ COMMANDS = (("check",), ("audit",), ("replay",), ("drive",), ("chart", "--label"
 
 @dataclass(frozen=True)
 class Check:
-    """A named check: `problem` is None where it passed. A note is printed with it. A skipped check is neither."""
+    """A named check: `problem` is None if it passed. A note is printed with it. A skipped check is neither."""
 
     name: str
     problem: str | None = None

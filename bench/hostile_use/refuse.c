@@ -1,6 +1,6 @@
-/* Refuses a growth, or fails a read or a write, of the program that it is loaded into by LD_PRELOAD, and says
+/* Refuses memory, or fails a read or a write, of the program that it is loaded into by LD_PRELOAD, and says
  * `refused` on standard error when it does. The environment tells which:
- *   REFUSE_GROWTH=N   the Nth request for memory or for a thread; with REFUSE_REST=1 all later ones too
+ *   REFUSE_REQUEST=N  the Nth request for memory or for a thread; with REFUSE_REST=1 all later ones too
  *   REFUSE_THREAD=N   the Nth request for a thread; with REFUSE_REST=1 all later ones too
  *   FAIL_READ=K       the first read of standard input after K bytes fails, and later ones work
  *   FAIL_WRITE=K      the first write to standard output after K bytes fails, and later ones work
@@ -19,8 +19,8 @@
 extern void *__libc_malloc(size_t), *__libc_calloc(size_t, size_t), *__libc_realloc(void *, size_t);
 extern void *__libc_memalign(size_t, size_t);
 
-static long growth, thread, rest, fail_read = -1, fail_write = -1, take_nothing = -1, pieces;
-static long growths, threads, read_so_far, written_so_far;
+static long request, thread, rest, fail_read = -1, fail_write = -1, take_nothing = -1, pieces;
+static long requests, threads, read_so_far, written_so_far;
 
 static long number_of(const char *name, long otherwise) {
     const char *text = getenv(name);
@@ -33,7 +33,7 @@ __attribute__((constructor)) static void begin(void) {
     fail_write = number_of("FAIL_WRITE", -1);
     take_nothing = number_of("TAKE_NOTHING", -1);
     pieces = number_of("PIECES", 0);
-    growth = number_of("REFUSE_GROWTH", 0);
+    request = number_of("REFUSE_REQUEST", 0);
     thread = number_of("REFUSE_THREAD", 0);
 }
 
@@ -52,7 +52,7 @@ static int refuses(long number, long *so_far) {
     return 1;
 }
 
-static int refused(void) { return refuses(growth, &growths); }
+static int refused(void) { return refuses(request, &requests); }
 
 void *malloc(size_t size) { return refused() ? NULL : __libc_malloc(size); }
 void *calloc(size_t count, size_t size) { return refused() ? NULL : __libc_calloc(count, size); }

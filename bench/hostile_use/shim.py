@@ -1,4 +1,4 @@
-"""The library `refuse.c`, built where there is a C compiler, and runs of the program with it."""
+"""The library `refuse.c`, built if there is a C compiler, and runs of the program with it."""
 
 import os
 import shutil
@@ -11,7 +11,7 @@ SAID = b"refused\n"
 
 
 def build(folder):
-    """The path of the library, or None where nothing here compiles C."""
+    """The path of the library, or None if nothing here compiles C."""
     compiler = shutil.which("cc") or shutil.which("gcc") or shutil.which("clang")
     if compiler is None:
         return None
@@ -22,8 +22,8 @@ def build(folder):
 
 
 def run(program, library, words, given, seconds=30, **faults):
-    """The answer under these faults within so many seconds, and whether one came; what the library says of it isn't
-    part of the answer."""
+    """The output under these faults within so many seconds, and whether one came; what the library says of it isn't
+    part of the output."""
     env = {"LD_PRELOAD": library} | {name.upper(): str(value) for name, value in faults.items()}
     got = program.run(words, given, env=env, seconds=seconds)
     came = got.complaint.startswith(SAID)

@@ -70,7 +70,7 @@ def texts():
 
 
 def answered(program, words, part, parts):
-    """Of each changed text the answer; where `audit` says fits, what it wrote has to be a yes of `check`."""
+    """What comes of each changed text; if `audit` says fits, what it wrote has to be a yes of `check`."""
     for what, text in list(texts())[part::parts]:
         called = f"tampering: {' '.join(words)}: {what}"
         got = program.run(words, text)
