@@ -30,7 +30,7 @@ try: bin/quick/seqaudit ## runs the unproved seqaudit: COMMAND=.. FILE=.. (at on
 	@echo 'An unproved run: "make program" proves seqaudit.' >&2
 	@bin/quick/seqaudit $(COMMAND) < $(FILE)
 
-program: ## proves both programs and all below them, and builds them in bin/ (26 minutes; after an edit less)
+program: ## proves both programs and all below them, and builds them in bin/ (22 minutes, beside other work; after an edit less)
 	@.ci/prove $(PROGRAMS)
 	@$(MAKE) --no-print-directory $(PROGRAMS:%=bin/%)
 
@@ -63,8 +63,8 @@ test: layout layers docs ## the merge gate: all proofs from nothing, the wrong b
 layout: ## names the sources that rt fmt would lay out otherwise (3 seconds)
 	@.ci/layout
 
-# What a crate's proofs cite of another crate's proofs is its module of lemmas for callers alone.
-layers: ## looks which proofs cite another crate's (1 second)
+# A crate cites of another crate's proofs its lemmas for callers alone, and none of its definitions for the parts alone.
+layers: ## looks what each crate cites of the others (1 second)
 	@.ci/layers
 
 docs: ## holds names, links and counts in the docs to the sources (2 seconds)
@@ -83,7 +83,7 @@ test-program: ## the programs that were built last: examples/, random traces, a 
 	else echo "There is no python3 here: seqtool's words and the faults are skipped."; fi
 
 # Traces of a real Erlang node, if there is one, by the program that was built last.
-test-erlang: ## the tests of erlang/, with the program that was built last (1 minute; needs erl)
+test-erlang: ## the tests of erlang/, with the programs that were built last (3 to 5 minutes; needs erl)
 	@if command -v erl >/dev/null; then SEQAUDIT=$(BUILT) SEQTOOL=$(BUILT_TOOL) $(MAKE) --no-print-directory -C erlang test; \
 	else echo "There is no erl here (Debian's erlang-base): the Erlang tests are skipped."; fi
 

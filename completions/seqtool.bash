@@ -1,10 +1,16 @@
 # Completion of seqtool's and seqaudit's words in bash.
 
 _seqtool() {
-    local word=${COMP_WORDS[COMP_CWORD]} command=${COMP_WORDS[1]}
+    local word=${COMP_WORDS[COMP_CWORD]} before=${COMP_WORDS[COMP_CWORD-1]} command=${COMP_WORDS[1]}
+    # Bash takes `--as=acts` for three words.
+    if [ "$before" = = ]; then
+        before=${COMP_WORDS[COMP_CWORD-2]}
+    elif [ "$word" = = ]; then
+        word=
+    fi
     if [ "$COMP_CWORD" -eq 1 ]; then
         mapfile -t COMPREPLY < <(compgen -W "audit complete why lint check explain renumber --help --version" -- "$word")
-    elif [ "$command" = complete ] && [ "${COMP_WORDS[COMP_CWORD-1]}" = --as ]; then
+    elif [ "$command" = complete ] && [ "$before" = --as ]; then
         mapfile -t COMPREPLY < <(compgen -W "added streams acts" -- "$word")
     elif [ "$command" = complete ] && [ "${word#-}" != "$word" ]; then
         mapfile -t COMPREPLY < <(compgen -W "--as --help" -- "$word")
@@ -15,14 +21,17 @@ _seqtool() {
     fi
 }
 
+# It names no file: the bundle comes on standard input, behind a `<`.
 _seqaudit() {
-    local word=${COMP_WORDS[COMP_CWORD]}
+    local word=${COMP_WORDS[COMP_CWORD]} before=${COMP_WORDS[COMP_CWORD-1]}
     if [ "$COMP_CWORD" -eq 1 ]; then
         mapfile -t COMPREPLY < <(compgen -W "audit check chart replay drive" -- "$word")
+    elif [[ $before == [\<\>]* ]]; then
+        mapfile -t COMPREPLY < <(compgen -f -- "$word")
     elif [ "${COMP_WORDS[1]}" = chart ] && [ "$COMP_CWORD" -eq 2 ]; then
         mapfile -t COMPREPLY < <(compgen -W "--label" -- "$word")
     fi
 }
 
 complete -o filenames -F _seqtool seqtool
-complete -F _seqaudit seqaudit
+complete -o filenames -F _seqaudit seqaudit
