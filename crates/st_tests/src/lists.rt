@@ -184,8 +184,8 @@ fn values_that_cannot_be_copied_change_where_they_are(rt: HostRuntime) -> Result
     Ok(())
 }
 
-// Two empty lists. If memory runs out, the second try succeeds.
-fn two_at_last(alloc: Global) -> Result<Lists<u64>, AllocError>
+/// Two empty lists. If memory runs out, the second try succeeds.
+pub fn two_at_last(alloc: Global) -> Result<Lists<u64>, AllocError>
     ensures { IfOk result (λ arena. length arena.lists ≡ 2) }
 {
     match Lists::new(alloc, 2) {

@@ -4,6 +4,7 @@
 ghost use Rattle.std.specs.Prelude.{◌≡◌, ◌<◌, length, IfOk};
 
 use crate::collected::{same, same_at};
+use crate::lists::two_at_last;
 use st_arena::Lists;
 use std::alloc::{AllocError, Global};
 use std::process::Abort;
@@ -152,8 +153,10 @@ fn half_a_million_items_leave_from_the_middle(rt: HostRuntime) -> Result<(), Fai
 // refused, if this test runs with an allocation that fails.
 #[test]
 fn a_list_without_memory_for_a_ladder_has_its_items(rt: HostRuntime) -> Result<(), Fail> {
-    let mut lists = Lists::new(rt.alloc(), 2)?;
-    lists.reserve(1000)?;
+    let mut lists = two_at_last(rt.alloc())?;
+    if lists.reserve(1000).is_err() {
+        lists.reserve(1000)?;
+    }
     fill(&rt, &mut lists, 500);
     for item in 0..300 {
         same_at(&rt, item, &lists.take_at(1, 100), &Some(100 + item));
