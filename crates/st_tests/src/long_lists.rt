@@ -157,14 +157,14 @@ fn a_list_without_memory_for_a_ladder_has_its_items(rt: HostRuntime) -> Result<(
     if lists.reserve(1000).is_err() {
         lists.reserve(1000)?;
     }
-    fill(&rt, &mut lists, 500);
+    fill(&rt, &mut lists, 1000);
     for item in 0..300 {
-        same_at(&rt, item, &lists.take_at(1, 100), &Some(100 + item));
+        same_at(&rt, item, &lists.take_at(1, 400), &Some(400 + item));
     }
     fill(&rt, &mut lists, 300);
     for item in 0..300 {
-        same_at(&rt, item, &lists.get(1, 200 + item).copied(), &Some(item));
+        same_at(&rt, item, &lists.get(1, 700 + item).copied(), &Some(item));
     }
-    same(&rt, &lists.get(1, 150).copied(), &Some(450));
+    same(&rt, &lists.get(1, 450).copied(), &Some(750));
     Ok(())
 }
