@@ -25,8 +25,8 @@ use Rattle.st_check.proofs.Verdicts.{Rises, stream_rises}
 use Rattle.st_core.proofs.ForCallers.{run_sound}
 use Rattle.std.proofs.lemmas.List.Elements.{All-map}
 use Rattle.st_check.specs.Recorded.{IsReplayedTo, with_reported}
-use Rattle.st_check.proofs.Appended.{length-run, run-append, state_from-append}
-use Rattle.st_check.proofs.Passing.{state_pids, stream_other, stream_silent, stream_own}
+use Rattle.st_check.proofs.OneMoreAct.{length-run, run-append, state_from-append}
+use Rattle.st_check.proofs.PassedActs.{state_pids, stream_other, stream_silent, stream_own}
 use Rattle.st_core.proofs.ForCallers.{zero_pids}
 use Rattle.st_core.proofs.ForCallers.{process_among}
 

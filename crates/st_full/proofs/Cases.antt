@@ -34,7 +34,7 @@ use Rattle.st_full.specs.Reasons.{Late, StandsAgainst, TooHigh, Unfounded, Unsen
 use Rattle.st_full.specs.Renumbering.{count_of_rank, counts_of, renumbered_streams, with_counts}
 use Rattle.st_full.specs.Supply.{excess, is_free}
 use Rattle.st_full.specs.Wholes.{wholes_of}
-use Rattle.st_full.proofs.Against.{shown_nothing}
+use Rattle.st_full.proofs.ReasonsOfCompletions.{shown_nothing}
 use Rattle.st_full.proofs.Plainness.{full_plain}
 
 abbrev a : Pid

@@ -16,7 +16,7 @@ use Rattle.st_plan.specs.Marks.{Marked, told_events}
 use Rattle.st_plan.proofs.ForCallers.{take_more}
 use Rattle.st_full.specs.Needs.{is_need, IsFed}
 use Rattle.st_full.specs.Supply.{needs_from}
-use Rattle.st_full.proofs.Fed.{told_push}
+use Rattle.st_full.proofs.FedNeeds.{told_push}
 
 -- an untold receive of this count
 abbrev pub feeds : ℕ → Marked → Bool

@@ -32,11 +32,11 @@ use Rattle.st_full.specs.HiddenSends.{placings, smallest}
 use Rattle.st_full.specs.Scarce.{is_scarce}
 use Rattle.st_full.specs.Stretches.{AsksForScarce, HasBestForScarce, HasNoTwoScarce}
 use Rattle.st_full.specs.Supply.{excess, is_free, is_own_supply, needs, needs_from}
-use Rattle.st_full.proofs.Choosing.{exactly_chosen}
+use Rattle.st_full.proofs.Choices.{exactly_chosen}
 use Rattle.st_full.proofs.Leasts.{Among, frees, owns, placed, smallest_low}
-use Rattle.st_full.proofs.Starting.{timely_from}
+use Rattle.st_full.proofs.ReasonlessStreams.{timely_from}
 use Rattle.st_full.proofs.StampsTold.{told_zeros_final}
-use Rattle.st_full.proofs.Untold.{first_of, hidden_is, same_pids}
+use Rattle.st_full.proofs.UntoldEvents.{first_of, hidden_is, same_pids}
 
 abbrev a : Pid
 a = pid_on 0 30

@@ -25,16 +25,16 @@ use Rattle.st_full.specs.FinalReasons.{Unfounded, Unsent}
 use Rattle.st_full.specs.HiddenSends.{are_timely, hidden_sends, least, mixes, placings, smallest}
 use Rattle.st_full.specs.Needs.{HoldsOfNone, is_late, marked_of}
 use Rattle.st_full.specs.Supply.{excess, is_free, is_own_supply, IsSupplied, needs, needs_from}
-use Rattle.st_full.proofs.Asking.{HasStamp, IsTaken, none_stamped, stamp_if, stamp_is, stamp_passes, taken_alike}
-use Rattle.st_full.proofs.Choosing.{exactly_chosen, mark_at, send_stamps, told_somewhere}
-use Rattle.st_full.proofs.Deciding.{no_reason}
-use Rattle.st_full.proofs.Fed.{events}
-use Rattle.st_full.proofs.Feeding.{AreTimely}
-use Rattle.st_full.proofs.Good.{any_event, free_is, sends_to}
+use Rattle.st_full.proofs.Lookups.{HasStamp, IsTaken, none_stamped, stamp_if, stamp_is, stamp_passes, taken_alike}
+use Rattle.st_full.proofs.Choices.{exactly_chosen, mark_at, send_stamps, told_somewhere}
+use Rattle.st_full.proofs.Decision.{no_reason}
+use Rattle.st_full.proofs.FedNeeds.{events}
+use Rattle.st_full.proofs.EventsBefore.{AreTimely}
+use Rattle.st_full.proofs.GoodStreams.{any_event, free_is, sends_to}
 use Rattle.st_full.proofs.Needs.{events_all, events_told}
-use Rattle.st_full.proofs.Starting.{founded_at, timely_from}
-use Rattle.st_full.proofs.Untold.{fit, rising, same_pids, stamp_all, taken_all, untold_events, untold_got}
-use Rattle.st_full.proofs.Untold.{untold_hidden, untold_mark, untold_sends}
+use Rattle.st_full.proofs.ReasonlessStreams.{founded_at, timely_from}
+use Rattle.st_full.proofs.UntoldEvents.{fit, rising, same_pids, stamp_all, taken_all, untold_events, untold_got}
+use Rattle.st_full.proofs.UntoldEvents.{untold_hidden, untold_mark, untold_sends}
 
 -- AMONG LISTS
 

@@ -19,15 +19,15 @@ use Rattle.st_order.specs.Items.{greatest}
 use Rattle.st_order.proofs.ForCallers.{all_found, AreFound}
 use Rattle.st_full.specs.Completion.{count_of, supplies, supplies_below, supplies_of, Supply}
 use Rattle.st_full.specs.Supply.{is_free, IsSupplied, needs, needs_from}
-use Rattle.st_full.proofs.Asking.{unlisted_events}
-use Rattle.st_full.proofs.Meeting.{need_low}
-use Rattle.st_full.proofs.Sending.{IsServed}
-use Rattle.st_full.proofs.Serving.{AllApart, Apart, differs, IsReady}
-use Rattle.st_full.proofs.Sharing.{all_apart, all_both, all_filter, all_map, all_parts, apart_both, count_all, different_filter}
-use Rattle.st_full.proofs.Sharing.{IsPart, no_supplies, passes_filter}
-use Rattle.st_full.proofs.Shown.{lists_among}
-use Rattle.st_full.proofs.Starting.{need_of}
-use Rattle.st_full.proofs.Taking.{AsMany, is_for, one_if}
+use Rattle.st_full.proofs.Lookups.{unlisted_events}
+use Rattle.st_full.proofs.MetNeeds.{need_low}
+use Rattle.st_full.proofs.InsertedSends.{IsServed}
+use Rattle.st_full.proofs.CompletionSends.{AllApart, Apart, differs, IsReady}
+use Rattle.st_full.proofs.Senders.{all_apart, all_both, all_filter, all_map, all_parts, apart_both, count_all, different_filter}
+use Rattle.st_full.proofs.Senders.{IsPart, no_supplies, passes_filter}
+use Rattle.st_full.proofs.ShownStreams.{lists_among}
+use Rattle.st_full.proofs.ReasonlessStreams.{need_of}
+use Rattle.st_full.proofs.CompletionReceives.{AsMany, is_for, one_if}
 
 -- THE GREATEST COUNT
 

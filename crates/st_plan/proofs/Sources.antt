@@ -26,12 +26,12 @@ use Rattle.st_order.proofs.ForCallers.{hidden_receives, tallest_has}
 use Rattle.st_plan.specs.Marks.{Marks}
 use Rattle.st_plan.specs.Moves.{Move, move_by}
 use Rattle.st_plan.specs.Build.{quiet}
-use Rattle.st_plan.proofs.Taking.{IsWaiting}
-use Rattle.st_plan.proofs.Along.{IsAt, IsKeyBelow}
-use Rattle.st_plan.proofs.Rising.{height_is, height_more, height_of, hidden_by, rank_of, source_by, IsTop}
+use Rattle.st_plan.proofs.Receives.{IsWaiting}
+use Rattle.st_plan.proofs.EarlierMoves.{IsAt, IsKeyBelow}
+use Rattle.st_plan.proofs.RisingStamps.{height_is, height_more, height_of, hidden_by, rank_of, source_by, IsTop}
 use Rattle.st_plan.proofs.Clocks.{HasCome, IsBelow}
-use Rattle.st_plan.proofs.Waiting.{is_waiting, Fits, IsSendTo}
-use Rattle.st_plan.proofs.Matching.{matched_send, same_place, untaken}
+use Rattle.st_plan.proofs.WaitingMessages.{is_waiting, Fits, IsSendTo}
+use Rattle.st_plan.proofs.MatchedSends.{matched_send, same_place, untaken}
 
 -- KINDS
 

@@ -9,7 +9,7 @@ use Rattle.st_plan.specs.Build.{tracers_after}
 use Rattle.st_plan.specs.Marks.{all_told}
 use Rattle.st_plan.specs.Reasons.{too_wide, uncaused}
 use Rattle.st_plan.proofs.ForCallers.{only_whole}
-use Rattle.st_audit.proofs.Ending.{holds_there, last_within, place_there, too_wide_halt, uncaused_halt}
+use Rattle.st_audit.proofs.Halts.{holds_there, last_within, place_there, too_wide_halt, uncaused_halt}
 use Rattle.st_audit.specs.Construction.{IsFoundAt, Judged}
 use Rattle.st_audit.specs.declared.construction.Halt.TheVariants as halt
 use Rattle.st_audit.specs.declared.finding.Finding.TheVariants as finding

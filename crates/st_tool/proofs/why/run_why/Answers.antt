@@ -2,7 +2,7 @@
 use Rattle.st_text.specs.Contents.{contents}
 use Rattle.st_commands.specs.Output.{refused}
 use Rattle.st_tool.specs.Why.{IsWhy, Faulty}
-use Rattle.st_tool.proofs.Telling.{owes_fault, owes_why, was_read}
+use Rattle.st_tool.proofs.Deliveries.{owes_fault, owes_why, was_read}
 use Rattle.st_tool.proofs.why.run_why.Goals as goal
 
 pub returns-in-Ok : goal.returns-in-Ok

@@ -7,8 +7,8 @@ use Rattle.st_core.specs.declared.types.Want.TheVariants as want
 use Rattle.st_mail.specs.declared.outcome.Outcome.{Outcome as Told}
 use Rattle.st_plan.specs.Build.{ready, start_of}
 use Rattle.st_audit.specs.Progress.{if_told, StampsEvent, RanTo}
-use Rattle.st_audit.proofs.Running.{follow}
-use Rattle.st_audit.proofs.Acting.{last_reports, ok_both, print_acts, receive_acts, send_acts, stamp_reports}
+use Rattle.st_audit.proofs.Runs.{follow}
+use Rattle.st_audit.proofs.MoveActs.{last_reports, ok_both, print_acts, receive_acts, send_acts, stamp_reports}
 use Rattle.st_audit.proofs.construction.Construction.act.Goals as goal
 
 pub returns-in-Receive-clause-follows : goal.returns-in-Receive-clause-follows
