@@ -99,7 +99,7 @@ stuck_later top s t xs ys before mid halt.Stopped now ran put stuck = (
 
 -- THE ATTEMPT
 
--- acts that no reason stands against
+-- the acts of an item of which no reason holds
 pub attempted : (top : ℕ) (s : State) (one two : Bool) (plan : Option (List Act)) (acts : List Act)
     (o : Option (List Outcome))
     → one ≡ false → two ≡ false → plan ≡ Some acts → run_from top s acts ≡ o

@@ -1,5 +1,5 @@
--- The finding that plain streams determine is a certificate: no reason stands against an item, its acts run and its
--- event is the last of what they report, so the construction goes through, and its acts show the streams.
+-- The finding that plain streams determine is a certificate: no reason holds of an item, its acts run and its event is
+-- the last of what they report, so the construction goes through, and its acts show the streams.
 use Rattle.std.proofs.Common.{◌≡◌, ◌⊎◌, ℕ, ◌+◌, ◌<◌, ◌≤◌, ◌==◌, ◌&&◌, nat_lt, zero, suc, true, false, not}
 use Rattle.std.proofs.Common.{cond, List, []}
 use Rattle.std.proofs.Common.{◌-◌, ◌∷◌, ◌++◌, reverse, take, drop, length, get_or, Option, Some, None}

@@ -31,9 +31,11 @@ use Rattle.st_plan.specs.Reasons.{most_skipped, most_skipped_in_all, too_wide, u
 use Rattle.st_plan.specs.Build.{ready, start_of}
 use Rattle.st_audit.specs.declared.construction.Halt.{Halt}
 use Rattle.st_audit.specs.declared.construction.Halt.TheVariants as halt
-use Rattle.st_audit.specs.Construction.{acts_from, attempt, compared_turn, event_eq, is_shown, kind_eq, last_report, turn}
+use Rattle.st_audit.specs.Construction.{acts_from, attempt, compared_turn, event_eq, is_shown, kind_eq}
+use Rattle.st_audit.specs.Construction.{last_report, turn}
 use Rattle.st_audit.specs.Construction.{Turn, Through, Stopped, Refused}
-use Rattle.st_audit.specs.Progress.{is_too_wide, is_uncaused, missing_count, move_turn, report_turn, stamp_turn, test_at}
+use Rattle.st_audit.specs.Progress.{is_too_wide, is_uncaused, missing_count, move_turn, report_turn}
+use Rattle.st_audit.specs.Progress.{stamp_turn, test_at}
 use Rattle.st_audit.specs.Progress.{IsSoFar, Meets, SaysNothing, TellsLast, TriesAct, WentThrough}
 
 -- at the exit of a `?`

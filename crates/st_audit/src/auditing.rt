@@ -178,8 +178,8 @@ pub fn audit<const TOP: u64>(
     // reset streams with any.
     ensures rules_out { IfOk result (λ found. ForSome (fault_of found) (RulesOut streams.now)) }
 
-    // It certainly finds a certificate if nothing stands against the streams, or if some run
-    // reported all of itself.
+    // It certainly finds a certificate if no reason holds of the streams, or if some run reported
+    // all of itself.
     ensures certain { IfOk result (λ found.
         IsPlain TOP streams.now ⊎ IsFullyShown TOP streams.now → IsCertificate found) }
 {

@@ -24,7 +24,7 @@ pub fn findings_hold()
         → IsAudit top streams found → IsFinding top streams found }
 {}
 
-/// It is a certificate if nothing stands against the streams, or if some run without a reset reported all of itself.
+/// It is a certificate if no reason holds of the streams, or if some run without a reset reported all of itself.
 pub fn certain_streams_fit()
     ensures { (top : ℕ) (streams : List Stream) (found : FindingValue) → IsStreams streams
         → IsPlain top streams ⊎ IsFullyShown top streams → IsAudit top streams found → IsCertificate found }

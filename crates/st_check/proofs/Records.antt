@@ -14,7 +14,8 @@ use Rattle.st_core.specs.Pid.{pid_eq, IsBelow, IsRising}
 use Rattle.st_core.specs.State.{Process, State, zero_state}
 use Rattle.st_core.specs.Step.{Outcome, actor, step}
 use Rattle.st_core.specs.Run.{Stream, pids_of, run, stream}
-use Rattle.st_core.specs.Streams.{stream_of, lists, names_listed, unlisted_among, unlisted, with_event, added, is_own, is_among, names_among}
+use Rattle.st_core.specs.Streams.{stream_of, lists, names_listed, unlisted_among, unlisted, with_event, added, is_own}
+use Rattle.st_core.specs.Streams.{is_among, names_among}
 use Rattle.st_core.specs.Streams.{ComesLast}
 use Rattle.st_core.specs.Laws.{IsReportAmong, ReportsAmong}
 use Rattle.st_core.proofs.ForCallers.{pid_eq-true, pid_eq-swap, all_at, position-none}

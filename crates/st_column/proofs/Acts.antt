@@ -18,7 +18,8 @@ use Rattle.st_text.specs.Text.{named}
 use Rattle.st_column.specs.Longest.{IsAnyOf, Spells, act_lines, flag_lines, message_lines, print_lines}
 use Rattle.st_column.specs.Longest.{restore_lines, restore_send_lines, token_lines, tracer_lines}
 use Rattle.st_column.proofs.Templates.{any_split}
-use Rattle.st_column.proofs.Pieces.{FitsNode, fits_pid, are_bytes, actor_out, count_out, last_pid, last_count, last_word}
+use Rattle.st_column.proofs.Pieces.{FitsNode, fits_pid, are_bytes, actor_out, count_out, last_pid}
+use Rattle.st_column.proofs.Pieces.{last_count, last_word}
 use Rattle.st_column.proofs.Pieces.{word_out, word_in, actor_in, count_in, pid_last, count_last, word_last}
 
 -- the text of three flags
@@ -82,7 +83,8 @@ module _ (wide : Bool) where
   want_out : (p : Pid) (w : Want) → FitsNode wide p → FitsWant w → AllByRecursion (FitsNode wide) (named (acts.Receive p w))
       → IsAnyOf wide act_lines (spelled.act (acts.Receive p w))
   want_out p wants.First f v n =
-      act_at 1 _ (lit< tt) (spaced (codes "receive ") p (codes "first")) (actor_out wide (codes "receive ") (codes " first") _ p refl f (last_word wide (codes " first") refl))
+      act_at 1 _ (lit< tt) (spaced (codes "receive ") p (codes "first"))
+      (actor_out wide (codes "receive ") (codes " first") _ p refl f (last_word wide (codes " first") refl))
   want_out p (wants.From q) f v n =
       act_at 2 _ (lit< tt) (spaced (codes "receive ") p (spelled.want (wants.From q)))
       (actor_out wide (codes "receive ") (codes " from <M.P.0>") _ p refl f (last_pid wide (codes " from ") q refl n.1.0))
@@ -107,7 +109,8 @@ module _ (wide : Bool) where
       (actor_out wide (codes "set ") (codes " label L") _ p refl f
       (last_count wide (codes " label ") 76 most_label l.0 refl refl le))
   component_out p (components.Send true) f c =
-      act_at 12 _ (lit< tt) (spaced (codes "set ") p (codes "send true")) (actor_out wide (codes "set ") (codes " send true") _ p refl f (last_word wide (codes " send true") refl))
+      act_at 12 _ (lit< tt) (spaced (codes "set ") p (codes "send true"))
+      (actor_out wide (codes "set ") (codes " send true") _ p refl f (last_word wide (codes " send true") refl))
   component_out p (components.Send false) f c =
       act_at 13 _ (lit< tt) (spaced (codes "set ") p (codes "send false"))
       (actor_out wide (codes "set ") (codes " send false") _ p refl f (last_word wide (codes " send false") refl))
@@ -118,16 +121,19 @@ module _ (wide : Bool) where
       act_at 15 _ (lit< tt) (spaced (codes "set ") p (codes "receive false"))
       (actor_out wide (codes "set ") (codes " receive false") _ p refl f (last_word wide (codes " receive false") refl))
   component_out p (components.Print true) f c =
-      act_at 16 _ (lit< tt) (spaced (codes "set ") p (codes "print true")) (actor_out wide (codes "set ") (codes " print true") _ p refl f (last_word wide (codes " print true") refl))
+      act_at 16 _ (lit< tt) (spaced (codes "set ") p (codes "print true"))
+      (actor_out wide (codes "set ") (codes " print true") _ p refl f (last_word wide (codes " print true") refl))
   component_out p (components.Print false) f c =
       act_at 17 _ (lit< tt) (spaced (codes "set ") p (codes "print false"))
       (actor_out wide (codes "set ") (codes " print false") _ p refl f (last_word wide (codes " print false") refl))
 
   tracer_out : (p : Pid) (b : Bool) → FitsNode wide p → IsAnyOf wide act_lines (spelled.act (acts.Tracer p b))
   tracer_out p true f =
-      act_at 18 _ (lit< tt) (spaced (codes "tracer ") p (codes "true")) (actor_out wide (codes "tracer ") (codes " true") _ p refl f (last_word wide (codes " true") refl))
+      act_at 18 _ (lit< tt) (spaced (codes "tracer ") p (codes "true"))
+      (actor_out wide (codes "tracer ") (codes " true") _ p refl f (last_word wide (codes " true") refl))
   tracer_out p false f =
-      act_at 19 _ (lit< tt) (spaced (codes "tracer ") p (codes "false")) (actor_out wide (codes "tracer ") (codes " false") _ p refl f (last_word wide (codes " false") refl))
+      act_at 19 _ (lit< tt) (spaced (codes "tracer ") p (codes "false"))
+      (actor_out wide (codes "tracer ") (codes " false") _ p refl f (last_word wide (codes " false") refl))
 
   flags_bytes : (s r p : Bool) → are_bytes wide (flags s r p) ≡ true
   flags_bytes true true true = refl

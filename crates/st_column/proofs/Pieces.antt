@@ -1,4 +1,5 @@
--- What a template spells piece by piece, in both directions: a word of bytes that stand for themselves, a number, a pid.
+-- What a template spells piece by piece, in both directions: a word of bytes that stand for themselves, a number, a
+-- pid.
 use Rattle.std.proofs.Common.{◌≡◌, ℕ, zero, suc, ◌≤◌, Bool, true, false, not, ◌&&◌, ◌||◌, List, [], ◌∷◌, ◌++◌}
 use Rattle.std.proofs.Common.{Option, Some, None, refl, sym, ap, subst, ◌∙◌, arith, append_assoc}
 use Rattle.std.specs.Prelude.{◌==◌, codes, decimal}

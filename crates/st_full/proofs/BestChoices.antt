@@ -1,6 +1,6 @@
 -- If each process has a placing that is best at once for 0 and all scarce counts, these placings
 -- are together a choice at which each process needs these counts as seldom as can be. So no reason
--- stands, if none is final.
+-- holds, if no final one does.
 use Rattle.std.proofs.Common.{◌≡◌, inl, inr, ℕ, ◌≤◌, true, false, List, [], take, None}
 use Rattle.std.proofs.Common.{refl, sym, ◌∙◌, ap, arith}
 use Rattle.std.proofs.lemmas.Bool.{cases_lt}

@@ -303,7 +303,7 @@ one_feeds : (sum_by (excess two_streams 3) (pids_of two_streams) ≡ 1)
     × (count_by (is_free two_streams 3) (pids_of two_streams) ≡ 1)
 one_feeds = (refl, refl)
 
--- Or one that told of a send of it, which nobody told to have received.
+-- Or one that told of a send of it, which no reported receive takes.
 abbrev own_streams : List Stream
 own_streams =
     record { pid = a; events = alone }

@@ -1,6 +1,6 @@
--- Streams have a run without a reset exactly if their hidden sends have places at which no reason stands. From a run: its
--- full completion has each hidden send somewhere, and with these alone told its streams are shown too, so that no reason
--- stands against them. To a run: what has no reason has a completion, which completes the streams as well.
+-- Streams have a run without a reset exactly if their hidden sends have places at which no reason holds. From a run:
+-- its full completion has each hidden send somewhere, and with these alone told its streams are shown too, so that no
+-- reason holds of them. To a run: what has no reason has a completion, which completes the streams as well.
 use Rattle.std.proofs.Common.{◌≡◌, ◌↔◌, ℕ, zero, suc, ◌&&◌, ◌||◌, Bool, true, false, cond, List, [], ◌∷◌, map, filter}
 use Rattle.std.proofs.Common.{◌+◌, ◌==◌, Option, Some, None, find, is_some, option_and_then, slice_get}
 use Rattle.std.proofs.Common.{refl, sym, ◌∙◌, ap, subst}

@@ -1,6 +1,6 @@
--- The receives of the completion: if the send of each supply is told of, no two are of one sender and count, and there
--- are as many supplies of each count to each process as it has needs, the streams with all receives are good and have no
--- need.
+-- The receives of the completion: if the send of each supply is told of, no two are of one sender and count, and
+-- there are as many supplies of each count to each process as it has needs, the streams with all receives are good
+-- and have no need.
 use Rattle.std.proofs.Common.{◌≡◌, ℕ, suc, ◌+◌, ◌<◌, ◌==◌, ◌&&◌, Bool, true, false, cond, List, []}
 use Rattle.std.proofs.Common.{◌∷◌, ◌++◌, map, take, Option, Some, None, slice_get, refl, sym, ◌∙◌}
 use Rattle.std.proofs.Common.{ap, subst, arith, append-nil, append_assoc}

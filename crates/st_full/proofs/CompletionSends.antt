@@ -1,5 +1,6 @@
 -- The sends of the completion: if each supply is told of or its sender is free for it, and no two are of one sender
--- and count, the streams with the sends that they lack are good, need what they needed, and have the send of each supply.
+-- and count, the streams with the sends that they lack are good, need what they needed, and have the send of each
+-- supply.
 use Rattle.std.proofs.Common.{◌≡◌, ◌⊎◌, inl, inr, ℕ, ◌==◌, ◌&&◌, Bool, true, false, List, []}
 use Rattle.std.proofs.Common.{◌∷◌, map, take, Option, Some, None, is_none, slice_get, refl, sym, ◌∙◌, ap, subst}
 use Rattle.std.specs.List.{AllByRecursion}
@@ -19,7 +20,8 @@ use Rattle.st_full.proofs.Lookups.{stamp_passes}
 use Rattle.st_full.proofs.CompletionSteps.{put_more}
 use Rattle.st_full.proofs.GoodStreams.{IsGood, sends_to}
 use Rattle.st_full.proofs.InsertedEvents.{more}
-use Rattle.st_full.proofs.InsertedSends.{free_else, good_sent, IsServed, needs_same, own_else, own_now, pids_same, place, sent}
+use Rattle.st_full.proofs.InsertedSends.{free_else, good_sent, IsServed, needs_same, own_else, own_now, pids_same}
+use Rattle.st_full.proofs.InsertedSends.{place, sent}
 use Rattle.st_full.proofs.InsertedSends.{unstamped}
 use Rattle.st_full.proofs.ShownStreams.{lists_among}
 

@@ -1,5 +1,5 @@
 -- The lemmas that proofs of the crates above may cite: full runs and streams, that they are plain, the full completion
--- of each run without a reset, and the reasons that decide, with the completion if none stands; what a counted need is;
+-- of each run without a reset, and the reasons that decide, with the completion if none holds; what a counted need is;
 -- that streams with other counts are streams; and that a need of 0 is final that two events tell.
 
 pub use Rattle.st_full.proofs.FullRuns.{run_full}

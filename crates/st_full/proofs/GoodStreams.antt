@@ -1,4 +1,4 @@
--- Streams that law D goes through: nothing stands against them, and each receive's send is there. What one more event
+-- Streams that law D goes through: no reason holds of them, and each receive's send is there. What one more event
 -- leaves of this, wherever it fits.
 use Rattle.std.proofs.Common.{◌≡◌, ℕ, ◌≤◌, ◌&&◌, Bool, true, false, List, []}
 use Rattle.std.proofs.Common.{take, length, inl, inr, Option, Some, None, is_none, not}

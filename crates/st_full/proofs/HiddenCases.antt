@@ -235,7 +235,7 @@ alone_never : (top : ℕ) (acts : List Act) → NoReset acts → ¬ Shows top al
 alone_never top acts none shows = no_choice top ((exactly_chosen top alone (tt, tt)).0
     (record { acts = acts; shows = shows; one_trace = none }))
 
--- Yet none of the four reasons stands. No stamp is reported, no count is above 4, and each count
+-- Yet none of the four reasons holds. No stamp is reported, no count is above 4, and each count
 -- has a placing at which it isn't needed: at this one only 1 is.
 abbrev best_for_others : List Event
 best_for_others = sent a a 0 1 ∷ sent a a 0 2 ∷ sent a a 1 3 ∷ got a a 0 2 ∷ sent a a 2 4

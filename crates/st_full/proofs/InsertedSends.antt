@@ -1,5 +1,5 @@
--- The send of a process that is free for a count: put in where its counts pass this one, it leaves the streams good, with
--- the needs that they had. It is one that nobody is told to have received, and what else is told of messages stays.
+-- The send of a process that is free for a count: put in where its counts pass this one, it leaves the streams good,
+-- with the needs that they had. No reported receive takes it, and what else is told of messages stays.
 use Rattle.std.proofs.Common.{◌≡◌, ◌≢◌, ◌≤◌, ℕ, ◌<◌, ◌==◌, ◌&&◌, Bool, true, false, cond, List, []}
 use Rattle.std.proofs.Common.{◌∷◌, ◌++◌, take, drop, Option, Some, None, is_none, not}
 use Rattle.std.proofs.Common.{refl, sym, ◌∙◌, ap, subst}

@@ -1,5 +1,5 @@
--- The other part of law D for one process: an untold send of a count that it never stamped can be put in where its counts
--- pass this one, and no event of its own becomes late or a need by it.
+-- The other part of law D for one process: an untold send of a count that it never stamped can be put in where its
+-- counts pass this one, and no event of its own becomes late or a need by it.
 use Rattle.std.proofs.Common.{◌≡◌, ◌≢◌, ℕ, ◌<◌, ◌==◌, ◌&&◌, max, nat_lt, Bool, true, false, not}
 use Rattle.std.proofs.Common.{cond, List, [], ◌∷◌, ◌++◌, map, refl, sym, ◌∙◌, ap, arith}
 use Rattle.std.specs.List.{AllByRecursion}

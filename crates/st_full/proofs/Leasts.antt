@@ -1,7 +1,7 @@
 -- All events of a process in a choice are one of its placings, so it has the least number of needs
 -- or more. What may feed needs is the same in each choice as in the streams: a hidden send has its
--- receive, so it is no supply, and its process isn't free. So reasons that stand with the least
--- needs stand against each choice.
+-- receive, so it is no supply, and its process isn't free. So reasons that hold with the least
+-- needs hold of each choice.
 use Rattle.std.proofs.Common.{◌≡◌, ◌⊎◌, inl, inr, ℕ, ◌≤◌, ◌&&◌, Bool, true, false, not}
 use Rattle.std.proofs.Common.{cond, List, [], ◌∷◌, ◌++◌, map, filter, Option, Some, None, is_none, is_some, sum_by}
 use Rattle.std.proofs.Common.{slice_get, refl, sym, ◌∙◌, ap, subst, arith}

@@ -1,4 +1,4 @@
--- Law D: the completion of streams against which no reason stands is needless. With the sends that its supplies lack it
+-- Law D: if no reason holds of streams, their completion is needless. With the sends that its supplies lack it
 -- needs what the streams needed; each of these needs gets its receive; and neither makes anything late.
 use Rattle.std.proofs.Common.{◌≡◌, ℕ, zero, suc, ◌<◌, ◌==◌, ◌&&◌, ◌||◌, Bool, true, false, cond, List, [], ◌∷◌, ◌++◌}
 use Rattle.std.proofs.Common.{take, Option, Some, None, slice_get, append-nil, append_assoc, refl, sym, ◌∙◌, ap, subst}

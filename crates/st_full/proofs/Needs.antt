@@ -1,5 +1,5 @@
--- A full completion excludes what stands against its told streams: the counts of all events are above those of the told
--- ones alone, and each need is fed by a receive, whose this is above its prev.
+-- If whole streams are full, no reason holds of what is told of them: the counts of all events are above those of the
+-- told ones alone, and each need is fed by a receive, whose this is above its prev.
 use Rattle.std.proofs.Common.{◌≡◌, ℕ, ◌<◌, ◌==◌, ◌&&◌, true, false, cond, List, [], ◌∷◌, take, Option, Some}
 use Rattle.std.proofs.Common.{None, find, slice_get, refl, sym, ◌∙◌, ap, subst, arith}
 use Rattle.std.proofs.lemmas.Bool.{eqb-true, and_parts}

@@ -1,6 +1,7 @@
--- A reason stands against streams, or none does: the events are finitely many, and of counts that are above all of theirs
+-- A reason holds of streams, or none does: the events are finitely many, and of counts that are above all of theirs
 -- there are no needs.
-use Rattle.std.proofs.Common.{◌≡◌, ◌⊎◌, inl, inr, ℕ, zero, suc, ◌<◌, ◌≤◌, ◌||◌, Bool, true, false, List, [], ◌∷◌, ◌++◌, take}
+use Rattle.std.proofs.Common.{◌≡◌, ◌⊎◌, inl, inr, ℕ, zero, suc, ◌<◌, ◌≤◌, ◌||◌, Bool, true, false, List, [], ◌∷◌}
+use Rattle.std.proofs.Common.{◌++◌, take}
 use Rattle.std.proofs.Common.{Some, slice_get, sum_by, append-nil, append_assoc, refl, sym, ◌∙◌, ap, subst, arith}
 use Rattle.std.proofs.lemmas.Bool.{cases_lt, false≢true, ltb-false}
 use Rattle.std.proofs.lemmas.List.Sums.{sum_by-cons}

@@ -1,4 +1,4 @@
--- Streams against which no reason stands are good: what pairing accepts fits together, two events at a time, and what
+-- Streams of which no reason holds are good: what pairing accepts fits together, two events at a time, and what
 -- holds of no event at its place holds of none along its process.
 use Rattle.std.proofs.Common.{◌≡◌, ℕ, suc, ◌+◌, ◌<◌, ◌==◌, ◌&&◌, ◌||◌, Bool, true, false, cond, List, [], ◌∷◌}
 use Rattle.std.proofs.Common.{◌++◌, take, Option, Some, None, inl, inr, slice_get, append-nil, append_assoc, refl, sym}

@@ -1,4 +1,4 @@
--- What stands against streams stands against each of their completions, and so against each run without a reset.
+-- A reason that holds of streams holds of each of their completions, so no run without a reset has them.
 use Rattle.std.proofs.Common.{ℕ, List, subst}
 use Rattle.st_core.specs.declared.types.Act.{Act}
 use Rattle.st_core.specs.Laws.{NoReset}

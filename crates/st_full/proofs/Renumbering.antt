@@ -1,5 +1,5 @@
--- Whether streams are needless depends on the order of their counts alone; so a completion of renumbered streams is one of
--- the streams themselves once its counts are put back, and a run of the ones gives a run of the others.
+-- Whether streams are needless depends on the order of their counts alone; so a completion of renumbered streams is
+-- one of the streams themselves once its counts are put back, and a run of the ones gives a run of the others.
 use Rattle.std.proofs.Common.{◌≡◌, ◌↔◌, ℕ, ◌≤◌, Bool, List, Some, None, map, take}
 use Rattle.std.proofs.Common.{option_map, refl, sym, ◌∙◌, ap, subst}
 use Rattle.std.proofs.lemmas.Option.{none-some, same_Some}

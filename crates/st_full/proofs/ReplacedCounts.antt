@@ -1,5 +1,5 @@
--- Streams whose counts are replaced in order: pairing compares counts alone, so that each rule gives what it gave, at the
--- same places; the same events have a hidden send; and each process's events name the same pids.
+-- Streams whose counts are replaced in order: pairing compares counts alone, so that each rule gives what it gave, at
+-- the same places; the same events have a hidden send; and each process's events name the same pids.
 use Rattle.std.proofs.Common.{◌≡◌, ℕ, ◌+◌, true, false, cond}
 use Rattle.std.proofs.Common.{List, [], ◌∷◌, Option, Some, None, map, slice_get}
 use Rattle.std.proofs.Common.{option_map, refl, sym, ◌∙◌, ap}

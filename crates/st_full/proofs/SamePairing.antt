@@ -1,5 +1,5 @@
--- Pairing compares counts alone, and so gives for streams whose counts are replaced in order what it gave: each rule the
--- same reason at the same place, and each receive a send or a hidden one as before.
+-- Pairing compares counts alone, and so gives for streams whose counts are replaced in order what it gave: each rule
+-- the same reason at the same place, and each receive a send or a hidden one as before.
 use Rattle.std.proofs.Common.{◌≡◌, ℕ, ◌==◌, ◌&&◌, ◌||◌, zero, suc, nat_lt, Bool, true, false, not, cond}
 use Rattle.std.proofs.Common.{List, [], ◌∷◌, Option, Some, None, map, slice_get}
 use Rattle.std.proofs.Common.{option_map, option_and_then, refl, ◌∙◌, ap}

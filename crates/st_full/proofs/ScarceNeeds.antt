@@ -1,6 +1,6 @@
--- At best places no reason stands, if none is final. Needs of 0 there are none, since none is at the best. Needs of a
--- scarce count are as few as can be, so there are enough messages for them. And of any other count there are enough for
--- all stamps with this prev, of which the needs are some.
+-- At best places no reason holds, if no final one does. Needs of 0 there are none, since none is at the best. Needs
+-- of a scarce count are as few as can be, so there are enough messages for them. And of any other count there are
+-- enough for all stamps with this prev, of which the needs are some.
 use Rattle.std.proofs.Common.{◌≡◌, inl, inr, ℕ, zero, suc, ◌+◌, ◌<◌, ◌≤◌, ◌==◌, ◌&&◌, nat_lt, Bool, true, false}
 use Rattle.std.proofs.Common.{cond, not, if◌then◌else◌, List, [], ◌∷◌, ◌++◌, take, Some, sum_by}
 use Rattle.std.proofs.Common.{slice_get, append-nil, append_assoc}

@@ -1,6 +1,6 @@
--- Who sends what: the supplies of one count. Each need gets a sender, since own ones and free ones are enough; each is told
--- of a send to this process or is free; and no process sends twice, since it is told of one receiver at most, isn't free
--- then, and is taken from the free ones once.
+-- Who sends what: the supplies of one count. Each need gets a sender, since own ones and free ones are enough; each
+-- is told of a send to this process or is free; and no process sends twice, since it is told of one receiver at most,
+-- isn't free then, and is taken from the free ones once.
 use Rattle.std.proofs.Common.{◌≡◌, inl, inr, ℕ, zero, suc, ◌+◌, ◌-◌, ◌≤◌, ◌==◌, ◌&&◌, ◌||◌, Bool, true, false, cond}
 use Rattle.std.proofs.Common.{List, [], ◌∷◌, ◌++◌, filter, length, take, drop, Option, Some, None, is_none, sum_by}
 use Rattle.std.proofs.Common.{refl, sym, ◌∙◌, ap, subst, arith, length-append, length-drop}

@@ -12,7 +12,8 @@ use Rattle.st_core.specs.declared.types.Act.{Act}
 use Rattle.st_core.specs.Pid.{pid_eq, IsRising}
 use Rattle.st_core.specs.Step.{Outcome, actor}
 use Rattle.st_core.specs.Run.{Shows, Stream, pids_of, stream}
-use Rattle.st_core.specs.Streams.{stream_of, lists, names_listed, unlisted_among, is_own, AreOwn, IsStreams, is_among, names_among}
+use Rattle.st_core.specs.Streams.{stream_of, lists, names_listed, unlisted_among, is_own, AreOwn, IsStreams}
+use Rattle.st_core.specs.Streams.{is_among, names_among}
 use Rattle.st_core.specs.Laws.{IsReportAmong, ReportsAmong}
 use Rattle.st_core.proofs.ForCallers.{pid_eq-true, position-none, run_named}
 

@@ -1,5 +1,6 @@
 -- A full completion supplies all needs: of one count each process has sent one message at most, so that the untold
--- receives of it, as many as needs, are of different senders, and each of these is told to have sent it there or is free.
+-- receives of it, as many as needs, are of different senders, and each of these reported that it sent it there or is
+-- free.
 use Rattle.std.proofs.Common.{◌≡◌, ℕ, zero, suc, ◌+◌, ◌≤◌, ◌⊎◌, ◌==◌, ◌&&◌, ◌||◌, Bool, true, false, not}
 use Rattle.std.proofs.Common.{cond, List, [], ◌∷◌, ◌++◌, drop, filter, length, Option, Some, None, is_none, inl}
 use Rattle.std.proofs.Common.{inr, slice_get, sum_by, refl, sym, ◌∙◌, ap, subst, arith, length-append, option_and_then}

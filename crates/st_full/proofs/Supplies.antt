@@ -1,5 +1,5 @@
 -- The supplies of all counts: no two are of one sender and count, each can be had, and there are as many of each count
--- to each process as it has needs of it, where streams have no reason against them.
+-- to each process as it has needs of it, if no reason holds of the streams.
 use Rattle.std.proofs.Common.{◌≡◌, ℕ, zero, suc, ◌<◌, ◌≤◌, ◌==◌, ◌&&◌, Bool, true, false, cond, List, [], ◌∷◌}
 use Rattle.std.proofs.Common.{filter, map, take, Some, inl, inr, slice_get, refl, sym}
 use Rattle.std.proofs.Common.{◌∙◌, ap, subst, arith}
@@ -23,7 +23,8 @@ use Rattle.st_full.proofs.Lookups.{unlisted_events}
 use Rattle.st_full.proofs.MetNeeds.{need_low}
 use Rattle.st_full.proofs.InsertedSends.{IsServed}
 use Rattle.st_full.proofs.CompletionSends.{AllApart, Apart, differs, IsReady}
-use Rattle.st_full.proofs.Senders.{all_apart, all_both, all_filter, all_map, all_parts, apart_both, count_all, different_filter}
+use Rattle.st_full.proofs.Senders.{all_apart, all_both, all_filter, all_map, all_parts, apart_both}
+use Rattle.st_full.proofs.Senders.{count_all, different_filter}
 use Rattle.st_full.proofs.Senders.{IsPart, no_supplies, passes_filter}
 use Rattle.st_full.proofs.ShownStreams.{lists_among}
 use Rattle.st_full.proofs.ReasonlessStreams.{need_of}

@@ -20,7 +20,8 @@ use Rattle.st_full.proofs.Leasts.{Among, among_left}
 use Rattle.st_full.proofs.MetNeeds.{needs_alike, timely_alike}
 use Rattle.st_full.proofs.EventsBefore.{alike_push}
 use Rattle.st_full.proofs.Mixes.{among_alike, at_among, events_append}
-use Rattle.st_full.proofs.EventsInTurn.{AreReceives, count_low, greatest_append, needs_append, none_asks, receives_need_none}
+use Rattle.st_full.proofs.EventsInTurn.{AreReceives, count_low, greatest_append, needs_append}
+use Rattle.st_full.proofs.EventsInTurn.{none_asks, receives_need_none}
 use Rattle.st_full.proofs.EventsInTurn.{receives_timely, timely_back, timely_both, timely_high}
 use Rattle.st_full.proofs.Turns.{leaves}
 use Rattle.st_full.proofs.UntoldEvents.{untold_events}

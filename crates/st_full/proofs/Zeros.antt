@@ -28,7 +28,8 @@ use Rattle.st_full.proofs.Choices.{exactly_chosen, send_stamps}
 use Rattle.st_full.proofs.Decision.{no_reason}
 use Rattle.st_full.proofs.Needs.{at_mark}
 use Rattle.st_full.proofs.ReasonlessStreams.{founded_at, need_of}
-use Rattle.st_full.proofs.UntoldEvents.{among, fit, stamp_all, untold_at, untold_has, untold_in, untold_is, untold_sends}
+use Rattle.st_full.proofs.UntoldEvents.{among, fit, stamp_all, untold_at, untold_has, untold_in}
+use Rattle.st_full.proofs.UntoldEvents.{untold_is, untold_sends}
 
 -- WHAT IS LEFT
 

@@ -148,8 +148,8 @@ pub fn counts_can_be_put_back()
 
 /// If each reported receive has its send among the reported events, and no reason holds of the
 /// streams, then `completion` completes them: it tells the streams, and has no need. Each need has an
-/// untold receive right before it, of a reported send to this process that nobody is told to have
-/// received, or else of an untold send of a process that tells nothing of this count.
+/// untold receive right before it, of a reported send to this process that no reported receive takes,
+/// or else of an untold send of a process that tells nothing of this count.
 pub fn streams_without_a_reason_are_completed()
     ensures { (top : ℕ) (streams : List Stream) → IsStreams streams → HasEachSend streams
         → HasNoReason top streams
@@ -211,8 +211,8 @@ pub fn without_hidden_sends_the_least_is_what_is_needed()
 
 /// So there are reasons that no place of a hidden send lifts: a late stamp, a need of 0 at each
 /// placing of a process, more needs of one prev than messages that may feed them even if each
-/// process has the least, and a count above TOP. If one of these stands against streams, no acts
-/// without a reset show them.
+/// process has the least, and a count above TOP. If one of these holds of streams, no acts without a
+/// reset show them.
 pub fn reasons_against_all_choices_are_final()
     ensures { (top : ℕ) (streams : List Stream) → IsRising (pids_of streams) → (reason : FinalReason)
         → StandsAgainstAll top streams reason → (acts : List Act) → NoReset acts → ¬ Shows top streams acts }
@@ -235,9 +235,9 @@ pub fn zeros_told_behind_others_are_final()
         → IsZeroBehind streams p i → (acts : List Act) → NoReset acts → ¬ Shows top streams acts }
 {}
 
-/// If none of the four final reasons stands against streams, and their hidden sends have places at
-/// which no stamp is late and each process needs 0 and each scarce count no more often than at the best
-/// of its placings, then acts without a reset show them. Of counts that aren't scarce there are enough
+/// If none of the four final reasons holds of streams, and their hidden sends have places at which no
+/// stamp is late and each process needs 0 and each scarce count no more often than at the best of its
+/// placings, then acts without a reset show them. Of counts that aren't scarce there are enough
 /// messages wherever hidden sends stand.
 pub fn shown_if_placings_are_best()
     ensures { (top : ℕ) (streams : List Stream) → HasNoFinalReason top streams → (wholes : List Whole)
@@ -259,7 +259,7 @@ pub fn each_process_has_a_placing()
         → HoldsOfNone is_late streams → (p : Pid) → 0 < length (placings streams p) }
 {}
 
-/// So if none of the four final reasons stands against streams that pairing accepts, and each process,
+/// So if none of the four final reasons holds of streams that pairing accepts, and each process,
 /// looked at by itself, has a placing that is best at once for 0 and for all scarce counts, then acts
 /// without a reset show them.
 pub fn shown_if_each_process_has_a_best_placing()
@@ -270,8 +270,8 @@ pub fn shown_if_each_process_has_a_best_placing()
 
 /// So the four final reasons decide once more if no process asks for two scarce counts in one stretch,
 /// which is its reported receives and hidden sends up to its next reported stamp: if pairing accepts
-/// such streams and none of the reasons stands against them, acts without a reset show them. With two
-/// scarce counts in a stretch there can be neither a reason nor a run.
+/// such streams and none of the reasons holds of them, acts without a reset show them. With two scarce
+/// counts in a stretch there can be neither a reason nor a run.
 pub fn shown_if_no_stretch_has_two_scarce_counts()
     ensures { (top : ℕ) (streams : List Stream) → IsStreams streams → refusal streams ≡ None
         → HasNoFinalReason top streams → HasNoTwoScarce streams → IsShownInOneTrace top streams }

@@ -2,7 +2,8 @@
 -- what the moves say of the machine, on each move of settled streams, and on what the acts before a stamp do.
 
 -- ---- the moves along an order
-pub use Rattle.st_plan.proofs.EarlierMoves.{take_more, moves_append, one_move, earlier_more, order_there, hidden_clock, IsAt}
+pub use Rattle.st_plan.proofs.EarlierMoves.{take_more, moves_append, one_move, earlier_more, order_there}
+pub use Rattle.st_plan.proofs.EarlierMoves.{hidden_clock, IsAt}
 pub use Rattle.st_plan.proofs.EarlierMoves.{IsThere}
 pub use Rattle.st_plan.proofs.OrderedMoves.{item_is}
 -- ---- acts as steps of the machine

@@ -1,4 +1,4 @@
--- Nothing stands against any move of the order of settled streams: each move splits the order, and of no split a reason
+-- No reason holds of a move of the order of settled streams: each move splits the order, and of no split a reason
 -- holds.
 use Rattle.std.proofs.Common.{◌≡◌, ℕ, ◌==◌, Bool, true, false, not, List, [], ◌∷◌, ◌++◌, reverse, refl, sym, ◌∙◌, ap}
 use Rattle.std.proofs.Common.{subst, append_assoc}
@@ -85,7 +85,7 @@ turn_of earlier m h = turn_by earlier m.item h
 
 -- SETTLED STREAMS
 
--- nothing stands against the move
+-- no reason holds of the move
 pub record IsFree (earlier : List Move) (m : Move) : Type 0 where
   pub caused : uncaused earlier m ≡ false
   pub turn : IsInTurn earlier m.item

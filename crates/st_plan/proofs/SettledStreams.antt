@@ -93,7 +93,7 @@ module _ (top : ℕ) (streams : List Stream) (marks : Marks) (sound : IsStreams 
     pub in_turn_at : (p : Pid) (i : ℕ) → m.item ≡ item.Reported p i → told p earlier ≡ i
     in_turn_at p i is = subst (IsInTurn earlier) is free_at.turn
 
-    -- no reason stands against a move
+    -- no reason holds of a move
     pub caused_at : uncaused earlier m ≡ false
     caused_at = free_at.caused
 

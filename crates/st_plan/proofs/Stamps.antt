@@ -26,7 +26,8 @@ use Rattle.st_plan.specs.Moves.{Move, is_taking, clock, move_by}
 use Rattle.st_plan.specs.Reasons.{uncaused}
 use Rattle.st_plan.specs.Build.{ready, flags_of, act_of, state_after, start_of}
 use Rattle.st_plan.proofs.KeptState.{step_keeps, token_of, message_of, sends_to, queue_of, IsSo, IsKept, told_event}
-use Rattle.st_plan.proofs.KeptState.{Continues, found, still_there, caused, own_clock, own_last, other_clock, other_last}
+use Rattle.st_plan.proofs.KeptState.{Continues, found, still_there, caused, own_clock, own_last}
+use Rattle.st_plan.proofs.KeptState.{other_clock, other_last}
 use Rattle.st_plan.proofs.KeptState.{stamp_queue, stream_last, told_last}
 use Rattle.st_plan.proofs.Readiness.{is_ready}
 use Rattle.st_plan.proofs.OwnActs.{run_append, state_append, Lifted, lifted, changed_own}
