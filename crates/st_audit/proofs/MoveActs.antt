@@ -102,7 +102,8 @@ only (Some x) false e h = absurd (cc)
 
 -- if the acts before it report nothing, the last one reports the event if it is told
 pub last_reports : (top : ℕ) (streams : List Stream) (marks : Marks) (s : State) (p : Pid) (i : ℕ) (e : Event)
-    (g : GoesOn top streams marks s (move_by (item.Reported p i) e)) (acts : List Act) (a : Act) (told : Told) (new : State)
+    (g : GoesOn top streams marks s (move_by (item.Reported p i) e)) (acts : List Act) (a : Act) (told : Told)
+    (new : State)
     (ran : RanTo top s acts a told new) → acts ++ a ∷ [] ≡ g.acts → actor a ≡ p → stream acts ran.outcomes p ≡ []
     → told.report ≡ if_told (marks p i) e
 last_reports top streams marks s p i e g acts a told new ran are who silent =

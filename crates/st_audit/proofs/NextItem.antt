@@ -138,7 +138,8 @@ module _ (top : ℕ) (streams : List Stream) (xs : List Item) (n : ℕ) (old new
       (taken_moves top old p e done.told new acted.0))
       (acted.1 ∙ nothing ∙ ap (λ b. cond b 0 (e.serial.this - 1 - clock p earlier) + skipped) (sym taking))
 
-  pub reported_next : (marks : Marks) (p : Pid) (i : ℕ) → refusal streams ≡ None → slice_get xs n ≡ Some (item.Reported p i)
+  pub reported_next : (marks : Marks) (p : Pid) (i : ℕ) → refusal streams ≡ None
+      → slice_get xs n ≡ Some (item.Reported p i)
       → IsReportedDone top streams marks old skipped p i new now → IsSoFar streams (take (n + 1) xs) new now
   reported_next marks p i accepted at done =
       acted_next marks p i done (is_stamp done.event) accepted refl at done.acted

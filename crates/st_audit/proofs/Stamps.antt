@@ -44,6 +44,7 @@ stamped top old skipped p e f told new now start between a is caused within ran 
       stamp = a;
       stamps = stamps;
       steps = steps;
-      missed = allowed (is_too_wide skipped (missing_count start e.serial)) (missing_count start e.serial + skipped) now within
+      missed = allowed (is_too_wide skipped (missing_count start e.serial))
+          (missing_count start e.serial + skipped) now within
           ∙ ap (λ x. missing_count x e.serial + skipped) (sym parts.2);
     }

@@ -104,7 +104,8 @@ replies_more (x ∷ os) o = ap (λ ys. x.reply ∷ ys) (replies_more os o)
 
 -- the start
 pub recorded_start : (top : ℕ) (pids : List Pid) (s : State) (streams : List Stream) (replies : List Reply)
-    → s ≡ zero_state pids → streams ≡ reported_streams pids [] [] → replies ≡ [] → IsReplayedTo top pids [] s streams replies
+    → s ≡ zero_state pids → streams ≡ reported_streams pids [] [] → replies ≡ []
+    → IsReplayedTo top pids [] s streams replies
 recorded_start top pids s streams replies at_zero no_events no_replies =
     record { outcomes = []; runs = refl; is_state = at_zero; are_streams = no_events; are_replies = no_replies }
 
@@ -191,7 +192,8 @@ all_false pids acts os [] all = tt
 all_false pids acts os (e ∷ es) all = (ap not (names-reported pids acts os e ∙ all.0), all_false pids acts os es all.1)
 
 unlisted_rest : (pids : List Pid) (acts : List Act) (os : List Outcome) (rest : List Pid)
-    → AllZip (ReportsAmong pids) acts os → unlisted_among (reported_streams pids acts os) (reported_streams rest acts os) ≡ None
+    → AllZip (ReportsAmong pids) acts os
+    → unlisted_among (reported_streams pids acts os) (reported_streams rest acts os) ≡ None
 unlisted_rest pids acts os [] all = refl
 unlisted_rest pids acts os (p ∷ rest) all =
     let test = λ (e : Event). not (names_listed (reported_streams pids acts os) e) in

@@ -80,7 +80,8 @@ module _ (wide : Bool) where
 
   -- ---- the template of an act
 
-  want_out : (p : Pid) (w : Want) → FitsNode wide p → FitsWant w → AllByRecursion (FitsNode wide) (named (acts.Receive p w))
+  want_out : (p : Pid) (w : Want) → FitsNode wide p → FitsWant w
+      → AllByRecursion (FitsNode wide) (named (acts.Receive p w))
       → IsAnyOf wide act_lines (spelled.act (acts.Receive p w))
   want_out p wants.First f v n =
       act_at 1 _ (lit< tt) (spaced (codes "receive ") p (codes "first"))
@@ -162,18 +163,22 @@ module _ (wide : Bool) where
   restore_out p t f g fits =
       let f3 = flags t.flags.send t.flags.receive t.flags.print in
       let last = last_pid wide (codes " ") t.from refl g in
-      let this = count_out wide (codes " ") 78 most_number t.serial.this (codes " <M.P.0>") _ refl refl fits.serial.this last in
-      let prev = count_out wide (codes " ") 78 most_number t.serial.prev (codes " N <M.P.0>") _ refl refl fits.serial.prev this in
+      let this = count_out wide (codes " ") 78 most_number t.serial.this
+      (codes " <M.P.0>") _ refl refl fits.serial.this last in
+      let prev = count_out wide (codes " ") 78 most_number t.serial.prev
+      (codes " N <M.P.0>") _ refl refl fits.serial.prev this in
       let three =
       word_out wide f3 (codes " N N <M.P.0>") _ (flags_bytes t.flags.send t.flags.receive t.flags.print) prev in
       let space = word_out wide (codes " ") (f3 ++ codes " N N <M.P.0>") _ refl three in
       let label =
-      count_out wide (codes " ") 76 most_label t.label.0 (codes " " ++ (f3 ++ codes " N N <M.P.0>")) _ refl refl fits.label space in
+      count_out wide (codes " ") 76 most_label t.label.0
+      (codes " " ++ (f3 ++ codes " N N <M.P.0>")) _ refl refl fits.label space in
       subst (IsAnyOf wide act_lines) (sym (restore_flat p t))
       (restore_any t.flags.send t.flags.receive t.flags.print _
       (actor_out wide (codes "restore ") (codes " L " ++ (f3 ++ codes " N N <M.P.0>")) _ p refl f label))
 
-  pub act_out : (a : Act) → FitsAct a → AllByRecursion (FitsNode wide) (named a) → IsAnyOf wide act_lines (spelled.act a)
+  pub act_out : (a : Act) → FitsAct a → AllByRecursion (FitsNode wide) (named a)
+      → IsAnyOf wide act_lines (spelled.act a)
   act_out (acts.Send p q v) f n =
       act_at 0 _ (lit< tt) (sends_flat p q v)
       (actor_out wide (codes "send ") (codes " <M.P.0> N") _ p refl n.0
@@ -229,7 +234,8 @@ module _ (wide : Bool) where
   first_in : (text : List ℕ) → Spells wide (codes "receive <M.P.0> first") text → IsAct text
   first_in text x =
       let p = actor_in wide (codes "receive ") (codes " first") text refl x in
-      received p.value wants.First text p.fits tt (p.fits, tt) (p.whole _ (word_last wide (codes " first") p.rest refl p.more))
+      received p.value wants.First text p.fits tt (p.fits, tt)
+      (p.whole _ (word_last wide (codes " first") p.rest refl p.more))
 
   from_in : (text : List ℕ) → Spells wide (codes "receive <M.P.0> from <M.P.0>") text → IsAct text
   from_in text x =
@@ -435,7 +441,8 @@ module _ (wide : Bool) where
       let two = either_in tracer_lines (restore_send_lines ++ restore_lines) text (tracers_in text) one in
       let three = either_in flag_lines (tracer_lines ++ restore_send_lines ++ restore_lines) text (flags_in text) two in
       let four_groups =
-      either_in token_lines (flag_lines ++ (tracer_lines ++ (restore_send_lines ++ restore_lines))) text (tokens_in text)
+      either_in token_lines (flag_lines ++ (tracer_lines ++ (restore_send_lines ++ restore_lines))) text
+      (tokens_in text)
       three in
       let five =
       either_in print_lines (token_lines ++ (flag_lines ++ (tracer_lines ++ (restore_send_lines ++ restore_lines)))) text

@@ -166,7 +166,8 @@ module _ (wide : Bool) where
       → Spells wide (word ++ (codes "<M.P.0>" ++ tail)) (word ++ (spelled.pid p ++ rest))
   actor_out word tail rest p e f x = word_out word (codes "<M.P.0>" ++ tail) _ e (pid_out p tail rest f x)
 
-  pub count_out : (word : List ℕ) (c most n : ℕ) (tail rest : List ℕ) → are_bytes word ≡ true → most_of wide c ≡ Some most
+  pub count_out : (word : List ℕ) (c most n : ℕ) (tail rest : List ℕ) → are_bytes word ≡ true
+      → most_of wide c ≡ Some most
       → n ≤ most → Spells wide tail rest → Spells wide (word ++ (c ∷ tail)) (word ++ (decimal n ++ rest))
   count_out word c most n tail rest e is le x =
       word_out word (c ∷ tail) _ e (number_out c most n tail rest is le x)

@@ -235,7 +235,8 @@ stamp_found : (streams : List Stream) (q : Pid) (j : ℕ) (f : Event) → event_
     → is_stamp f ≡ true → stamp_of streams q f.serial.this ≡ None → ⊥
 stamp_found streams q j f at stamps none =
     let given = from_none (own_rule f.serial.this) q 0 (events_of streams q) none j f at in
-    let test = and_from (is_stamp f) (f.serial.this == f.serial.this) stamps (eq-eqb f.serial.this f.serial.this refl) in
+    let test = and_from (is_stamp f) (f.serial.this == f.serial.this) stamps
+    (eq-eqb f.serial.this f.serial.this refl) in
     none-some (0 + j, f) (sym given ∙ ap (λ b. cond b (Some (0 + j, f)) None) test)
 
 pub not_hidden : (streams : List Stream) (e : Event) → (stamp_of streams e.from e.serial.this ≡ None → ⊥)

@@ -118,7 +118,8 @@ walk_back ms (suc k) v m go_on at miss =
     let d = found.0 in
     let e = d.event in
     let more : take (suc k) ms ≡ take k ms ++ d ∷ [] = take_more ms k d found.1 in
-    let all : events (take (suc k) ms) ≡ events (take k ms) ++ e ∷ [] = take_map (λ (x : Marked). x.event) ms k d found.1 in
+    let all : events (take (suc k) ms) ≡ events (take k ms) ++ e ∷ [] =
+    take_map (λ (x : Marked). x.event) ms k d found.1 in
     let told : told_events (take (suc k) ms) ≡ told_events (take k ms) ++ cond d.told (e ∷ []) [] =
     ap told_events more ∙ told_push (take k ms) d in
     let left : prev_after (e ∷ []) ≡ v =

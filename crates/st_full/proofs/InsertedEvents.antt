@@ -152,7 +152,8 @@ listed_at streams q k e at = elim (stream_of streams q) as (λ o. slice_get (eve
 module _ (p : Pid) (i : ℕ) (r : Event) (streams : List Stream) where
   -- an event of the longer streams is the new one or an old one
   placed : i ≤ length (events_of streams p) → (q : Pid) (k : ℕ) (e : Event) → lists streams q ≡ true
-      → event_at (more p i r streams) q k ≡ Some e → ((q ≡ p) × IsNew i r k e) ⊎ IsOld (events_of streams q) (pid_eq q p) i k e
+      → event_at (more p i r streams) q k ≡ Some e
+      → ((q ≡ p) × IsNew i r k e) ⊎ IsOld (events_of streams q) (pid_eq q p) i k e
   placed within q k e there at =
       let es = events_of streams q in
       elim (pid_eq q p) as (λ b. pid_eq q p ≡ b → slice_get (cond b (take i es ++ r ∷ drop i es) es) k ≡ Some e
@@ -166,12 +167,14 @@ module _ (p : Pid) (i : ℕ) (r : Event) (streams : List Stream) where
         | false ↦ λ _ at. inr (record { index = k; at = at; moved = refl })
       ] refl (ap (λ xs. slice_get xs k) (sym (with_events p i r streams q there)) ∙ at)
 
-  pub is_placed : i ≤ length (events_of streams p) → (q : Pid) (k : ℕ) (e : Event) → event_at (more p i r streams) q k ≡ Some e
+  pub is_placed : i ≤ length (events_of streams p) → (q : Pid) (k : ℕ) (e : Event)
+      → event_at (more p i r streams) q k ≡ Some e
       → ((q ≡ p) × IsNew i r k e) ⊎ IsOld (events_of streams q) (pid_eq q p) i k e
   is_placed within q k e at = placed within q k e (listed_with p i r streams q k e at) at
 
   -- and each old one stays
-  pub stays : (q : Pid) (m : ℕ) (e : Event) → event_at streams q m ≡ Some e → (k : ℕ) × (event_at (more p i r streams) q k ≡ Some e)
+  pub stays : (q : Pid) (m : ℕ) (e : Event) → event_at streams q m ≡ Some e
+      → (k : ℕ) × (event_at (more p i r streams) q k ≡ Some e)
   stays q m e at =
       let es = events_of streams q in
       let there = with_events p i r streams q (listed_at streams q m e at) in

@@ -151,7 +151,8 @@ no_need true v c prev left =
           ] refl
     ]
 
-not_late : (stamp : Bool) (c v this : ℕ) → (stamp ≡ true → max c v < this) → (stamp && not (nat_lt (max c v) this)) ≡ false
+not_late : (stamp : Bool) (c v this : ℕ) → (stamp ≡ true → max c v < this)
+    → (stamp && not (nat_lt (max c v) this)) ≡ false
 not_late false c v this above = refl
 not_late true c v this above = let less = above refl in grind (arith, nat_tests)
 

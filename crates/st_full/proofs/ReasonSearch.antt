@@ -121,7 +121,8 @@ no_sum f none (p ∷ ps) =
 module _ (streams : List Stream) where
   supplied_high : (v : ℕ) → highest streams ≤ v → IsSupplied streams v
   supplied_high v high =
-      let sum = no_sum (excess streams v) (λ p. let none = none_high streams v p high in omega arith) (pids_of streams) in
+      let sum = no_sum (excess streams v) (λ p. let none = none_high streams v p high in omega arith)
+      (pids_of streams) in
       omega arith
 
   seek_count : (n : ℕ) → ((v : ℕ) × (¬ IsSupplied streams v)) ⊎ ((v : ℕ) → v < n → IsSupplied streams v)

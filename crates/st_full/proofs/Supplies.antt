@@ -107,7 +107,8 @@ record IsPartBelow (streams : List Stream) (n : ℕ) (s : Supply) : Type 0 where
   to : lists streams s.to ≡ true
 
 module _ (streams : List Stream) (rising : IsRising (pids_of streams)) (founded : (p : Pid) → needs streams 0 p ≡ 0)
-    (supplied : (v : ℕ) → IsSupplied streams v) (listed : AllByRecursion (λ q. lists streams q ≡ true) (pids_of streams)) where
+    (supplied : (v : ℕ) → IsSupplied streams v)
+    (listed : AllByRecursion (λ q. lists streams q ≡ true) (pids_of streams)) where
   abbrev frees : ℕ → List Pid
   frees v = filter (is_free streams v) (pids_of streams)
 
@@ -206,7 +207,8 @@ module _ (streams : List Stream) (rising : IsRising (pids_of streams)) (founded 
       ] refl
 
   pub all_ready : AllByRecursion (IsReady streams) (supplies streams)
-  all_ready = all_map (IsPartBelow streams (highest streams)) (IsReady streams) (λ s part. part.ready) (supplies streams)
+  all_ready =
+      all_map (IsPartBelow streams (highest streams)) (IsReady streams) (λ s part. part.ready) (supplies streams)
       (all_below (highest streams))
 
   pub are_apart : AllApart (supplies streams)

@@ -62,7 +62,8 @@ module _ (P : Label → Type 0) where
         | false ↦ (one, all)
       ]
 
-  all_grouped : (xs : List LabelledItem) → AllByRecursion (λ x. P x.label) xs → AllByRecursion (λ g. P g.0) (groups_of xs)
+  all_grouped : (xs : List LabelledItem) → AllByRecursion (λ x. P x.label) xs
+      → AllByRecursion (λ g. P g.0) (groups_of xs)
   all_grouped [] all = tt
   all_grouped (x ∷ xs) all = all_put x (groups_of xs) all.0 (all_grouped xs all.1)
 
@@ -105,7 +106,8 @@ any_put label x (g ∷ gs) = elim (g.0.0 == x.label.0) as (λ b. (g.0.0 == x.lab
       | false ↦ λ is. refl
     ] refl
 
-any_grouped : (label : Label) (xs : List LabelledItem) → list_any (is_of label) (groups_of xs) ≡ list_any (is_with label) xs
+any_grouped : (label : Label) (xs : List LabelledItem)
+    → list_any (is_of label) (groups_of xs) ≡ list_any (is_with label) xs
 any_grouped label [] = refl
 any_grouped label (x ∷ xs) =
     any_put label x (groups_of xs) ∙ ap (λ (b : Bool). is_with label x || b) (any_grouped label xs)
@@ -140,7 +142,8 @@ above_all n (g ∷ gs) label same above =
 abbrev Holds : List LabelledItem → Group → Type 0
 Holds xs g = g.1 ≡ items_in (filter (is_with g.0) xs)
 
-held_later : (x : LabelledItem) (xs : List LabelledItem) (gs : List Group) → AllByRecursion (λ h. number_of x < h.0.0) gs
+held_later : (x : LabelledItem) (xs : List LabelledItem) (gs : List Group)
+    → AllByRecursion (λ h. number_of x < h.0.0) gs
     → AllByRecursion (Holds xs) gs → AllByRecursion (Holds (x ∷ xs)) gs
 held_later x xs [] above all = tt
 held_later x xs (g ∷ gs) above all =

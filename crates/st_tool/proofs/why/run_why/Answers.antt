@@ -22,7 +22,8 @@ returns-in-Err g c =
     let reader = g.R.ByteSource in
     record {
       output = refused c.in-Err.fault;
-      owed = owes_fault reader.gives reader.ended reader.failed _ _ (IsWhy c.args.pid c.args.index) Faulty c.in-Err.fault
+      owed = owes_fault reader.gives reader.ended reader.failed _ _
+          (IsWhy c.args.pid c.args.index) Faulty c.in-Err.fault
           c.in-Err.ensures;
       delivered = c.tell_fault.ensures;
     }
