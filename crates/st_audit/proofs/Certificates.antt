@@ -36,7 +36,7 @@ use Rattle.st_plan.specs.Moves.{Move, clock, earlier_of, last, move_by, moves}
 use Rattle.st_plan.specs.Plain.{IsPlain}
 use Rattle.st_plan.specs.Reasons.{too_wide, uncaused}
 use Rattle.st_plan.proofs.ForCallers.{caused_at, only_whole, opens, stream_append, IsKept, IsSo}
-use Rattle.st_full.specs.Full.{IsFullyShown}
+use Rattle.st_plan.specs.Full.{IsFullyShown}
 use Rattle.st_audit.specs.declared.finding.Finding.{Finding}
 use Rattle.st_audit.specs.declared.finding.Finding.TheVariants as finding
 use Rattle.st_audit.specs.declared.finding.Reason.TheVariants as reason

@@ -12,7 +12,7 @@ ghost use Rattle.st_pair.specs.Final.{RulesOut};
 ghost use Rattle.st_audit.specs.Construction.{end_of, IsAudit, IsFoundAt, Judged};
 ghost use Rattle.st_audit.specs.Findings.{fault_of, unfit_by, HandsOn, IsFinding, IsCertificate};
 ghost use Rattle.st_plan.specs.Plain.{IsPlain};
-ghost use Rattle.st_full.specs.Full.{IsFullyShown};
+ghost use Rattle.st_plan.specs.Full.{IsFullyShown};
 
 use crate::construction::{Construction, Halt};
 use crate::finding::{AuditFault, Finding, Reason};

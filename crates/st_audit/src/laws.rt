@@ -5,7 +5,7 @@ ghost use Rattle.std.specs.Prelude.{◌≡◌, ◌⊎◌, ℕ, List};
 ghost use Rattle.st_core.specs.Run.{Stream};
 ghost use Rattle.st_core.specs.Streams.{IsStreams};
 ghost use Rattle.st_plan.specs.Plain.{IsPlain};
-ghost use Rattle.st_full.specs.Full.{IsFullyShown};
+ghost use Rattle.st_plan.specs.Full.{IsFullyShown};
 ghost use Rattle.st_audit.specs.declared.finding.Finding.{Finding as FindingValue};
 ghost use Rattle.st_audit.specs.Construction.{IsAudit};
 ghost use Rattle.st_audit.specs.Findings.{IsCertificate, IsFinding};

@@ -35,7 +35,7 @@ use Rattle.st_full.specs.Renumbering.{count_of_rank, counts_of, renumbered_strea
 use Rattle.st_full.specs.Supply.{excess, is_free}
 use Rattle.st_full.specs.Wholes.{wholes_of}
 use Rattle.st_full.proofs.ReasonsOfCompletions.{shown_nothing}
-use Rattle.st_full.proofs.Plainness.{full_plain}
+use Rattle.st_plan.proofs.ForCallers.{full_plain}
 
 abbrev a : Pid
 a = pid_on 0 30

@@ -24,7 +24,7 @@ use Rattle.st_order.specs.Items.{is_hidden}
 use Rattle.st_plan.specs.Marks.{all_streams, Marked, told_events, told_streams, Whole}
 use Rattle.st_full.specs.Choice.{HasChoice, IsChoice, is_taken}
 use Rattle.st_full.specs.Completed.{IsCompleted, IsShownInOneTrace}
-use Rattle.st_full.specs.Full.{IsFull}
+use Rattle.st_plan.specs.Full.{IsFull}
 use Rattle.st_full.specs.Local.{IsNeedless}
 use Rattle.st_full.specs.Needs.{marked_of}
 use Rattle.st_full.proofs.CompletionsOfCompletions.{completed_again}

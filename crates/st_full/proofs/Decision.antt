@@ -12,7 +12,7 @@ use Rattle.st_core.specs.Streams.{IsStreams}
 use Rattle.st_pair.specs.Places.{event_at}
 use Rattle.st_plan.specs.Marks.{all_streams, told_streams, Whole}
 use Rattle.st_full.specs.Completed.{IsShownInOneTrace}
-use Rattle.st_full.specs.Full.{IsFull}
+use Rattle.st_plan.specs.Full.{IsFull}
 use Rattle.st_full.specs.Needs.{marked_of}
 use Rattle.st_full.specs.Reasons.{HasEachSend, HasNoReason, HasReason, Late, Reason, StandsAgainst, TooHigh, Unfounded}
 use Rattle.st_full.specs.Reasons.{Unsent}

@@ -6,10 +6,10 @@ use Rattle.st_core.specs.Run.{Shows, Stream, pids_of}
 use Rattle.st_plan.specs.Plain.{IsSettled}
 use Rattle.st_plan.proofs.ForCallers.{completion_is_shown}
 use Rattle.st_full.specs.Completed.{IsCompleted, IsShownInOneTrace}
-use Rattle.st_full.specs.Full.{IsFull}
+use Rattle.st_plan.specs.Full.{IsFull}
 use Rattle.st_full.specs.Wholes.{wholes_of}
 use Rattle.st_full.proofs.RunCompletions.{run_completed}
-use Rattle.st_full.proofs.Plainness.{full_streams_plain}
+use Rattle.st_plan.proofs.ForCallers.{full_streams_plain}
 
 module _ (top : ℕ) (streams : List Stream) where
   pub shown_full : IsRising (pids_of streams) → IsShownInOneTrace top streams → IsCompleted IsFull top streams

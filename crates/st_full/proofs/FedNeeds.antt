@@ -15,7 +15,7 @@ use Rattle.st_plan.specs.Marks.{Marked, told_events}
 use Rattle.st_plan.proofs.ForCallers.{take_more}
 use Rattle.st_full.specs.Needs.{is_late, is_need, IsFed, IsToldAt}
 use Rattle.st_full.proofs.LoudRuns.{told_append}
-use Rattle.st_full.proofs.Turns.{leaves}
+use Rattle.st_plan.proofs.ForCallers.{leaves}
 
 -- every event of these
 abbrev pub events : List Marked → List Event

@@ -18,7 +18,7 @@ use Rattle.st_full.proofs.FedNeeds.{events}
 use Rattle.st_full.proofs.EventsBefore.{AreTimely}
 use Rattle.st_full.proofs.InventedSends.{all_there, HasNo, Keeps, prev_for, told_only, with_send}
 use Rattle.st_full.proofs.NeedlessStreams.{above_if}
-use Rattle.st_full.proofs.Turns.{leaves}
+use Rattle.st_plan.proofs.ForCallers.{leaves}
 
 -- what is kept, of all events
 pub keeps_timely : (all before : List Event) (ms : List Marked) → Keeps all before ms → AreTimely all (events ms)

@@ -14,7 +14,7 @@ use Rattle.st_full.specs.Completion.{begins}
 use Rattle.st_full.specs.Needs.{is_late, is_need}
 use Rattle.st_full.proofs.FedNeeds.{events}
 use Rattle.st_full.proofs.EventsBefore.{Alike, alike_late, alike_need, alike_push, AreTimely}
-use Rattle.st_full.proofs.Turns.{leaves}
+use Rattle.st_plan.proofs.ForCallers.{leaves}
 
 abbrev marked : Bool → Event → Marked
 marked told e = record { event = e; told = told }

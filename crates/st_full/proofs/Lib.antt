@@ -1,7 +1,4 @@
 -- The lemmas; what upper crates may cite is in `ForCallers`.
-pub mod FullRuns
-pub mod Turns
-pub mod Plainness
 pub mod LoudActs
 pub mod LoudRuns
 pub mod ShownStreams

@@ -9,7 +9,7 @@ use Rattle.st_pair.specs.Places.{is_stamp}
 use Rattle.st_full.specs.Needs.{is_need}
 use Rattle.st_full.specs.Supply.{needs_from}
 use Rattle.st_full.proofs.EventsBefore.{Alike, alike_late, alike_need, alike_push, AreTimely, both_false, no_stamp}
-use Rattle.st_full.proofs.Turns.{leaves}
+use Rattle.st_plan.proofs.ForCallers.{leaves}
 
 -- after what is alike the needs are the same
 pub needs_alike : (v : ℕ) (xs ys es : List Event) → Alike xs ys → needs_from v xs es ≡ needs_from v ys es

@@ -21,12 +21,12 @@ use Rattle.st_plan.specs.Moves.{Move, clock, last, moves}
 use Rattle.st_plan.specs.Reasons.{uncaused}
 use Rattle.st_plan.specs.Plain.{IsSettled, out_of_turn, told}
 use Rattle.st_full.specs.Completed.{IsCompleted, IsShownInOneTrace}
-use Rattle.st_full.specs.Full.{IsFull}
+use Rattle.st_plan.specs.Full.{IsFull}
 use Rattle.st_full.specs.Local.{IsNeedless}
 use Rattle.st_full.specs.Needs.{HoldsOfNone, is_late, is_need}
 use Rattle.st_full.proofs.Equivalences.{settled_shown, shown_full}
-use Rattle.st_full.proofs.Plainness.{greatest_has}
-use Rattle.st_full.proofs.Turns.{After, after, event_move, event_move_there, is_move_of, own_step, turned}
+use Rattle.st_plan.proofs.ForCallers.{greatest_has}
+use Rattle.st_plan.proofs.ForCallers.{After, after, event_move, event_move_there, is_move_of, own_step, turned}
 
 -- a stamp that isn't late is above the greatest count
 pub above_if : (stamp less : Bool) → stamp ≡ true → (stamp && not less) ≡ false → less ≡ true

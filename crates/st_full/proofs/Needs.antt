@@ -12,7 +12,7 @@ use Rattle.st_core.specs.Streams.{events_of, stream_of}
 use Rattle.st_pair.specs.Places.{event_at}
 use Rattle.st_pair.proofs.ForCallers.{events_in, paired, serial_rises}
 use Rattle.st_plan.specs.Marks.{all_streams, Marked, told_events, told_streams, Whole}
-use Rattle.st_full.specs.Full.{IsFull}
+use Rattle.st_plan.specs.Full.{IsFull}
 use Rattle.st_full.specs.Needs.{HoldsOfNone, is_late, is_need, is_rootless, IsFed, IsFedAt, marked_of}
 use Rattle.st_full.proofs.FedNeeds.{event_of_mark, events, GoOn, need_fed, never_late, told_at}
 

@@ -6,7 +6,7 @@ use Rattle.st_core.specs.Pid.{IsRising}
 use Rattle.st_core.specs.Run.{Shows, Stream, pids_of}
 use Rattle.st_core.specs.Streams.{IsStreams}
 use Rattle.st_plan.specs.Marks.{all_streams, told_streams, Whole}
-use Rattle.st_full.specs.Full.{IsFull}
+use Rattle.st_plan.specs.Full.{IsFull}
 use Rattle.st_full.specs.Needs.{HoldsOfNone, is_late, is_rootless}
 use Rattle.st_full.specs.Supply.{IsSupplied}
 use Rattle.st_full.specs.Wholes.{wholes_of}

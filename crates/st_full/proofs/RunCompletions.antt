@@ -22,11 +22,11 @@ use Rattle.st_core.proofs.ForCallers.{step_done}
 use Rattle.st_plan.specs.Build.{state_after}
 use Rattle.st_plan.specs.Marks.{all_streams, Marked, told_events, told_streams, Whole}
 use Rattle.st_plan.proofs.ForCallers.{run_append, Silent, stream_append, stream_silent}
-use Rattle.st_full.specs.Full.{IsFull}
+use Rattle.st_plan.specs.Full.{IsFull}
 use Rattle.st_full.specs.Wholes.{loud, whole_from, wholes_of}
 use Rattle.st_full.proofs.LoudRuns.{are_heard, AreHeard, IsLoud, no_reset_append, whole_append, whole_told}
 use Rattle.st_full.proofs.ShownStreams.{shown_are_streams}
-use Rattle.st_full.proofs.FullRuns.{run_full}
+use Rattle.st_plan.proofs.ForCallers.{run_full}
 
 -- TRACERS
 

@@ -28,7 +28,7 @@ use Rattle.st_pair.proofs.ForCallers.{cond_none, event_none, events_in, given_at
 use Rattle.st_pair.proofs.ForCallers.{once_place, own_rule, paired, stamp_once}
 use Rattle.st_order.proofs.ForCallers.{drop_front}
 use Rattle.st_plan.specs.Marks.{all_streams, Marked, told_streams, Whole}
-use Rattle.st_full.specs.Full.{IsFull}
+use Rattle.st_plan.specs.Full.{IsFull}
 use Rattle.st_full.specs.Needs.{IsFed, marked_of}
 use Rattle.st_full.specs.Supply.{excess, is_free, is_own_supply, IsSupplied, needs, needs_from}
 use Rattle.st_full.proofs.FedNeeds.{need_fed, told_at}

@@ -23,7 +23,7 @@ use Rattle.st_full.proofs.Mixes.{among_alike, at_among, events_append}
 use Rattle.st_full.proofs.EventsInTurn.{AreReceives, count_low, greatest_append, needs_append}
 use Rattle.st_full.proofs.EventsInTurn.{none_asks, receives_need_none}
 use Rattle.st_full.proofs.EventsInTurn.{receives_timely, timely_back, timely_both, timely_high}
-use Rattle.st_full.proofs.Turns.{leaves}
+use Rattle.st_plan.proofs.ForCallers.{leaves}
 use Rattle.st_full.proofs.UntoldEvents.{untold_events}
 use Rattle.st_full.proofs.Zeros.{AreCounted, zero_behind}
 

@@ -13,6 +13,7 @@ ghost use Rattle.st_core.specs.State.{zero_state};
 ghost use Rattle.st_core.specs.Streams.{events_of, IsStreams};
 ghost use Rattle.st_pair.specs.Pairing.{refusal};
 ghost use Rattle.st_pair.specs.Places.{event_at};
+ghost use Rattle.st_plan.specs.Full.{IsFull};
 ghost use Rattle.st_plan.specs.Marks.{all_streams, told_streams, Whole};
 ghost use Rattle.st_plan.specs.Plain.{IsPlain, IsSettled};
 ghost use Rattle.st_full.specs.Choice.{HasChoice, IsChoice};
@@ -20,7 +21,6 @@ ghost use Rattle.st_full.specs.Completed.{IsCompleted, IsShownInOneTrace};
 ghost use Rattle.st_full.specs.Completion.{completion};
 ghost use Rattle.st_full.specs.FinalReasons.{FinalReason, HasNoFinalReason, HasZeroBehindReceive, HasZeroBehindStamp};
 ghost use Rattle.st_full.specs.FinalReasons.{IsZeroBehind, StandsAgainstAll};
-ghost use Rattle.st_full.specs.Full.{IsFull};
 ghost use Rattle.st_full.specs.HiddenSends.{HasBestPlacing, least, placings};
 ghost use Rattle.st_full.specs.Local.{IsNeedless};
 ghost use Rattle.st_full.specs.Needs.{is_late, is_need, is_rootless, HoldsOfNone, IsFedAt, marked_of};
@@ -31,27 +31,6 @@ ghost use Rattle.st_full.specs.Scarce.{IsBest};
 ghost use Rattle.st_full.specs.Stretches.{HasBestForScarce, HasNoTwoScarce};
 ghost use Rattle.st_full.specs.Supply.{IsSupplied, needs};
 ghost use Rattle.st_full.specs.Wholes.{wholes_of};
-
-/// Streams that tell all are plain: the auditor has no reason against them.
-pub fn full_streams_are_plain()
-    ensures { (top : ℕ) (streams : List Stream) → IsRising (pids_of streams) → IsFull top streams
-        → IsPlain top streams }
-{}
-
-/// If acts without a reset show streams and report every stamp and every receive of a token, the
-/// streams tell all.
-pub fn full_runs_have_full_streams()
-    ensures { (top : ℕ) (streams : List Stream) (acts : List Act) (shows : Shows top streams acts)
-        → NoReset acts → ReportsEverything (zero_state (pids_of streams)) acts shows.0 → IsFull top streams }
-{}
-
-/// If acts without a reset show streams and report every stamp and every receive of a token, the
-/// streams are plain: the auditor has no reason against them.
-pub fn full_runs_are_plain()
-    ensures { (top : ℕ) (streams : List Stream) (acts : List Act) (shows : Shows top streams acts)
-        → IsRising (pids_of streams) → NoReset acts
-        → ReportsEverything (zero_state (pids_of streams)) acts shows.0 → IsPlain top streams }
-{}
 
 /// Whatever acts without a reset report: all that they do, reported or not, is full streams, and what
 /// is told of these are the streams that the acts show. So each run without a reset has a full

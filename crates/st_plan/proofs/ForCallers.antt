@@ -1,5 +1,6 @@
 -- The lemmas that proofs of the crates above may cite: on the moves along an order, on acts of one process's own, on
--- what the moves say of the machine, on each move of settled streams, and on what the acts before a stamp do.
+-- what the moves say of the machine, on each move of settled streams, on what the acts before a stamp do, and on
+-- streams that tell all.
 
 -- ---- the moves along an order
 pub use Rattle.st_plan.proofs.EarlierMoves.{take_more, moves_append, one_move, earlier_more, order_there}
@@ -22,3 +23,7 @@ pub use Rattle.st_plan.proofs.Wholes.{told_of_whole, completion_is_shown}
 pub use Rattle.st_plan.proofs.OneTrace.{acts_none, append_none, no_reset, tracers_none}
 -- ---- the acts before a stamp
 pub use Rattle.st_plan.proofs.Readiness.{is_alone, is_ready, IsQuiet, QuietRun, Reaches}
+-- ---- runs that report everything, and full streams
+pub use Rattle.st_plan.proofs.FullRuns.{run_full}
+pub use Rattle.st_plan.proofs.Turns.{After, after, event_move, event_move_there, is_move_of, leaves, own_step, turned}
+pub use Rattle.st_plan.proofs.Plainness.{full_plain, full_streams_plain, greatest_has}

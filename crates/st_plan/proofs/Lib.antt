@@ -24,4 +24,7 @@ pub mod OneTrace
 pub mod SettledStreams
 pub mod PlainStreams
 pub mod Wholes
+pub mod FullRuns
+pub mod Turns
+pub mod Plainness
 pub mod ForCallers

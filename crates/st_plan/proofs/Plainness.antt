@@ -22,9 +22,9 @@ use Rattle.st_order.specs.Turn.{StampsLead}
 use Rattle.st_plan.specs.Moves.{Move, clock, is_taking, last, moves, skip, skips}
 use Rattle.st_plan.specs.Reasons.{most_skipped, most_skipped_in_all, too_wide, uncaused}
 use Rattle.st_plan.specs.Plain.{IsPlain, out_of_turn, told}
-use Rattle.st_full.specs.Full.{IsFull}
-use Rattle.st_full.proofs.FullRuns.{run_full}
-use Rattle.st_full.proofs.Turns.{After, after, event_move, event_move_there, is_move_of, move_back, own_step, turned}
+use Rattle.st_plan.specs.Full.{IsFull}
+use Rattle.st_plan.proofs.FullRuns.{run_full}
+use Rattle.st_plan.proofs.Turns.{After, after, event_move, event_move_there, is_move_of, move_back, own_step, turned}
 
 -- HEIGHTS
 

@@ -24,7 +24,8 @@ use Rattle.st_order.specs.Turn.{in_turn, is_event_of, StampsLead}
 use Rattle.st_order.proofs.ForCallers.{all_right, drop_front, keeps_turn}
 use Rattle.st_plan.specs.Moves.{Move, clock, last, move_by, moves}
 use Rattle.st_plan.specs.Plain.{told}
-use Rattle.st_plan.proofs.ForCallers.{take_more, IsThere, one_move, order_there, item_is}
+use Rattle.st_plan.proofs.EarlierMoves.{take_more, IsThere, one_move, order_there}
+use Rattle.st_plan.proofs.OrderedMoves.{item_is}
 
 -- MOVES IN TURN
 

@@ -24,7 +24,7 @@ use Rattle.st_pair.specs.Places.{event_at, is_stamp}
 use Rattle.st_pair.specs.Pairing.{source_of, stamp_of}
 use Rattle.st_pair.proofs.ForCallers.{events_in, given_from, own_rule, send_shown, shown_accepted, stamp_not_received}
 use Rattle.st_order.specs.Items.{is_hidden}
-use Rattle.st_full.specs.Full.{IsFull}
+use Rattle.st_plan.specs.Full.{IsFull}
 
 -- a process that has an event is listed, and its events are its reports
 events_shown : (streams : List Stream) (acts : List Act) (os : List Outcome) (p : Pid) (i : ℕ) (e : Event)
