@@ -1,6 +1,6 @@
 -- An index of a queue is one of the queue with the message.
 use Rattle.std.proofs.Common.{[], ◌∷◌, ◌++◌}
-use Rattle.st_tests.proofs.index.pushed.Goals as goal
+use Rattle.st_tests.proofs.index.index_with.Goals as goal
 
 pub returns-clause-index : goal.returns-clause-index
 returns-clause-index c =
