@@ -27,8 +27,8 @@ fn words_of(rt: &HostRuntime) -> io::Result<Vec<String>> {
     Ok(words)
 }
 
-/// Does what the words ask for, on the file that they name or on standard input. A file that can't be opened is named on
-/// standard error, beside the output of a device that failed.
+/// Does what the words ask for, on the file that they name or on standard input. A file that can't be
+/// opened is named on standard error, beside the output of a device that failed.
 fn serve<H: AllocGlobal + Files + Threads + Sync + Eprint, R: ByteSource, W: ByteSink>(
     rt: &H,
     request: &Request<'_>,

@@ -25,7 +25,8 @@ use Rattle.st_core.specs.Step.{Acted, Outcome, acted, actor, reached, changed, p
 use Rattle.st_core.specs.Run.{run_from}
 use Rattle.st_core.proofs.ForCallers.{mapped, process_after, process_pid, run_parts, step_parts, pid_eq-refl}
 use Rattle.st_plan.specs.declared.plan.Start.{Start}
-use Rattle.st_plan.specs.Build.{dress, is_dressed, quiet, raise, ready, renew, renewed_start, silent, state_after, unstamped_token}
+use Rattle.st_plan.specs.Build.{dress, is_dressed, quiet, raise, ready, renew, renewed_start, silent}
+use Rattle.st_plan.specs.Build.{state_after, unstamped_token}
 use Rattle.st_plan.proofs.ForCallers.{is_alone}
 
 -- ONE ACT

@@ -8,8 +8,8 @@ use Rattle.st_pair.specs.declared.answer.PairFault.{PairFault}
 use Rattle.st_pair.specs.declared.answer.PairFault.TheVariants as fault
 use Rattle.st_pair.specs.Pairing.{refusal, IsPairFault}
 use Rattle.st_plan.specs.Plain.{IsPlain}
-use Rattle.st_full.specs.Full.{IsFullyShown}
-use Rattle.st_full.proofs.ForCallers.{full_plain}
+use Rattle.st_plan.specs.Full.{IsFullyShown}
+use Rattle.st_plan.proofs.ForCallers.{full_plain}
 use Rattle.st_audit.specs.declared.finding.AuditFault.{AuditFault}
 use Rattle.st_audit.specs.declared.finding.Finding.{Finding}
 use Rattle.st_audit.specs.Findings.{unfit_by, IsCertificate}

@@ -16,8 +16,8 @@ use Rattle.st_plan.specs.declared.plan.Start.{Start}
 use Rattle.st_plan.specs.Build.{ready, start_of}
 use Rattle.st_plan.proofs.ForCallers.{is_ready, lifted, stream_silent, Silent}
 use Rattle.st_audit.specs.Progress.{is_uncaused}
-use Rattle.st_audit.proofs.Moved.{caused_by}
-use Rattle.st_audit.proofs.Widening.{run_wider}
+use Rattle.st_audit.proofs.MovedCounts.{caused_by}
+use Rattle.st_audit.proofs.GreaterClocks.{run_wider}
 
 -- if the count is not above the clock, and prev is the last count, the acts are those for the next count
 ready_low : (p : Pid) (x : Start) (n : Label) (s : Serial) (f : Flags) → s.prev ≡ x.last → s.this ≤ x.clock

@@ -32,8 +32,8 @@ use Rattle.st_audit.specs.declared.construction.Halt.{Halt}
 use Rattle.st_audit.specs.declared.construction.Halt.TheVariants as halt
 use Rattle.st_audit.specs.Findings.{IsNo}
 use Rattle.st_audit.specs.Progress.{IsNoStop, IsPlainHalt, Ran, Serves}
-use Rattle.st_audit.proofs.Ending.{split_at}
-use Rattle.st_audit.proofs.Running.{some_is}
+use Rattle.st_audit.proofs.Halts.{split_at}
+use Rattle.st_audit.proofs.Runs.{some_is}
 
 -- THE VERDICT
 

@@ -100,7 +100,7 @@ turn top streams marks s earlier m = if out_of_turn earlier m then Stopped [] el
 -- ALL ITEMS
 
 -- How the construction ends. Judged: acts for the checker, and the place of the last item that was tried. Unfounded: a
--- reason of the auditor's own, and the place of the item that it stands against
+-- reason of the auditor's own, and the place of the item of which it holds
 pub data End : Type 0 where
   Judged : List Act → Option (Pid × ℕ) → End
   Unfounded : Pid × ℕ → Reason → End

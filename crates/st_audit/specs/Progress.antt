@@ -112,8 +112,8 @@ abbrev pub if_told : Bool → Event → Option Event
 if_told b e = if b then Some e else None
 
 -- the act of the event at (p, i) reported it if it is told, and else could stamp its serial
-pub record IsReportedDone (top : ℕ) (streams : List Stream) (marks : Marks) (old : State) (skipped : ℕ) (p : Pid) (i : ℕ)
-    (new : State) (skipped_now : ℕ) : Type 0 where
+pub record IsReportedDone (top : ℕ) (streams : List Stream) (marks : Marks) (old : State) (skipped : ℕ) (p : Pid)
+    (i : ℕ) (new : State) (skipped_now : ℕ) : Type 0 where
   pub event : Event
   pub at : event_at streams p i ≡ Some event
   pub told : Told
@@ -220,7 +220,8 @@ pub record Serves (top : ℕ) (streams : List Stream) (marks : Marks) (earlier :
 
 -- one of the acts has no step, and these were tried
 abbrev pub IsStuck : ℕ → State → List Act → List Act → Halt → List Act → Type 0
-IsStuck top old plan before halt.Stopped now = (run_from top old plan ≡ None) × (now ≡ before ++ tried_acts top old plan)
+IsStuck top old plan before halt.Stopped now =
+    (run_from top old plan ≡ None) × (now ≡ before ++ tried_acts top old plan)
 IsStuck top old plan before h now = Unit {0}
 
 -- the acts went through, and the call says this of their outcomes

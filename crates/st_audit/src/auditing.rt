@@ -12,7 +12,7 @@ ghost use Rattle.st_pair.specs.Final.{RulesOut};
 ghost use Rattle.st_audit.specs.Construction.{end_of, IsAudit, IsFoundAt, Judged};
 ghost use Rattle.st_audit.specs.Findings.{fault_of, unfit_by, HandsOn, IsFinding, IsCertificate};
 ghost use Rattle.st_plan.specs.Plain.{IsPlain};
-ghost use Rattle.st_full.specs.Full.{IsFullyShown};
+ghost use Rattle.st_plan.specs.Full.{IsFullyShown};
 
 use crate::construction::{Construction, Halt};
 use crate::finding::{AuditFault, Finding, Reason};
@@ -178,8 +178,8 @@ pub fn audit<const TOP: u64>(
     // reset streams with any.
     ensures rules_out { IfOk result (λ found. ForSome (fault_of found) (RulesOut streams.now)) }
 
-    // It certainly finds a certificate if nothing stands against the streams, or if some run
-    // reported all of itself.
+    // It certainly finds a certificate if no reason holds of the streams, or if some run reported
+    // all of itself.
     ensures certain { IfOk result (λ found.
         IsPlain TOP streams.now ⊎ IsFullyShown TOP streams.now → IsCertificate found) }
 {

@@ -2,7 +2,7 @@
 //! begins at zero clocks.
 //!
 //! After each item the clock and the last count of each process are what the items so far make of
-//! them. It stops if a reason of the auditor's own holds against an item, or if the world
+//! them. It stops if a reason of the auditor's own holds of an item, or if the world
 //! doesn't go the way of the streams; what the acts are then worth the checker says.
 
 ghost use Rattle.std.specs.Prelude.{◌≡◌, ◌+◌, ◌++◌, ◌<◌, ◌↔◌, [], ◌∷◌, length, option_map, Bool};
@@ -26,7 +26,8 @@ ghost use Rattle.st_order.specs.Order.{IsOrder};
 ghost use Rattle.st_world.specs.World.{outcome_to, place_in};
 ghost use Rattle.st_plan.specs.Build.{flags_of, ready, start_of, tracers_after, GoesOn};
 ghost use Rattle.st_plan.specs.Moves.{earlier_of, move_by};
-ghost use Rattle.st_audit.specs.Progress.{if_told, is_too_wide, is_uncaused, missing_count, AreCounted, IsClockBelow, IsHalt};
+ghost use Rattle.st_audit.specs.Progress.{if_told, is_too_wide, is_uncaused, missing_count};
+ghost use Rattle.st_audit.specs.Progress.{AreCounted, IsClockBelow, IsHalt};
 ghost use Rattle.st_audit.specs.Progress.{IsActed, IsActHalt, IsHiddenDone, IsPlainHalt, IsReportedDone, IsSoFar};
 ghost use Rattle.st_audit.specs.Progress.{StampsEvent, IsStampHalt, IsStampHaltAt, IsStampOf, IsTaken, Ran};
 ghost use Rattle.st_audit.specs.Progress.{AreTold, PutsActs, HasTold, IsNoStop, Makes, Serves, TellsOne};

@@ -5,7 +5,7 @@ ghost use Rattle.std.specs.Prelude.{◌≡◌, ◌⊎◌, ℕ, List};
 ghost use Rattle.st_core.specs.Run.{Stream};
 ghost use Rattle.st_core.specs.Streams.{IsStreams};
 ghost use Rattle.st_plan.specs.Plain.{IsPlain};
-ghost use Rattle.st_full.specs.Full.{IsFullyShown};
+ghost use Rattle.st_plan.specs.Full.{IsFullyShown};
 ghost use Rattle.st_audit.specs.declared.finding.Finding.{Finding as FindingValue};
 ghost use Rattle.st_audit.specs.Construction.{IsAudit};
 ghost use Rattle.st_audit.specs.Findings.{IsCertificate, IsFinding};
@@ -24,7 +24,7 @@ pub fn findings_hold()
         → IsAudit top streams found → IsFinding top streams found }
 {}
 
-/// It is a certificate if nothing stands against the streams, or if some run without a reset reported all of itself.
+/// It is a certificate if no reason holds of the streams, or if some run without a reset reported all of itself.
 pub fn certain_streams_fit()
     ensures { (top : ℕ) (streams : List Stream) (found : FindingValue) → IsStreams streams
         → IsPlain top streams ⊎ IsFullyShown top streams → IsAudit top streams found → IsCertificate found }

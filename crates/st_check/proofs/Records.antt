@@ -14,7 +14,8 @@ use Rattle.st_core.specs.Pid.{pid_eq, IsBelow, IsRising}
 use Rattle.st_core.specs.State.{Process, State, zero_state}
 use Rattle.st_core.specs.Step.{Outcome, actor, step}
 use Rattle.st_core.specs.Run.{Stream, pids_of, run, stream}
-use Rattle.st_core.specs.Streams.{stream_of, lists, names_listed, unlisted_among, unlisted, with_event, added, is_own, is_among, names_among}
+use Rattle.st_core.specs.Streams.{stream_of, lists, names_listed, unlisted_among, unlisted, with_event, added, is_own}
+use Rattle.st_core.specs.Streams.{is_among, names_among}
 use Rattle.st_core.specs.Streams.{ComesLast}
 use Rattle.st_core.specs.Laws.{IsReportAmong, ReportsAmong}
 use Rattle.st_core.proofs.ForCallers.{pid_eq-true, pid_eq-swap, all_at, position-none}
@@ -25,8 +26,8 @@ use Rattle.st_check.proofs.Verdicts.{Rises, stream_rises}
 use Rattle.st_core.proofs.ForCallers.{run_sound}
 use Rattle.std.proofs.lemmas.List.Elements.{All-map}
 use Rattle.st_check.specs.Recorded.{IsReplayedTo, with_reported}
-use Rattle.st_check.proofs.Appended.{length-run, run-append, state_from-append}
-use Rattle.st_check.proofs.Passing.{state_pids, stream_other, stream_silent, stream_own}
+use Rattle.st_check.proofs.OneMoreAct.{length-run, run-append, state_from-append}
+use Rattle.st_check.proofs.PassedActs.{state_pids, stream_other, stream_silent, stream_own}
 use Rattle.st_core.proofs.ForCallers.{zero_pids}
 use Rattle.st_core.proofs.ForCallers.{process_among}
 
@@ -103,7 +104,8 @@ replies_more (x ∷ os) o = ap (λ ys. x.reply ∷ ys) (replies_more os o)
 
 -- the start
 pub recorded_start : (top : ℕ) (pids : List Pid) (s : State) (streams : List Stream) (replies : List Reply)
-    → s ≡ zero_state pids → streams ≡ reported_streams pids [] [] → replies ≡ [] → IsReplayedTo top pids [] s streams replies
+    → s ≡ zero_state pids → streams ≡ reported_streams pids [] [] → replies ≡ []
+    → IsReplayedTo top pids [] s streams replies
 recorded_start top pids s streams replies at_zero no_events no_replies =
     record { outcomes = []; runs = refl; is_state = at_zero; are_streams = no_events; are_replies = no_replies }
 
@@ -190,7 +192,8 @@ all_false pids acts os [] all = tt
 all_false pids acts os (e ∷ es) all = (ap not (names-reported pids acts os e ∙ all.0), all_false pids acts os es all.1)
 
 unlisted_rest : (pids : List Pid) (acts : List Act) (os : List Outcome) (rest : List Pid)
-    → AllZip (ReportsAmong pids) acts os → unlisted_among (reported_streams pids acts os) (reported_streams rest acts os) ≡ None
+    → AllZip (ReportsAmong pids) acts os
+    → unlisted_among (reported_streams pids acts os) (reported_streams rest acts os) ≡ None
 unlisted_rest pids acts os [] all = refl
 unlisted_rest pids acts os (p ∷ rest) all =
     let test = λ (e : Event). not (names_listed (reported_streams pids acts os) e) in

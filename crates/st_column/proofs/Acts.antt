@@ -18,7 +18,8 @@ use Rattle.st_text.specs.Text.{named}
 use Rattle.st_column.specs.Longest.{IsAnyOf, Spells, act_lines, flag_lines, message_lines, print_lines}
 use Rattle.st_column.specs.Longest.{restore_lines, restore_send_lines, token_lines, tracer_lines}
 use Rattle.st_column.proofs.Templates.{any_split}
-use Rattle.st_column.proofs.Pieces.{FitsNode, fits_pid, are_bytes, actor_out, count_out, last_pid, last_count, last_word}
+use Rattle.st_column.proofs.Pieces.{FitsNode, fits_pid, are_bytes, actor_out, count_out, last_pid}
+use Rattle.st_column.proofs.Pieces.{last_count, last_word}
 use Rattle.st_column.proofs.Pieces.{word_out, word_in, actor_in, count_in, pid_last, count_last, word_last}
 
 -- the text of three flags
@@ -79,10 +80,12 @@ module _ (wide : Bool) where
 
   -- ---- the template of an act
 
-  want_out : (p : Pid) (w : Want) → FitsNode wide p → FitsWant w → AllByRecursion (FitsNode wide) (named (acts.Receive p w))
+  want_out : (p : Pid) (w : Want) → FitsNode wide p → FitsWant w
+      → AllByRecursion (FitsNode wide) (named (acts.Receive p w))
       → IsAnyOf wide act_lines (spelled.act (acts.Receive p w))
   want_out p wants.First f v n =
-      act_at 1 _ (lit< tt) (spaced (codes "receive ") p (codes "first")) (actor_out wide (codes "receive ") (codes " first") _ p refl f (last_word wide (codes " first") refl))
+      act_at 1 _ (lit< tt) (spaced (codes "receive ") p (codes "first"))
+      (actor_out wide (codes "receive ") (codes " first") _ p refl f (last_word wide (codes " first") refl))
   want_out p (wants.From q) f v n =
       act_at 2 _ (lit< tt) (spaced (codes "receive ") p (spelled.want (wants.From q)))
       (actor_out wide (codes "receive ") (codes " from <M.P.0>") _ p refl f (last_pid wide (codes " from ") q refl n.1.0))
@@ -107,7 +110,8 @@ module _ (wide : Bool) where
       (actor_out wide (codes "set ") (codes " label L") _ p refl f
       (last_count wide (codes " label ") 76 most_label l.0 refl refl le))
   component_out p (components.Send true) f c =
-      act_at 12 _ (lit< tt) (spaced (codes "set ") p (codes "send true")) (actor_out wide (codes "set ") (codes " send true") _ p refl f (last_word wide (codes " send true") refl))
+      act_at 12 _ (lit< tt) (spaced (codes "set ") p (codes "send true"))
+      (actor_out wide (codes "set ") (codes " send true") _ p refl f (last_word wide (codes " send true") refl))
   component_out p (components.Send false) f c =
       act_at 13 _ (lit< tt) (spaced (codes "set ") p (codes "send false"))
       (actor_out wide (codes "set ") (codes " send false") _ p refl f (last_word wide (codes " send false") refl))
@@ -118,16 +122,19 @@ module _ (wide : Bool) where
       act_at 15 _ (lit< tt) (spaced (codes "set ") p (codes "receive false"))
       (actor_out wide (codes "set ") (codes " receive false") _ p refl f (last_word wide (codes " receive false") refl))
   component_out p (components.Print true) f c =
-      act_at 16 _ (lit< tt) (spaced (codes "set ") p (codes "print true")) (actor_out wide (codes "set ") (codes " print true") _ p refl f (last_word wide (codes " print true") refl))
+      act_at 16 _ (lit< tt) (spaced (codes "set ") p (codes "print true"))
+      (actor_out wide (codes "set ") (codes " print true") _ p refl f (last_word wide (codes " print true") refl))
   component_out p (components.Print false) f c =
       act_at 17 _ (lit< tt) (spaced (codes "set ") p (codes "print false"))
       (actor_out wide (codes "set ") (codes " print false") _ p refl f (last_word wide (codes " print false") refl))
 
   tracer_out : (p : Pid) (b : Bool) → FitsNode wide p → IsAnyOf wide act_lines (spelled.act (acts.Tracer p b))
   tracer_out p true f =
-      act_at 18 _ (lit< tt) (spaced (codes "tracer ") p (codes "true")) (actor_out wide (codes "tracer ") (codes " true") _ p refl f (last_word wide (codes " true") refl))
+      act_at 18 _ (lit< tt) (spaced (codes "tracer ") p (codes "true"))
+      (actor_out wide (codes "tracer ") (codes " true") _ p refl f (last_word wide (codes " true") refl))
   tracer_out p false f =
-      act_at 19 _ (lit< tt) (spaced (codes "tracer ") p (codes "false")) (actor_out wide (codes "tracer ") (codes " false") _ p refl f (last_word wide (codes " false") refl))
+      act_at 19 _ (lit< tt) (spaced (codes "tracer ") p (codes "false"))
+      (actor_out wide (codes "tracer ") (codes " false") _ p refl f (last_word wide (codes " false") refl))
 
   flags_bytes : (s r p : Bool) → are_bytes wide (flags s r p) ≡ true
   flags_bytes true true true = refl
@@ -156,18 +163,22 @@ module _ (wide : Bool) where
   restore_out p t f g fits =
       let f3 = flags t.flags.send t.flags.receive t.flags.print in
       let last = last_pid wide (codes " ") t.from refl g in
-      let this = count_out wide (codes " ") 78 most_number t.serial.this (codes " <M.P.0>") _ refl refl fits.serial.this last in
-      let prev = count_out wide (codes " ") 78 most_number t.serial.prev (codes " N <M.P.0>") _ refl refl fits.serial.prev this in
+      let this = count_out wide (codes " ") 78 most_number t.serial.this
+      (codes " <M.P.0>") _ refl refl fits.serial.this last in
+      let prev = count_out wide (codes " ") 78 most_number t.serial.prev
+      (codes " N <M.P.0>") _ refl refl fits.serial.prev this in
       let three =
       word_out wide f3 (codes " N N <M.P.0>") _ (flags_bytes t.flags.send t.flags.receive t.flags.print) prev in
       let space = word_out wide (codes " ") (f3 ++ codes " N N <M.P.0>") _ refl three in
       let label =
-      count_out wide (codes " ") 76 most_label t.label.0 (codes " " ++ (f3 ++ codes " N N <M.P.0>")) _ refl refl fits.label space in
+      count_out wide (codes " ") 76 most_label t.label.0
+      (codes " " ++ (f3 ++ codes " N N <M.P.0>")) _ refl refl fits.label space in
       subst (IsAnyOf wide act_lines) (sym (restore_flat p t))
       (restore_any t.flags.send t.flags.receive t.flags.print _
       (actor_out wide (codes "restore ") (codes " L " ++ (f3 ++ codes " N N <M.P.0>")) _ p refl f label))
 
-  pub act_out : (a : Act) → FitsAct a → AllByRecursion (FitsNode wide) (named a) → IsAnyOf wide act_lines (spelled.act a)
+  pub act_out : (a : Act) → FitsAct a → AllByRecursion (FitsNode wide) (named a)
+      → IsAnyOf wide act_lines (spelled.act a)
   act_out (acts.Send p q v) f n =
       act_at 0 _ (lit< tt) (sends_flat p q v)
       (actor_out wide (codes "send ") (codes " <M.P.0> N") _ p refl n.0
@@ -223,7 +234,8 @@ module _ (wide : Bool) where
   first_in : (text : List ℕ) → Spells wide (codes "receive <M.P.0> first") text → IsAct text
   first_in text x =
       let p = actor_in wide (codes "receive ") (codes " first") text refl x in
-      received p.value wants.First text p.fits tt (p.fits, tt) (p.whole _ (word_last wide (codes " first") p.rest refl p.more))
+      received p.value wants.First text p.fits tt (p.fits, tt)
+      (p.whole _ (word_last wide (codes " first") p.rest refl p.more))
 
   from_in : (text : List ℕ) → Spells wide (codes "receive <M.P.0> from <M.P.0>") text → IsAct text
   from_in text x =
@@ -429,7 +441,8 @@ module _ (wide : Bool) where
       let two = either_in tracer_lines (restore_send_lines ++ restore_lines) text (tracers_in text) one in
       let three = either_in flag_lines (tracer_lines ++ restore_send_lines ++ restore_lines) text (flags_in text) two in
       let four_groups =
-      either_in token_lines (flag_lines ++ (tracer_lines ++ (restore_send_lines ++ restore_lines))) text (tokens_in text)
+      either_in token_lines (flag_lines ++ (tracer_lines ++ (restore_send_lines ++ restore_lines))) text
+      (tokens_in text)
       three in
       let five =
       either_in print_lines (token_lines ++ (flag_lines ++ (tracer_lines ++ (restore_send_lines ++ restore_lines)))) text

@@ -1,5 +1,6 @@
 -- Each event has a template, and what a template of an event spells is one.
-use Rattle.std.proofs.Common.{◌≡◌, ℕ, ◌≤◌, Bool, true, List, [], ◌∷◌, ◌++◌, Option, Some, None, refl, sym, ap, subst, ◌∙◌}
+use Rattle.std.proofs.Common.{◌≡◌, ℕ, ◌≤◌, Bool, true, List, [], ◌∷◌, ◌++◌, Option, Some, None, refl, sym, ap}
+use Rattle.std.proofs.Common.{subst, ◌∙◌}
 use Rattle.std.proofs.Common.{append_assoc, ◌⊎◌, inl, inr, lit<}
 use Rattle.std.specs.Prelude.{codes, decimal, option_to_list}
 use Rattle.std.specs.List.{AllByRecursion}
@@ -118,7 +119,8 @@ module _ (wide : Bool) where
       let l =
       count_in wide (codes "{seq_trace,") 76 most_label (word ++ (codes "N,N},<M.P.0>" ++ tail)) text refl refl x in
       let first = count_in wide word 78 most_number (codes ",N},<M.P.0>" ++ tail) l.rest bytes refl l.more in
-      let second = count_in wide (codes ",") 78 most_number (codes "},<M.P.0>" ++ tail) first.rest refl refl first.more in
+      let second = count_in wide (codes ",") 78 most_number
+      (codes "},<M.P.0>" ++ tail) first.rest refl refl first.more in
       let p = actor_in wide (codes "},") tail second.rest refl second.more in
       record {
         label = l.value;

@@ -1,4 +1,5 @@
--- What a template spells piece by piece, in both directions: a word of bytes that stand for themselves, a number, a pid.
+-- What a template spells piece by piece, in both directions: a word of bytes that stand for themselves, a number, a
+-- pid.
 use Rattle.std.proofs.Common.{◌≡◌, ℕ, zero, suc, ◌≤◌, Bool, true, false, not, ◌&&◌, ◌||◌, List, [], ◌∷◌, ◌++◌}
 use Rattle.std.proofs.Common.{Option, Some, None, refl, sym, ap, subst, ◌∙◌, arith, append_assoc}
 use Rattle.std.specs.Prelude.{◌==◌, codes, decimal}
@@ -165,7 +166,8 @@ module _ (wide : Bool) where
       → Spells wide (word ++ (codes "<M.P.0>" ++ tail)) (word ++ (spelled.pid p ++ rest))
   actor_out word tail rest p e f x = word_out word (codes "<M.P.0>" ++ tail) _ e (pid_out p tail rest f x)
 
-  pub count_out : (word : List ℕ) (c most n : ℕ) (tail rest : List ℕ) → are_bytes word ≡ true → most_of wide c ≡ Some most
+  pub count_out : (word : List ℕ) (c most n : ℕ) (tail rest : List ℕ) → are_bytes word ≡ true
+      → most_of wide c ≡ Some most
       → n ≤ most → Spells wide tail rest → Spells wide (word ++ (c ∷ tail)) (word ++ (decimal n ++ rest))
   count_out word c most n tail rest e is le x =
       word_out word (c ∷ tail) _ e (number_out c most n tail rest is le x)

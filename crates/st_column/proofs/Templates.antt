@@ -69,7 +69,8 @@ module _ (wide : Bool) where
   is_byte c none =
       subst (λ (o : Option ℕ). MatchOption o (c ∷ [] ≡ c ∷ []) (λ most. IsNumber most (c ∷ []))) (sym none) refl
 
-  pub end_longest : (c : ℕ) (template line : List ℕ) → (0 < length line → ⊥) → IsLongest (Spells wide (c ∷ template)) line 0
+  pub end_longest : (c : ℕ) (template line : List ℕ) → (0 < length line → ⊥)
+      → IsLongest (Spells wide (c ∷ template)) line 0
   end_longest c template line not = none_goes (c ∷ template) line (λ m le x. none m le)
     where
       none : (m : ℕ) → m ≤ length line → m ≤ 0
@@ -92,7 +93,8 @@ module _ (wide : Bool) where
       most zero le x = omega arith
       most (suc m) le x = absurd (not (behind_byte c b template (take m line) x.0 none x.1).0)
 
-  pub same_longest : (c : ℕ) (template line : List ℕ) (n : ℕ) → most_of wide c ≡ None → IsLongest (Spells wide template) line n
+  pub same_longest : (c : ℕ) (template line : List ℕ) (n : ℕ) → most_of wide c ≡ None
+      → IsLongest (Spells wide template) line n
       → IsLongest (Spells wide (c ∷ template)) (c ∷ line) (1 + n)
   same_longest c template line n none l =
       record { within = omega (arith, l.within); begins = begins; most = most }
@@ -264,7 +266,8 @@ module _ (wide : Bool) where
   any_right [] ys text x = x
   any_right (t ∷ ts) ys text x = inr (any_right ts ys text x)
 
-  pub any_split : (xs ys : List (List ℕ)) (text : List ℕ) → IsAnyOf wide (xs ++ ys) text → IsAnyOf wide xs text ⊎ IsAnyOf wide ys text
+  pub any_split : (xs ys : List (List ℕ)) (text : List ℕ) → IsAnyOf wide (xs ++ ys) text
+      → IsAnyOf wide xs text ⊎ IsAnyOf wide ys text
   any_split [] ys text x = inr x
   any_split (t ∷ ts) ys text (inl x) = inl (inl x)
   any_split (t ∷ ts) ys text (inr x) = elim (any_split ts ys text x) [ inl a ↦ inl (inr a) | inr b ↦ inr b ]
@@ -278,7 +281,8 @@ module _ (wide : Bool) where
 
   module _ (xs ys : List (List ℕ)) (line : List ℕ) (n m : ℕ) (a : IsLongest (IsAnyOf wide xs) line n)
       (b : IsLongest (IsAnyOf wide ys) line m) where
-    both_most : (k : ℕ) → n ≤ k → m ≤ k → (j : ℕ) → j ≤ length line → Begins (IsAnyOf wide (xs ++ ys)) (take j line) → j ≤ k
+    both_most : (k : ℕ) → n ≤ k → m ≤ k → (j : ℕ) → j ≤ length line
+        → Begins (IsAnyOf wide (xs ++ ys)) (take j line) → j ≤ k
     both_most k one two j le x =
         elim (any_split xs ys (take j line ++ x.0) x.1) [
           | inl y ↦ omega (arith, a.most j le (x.0, y), one)

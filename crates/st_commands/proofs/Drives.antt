@@ -32,7 +32,7 @@ use Rattle.st_commands.specs.Laws.{DrivenMeans, RecordedIsYes}
 use Rattle.st_commands.specs.Recorded.{ranks, scripts_of, HasRecord, IsRecorded, record_output}
 use Rattle.st_commands.specs.Recorded as records
 use Rattle.st_commands.proofs.Meanings.{fault_status_high, shown_is_yes}
-use Rattle.st_commands.proofs.Telling.{WasRead, owes_bundle, says}
+use Rattle.st_commands.proofs.Deliveries.{WasRead, owes_bundle, says}
 
 -- ---- the scripts of few acts hold few acts
 

@@ -15,8 +15,8 @@ use Rattle.st_commands.specs.Meaning.{MeansFits, MeansFitsWithin, MeansUnfit, Me
 use Rattle.st_commands.specs.Laws.{FitsMeans, UnfitMeans, CertificateIsYes, certificate}
 use Rattle.st_commands.proofs.Meanings.{fault_status_high}
 use Rattle.st_commands.proofs.Outputs.{one_check}
-use Rattle.st_commands.proofs.Owed.{judgement}
-use Rattle.st_commands.proofs.Telling.{says}
+use Rattle.st_commands.proofs.OwedOutputs.{judgement}
+use Rattle.st_commands.proofs.Deliveries.{says}
 
 -- ---- what is found
 

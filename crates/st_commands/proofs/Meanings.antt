@@ -19,8 +19,8 @@ use Rattle.st_commands.specs.Command.{Owes, OwesWithin, Tells}
 use Rattle.st_commands.specs.Meaning.{MeansYes, MeansYesWithin, MeansNo, MeansNoWithin, Says, SaysWithin}
 use Rattle.st_commands.specs.Laws.{YesMeans, NoMeans, ShownIsYes, NeverStuck, NeverStuckInReplay}
 use Rattle.st_commands.proofs.Outputs.{one_check}
-use Rattle.st_commands.proofs.Owed.{judgement, spelled_run}
-use Rattle.st_commands.proofs.Telling.{says}
+use Rattle.st_commands.proofs.OwedOutputs.{judgement, spelled_run}
+use Rattle.st_commands.proofs.Deliveries.{says}
 
 -- ---- faults have neither status
 

@@ -20,7 +20,7 @@ use Rattle.st_pair.specs.Places.{event_at, is_stamp}
 use Rattle.st_pair.proofs.ForCallers.{paired, refused_never_shown, serial_rises, stamp_counts_rise}
 use Rattle.st_plan.specs.Marks.{all_streams, told_events, told_streams, Marked, Whole}
 use Rattle.st_full.specs.Completed.{IsCompleted, IsShownInOneTrace}
-use Rattle.st_full.specs.Full.{IsFull}
+use Rattle.st_plan.specs.Full.{IsFull}
 use Rattle.st_full.specs.Local.{IsNeedless}
 use Rattle.st_full.specs.Needs.{HoldsOfNone, is_late, is_rootless, marked_of}
 use Rattle.st_full.specs.Reasons.{HasNoReason}

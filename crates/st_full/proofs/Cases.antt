@@ -34,8 +34,8 @@ use Rattle.st_full.specs.Reasons.{Late, StandsAgainst, TooHigh, Unfounded, Unsen
 use Rattle.st_full.specs.Renumbering.{count_of_rank, counts_of, renumbered_streams, with_counts}
 use Rattle.st_full.specs.Supply.{excess, is_free}
 use Rattle.st_full.specs.Wholes.{wholes_of}
-use Rattle.st_full.proofs.Against.{shown_nothing}
-use Rattle.st_full.proofs.Plainness.{full_plain}
+use Rattle.st_full.proofs.ReasonsOfCompletions.{shown_nothing}
+use Rattle.st_plan.proofs.ForCallers.{full_plain}
 
 abbrev a : Pid
 a = pid_on 0 30
@@ -303,7 +303,7 @@ one_feeds : (sum_by (excess two_streams 3) (pids_of two_streams) ≡ 1)
     × (count_by (is_free two_streams 3) (pids_of two_streams) ≡ 1)
 one_feeds = (refl, refl)
 
--- Or one that told of a send of it, which nobody told to have received.
+-- Or one that told of a send of it, which no reported receive takes.
 abbrev own_streams : List Stream
 own_streams =
     record { pid = a; events = alone }

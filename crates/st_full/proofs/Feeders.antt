@@ -1,6 +1,7 @@
 -- A process has as many untold receives of a count as needs of it: between a need and the told event before it stands
 -- one, and so they are different ones.
-use Rattle.std.proofs.Common.{◌≡◌, ℕ, zero, suc, ◌+◌, ◌<◌, ◌≤◌, ◌==◌, ◌&&◌, ◌||◌, Bool, true, false, not, cond, List, []}
+use Rattle.std.proofs.Common.{◌≡◌, ℕ, zero, suc, ◌+◌, ◌<◌, ◌≤◌, ◌==◌, ◌&&◌, ◌||◌, Bool, true, false, not, cond}
+use Rattle.std.proofs.Common.{List, []}
 use Rattle.std.proofs.Common.{◌∷◌, ◌++◌, take, drop, length, Some, inl, inr, slice_get, append-nil, refl}
 use Rattle.std.proofs.Common.{sym, ◌∙◌, ap, subst, arith, length-append}
 use Rattle.std.specs.Set.{is_member}
@@ -16,7 +17,7 @@ use Rattle.st_plan.specs.Marks.{Marked, told_events}
 use Rattle.st_plan.proofs.ForCallers.{take_more}
 use Rattle.st_full.specs.Needs.{is_need, IsFed}
 use Rattle.st_full.specs.Supply.{needs_from}
-use Rattle.st_full.proofs.Fed.{told_push}
+use Rattle.st_full.proofs.FedNeeds.{told_push}
 
 -- an untold receive of this count
 abbrev pub feeds : ℕ → Marked → Bool

@@ -32,11 +32,11 @@ use Rattle.st_full.specs.HiddenSends.{placings, smallest}
 use Rattle.st_full.specs.Scarce.{is_scarce}
 use Rattle.st_full.specs.Stretches.{AsksForScarce, HasBestForScarce, HasNoTwoScarce}
 use Rattle.st_full.specs.Supply.{excess, is_free, is_own_supply, needs, needs_from}
-use Rattle.st_full.proofs.Choosing.{exactly_chosen}
+use Rattle.st_full.proofs.Choices.{exactly_chosen}
 use Rattle.st_full.proofs.Leasts.{Among, frees, owns, placed, smallest_low}
-use Rattle.st_full.proofs.Starting.{timely_from}
+use Rattle.st_full.proofs.ReasonlessStreams.{timely_from}
 use Rattle.st_full.proofs.StampsTold.{told_zeros_final}
-use Rattle.st_full.proofs.Untold.{first_of, hidden_is, same_pids}
+use Rattle.st_full.proofs.UntoldEvents.{first_of, hidden_is, same_pids}
 
 abbrev a : Pid
 a = pid_on 0 30
@@ -235,7 +235,7 @@ alone_never : (top : ℕ) (acts : List Act) → NoReset acts → ¬ Shows top al
 alone_never top acts none shows = no_choice top ((exactly_chosen top alone (tt, tt)).0
     (record { acts = acts; shows = shows; one_trace = none }))
 
--- Yet none of the four reasons stands. No stamp is reported, no count is above 4, and each count
+-- Yet none of the four reasons holds. No stamp is reported, no count is above 4, and each count
 -- has a placing at which it isn't needed: at this one only 1 is.
 abbrev best_for_others : List Event
 best_for_others = sent a a 0 1 ∷ sent a a 0 2 ∷ sent a a 1 3 ∷ got a a 0 2 ∷ sent a a 2 4

@@ -1,7 +1,7 @@
 -- All events of a process in a choice are one of its placings, so it has the least number of needs
 -- or more. What may feed needs is the same in each choice as in the streams: a hidden send has its
--- receive, so it is no supply, and its process isn't free. So reasons that stand with the least
--- needs stand against each choice.
+-- receive, so it is no supply, and its process isn't free. So reasons that hold with the least
+-- needs hold of each choice.
 use Rattle.std.proofs.Common.{◌≡◌, ◌⊎◌, inl, inr, ℕ, ◌≤◌, ◌&&◌, Bool, true, false, not}
 use Rattle.std.proofs.Common.{cond, List, [], ◌∷◌, ◌++◌, map, filter, Option, Some, None, is_none, is_some, sum_by}
 use Rattle.std.proofs.Common.{slice_get, refl, sym, ◌∙◌, ap, subst, arith}
@@ -25,16 +25,16 @@ use Rattle.st_full.specs.FinalReasons.{Unfounded, Unsent}
 use Rattle.st_full.specs.HiddenSends.{are_timely, hidden_sends, least, mixes, placings, smallest}
 use Rattle.st_full.specs.Needs.{HoldsOfNone, is_late, marked_of}
 use Rattle.st_full.specs.Supply.{excess, is_free, is_own_supply, IsSupplied, needs, needs_from}
-use Rattle.st_full.proofs.Asking.{HasStamp, IsTaken, none_stamped, stamp_if, stamp_is, stamp_passes, taken_alike}
-use Rattle.st_full.proofs.Choosing.{exactly_chosen, mark_at, send_stamps, told_somewhere}
-use Rattle.st_full.proofs.Deciding.{no_reason}
-use Rattle.st_full.proofs.Fed.{events}
-use Rattle.st_full.proofs.Feeding.{AreTimely}
-use Rattle.st_full.proofs.Good.{any_event, free_is, sends_to}
+use Rattle.st_full.proofs.Lookups.{HasStamp, IsTaken, none_stamped, stamp_if, stamp_is, stamp_passes, taken_alike}
+use Rattle.st_full.proofs.Choices.{exactly_chosen, mark_at, send_stamps, told_somewhere}
+use Rattle.st_full.proofs.Decision.{no_reason}
+use Rattle.st_full.proofs.FedNeeds.{events}
+use Rattle.st_full.proofs.EventsBefore.{AreTimely}
+use Rattle.st_full.proofs.GoodStreams.{any_event, free_is, sends_to}
 use Rattle.st_full.proofs.Needs.{events_all, events_told}
-use Rattle.st_full.proofs.Starting.{founded_at, timely_from}
-use Rattle.st_full.proofs.Untold.{fit, rising, same_pids, stamp_all, taken_all, untold_events, untold_got}
-use Rattle.st_full.proofs.Untold.{untold_hidden, untold_mark, untold_sends}
+use Rattle.st_full.proofs.ReasonlessStreams.{founded_at, timely_from}
+use Rattle.st_full.proofs.UntoldEvents.{fit, rising, same_pids, stamp_all, taken_all, untold_events, untold_got}
+use Rattle.st_full.proofs.UntoldEvents.{untold_hidden, untold_mark, untold_sends}
 
 -- AMONG LISTS
 

@@ -12,8 +12,8 @@ use Rattle.st_core.specs.Run.{Stream, pids_of}
 use Rattle.st_full.specs.Completed.{IsShownInOneTrace}
 use Rattle.st_full.specs.Renumbering.{count_of_rank, counts_of, event_with, insert_count, insert_counts, KeepsOrder}
 use Rattle.st_full.specs.Renumbering.{rank, renumbered_streams, with_counts}
-use Rattle.st_full.proofs.Needless.{exactly_needless, needless_shown}
-use Rattle.st_full.proofs.Recounting.{pids_with}
+use Rattle.st_full.proofs.NeedlessStreams.{exactly_needless, needless_shown}
+use Rattle.st_full.proofs.ReplacedCounts.{pids_with}
 use Rattle.st_full.proofs.Renumbering.{shown_with}
 
 -- all of these are above b

@@ -1,5 +1,5 @@
--- Whether streams are needless depends on the order of their counts alone; so a completion of renumbered streams is one of
--- the streams themselves once its counts are put back, and a run of the ones gives a run of the others.
+-- Whether streams are needless depends on the order of their counts alone; so a completion of renumbered streams is
+-- one of the streams themselves once its counts are put back, and a run of the ones gives a run of the others.
 use Rattle.std.proofs.Common.{◌≡◌, ◌↔◌, ℕ, ◌≤◌, Bool, List, Some, None, map, take}
 use Rattle.std.proofs.Common.{option_map, refl, sym, ◌∙◌, ap, subst}
 use Rattle.std.proofs.lemmas.Option.{none-some, same_Some}
@@ -16,9 +16,9 @@ use Rattle.st_full.specs.Completed.{IsCompleted, IsShownInOneTrace}
 use Rattle.st_full.specs.Local.{IsNeedless}
 use Rattle.st_full.specs.Needs.{HoldsOfNone, is_late, is_need, is_rootless}
 use Rattle.st_full.specs.Renumbering.{event_with, KeepsOrder, with_counts}
-use Rattle.st_full.proofs.Needless.{exactly_needless, needless_shown}
-use Rattle.st_full.proofs.Ordered.{late_same, le_back, le_kept, need_same, rootless_same}
-use Rattle.st_full.proofs.Recounting.{event_at_with, events_with}
+use Rattle.st_full.proofs.NeedlessStreams.{exactly_needless, needless_shown}
+use Rattle.st_full.proofs.CountMaps.{late_same, le_back, le_kept, need_same, rootless_same}
+use Rattle.st_full.proofs.ReplacedCounts.{event_at_with, events_with}
 use Rattle.st_full.proofs.SameNames.{all_wholes, streams_with, told_wholes, wholes_with}
 use Rattle.st_full.proofs.SamePairing.{hidden_same, refusal_same}
 

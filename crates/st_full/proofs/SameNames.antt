@@ -12,7 +12,7 @@ use Rattle.st_core.specs.Run.{Stream}
 use Rattle.st_core.specs.Streams.{AreOwn, is_own, IsStreams, lists, names_listed, stream_of, unlisted_among}
 use Rattle.st_plan.specs.Marks.{all_streams, Marked, told_events, told_streams, Whole}
 use Rattle.st_full.specs.Renumbering.{event_with, with_counts}
-use Rattle.st_full.proofs.Recounting.{pids_with, stream_with}
+use Rattle.st_full.proofs.ReplacedCounts.{pids_with, stream_with}
 
 module _ (f : ℕ → ℕ) where
   own_events : (p : Pid) (es : List Event) → AllByRecursion (λ e. is_own p e ≡ true) es

@@ -1,5 +1,5 @@
--- Pairing compares counts alone, and so gives for streams whose counts are replaced in order what it gave: each rule the
--- same reason at the same place, and each receive a send or a hidden one as before.
+-- Pairing compares counts alone, and so gives for streams whose counts are replaced in order what it gave: each rule
+-- the same reason at the same place, and each receive a send or a hidden one as before.
 use Rattle.std.proofs.Common.{◌≡◌, ℕ, ◌==◌, ◌&&◌, ◌||◌, zero, suc, nat_lt, Bool, true, false, not, cond}
 use Rattle.std.proofs.Common.{List, [], ◌∷◌, Option, Some, None, map, slice_get}
 use Rattle.std.proofs.Common.{option_map, option_and_then, refl, ◌∙◌, ap}
@@ -19,8 +19,8 @@ use Rattle.st_pair.specs.Pairing.{refusal, repeated, stamp_before, stamp_of, to_
 use Rattle.st_pair.proofs.ForCallers.{Rule}
 use Rattle.st_order.specs.Items.{is_hidden}
 use Rattle.st_full.specs.Renumbering.{event_with, KeepsOrder, with_counts}
-use Rattle.st_full.proofs.Ordered.{eq_same, lt_same}
-use Rattle.st_full.proofs.Recounting.{events_with, first_same, mapped_first}
+use Rattle.st_full.proofs.CountMaps.{eq_same, lt_same}
+use Rattle.st_full.proofs.ReplacedCounts.{events_with, first_same, mapped_first}
 
 module _ (f : ℕ → ℕ) (keeps : KeepsOrder f) where
   abbrev found : ℕ × Event → ℕ × Event

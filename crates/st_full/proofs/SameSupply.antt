@@ -13,8 +13,8 @@ use Rattle.st_pair.specs.Pairing.{is_send, receive_of, stamp_of, to_eq}
 use Rattle.st_full.specs.Needs.{is_need}
 use Rattle.st_full.specs.Renumbering.{event_with, KeepsOrder, with_counts}
 use Rattle.st_full.specs.Supply.{excess, is_free, is_own_supply, IsSupplied, needs, needs_from}
-use Rattle.st_full.proofs.Ordered.{eq_same, need_same}
-use Rattle.st_full.proofs.Recounting.{events_with, pids_with}
+use Rattle.st_full.proofs.CountMaps.{eq_same, need_same}
+use Rattle.st_full.proofs.ReplacedCounts.{events_with, pids_with}
 use Rattle.st_full.proofs.SamePairing.{receive_of_same, stamp_of_same}
 
 module _ (f : ℕ → ℕ) (keeps : KeepsOrder f) (streams : List Stream) (v : ℕ) where

@@ -20,11 +20,11 @@ use Rattle.st_pair.specs.Pairing.{agrees, is_send, receive_of, refusal, stamp_of
 use Rattle.st_pair.proofs.ForCallers.{paired}
 use Rattle.st_full.specs.FinalReasons.{IsStampOf, IsZeroBehind}
 use Rattle.st_full.specs.HiddenSends.{hidden_send, send_of}
-use Rattle.st_full.proofs.Accepting.{FitTogether}
-use Rattle.st_full.proofs.Asking.{IsTaken, none_taken, stamp_if}
-use Rattle.st_full.proofs.Starting.{fit_together}
-use Rattle.st_full.proofs.Supplying.{own_at}
-use Rattle.st_full.proofs.Untold.{got_if}
+use Rattle.st_full.proofs.AcceptedStreams.{FitTogether}
+use Rattle.st_full.proofs.Lookups.{IsTaken, none_taken, stamp_if}
+use Rattle.st_full.proofs.ReasonlessStreams.{fit_together}
+use Rattle.st_full.proofs.Suppliers.{own_at}
+use Rattle.st_full.proofs.UntoldEvents.{got_if}
 use Rattle.st_full.proofs.Zeros.{zeros_final}
 
 -- a process's own stamp is from it

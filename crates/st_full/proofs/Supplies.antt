@@ -1,5 +1,5 @@
 -- The supplies of all counts: no two are of one sender and count, each can be had, and there are as many of each count
--- to each process as it has needs of it, where streams have no reason against them.
+-- to each process as it has needs of it, if no reason holds of the streams.
 use Rattle.std.proofs.Common.{◌≡◌, ℕ, zero, suc, ◌<◌, ◌≤◌, ◌==◌, ◌&&◌, Bool, true, false, cond, List, [], ◌∷◌}
 use Rattle.std.proofs.Common.{filter, map, take, Some, inl, inr, slice_get, refl, sym}
 use Rattle.std.proofs.Common.{◌∙◌, ap, subst, arith}
@@ -19,15 +19,16 @@ use Rattle.st_order.specs.Items.{greatest}
 use Rattle.st_order.proofs.ForCallers.{all_found, AreFound}
 use Rattle.st_full.specs.Completion.{count_of, supplies, supplies_below, supplies_of, Supply}
 use Rattle.st_full.specs.Supply.{is_free, IsSupplied, needs, needs_from}
-use Rattle.st_full.proofs.Asking.{unlisted_events}
-use Rattle.st_full.proofs.Meeting.{need_low}
-use Rattle.st_full.proofs.Sending.{IsServed}
-use Rattle.st_full.proofs.Serving.{AllApart, Apart, differs, IsReady}
-use Rattle.st_full.proofs.Sharing.{all_apart, all_both, all_filter, all_map, all_parts, apart_both, count_all, different_filter}
-use Rattle.st_full.proofs.Sharing.{IsPart, no_supplies, passes_filter}
-use Rattle.st_full.proofs.Shown.{lists_among}
-use Rattle.st_full.proofs.Starting.{need_of}
-use Rattle.st_full.proofs.Taking.{AsMany, is_for, one_if}
+use Rattle.st_full.proofs.Lookups.{unlisted_events}
+use Rattle.st_full.proofs.MetNeeds.{need_low}
+use Rattle.st_full.proofs.InsertedSends.{IsServed}
+use Rattle.st_full.proofs.CompletionSends.{AllApart, Apart, differs, IsReady}
+use Rattle.st_full.proofs.Senders.{all_apart, all_both, all_filter, all_map, all_parts, apart_both}
+use Rattle.st_full.proofs.Senders.{count_all, different_filter}
+use Rattle.st_full.proofs.Senders.{IsPart, no_supplies, passes_filter}
+use Rattle.st_full.proofs.ShownStreams.{lists_among}
+use Rattle.st_full.proofs.ReasonlessStreams.{need_of}
+use Rattle.st_full.proofs.CompletionReceives.{AsMany, is_for, one_if}
 
 -- THE GREATEST COUNT
 
@@ -106,7 +107,8 @@ record IsPartBelow (streams : List Stream) (n : ℕ) (s : Supply) : Type 0 where
   to : lists streams s.to ≡ true
 
 module _ (streams : List Stream) (rising : IsRising (pids_of streams)) (founded : (p : Pid) → needs streams 0 p ≡ 0)
-    (supplied : (v : ℕ) → IsSupplied streams v) (listed : AllByRecursion (λ q. lists streams q ≡ true) (pids_of streams)) where
+    (supplied : (v : ℕ) → IsSupplied streams v)
+    (listed : AllByRecursion (λ q. lists streams q ≡ true) (pids_of streams)) where
   abbrev frees : ℕ → List Pid
   frees v = filter (is_free streams v) (pids_of streams)
 
@@ -205,7 +207,8 @@ module _ (streams : List Stream) (rising : IsRising (pids_of streams)) (founded 
       ] refl
 
   pub all_ready : AllByRecursion (IsReady streams) (supplies streams)
-  all_ready = all_map (IsPartBelow streams (highest streams)) (IsReady streams) (λ s part. part.ready) (supplies streams)
+  all_ready =
+      all_map (IsPartBelow streams (highest streams)) (IsReady streams) (λ s part. part.ready) (supplies streams)
       (all_below (highest streams))
 
   pub are_apart : AllApart (supplies streams)

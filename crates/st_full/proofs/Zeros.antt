@@ -23,12 +23,13 @@ use Rattle.st_full.specs.FinalReasons.{HasZeroBehindReceive, HasZeroBehindStamp,
 use Rattle.st_full.specs.HiddenSends.{hidden_send}
 use Rattle.st_full.specs.Needs.{is_need, marked_of}
 use Rattle.st_full.specs.Supply.{needs, needs_from}
-use Rattle.st_full.proofs.Asking.{HasStamp}
-use Rattle.st_full.proofs.Choosing.{exactly_chosen, send_stamps}
-use Rattle.st_full.proofs.Deciding.{no_reason}
+use Rattle.st_full.proofs.Lookups.{HasStamp}
+use Rattle.st_full.proofs.Choices.{exactly_chosen, send_stamps}
+use Rattle.st_full.proofs.Decision.{no_reason}
 use Rattle.st_full.proofs.Needs.{at_mark}
-use Rattle.st_full.proofs.Starting.{founded_at, need_of}
-use Rattle.st_full.proofs.Untold.{among, fit, stamp_all, untold_at, untold_has, untold_in, untold_is, untold_sends}
+use Rattle.st_full.proofs.ReasonlessStreams.{founded_at, need_of}
+use Rattle.st_full.proofs.UntoldEvents.{among, fit, stamp_all, untold_at, untold_has, untold_in}
+use Rattle.st_full.proofs.UntoldEvents.{untold_is, untold_sends}
 
 -- WHAT IS LEFT
 

@@ -13,8 +13,8 @@ use Rattle.st_full.specs.Reasons.{HasEachSend, HasNoReason}
 abbrev pub is_taken : List Stream → Pid → Event → Bool
 is_taken streams p e = is_send e && is_some (receive_of streams p e.serial.this)
 
--- Whole streams that have exactly the hidden sends beside the streams: what is told of them are the streams, each untold
--- event is a send whose message a reported receive took, and with them each receive has its send.
+-- Whole streams that have exactly the hidden sends beside the streams: what is told of them are the streams, each
+-- untold event is a send whose message a reported receive took, and with them each receive has its send.
 pub record IsChoice (streams : List Stream) (wholes : List Whole) : Type 0 where
   pub told : told_streams wholes ≡ streams
   pub sound : IsStreams (all_streams wholes)
@@ -22,7 +22,7 @@ pub record IsChoice (streams : List Stream) (wholes : List Whole) : Type 0 where
       → is_taken streams p m.event ≡ true
   pub each : HasEachSend (all_streams wholes)
 
--- there is a choice against which no reason stands
+-- there is a choice of which no reason holds
 pub record HasChoice (top : ℕ) (streams : List Stream) : Type 0 where
   pub wholes : List Whole
   pub choice : IsChoice streams wholes

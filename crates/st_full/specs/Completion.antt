@@ -31,7 +31,7 @@ needs_of v before (e ∷ es) =
     if is_need before e && e.serial.prev == v then e ∷ needs_of v (before ++ e ∷ []) es
     else needs_of v (before ++ e ∷ []) es
 
--- who told of a send of v to p that nobody is told to have received
+-- who told of a send of v to p that no reported receive takes
 abbrev pub own : List Stream → ℕ → Pid → List Pid
 own streams v p = filter (is_own_supply streams v p) (pids_of streams)
 
@@ -72,7 +72,8 @@ abbrev pub place_below : ℕ → List Event → ℕ
 place_below v [] = 0
 place_below v (e ∷ es) = if nat_lt e.serial.this v then 1 + place_below v es else 0
 
--- if e's prev is neither what is left nor below the greatest count c, but below v, a send of v before it begins its trace
+-- if e's prev is neither what is left nor below the greatest count c, but below v, a send of v before it begins its
+-- trace
 abbrev pub begins : ℕ → ℕ → ℕ → Event → Bool
 begins v c left e =
     is_stamp e && (not (e.serial.prev == left) && (not (nat_lt e.serial.prev c) && nat_lt e.serial.prev v))
@@ -126,7 +127,8 @@ place_of_need v before (e ∷ es) =
 abbrev pub with_receive_of : Supply → List Whole → List Whole
 with_receive_of s wholes = elim (stamp_of (all_streams wholes) s.from (count_of s)) [
   | None ↦ wholes
-  | Some f ↦ map (put s.to (place_of_need (count_of s) [] (events_of (all_streams wholes) s.to)) (receive_for f.1)) wholes
+  | Some f ↦ map (put s.to (place_of_need (count_of s) [] (events_of (all_streams wholes) s.to))
+      (receive_for f.1)) wholes
 ]
 
 abbrev pub with_sends : List Supply → List Whole → List Whole

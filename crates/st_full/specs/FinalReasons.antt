@@ -29,14 +29,14 @@ pub data FinalReason : Type 0 where
   Unsent : ℕ → FinalReason
   TooHigh : Pid → ℕ → FinalReason
 
--- the reason stands against all places that the hidden sends of these streams may have
+-- the reason holds of these streams at all places that their hidden sends may have
 abbrev pub StandsAgainstAll : ℕ → List Stream → FinalReason → Type 0
 StandsAgainstAll top streams (Late p i) = HoldsAt is_late streams p i
 StandsAgainstAll top streams (Unfounded p) = 0 < least streams 0 p
 StandsAgainstAll top streams (Unsent v) = ¬ IsSuppliedAtLeast streams v
 StandsAgainstAll top streams (TooHigh p i) = HoldsAt (is_too_high top) streams p i
 
--- no final reason stands against the streams
+-- no final reason holds of the streams
 abbrev pub HasNoFinalReason : ℕ → List Stream → Type 0
 HasNoFinalReason top streams = (reason : FinalReason) → ¬ StandsAgainstAll top streams reason
 

@@ -1,5 +1,4 @@
 -- What public contracts cite.
-pub mod Full
 pub mod Wholes
 pub mod Completed
 pub mod Needs

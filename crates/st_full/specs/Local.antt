@@ -8,7 +8,8 @@ use Rattle.st_pair.specs.Places.{event_at}
 use Rattle.st_order.specs.Items.{is_hidden}
 use Rattle.st_full.specs.Needs.{HoldsOfNone, is_late, is_need}
 
--- Pairing accepts the streams, no receive's send is hidden, no stamp is late or a need, and a clock can have each count.
+-- Pairing accepts the streams, no receive's send is hidden, no stamp is late or a need, and a clock can have each
+-- count.
 pub record IsNeedless (top : ℕ) (streams : List Stream) : Type 0 where
   pub accepted : refusal streams ≡ None
   pub reported : (p : Pid) (i : ℕ) (e : Event) → event_at streams p i ≡ Some e → is_hidden streams e ≡ false

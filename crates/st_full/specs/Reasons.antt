@@ -33,9 +33,9 @@ pub record HoldsAt (test : List Event → Event → Bool) (streams : List Stream
 abbrev pub is_too_high : ℕ → List Event → Event → Bool
 is_too_high top es e = nat_lt top e.serial.this
 
--- A reason against streams. Late: the stamp at this place has a count that isn't above those before it. Unfounded: it is
--- a need of 0. Unsent: there are more needs of this count than messages that may feed them. TooHigh: no clock can have
--- the count at this place.
+-- A reason against streams. Late: the stamp at this place has a count that isn't above those before it. Unfounded: it
+-- is a need of 0. Unsent: there are more needs of this count than messages that may feed them. TooHigh: no clock can
+-- have the count at this place.
 pub data Reason : Type 0 where
   Late : Pid → ℕ → Reason
   Unfounded : Pid → ℕ → Reason

@@ -20,7 +20,7 @@ needs_from v before (e ∷ es) =
 abbrev pub needs : List Stream → ℕ → Pid → ℕ
 needs streams v p = needs_from v [] (events_of streams p)
 
--- q's stamp of this count is a send to p, which nobody is told to have received
+-- q's stamp of this count is a send to p, which no reported receive takes
 abbrev pub is_own_supply : List Stream → ℕ → Pid → Pid → Bool
 is_own_supply streams v p q = is_none (receive_of streams q v)
     && option_map_or (λ f. is_send f.1 && to_eq f.1.to (Some p)) (stamp_of streams q v) false

@@ -13,6 +13,7 @@ ghost use Rattle.st_core.specs.State.{zero_state};
 ghost use Rattle.st_core.specs.Streams.{events_of, IsStreams};
 ghost use Rattle.st_pair.specs.Pairing.{refusal};
 ghost use Rattle.st_pair.specs.Places.{event_at};
+ghost use Rattle.st_plan.specs.Full.{IsFull};
 ghost use Rattle.st_plan.specs.Marks.{all_streams, told_streams, Whole};
 ghost use Rattle.st_plan.specs.Plain.{IsPlain, IsSettled};
 ghost use Rattle.st_full.specs.Choice.{HasChoice, IsChoice};
@@ -20,7 +21,6 @@ ghost use Rattle.st_full.specs.Completed.{IsCompleted, IsShownInOneTrace};
 ghost use Rattle.st_full.specs.Completion.{completion};
 ghost use Rattle.st_full.specs.FinalReasons.{FinalReason, HasNoFinalReason, HasZeroBehindReceive, HasZeroBehindStamp};
 ghost use Rattle.st_full.specs.FinalReasons.{IsZeroBehind, StandsAgainstAll};
-ghost use Rattle.st_full.specs.Full.{IsFull};
 ghost use Rattle.st_full.specs.HiddenSends.{HasBestPlacing, least, placings};
 ghost use Rattle.st_full.specs.Local.{IsNeedless};
 ghost use Rattle.st_full.specs.Needs.{is_late, is_need, is_rootless, HoldsOfNone, IsFedAt, marked_of};
@@ -31,27 +31,6 @@ ghost use Rattle.st_full.specs.Scarce.{IsBest};
 ghost use Rattle.st_full.specs.Stretches.{HasBestForScarce, HasNoTwoScarce};
 ghost use Rattle.st_full.specs.Supply.{IsSupplied, needs};
 ghost use Rattle.st_full.specs.Wholes.{wholes_of};
-
-/// Streams that tell all are plain: the auditor has no reason against them.
-pub fn full_streams_are_plain()
-    ensures { (top : ℕ) (streams : List Stream) → IsRising (pids_of streams) → IsFull top streams
-        → IsPlain top streams }
-{}
-
-/// If acts without a reset show streams and report every stamp and every receive of a token, the
-/// streams tell all.
-pub fn full_runs_have_full_streams()
-    ensures { (top : ℕ) (streams : List Stream) (acts : List Act) (shows : Shows top streams acts)
-        → NoReset acts → ReportsEverything (zero_state (pids_of streams)) acts shows.0 → IsFull top streams }
-{}
-
-/// If acts without a reset show streams and report every stamp and every receive of a token, the
-/// streams are plain: the auditor has no reason against them.
-pub fn full_runs_are_plain()
-    ensures { (top : ℕ) (streams : List Stream) (acts : List Act) (shows : Shows top streams acts)
-        → IsRising (pids_of streams) → NoReset acts
-        → ReportsEverything (zero_state (pids_of streams)) acts shows.0 → IsPlain top streams }
-{}
 
 /// Whatever acts without a reset report: all that they do, reported or not, is full streams, and what
 /// is told of these are the streams that the acts show. So each run without a reset has a full
@@ -148,8 +127,8 @@ pub fn counts_can_be_put_back()
 
 /// If each reported receive has its send among the reported events, and no reason holds of the
 /// streams, then `completion` completes them: it tells the streams, and has no need. Each need has an
-/// untold receive right before it, of a reported send to this process that nobody is told to have
-/// received, or else of an untold send of a process that tells nothing of this count.
+/// untold receive right before it, of a reported send to this process that no reported receive takes,
+/// or else of an untold send of a process that tells nothing of this count.
 pub fn streams_without_a_reason_are_completed()
     ensures { (top : ℕ) (streams : List Stream) → IsStreams streams → HasEachSend streams
         → HasNoReason top streams
@@ -211,8 +190,8 @@ pub fn without_hidden_sends_the_least_is_what_is_needed()
 
 /// So there are reasons that no place of a hidden send lifts: a late stamp, a need of 0 at each
 /// placing of a process, more needs of one prev than messages that may feed them even if each
-/// process has the least, and a count above TOP. If one of these stands against streams, no acts
-/// without a reset show them.
+/// process has the least, and a count above TOP. If one of these holds of streams, no acts without a
+/// reset show them.
 pub fn reasons_against_all_choices_are_final()
     ensures { (top : ℕ) (streams : List Stream) → IsRising (pids_of streams) → (reason : FinalReason)
         → StandsAgainstAll top streams reason → (acts : List Act) → NoReset acts → ¬ Shows top streams acts }
@@ -235,9 +214,9 @@ pub fn zeros_told_behind_others_are_final()
         → IsZeroBehind streams p i → (acts : List Act) → NoReset acts → ¬ Shows top streams acts }
 {}
 
-/// If none of the four final reasons stands against streams, and their hidden sends have places at
-/// which no stamp is late and each process needs 0 and each scarce count no more often than at the best
-/// of its placings, then acts without a reset show them. Of counts that aren't scarce there are enough
+/// If none of the four final reasons holds of streams, and their hidden sends have places at which no
+/// stamp is late and each process needs 0 and each scarce count no more often than at the best of its
+/// placings, then acts without a reset show them. Of counts that aren't scarce there are enough
 /// messages wherever hidden sends stand.
 pub fn shown_if_placings_are_best()
     ensures { (top : ℕ) (streams : List Stream) → HasNoFinalReason top streams → (wholes : List Whole)
@@ -259,7 +238,7 @@ pub fn each_process_has_a_placing()
         → HoldsOfNone is_late streams → (p : Pid) → 0 < length (placings streams p) }
 {}
 
-/// So if none of the four final reasons stands against streams that pairing accepts, and each process,
+/// So if none of the four final reasons holds of streams that pairing accepts, and each process,
 /// looked at by itself, has a placing that is best at once for 0 and for all scarce counts, then acts
 /// without a reset show them.
 pub fn shown_if_each_process_has_a_best_placing()
@@ -270,8 +249,8 @@ pub fn shown_if_each_process_has_a_best_placing()
 
 /// So the four final reasons decide once more if no process asks for two scarce counts in one stretch,
 /// which is its reported receives and hidden sends up to its next reported stamp: if pairing accepts
-/// such streams and none of the reasons stands against them, acts without a reset show them. With two
-/// scarce counts in a stretch there can be neither a reason nor a run.
+/// such streams and none of the reasons holds of them, acts without a reset show them. With two scarce
+/// counts in a stretch there can be neither a reason nor a run.
 pub fn shown_if_no_stretch_has_two_scarce_counts()
     ensures { (top : ℕ) (streams : List Stream) → IsStreams streams → refusal streams ≡ None
         → HasNoFinalReason top streams → HasNoTwoScarce streams → IsShownInOneTrace top streams }

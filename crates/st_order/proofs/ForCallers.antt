@@ -5,14 +5,14 @@
 pub use Rattle.st_order.proofs.Keys.{key_total, IsKeyed, items_keyed, comes_before_is, one_way, chain}
 pub use Rattle.st_order.proofs.Keys.{hidden_receives}
 -- ---- the one order
-pub use Rattle.st_order.proofs.One.{one_order, Among, among_all, members}
+pub use Rattle.st_order.proofs.OneOrder.{one_order, Among, among_all, members}
 pub use Rattle.st_order.proofs.Insertion.{an_order}
-pub use Rattle.st_order.proofs.Rising.{NotFalling, order_from}
+pub use Rattle.st_order.proofs.RisingKeys.{NotFalling, order_from}
 -- ---- the events of a process in turn
 pub use Rattle.st_order.proofs.Turns.{keeps_turn, tallest_has}
 pub use Rattle.st_order.proofs.RowKeys.{greatest_more}
 pub use Rattle.st_order.proofs.Lists.{all_right}
 -- ---- the events of a listed process
-pub use Rattle.st_order.proofs.Found.{drop_front, AreFound, all_found}
+pub use Rattle.st_order.proofs.ListedEvents.{drop_front, AreFound, all_found}
 -- ---- a receive that no other repeats
-pub use Rattle.st_order.proofs.Once.{only_receive}
+pub use Rattle.st_order.proofs.SingleReceives.{only_receive}

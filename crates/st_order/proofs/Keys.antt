@@ -25,8 +25,8 @@ use Rattle.st_order.specs.Items.{is_hidden, items_at, items_from, items_among, i
 use Rattle.st_order.specs.Order.{Key, key_by, key, key_cmp, comes_before}
 use Rattle.st_pair.proofs.ForCallers.{pid_total}
 use Rattle.st_order.proofs.Lists.{all_append}
-use Rattle.st_order.proofs.Once.{only_receive}
-use Rattle.st_order.proofs.Found.{drop_front, AreFound, all_found}
+use Rattle.st_order.proofs.SingleReceives.{only_receive}
+use Rattle.st_order.proofs.ListedEvents.{drop_front, AreFound, all_found}
 
 -- ORDERS
 

@@ -1,17 +1,17 @@
 -- The lemmas; what upper crates may cite is in `ForCallers`.
 pub mod Lists
-pub mod Found
-pub mod Once
+pub mod ListedEvents
+pub mod SingleReceives
 pub mod Keys
-pub mod Apart
-pub mod Rising
-pub mod One
+pub mod DistinctItems
+pub mod RisingKeys
+pub mod OneOrder
 pub mod Turns
 pub mod Insertion
-pub mod Merging
+pub mod Merges
 pub mod RowKeys
-pub mod Rowed
-pub mod Cutting
-pub mod Grouping
+pub mod PassedRows
+pub mod FirstGroups
+pub mod Groups
 mod Cases
 pub mod ForCallers

@@ -26,7 +26,7 @@ use Rattle.st_order.specs.Items.{greatest, height, is_hidden, items, items_among
 use Rattle.st_order.specs.Order.{Key, comes_before, key_by, key_cmp, KeysRise, IsOrder}
 use Rattle.st_order.specs.Turn.{in_turn, is_event_of, StampsLead}
 use Rattle.st_order.proofs.Keys.{comes_before_is}
-use Rattle.st_order.proofs.One.{Among, members, same_rising}
+use Rattle.st_order.proofs.OneOrder.{Among, members, same_rising}
 
 -- KEYS
 

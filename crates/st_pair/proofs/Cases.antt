@@ -18,7 +18,7 @@ use Rattle.st_pair.specs.declared.answer.PairFault.TheVariants as fault
 use Rattle.st_pair.specs.declared.answer.Source.TheVariants as source
 use Rattle.st_pair.specs.Pairing.{refusal, source_at, receiver_at}
 use Rattle.st_pair.specs.Final.{NeverShown}
-use Rattle.st_pair.proofs.Final.{prev_never_shown}
+use Rattle.st_pair.proofs.FinalReasons.{prev_never_shown}
 
 abbrev pub sent : ℕ → ℕ → ℕ → Pid → Pid → ℕ → Event
 sent n prev this p q v = record {

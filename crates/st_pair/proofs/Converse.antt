@@ -19,10 +19,10 @@ use Rattle.st_pair.specs.declared.answer.Source.TheVariants as source
 use Rattle.st_pair.specs.Places.{event_at, is_stamp, first_from, first, or_else}
 use Rattle.st_pair.specs.Pairing.{stamp_before, stamp_of, receive_of, is_send, agrees, not_rising, mismatch}
 use Rattle.st_pair.specs.Pairing.{source_of, source_at, receiver_at}
-use Rattle.st_pair.proofs.Accepted.{Rule, IsPaired, event_none, from_none, got_rule, once_place, cond_none}
+use Rattle.st_pair.proofs.AcceptedEvents.{Rule, IsPaired, event_none, from_none, got_rule, once_place, cond_none}
 use Rattle.st_pair.proofs.Firsts.{is_at, events_in}
-use Rattle.st_pair.proofs.Owned.{own_rule}
-use Rattle.st_pair.proofs.Ruled.{stamp_at, before_more}
+use Rattle.st_pair.proofs.OwnStamps.{own_rule}
+use Rattle.st_pair.proofs.RulesAtEvents.{stamp_at, before_more}
 
 -- WHERE A RULE GAVE SOMETHING
 

@@ -9,7 +9,7 @@ use Rattle.st_core.specs.Run.{Stream, pids_of}
 use Rattle.st_core.specs.Streams.{stream_of, events_of}
 use Rattle.st_core.proofs.ForCallers.{above_apart, pid_eq-same}
 use Rattle.st_pair.specs.Places.{first_from, first, or_else}
-use Rattle.st_pair.proofs.Noted.{or_assoc}
+use Rattle.st_pair.proofs.NotedRows.{or_assoc}
 
 module _ {X : Type 0} (rule : Pid → ℕ → Event → Option X) where
   -- the event at the front of what is left, and then the rest

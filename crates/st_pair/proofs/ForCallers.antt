@@ -3,23 +3,23 @@
 -- definitions alone.
 
 -- ---- what `refusal streams ≡ None` says of each event
-pub use Rattle.st_pair.proofs.Accepted.{Rule, IsPaired, paired, event_none, serial_rises, once_place}
-pub use Rattle.st_pair.proofs.Accepted.{from_none, got_rule, cond_none}
+pub use Rattle.st_pair.proofs.AcceptedEvents.{Rule, IsPaired, paired, event_none, serial_rises, once_place}
+pub use Rattle.st_pair.proofs.AcceptedEvents.{from_none, got_rule, cond_none}
 pub use Rattle.st_pair.proofs.Converse.{stamp_counts_rise, stamp_once, source_from_receiver, receiver_from_source}
-pub use Rattle.st_pair.proofs.Ruled.{stamp_at}
-pub use Rattle.st_pair.proofs.Ruled.{receive_unstamped}
-pub use Rattle.st_pair.proofs.Final.{stamp_not_received}
-pub use Rattle.st_pair.proofs.Owned.{own_rule}
+pub use Rattle.st_pair.proofs.RulesAtEvents.{stamp_at}
+pub use Rattle.st_pair.proofs.RulesAtEvents.{receive_unstamped}
+pub use Rattle.st_pair.proofs.FinalReasons.{stamp_not_received}
+pub use Rattle.st_pair.proofs.OwnStamps.{own_rule}
 -- ---- what `refusal streams ≡ Some f` says of all acts, and acts that show streams of pairing
-pub use Rattle.st_pair.proofs.Final.{refusal_rules_out, refused_never_shown}
+pub use Rattle.st_pair.proofs.FinalReasons.{refusal_rules_out, refused_never_shown}
 pub use Rattle.st_pair.proofs.FullyShown.{shown_accepted, send_shown}
 -- ---- what a rule gives first, in one stream and in all
-pub use Rattle.st_pair.proofs.Noted.{or_none, or_assoc}
+pub use Rattle.st_pair.proofs.NotedRows.{or_none, or_assoc}
 pub use Rattle.st_pair.proofs.Firsts.{first_from-at, first_from-end, first-at, first-end, first-loop}
 pub use Rattle.st_pair.proofs.Converse.{IsGiven, given_from, given_at}
 -- ---- streams and their pids
 pub use Rattle.st_pair.proofs.Firsts.{IsAt, is_at, at_get_or, events_in}
-pub use Rattle.st_pair.proofs.Ruled.{blank}
+pub use Rattle.st_pair.proofs.RulesAtEvents.{blank}
 pub use Rattle.st_pair.proofs.Linkage.{take_map}
 -- ---- the order of pids
-pub use Rattle.st_pair.proofs.Tabled.{pid_total}
+pub use Rattle.st_pair.proofs.SortedRows.{pid_total}

@@ -23,10 +23,10 @@ use Rattle.st_core.proofs.ForCallers.{reported_sends_agree}
 use Rattle.st_pair.specs.declared.answer.Source.TheVariants as source
 use Rattle.st_pair.specs.Places.{event_at, is_stamp}
 use Rattle.st_pair.specs.Pairing.{stamp_of, source_of, source_at, refusal}
-use Rattle.st_pair.proofs.Accepted.{paired}
+use Rattle.st_pair.proofs.AcceptedEvents.{paired}
 use Rattle.st_pair.proofs.Converse.{stamp_once, source_by, source_from}
 use Rattle.st_pair.proofs.Firsts.{events_in}
-use Rattle.st_pair.proofs.Final.{AreShown, shown_at, taken, refused_never_shown}
+use Rattle.st_pair.proofs.FinalReasons.{AreShown, shown_at, taken, refused_never_shown}
 
 -- streams that acts without a reset show aren't refused
 pub shown_accepted : (top : ℕ) (streams : List Stream) (acts : List Act) → Shows top streams acts → NoReset acts

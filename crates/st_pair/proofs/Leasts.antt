@@ -11,7 +11,7 @@ use Rattle.st_core.specs.Streams.{stream_of}
 use Rattle.st_core.proofs.ForCallers.{pid_eq-true, pid_eq-same, IsBelow-apart, IsBelow-trans, not_below_itself}
 use Rattle.st_pair.specs.Laws.{IsEarlier, IsLeast}
 use Rattle.st_pair.specs.Places.{event_at, first_from, first, or_else}
-use Rattle.st_pair.proofs.Accepted.{Rule, from_none}
+use Rattle.st_pair.proofs.AcceptedEvents.{Rule, from_none}
 use Rattle.st_pair.proofs.Firsts.{events_in}
 
 -- IN ONE STREAM

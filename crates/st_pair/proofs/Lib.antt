@@ -1,15 +1,15 @@
 -- The lemmas; what upper crates may cite is in `ForCallers`.
-pub mod Noted
-pub mod Tabled
+pub mod NotedRows
+pub mod SortedRows
 pub mod Firsts
-pub mod Owned
-pub mod Ruled
+pub mod OwnStamps
+pub mod RulesAtEvents
 pub mod Linkage
-pub mod Accepted
+pub mod AcceptedEvents
 pub mod Converse
 pub mod Leasts
 pub mod Reasons
-pub mod Final
+pub mod FinalReasons
 pub mod FullyShown
 mod Cases
 pub mod ForCallers

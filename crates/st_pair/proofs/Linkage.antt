@@ -16,7 +16,8 @@ use Rattle.st_pair.specs.declared.answer.Source.{Source}
 use Rattle.st_pair.specs.declared.pairing.Link.{Link}
 use Rattle.st_pair.specs.Places.{event_at, is_stamp}
 use Rattle.st_pair.specs.Pairing.{receive_of, stamp_of, source_of, source_at, receiver_at, is_send}
-use Rattle.st_pair.specs.Links.{ProcessLinks, sent_link, received_link, link_of, links_in, pairing_of, IsPairing, link_rows}
+use Rattle.st_pair.specs.Links.{ProcessLinks, sent_link, received_link, link_of, links_in, pairing_of}
+use Rattle.st_pair.specs.Links.{IsPairing, link_rows}
 use Rattle.st_pair.specs.Links.{link_at}
 use Rattle.st_pair.specs.Links.{source_in, receiver_in}
 use Rattle.st_pair.proofs.Firsts.{is_at, at_get_or, events_in}

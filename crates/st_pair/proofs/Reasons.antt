@@ -17,7 +17,7 @@ use Rattle.st_pair.specs.declared.answer.PairFault.TheVariants as fault
 use Rattle.st_pair.specs.Places.{is_stamp, first, or_else}
 use Rattle.st_pair.specs.Pairing.{stamp_before, stamp_of, receive_of, agrees, prev_not_before, not_rising, repeated}
 use Rattle.st_pair.specs.Pairing.{mismatch, first_rule, refusal}
-use Rattle.st_pair.proofs.Accepted.{Rule}
+use Rattle.st_pair.proofs.AcceptedEvents.{Rule}
 use Rattle.st_pair.proofs.Converse.{some_unless}
 
 -- WHICH RULE DECIDED

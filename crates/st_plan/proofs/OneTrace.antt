@@ -24,8 +24,9 @@ use Rattle.st_plan.specs.declared.plan.Start.{Start}
 use Rattle.st_plan.specs.Marks.{Marks}
 use Rattle.st_plan.specs.Moves.{Move, is_taking}
 use Rattle.st_plan.specs.Build.{act_of, acts_of, build, construction, dress, flags_of, is_dressed, opening, quiet}
-use Rattle.st_plan.specs.Build.{raise, ready, renew, renewed_start, silent, start_of, state_after, tracers_after, unstamped_token}
-use Rattle.st_plan.proofs.Along.{all_append}
+use Rattle.st_plan.specs.Build.{raise, ready, renew, renewed_start, silent, start_of, state_after}
+use Rattle.st_plan.specs.Build.{tracers_after, unstamped_token}
+use Rattle.st_plan.proofs.EarlierMoves.{all_append}
 
 abbrev IsNoReset : Act → Type 0
 IsNoReset a = is_reset a ≡ false

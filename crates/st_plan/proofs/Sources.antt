@@ -26,12 +26,12 @@ use Rattle.st_order.proofs.ForCallers.{hidden_receives, tallest_has}
 use Rattle.st_plan.specs.Marks.{Marks}
 use Rattle.st_plan.specs.Moves.{Move, move_by}
 use Rattle.st_plan.specs.Build.{quiet}
-use Rattle.st_plan.proofs.Taking.{IsWaiting}
-use Rattle.st_plan.proofs.Along.{IsAt, IsKeyBelow}
-use Rattle.st_plan.proofs.Rising.{height_is, height_more, height_of, hidden_by, rank_of, source_by, IsTop}
+use Rattle.st_plan.proofs.Receives.{IsWaiting}
+use Rattle.st_plan.proofs.EarlierMoves.{IsAt, IsKeyBelow}
+use Rattle.st_plan.proofs.RisingStamps.{height_is, height_more, height_of, hidden_by, rank_of, source_by, IsTop}
 use Rattle.st_plan.proofs.Clocks.{HasCome, IsBelow}
-use Rattle.st_plan.proofs.Waiting.{is_waiting, Fits, IsSendTo}
-use Rattle.st_plan.proofs.Matching.{matched_send, same_place, untaken}
+use Rattle.st_plan.proofs.WaitingMessages.{is_waiting, Fits, IsSendTo}
+use Rattle.st_plan.proofs.MatchedSends.{matched_send, same_place, untaken}
 
 -- KINDS
 
@@ -149,7 +149,8 @@ source_item streams ok tops p i e r =
 -- EACH SEND WITH ITS FROM AND COUNT
 
 fits_by : (streams : List Stream) (marks : Marks) → IsPaired streams → (p : Pid) (i : ℕ) (e : Event)
-    → IsReceive streams p i e → (x : Item) (d : Event) → IsAt streams x d → IsSendTo p e.from e.serial.this (move_by x d)
+    → IsReceive streams p i e → (x : Item) (d : Event) → IsAt streams x d
+    → IsSendTo p e.from e.serial.this (move_by x d)
     → Fits streams marks p e (marks p i) (move_by x d)
 fits_by streams marks ok p i e r (item.Hidden a b) d at sent =
     let who = sent.who in
@@ -210,7 +211,8 @@ fits_by streams marks ok p i e r (item.Reported q j) d at sent =
 
 -- each send that came, with the from and the count of a receive, fits it
 fits : (streams : List Stream) (marks : Marks) → IsPaired streams → (p : Pid) (i : ℕ) (e : Event)
-    → IsReceive streams p i e → (y : Move) → HasCome streams y → IsSendTo p e.from e.serial.this y → Fits streams marks p e (marks p i) y
+    → IsReceive streams p i e → (y : Move) → HasCome streams y → IsSendTo p e.from e.serial.this y
+    → Fits streams marks p e (marks p i) y
 fits streams marks ok p i e r y came sent = subst (Fits streams marks p e (marks p i)) came.is
     (fits_by streams marks ok p i e r y.item y.event came.at
     (subst (IsSendTo p e.from e.serial.this) (sym came.is) sent))

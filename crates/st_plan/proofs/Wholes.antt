@@ -16,7 +16,7 @@ use Rattle.st_plan.specs.Marks.{all_streams, marks_of, told_events, told_from, t
 use Rattle.st_plan.specs.Moves.{moves}
 use Rattle.st_plan.specs.Plain.{IsSettled}
 use Rattle.st_plan.specs.Build.{construction}
-use Rattle.st_plan.proofs.Settled.{settled_is_shown}
+use Rattle.st_plan.proofs.SettledStreams.{settled_is_shown}
 
 -- ONE PROCESS
 

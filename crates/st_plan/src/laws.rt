@@ -3,11 +3,14 @@
 
 ghost use Rattle.std.specs.Prelude.{◌≡◌, ℕ, List, Some};
 ghost use Rattle.st_core.specs.declared.types.Act.{Act};
-ghost use Rattle.st_core.specs.Laws.{NoReset};
-ghost use Rattle.st_core.specs.Run.{Shows, Stream};
+ghost use Rattle.st_core.specs.Laws.{NoReset, ReportsEverything};
+ghost use Rattle.st_core.specs.Pid.{IsRising};
+ghost use Rattle.st_core.specs.Run.{Shows, Stream, pids_of};
+ghost use Rattle.st_core.specs.State.{zero_state};
 ghost use Rattle.st_core.specs.Streams.{IsStreams};
 ghost use Rattle.st_order.specs.Order.{order};
 ghost use Rattle.st_plan.specs.Build.{construction};
+ghost use Rattle.st_plan.specs.Full.{IsFull};
 ghost use Rattle.st_plan.specs.Marks.{all_streams, all_told, marks_of, told_only, told_streams, Marks, Whole};
 ghost use Rattle.st_plan.specs.Moves.{moves, Move};
 ghost use Rattle.st_plan.specs.Plain.{IsPlain, IsSettled};
@@ -41,4 +44,25 @@ pub fn plain_streams_are_shown()
 pub fn constructions_have_no_reset()
     ensures { (top : ℕ) (streams : List Stream) (marks : Marks) (ms : List Move) (acts : List Act) →
         construction top streams marks ms ≡ Some acts → NoReset acts }
+{}
+
+/// Streams that tell all are plain: the auditor has no reason against them.
+pub fn full_streams_are_plain()
+    ensures { (top : ℕ) (streams : List Stream) → IsRising (pids_of streams) → IsFull top streams
+        → IsPlain top streams }
+{}
+
+/// If acts without a reset show streams and report every stamp and every receive of a token, the
+/// streams tell all.
+pub fn full_runs_have_full_streams()
+    ensures { (top : ℕ) (streams : List Stream) (acts : List Act) (shows : Shows top streams acts)
+        → NoReset acts → ReportsEverything (zero_state (pids_of streams)) acts shows.0 → IsFull top streams }
+{}
+
+/// If acts without a reset show streams and report every stamp and every receive of a token, the
+/// streams are plain: the auditor has no reason against them.
+pub fn full_runs_are_plain()
+    ensures { (top : ℕ) (streams : List Stream) (acts : List Act) (shows : Shows top streams acts)
+        → IsRising (pids_of streams) → NoReset acts
+        → ReportsEverything (zero_state (pids_of streams)) acts shows.0 → IsPlain top streams }
 {}

@@ -6,7 +6,7 @@ mod completions;
 mod reasons;
 mod stops;
 
-use crate::collected::{made, same, streams};
+use crate::collected::{same, streams, streams_at_last};
 use crate::text::CERTIFICATE;
 use st_audit::{AuditFault, Finding, audit};
 use st_core::{Act, Flags, Label, MemorySource, Pid, Sequence, Serial, Token};
@@ -20,13 +20,13 @@ use std::thread::Threads;
 const MOST: u64 = u64::MAX;
 
 /// What is found of a text's streams.
-fn found(rt: &(impl Threads + Sync), alloc: Global, text: &str) -> Result<Finding, Fail> {
+fn finding_of(rt: &(impl Threads + Sync), alloc: Global, text: &str) -> Result<Finding, Fail> {
     let streams = streams(alloc, text)?;
     Ok(audit::<MOST>(rt, alloc, &streams)?)
 }
 
 /// A restore of a token that was never stamped, with these flags for sends, receives and prints.
-fn restored(pid: Pid, label: u32, flags: (bool, bool, bool)) -> Act {
+fn restore_of(pid: Pid, label: u32, flags: (bool, bool, bool)) -> Act {
     Act::Restore(
         pid,
         Token {
@@ -63,7 +63,7 @@ fn certificate_acts(alloc: Global) -> Option<Sequence<Act>> {
 #[test]
 fn a_refused_growth_is_memory(rt: HostRuntime) {
     let alloc = rt.alloc();
-    let streams = made(&rt, alloc, CERTIFICATE);
+    let streams = streams_at_last(&rt, alloc, CERTIFICATE);
     let acts = match certificate_acts(alloc) {
         Some(acts) => acts,
         None => certificate_acts(alloc).expect(&rt, "no acts at the second try"),

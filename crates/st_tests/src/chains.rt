@@ -1,7 +1,7 @@
 //! Worked streams, each with the causes and chains that the rules give by hand, and what is left if
 //! memory runs out.
 
-use crate::collected::{ONE_MESSAGE, made, p30, p31, p32, same};
+use crate::collected::{ONE_MESSAGE, p30, p31, p32, same, streams_at_last};
 use crate::text::CERTIFICATE;
 use st_chain::{Cause, Chain, Chains};
 use st_core::{Draft, Event, Kind, Label, Pid, Serial, Streams};
@@ -36,7 +36,13 @@ struct Answers {
 }
 
 /// What the chains tell, if the streams have a pairing and there is memory.
-fn told(alloc: Global, streams: &Streams, pid: Pid, label: u32, index: u64) -> Option<Answers> {
+fn chain_answers(
+    alloc: Global,
+    streams: &Streams,
+    pid: Pid,
+    label: u32,
+    index: u64,
+) -> Option<Answers> {
     let pairing = pair(alloc, streams).ok()?;
     let chains = Chains::new(alloc, streams, &pairing).ok()?;
     let chain = indexes(alloc, chains.of(pid, Label(label))).ok()?;
@@ -46,7 +52,7 @@ fn told(alloc: Global, streams: &Streams, pid: Pid, label: u32, index: u64) -> O
 }
 
 /// The same of a text's streams.
-fn told_of(
+fn text_answers(
     rt: &impl Abort,
     alloc: Global,
     text: &str,
@@ -54,11 +60,14 @@ fn told_of(
     label: u32,
     index: u64,
 ) -> Answers {
-    told(alloc, &made(rt, alloc, text), pid, label, index).expect(rt, "nothing told")
+    chain_answers(alloc, &streams_at_last(rt, alloc, text), pid, label, index).expect(
+        rt,
+        "nothing told",
+    )
 }
 
 fn assert_chain(rt: &impl Abort, alloc: Global, text: &str, pid: Pid, label: u32, wanted: &[u64]) {
-    let told = told_of(rt, alloc, text, pid, label, 0);
+    let told = text_answers(rt, alloc, text, pid, label, 0);
     same(rt, &told.chain.as_slice(), &wanted);
 }
 
@@ -70,7 +79,7 @@ fn assert_cause(
     index: u64,
     wanted: Option<Cause>,
 ) {
-    let told = told_of(rt, alloc, text, pid, 17, index);
+    let told = text_answers(rt, alloc, text, pid, 17, index);
     same(rt, &told.cause, &wanted);
 }
 
@@ -82,7 +91,7 @@ fn assert_back(
     index: u64,
     wanted: &[(Pid, u64)],
 ) {
-    let told = told_of(rt, alloc, text, pid, 17, index);
+    let told = text_answers(rt, alloc, text, pid, 17, index);
     same(rt, &told.back.as_slice(), &wanted);
 }
 
@@ -106,7 +115,7 @@ fn chains_go_by_label(rt: HostRuntime) {
 }
 
 /// Prints of both processes whose labels, 0 to 4, change without a pattern.
-fn mixed(alloc: Global) -> Result<Streams, Fail> {
+fn mixed_prints(alloc: Global) -> Result<Streams, Fail> {
     let mut draft = Draft::new(alloc);
     draft.open(p30())?;
     draft.open(p31())?;
@@ -133,7 +142,7 @@ fn mixed(alloc: Global) -> Result<Streams, Fail> {
 }
 
 /// The places of the label in a process's events.
-fn filtered(alloc: Global, events: &[Event], label: u32) -> Result<Vec<u64>, AllocError> {
+fn places_by_filter(alloc: Global, events: &[Event], label: u32) -> Result<Vec<u64>, AllocError> {
     let mut places = Vec::new(alloc);
     for (i, event) in events.iter().enumerate() {
         if event.label == Label(label) {
@@ -145,15 +154,15 @@ fn filtered(alloc: Global, events: &[Event], label: u32) -> Result<Vec<u64>, All
 
 /// That the chain of a label is the plain filter of the process's events.
 fn assert_filtered(rt: &impl Abort, alloc: Global, streams: &Streams, pid: Pid, label: u32) {
-    let wanted = filtered(alloc, streams.events(pid), label).expect(rt, "no memory");
+    let wanted = places_by_filter(alloc, streams.events(pid), label).expect(rt, "no memory");
     same(rt, &wanted.is_empty(), &(label == 5));
-    let told = told(alloc, streams, pid, label, 0).expect(rt, "nothing told");
+    let told = chain_answers(alloc, streams, pid, label, 0).expect(rt, "nothing told");
     same(rt, &told.chain.as_slice(), &wanted.as_slice());
 }
 
 #[test]
 fn chains_are_the_plain_filters(rt: HostRuntime) -> Result<(), Fail> {
-    let streams = mixed(rt.alloc())?;
+    let streams = mixed_prints(rt.alloc())?;
     for label in 0..6 {
         assert_filtered(&rt, rt.alloc(), &streams, p30(), label);
         assert_filtered(&rt, rt.alloc(), &streams, p31(), label);
@@ -177,10 +186,10 @@ fn a_receive_is_caused_by_its_send(rt: HostRuntime) {
 #[test]
 fn a_refused_growth_is_answered(rt: HostRuntime) {
     let alloc = rt.alloc();
-    let streams = made(&rt, alloc, ONE_MESSAGE);
-    let told = match told(alloc, &streams, p31(), 17, 0) {
+    let streams = streams_at_last(&rt, alloc, ONE_MESSAGE);
+    let told = match chain_answers(alloc, &streams, p31(), 17, 0) {
         Some(told) => told,
-        None => told(alloc, &streams, p31(), 17, 0).expect(&rt, "refused again"),
+        None => chain_answers(alloc, &streams, p31(), 17, 0).expect(&rt, "refused again"),
     };
     same(&rt, &told.chain.as_slice(), &[0].as_slice());
     let back = [(p31(), 0), (p30(), 0)];

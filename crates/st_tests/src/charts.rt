@@ -47,7 +47,7 @@ lane 2 <0.31.0>
 ";
 
 /// A chart of streams that pairing accepts.
-fn drawn(
+fn chart_of(
     alloc: Global,
     sink: &mut MemorySink,
     streams: &Streams,

@@ -1,7 +1,7 @@
 //! Worked certificates and replays, each with the result that the rules of the machine give by hand,
 //! and what is left if memory runs out.
 
-use crate::collected::{made, p30, p31, p32, same, streams};
+use crate::collected::{p30, p31, p32, same, streams, streams_at_last};
 use st_check::{CheckFault, ReplayFault, Replayed, Verdict, check, replay};
 use st_core::{Act, Component, Label, Pid, Reply, Sequence, Streams, Want};
 use std::alloc::{AllocError, Global};
@@ -183,7 +183,7 @@ fn a_full_clock_is_stuck(rt: HostRuntime) -> Result<(), Fail> {
 }
 
 /// What acts that have a run report and reply.
-fn ran(alloc: Global, pids: &[Pid], acts: &[Act]) -> Result<(Streams, Sequence<Reply>), Fail> {
+fn run_of(alloc: Global, pids: &[Pid], acts: &[Act]) -> Result<(Streams, Sequence<Reply>), Fail> {
     match replay::<MOST>(alloc, pids, acts)? {
         Replayed::Ran(streams, replies) => Ok((streams, replies)),
         Replayed::Stuck(_) => Err("it didn't run".into()),
@@ -214,7 +214,7 @@ fn low_serial() -> [Act; 14] {
 #[test]
 fn a_replay_answers_what_each_act_reports_and_replies(rt: HostRuntime) -> Result<(), Fail> {
     let acts = low_serial();
-    let (reported, replies) = ran(rt.alloc(), &[p30(), p31(), p32()], &acts)?;
+    let (reported, replies) = run_of(rt.alloc(), &[p30(), p31(), p32()], &acts)?;
     let wanted = streams(rt.alloc(), LOW_SERIAL)?;
     for &pid in wanted.pids() {
         assert!(rt; reported.events(pid) == wanted.events(pid));
@@ -258,7 +258,7 @@ fn last_pair(
 #[test]
 fn a_hundred_thousand_acts_are_replayed_and_checked(rt: HostRuntime) -> Result<(), Fail> {
     let acts = exchanges(rt.alloc(), 60_000)?;
-    let (streams, replies) = ran(rt.alloc(), &[p30(), p31()], acts.as_slice())?;
+    let (streams, replies) = run_of(rt.alloc(), &[p30(), p31()], acts.as_slice())?;
     same(&rt, &streams.len(p31()), &60_000);
     same(&rt, &replies.len(), &120_002);
     let last = last_pair(rt.alloc(), &streams, acts.as_slice())?;
@@ -282,7 +282,7 @@ fn send_one() -> [Act; 5] {
 #[test]
 fn a_check_without_memory_may_be_asked_again(rt: HostRuntime) {
     let alloc = rt.alloc();
-    let streams = made(&rt, alloc, RECEIVED);
+    let streams = streams_at_last(&rt, alloc, RECEIVED);
     let wanted = Wanted::Yes(&[(4, 3)]);
     let told = match answers::<MOST>(alloc, &streams, &send_one(), wanted) {
         Err(CheckFault::Memory) => answers::<MOST>(alloc, &streams, &send_one(), wanted),

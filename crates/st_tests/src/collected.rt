@@ -45,7 +45,7 @@ fn streams_of(alloc: Global, text: &str) -> Option<Streams> {
 
 /// The streams of a text. If memory runs out it is asked for again, so that a test in which that happens once gets to
 /// what it tests.
-pub(crate) fn made(rt: &impl Abort, alloc: Global, text: &str) -> Streams {
+pub(crate) fn streams_at_last(rt: &impl Abort, alloc: Global, text: &str) -> Streams {
     match streams_of(alloc, text) {
         Some(streams) => streams,
         None => streams_of(alloc, text).expect(rt, "no streams at the second try"),

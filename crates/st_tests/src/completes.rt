@@ -1,6 +1,6 @@
 //! Traces that lack something: their completions by hand, reasons, and acts.
 
-use crate::collected::{made, p30, p31, same, streams};
+use crate::collected::{p30, p31, same, streams, streams_at_last};
 use st_complete::{
     Answer, CertificateFault, CompleteFault, Completion, Never, certificate, complete,
 };
@@ -27,7 +27,7 @@ const NEEDING: &str = "seqtrace 1\n\
     process <0.31.0>\n";
 
 /// The completion of a text's streams.
-fn completed(rt: &impl Abort, alloc: Global, streams: &Streams) -> Result<Completion, Fail> {
+fn completion_of(rt: &impl Abort, alloc: Global, streams: &Streams) -> Result<Completion, Fail> {
     match complete::<MOST>(alloc, streams)? {
         Answer::Whole(completion) => Ok(completion),
         Answer::Never(..) => panic!(rt; "never"),
@@ -60,7 +60,7 @@ fn assert_never(
 fn hidden_sends_stand_before_the_receives(rt: HostRuntime) -> Result<(), Fail> {
     let alloc = rt.alloc();
     let streams = streams(alloc, CROSSING)?;
-    let completion = completed(&rt, alloc, &streams)?;
+    let completion = completion_of(&rt, alloc, &streams)?;
     same(&rt, &completion.added(), &2);
     same(&rt, &completion.streams().len(p30()), &2);
     same(&rt, &completion.told(p30(), 0), &Some(false));
@@ -82,7 +82,7 @@ fn hidden_sends_stand_before_the_receives(rt: HostRuntime) -> Result<(), Fail> {
 fn a_need_gets_a_receive_and_its_send(rt: HostRuntime) -> Result<(), Fail> {
     let alloc = rt.alloc();
     let streams = streams(alloc, NEEDING)?;
-    let completion = completed(&rt, alloc, &streams)?;
+    let completion = completion_of(&rt, alloc, &streams)?;
     // The hidden send of 3 and the receive of 2 with its send.
     same(&rt, &completion.added(), &3);
     let received = completion.streams().event(p30(), 2).ok_or("no event")?;
@@ -96,7 +96,7 @@ fn a_completion_has_acts(rt: HostRuntime) -> Result<(), Fail> {
     let alloc = rt.alloc();
     for text in [CROSSING, NEEDING] {
         let streams = streams(alloc, text)?;
-        let completion = completed(&rt, alloc, &streams)?;
+        let completion = completion_of(&rt, alloc, &streams)?;
         let found = certificate::<MOST>(&rt, alloc, &streams, &completion, 100)?;
         assert!(rt; !found.acts.is_empty());
         let few = certificate::<MOST>(&rt, alloc, &streams, &completion, 3);
@@ -149,7 +149,7 @@ fn a_count_above_the_clocks_is_too_high(rt: HostRuntime) -> Result<(), Fail> {
 #[test]
 fn after_memory_ran_out_the_same_call_completes(rt: HostRuntime) {
     let alloc = rt.alloc();
-    let streams = made(&rt, alloc, NEEDING);
+    let streams = streams_at_last(&rt, alloc, NEEDING);
     let answer = match complete::<MOST>(alloc, &streams) {
         Err(CompleteFault::Memory) => complete::<MOST>(alloc, &streams),
         answer => answer,

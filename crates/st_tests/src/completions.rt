@@ -10,7 +10,7 @@ use std::test::Fail;
 const RECEIVES: u64 = 100_000;
 
 /// 31 received so many messages of 30, whose sends nobody reported.
-fn received(alloc: Global) -> Result<Streams, Fail> {
+fn receives_of_hidden_sends(alloc: Global) -> Result<Streams, Fail> {
     let mut draft = Draft::new(alloc);
     draft.open(p30())?;
     draft.open(p31())?;
@@ -32,7 +32,7 @@ fn received(alloc: Global) -> Result<Streams, Fail> {
 fn a_hundred_thousand_hidden_sends_are_completed_and_certified(
     rt: HostRuntime,
 ) -> Result<(), Fail> {
-    let streams = received(rt.alloc())?;
+    let streams = receives_of_hidden_sends(rt.alloc())?;
     let Answer::Whole(completion) = complete::<{ u64::MAX }>(rt.alloc(), &streams)? else {
         panic!(rt; "not completed");
     };

@@ -10,7 +10,7 @@ use std::alloc::{AllocError, Global};
 use std::test::Fail;
 
 /// A message of this value, with a token of its sender that has this own count.
-fn stamped(from: Pid, value: u64, this: u64) -> Message {
+fn stamped_message(from: Pid, value: u64, this: u64) -> Message {
     let mut token = Token::made_by(from);
     token.serial = Serial { prev: 0, this };
     Message {
@@ -21,7 +21,7 @@ fn stamped(from: Pid, value: u64, this: u64) -> Message {
 }
 
 /// The index with one message more.
-fn pushed(mut index: Index, message: &Message) -> Result<Index, AllocError>
+fn index_with(mut index: Index, message: &Message) -> Result<Index, AllocError>
     requires index { IsIndex index }
     requires room { 0 < room index }
     ensures index { IfOk result (λ next. IsIndex next) }
@@ -32,19 +32,19 @@ fn pushed(mut index: Index, message: &Message) -> Result<Index, AllocError>
 }
 
 /// An index of 8 and 9 from 30, and 8 from 31, whose stamps are 6, 7 and 7.
-fn three_indexed(alloc: Global) -> Result<Index, AllocError>
+fn index_of_three(alloc: Global) -> Result<Index, AllocError>
     ensures index { IfOk result (λ index. IsIndex index) }
 {
     let none = Index::new(alloc, 3)?;
-    let one = pushed(none, &stamped(p30(), 8, 6))?;
-    let two = pushed(one, &stamped(p30(), 9, 7))?;
-    let three = pushed(two, &stamped(p31(), 8, 7))?;
+    let one = index_with(none, &stamped_message(p30(), 8, 6))?;
+    let two = index_with(one, &stamped_message(p30(), 9, 7))?;
+    let three = index_with(two, &stamped_message(p31(), 8, 7))?;
     Ok(three)
 }
 
 #[test]
 fn an_index_finds_the_least_place_of_each_key(rt: HostRuntime) -> Result<(), Fail> {
-    let index = three_indexed(rt.alloc())?;
+    let index = index_of_three(rt.alloc())?;
     same(&rt, &index.find_from(p31()), &Some(2));
     same(&rt, &index.find_value(8), &Some(0));
     same(&rt, &index.find_both(p31(), 8), &Some(2));

@@ -17,7 +17,7 @@ struct Parcel {
 }
 
 // A list's items, by the walk.
-fn walked(alloc: Global, lists: &Lists<u64>, list: usize) -> Result<Vec<u64>, AllocError>
+fn items_by_walk(alloc: Global, lists: &Lists<u64>, list: usize) -> Result<Vec<u64>, AllocError>
     requires { list < length lists.now.lists }
     ensures { IfOk result (λ items. items.items ≡ list_at lists.now list) }
 {
@@ -47,7 +47,11 @@ fn assert_list<R: Abort>(
     requires { list < length lists.now.lists }
 {
     assert_places(rt, lists, list, expected);
-    same(rt, &walked(alloc, lists, list)?.as_slice(), &expected);
+    same(
+        rt,
+        &items_by_walk(alloc, lists, list)?.as_slice(),
+        &expected,
+    );
     Ok(())
 }
 
@@ -85,7 +89,7 @@ fn a_taken_node_serves_another_list(rt: HostRuntime) -> Result<(), Fail> {
 }
 
 // Pushes 1, 2, 3, 4 and 7 on the first of two lists, and takes the first and the last between.
-fn three_left<R: Abort>(rt: &R, alloc: Global) -> Result<Lists<u64>, Fail>
+fn lists_of_three<R: Abort>(rt: &R, alloc: Global) -> Result<Lists<u64>, Fail>
     ensures { IfOk result (λ arena. length arena.lists ≡ 2) }
 {
     let mut lists = Lists::new(alloc, 2)?;
@@ -102,22 +106,22 @@ fn three_left<R: Abort>(rt: &R, alloc: Global) -> Result<Lists<u64>, Fail>
 
 #[test]
 fn items_leave_at_both_ends(rt: HostRuntime) -> Result<(), Fail> {
-    let lists = three_left(&rt, rt.alloc())?;
+    let lists = lists_of_three(&rt, rt.alloc())?;
     assert_list(&rt, rt.alloc(), &lists, 0, &[2, 3, 7])
 }
 
 // The same, with each item doubled.
-fn three_doubled<R: Abort>(rt: &R, alloc: Global) -> Result<Lists<u64>, Fail>
+fn doubled_lists<R: Abort>(rt: &R, alloc: Global) -> Result<Lists<u64>, Fail>
     ensures { IfOk result (λ arena. length arena.lists ≡ 2) }
 {
-    let mut lists = three_left(rt, alloc)?;
+    let mut lists = lists_of_three(rt, alloc)?;
     lists.change_all(0, &|item: &u64| item.wrapping_mul(2));
     Ok(lists)
 }
 
 #[test]
 fn each_item_changes_and_the_first_one_that_passes_is_found(rt: HostRuntime) -> Result<(), Fail> {
-    let lists = three_doubled(&rt, rt.alloc())?;
+    let lists = doubled_lists(&rt, rt.alloc())?;
     assert_list(&rt, rt.alloc(), &lists, 0, &[4, 6, 14])?;
     same(&rt, &lists.find_first(0, &|item: &u64| *item > 5), &Some(1));
     same(&rt, &lists.find_first(0, &|item: &u64| *item > 14), &None);
@@ -126,7 +130,7 @@ fn each_item_changes_and_the_first_one_that_passes_is_found(rt: HostRuntime) -> 
 
 #[test]
 fn an_emptied_list_takes_items_again(rt: HostRuntime) -> Result<(), Fail> {
-    let mut lists = three_doubled(&rt, rt.alloc())?;
+    let mut lists = doubled_lists(&rt, rt.alloc())?;
     take(&rt, &mut lists, 0, 0, Some(4));
     take(&rt, &mut lists, 0, 0, Some(6));
     take(&rt, &mut lists, 0, 0, Some(14));

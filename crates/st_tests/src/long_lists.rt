@@ -1,5 +1,5 @@
-//! Long lists, whose nodes a ladder finds: pushes and takes at random places agree with a vector, and none of them takes
-//! as many steps as the list has items.
+//! Long lists, whose nodes a ladder finds: pushes and takes at random places agree with a vector, and none of them
+//! takes as many steps as the list has items.
 
 ghost use Rattle.std.specs.Prelude.{◌≡◌, ◌<◌, length, IfOk};
 

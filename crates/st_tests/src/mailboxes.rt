@@ -11,7 +11,7 @@ use std::process::Abort;
 use std::test::Fail;
 
 /// A message of this value without a token.
-fn plain(from: Pid, value: u64) -> Message {
+fn plain_message(from: Pid, value: u64) -> Message {
     Message {
         from,
         value,
@@ -20,7 +20,7 @@ fn plain(from: Pid, value: u64) -> Message {
 }
 
 /// A message from 30 with a token of this own count.
-fn stamped(value: u64, this: u64) -> Message {
+fn stamped_message(value: u64, this: u64) -> Message {
     let mut token = Token::made_by(p30());
     token.serial = Serial { prev: 0, this };
     Message {
@@ -46,7 +46,11 @@ fn three_messages(alloc: Global) -> Result<Mailboxes, AllocError>
     ensures { IfOk result (λ mail. length mail.boxes ≡ 2) }
 {
     let mut mail = Mailboxes::new(alloc, 2)?;
-    let messages = [plain(p30(), 8), plain(p30(), 9), plain(p31(), 8)];
+    let messages = [
+        plain_message(p30(), 8),
+        plain_message(p30(), 9),
+        plain_message(p31(), 8),
+    ];
     put_all(&mut mail, 1, &messages)?;
     Ok(mail)
 }
@@ -88,7 +92,7 @@ fn take_value(rt: &impl Abort, mail: &mut Mailboxes, value: u64, place: Option<u
     ensures { length mail.new.boxes ≡ length mail.old.boxes }
 {
     let taken = mail.take(1, &Want::Value(value));
-    let wanted = place.map(|place| (place, plain(p30(), value)));
+    let wanted = place.map(|place| (place, plain_message(p30(), value)));
     same(rt, &taken, &wanted);
 }
 
@@ -97,7 +101,12 @@ fn takes_from_the_middle(rt: HostRuntime) -> Result<(), Fail> {
     let mut mail = three_messages(rt.alloc())?;
     take_value(&rt, &mut mail, 9, Some(1));
     take_value(&rt, &mut mail, 9, None);
-    assert_mailbox(&rt, &mail, 1, &[plain(p30(), 8), plain(p31(), 8)]);
+    assert_mailbox(
+        &rt,
+        &mail,
+        1,
+        &[plain_message(p30(), 8), plain_message(p31(), 8)],
+    );
     assert_mailbox(&rt, &mail, 0, &[]);
     Ok(())
 }
@@ -109,7 +118,7 @@ fn put_reserved(mail: &mut Mailboxes, mailbox: usize, value: u64)
     ensures boxes { length mail.new.boxes ≡ length mail.old.boxes }
     ensures room { mail.old.spare ≡ mail.new.spare + 1 }
 {
-    mail.put_reserved(mailbox, plain(p30(), value));
+    mail.put_reserved(mailbox, plain_message(p30(), value));
 }
 
 #[test]
@@ -123,7 +132,12 @@ fn room_of_one_mailbox_serves_another(rt: HostRuntime) -> Result<(), Fail> {
     if taken.is_some() {
         put_reserved(&mut mail, 1, 6);
     }
-    assert_mailbox(&rt, &mail, 1, &[plain(p30(), 5), plain(p30(), 6)]);
+    assert_mailbox(
+        &rt,
+        &mail,
+        1,
+        &[plain_message(p30(), 5), plain_message(p30(), 6)],
+    );
     Ok(())
 }
 
@@ -141,7 +155,11 @@ fn assert_place(rt: &impl Abort, mail: &Mailboxes, from: Pid, this: u64, place: 
 #[test]
 fn places_of_stamps_are_the_least_until_wiped(rt: HostRuntime) -> Result<(), Fail> {
     let mut mail = Mailboxes::new(rt.alloc(), 1)?;
-    let messages = [plain(p30(), 1), stamped(2, 7), stamped(3, 7)];
+    let messages = [
+        plain_message(p30(), 1),
+        stamped_message(2, 7),
+        stamped_message(3, 7),
+    ];
     put_all(&mut mail, 0, &messages)?;
     assert_place(&rt, &mail, p30(), 7, Some(1));
     assert_place(&rt, &mail, p30(), 8, None);
@@ -152,7 +170,11 @@ fn places_of_stamps_are_the_least_until_wiped(rt: HostRuntime) -> Result<(), Fai
         &rt,
         &mail,
         0,
-        &[plain(p30(), 1), plain(p30(), 2), plain(p30(), 3)],
+        &[
+            plain_message(p30(), 1),
+            plain_message(p30(), 2),
+            plain_message(p30(), 3),
+        ],
     );
     Ok(())
 }
@@ -166,10 +188,14 @@ fn assert_this(rt: &impl Abort, message: Option<Message>, this: Option<u64>) {
 #[test]
 fn a_wipe_is_of_what_lies_there_then(rt: HostRuntime) -> Result<(), Fail> {
     let mut mail = Mailboxes::new(rt.alloc(), 2)?;
-    put_all(&mut mail, 0, &[stamped(1, 7), stamped(2, 8)])?;
-    put_all(&mut mail, 1, &[stamped(1, 7)])?;
+    put_all(
+        &mut mail,
+        0,
+        &[stamped_message(1, 7), stamped_message(2, 8)],
+    )?;
+    put_all(&mut mail, 1, &[stamped_message(1, 7)])?;
     mail.wipe_tokens(0);
-    put_all(&mut mail, 0, &[stamped(3, 7)])?;
+    put_all(&mut mail, 0, &[stamped_message(3, 7)])?;
     assert_place(&rt, &mail, p30(), 7, Some(2));
     assert_this(&rt, mail.get(0, 1), None);
     assert_this(&rt, mail.get(0, 2), Some(7));
@@ -193,9 +219,17 @@ fn assert_taken(rt: &impl Abort, mail: &mut Mailboxes, value: u64, this: Option<
 #[test]
 fn takes_leave_what_else_was_wiped(rt: HostRuntime) -> Result<(), Fail> {
     let mut mail = Mailboxes::new(rt.alloc(), 1)?;
-    put_all(&mut mail, 0, &[stamped(1, 6), stamped(2, 7)])?;
+    put_all(
+        &mut mail,
+        0,
+        &[stamped_message(1, 6), stamped_message(2, 7)],
+    )?;
     mail.wipe_tokens(0);
-    put_all(&mut mail, 0, &[stamped(3, 8), stamped(4, 9)])?;
+    put_all(
+        &mut mail,
+        0,
+        &[stamped_message(3, 8), stamped_message(4, 9)],
+    )?;
     assert_taken(&rt, &mut mail, 4, Some(9));
     assert_taken(&rt, &mut mail, 1, None);
     assert_this(&rt, mail.get(0, 0), None);
@@ -222,9 +256,9 @@ fn put_at_last(rt: &impl Abort, mail: &mut Mailboxes, count: u64)
     requires { 1 < length mail.old.boxes }
     ensures { length mail.new.boxes ≡ length mail.old.boxes }
 {
-    if mail.put(1, plain(p30(), count)).is_err() {
+    if mail.put(1, plain_message(p30(), count)).is_err() {
         same(rt, &mail.len(1), &count);
-        assert!(rt; mail.put(1, plain(p30(), count)).is_ok());
+        assert!(rt; mail.put(1, plain_message(p30(), count)).is_ok());
     }
 }
 

@@ -1,7 +1,7 @@
 //! Worked orders, each with the result that the rules give by hand, a large one against a plain
 //! sort, and what is left if memory runs out.
 
-use crate::collected::{ONE_MESSAGE, made, p30, p31, p32, same, streams};
+use crate::collected::{ONE_MESSAGE, p30, p31, p32, same, streams, streams_at_last};
 use crate::text::CERTIFICATE;
 use st_core::{Draft, Event, Kind, Label, Pid, Sequence, Serial, Streams};
 use st_order::{Item, by_label, order};
@@ -57,7 +57,7 @@ fn hidden_sends_stand_before_their_receives(rt: HostRuntime) -> Result<(), Fail>
 #[test]
 fn a_refused_growth_is_answered(rt: HostRuntime) {
     let alloc = rt.alloc();
-    let streams = made(&rt, alloc, CERTIFICATE);
+    let streams = streams_at_last(&rt, alloc, CERTIFICATE);
     if assert_certificate(&rt, alloc, &streams).is_err() {
         assert!(rt; assert_certificate(&rt, alloc, &streams).is_ok());
     }
@@ -129,7 +129,7 @@ const EVENTS: u32 = 200;
 const LABELS: u32 = 20;
 
 /// A print's event.
-fn printed(label: u32, serial: (u64, u64), from: Pid) -> Event {
+fn print_of(label: u32, serial: (u64, u64), from: Pid) -> Event {
     Event {
         label: Label(label),
         kind: Kind::Print,
@@ -143,23 +143,23 @@ fn printed(label: u32, serial: (u64, u64), from: Pid) -> Event {
     }
 }
 
-fn sent(label: u32, serial: (u64, u64), from: Pid, to: Pid) -> Event {
+fn send_of(label: u32, serial: (u64, u64), from: Pid, to: Pid) -> Event {
     Event {
         kind: Kind::Send,
         to: Some(to),
-        ..printed(label, serial, from)
+        ..print_of(label, serial, from)
     }
 }
 
-fn received(label: u32, serial: (u64, u64), from: Pid, to: Pid) -> Event {
+fn receive_of(label: u32, serial: (u64, u64), from: Pid, to: Pid) -> Event {
     Event {
         kind: Kind::Receive,
-        ..sent(label, serial, from, to)
+        ..send_of(label, serial, from, to)
     }
 }
 
 /// The process whose sends this one receives.
-fn before(process: u16) -> u16 {
+fn process_before(process: u16) -> u16 {
     if process == 0 {
         PROCESSES - 1
     } else {
@@ -167,7 +167,7 @@ fn before(process: u16) -> u16 {
     }
 }
 
-fn after(process: u16) -> u16 {
+fn process_after(process: u16) -> u16 {
     if process == PROCESSES - 1 {
         0
     } else {
@@ -196,31 +196,31 @@ fn event_at(process: u16, index: u32) -> Event {
     let this = count(process, index);
     let label_here = label(process, index);
     if is_silent(index) {
-        return printed(label_here, (this, this.wrapping_add(1)), pid);
+        return print_of(label_here, (this, this.wrapping_add(1)), pid);
     }
     match index % 4 {
-        2 => sent(
+        2 => send_of(
             label_here,
             (this.wrapping_sub(1), this),
             pid,
-            Pid::new(after(process)),
+            Pid::new(process_after(process)),
         ),
         3 => {
-            let sender = before(process);
+            let sender = process_before(process);
             let index = index.wrapping_sub(1);
             let this = count(sender, index);
-            received(
+            receive_of(
                 label(sender, index),
                 (this.wrapping_sub(1), this),
                 Pid::new(sender),
                 pid,
             )
         }
-        _ => printed(label_here, (this.wrapping_sub(1), this), pid),
+        _ => print_of(label_here, (this.wrapping_sub(1), this), pid),
     }
 }
 
-fn large(alloc: Global) -> Result<Streams, Fail> {
+fn large_streams(alloc: Global) -> Result<Streams, Fail> {
     let mut draft = Draft::new(alloc);
     for process in 0..PROCESSES {
         draft.open(Pid::new(process))?;
@@ -307,7 +307,7 @@ fn a_large_order_is_a_plain_sort_and_its_labels_are_plain_filters(
     rt: HostRuntime,
 ) -> Result<(), Fail> {
     let alloc = rt.alloc();
-    let streams = large(alloc)?;
+    let streams = large_streams(alloc)?;
     let pairing = pair(alloc, &streams)?;
     let items = order(&rt, alloc, &streams, &pairing)?;
     let expected = plain_order(alloc)?;

@@ -3,7 +3,7 @@
 
 mod random;
 
-use crate::collected::{ONE_MESSAGE, made, p30, p31, p32, same};
+use crate::collected::{ONE_MESSAGE, p30, p31, p32, same, streams_at_last};
 use crate::text::CERTIFICATE;
 use st_core::Pid;
 use st_pair::{PairFault, Pairing, Source, pair};
@@ -17,8 +17,8 @@ const OWN: &str = "seqtrace 1\n\
     process <0.32.0>\n\
     {seq_trace,17,{'receive',{0,1},<0.32.0>,<0.32.0>,5}}\n";
 
-fn paired(rt: &impl Abort, alloc: Global, text: &str) -> Pairing {
-    pair(alloc, &made(rt, alloc, text)).expect(rt, "no pairing")
+fn pairing_of(rt: &impl Abort, alloc: Global, text: &str) -> Pairing {
+    pair(alloc, &streams_at_last(rt, alloc, text)).expect(rt, "no pairing")
 }
 
 fn assert_source(rt: &impl Abort, pairing: &Pairing, at: (Pid, u64), source: Option<Source>) {
@@ -31,7 +31,7 @@ fn assert_receiver(rt: &impl Abort, pairing: &Pairing, at: (Pid, u64), to: Optio
 
 #[test]
 fn unreported_sends_are_hidden(rt: HostRuntime) {
-    let pairing = paired(&rt, rt.alloc(), CERTIFICATE);
+    let pairing = pairing_of(&rt, rt.alloc(), CERTIFICATE);
     assert_source(&rt, &pairing, (p30(), 1), Some(Source::Hidden));
     assert_source(&rt, &pairing, (p31(), 0), Some(Source::Hidden));
     assert_source(&rt, &pairing, (p31(), 1), None);
@@ -39,7 +39,7 @@ fn unreported_sends_are_hidden(rt: HostRuntime) {
 
 #[test]
 fn equal_serials_of_two_senders_are_two_messages(rt: HostRuntime) {
-    let pairing = paired(&rt, rt.alloc(), OWN);
+    let pairing = pairing_of(&rt, rt.alloc(), OWN);
     assert_source(&rt, &pairing, (p31(), 0), Some(Source::Hidden));
     assert_source(&rt, &pairing, (p32(), 0), Some(Source::Hidden));
 }
@@ -55,14 +55,14 @@ fn assert_passed(rt: &impl Abort, pairing: &Pairing) {
 
 #[test]
 fn a_send_and_its_receive_are_paired(rt: HostRuntime) {
-    assert_passed(&rt, &paired(&rt, rt.alloc(), ONE_MESSAGE));
+    assert_passed(&rt, &pairing_of(&rt, rt.alloc(), ONE_MESSAGE));
 }
 
 /// If memory runs out the result is Memory, and the same call succeeds afterwards.
 #[test]
 fn a_refused_growth_is_memory(rt: HostRuntime) {
     let alloc = rt.alloc();
-    let streams = made(&rt, alloc, ONE_MESSAGE);
+    let streams = streams_at_last(&rt, alloc, ONE_MESSAGE);
     match pair(alloc, &streams) {
         Ok(pairing) => assert_passed(&rt, &pairing),
         Err(fault) => {

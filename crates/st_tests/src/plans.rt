@@ -13,7 +13,7 @@ const PRINTED: Flags = Flags {
 };
 
 /// What process 30 does before a reported print of label 17.
-fn planned(alloc: Global, start: &Start, prev: u64, this: u64) -> Result<Vec<Act>, AllocError> {
+fn plan_of(alloc: Global, start: &Start, prev: u64, this: u64) -> Result<Vec<Act>, AllocError> {
     let mut plan = Vec::new(alloc);
     ready(
         &mut plan,
@@ -42,7 +42,7 @@ const WITHOUT_TOKEN: Start = Start {
 
 #[test]
 fn prints_nobody_sees_bring_the_clock_below_the_count(rt: HostRuntime) -> Result<(), Fail> {
-    let plan = planned(rt.alloc(), &WITHOUT_TOKEN, 1, 6)?;
+    let plan = plan_of(rt.alloc(), &WITHOUT_TOKEN, 1, 6)?;
     same(&rt, &prints(&plan), &3);
     same(&rt, &plan.len(), &5);
     Ok(())
@@ -55,7 +55,7 @@ fn new_trace_begins_at_a_prev_above_the_clock(rt: HostRuntime) -> Result<(), Fai
         clock: 1,
         last: 0,
     };
-    let plan = planned(rt.alloc(), &start, 3, 4)?;
+    let plan = plan_of(rt.alloc(), &start, 3, 4)?;
     same(&rt, &prints(&plan), &2);
     assert!(rt; plan.contains(&Act::Clear(p30())));
     same(&rt, &plan.len(), &6);
@@ -75,7 +75,7 @@ fn nothing_is_planned_for_a_process_that_stands_ready(rt: HostRuntime) -> Result
         clock: 4,
         last: 2,
     };
-    assert!(rt; planned(rt.alloc(), &start, 2, 5)?.is_empty());
+    assert!(rt; plan_of(rt.alloc(), &start, 2, 5)?.is_empty());
     Ok(())
 }
 
@@ -83,9 +83,9 @@ fn nothing_is_planned_for_a_process_that_stands_ready(rt: HostRuntime) -> Result
 #[test]
 fn a_refused_growth_is_answered(rt: HostRuntime) -> Result<(), Fail> {
     let alloc = rt.alloc();
-    let plan = match planned(alloc, &WITHOUT_TOKEN, 1, 6) {
+    let plan = match plan_of(alloc, &WITHOUT_TOKEN, 1, 6) {
         Ok(plan) => plan,
-        Err(_) => planned(alloc, &WITHOUT_TOKEN, 1, 6)?,
+        Err(_) => plan_of(alloc, &WITHOUT_TOKEN, 1, 6)?,
     };
     same(&rt, &prints(plan.as_slice()), &3);
     same(&rt, &plan.len(), &5);

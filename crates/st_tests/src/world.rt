@@ -12,7 +12,7 @@ use std::process::Abort;
 use std::test::Fail;
 
 /// An outcome of a reply alone.
-fn only(reply: Reply) -> Result<Outcome, StepFault> {
+fn outcome_of_reply(reply: Reply) -> Result<Outcome, StepFault> {
     Ok(Outcome {
         reply,
         report: None,
@@ -20,8 +20,8 @@ fn only(reply: Reply) -> Result<Outcome, StepFault> {
     })
 }
 
-fn done() -> Result<Outcome, StepFault> {
-    only(Reply::Done)
+fn outcome_done() -> Result<Outcome, StepFault> {
+    outcome_of_reply(Reply::Done)
 }
 
 /// The outcome of a receive that isn't reported.
@@ -75,16 +75,16 @@ fn values_out_of_order(rt: HostRuntime) -> Result<(), Fail> {
     let nine = Act::Receive(p31(), Want::Value(9));
     let first = Act::Receive(p31(), Want::First);
     let acts = [
-        (Act::Send(p30(), p31(), 8), done()),
-        (Act::Send(p30(), p31(), 9), done()),
-        (Act::Send(p30(), p31(), 8), done()),
+        (Act::Send(p30(), p31(), 8), outcome_done()),
+        (Act::Send(p30(), p31(), 9), outcome_done()),
+        (Act::Send(p30(), p31(), 8), outcome_done()),
         (nine, mail(p30(), 9, 1)),
-        (Act::Send(p30(), p31(), 4), done()),
+        (Act::Send(p30(), p31(), 4), outcome_done()),
         (first, mail(p30(), 8, 0)),
         (first, mail(p30(), 8, 0)),
         (first, mail(p30(), 4, 0)),
-        (first, only(Reply::Nothing)),
-        (first, only(Reply::Nothing)),
+        (first, outcome_of_reply(Reply::Nothing)),
+        (first, outcome_of_reply(Reply::Nothing)),
     ];
     play(&rt, &mut world, &acts);
     Ok(())
@@ -113,7 +113,7 @@ fn reset_with_a_queued_message(rt: HostRuntime) -> Result<(), Fail> {
     assert_counts(&rt, &world, p30(), 1, 0);
     assert_queued(&rt, &world, Some(0));
     let reset = [
-        (Act::Reset(p30()), done()),
+        (Act::Reset(p30()), outcome_done()),
         (Act::Receive(p31(), Want::First), mail(p30(), 5, 0)),
     ];
     play(&rt, &mut world, &reset);
@@ -133,13 +133,16 @@ fn reset_leaves_the_other_node(rt: HostRuntime) -> Result<(), Fail> {
     run(&rt, &mut world, &[Act::Reset(near)]);
     assert_counts(&rt, &world, near, 0, 0);
     run(&rt, &mut world, &traced_send(near, far));
-    let taken = (Act::Receive(far, Want::First), received(near, far));
+    let taken = (
+        Act::Receive(far, Want::First),
+        outcome_of_receive(near, far),
+    );
     play(&rt, &mut world, &[taken, taken]);
     Ok(())
 }
 
 /// The outcome of a receive of such a traced 5 whose token was stamped first.
-fn received(from: Pid, to: Pid) -> Result<Outcome, StepFault> {
+fn outcome_of_receive(from: Pid, to: Pid) -> Result<Outcome, StepFault> {
     Ok(Outcome {
         reply: Reply::Mail(from, 5),
         report: Some(Event {
@@ -166,13 +169,16 @@ fn small_limits(rt: HostRuntime) -> Result<(), Fail> {
     let print = Act::Print(p30(), 0);
     let set = Act::Set(p30(), Component::Label(Label(1)));
     let acts = [
-        (set, only(Reply::Old(None))),
-        (print, done()),
-        (print, done()),
-        (print, done()),
+        (set, outcome_of_reply(Reply::Old(None))),
+        (print, outcome_done()),
+        (print, outcome_done()),
+        (print, outcome_done()),
         (print, Err(StepFault::ClockFull)),
-        (Act::Clear(p30()), only(Reply::Previous(Some(token)))),
-        (Act::Send(p30(), p30(), 5), done()),
+        (
+            Act::Clear(p30()),
+            outcome_of_reply(Reply::Previous(Some(token))),
+        ),
+        (Act::Send(p30(), p30(), 5), outcome_done()),
     ];
     play(&rt, &mut world, &acts);
     assert_counts(&rt, &world, p30(), 3, 0);
@@ -217,13 +223,13 @@ fn low_serial_receive(rt: HostRuntime) -> Result<(), Fail> {
     assert_counts(&rt, &world, p31(), 5, 5);
     play(&rt, &mut world, &[(first, mail(p32(), 3, 0))]);
     assert_counts(&rt, &world, p31(), 5, 3);
-    let send = (Act::Send(p31(), p30(), 9), sent(p31(), p30()));
+    let send = (Act::Send(p31(), p30(), 9), outcome_of_send(p31(), p30()));
     play(&rt, &mut world, &[send]);
     Ok(())
 }
 
 /// The outcome of a reported send of 9 that follows own count 3 and is number 6.
-fn sent(from: Pid, to: Pid) -> Result<Outcome, StepFault> {
+fn outcome_of_send(from: Pid, to: Pid) -> Result<Outcome, StepFault> {
     Ok(Outcome {
         reply: Reply::Done,
         report: Some(Event {
@@ -240,7 +246,11 @@ fn sent(from: Pid, to: Pid) -> Result<Outcome, StepFault> {
 
 /// 30 sends a value.
 fn send(rt: &impl Abort, world: &mut World<9>, to: Pid, value: u64) {
-    same(rt, &world.step(&Act::Send(p30(), to, value)), &done());
+    same(
+        rt,
+        &world.step(&Act::Send(p30(), to, value)),
+        &outcome_done(),
+    );
 }
 
 /// A process takes this value of 30 from this place.
@@ -325,7 +335,7 @@ fn send_at_last(rt: &impl Abort, world: &mut World<9>, clock: u64) {
         );
         told = world.step(&act);
     }
-    same(rt, &told, &done());
+    same(rt, &told, &outcome_done());
 }
 
 // What is left if memory runs out is seen if this test runs with an allocation that fails.

@@ -27,7 +27,7 @@ use Rattle.st_text.specs.Text.{lines_of, IsBundle}
 use Rattle.st_text.specs.Parts.Builder.{IsBuilt}
 use Rattle.st_text.specs.Parts.Finish.{line_at_place, event_line_number}
 use Rattle.st_text.specs.Fault.{is_unknown, unknown_from, closing_fault}
-use Rattle.st_text.proofs.Listed.{own_events}
+use Rattle.st_text.proofs.ListedPids.{own_events}
 use Rattle.st_core.proofs.ForCallers.{or_true}
 
 and_true : (b : Bool) → (b && true) ≡ b

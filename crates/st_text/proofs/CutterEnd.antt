@@ -26,7 +26,7 @@ use Rattle.st_text.specs.Parts.CutterState.{HasTakenAs}
 use Rattle.st_text.specs.Answer.{Answers, IsAnswer, Reads}
 use Rattle.st_text.proofs.Newlines.{spelled_by, no_lines, fault_of_line, fault_truncated, fault_at_end, truncated_tail}
 use Rattle.st_text.proofs.Newlines.{truncated_nothing, truncated_none}
-use Rattle.st_text.proofs.Counted.{all_few}
+use Rattle.st_text.proofs.CountLimits.{all_few}
 use Rattle.st_text.proofs.GoodLines.{count-append, count-cons}
 use Rattle.st_text.proofs.Headers.{spelled_whole, body_fits}
 use Rattle.st_text.specs.declared.limits.Limits.{Limits}

@@ -36,13 +36,13 @@ use Rattle.st_text.specs.Fault.{fault_within}
 use Rattle.st_text.specs.Parts.Builder.{so_far}
 use Rattle.st_text.specs.Answer.{Reads}
 use Rattle.st_text.proofs.Newlines.{spelled_by, said_back, none_of}
-use Rattle.st_text.proofs.Counted.{Passes, passes, all_few}
+use Rattle.st_text.proofs.CountLimits.{Passes, passes, all_few}
 use Rattle.st_text.proofs.GoodLines.{count-append, count-cons}
 use Rattle.st_text.proofs.BuilderFaults.{stands_is}
 use Rattle.st_text.proofs.BuilderSteps.{so_far_open, so_far_event, so_far_begin, so_far_act, added_pids, last_cons}
 use Rattle.st_text.proofs.BuilderSteps.{pids_push, count_push}
 use Rattle.st_text.proofs.Headers.{spelled_whole, body_fits}
-use Rattle.st_text.proofs.Listed.{own_events, none_unlisted}
+use Rattle.st_text.proofs.ListedPids.{own_events, none_unlisted}
 use Rattle.st_text.proofs.ClosingFaults.{place_of, place_or, streams_place, acts_place}
 use Rattle.st_text.proofs.CutterEnd.{all_of, all_events}
 use Rattle.st_text.proofs.GoodText.{process_pids, act_pids}

@@ -6,9 +6,9 @@ pub mod ActLemmas
 pub mod LineLemmas
 pub mod Newlines
 pub mod Examples
-pub mod Listed
+pub mod ListedPids
 pub mod RemoteLemmas
-pub mod Spelled
+pub mod Spellings
 pub mod Puts
 pub mod BuilderFaults
 pub mod BuilderSteps
@@ -18,7 +18,7 @@ pub mod Longest
 pub mod CutterSteps
 pub mod Growths
 pub mod Headers
-pub mod Counted
+pub mod CountLimits
 pub mod CutterEnd
 pub mod TextFaults
 pub mod GoodLines

@@ -13,7 +13,7 @@ use Rattle.st_core.specs.Streams.{events_of, IsStreams}
 use Rattle.st_text.specs.declared.line.Line.TheVariants as lines
 use Rattle.st_text.specs.Text.{is_away, is_remote, process_lines, body, parts}
 use Rattle.st_text.specs.Parts.Remote.{is_event_remote, is_act_remote, is_process_remote}
-use Rattle.st_text.proofs.Listed.{by_pids, stream_at}
+use Rattle.st_text.proofs.ListedPids.{by_pids, stream_at}
 use Rattle.st_core.proofs.ForCallers.{or_true, or_false}
 
 pub any-map : {X Y : Type 0} (test : Y → Bool) (f : X → Y) (xs : List X)

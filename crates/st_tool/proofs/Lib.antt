@@ -1,5 +1,5 @@
 -- The lemmas.
-pub mod Telling
+pub mod Deliveries
 pub mod Rooms
 pub mod Backs
 pub mod Completions

@@ -1,5 +1,5 @@
--- What `complete` makes of bytes: what the streams that they spell lack, or why no run without a reset has them. The acts
--- in the input are ignored.
+-- What `complete` makes of bytes: what the streams that they spell lack, or why no run without a reset has them. The
+-- acts in the input are ignored.
 use Rattle.std.specs.Prelude.{◌≡◌, ℕ, ◌+◌, zero, suc, Bool, true, false, List, [], ◌++◌, Option, Some, None, IsSome}
 use Rattle.std.specs.Prelude.{codes, decimal, length, map, option_map, slice_get}
 use Rattle.std.specs.List.{flat_map}

@@ -21,9 +21,9 @@ fn renumber_streams<W: ByteSink>(alloc: Global, streams: &Streams, writer: &mut 
     }
 }
 
-/// Reads a bundle and writes its streams with each count replaced by its rank, with status 0. If these have a run without
-/// a reset at a TOP that fits, so have the given ones (`shown_if_renumbered_is` of `st_full`). Faulty input is 2; running
-/// out of memory, and a reader or a writer that fails, are 4.
+/// Reads a bundle and writes its streams with each count replaced by its rank, with status 0. If these
+/// have a run without a reset at a TOP that fits, so have the given ones (`shown_if_renumbered_is` of
+/// `st_full`). Faulty input is 2; running out of memory, and a reader or a writer that fails, are 4.
 pub fn run_renumber<R: ByteSource, W: ByteSink>(alloc: Global, reader: &mut R, writer: &mut W) -> u8
     ensures { Tells W.puts W.failed writer.old writer.new
         (Owes R.gives R.ended R.failed reader.old reader.new IsRenumbered) result }

@@ -1,7 +1,7 @@
 //! Where a line stops being one that may stand in a text, and what could stand there.
 //!
-//! A scan follows a line through the grammar as far as some line goes on; `st_text` alone decides what a text is. So its
-//! column is that of the first byte at which no line of the grammar goes on.
+//! A scan follows a line through the grammar as far as some line goes on; `st_text` alone decides what a text is. So
+//! its column is that of the first byte at which no line of the grammar goes on.
 
 use arrayvec::ArrayVec;
 use st_column::Above;

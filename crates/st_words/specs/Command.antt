@@ -11,8 +11,8 @@ use Rattle.st_tool.specs.Complete.{IsCompleted}
 use Rattle.st_tool.specs.Renumber.{IsRenumbered}
 use Rattle.st_tool.specs.Why.{IsWhy}
 
-module _ {R W : Type 0} (gives : R → List ℕ → R → Type 0) (ended : R → Type 0) (read_failed : R → Bool) (reader read : R)
-    (puts : W → List ℕ → W → Type 0) (write_failed : W → Bool) (writer written : W) where
+module _ {R W : Type 0} (gives : R → List ℕ → R → Type 0) (ended : R → Type 0) (read_failed : R → Bool)
+    (reader read : R) (puts : W → List ℕ → W → Type 0) (write_failed : W → Bool) (writer written : W) where
   -- it read all bytes, and wrote the output that it owes of them
   abbrev TellsOf : (List ℕ → Output → Type 0) → ℕ → Type 0
   TellsOf IsOutput status =

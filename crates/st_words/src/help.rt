@@ -17,7 +17,8 @@ A trace is a text with a line for each process and each event that it reported:
   {seq_trace,17,{print,{0,1},<0.30.0>,[],7}}
 Below a line `acts` it can say what the processes did; docs/FORMATS.md has all
 lines. `seqtool COMMAND --help` has an example. The status is 0 for yes, 1 for
-no, 2 for a faulty text, 3 for faulty words, 4 for no memory or a failed device.";
+no, 2 for a faulty text, 3 for a bad command line, 4 for no memory or a failed
+device.";
 
 pub(crate) const COMPLETE: &str = "Adds unreported events until none is missing, or says why not";
 
@@ -77,11 +78,11 @@ pub(crate) const CHECK: &str = "Says whether the acts are a run that reports exa
 pub(crate) const CHECK_EXAMPLE: &str = "Example:
   seqtool audit trace.txt | seqtool check
 
-It takes some 16 times as much as `seqaudit check`.";
+Its limits are some 16 times those of `seqaudit check`.";
 
 pub(crate) const AUDIT: &str = "Finds acts that explain the trace, or names an event and a reason";
 
 pub(crate) const AUDIT_EXAMPLE: &str = "Example:
   seqtool audit trace.txt
 
-It takes some 16 times as much as `seqaudit audit`.";
+Its limits are some 16 times those of `seqaudit audit`.";

@@ -1,6 +1,6 @@
 //! Streams that fit, each with its acts.
 
-use super::{assert_fits, found, restored};
+use super::{assert_fits, finding_of, restore_of};
 use crate::collected::{p30, p31};
 use st_core::{Act, Component, Label, Pid, Want};
 use std::test::Fail;
@@ -32,18 +32,18 @@ const HIGH_PREV: &str = "seqtrace 1\n\
 
 #[test]
 fn nothing_fits_by_no_acts(rt: HostRuntime) -> Result<(), Fail> {
-    let finding = found(&rt, rt.alloc(), NOTHING)?;
+    let finding = finding_of(&rt, rt.alloc(), NOTHING)?;
     assert_fits(&rt, &finding, &[], &[]);
     Ok(())
 }
 
 #[test]
 fn each_node_has_a_tracer(rt: HostRuntime) -> Result<(), Fail> {
-    let finding = found(&rt, rt.alloc(), TWO_NODES)?;
+    let finding = finding_of(&rt, rt.alloc(), TWO_NODES)?;
     let acts = [
         Act::Tracer(Pid::on(1, 7), true),
         Act::Tracer(Pid::on(2, 5), true),
-        restored(Pid::on(1, 8), 4, (false, false, true)),
+        restore_of(Pid::on(1, 8), 4, (false, false, true)),
         Act::Print(Pid::on(1, 8), 9),
     ];
     assert_fits(&rt, &finding, &acts, &[]);
@@ -52,13 +52,13 @@ fn each_node_has_a_tracer(rt: HostRuntime) -> Result<(), Fail> {
 
 #[test]
 fn a_send_asks_for_its_receive_alone(rt: HostRuntime) -> Result<(), Fail> {
-    let finding = found(&rt, rt.alloc(), ONE_RECEIVED)?;
+    let finding = finding_of(&rt, rt.alloc(), ONE_RECEIVED)?;
     let acts = [
         Act::Tracer(p30(), true),
-        restored(p30(), 17, (true, true, false)),
+        restore_of(p30(), 17, (true, true, false)),
         Act::Send(p30(), p31(), 5),
         Act::Receive(p31(), Want::Place(0)),
-        restored(p30(), 17, (true, false, false)),
+        restore_of(p30(), 17, (true, false, false)),
         Act::Send(p30(), p31(), 6),
     ];
     assert_fits(&rt, &finding, &acts, &[(3, 2)]);
@@ -67,15 +67,15 @@ fn a_send_asks_for_its_receive_alone(rt: HostRuntime) -> Result<(), Fail> {
 
 #[test]
 fn a_new_trace_begins_at_a_prev_above_the_clock(rt: HostRuntime) -> Result<(), Fail> {
-    let finding = found(&rt, rt.alloc(), HIGH_PREV)?;
+    let finding = finding_of(&rt, rt.alloc(), HIGH_PREV)?;
     let acts = [
         Act::Tracer(p30(), true),
-        restored(p30(), 17, (false, false, false)),
+        restore_of(p30(), 17, (false, false, false)),
         Act::Print(p30(), 0),
         Act::Print(p30(), 0),
         Act::Clear(p30()),
         Act::Set(p30(), Component::Label(Label(17))),
-        restored(p30(), 17, (false, false, true)),
+        restore_of(p30(), 17, (false, false, true)),
         Act::Print(p30(), 5),
     ];
     assert_fits(&rt, &finding, &acts, &[]);

@@ -2,7 +2,7 @@
 
 ghost use Rattle.std.specs.Prelude.{◌==◌};
 
-use super::{MOST, restored};
+use super::{MOST, restore_of};
 use crate::collected::{p30, p31, same, streams};
 use st_audit::told_acts;
 use st_check::{Verdict, check};
@@ -45,11 +45,11 @@ fn sends_that_nobody_told_of_cross(rt: HostRuntime) -> Result<(), Fail> {
     let acts = told_acts::<MOST, Second>(&rt, alloc, &whole, &Second)?.ok_or("no acts")?;
     let wanted = [
         Act::Tracer(p30(), true),
-        restored(p31(), 1, (false, true, false)),
+        restore_of(p31(), 1, (false, true, false)),
         Act::Send(p31(), p30(), 4),
-        restored(p30(), 1, (false, false, false)),
+        restore_of(p30(), 1, (false, false, false)),
         Act::Print(p30(), 0),
-        restored(p30(), 1, (false, true, false)),
+        restore_of(p30(), 1, (false, true, false)),
         Act::Send(p30(), p31(), 5),
         Act::Receive(p30(), Want::Place(0)),
         Act::Receive(p31(), Want::Place(0)),

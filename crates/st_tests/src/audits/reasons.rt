@@ -1,6 +1,6 @@
 //! Streams that no certificate was found for, each with its place and reason.
 
-use super::{MOST, found, restored};
+use super::{MOST, finding_of, restore_of};
 use crate::collected::{p30, p31, same, streams};
 use st_audit::{Finding, Reason, audit, unfit_by};
 use st_check::Verdict;
@@ -58,11 +58,11 @@ fn a_full_clock_is_the_last_act(rt: HostRuntime) -> Result<(), Fail> {
     let (acts, verdict) = not_replayed(&rt, reason_at(&rt, finding, (p30(), 0)));
     let wanted = [
         Act::Tracer(p30(), true),
-        restored(p30(), 17, (false, false, false)),
+        restore_of(p30(), 17, (false, false, false)),
         Act::Print(p30(), 0),
         Act::Print(p30(), 0),
         Act::Print(p30(), 0),
-        restored(p30(), 17, (false, false, true)),
+        restore_of(p30(), 17, (false, false, true)),
         Act::Print(p30(), 7),
     ];
     same(&rt, &acts.as_slice(), &wanted.as_slice());
@@ -72,7 +72,7 @@ fn a_full_clock_is_the_last_act(rt: HostRuntime) -> Result<(), Fail> {
 
 #[test]
 fn the_greatest_count_is_too_wide(rt: HostRuntime) -> Result<(), Fail> {
-    let finding = found(&rt, rt.alloc(), GREATEST)?;
+    let finding = finding_of(&rt, rt.alloc(), GREATEST)?;
     let reason = reason_at(&rt, finding, (p30(), 1));
     assert!(rt; matches!(reason, Reason::TooWide));
     Ok(())

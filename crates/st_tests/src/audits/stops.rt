@@ -1,6 +1,6 @@
 //! Where the construction stops, and why: at a hidden send too, and of a message that isn't there no act is tried.
 
-use super::found;
+use super::finding_of;
 use crate::collected::{p30, p31};
 use st_audit::{Finding, Reason};
 use st_check::Verdict;
@@ -24,7 +24,7 @@ const LATE_SEND: &str = "seqtrace 1\n\
 
 #[test]
 fn a_hidden_send_can_be_too_wide(rt: HostRuntime) -> Result<(), Fail> {
-    match found(&rt, rt.alloc(), WIDE_HIDDEN_SEND)? {
+    match finding_of(&rt, rt.alloc(), WIDE_HIDDEN_SEND)? {
         Finding::Unfit(pid, index, Reason::TooWide) => assert_eq!(rt; (pid, index), (p31(), 0)),
         _ => panic!(rt; "another finding"),
     }
@@ -33,7 +33,7 @@ fn a_hidden_send_can_be_too_wide(rt: HostRuntime) -> Result<(), Fail> {
 
 #[test]
 fn no_act_is_tried_for_a_message_that_is_not_there(rt: HostRuntime) -> Result<(), Fail> {
-    match found(&rt, rt.alloc(), LATE_SEND)? {
+    match finding_of(&rt, rt.alloc(), LATE_SEND)? {
         Finding::Unfit(pid, index, Reason::NotReplayed(acts, verdict)) => {
             assert_eq!(rt; (pid, index), (p31(), 0));
             assert_eq!(rt; acts.as_slice(), [Act::Tracer(p30(), true)].as_slice());

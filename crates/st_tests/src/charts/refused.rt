@@ -1,7 +1,7 @@
 //! Memory that runs out, and sinks that fail at each place.
 
-use super::{HIDDEN_CHART, HIDDEN_SENDS, drawn, hidden_items};
-use crate::collected::{made, same, sink_at_last, streams};
+use super::{HIDDEN_CHART, HIDDEN_SENDS, chart_of, hidden_items};
+use crate::collected::{same, sink_at_last, streams, streams_at_last};
 use st_chart::ChartFault;
 use st_core::MemorySink;
 use std::test::Fail;
@@ -10,13 +10,13 @@ use std::test::Fail;
 #[test]
 fn a_refused_growth_writes_nothing(rt: HostRuntime) {
     let alloc = rt.alloc();
-    let streams = made(&rt, alloc, HIDDEN_SENDS);
+    let streams = streams_at_last(&rt, alloc, HIDDEN_SENDS);
     let mut sink = sink_at_last(&rt, alloc, 1000);
     let items = hidden_items();
-    if let Err(fault) = drawn(alloc, &mut sink, &streams, &items, 17) {
+    if let Err(fault) = chart_of(alloc, &mut sink, &streams, &items, 17) {
         same(&rt, &fault, &ChartFault::Memory);
         assert!(rt; sink.written().is_empty());
-        let again = drawn(alloc, &mut sink, &streams, &items, 17);
+        let again = chart_of(alloc, &mut sink, &streams, &items, 17);
         same(&rt, &again, &Ok(()));
     }
     same(&rt, &sink.written(), &HIDDEN_CHART);
@@ -30,7 +30,7 @@ fn a_failing_sink_has_a_prefix(rt: HostRuntime) -> Result<(), Fail> {
     let items = hidden_items();
     for fuse in 0..HIDDEN_CHART.len() {
         let mut sink = MemorySink::new(alloc, 1000, Some(fuse as u64))?;
-        let answer = drawn(alloc, &mut sink, &streams, &items, 17);
+        let answer = chart_of(alloc, &mut sink, &streams, &items, 17);
         same(&rt, &answer, &Err(ChartFault::Device));
         same(&rt, &sink.written(), &&HIDDEN_CHART[..fuse]);
     }

@@ -1,6 +1,6 @@
 //! Worked charts.
 
-use super::{HIDDEN_CHART, HIDDEN_SENDS, drawn, hidden_items};
+use super::{HIDDEN_CHART, HIDDEN_SENDS, chart_of, hidden_items};
 use crate::collected::{p30, p32, same, streams};
 use st_chart::ChartFault;
 use st_core::MemorySink;
@@ -29,7 +29,7 @@ fn assert_drawn(
 ) -> Result<(), Fail> {
     let streams = streams(alloc, text)?;
     let mut sink = MemorySink::new(alloc, 1000, None)?;
-    drawn(alloc, &mut sink, &streams, items, 17)?;
+    chart_of(alloc, &mut sink, &streams, items, 17)?;
     same(rt, &sink.written(), &wanted);
     Ok(())
 }
@@ -45,7 +45,7 @@ fn a_label_that_no_item_has_writes_nothing(rt: HostRuntime) -> Result<(), Fail> 
     let alloc = rt.alloc();
     let streams = streams(alloc, HIDDEN_SENDS)?;
     let mut sink = MemorySink::new(alloc, 1000, None)?;
-    let answer = drawn(alloc, &mut sink, &streams, &hidden_items(), 18);
+    let answer = chart_of(alloc, &mut sink, &streams, &hidden_items(), 18);
     same(&rt, &answer, &Err(ChartFault::NoLabel));
     assert!(rt; sink.written().is_empty());
     Ok(())

@@ -25,7 +25,7 @@ static CERTIFICATE: &str = "seqtrace 1\n\
     receive <0.30.0> place 0\n";
 
 /// What `check` says of the certificate's first bytes, by the lines that they end.
-fn cut_short(head: &[u8]) -> (&'static str, u8) {
+fn output_of_prefix(head: &[u8]) -> (&'static str, u8) {
     let lines = head.iter().filter(|b| **b == b'\n').count();
     match (head.last(), lines) {
         (Some(b'\n'), 4) => ("fault unknown 4\n", 2),
@@ -49,7 +49,7 @@ fn no_part_of_a_certificate_is_accepted(rt: HostRuntime) -> Result<(), Fail> {
     )?;
     for n in 0..whole.len() {
         let head = &whole[..n];
-        let (text, status) = cut_short(head);
+        let (text, status) = output_of_prefix(head);
         expect(&rt, "a prefix", &check, head, text.as_bytes(), status)?;
     }
     Ok(())

@@ -20,7 +20,7 @@ struct Random {
 
 impl Random {
     /// A number below n.
-    fn below(&mut self, n: u64) -> u64 {
+    fn number_below(&mut self, n: u64) -> u64 {
         self.state = self
             .state
             .wrapping_mul(6_364_136_223_846_793_005)
@@ -30,12 +30,12 @@ impl Random {
 
     /// True once in n calls.
     fn once_in(&mut self, n: u64) -> bool {
-        self.below(n) == 0
+        self.number_below(n) == 0
     }
 
     /// One of the processes 0, 1 and 2.
     fn pid(&mut self) -> Pid {
-        Pid::new(self.below(3).min(2) as u16)
+        Pid::new(self.number_below(3).min(2) as u16)
     }
 }
 
@@ -58,7 +58,7 @@ fn stamp(random: &mut Random, step: u64) -> Event {
         serial: Serial { prev, this },
         from: random.pid(),
         to: if print { None } else { Some(random.pid()) },
-        value: random.below(9),
+        value: random.number_below(9),
     }
 }
 
@@ -82,7 +82,7 @@ fn events(alloc: Global, random: &mut Random) -> Result<Vec<Event>, AllocError> 
     let mut events = Vec::new(alloc);
     let mut queue: Vec<Event> = Vec::new(alloc);
     for step in 1..STEPS {
-        let place = random.below(queue.len() as u64) as usize;
+        let place = random.number_below(queue.len() as u64) as usize;
         let taken = if random.once_in(2) {
             queue.get(place).copied()
         } else {
@@ -170,7 +170,7 @@ impl Place {
     }
 }
 
-fn prev_not_before(places: &[Place]) -> Option<PairFault> {
+fn first_prev_not_before(places: &[Place]) -> Option<PairFault> {
     for x in places {
         if x.event.serial.prev >= x.this() {
             return Some(PairFault::PrevNotBefore(x.pid, x.index));
@@ -180,7 +180,7 @@ fn prev_not_before(places: &[Place]) -> Option<PairFault> {
 }
 
 /// The last send or print of x's process before it, if any of them counts no less than x.
-fn not_less_before(places: &[Place], x: &Place) -> Option<u64> {
+fn last_not_less(places: &[Place], x: &Place) -> Option<u64> {
     let mut last = None;
     let mut falls = false;
     for y in places {
@@ -192,10 +192,10 @@ fn not_less_before(places: &[Place], x: &Place) -> Option<u64> {
     if falls { last } else { None }
 }
 
-fn not_rising(places: &[Place]) -> Option<PairFault> {
+fn first_not_rising(places: &[Place]) -> Option<PairFault> {
     for x in places {
         if x.is_stamp() {
-            if let Some(j) = not_less_before(places, x) {
+            if let Some(j) = last_not_less(places, x) {
                 return Some(PairFault::NotRising(x.pid, x.index, j));
             }
         }
@@ -203,7 +203,7 @@ fn not_rising(places: &[Place]) -> Option<PairFault> {
     None
 }
 
-fn repeated(places: &[Place]) -> Option<PairFault> {
+fn first_repetition(places: &[Place]) -> Option<PairFault> {
     for (n, x) in places.iter().enumerate() {
         for y in places.iter().take(n) {
             let same = y.event.from == x.event.from && y.this() == x.this();
@@ -215,7 +215,7 @@ fn repeated(places: &[Place]) -> Option<PairFault> {
     None
 }
 
-fn mismatch(places: &[Place]) -> Option<PairFault> {
+fn first_mismatch(places: &[Place]) -> Option<PairFault> {
     for x in places {
         for y in places {
             if !x.is_stamp() && y.counts_for(x) && !y.is_send_of(x) {
@@ -229,10 +229,10 @@ fn mismatch(places: &[Place]) -> Option<PairFault> {
 /// The first reason, tried in the order of the reasons.
 fn refusal(places: &[Place]) -> Option<PairFault> {
     let rules: [Option<PairFault>; 4] = [
-        prev_not_before(places),
-        not_rising(places),
-        repeated(places),
-        mismatch(places),
+        first_prev_not_before(places),
+        first_not_rising(places),
+        first_repetition(places),
+        first_mismatch(places),
     ];
     for fault in rules {
         if fault.is_some() {

@@ -22,7 +22,7 @@ const TURNS: u64 = 5_000;
 const WATCHED: u64 = 100;
 
 /// Waits until the other thread has said so, and returns whether it did.
-fn awaited<R: Clock>(clock: &R, said: &AtomicBool, turns: u64) -> bool {
+fn await_other<R: Clock>(clock: &R, said: &AtomicBool, turns: u64) -> bool {
     for _ in 0..turns {
         if said.load(Ordering::SeqCst) {
             return true;
@@ -50,7 +50,7 @@ impl<R: Clock> Gate for Meeting<'_, R> {
             (&self.other_holds, &self.first_holds)
         };
         mine.store(true, Ordering::SeqCst);
-        if awaited(self.clock, theirs, TURNS) {
+        if await_other(self.clock, theirs, TURNS) {
             self.met.fetch_add(1, Ordering::SeqCst);
         }
     }
@@ -59,7 +59,7 @@ impl<R: Clock> Gate for Meeting<'_, R> {
 }
 
 /// Drives two senders that meet, each with a receiver of its own, and returns how many met too.
-fn two_met<R: Threads + Wait + Sync + Abort + Clock>(
+fn drive_meetings<R: Threads + Wait + Sync + Abort + Clock>(
     rt: &R,
     alloc: Global,
 ) -> Result<(u64, Record), DriveFault> {
@@ -96,7 +96,7 @@ fn two_met<R: Threads + Wait + Sync + Abort + Clock>(
 // One lock round all processes, or one thread for all scripts, would keep the second act from its locks.
 #[test]
 fn two_senders_at_once(rt: HostRuntime) -> Result<(), Fail> {
-    let (met, record) = two_met(&rt, rt.alloc())?;
+    let (met, record) = drive_meetings(&rt, rt.alloc())?;
     same(&rt, &met, &2);
     same(&rt, &record.acts.len(), &2);
     let verdict = check::<MOST>(rt.alloc(), &record.streams, record.acts.as_slice())?;
@@ -124,7 +124,7 @@ impl<R: Clock> Gate for Turnstile<'_, R> {
     fn before(&self, pid: Pid, _n: u64) {
         if pid == self.holder {
             self.holds.store(true, Ordering::SeqCst);
-            let pressed = awaited(self.clock, &self.came, WATCHED);
+            let pressed = await_other(self.clock, &self.came, WATCHED);
             self.pressed_in.store(pressed, Ordering::SeqCst);
         } else {
             self.came.store(true, Ordering::SeqCst);
@@ -133,7 +133,7 @@ impl<R: Clock> Gate for Turnstile<'_, R> {
 
     fn after(&self, pid: Pid, _n: u64) {
         if pid == self.holder {
-            let came = awaited(self.clock, &self.came, TURNS);
+            let came = await_other(self.clock, &self.came, TURNS);
             self.let_in.store(came, Ordering::SeqCst);
         }
     }
@@ -161,7 +161,7 @@ fn came_in<R: Threads + Wait + Sync + Abort + Clock>(
         || system.act(rt, &gate, holder, held),
         || -> Result<_, ActFault> {
             // The other asks once the holder's act is at the gate.
-            let _at_gate = awaited(rt, &gate.holds, TURNS);
+            let _at_gate = await_other(rt, &gate.holds, TURNS);
             system.act(rt, &gate, other, asked)
         },
     );

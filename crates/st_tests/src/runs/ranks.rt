@@ -14,7 +14,7 @@ pub(super) fn rise_by_rank(alloc: Global, pids: &[Pid], acts: &[Act]) -> Result<
     }
     let mut before = None;
     for act in acts {
-        let here = Some((ranked(&mut ranks, act), act.actor()));
+        let here = Some((rank_of(&mut ranks, act), act.actor()));
         if before >= here {
             return Ok(false);
         }
@@ -24,7 +24,7 @@ pub(super) fn rise_by_rank(alloc: Global, pids: &[Pid], acts: &[Act]) -> Result<
 }
 
 /// The act's rank, which is the last one of each process that it touches from now on.
-fn ranked(ranks: &mut [(Pid, u64)], act: &Act) -> u64 {
+fn rank_of(ranks: &mut [(Pid, u64)], act: &Act) -> u64 {
     let mut greatest: u64 = 0;
     for (pid, rank) in ranks.iter() {
         if touches(act, *pid) {

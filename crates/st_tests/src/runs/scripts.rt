@@ -27,7 +27,7 @@ pub(super) fn scripts(
     for pid in pids {
         let mut script = Vec::new(alloc);
         for n in 0..acts {
-            let Ok(()) = script.push(busy(*pid, on_each, n)) else {
+            let Ok(()) = script.push(busy_act(*pid, on_each, n)) else {
                 return Err(AllocError);
             };
         }
@@ -39,18 +39,18 @@ pub(super) fn scripts(
 }
 
 /// Act n of a busy process. The first fifty have two resets and two changes of the tracer among them.
-fn busy(me: Pid, on_each: u16, n: u64) -> Act {
+fn busy_act(me: Pid, on_each: u16, n: u64) -> Act {
     match n % 500 {
         7 | 29 => Act::Tracer(me, true),
         19 | 41 => Act::Reset(me),
         431 => Act::Tracer(me, false),
-        _ => busy_alone(me, on_each, n),
+        _ => busy_lone_act(me, on_each, n),
     }
 }
 
 /// The same, of an act that touches no whole node. Half of them are sends and receives.
-fn busy_alone(me: Pid, on_each: u16, n: u64) -> Act {
-    let drawn = mixed(me, n);
+fn busy_lone_act(me: Pid, on_each: u16, n: u64) -> Act {
+    let drawn = mixed_number(me, n);
     let other = Pid::on(
         (drawn % 2) as u16,
         ((drawn >> 1) % 65_536) as u16 % on_each.max(1),
@@ -96,7 +96,7 @@ fn token(from: Pid, value: u64) -> Token {
 }
 
 /// A number that looks random, of a process and the number of its act.
-fn mixed(me: Pid, n: u64) -> u64 {
+fn mixed_number(me: Pid, n: u64) -> u64 {
     let seed = u64::from(me.node()) * 65_536 + u64::from(me.number());
     let first = seed
         .wrapping_mul(0x9E37_79B9_7F4A_7C15)

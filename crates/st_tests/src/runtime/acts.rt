@@ -70,7 +70,7 @@ impl Gate for Counting {
 }
 
 /// The acts of a process whose clock goes to 3, among them some that are refused.
-fn refused_among(me: Pid) -> [Played; 9] {
+fn acts_with_refusals(me: Pid) -> [Played; 9] {
     let foreign = Act::Look(Pid::new(31));
     let unknown = Act::Send(me, Pid::new(99), 1);
     let print = Act::Print(me, 0);
@@ -95,7 +95,7 @@ fn a_gate_is_told_of_acts_under_their_lock(rt: HostRuntime) -> Result<(), Fail> 
     let (system, seats) = open_at_last::<3, 9>(rt.alloc(), &[me])?;
     for mut seat in seats {
         let gate = Counting::new();
-        play(&rt, &gate, &system, &mut seat, &refused_among(me));
+        play(&rt, &gate, &system, &mut seat, &acts_with_refusals(me));
         same(&rt, &gate.before.load(Ordering::SeqCst), &7);
         same(&rt, &gate.after.load(Ordering::SeqCst), &7);
         let told = 1 + 2 + 3 + 4 + 5 + 6;
@@ -134,7 +134,7 @@ fn refused_acts_change_nothing(rt: HostRuntime) -> Result<(), Fail> {
     let me = Pid::new(30);
     let (system, seats) = open_at_last::<3, 9>(rt.alloc(), &[me])?;
     for mut seat in seats {
-        play(&rt, &OpenGate, &system, &mut seat, &refused_among(me));
+        play(&rt, &OpenGate, &system, &mut seat, &acts_with_refusals(me));
         same(&rt, &seat.mine().len(), &6);
         let looked = act_at_last(&rt, &OpenGate, &system, &mut seat, &Act::Look(me));
         let Ok(Reply::Current(Some(token))) = looked else {

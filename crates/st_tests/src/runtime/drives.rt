@@ -127,7 +127,7 @@ fn a_refused_thread_is_told(rt: HostRuntime) {
 }
 
 /// Act n of a busy process: sends to the other processes, receives, sets and prints.
-fn busy(me: Pid, n: u16) -> Act {
+fn busy_act(me: Pid, n: u16) -> Act {
     let other = Pid::new(30 + me.number().wrapping_add(n) % 4);
     match n % 10 {
         0 => Act::Set(me, Component::Print(true)),
@@ -148,13 +148,16 @@ fn busy(me: Pid, n: u16) -> Act {
 }
 
 /// Drives four scripts of fifty acts each, and returns how many acts the record has.
-fn four_busy<R: Threads + Wait + Sync + Abort>(rt: &R, alloc: Global) -> Result<usize, DriveFault> {
+fn drive_four_busy<R: Threads + Wait + Sync + Abort>(
+    rt: &R,
+    alloc: Global,
+) -> Result<usize, DriveFault> {
     let pids = [Pid::new(30), Pid::new(31), Pid::new(32), Pid::new(33)];
     let mut scripts = Vec::new(alloc);
     for pid in &pids {
         let mut script = Sequence::new(alloc);
         for n in 0..50 {
-            let Ok(()) = script.push(busy(*pid, n)) else {
+            let Ok(()) = script.push(busy_act(*pid, n)) else {
                 return Err(DriveFault::Memory);
             };
         }
@@ -171,8 +174,8 @@ fn four_busy<R: Threads + Wait + Sync + Abort>(rt: &R, alloc: Global) -> Result<
 /// is right afterwards.
 #[test]
 fn a_refused_growth_is_answered(rt: HostRuntime) -> Result<(), Fail> {
-    let acts = match four_busy(&rt, rt.alloc()) {
-        Err(DriveFault::Memory | DriveFault::Thread) => four_busy(&rt, rt.alloc())?,
+    let acts = match drive_four_busy(&rt, rt.alloc()) {
+        Err(DriveFault::Memory | DriveFault::Thread) => drive_four_busy(&rt, rt.alloc())?,
         answer => answer?,
     };
     same(&rt, &acts, &200);

@@ -40,7 +40,7 @@ fn a_hundred_thousand_lists_take_as_many_items(rt: HostRuntime) -> Result<(), Fa
 }
 
 /// A message of 30 whose token has this own count.
-fn stamped(this: u64) -> Message {
+fn stamped_message(this: u64) -> Message {
     let mut token = Token::made_by(p30());
     token.serial = Serial { prev: 0, this };
     Message {
@@ -56,7 +56,7 @@ fn put_many(mail: &mut Mailboxes) -> Result<(), Fail>
     ensures { length mail.new.boxes ≡ length mail.old.boxes }
 {
     for this in 0..MANY {
-        mail.put(99_999, stamped(this))?;
+        mail.put(99_999, stamped_message(this))?;
     }
     Ok(())
 }

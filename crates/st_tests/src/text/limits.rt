@@ -9,7 +9,13 @@ use std::process::Abort;
 use std::test::Fail;
 
 /// The fault of a head and then a line so many times, fed line by line.
-fn repeated(rt: &impl Abort, alloc: Global, head: &str, line: &str, times: u64) -> ReadFault {
+fn fault_of_repeats(
+    rt: &impl Abort,
+    alloc: Global,
+    head: &str,
+    line: &str,
+    times: u64,
+) -> ReadFault {
     let mut feed = Feed::new(alloc);
     same(rt, &feed.piece(head.as_bytes()), &Ok(()));
     for _ in 0..times {
@@ -24,7 +30,7 @@ fn events(rt: HostRuntime) {
     let line = "{seq_trace,0,{print,{0,1},<0.0.0>,[],0}}\n";
     same(
         &rt,
-        &repeated(&rt, rt.alloc(), head, line, 1_000_001),
+        &fault_of_repeats(&rt, rt.alloc(), head, line, 1_000_001),
         &ReadFault::TooMany(1_000_003),
     );
 }
@@ -35,7 +41,7 @@ fn acts(rt: HostRuntime) {
     let line = "look <0.0.0>\n";
     same(
         &rt,
-        &repeated(&rt, rt.alloc(), head, line, 4_000_001),
+        &fault_of_repeats(&rt, rt.alloc(), head, line, 4_000_001),
         &ReadFault::TooMany(4_000_004),
     );
 }

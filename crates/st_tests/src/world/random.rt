@@ -20,7 +20,7 @@ struct Random {
 
 impl Random {
     /// A number below n.
-    fn below(&mut self, n: u64) -> u64
+    fn number_below(&mut self, n: u64) -> u64
         requires { 0 < n }
         ensures { result < n }
     {
@@ -33,12 +33,12 @@ impl Random {
 
     /// True three times in four.
     fn truth(&mut self) -> bool {
-        self.below(4) != 0
+        self.number_below(4) != 0
     }
 
     /// One of six processes on three nodes, or seldom one that is not there.
     fn pid(&mut self) -> Pid {
-        match self.below(25) {
+        match self.number_below(25) {
             0 => Pid::new(99),
             1..=6 => Pid::new(30),
             7..=12 => Pid::new(31),
@@ -50,8 +50,8 @@ impl Random {
     }
 
     fn component(&mut self) -> Component {
-        match self.below(4) {
-            0 => Component::Label(Label(self.below(3) as u32)),
+        match self.number_below(4) {
+            0 => Component::Label(Label(self.number_below(3) as u32)),
             1 => Component::Send(self.truth()),
             2 => Component::Receive(self.truth()),
             _ => Component::Print(self.truth()),
@@ -59,11 +59,11 @@ impl Random {
     }
 
     fn want(&mut self) -> Want {
-        match self.below(6) {
+        match self.number_below(6) {
             0 => Want::From(self.pid()),
-            1 => Want::Value(self.below(3)),
-            2 => Want::Both(self.pid(), self.below(3)),
-            3 => Want::Place(self.below(4)),
+            1 => Want::Value(self.number_below(3)),
+            2 => Want::Both(self.pid(), self.number_below(3)),
+            3 => Want::Place(self.number_below(4)),
             _ => Want::First,
         }
     }
@@ -75,11 +75,11 @@ impl Random {
             print: self.truth(),
         };
         let serial = Serial {
-            prev: self.below(9),
-            this: self.below(9),
+            prev: self.number_below(9),
+            this: self.number_below(9),
         };
         Token {
-            label: Label(self.below(3) as u32),
+            label: Label(self.number_below(3) as u32),
             flags,
             serial,
             from: self.pid(),
@@ -88,11 +88,11 @@ impl Random {
 
     fn act(&mut self) -> Act {
         let me = self.pid();
-        match self.below(44) {
-            0..=10 => Act::Send(me, self.pid(), self.below(3)),
+        match self.number_below(44) {
+            0..=10 => Act::Send(me, self.pid(), self.number_below(3)),
             11..=20 => Act::Receive(me, self.want()),
-            21..=24 => Act::Print(me, self.below(3)),
-            25..=26 => Act::PrintAt(me, Label(self.below(3) as u32), self.below(3)),
+            21..=24 => Act::Print(me, self.number_below(3)),
+            25..=26 => Act::PrintAt(me, Label(self.number_below(3) as u32), self.number_below(3)),
             27..=33 => Act::Set(me, self.component()),
             34 => Act::Clear(me),
             35 => Act::Restore(me, self.token()),
@@ -123,7 +123,7 @@ fn act_in_both(
     let act = random.act();
     let told = step(processes, &act)?;
     assert_eq!(rt; world.step(&act), told, "{act:?}");
-    let (from, this) = (random.pid(), random.below(TOP));
+    let (from, this) = (random.pid(), random.number_below(TOP));
     assert_same(rt, world, processes, from, this);
     Ok(())
 }

@@ -67,7 +67,7 @@ pub fn step(
     processes: &mut [Process],
     act: &Act,
 ) -> Result<Result<Outcome, StepFault>, AllocError> {
-    let (me, other) = named(act);
+    let (me, other) = actor_and_other(act);
     let (Some(i), Some(j)) = (find(processes, me), find(processes, other)) else {
         return Ok(Err(StepFault::Unknown));
     };
@@ -77,15 +77,15 @@ pub fn step(
         Act::Tracer(_, on) => {
             let was = processes[i].traced;
             trace(processes, me.node(), on);
-            return Ok(Ok(only(Reply::Was(was))));
+            return Ok(Ok(outcome_of_reply(Reply::Was(was))));
         }
-        _ => return Ok(alone(&mut processes[i], act)),
+        _ => return Ok(step_alone(&mut processes[i], act)),
     }
-    Ok(Ok(only(Reply::Done)))
+    Ok(Ok(outcome_of_reply(Reply::Done)))
 }
 
 /// The actor, and who has to be there beside it.
-fn named(act: &Act) -> (Pid, Pid) {
+fn actor_and_other(act: &Act) -> (Pid, Pid) {
     match *act {
         Act::Send(me, to, _) => (me, to),
         Act::Receive(me, _)
@@ -101,7 +101,7 @@ fn named(act: &Act) -> (Pid, Pid) {
 }
 
 /// An outcome of a reply alone.
-fn only(reply: Reply) -> Outcome {
+fn outcome_of_reply(reply: Reply) -> Outcome {
     Outcome {
         reply,
         report: None,
@@ -110,18 +110,18 @@ fn only(reply: Reply) -> Outcome {
 }
 
 /// An act that touches its actor alone.
-fn alone(process: &mut Process, act: &Act) -> Result<Outcome, StepFault> {
+fn step_alone(process: &mut Process, act: &Act) -> Result<Outcome, StepFault> {
     let token = process.token;
     match *act {
         Act::Receive(_, want) => return Ok(receive(process, &want)),
         Act::Print(_, value) => return print(process, value),
         Act::PrintAt(_, label, value) => return print_at(process, label, value),
-        Act::Set(_, component) => return Ok(only(Reply::Old(set(process, component)))),
+        Act::Set(_, component) => return Ok(outcome_of_reply(Reply::Old(set(process, component)))),
         Act::Clear(_) => process.token = None,
         Act::Restore(_, token) => process.token = Some(token),
-        _ => return Ok(only(Reply::Current(token))),
+        _ => return Ok(outcome_of_reply(Reply::Current(token))),
     }
-    Ok(only(Reply::Previous(token)))
+    Ok(outcome_of_reply(Reply::Previous(token)))
 }
 
 /// A token grows the clock and takes the serial {last, clock} and the from of the process. False
@@ -194,7 +194,7 @@ fn print_at(process: &mut Process, label: Label, value: u64) -> Result<Outcome, 
             return print(process, value);
         }
     }
-    Ok(only(Reply::Done))
+    Ok(outcome_of_reply(Reply::Done))
 }
 
 /// Sets a part of the token, of a new one if there is none, and returns the part before.
@@ -259,7 +259,7 @@ fn first(queue: &[Message], want: &Want) -> Option<usize>
 
 fn receive(process: &mut Process, want: &Want) -> Outcome {
     let Some(place) = first(&process.queue, want) else {
-        return only(Reply::Nothing);
+        return outcome_of_reply(Reply::Nothing);
     };
     let message = process.queue.remove(place);
     if let Some(token) = message.token {

@@ -9,7 +9,7 @@ use Rattle.st_plan.specs.Build.{tracers_after}
 use Rattle.st_plan.specs.Marks.{all_told}
 use Rattle.st_plan.specs.Reasons.{too_wide, uncaused}
 use Rattle.st_plan.proofs.ForCallers.{only_whole}
-use Rattle.st_audit.proofs.Ending.{holds_there, last_within, place_there, too_wide_halt, uncaused_halt}
+use Rattle.st_audit.proofs.Halts.{holds_there, last_within, place_there, too_wide_halt, uncaused_halt}
 use Rattle.st_audit.specs.Construction.{IsFoundAt, Judged}
 use Rattle.st_audit.specs.declared.construction.Halt.TheVariants as halt
 use Rattle.st_audit.specs.declared.finding.Finding.TheVariants as finding
@@ -140,7 +140,8 @@ loop-number-preserved g c =
           let track = i.track pairs are plain in
           let at = slice_get-get_or xs n none c.loop-number-test.true in
           let x = get_or xs n none in
-          let m = goes_next top streams all_told c.requires.streams plain.settled xs c.requires.order n x at old.world old.acts track in
+          let m = goes_next top streams all_told c.requires.streams plain.settled xs c.requires.order n x at
+          old.world old.acts track in
           let f = done.follows x at pairs i.told m.serves in
           track_next top streams all_told c.requires.streams plain.settled xs c.requires.order n x at old.world old.acts track m
           now.world
@@ -157,7 +158,8 @@ returns-in-Err-Stopped-clause-plain_fits g c = λ pairs are plain.
     let track = i.track pairs are plain in
     let at = slice_get-get_or xs n none c.loop-number-test.true in
     let x = get_or xs n none in
-    let m = goes_next g.row.TOP streams all_told c.requires.streams plain.settled xs c.requires.order n x at old.world old.acts track in
+    let m = goes_next g.row.TOP streams all_told c.requires.streams plain.settled xs c.requires.order n x at
+    old.world old.acts track in
     let f = c.in-Err-Stopped.ensures.follows x at pairs i.told m.serves in
     absurd (no_stop c.in-Err-Stopped.field-0 c.in-Err-Stopped.field-0-is f.goes)
 
@@ -193,7 +195,8 @@ returns-clause-plain_fits g c = λ pairs are plain.
     let n = c.loop-number.number in
     let now = c.loop-number.construction in
     let track = c.loop-number.invariant.track pairs are plain in
-    let shows = track_shows top streams all_told c.requires.streams plain.settled xs c.requires.order n now.world now.acts (omega arith)
+    let shows = track_shows top streams all_told c.requires.streams plain.settled xs c.requires.order n
+    now.world now.acts (omega arith)
     track in
     c.judge-2.ensures.shown (subst (Shows top streams) (sym c.into_acts-2.ensures)
     (subst (λ ss. Shows top ss now.acts) (only_whole streams) shows))

@@ -2,9 +2,9 @@
 use Rattle.std.proofs.Common.{◌≡◌, None, rules, sym, ◌∙◌}
 use Rattle.st_order.specs.Order.{IsOrder}
 use Rattle.st_pair.specs.Pairing.{refusal}
-use Rattle.st_audit.proofs.Determined.{accepted_audit, refused_audit}
+use Rattle.st_audit.proofs.DeterminedFinding.{accepted_audit, refused_audit}
 use Rattle.st_audit.proofs.Fullness.{certain_fits, refused_fits}
-use Rattle.st_audit.proofs.Refused.{handed}
+use Rattle.st_audit.proofs.ReasonPlaces.{handed}
 use Rattle.st_audit.proofs.auditing.finding_of.Goals as goal
 
 pub returns-in-Some-clause-found : goal.returns-in-Some-clause-found

@@ -4,7 +4,7 @@ use Rattle.st_check.specs.Answers.{verdict_of}
 use Rattle.st_check.specs.declared.verdict.Verdict.{Verdict}
 use Rattle.st_core.specs.Verdict.{IsVerdict}
 use Rattle.st_audit.specs.Findings.{IsNo}
-use Rattle.st_audit.proofs.Nothing.{accepts_nothing}
+use Rattle.st_audit.proofs.NoItems.{accepts_nothing}
 use Rattle.st_audit.proofs.auditing.finding_of_nothing.Goals as goal
 
 pub unreachable-requires-in-Ok-Left : goal.unreachable-requires-in-Ok-Left

@@ -8,7 +8,7 @@ use Rattle.st_plan.specs.Build.{tracers_after}
 use Rattle.st_plan.specs.Marks.{told_only}
 use Rattle.st_order.specs.Items.{item_place}
 use Rattle.st_plan.specs.Reasons.{too_wide, uncaused}
-use Rattle.st_audit.proofs.Ending.{holds_there, too_wide_halt, uncaused_halt}
+use Rattle.st_audit.proofs.Halts.{holds_there, too_wide_halt, uncaused_halt}
 use Rattle.st_audit.specs.declared.construction.Halt.TheVariants as halt
 use Rattle.st_audit.specs.Progress.{AreTold, Ran}
 use Rattle.st_audit.proofs.Track.{goes_next, no_stop, none, on_track, only_memory, track_next, track_shows, tracers_run}

@@ -1,5 +1,5 @@
 -- The lemma says it.
-use Rattle.st_audit.proofs.Fitting.{certain_streams_fit}
+use Rattle.st_audit.proofs.Certificates.{certain_streams_fit}
 use Rattle.st_audit.proofs.laws.certain_streams_fit.Goals as goal
 
 pub returns : goal.returns

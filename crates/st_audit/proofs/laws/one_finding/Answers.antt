@@ -1,5 +1,5 @@
 -- The lemma says it.
-use Rattle.st_audit.proofs.Once.{one_finding}
+use Rattle.st_audit.proofs.OneFinding.{one_finding}
 use Rattle.st_audit.proofs.laws.one_finding.Goals as goal
 
 pub returns : goal.returns

@@ -1,6 +1,6 @@
 -- After the loop all acts passed, so the counts decide; and what a yes shows holds in every run.
 use Rattle.st_core.specs.Verdict.{Yes}
-use Rattle.st_check.proofs.Deciding.{left_at_end, yes_at_end}
+use Rattle.st_check.proofs.AllActs.{left_at_end, yes_at_end}
 use Rattle.st_check.proofs.Verdicts.{verdict_follows, verdict_pairs, verdict_rises}
 use Rattle.st_check.proofs.checking.check.Goals as goal
 

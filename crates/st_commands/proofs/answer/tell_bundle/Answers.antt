@@ -1,6 +1,6 @@
 -- The text was written whole and the status is 0, or the writer failed and it is 4.
 use Rattle.st_commands.specs.Output.{bundled}
-use Rattle.st_commands.proofs.Telling.{delivers}
+use Rattle.st_commands.proofs.Deliveries.{delivers}
 use Rattle.st_commands.proofs.answer.tell_bundle.Goals as goal
 
 pub returns : goal.returns

@@ -1,6 +1,6 @@
 -- The report was written whole and the status is the finding's, or the writer failed and it is 4.
 use Rattle.st_commands.specs.Audited.{report_output}
-use Rattle.st_commands.proofs.Telling.{delivers}
+use Rattle.st_commands.proofs.Deliveries.{delivers}
 use Rattle.st_commands.proofs.answer.tell_finding.Goals as goal
 
 pub returns : goal.returns

@@ -1,6 +1,6 @@
 -- The line was written whole and the status is its own, or the writer failed and it is 4.
 use Rattle.st_commands.specs.Lines.{text_of}
-use Rattle.st_commands.proofs.Telling.{delivers}
+use Rattle.st_commands.proofs.Deliveries.{delivers}
 use Rattle.st_commands.proofs.answer.tell_line.Goals as goal
 
 pub returns : goal.returns

@@ -1,7 +1,7 @@
 -- The text was written whole and the status is the verdict's, or the writer failed and it is 4.
 use Rattle.st_check.specs.Answers.{verdict_of}
 use Rattle.st_commands.specs.Output.{judged}
-use Rattle.st_commands.proofs.Telling.{delivers}
+use Rattle.st_commands.proofs.Deliveries.{delivers}
 use Rattle.st_commands.proofs.answer.tell_verdict.Goals as goal
 
 pub returns : goal.returns

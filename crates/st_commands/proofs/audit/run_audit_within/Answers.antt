@@ -2,7 +2,7 @@
 use Rattle.st_text.specs.Contents.{contents}
 use Rattle.st_commands.specs.Output.{refused}
 use Rattle.st_commands.specs.Audited.{IsAuditedWithin, Faulty}
-use Rattle.st_commands.proofs.Telling.{owes_fault, owes_audit, was_read}
+use Rattle.st_commands.proofs.Deliveries.{owes_fault, owes_audit, was_read}
 use Rattle.st_commands.proofs.Findings.{says_fits_within, says_unfit_within}
 use Rattle.st_commands.proofs.audit.run_audit_within.Goals as goal
 

@@ -2,7 +2,7 @@
 use Rattle.st_text.specs.Contents.{contents}
 use Rattle.st_commands.specs.Output.{refused}
 use Rattle.st_commands.specs.Checked.{IsCheckedWithin, Faulty}
-use Rattle.st_commands.proofs.Telling.{owes_fault, owes_check, was_read}
+use Rattle.st_commands.proofs.Deliveries.{owes_fault, owes_check, was_read}
 use Rattle.st_commands.proofs.Meanings.{says_yes_within, says_no_within}
 use Rattle.st_commands.proofs.check.run_check_within.Goals as goal
 

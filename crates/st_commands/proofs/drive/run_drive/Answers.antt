@@ -3,7 +3,7 @@ use Rattle.st_text.specs.Limits.{standard}
 use Rattle.st_text.specs.Contents.{contents}
 use Rattle.st_commands.specs.Output.{refused}
 use Rattle.st_commands.specs.Recorded.{IsRecorded, Faulty}
-use Rattle.st_commands.proofs.Telling.{owes_fault, was_read}
+use Rattle.st_commands.proofs.Deliveries.{owes_fault, was_read}
 use Rattle.st_commands.proofs.Drives.{owes_drive, says_driven}
 use Rattle.st_commands.proofs.drive.run_drive.Goals as goal
 

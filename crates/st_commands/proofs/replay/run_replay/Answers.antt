@@ -3,7 +3,7 @@ use Rattle.st_text.specs.Limits.{standard}
 use Rattle.st_text.specs.Contents.{contents}
 use Rattle.st_commands.specs.Output.{refused}
 use Rattle.st_commands.specs.Replayed.{IsReplayed, Faulty}
-use Rattle.st_commands.proofs.Telling.{owes_fault, owes_replay, was_read}
+use Rattle.st_commands.proofs.Deliveries.{owes_fault, owes_replay, was_read}
 use Rattle.st_commands.proofs.replay.run_replay.Goals as goal
 
 pub returns-in-Ok : goal.returns-in-Ok

@@ -2,7 +2,7 @@
 use Rattle.std.proofs.Common.{ap, map, sym, ◌∙◌}
 use Rattle.std.specs.Prelude.{option_and_then}
 use Rattle.st_commands.specs.Words.{task_of}
-use Rattle.st_commands.proofs.Asked.{asked_by, free, named_rows, ok_task, refusal_by}
+use Rattle.st_commands.proofs.Subcommands.{asked_by, free, named_rows, ok_task, refusal_by}
 use Rattle.st_commands.proofs.words.read_words.Goals as goal
 
 pub returns-in-Some-clause-task : goal.returns-in-Some-clause-task

@@ -1,5 +1,5 @@
 -- The lemma says it.
-use Rattle.st_full.proofs.Merging.{some_placing}
+use Rattle.st_full.proofs.MergedPlacings.{some_placing}
 use Rattle.st_full.proofs.laws.each_process_has_a_placing.Goals as goal
 
 pub returns : goal.returns

@@ -1,5 +1,5 @@
 -- The lemma says it.
-use Rattle.st_full.proofs.Together.{choice_of}
+use Rattle.st_full.proofs.JointPlacings.{choice_of}
 use Rattle.st_full.proofs.laws.placings_together_are_a_choice.Goals as goal
 
 pub returns : goal.returns

@@ -1,5 +1,5 @@
 -- The lemma says it.
-use Rattle.st_full.proofs.Deciding.{never_shown}
+use Rattle.st_full.proofs.Decision.{never_shown}
 use Rattle.st_full.proofs.laws.refused_only_if_never_shown.Goals as goal
 
 pub returns : goal.returns

@@ -5,5 +5,9 @@ use Rattle.st_full.proofs.SameSupply.{supply_same}
 use Rattle.st_full.proofs.laws.renumbering_keeps_reasons.Goals as goal
 
 pub returns : goal.returns
-returns c = λ f keeps streams.
-    (refusal_same f keeps streams, late_as_before f keeps streams, rootless_as_before f keeps streams, supply_same f keeps streams)
+returns c = λ f keeps streams. (
+  refusal_same f keeps streams,
+  late_as_before f keeps streams,
+  rootless_as_before f keeps streams,
+  supply_same f keeps streams,
+)

@@ -1,5 +1,5 @@
 -- The lemma says it.
-use Rattle.st_full.proofs.Exactly.{exactly}
+use Rattle.st_full.proofs.Equivalences.{exactly}
 use Rattle.st_full.proofs.laws.shown_exactly_where_completed.Goals as goal
 
 pub returns : goal.returns

@@ -1,5 +1,5 @@
 -- The lemma says it.
-use Rattle.st_full.proofs.Assembling.{shown_if_none_has_two}
+use Rattle.st_full.proofs.BestChoices.{shown_if_none_has_two}
 use Rattle.st_full.proofs.laws.shown_if_no_stretch_has_two_scarce_counts.Goals as goal
 
 pub returns : goal.returns

@@ -1,5 +1,5 @@
 -- The lemma says it.
-use Rattle.st_full.proofs.Scarcely.{best_shown}
+use Rattle.st_full.proofs.ScarceNeeds.{best_shown}
 use Rattle.st_full.proofs.laws.shown_if_placings_are_best.Goals as goal
 
 pub returns : goal.returns

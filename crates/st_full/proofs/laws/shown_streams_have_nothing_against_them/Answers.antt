@@ -1,5 +1,5 @@
 -- The lemma says it.
-use Rattle.st_full.proofs.Against.{shown_nothing}
+use Rattle.st_full.proofs.ReasonsOfCompletions.{shown_nothing}
 use Rattle.st_full.proofs.laws.shown_streams_have_nothing_against_them.Goals as goal
 
 pub returns : goal.returns

@@ -1,5 +1,5 @@
 -- The lemma says it.
-use Rattle.st_full.proofs.Fewest.{best_placing}
+use Rattle.st_full.proofs.FewestNeeds.{best_placing}
 use Rattle.st_full.proofs.laws.some_placing_needs_the_least.Goals as goal
 
 pub returns : goal.returns

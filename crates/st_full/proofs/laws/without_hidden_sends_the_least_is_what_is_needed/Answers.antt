@@ -1,5 +1,5 @@
 -- The lemma says it.
-use Rattle.st_full.proofs.Reported.{least_is}
+use Rattle.st_full.proofs.ReportedSends.{least_is}
 use Rattle.st_full.proofs.laws.without_hidden_sends_the_least_is_what_is_needed.Goals as goal
 
 pub returns : goal.returns

@@ -6,7 +6,7 @@ use Rattle.std.proofs.lemmas.List.Sorted.{answers_always}
 use Rattle.rayon.proofs.ListFacts.{IfOk-then}
 use Rattle.st_order.specs.declared.labels.LabelledItem.{LabelledItem}
 use Rattle.st_order.specs.Labels.{IsByLabel}
-use Rattle.st_order.proofs.Grouping.{number_of, grouped_by_label}
+use Rattle.st_order.proofs.Groups.{number_of, grouped_by_label}
 use Rattle.st_order.proofs.labels.by_label.Goals as goal
 
 pub returns : goal.returns

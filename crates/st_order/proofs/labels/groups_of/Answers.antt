@@ -1,5 +1,5 @@
 -- The first group goes from the rest to the groups so far.
-use Rattle.st_order.proofs.Cutting.{group_passed}
+use Rattle.st_order.proofs.FirstGroups.{group_passed}
 use Rattle.st_order.proofs.labels.groups_of.Goals as goal
 
 pub loop-first-preserved : goal.loop-first-preserved

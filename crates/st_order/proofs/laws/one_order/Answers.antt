@@ -1,5 +1,5 @@
 -- The lemma says it.
-use Rattle.st_order.proofs.One.{one_order}
+use Rattle.st_order.proofs.OneOrder.{one_order}
 use Rattle.st_order.proofs.laws.one_order.Goals as goal
 
 pub returns : goal.returns

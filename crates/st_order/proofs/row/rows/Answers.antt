@@ -1,5 +1,5 @@
 -- One turn moves the rows of one process.
-use Rattle.st_order.proofs.Rowed.{rows_passed}
+use Rattle.st_order.proofs.PassedRows.{rows_passed}
 use Rattle.st_order.proofs.row.rows.Goals as goal
 
 pub loop-pid-preserved : goal.loop-pid-preserved

@@ -1,5 +1,5 @@
 -- Acts without a reset show no streams against which a reason stands: see Final.
-use Rattle.st_pair.proofs.Final.{refused_never_shown}
+use Rattle.st_pair.proofs.FinalReasons.{refused_never_shown}
 use Rattle.st_pair.proofs.laws.refusals_are_final_without_reset.Goals as goal
 
 pub returns : goal.returns

@@ -1,5 +1,5 @@
 -- Accepted streams have no stamp whose count isn't above the one before it.
-use Rattle.st_pair.proofs.Accepted.{paired}
+use Rattle.st_pair.proofs.AcceptedEvents.{paired}
 use Rattle.st_pair.proofs.Converse.{stamp_counts_rise}
 use Rattle.st_pair.proofs.laws.stamp_counts_rise.Goals as goal
 

@@ -1,7 +1,7 @@
 -- By what refuses the streams: the reason that `tables_of` gives.
 use Rattle.std.proofs.Common.{rules, IfErr}
 use Rattle.st_pair.specs.Pairing.{IsPairFault}
-use Rattle.st_pair.proofs.Final.{answered_rules_out}
+use Rattle.st_pair.proofs.FinalReasons.{answered_rules_out}
 use Rattle.st_pair.proofs.pairing.pair.Goals as goal
 
 pub returns-in_err-tables-clause-rules_out : goal.returns-in_err-tables-clause-rules_out

@@ -1,6 +1,6 @@
 -- The table's place for the receive's sender and count is that of the one event that can be its send.
 use Rattle.std.proofs.Common.{sym, ◌∙◌}
-use Rattle.st_pair.proofs.Ruled.{stamp_read, stamp_sent, mismatch_same, mismatch_other, receive_unstamped}
+use Rattle.st_pair.proofs.RulesAtEvents.{stamp_read, stamp_sent, mismatch_same, mismatch_other, receive_unstamped}
 use Rattle.st_pair.proofs.rules.mismatch_at.Goals as goal
 
 pub returns-in-None-event : goal.returns-in-None-event

@@ -2,7 +2,7 @@
 use Rattle.std.proofs.Common.{◌∙◌}
 use Rattle.st_pair.specs.Pairing.{not_rising}
 use Rattle.st_pair.proofs.Firsts.{first-given, first-passed}
-use Rattle.st_pair.proofs.Ruled.{rising_streams}
+use Rattle.st_pair.proofs.RulesAtEvents.{rising_streams}
 use Rattle.st_pair.proofs.rules.not_rising.Goals as goal
 
 pub returns-in-Some : goal.returns-in-Some

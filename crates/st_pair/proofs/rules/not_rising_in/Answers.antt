@@ -1,8 +1,9 @@
 -- A stamp is compared with the last one before it, which is kept on the way.
 use Rattle.std.proofs.Common.{sym, ◌∙◌, ap, get_or}
 use Rattle.st_pair.proofs.Firsts.{at_get_or}
-use Rattle.st_pair.proofs.Ruled.{blank, receive_unstamped, either_stamped, counted, rising_receive, rising_first}
-use Rattle.st_pair.proofs.Ruled.{rising_more, rest_passed, before_receive, before_stamp}
+use Rattle.st_pair.proofs.RulesAtEvents.{blank, receive_unstamped, either_stamped, counted}
+use Rattle.st_pair.proofs.RulesAtEvents.{rising_receive, rising_first}
+use Rattle.st_pair.proofs.RulesAtEvents.{rising_more, rest_passed, before_receive, before_stamp}
 use Rattle.st_pair.proofs.rules.not_rising_in.Goals as goal
 use Rattle.st_pair.proofs.rules.not_rising_in.Goals.{in-Receive, in-Send+in-Some+else-this-before, in-Send+in_default}
 

@@ -1,6 +1,6 @@
 -- Keys rise, so that no row after one whose key isn't lesser has a lesser key.
 use Rattle.std.proofs.Common.{not, sym, ◌∙◌, ap}
-use Rattle.st_pair.proofs.Tabled.{not_below}
+use Rattle.st_pair.proofs.SortedRows.{not_below}
 use Rattle.st_pair.proofs.tables.begins_above.Goals as goal
 
 pub returns-in-Some : goal.returns-in-Some

@@ -1,7 +1,7 @@
 -- Keys rise, so that all rows before one with a lesser key have lesser keys too.
 use Rattle.std.proofs.Common.{arith, sym, ◌∙◌}
 use Rattle.std.proofs.lemmas.Option.{slice_get_within}
-use Rattle.st_pair.proofs.Tabled.{below}
+use Rattle.st_pair.proofs.SortedRows.{below}
 use Rattle.st_pair.proofs.tables.ends_below.Goals as goal
 
 pub returns-in-Some-row_at-clause-below : goal.returns-in-Some-row_at-clause-below

@@ -1,5 +1,5 @@
 -- A row that is noted at the end is its key's place only if no row before it has the key.
-use Rattle.st_pair.proofs.Noted.{place_in-push}
+use Rattle.st_pair.proofs.NotedRows.{place_in-push}
 use Rattle.st_pair.proofs.tables.note.Goals as goal
 
 pub returns : goal.returns

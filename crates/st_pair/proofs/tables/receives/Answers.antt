@@ -1,6 +1,6 @@
 -- Sorting by key keeps rows of one key in their order, so the first of a key stays first.
 use Rattle.std.proofs.Common.{◌∙◌}
-use Rattle.st_pair.proofs.Noted.{ok_then}
+use Rattle.st_pair.proofs.NotedRows.{ok_then}
 use Rattle.st_pair.proofs.tables.receives.Goals as goal
 
 pub returns : goal.returns

@@ -4,9 +4,9 @@ use Rattle.st_core.specs.Run.{pids_of}
 use Rattle.st_pair.specs.declared.tables.Key.{Key}
 use Rattle.st_pair.specs.Tables.{place_at_key, stamp_rule}
 use Rattle.st_pair.specs.Places.{or_else}
-use Rattle.st_pair.proofs.Noted.{or_none}
+use Rattle.st_pair.proofs.NotedRows.{or_none}
 use Rattle.st_pair.proofs.Firsts.{first-end, table-passed}
-use Rattle.st_pair.proofs.Owned.{stamp_own}
+use Rattle.st_pair.proofs.OwnStamps.{stamp_own}
 use Rattle.st_pair.proofs.tables.stamp_rows.Goals as goal
 
 pub loop-pid-preserved : goal.loop-pid-preserved

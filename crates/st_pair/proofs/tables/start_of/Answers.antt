@@ -2,7 +2,7 @@
 use Rattle.std.proofs.Common.{rules}
 use Rattle.std.proofs.lemmas.List.Sorted.{IsPartitionPoint-from_clause}
 use Rattle.st_pair.specs.Tables.{is_below}
-use Rattle.st_pair.proofs.Tabled.{found, lesser_first}
+use Rattle.st_pair.proofs.SortedRows.{found, lesser_first}
 use Rattle.st_pair.proofs.tables.start_of.Goals as goal
 
 pub returns-then-begins_above : goal.returns-then-begins_above

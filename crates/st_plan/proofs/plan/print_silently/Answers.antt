@@ -2,7 +2,7 @@
 use Rattle.std.proofs.Common.{◌∷◌, [], ◌++◌, append_assoc, sym, ◌∙◌, ap}
 use Rattle.st_core.specs.declared.types.Act.TheVariants as act
 use Rattle.st_plan.specs.Build.{silent}
-use Rattle.st_plan.proofs.Silent.{silent_more}
+use Rattle.st_plan.proofs.SilentPrints.{silent_more}
 use Rattle.st_plan.proofs.plan.print_silently.Goals as goal
 
 pub loop-preserved : goal.loop-preserved

@@ -1,7 +1,7 @@
 -- What waits last goes with a flush.
 use Rattle.st_text.specs.Spelling as spelled
 use Rattle.st_text.proofs.Puts.{finishes, goes_buffer}
-use Rattle.st_text.proofs.Spelled.{event_some}
+use Rattle.st_text.proofs.Spellings.{event_some}
 use Rattle.st_text.proofs.writer.write_event.Goals as goal
 
 pub returns : goal.returns

@@ -1,7 +1,7 @@
 -- What waits last goes with a flush.
 use Rattle.st_text.specs.Text.{parts, spelling}
 use Rattle.st_text.proofs.Puts.{finishes}
-use Rattle.st_text.proofs.Spelled.{text_some}
+use Rattle.st_text.proofs.Spellings.{text_some}
 use Rattle.st_text.proofs.writer.write_parts.Goals as goal
 
 pub returns : goal.returns

@@ -5,7 +5,7 @@ use Rattle.st_core.specs.declared.types.Pid.{Pid}
 use Rattle.st_core.specs.Run.{Stream, pids_of}
 use Rattle.st_core.specs.Streams.{events_of, IsStreams}
 use Rattle.st_text.specs.Text.{ended, process_lines}
-use Rattle.st_text.proofs.Listed.{by_pids, stream_at}
+use Rattle.st_text.proofs.ListedPids.{by_pids, stream_at}
 use Rattle.st_text.proofs.Puts.{goes_still, flat_map-flat_map, one_more, one_failed, all_done, on_err}
 use Rattle.st_text.proofs.writer.write_streams.Goals as goal
 

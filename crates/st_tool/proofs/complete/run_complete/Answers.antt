@@ -2,7 +2,7 @@
 use Rattle.st_text.specs.Contents.{contents}
 use Rattle.st_commands.specs.Output.{refused}
 use Rattle.st_tool.specs.Complete.{IsCompleted, Faulty}
-use Rattle.st_tool.proofs.Telling.{owes_fault, owes_complete, was_read}
+use Rattle.st_tool.proofs.Deliveries.{owes_fault, owes_complete, was_read}
 use Rattle.st_tool.proofs.complete.run_complete.Goals as goal
 
 pub returns-in-Ok : goal.returns-in-Ok

@@ -2,7 +2,7 @@
 use Rattle.st_complete.specs.declared.answer.Answer.TheVariants as answer
 use Rattle.st_tool.specs.Complete.{IsNever, IsOpen, never_text, open_text, text_of_status}
 use Rattle.st_tool.specs.Parts.{Finds}
-use Rattle.st_tool.proofs.Telling.{delivers}
+use Rattle.st_tool.proofs.Deliveries.{delivers}
 use Rattle.st_tool.proofs.complete.tell_answer.Goals as goal
 
 pub returns-in-Never : goal.returns-in-Never

@@ -5,7 +5,7 @@ use Rattle.st_complete.specs.declared.answer.Answer.TheVariants as answer
 use Rattle.st_tool.specs.Renumber.{streams_output}
 use Rattle.st_tool.specs.Complete.{Adds, Completes, added_text, text_of_status}
 use Rattle.st_tool.specs.Parts.{CompletesTo, Finds}
-use Rattle.st_tool.proofs.Telling.{delivers}
+use Rattle.st_tool.proofs.Deliveries.{delivers}
 use Rattle.st_tool.proofs.complete.tell_completion.Goals as goal
 
 pub returns-in-Acts : goal.returns-in-Acts

@@ -11,10 +11,14 @@ pub returns-in_err-write_line : goal.returns-in_err-write_line
 returns-in_err-write_line g c =
     let first = count_line (added_in c.args.completion.now) in
     let rest = flat_map (added_of c.args.completion.now) (pids_of (all_streams c.args.completion.now)) in
-    on_err _ _ _ _ c.from_residual.ensures.0 (part_longer g.W.ByteSink.puts g.W.ByteSink.failed first rest _ (rw c.added.ensures at c.in_err-write_line.ensures))
+    on_err _ _ _ _ c.from_residual.ensures.0
+    (part_longer g.W.ByteSink.puts g.W.ByteSink.failed first rest _
+    (rw c.added.ensures at c.in_err-write_line.ensures))
 
 pub returns : goal.returns
 returns g c =
     let first = count_line (added_in c.args.completion.now) in
     let rest = flat_map (added_of c.args.completion.now) (pids_of (all_streams c.args.completion.now)) in
-    then_on g.W.ByteSink.puts g.W.ByteSink.failed first rest _ _ c.write_added_by.result (rw c.added.ensures at c.in_ok-write_line.ensures) (rw (c.pids.ensures.value, c.streams.ensures) at c.write_added_by.ensures)
+    then_on g.W.ByteSink.puts g.W.ByteSink.failed first rest _ _ c.write_added_by.result
+    (rw c.added.ensures at c.in_ok-write_line.ensures)
+    (rw (c.pids.ensures.value, c.streams.ensures) at c.write_added_by.ensures)

@@ -20,7 +20,8 @@ returns-in_err-write_event_line g c =
     let first = never_line c.args.pid c.args.index c.args.never in
     let event = event_line c.args.streams.now c.args.pid c.args.index in
     let rest = other_line c.args.streams.now c.args.pid c.args.never in
-    let part = part_then g.W.ByteSink.puts g.W.ByteSink.failed first event c.in_ok-write_line.ensures c.in_err-write_event_line.ensures in
+    let part = part_then g.W.ByteSink.puts g.W.ByteSink.failed first event c.in_ok-write_line.ensures
+    c.in_err-write_event_line.ensures in
     on_err _ _ _ _ c.from_residual-in_err-write_event_line.ensures.0
     (part_longer g.W.ByteSink.puts g.W.ByteSink.failed (first ++ event) rest _ part)
 
@@ -29,5 +30,7 @@ returns g c =
     let first = never_line c.args.pid c.args.index c.args.never in
     let event = event_line c.args.streams.now c.args.pid c.args.index in
     let rest = other_line c.args.streams.now c.args.pid c.args.never in
-    let begun = goes_then g.W.ByteSink.puts g.W.ByteSink.failed first event c.in_ok-write_line.ensures c.in_ok-write_event_line.ensures in
-    then_on g.W.ByteSink.puts g.W.ByteSink.failed (first ++ event) rest _ _ c.write_other.result begun c.write_other.ensures
+    let begun = goes_then g.W.ByteSink.puts g.W.ByteSink.failed first event c.in_ok-write_line.ensures
+    c.in_ok-write_event_line.ensures in
+    then_on g.W.ByteSink.puts g.W.ByteSink.failed
+    (first ++ event) rest _ _ c.write_other.result begun c.write_other.ensures

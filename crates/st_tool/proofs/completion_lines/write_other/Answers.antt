@@ -6,11 +6,13 @@ use Rattle.st_tool.proofs.completion_lines.write_other.Goals as goal
 
 pub returns-in-PrevNotBefore : goal.returns-in-PrevNotBefore
 returns-in-PrevNotBefore g c =
-    rw (ap (other_line c.args.streams.now c.args.pid) c.in-PrevNotBefore.is) (goes_still g.W.ByteSink.puts g.W.ByteSink.failed)
+    rw (ap (other_line c.args.streams.now c.args.pid) c.in-PrevNotBefore.is)
+    (goes_still g.W.ByteSink.puts g.W.ByteSink.failed)
 
 pub returns-in-Unfounded : goal.returns-in-Unfounded
 returns-in-Unfounded g c =
-    rw (ap (other_line c.args.streams.now c.args.pid) c.in-Unfounded.is) (goes_still g.W.ByteSink.puts g.W.ByteSink.failed)
+    rw (ap (other_line c.args.streams.now c.args.pid) c.in-Unfounded.is)
+    (goes_still g.W.ByteSink.puts g.W.ByteSink.failed)
 
 pub returns-in-Unsent : goal.returns-in-Unsent
 returns-in-Unsent g c =
@@ -18,4 +20,5 @@ returns-in-Unsent g c =
 
 pub returns-in-TooHigh : goal.returns-in-TooHigh
 returns-in-TooHigh g c =
-    rw (ap (other_line c.args.streams.now c.args.pid) c.in-TooHigh.is) (goes_still g.W.ByteSink.puts g.W.ByteSink.failed)
+    rw (ap (other_line c.args.streams.now c.args.pid) c.in-TooHigh.is)
+    (goes_still g.W.ByteSink.puts g.W.ByteSink.failed)

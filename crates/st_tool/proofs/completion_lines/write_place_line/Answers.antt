@@ -9,7 +9,8 @@ use Rattle.st_tool.proofs.completion_lines.write_place_line.Goals as goal
 
 pub returns-in_err-make_room : goal.returns-in_err-make_room
 returns-in_err-make_room g c =
-    no_room g.W.ByteSink.puts g.W.ByteSink.failed (place_line c.args.word.now c.args.pid c.args.index c.args.event) _ _ _
+    no_room g.W.ByteSink.puts g.W.ByteSink.failed
+    (place_line c.args.word.now c.args.pid c.args.index c.args.event) _ _ _
     c.from_residual.ensures.0 c.in_err-make_room.ensures.goes
 
 pub returns-in_err-make_room-2 : goal.returns-in_err-make_room-2

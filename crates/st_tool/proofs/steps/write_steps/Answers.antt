@@ -9,7 +9,8 @@ loop-place-init g c = goes_still g.W.ByteSink.puts g.W.ByteSink.failed
 
 pub loop-place-preserved : goal.loop-place-preserved
 loop-place-preserved g c =
-    one_more g.W.ByteSink.puts g.W.ByteSink.failed (step_line c.args.streams.now) c.args.back.now c.loop-place.place-index
+    one_more g.W.ByteSink.puts g.W.ByteSink.failed
+    (step_line c.args.streams.now) c.args.back.now c.loop-place.place-index
     _ c.loop-place-test.true c.loop-place.invariant c.in_ok-write_place.ensures
 
 pub returns-in_err-write_place : goal.returns-in_err-write_place

@@ -2,7 +2,7 @@
 use Rattle.st_text.specs.Contents.{contents}
 use Rattle.st_commands.specs.Output.{refused}
 use Rattle.st_tool.specs.Why.{IsWhy, Faulty}
-use Rattle.st_tool.proofs.Telling.{owes_fault, owes_why, was_read}
+use Rattle.st_tool.proofs.Deliveries.{owes_fault, owes_why, was_read}
 use Rattle.st_tool.proofs.why.run_why.Goals as goal
 
 pub returns-in-Ok : goal.returns-in-Ok
@@ -22,7 +22,8 @@ returns-in-Err g c =
     let reader = g.R.ByteSource in
     record {
       output = refused c.in-Err.fault;
-      owed = owes_fault reader.gives reader.ended reader.failed _ _ (IsWhy c.args.pid c.args.index) Faulty c.in-Err.fault
+      owed = owes_fault reader.gives reader.ended reader.failed _ _
+          (IsWhy c.args.pid c.args.index) Faulty c.in-Err.fault
           c.in-Err.ensures;
       delivered = c.tell_fault.ensures;
     }

@@ -5,7 +5,7 @@ use Rattle.st_commands.specs.Output.{no_memory}
 use Rattle.st_tool.specs.Why.{traced}
 use Rattle.st_tool.specs.Parts.{OfBack, NoRoomToTrace}
 use Rattle.st_tool.proofs.Backs.{placed, steps_some}
-use Rattle.st_tool.proofs.Telling.{delivers}
+use Rattle.st_tool.proofs.Deliveries.{delivers}
 use Rattle.st_tool.proofs.why.trace_event.Goals as goal
 
 pub send_steps-sent-requires-clause-some : goal.send_steps-sent-requires-clause-some

@@ -7,8 +7,8 @@ use Rattle.st_core.specs.declared.types.Want.TheVariants as want
 use Rattle.st_mail.specs.declared.outcome.Outcome.{Outcome as Told}
 use Rattle.st_plan.specs.Build.{ready, start_of}
 use Rattle.st_audit.specs.Progress.{if_told, StampsEvent, RanTo}
-use Rattle.st_audit.proofs.Running.{follow}
-use Rattle.st_audit.proofs.Acting.{last_reports, ok_both, print_acts, receive_acts, send_acts, stamp_reports}
+use Rattle.st_audit.proofs.Runs.{follow}
+use Rattle.st_audit.proofs.MoveActs.{last_reports, ok_both, print_acts, receive_acts, send_acts, stamp_reports}
 use Rattle.st_audit.proofs.construction.Construction.act.Goals as goal
 
 pub returns-in-Receive-clause-follows : goal.returns-in-Receive-clause-follows
@@ -31,7 +31,8 @@ returns-in-Receive-clause-reports g c = λ streams pairs go rises.
     let taken = receive_acts streams marks p c.args.index e go.before go.acts go.are old.world go.is_before c.in-Receive.is in
     let a = act.Receive p (want.Place taken.place) in
     let new = c.receive.new.self.world in
-    IfOk-weaker c.receive.result (λ told. RanTo g.row.TOP old.world [] a told new) (λ (t : Told). t.report ≡ if_told (marks p c.args.index) e)
+    IfOk-weaker c.receive.result (λ told. RanTo g.row.TOP old.world [] a told new)
+    (λ (t : Told). t.report ≡ if_told (marks p c.args.index) e)
     (λ told ran. last_reports g.row.TOP streams marks old.world p c.args.index e go [] a told new ran taken.same refl refl)
     (c.receive.ensures.makes taken.place taken.found).ran
 
@@ -64,7 +65,8 @@ returns-in-Print-clause-reports g c = λ streams pairs go rises.
     ∙ print_acts streams marks p c.args.index e go.before go.acts go.are c.in-Print.is in
     ok_both c.stamp.result
     (λ told. StampsEvent g.row.TOP old.world old.skipped p e f told now.world now.skipped)
-    (λ told. RanTo g.row.TOP old.world (plan f) a told now.world) (λ (t : Told). t.report ≡ if_told (marks p c.args.index) e)
+    (λ told. RanTo g.row.TOP old.world (plan f) a told now.world)
+    (λ (t : Told). t.report ≡ if_told (marks p c.args.index) e)
     (λ told stamped ran. stamp_reports g.row.TOP streams marks old.world p c.args.index e go f a told now.world old.skipped
     now.skipped rises stamped ran is refl)
     c.stamp.ensures.stamped (c.stamp.ensures.makes go.before go.is_before).ran
@@ -100,7 +102,8 @@ returns-in-Some-clause-reports g c = λ streams pairs go rises.
     ∙ send_acts streams marks p c.args.index e go.before go.acts go.are to c.in-Send.is c.in-Some.is in
     ok_both c.stamp-in-Some.result
     (λ told. StampsEvent g.row.TOP old.world old.skipped p e f told now.world now.skipped)
-    (λ told. RanTo g.row.TOP old.world (plan f) a told now.world) (λ (t : Told). t.report ≡ if_told (marks p c.args.index) e)
+    (λ told. RanTo g.row.TOP old.world (plan f) a told now.world)
+    (λ (t : Told). t.report ≡ if_told (marks p c.args.index) e)
     (λ told stamped ran. stamp_reports g.row.TOP streams marks old.world p c.args.index e go f a told now.world old.skipped
     now.skipped rises stamped ran is refl)
     c.stamp-in-Some.ensures.stamped (c.stamp-in-Some.ensures.makes go.before go.is_before).ran

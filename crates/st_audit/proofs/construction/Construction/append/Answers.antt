@@ -13,11 +13,11 @@ use Rattle.st_plan.specs.Plain.{told}
 use Rattle.st_plan.proofs.ForCallers.{earlier_more}
 use Rattle.st_audit.specs.Construction.{turn}
 use Rattle.st_audit.specs.Progress.{AreTold, PutsActs, IsClockBelow, IsCountedAs, IsHalt, Meets, SaysNothing, Serves}
-use Rattle.st_audit.proofs.Acting.{ok_both}
-use Rattle.st_audit.proofs.Ending.{if_err}
-use Rattle.st_audit.proofs.Next.{hidden_halt, hidden_next, reported_halt, reported_next}
-use Rattle.st_audit.proofs.Telling.{in_turn, told_hidden, told_next}
-use Rattle.st_audit.proofs.Turning.{hidden_turn, reported_turn, told_below}
+use Rattle.st_audit.proofs.MoveActs.{ok_both}
+use Rattle.st_audit.proofs.Halts.{if_err}
+use Rattle.st_audit.proofs.NextItem.{hidden_halt, hidden_next, reported_halt, reported_next}
+use Rattle.st_audit.proofs.ToldCounts.{in_turn, told_hidden, told_next}
+use Rattle.st_audit.proofs.MoveOutcomes.{hidden_turn, reported_turn, told_below}
 use Rattle.st_audit.proofs.construction.Construction.append.Goals as goal
 
 pub returns-in-Reported-clause-so_far : goal.returns-in-Reported-clause-so_far

@@ -1,6 +1,6 @@
 -- A new world's counts are at zero, and nothing is told.
-use Rattle.st_audit.proofs.Opened.{begins}
-use Rattle.st_audit.proofs.Telling.{none_told}
+use Rattle.st_audit.proofs.FirstCounts.{begins}
+use Rattle.st_audit.proofs.ToldCounts.{none_told}
 use Rattle.st_audit.proofs.construction.Construction.new.Goals as goal
 
 pub returns-clause-so_far : goal.returns-clause-so_far

@@ -6,8 +6,8 @@ use Rattle.st_core.specs.declared.types.Pid.{Pid}
 use Rattle.st_world.specs.World.{outcome_to}
 use Rattle.st_audit.specs.declared.construction.Construction.{Construction}
 use Rattle.st_audit.specs.Progress.{AreCounted}
-use Rattle.st_audit.proofs.Opened.{traced}
-use Rattle.st_audit.proofs.Opening.{all_opened, next_left, one_opened, opens_on, seen_before, was_seen, Opens}
+use Rattle.st_audit.proofs.FirstCounts.{traced}
+use Rattle.st_audit.proofs.Tracers.{all_opened, next_left, one_opened, opens_on, seen_before, was_seen, Opens}
 use Rattle.st_audit.proofs.construction.Construction.open.Goals as goal
 use Rattle.st_audit.proofs.construction.Construction.open.Goals.{then-ne+in_ok-perform, else-ne}
 

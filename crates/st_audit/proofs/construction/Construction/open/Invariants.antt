@@ -1,7 +1,7 @@
 -- No act so far moved a count, and the acts so far are the tracers of the pids so far.
 use Rattle.std.proofs.Common.{◌≡◌, [], drop}
 use Rattle.st_audit.specs.Progress.{AreCounted}
-use Rattle.st_audit.proofs.Opening.{Opens}
+use Rattle.st_audit.proofs.Tracers.{Opens}
 use Rattle.st_audit.proofs.construction.Construction.open.Given as goal
 
 abbrev pub invariant-loop-pid : goal.invariant-loop-pid

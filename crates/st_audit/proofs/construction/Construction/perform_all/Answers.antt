@@ -7,10 +7,10 @@ use Rattle.st_core.specs.declared.types.Act.TheVariants as act
 use Rattle.st_core.specs.Pid.{pid_on}
 use Rattle.st_world.specs.World.{outcome_to}
 use Rattle.st_audit.specs.Progress.{IsStuck, Ran}
-use Rattle.st_audit.proofs.Ending.{cut}
-use Rattle.st_audit.proofs.Opened.{put_more, ran_more}
-use Rattle.st_audit.proofs.Running.{next_steps}
-use Rattle.st_audit.proofs.Trying.{stuck_later, stuck_more}
+use Rattle.st_audit.proofs.Halts.{cut}
+use Rattle.st_audit.proofs.FirstCounts.{put_more, ran_more}
+use Rattle.st_audit.proofs.Runs.{next_steps}
+use Rattle.st_audit.proofs.Attempts.{stuck_later, stuck_more}
 use Rattle.st_audit.proofs.construction.Construction.perform_all.Goals as goal
 
 pub loop-act-preserved : goal.loop-act-preserved

@@ -9,8 +9,8 @@ use Rattle.st_plan.specs.Build.{GoesOn}
 use Rattle.st_plan.specs.Moves.{move_by}
 use Rattle.st_audit.specs.declared.construction.Halt.TheVariants as halt
 use Rattle.st_audit.specs.Progress.{if_told, report_turn, Meets, PutsActs, SaysNothing, TellsOne}
-use Rattle.st_audit.proofs.Telling.{not_missing, place_below, tells_one}
-use Rattle.st_audit.proofs.Turning.{err_meets, late_meets, on_err, other_meets, through_meets}
+use Rattle.st_audit.proofs.ToldCounts.{not_missing, place_below, tells_one}
+use Rattle.st_audit.proofs.MoveOutcomes.{err_meets, late_meets, on_err, other_meets, through_meets}
 use Rattle.st_audit.proofs.construction.Construction.report.Goals as goal
 
 pub returns-in_default-clause-follows : goal.returns-in_default-clause-follows

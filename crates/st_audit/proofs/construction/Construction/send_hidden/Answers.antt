@@ -8,8 +8,8 @@ use Rattle.st_order.specs.declared.item.Item.TheVariants as item
 use Rattle.st_plan.specs.Build.{ready, start_of, GoesOn}
 use Rattle.st_plan.specs.Moves.{move_by}
 use Rattle.st_audit.specs.Progress.{PutsActs}
-use Rattle.st_audit.proofs.Running.{follow}
-use Rattle.st_audit.proofs.Acting.{hidden_acts}
+use Rattle.st_audit.proofs.Runs.{follow}
+use Rattle.st_audit.proofs.MoveActs.{hidden_acts}
 use Rattle.st_audit.proofs.construction.Construction.send_hidden.Goals as goal
 
 pub returns-clause-follows : goal.returns-clause-follows

@@ -6,11 +6,11 @@ use Rattle.st_core.specs.Run.{run_from}
 use Rattle.st_plan.specs.declared.plan.Start.{Start}
 use Rattle.st_plan.specs.Build.{ready, start_of}
 use Rattle.st_audit.specs.Progress.{is_too_wide, stamp_turn, IsStuck, Makes, Meets, Ran, TellsLast, TriesAct}
-use Rattle.st_audit.proofs.Ending.{if_err}
-use Rattle.st_audit.proofs.Running.{front_runs, made}
-use Rattle.st_audit.proofs.Trying.{attempt_tries, made_meets, stuck_later, stuck_meets, stuck_more}
-use Rattle.st_audit.proofs.Turning.{on_err, stamp_turn_is, within_bounds}
-use Rattle.st_audit.proofs.Stamping.{stamped, started}
+use Rattle.st_audit.proofs.Halts.{if_err}
+use Rattle.st_audit.proofs.Runs.{front_runs, made}
+use Rattle.st_audit.proofs.Attempts.{attempt_tries, made_meets, stuck_later, stuck_meets, stuck_more}
+use Rattle.st_audit.proofs.MoveOutcomes.{on_err, stamp_turn_is, within_bounds}
+use Rattle.st_audit.proofs.Stamps.{stamped, started}
 use Rattle.st_audit.proofs.construction.Construction.stamp.Goals as goal
 
 pub returns-clause-stamped : goal.returns-clause-stamped

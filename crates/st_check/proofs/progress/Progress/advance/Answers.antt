@@ -4,7 +4,7 @@ use Rattle.std.proofs.lemmas.Option.{slice_get_within}
 use Rattle.st_check.specs.Progress.{pair_to, IsPassed}
 use Rattle.st_arena.specs.Arena.{Arena}
 use Rattle.std.proofs.lemmas.Bool.{false≢true}
-use Rattle.st_check.proofs.Advancing.{length-counts, unlisted_at, refused_at, differs_at, passed_at}
+use Rattle.st_check.proofs.NextActs.{length-counts, unlisted_at, refused_at, differs_at, passed_at}
 use Rattle.st_core.specs.Run.{pids_of}
 use Rattle.st_check.proofs.progress.Progress.advance.Goals as goal
 

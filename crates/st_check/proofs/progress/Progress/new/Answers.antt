@@ -1,5 +1,5 @@
 -- Without acts each count is 0, each list of tags is empty, and the world is at zero.
-use Rattle.st_check.proofs.Passing.{passed_start}
+use Rattle.st_check.proofs.PassedActs.{passed_start}
 use Rattle.st_check.proofs.progress.Progress.new.Goals as goal
 
 pub returns : goal.returns

@@ -2,7 +2,7 @@
 use Rattle.std.proofs.Common.{rules}
 use Rattle.std.proofs.lemmas.List.Sorted.{answers_always}
 use Rattle.st_pair.specs.Tables.{key_of}
-use Rattle.st_pair.proofs.Tabled.{place_in-sorted}
+use Rattle.st_pair.proofs.SortedRows.{place_in-sorted}
 use Rattle.st_pair.proofs.tables.Table.from_rows.Goals as goal
 
 pub invariant_of-result : goal.invariant_of-result

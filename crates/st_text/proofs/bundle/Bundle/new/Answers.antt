@@ -2,7 +2,7 @@
 use Rattle.std.proofs.Common.{sym}
 use Rattle.st_core.specs.Run.{pids_of}
 use Rattle.st_text.specs.Text.{acts_or_none, is_listed}
-use Rattle.st_text.proofs.Listed.{none_unlisted}
+use Rattle.st_text.proofs.ListedPids.{none_unlisted}
 use Rattle.st_text.proofs.bundle.Bundle.new.Goals as goal
 
 pub invariant_of-result : goal.invariant_of-result

@@ -1,0 +1,247 @@
+-- What an item's acts do to the counts: those of its own process become what its move makes of them, and no others
+-- move. For a stamp that is told its report says so, for another the clock before it, for a receive its message.
+use Rattle.std.proofs.Common.{◌≡◌, ℕ, ◌+◌, ◌<◌, ◌≤◌, ◌⊎◌, inl, inr, max, true, false, not, ◌&&◌}
+use Rattle.std.proofs.Common.{◌==◌, Option, Some, None, nat_lt, refl, sym, ◌∙◌, ap, subst, arith, get_or, position}
+use Rattle.std.proofs.Common.{option_and_then}
+use Rattle.std.proofs.lemmas.Bool.{and_parts, eqb-true, false≢true, ltb-false}
+use Rattle.std.proofs.lemmas.List.Quantifiers.{position-Some}
+use Rattle.std.proofs.lemmas.Option.{same_Some, slice_get-get_or}
+use Rattle.st_core.specs.declared.types.Pid.{Pid}
+use Rattle.st_core.specs.declared.types.Token.{Token}
+use Rattle.st_core.specs.declared.types.Event.{Event}
+use Rattle.st_core.specs.declared.types.Flags.{Flags}
+use Rattle.st_core.specs.declared.types.Serial.{Serial}
+use Rattle.st_core.specs.declared.types.Kind.TheVariants as kind
+use Rattle.st_core.specs.declared.types.Message.{Message}
+use Rattle.st_core.specs.declared.types.Act.{Act}
+use Rattle.st_core.specs.declared.types.Act.TheVariants as act
+use Rattle.st_core.specs.declared.types.Want.TheVariants as want
+use Rattle.st_core.specs.Pid.{pid_eq}
+use Rattle.st_core.specs.State.{LocalState, Process, State, process}
+use Rattle.st_core.specs.Stamp.{stamp_any}
+use Rattle.st_core.specs.Local.{received}
+use Rattle.st_core.specs.Pick.{pick}
+use Rattle.st_core.specs.Step.{Acted, acted, actor, prints, receives, sends}
+use Rattle.st_core.proofs.ForCallers.{mapped}
+use Rattle.st_mail.specs.Mail.{bears_stamp}
+use Rattle.st_mail.specs.declared.outcome.Outcome.{Outcome as Told}
+use Rattle.st_world.specs.World.{outcome_to}
+use Rattle.st_plan.specs.Build.{ready, start_of, state_after}
+use Rattle.st_audit.specs.Progress.{is_uncaused, StampsEvent, IsStampOf, IsTaken}
+use Rattle.st_audit.proofs.Counts.{HasRisen, IsNoReset, IsTold, WasActor, WasSame, actor_same, all_risen}
+use Rattle.st_audit.proofs.Counts.{others_same}
+use Rattle.st_audit.proofs.Counts.{ready_alone, stamp_some, stamp_told, was_same}
+use Rattle.st_plan.proofs.ForCallers.{lifted}
+use Rattle.st_plan.proofs.ForCallers.{is_ready, pick_at}
+use Rattle.st_audit.proofs.GreaterClocks.{run_wider}
+
+-- between these states q's counts became those of this serial, and no others moved
+pub record HasMoved (q : Pid) (s : Serial) (count : ℕ) (old new : State) : Type 0 where
+  pub others : (x : Pid) (r : Process) → pid_eq x q ≡ false → process new x ≡ Some r → WasSame old x r.local
+  pub before : (r : Process) → process new q ≡ Some r → Process
+  pub is_before : (r : Process) (h : process new q ≡ Some r) → process old q ≡ Some (before r h)
+  pub clocked : (r : Process) (h : process new q ≡ Some r) → r.local.clock ≡ max (before r h).local.clock s.this
+  pub lasted : (r : Process) → process new q ≡ Some r → r.local.last ≡ count
+
+-- THE ACT OF A STAMP
+
+stamp_is : (p : Pid) (a : Act) → IsStampOf p a → (actor a ≡ p) × IsNoReset a
+stamp_is p (act.Send q x v) h = (sym h, tt)
+stamp_is p (act.Print q v) h = (sym h, tt)
+stamp_is p (act.Receive q w) h = absurd h
+stamp_is p (act.PrintAt q n v) h = absurd h
+stamp_is p (act.Set q c) h = absurd h
+stamp_is p (act.Clear q) h = absurd h
+stamp_is p (act.Restore q t) h = absurd h
+stamp_is p (act.Look q) h = absurd h
+stamp_is p (act.Reset q) h = absurd h
+stamp_is p (act.Tracer q b) h = absurd h
+
+-- it was reported
+acted_told : (top : ℕ) (p : Pid) (a : Act) (r : Process) (done : Acted) (e : Event) → IsStampOf p a
+    → acted top r a ≡ Some done → done.report ≡ Some e → IsTold r.local done.local e
+acted_told top p (act.Send q x v) r done e h is told =
+    let parts = mapped (sends r x v) (stamp_any top r.pid r.local) done is in
+    let m = parts.0 in
+    let part = stamp_told top r.pid r.local m r.local.traced kind.Send (Some x) v e parts.1
+    (ap (λ (d : Acted). d.report) parts.2 ∙ told) in
+    subst (λ (d : Acted). IsTold r.local d.local e) parts.2 part
+acted_told top p (act.Print q v) r done e h is told =
+    let parts = mapped (prints r v) (stamp_any top r.pid r.local) done is in
+    let m = parts.0 in
+    let part = stamp_told top r.pid r.local m r.local.traced kind.Print None v e parts.1
+    (ap (λ (d : Acted). d.report) parts.2 ∙ told) in
+    subst (λ (d : Acted). IsTold r.local d.local e) parts.2 part
+acted_told top p (act.Receive q w) r done e h is told = absurd h
+acted_told top p (act.PrintAt q n v) r done e h is told = absurd h
+acted_told top p (act.Set q c) r done e h is told = absurd h
+acted_told top p (act.Clear q) r done e h is told = absurd h
+acted_told top p (act.Restore q t) r done e h is told = absurd h
+acted_told top p (act.Look q) r done e h is told = absurd h
+acted_told top p (act.Reset q) r done e h is told = absurd h
+acted_told top p (act.Tracer q b) r done e h is told = absurd h
+
+-- the process had a token
+record HasStamped (l m : LocalState) : Type 0 where
+  pub clocked : m.clock ≡ l.clock + 1
+  pub lasted : m.last ≡ l.last
+
+acted_some : (top : ℕ) (p : Pid) (a : Act) (r : Process) (done : Acted) (t : Token) → IsStampOf p a
+    → acted top r a ≡ Some done → r.local.token ≡ Some t → HasStamped r.local done.local
+acted_some top p (act.Send q x v) r done t h is some =
+    let parts = mapped (sends r x v) (stamp_any top r.pid r.local) done is in
+    let same = stamp_some top r.pid r.local parts.0 t some parts.1 in
+    subst (λ (d : Acted). HasStamped r.local d.local) parts.2
+    (record { clocked = ap (λ (l : LocalState). l.clock) same; lasted = ap (λ (l : LocalState). l.last) same })
+acted_some top p (act.Print q v) r done t h is some =
+    let parts = mapped (prints r v) (stamp_any top r.pid r.local) done is in
+    let same = stamp_some top r.pid r.local parts.0 t some parts.1 in
+    subst (λ (d : Acted). HasStamped r.local d.local) parts.2
+    (record { clocked = ap (λ (l : LocalState). l.clock) same; lasted = ap (λ (l : LocalState). l.last) same })
+acted_some top p (act.Receive q w) r done t h is some = absurd h
+acted_some top p (act.PrintAt q n v) r done t h is some = absurd h
+acted_some top p (act.Set q c) r done t h is some = absurd h
+acted_some top p (act.Clear q) r done t h is some = absurd h
+acted_some top p (act.Restore q n) r done t h is some = absurd h
+acted_some top p (act.Look q) r done t h is some = absurd h
+acted_some top p (act.Reset q) r done t h is some = absurd h
+acted_some top p (act.Tracer q b) r done t h is some = absurd h
+
+-- WHERE THE STAMP IS REPORTED
+
+pub reported_moves : (top : ℕ) (old : State) (skipped : ℕ) (p : Pid) (e : Event) (f : Flags) (told : Told) (new : State)
+    (now : ℕ) → StampsEvent top old skipped p e f told new now → told.report ≡ Some e
+    → HasMoved p e.serial e.serial.prev old new
+reported_moves top old skipped p e f told new now x report =
+    let risen = subst (HasRisen p old) (sym x.ran.after) (all_risen top p old
+    (ready p (start_of x.before.local) e.label e.serial f) x.ran.outcomes
+    (ready_alone p (start_of x.before.local) e.label e.serial f) x.ran.runs) in
+    let by = stamp_is p x.stamp x.stamps in
+    let was : (r : Process) → process new p ≡ Some r → WasActor top x.between x.stamp (outcome_to told new) r.local =
+    λ r h. actor_same top x.between x.stamp (outcome_to told new) x.steps by.1 r (ap (process new) by.0 ∙ h) in
+    let here : (r : Process) (h : process new p ≡ Some r) → process x.between p ≡ Some (was r h).before =
+    λ r h. ap (process x.between) (sym by.0) ∙ (was r h).is_before in
+    let serial : (r : Process) (h : process new p ≡ Some r) → IsTold (was r h).before.local (was r h).done.local e =
+    λ r h. acted_told top p x.stamp (was r h).before (was r h).done e x.stamps (was r h).is_done
+    (sym (was r h).told ∙ report) in
+    record {
+      others = λ y r apart h.
+          let late = others_same top x.between x.stamp (outcome_to told new) x.steps by.1 y r
+          (ap (pid_eq y) by.0 ∙ apart) h in
+          was_same old x.between y r.local late (risen.others y late.before apart late.is_before);
+      before = λ r h. (risen.own (was r h).before (here r h)).before;
+      is_before = λ r h. (risen.own (was r h).before (here r h)).is_before;
+      clocked = λ r h.
+          let low = (risen.own (was r h).before (here r h)).below in
+          let high = (serial r h).rose in
+          let this = (serial r h).clocked in
+          let same = (was r h).same.clocked in
+          omega arith;
+      lasted = λ r h. (was r h).same.lasted ∙ (serial r h).lasted;
+    }
+
+-- WHERE IT ISN'T
+
+pub caused_by : (l : LocalState) (s : Serial) → is_uncaused (start_of l) s ≡ false
+    → (s.prev ≡ l.last) ⊎ (l.clock ≤ s.prev)
+caused_by l s h =
+    elim (s.prev == l.last) as (λ b. (s.prev == l.last) ≡ b → (not b && nat_lt s.prev l.clock) ≡ false
+    → (s.prev ≡ l.last) ⊎ (l.clock ≤ s.prev)) [
+      | true ↦ λ e h. inl (eqb-true s.prev l.last e)
+      | false ↦ λ e h. inr (ltb-false s.prev l.clock h)
+    ] refl h
+
+pub hidden_moves : (top : ℕ) (old : State) (skipped : ℕ) (p : Pid) (e : Event) (f : Flags) (told : Told) (new : State)
+    (now : ℕ) (x : StampsEvent top old skipped p e f told new now) → e.serial.prev < e.serial.this
+    → x.before.local.clock < e.serial.this → HasMoved p e.serial e.serial.prev old new
+hidden_moves top old skipped p e f told new now x rises below =
+    let wide = max top e.serial.this in
+    let r0 = x.before in
+    let acts = ready p (start_of r0.local) e.label e.serial f in
+    let at = is_ready wide p r0.local e.label e.serial f rises (omega arith) below
+    (caused_by r0.local e.serial x.caused) in
+    let lift = lifted wide p acts old r0 r0.local at.end x.is_before refl at.runs in
+    let same : lift.os ≡ x.ran.outcomes = same_Some lift.os x.ran.outcomes
+    (sym lift.runs ∙ run_wider top wide (omega arith) old acts x.ran.outcomes x.ran.runs) in
+    let state : state_after old lift.os ≡ x.between = ap (state_after old) same ∙ sym x.ran.after in
+    let r1 : Process = record r0 { local = at.end } in
+    let here : process x.between p ≡ Some r1 = ap (λ s. process s p) (sym state) ∙ lift.here in
+    let by = stamp_is p x.stamp x.stamps in
+    let was : (r : Process) → process new p ≡ Some r → WasActor top x.between x.stamp (outcome_to told new) r.local =
+    λ r h. actor_same top x.between x.stamp (outcome_to told new) x.steps by.1 r (ap (process new) by.0 ∙ h) in
+    let is_r1 : (r : Process) (h : process new p ≡ Some r)
+    → r1 ≡ (was r h).before = λ r h. same_Some r1 (was r h).before
+    (sym here ∙ ap (process x.between) (sym by.0) ∙ (was r h).is_before) in
+    let stamped : (r : Process) (h : process new p ≡ Some r) → HasStamped at.end (was r h).done.local = λ r h.
+    acted_some top p x.stamp r1 (was r h).done at.token x.stamps
+    (ap (λ y. acted top y x.stamp) (is_r1 r h) ∙ (was r h).is_done) at.is in
+    record {
+      others = λ y r apart h.
+          let late = others_same top x.between x.stamp (outcome_to told new) x.steps by.1 y r
+          (ap (pid_eq y) by.0 ∙ apart) h in
+          record {
+            before = late.before;
+            is_before = sym (lift.others y apart) ∙ ap (λ s. process s y) state ∙ late.is_before;
+            same = late.same;
+          };
+      before = λ r h. r0;
+      is_before = λ r h. x.is_before;
+      clocked = λ r h.
+          let last_act = (stamped r h).clocked in
+          let ends = at.clocked in
+          let equal = (was r h).same.clocked in
+          omega arith;
+      lasted = λ r h. (was r h).same.lasted ∙ (stamped r h).lasted ∙ at.lasted;
+    }
+
+-- A RECEIVE
+
+-- a token that bears a stamp is there, with its count
+borne : (from : Pid) (this : ℕ) (token : Option Token) → bears_stamp from this token ≡ true
+    → (t : Token) × (token ≡ Some t) × (t.serial.this ≡ this)
+borne from this None h = absurd (false≢true h)
+borne from this (Some t) h =
+    (t, refl, eqb-true t.serial.this this (and_parts (pid_eq t.from from) (t.serial.this == this) h).1)
+
+taken_by : (r : Process) (k : ℕ) (m : Message) (done : Acted) (from : Pid) (this : ℕ)
+    → bears_stamp from this m.token ≡ true → receives r (Some (k, m)) ≡ done
+    → (done.local.clock ≡ max r.local.clock this) × (done.local.last ≡ this)
+taken_by r k m done from this bears is =
+    let t = borne from this m.token bears in
+    let local : received r.local (Some t.0) ≡ done.local =
+    ap (received r.local) (sym t.1) ∙ ap (λ (d : Acted). d.local) is in
+    let clock = ap (λ (l : LocalState). l.clock) local in
+    let count = ap (λ (l : LocalState). l.last) local in
+    let same = t.2 in
+    (omega arith, omega arith)
+
+pub taken_moves : (top : ℕ) (old : State) (p : Pid) (e : Event) (told : Told) (new : State)
+    → IsTaken top old p e told new → HasMoved p e.serial e.serial.this old new
+taken_moves top old p e told new x =
+    let a = act.Receive p (want.Place x.place) in
+    let o = outcome_to told new in
+    let this = e.serial.this in
+    let test = λ (m : Message). bears_stamp e.from this m.token in
+    let any : Message = record { from = p; value = 0; token = None } in
+    let was : (r : Process) → process new p ≡ Some r → WasActor top old a o r.local =
+    λ r h. actor_same top old a o x.steps tt r h in
+    let counts : (r : Process) (h : process new p ≡ Some r)
+    → ((was r h).done.local.clock ≡ max (was r h).before.local.clock this)
+    × ((was r h).done.local.last ≡ this) = λ r h.
+    let b = (was r h).before in
+    let found : position test b.queue ≡ Some x.place =
+    sym (ap (option_and_then (λ (q : Process). position test q.queue)) (was r h).is_before) ∙ x.found in
+    let at = position-Some test b.queue x.place any found in
+    let m = get_or b.queue x.place any in
+    let picked : pick (want.Place x.place) b.queue ≡ Some (x.place, m) =
+    pick_at x.place b.queue m (slice_get-get_or b.queue x.place any at.0) in
+    taken_by b x.place m (was r h).done e.from this at.1
+    (ap (receives b) (sym picked) ∙ same_Some (receives b (pick (want.Place x.place) b.queue)) (was r h).done
+    (was r h).is_done) in
+    record {
+      others = λ y r apart h. others_same top old a o x.steps tt y r apart h;
+      before = λ r h. (was r h).before;
+      is_before = λ r h. (was r h).is_before;
+      clocked = λ r h. (was r h).same.clocked ∙ (counts r h).0;
+      lasted = λ r h. (was r h).same.lasted ∙ (counts r h).1;
+    }

@@ -1,0 +1,137 @@
+-- The act of a number comes right after the acts before it, so what one more act does is what this act does.
+use Rattle.std.proofs.Common.{◌≡◌, ℕ, ◌+◌, ◌<◌, ◌⊎◌, false, List, [], ◌∷◌, ◌++◌, length, map, take, get_or, Option}
+use Rattle.std.proofs.Common.{Some, None, IsSome, is_some, option_and_then, refl, sym, ◌∙◌, ap, subst}
+use Rattle.std.proofs.Common.{arith, inl, inr, length-take-le, if◌then◌else◌}
+use Rattle.std.specs.Option.{ForSome, option_and}
+use Rattle.std.specs.List.{AllByRecursion, slice_get}
+use Rattle.std.proofs.lemmas.List.{take_more, length-map}
+use Rattle.std.proofs.lemmas.Option.{none-some}
+use Rattle.st_core.specs.declared.types.Pid.{Pid}
+use Rattle.st_core.specs.declared.types.Event.{Event}
+use Rattle.st_core.specs.declared.types.Act.{Act}
+use Rattle.st_core.specs.Pid.{pid_eq, IsRising}
+use Rattle.st_core.specs.State.{State}
+use Rattle.st_core.specs.Step.{Outcome, actor, step}
+use Rattle.st_core.specs.Run.{Stream, pids_of, run}
+use Rattle.st_core.specs.Streams.{events_of}
+use Rattle.st_core.specs.Pairs.{Tags, tags_after, pair_at}
+use Rattle.st_core.specs.Verdict.{Passes}
+use Rattle.st_world.specs.declared.outcome.StepFault.{StepFault}
+use Rattle.st_world.specs.declared.outcome.StepFault.TheVariants as fault
+use Rattle.st_world.specs.World.{IsFault}
+use Rattle.st_core.proofs.ForCallers.{step_no_actor, step_no_receiver}
+use Rattle.st_check.specs.Progress.{tags_of, count_of, counts_with, pair_to, stop_of, IsPassed, IsStop}
+use Rattle.st_check.specs.declared.progress.Stop.TheVariants as stop
+use Rattle.st_check.proofs.OneMoreAct.{pair_of}
+use Rattle.st_check.proofs.PassedActs.{unlisted_stuck, stuck_more, passed_more, differs_more}
+
+-- as many counts as streams
+pub length-counts : (top : ℕ) (streams : List Stream) (acts : List Act) (s : State) (counts : List ℕ)
+    (tags : List (List ℕ)) (ps : List (ℕ × ℕ)) → IsPassed top streams acts s counts tags ps
+    → length counts ≡ length (pids_of streams)
+length-counts top streams acts s counts tags ps p =
+    ap length p.are_counts ∙ length-map (pids_of streams) (count_of acts p.outcomes)
+
+pub length-tags : (top : ℕ) (streams : List Stream) (acts : List Act) (s : State) (counts : List ℕ)
+    (tags : List (List ℕ)) (ps : List (ℕ × ℕ)) → IsPassed top streams acts s counts tags ps
+    → length tags ≡ length (pids_of streams)
+length-tags top streams acts s counts tags ps p =
+    ap length p.are_tags ∙ length-map (pids_of streams) (tags_of acts p.outcomes)
+
+none_after : {A B : Type 0} (o : Option A) → (let none : Option B = None in option_and_then (λ (_ : A). none) o) ≡ None
+none_after None = refl
+none_after (Some x) = refl
+
+-- an act that isn't refused because memory ran out has no step
+pub fault_stuck : (top : ℕ) (s : State) (a : Act) (f : StepFault) → IsFault top s a f
+    → (f ≡ fault.Memory) ⊎ (step top s a ≡ None)
+fault_stuck top s a fault.Memory is = inl refl
+fault_stuck top s a fault.Unknown (inl missing) = inr (step_no_actor top s a missing)
+fault_stuck top s a fault.Unknown (inr missing) = inr (step_no_receiver top s a missing)
+fault_stuck top s a fault.ClockFull is = inr is.2
+
+module _ (top : ℕ) (streams : List Stream) (acts : List Act) (n : ℕ) (d : Act) (s : State) (counts : List ℕ)
+    (tags : List (List ℕ)) (ps : List (ℕ × ℕ)) (within : n < length acts)
+    (p : IsPassed top streams (take n acts) s counts tags ps) where
+  more : take n acts ++ get_or acts n d ∷ [] ≡ take (n + 1) acts
+  more = sym (take_more acts n d within)
+
+  stuck_at : step top s (get_or acts n d) ≡ None → run top (pids_of streams) (take (n + 1) acts) ≡ None
+  stuck_at h =
+      subst (λ xs. run top (pids_of streams) xs ≡ None) more
+      (stuck_more top streams (take n acts) s counts tags ps (get_or acts n d) p h)
+
+  -- its process isn't listed
+  pub unlisted_at : (pids : List Pid) (me : Pid) → pids ≡ pids_of streams → me ≡ actor (get_or acts n d)
+      → AllByRecursion (λ q. pid_eq q me ≡ false) pids → run top (pids_of streams) (take (n + 1) acts) ≡ None
+  unlisted_at pids me are is apart =
+      stuck_at (unlisted_stuck top streams (take n acts) s counts tags ps (get_or acts n d) p
+      (subst (λ who. AllByRecursion (λ q. pid_eq q who ≡ false) (pids_of streams)) is
+      (subst (AllByRecursion (λ q. pid_eq q me ≡ false)) are apart)))
+
+  stop_at : (f : StepFault) → (f ≡ fault.Memory) ⊎ (step top s (get_or acts n d) ≡ None)
+      → IsStop top streams (take (n + 1) acts) (stop_of f)
+  stop_at fault.Memory why = tt
+  stop_at fault.Unknown (inl memory) = absurd (cc)
+  stop_at fault.Unknown (inr none) = stuck_at none
+  stop_at fault.ClockFull (inl memory) = absurd (cc)
+  stop_at fault.ClockFull (inr none) = stuck_at none
+
+  -- the world refuses it
+  pub refused_at : (f : StepFault) → IsFault top s (get_or acts n d) f
+      → IsStop top streams (take (n + 1) acts) (stop_of f)
+  refused_at f is = stop_at f (fault_stuck top s (get_or acts n d) f is)
+
+  module _ (pids : List Pid) (me : Pid) (place : ℕ) (events : List Event) (o : Outcome)
+      (rising : IsRising (pids_of streams)) (are : pids ≡ pids_of streams) (is : me ≡ actor (get_or acts n d))
+      (at : slice_get pids place ≡ Some me) (of : events ≡ events_of streams me)
+      (h : step top s (get_or acts n d) ≡ Some o) where
+    here : slice_get (pids_of streams) place ≡ Some (actor (get_or acts n d))
+    here = ap (λ xs. slice_get xs place) (sym are) ∙ at ∙ ap (λ (q : Pid). Some q) is
+
+    theirs : events_of streams (actor (get_or acts n d)) ≡ events
+    theirs = ap (events_of streams) (sym is) ∙ sym of
+
+    differs_by : (report : Option Event) → o.report ≡ report
+        → (ForSome report (λ e. slice_get events (get_or counts place 0) ≡ Some e) → ⊥)
+        → IsStop top streams (take (n + 1) acts) stop.Differs
+    differs_by None reports other = absurd (other (λ e none. absurd (none-some e none)))
+    differs_by (Some e) reports other =
+        subst (λ xs. IsSome (run top (pids_of streams) xs) × ¬ Passes top streams xs) more
+        (differs_more top streams (take n acts) s counts tags ps (get_or acts n d) o place e rising here p h reports
+        (λ next. other (λ x some. ap (λ es. slice_get es (get_or counts place 0)) (sym theirs) ∙ next ∙ some)))
+
+    -- it reports another event
+    pub differs_at : (ForSome o.report (λ e. slice_get events (get_or counts place 0) ≡ Some e) → ⊥)
+        → IsStop top streams (take (n + 1) acts) stop.Differs
+    differs_at other = differs_by o.report refl other
+
+    pair_same : (t : Tags) (sent : Option ℕ) (report : Option Event)
+        → pair_at t n (get_or acts n d) o.place ≡ pair_to n sent
+        → pair_to n (option_and report sent) ≡ (if is_some report then pair_at t n (get_or acts n d) o.place else [])
+    pair_same t sent None same = refl
+    pair_same t sent (Some e) same = sym same
+
+    -- it passes
+    pub passed_at : (counts' : List ℕ) (tags' : List (List ℕ)) (ps' : List (ℕ × ℕ)) (sent : Option ℕ)
+        → ForSome o.report (λ e. slice_get events (get_or counts place 0) ≡ Some e)
+        → counts' ≡ counts_with counts place o.report
+        → ((t : Tags) → tags ≡ map t pids → tags' ≡ map (tags_after t n (get_or acts n d) o.place) pids)
+        → ((t : Tags) → tags ≡ map t pids → pair_at t n (get_or acts n d) o.place ≡ pair_to n sent)
+        → ps' ≡ ps ++ pair_to n (option_and o.report sent)
+        → IsPassed top streams (take (n + 1) acts) o.after counts' tags' ps'
+    passed_at counts' tags' ps' sent next counting tagging pairing pairs =
+        let a = get_or acts n d in
+        let t : Tags = tags_of (take n acts) p.outcomes in
+        let had : tags ≡ map t pids = p.are_tags ∙ ap (map t) (sym are) in
+        let number : n ≡ length (take n acts) = sym (length-take-le n acts (omega arith)) in
+        let passed = passed_more top streams (take n acts) s counts tags ps a o place n tags' rising here number p h
+        (λ e some. ap (λ es. slice_get es (get_or counts place 0)) theirs ∙ next e some)
+        (tagging t had ∙ ap (map (tags_after t n a o.place)) are) in
+        let paired : ps ++ pair_of t n a o ≡ ps' =
+        ap (λ xs. ps ++ xs) (sym (pair_same t sent o.report (pairing t had)))
+        ∙ sym pairs in
+        subst (λ xs. IsPassed top streams xs o.after counts' tags' ps') more
+        (subst (λ xs. IsPassed top streams (take n acts ++ a ∷ []) o.after counts' tags' xs) paired
+        (subst (λ xs. IsPassed top streams (take n acts ++ a ∷ []) o.after xs tags' (ps ++ pair_of t n a o))
+        (sym counting) passed))

@@ -1,0 +1,311 @@
+-- Two stored runs are yeses by the definitions alone: each value that the definitions ask for is computed here.
+-- Nothing cites this file; it shows that what `check` is proved to owe of these bytes is what a reader expects.
+use Rattle.std.proofs.Common.{◌≡◌, ℕ, Bool, true, false, List, [], ◌∷◌, ◌++◌, length, Option, Some, None}
+use Rattle.std.proofs.Common.{refl, arith}
+use Rattle.std.specs.Prelude.{codes}
+use Rattle.std.specs.Fmt.{digits}
+use Rattle.std.specs.Option.{option_map_or}
+use Rattle.std.proofs.lemmas.List.Elements.{All-nil, All-cons}
+use Rattle.st_core.specs.declared.types.Pid.{Pid}
+use Rattle.st_core.specs.declared.types.Label.{Label}
+use Rattle.st_core.specs.declared.types.Token.{Token}
+use Rattle.st_core.specs.declared.types.Kind.{Kind}
+use Rattle.st_core.specs.declared.types.Kind.TheVariants as kind
+use Rattle.st_core.specs.declared.types.Event.{Event}
+use Rattle.st_core.specs.declared.types.Want.TheVariants as want
+use Rattle.st_core.specs.declared.types.Component.TheVariants as component
+use Rattle.st_core.specs.declared.types.Act.{Act}
+use Rattle.st_core.specs.declared.types.Act.TheVariants as act
+use Rattle.st_core.specs.Pid.{pid_on}
+use Rattle.st_core.specs.Step.{Outcome}
+use Rattle.st_core.specs.Run.{Stream, pids_of, run, stream}
+use Rattle.st_core.specs.Verdict.{Yes, IsVerdict}
+use Rattle.st_text.specs.Range.{FitsPid, FitsEvent, FitsToken}
+use Rattle.st_text.specs.Text.{spelling}
+use Rattle.st_commands.specs.Checked.{top, Spells, IsChecked, Judged}
+use Rattle.st_commands.proofs.OwedOutputs.{judgement}
+
+-- ---- values
+
+abbrev label_of : ℕ → Label
+label_of n = record { 0 = n }
+
+abbrev event_of : Kind → ℕ → ℕ → Pid → Option Pid → ℕ → Event
+event_of k prev this from to v =
+    record {
+      label = label_of 17;
+      kind = k;
+      serial = record { prev = prev; this = this };
+      from = from;
+      to =
+          to;
+      value = v;
+    }
+
+abbrev a : Pid
+a = pid_on 0 30
+
+abbrev b : Pid
+b = pid_on 0 31
+
+a_fits : FitsPid a
+a_fits = record { node = omega arith; number = omega arith }
+
+b_fits : FitsPid b
+b_fits = record { node = omega arith; number = omega arith }
+
+-- the outcomes of a run that there is
+abbrev outcomes_of : Option (List Outcome) → List Outcome
+outcomes_of o = option_map_or (λ os. os) o []
+
+-- ---- a traced print
+
+abbrev print_bytes : List ℕ
+print_bytes =
+    codes "seqtrace 1\nprocess <0.30.0>\n{seq_trace,17,{print,{0,1},<0.30.0>,[],7}}\nacts\n"
+    ++ codes "tracer <0.30.0> true\nset <0.30.0> label 17\nset <0.30.0> print true\nprint <0.30.0> 7\n"
+
+abbrev print_stream : Stream
+print_stream = record { pid = a; events = event_of kind.Print 0 1 a None 7 ∷ [] }
+
+abbrev print_streams : List Stream
+print_streams = print_stream ∷ []
+
+abbrev print_acts : List Act
+print_acts =
+    act.Tracer a true ∷ act.Set a (component.Label (label_of 17)) ∷ act.Set a (component.Print true) ∷ act.Print a 7
+    ∷ []
+
+printed_fits : FitsEvent (event_of kind.Print 0 1 a None 7)
+printed_fits =
+    record {
+      label = omega arith;
+      serial = record { prev = omega arith; this = omega arith };
+      from = a_fits;
+      to =
+          tt;
+      value = omega arith;
+    }
+
+print_spelled : Spells print_bytes print_streams (Some print_acts)
+unfolding digits
+print_spelled = record {
+  text = record {
+    bundle = record {
+      streams = record { draft = record { rising = (tt, tt); own = ((refl, tt), tt) }; listed = refl };
+      listed = refl;
+      fits = (
+        a_fits,
+        (
+          printed_fits,
+          (
+            tt,
+            (
+              a_fits,
+              ((a_fits, omega arith), ((a_fits, tt), ((a_fits, omega arith), tt))),
+            ),
+          ),
+        ),
+      );
+    };
+    spelled = refl;
+  };
+  within = record {
+    bytes = let size : length (spelling (record { streams = print_streams; acts = Some print_acts })) ≡ 160 = refl in
+        omega arith;
+    processes = omega arith;
+    events = omega arith;
+    acts = omega arith;
+  };
+}
+
+abbrev print_outcomes : List Outcome
+print_outcomes = outcomes_of (run top (pids_of print_streams) print_acts)
+
+print_verdict : IsVerdict top print_streams print_acts (Yes [])
+print_verdict =
+    let Reports = λ (x : Stream). stream print_acts print_outcomes x.pid ≡ x.events in
+    (print_outcomes, refl, All-cons Reports print_stream [] refl (All-nil Reports), refl)
+
+print_is_yes : IsChecked print_bytes (record { text = codes "yes\n"; status = 0 })
+print_is_yes =
+    Judged print_bytes (Yes []) (judgement print_bytes print_streams print_acts (Yes []) print_spelled print_verdict)
+
+-- ---- two receives whose sends nobody reported
+
+abbrev hidden_bytes : List ℕ
+hidden_bytes =
+    codes "seqtrace 1\nprocess <0.30.0>\n{seq_trace,17,{print,{0,1},<0.30.0>,[],7}}\n"
+    ++ codes "{seq_trace,17,{'receive',{2,4},<0.31.0>,<0.30.0>,6}}\nprocess <0.31.0>\n"
+    ++ codes "{seq_trace,17,{'receive',{0,2},<0.30.0>,<0.31.0>,5}}\n"
+    ++ codes "{seq_trace,17,{print,{2,3},<0.31.0>,[],8}}\nacts\ntracer <0.30.0> true\n"
+    ++ codes "restore <0.30.0> 17 false false true 0 0 <0.30.0>\nprint <0.30.0> 7\n"
+    ++ codes "restore <0.30.0> 17 false true false 0 0 <0.30.0>\nsend <0.30.0> <0.31.0> 5\n"
+    ++ codes "receive <0.31.0> place 0\nrestore <0.31.0> 17 false false true 0 0 <0.31.0>\nprint <0.31.0> 8\n"
+    ++ codes "restore <0.31.0> 17 false true false 0 0 <0.31.0>\nsend <0.31.0> <0.30.0> 6\n"
+    ++ codes "receive <0.30.0> place 0\n"
+
+abbrev token_of : Bool → Bool → Pid → Token
+token_of r p from =
+    record {
+      label = label_of 17;
+      flags = record { send = false; receive = r; print = p };
+      serial =
+          record { prev = 0; this = 0 };
+      from = from;
+    }
+
+abbrev a_stream : Stream
+a_stream = record { pid = a; events = event_of kind.Print 0 1 a None 7 ∷ event_of kind.Receive 2 4 b (Some a) 6 ∷ [] }
+
+abbrev b_stream : Stream
+b_stream = record { pid = b; events = event_of kind.Receive 0 2 a (Some b) 5 ∷ event_of kind.Print 2 3 b None 8 ∷ [] }
+
+abbrev hidden_streams : List Stream
+hidden_streams = a_stream ∷ b_stream ∷ []
+
+abbrev hidden_acts : List Act
+hidden_acts =
+    act.Tracer a true ∷ act.Restore a (token_of false true a) ∷ act.Print a 7 ∷ act.Restore a (token_of true false a)
+    ∷ act.Send a b 5
+    ∷ act.Receive b (want.Place 0) ∷ act.Restore b (token_of false true b) ∷ act.Print b 8
+    ∷ act.Restore b (token_of true false b) ∷ act.Send b a 6
+    ∷ act.Receive a (want.Place 0) ∷ []
+
+a_token_fits : (r p : Bool) → FitsToken (token_of r p a)
+a_token_fits r p =
+    record { label = omega arith; serial = record { prev = omega arith; this = omega arith }; from = a_fits }
+
+b_token_fits : (r p : Bool) → FitsToken (token_of r p b)
+b_token_fits r p =
+    record { label = omega arith; serial = record { prev = omega arith; this = omega arith }; from = b_fits }
+
+got_6_fits : FitsEvent (event_of kind.Receive 2 4 b (Some a) 6)
+got_6_fits =
+    record {
+      label = omega arith;
+      serial = record { prev = omega arith; this = omega arith };
+      from = b_fits;
+      to =
+          a_fits;
+      value = omega arith;
+    }
+
+got_5_fits : FitsEvent (event_of kind.Receive 0 2 a (Some b) 5)
+got_5_fits =
+    record {
+      label = omega arith;
+      serial = record { prev = omega arith; this = omega arith };
+      from = a_fits;
+      to =
+          b_fits;
+      value = omega arith;
+    }
+
+printed_8_fits : FitsEvent (event_of kind.Print 2 3 b None 8)
+printed_8_fits =
+    record {
+      label = omega arith;
+      serial = record { prev = omega arith; this = omega arith };
+      from = b_fits;
+      to =
+          tt;
+      value = omega arith;
+    }
+
+hidden_spelled : Spells hidden_bytes hidden_streams (Some hidden_acts)
+unfolding digits
+hidden_spelled = record {
+  text = record {
+    bundle = record {
+      streams = record {
+        draft = record {
+          rising = ((refl, tt), (tt, tt));
+          own =
+              ((refl, (refl, tt)), ((refl, (refl, tt)), tt));
+        };
+        listed = refl;
+      };
+      listed = refl;
+      fits = (
+        a_fits,
+        (
+          printed_fits,
+          (
+            got_6_fits,
+            (
+              b_fits,
+              (
+                got_5_fits,
+                (
+                  printed_8_fits,
+                  (
+                    tt,
+                    (
+                      a_fits,
+                      (
+                        (a_fits, a_token_fits false true),
+                        (
+                          (a_fits, omega arith),
+                          (
+                            (a_fits, a_token_fits true false),
+                            (
+                              (a_fits, b_fits, omega arith),
+                              (
+                                (b_fits, omega arith),
+                                (
+                                  (b_fits, b_token_fits false true),
+                                  (
+                                    (b_fits, omega arith),
+                                    (
+                                      (b_fits, b_token_fits true false),
+                                      ((b_fits, a_fits, omega arith), ((a_fits, omega arith), tt)),
+                                    ),
+                                  ),
+                                ),
+                              ),
+                            ),
+                          ),
+                        ),
+                      ),
+                    ),
+                  ),
+                ),
+              ),
+            ),
+          ),
+        ),
+      );
+    };
+    spelled = refl;
+  };
+  within = record {
+    bytes = let size : length (spelling (record { streams = hidden_streams; acts = Some hidden_acts })) ≡ 597 =
+        refl in omega arith;
+    processes = omega arith;
+    events = omega arith;
+    acts = omega arith;
+  };
+}
+
+abbrev hidden_outcomes : List Outcome
+hidden_outcomes = outcomes_of (run top (pids_of hidden_streams) hidden_acts)
+
+abbrev hidden_pairs : List (ℕ × ℕ)
+hidden_pairs = (5, 4) ∷ (10, 9) ∷ []
+
+hidden_verdict : IsVerdict top hidden_streams hidden_acts (Yes hidden_pairs)
+hidden_verdict =
+    let Reports = λ (x : Stream). stream hidden_acts hidden_outcomes x.pid ≡ x.events in (
+      hidden_outcomes,
+      refl,
+      All-cons Reports a_stream (b_stream ∷ []) refl
+          (All-cons Reports b_stream [] refl (All-nil Reports)),
+      refl,
+    )
+
+hidden_is_yes : IsChecked hidden_bytes (record { text = codes "yes\npair 5 4\npair 10 9\n"; status = 0 })
+unfolding digits
+hidden_is_yes =
+    Judged hidden_bytes (Yes hidden_pairs)
+    (judgement hidden_bytes hidden_streams hidden_acts (Yes hidden_pairs) hidden_spelled hidden_verdict)

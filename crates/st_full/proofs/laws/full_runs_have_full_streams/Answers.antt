@@ -1,6 +1,0 @@
--- The lemma says it.
-use Rattle.st_full.proofs.Telling.{run_full}
-use Rattle.st_full.proofs.laws.full_runs_have_full_streams.Goals as goal
-
-pub returns : goal.returns
-returns c = run_full

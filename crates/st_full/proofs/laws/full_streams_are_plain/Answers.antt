@@ -1,6 +1,0 @@
--- The lemma says it.
-use Rattle.st_full.proofs.Plainness.{full_streams_plain}
-use Rattle.st_full.proofs.laws.full_streams_are_plain.Goals as goal
-
-pub returns : goal.returns
-returns c = full_streams_plain

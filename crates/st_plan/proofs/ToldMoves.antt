@@ -1,0 +1,149 @@
+-- Along an order of all that is there, in turn, the moves tell each process's told events: each is the next, told where
+-- it is told, and there is none that no move is of.
+use Rattle.std.proofs.Common.{◌≡◌, ℕ, zero, suc, ◌+◌, ◌<◌, ◌≤◌, Bool, true, false, cond, List, [], ◌∷◌, ◌++◌, length}
+use Rattle.std.proofs.Common.{take, Some, append_assoc, inl, inr, refl, sym, ◌∙◌, ap, subst, arith, if◌then◌else◌}
+use Rattle.std.specs.List.{slice_get}
+use Rattle.std.proofs.lemmas.Bool.{cases_lt}
+use Rattle.std.proofs.lemmas.List.{append-nil, take_all}
+use Rattle.std.proofs.lemmas.Option.{same_Some, none-some}
+use Rattle.st_core.specs.declared.types.Pid.{Pid}
+use Rattle.st_core.specs.declared.types.Event.{Event}
+use Rattle.st_core.specs.Pid.{pid_eq}
+use Rattle.st_core.specs.Run.{Stream}
+use Rattle.st_core.specs.Streams.{events_of}
+use Rattle.st_core.proofs.ForCallers.{pid_same, pid_eq-refl}
+use Rattle.st_pair.specs.Places.{event_at}
+use Rattle.st_order.specs.declared.item.Item.{Item}
+use Rattle.st_order.specs.declared.item.Item.TheVariants as item
+use Rattle.st_plan.specs.Marks.{told_from, Marks}
+use Rattle.st_plan.specs.Moves.{Move, move_by}
+use Rattle.st_plan.specs.Plain.{told, told_all, told_by}
+use Rattle.st_plan.proofs.EarlierMoves.{IsAt}
+use Rattle.st_plan.proofs.FreeMoves.{AllAlong, IsInTurn}
+use Rattle.st_plan.proofs.Clocks.{one_by, IsNext}
+
+-- the told ones of one event more
+told_more : (told : ℕ → Bool) (i : ℕ) (es : List Event) (n : ℕ) (e : Event) → slice_get es n ≡ Some e
+    → told_from told i (take (suc n) es)
+    ≡ told_from told i (take n es) ++ (if told (i + n) then e ∷ [] else [])
+told_more told i [] n e at = absurd (none-some e at)
+told_more told i (d ∷ es) zero e at =
+    let here : i ≡ i + 0 = omega arith in
+    ap (λ (x : Event). let xs : List Event = cond (told i) (x ∷ []) [] in xs) (same_Some d e at)
+    ∙ ap (λ k. let xs : List Event = cond (told k) (e ∷ []) [] in xs) here
+told_more told i (d ∷ es) (suc n) e at =
+    let next : i + 1 + n ≡ i + suc n = omega arith in
+    let one = λ (k : ℕ). let xs : List Event = if told k then e ∷ [] else [] in xs in
+    let before = told_from told (i + 1) (take n es) in
+    let rest : told_from told (i + 1) (take (suc n) es) ≡ before ++ one (i + suc n) =
+    told_more told (i + 1) es n e at ∙ ap (λ k. before ++ one k) next in
+    let after = told_from told (i + 1) (take (suc n) es) in
+    elim (told i) as (λ b. cond b (d ∷ after) after ≡ cond b (d ∷ before) before ++ one (i + suc n)) [
+      | true ↦ ap (λ xs. d ∷ xs) rest
+      | false ↦ rest
+    ]
+
+-- what p tells of its first n events
+abbrev told_first : List Stream → Marks → Pid → ℕ → List Event
+told_first streams marks p n = told_from (marks p) 0 (take n (events_of streams p))
+
+tell_by : (streams : List Stream) (marks : Marks) (earlier : List Move) (p : Pid) (x : Item) (e : Event)
+    → IsAt streams x e → IsInTurn earlier x → told_first streams marks p (told p earlier + one_by p x)
+    ≡ told_first streams marks p (told p earlier) ++ told_by marks p (move_by x e)
+tell_by streams marks earlier p (item.Hidden q i) e at turn =
+    let same : told p earlier + 0 ≡ told p earlier = omega arith in
+    ap (told_first streams marks p) same
+    ∙ sym (append-nil (told_first streams marks p (told p earlier)))
+tell_by streams marks earlier p (item.Reported q i) e at turn =
+    let es = events_of streams p in
+    let n = told p earlier in
+    let whole = told_first streams marks p in
+    elim (pid_eq q p) as (λ b. pid_eq q p ≡ b
+    → whole (n + cond b 1 0) ≡ whole n ++ cond b (cond (marks q i) (e ∷ []) []) []) [
+      | true ↦ λ same.
+          let who = pid_same q p same in
+          let count = turn in
+          let index : i ≡ n = sym count ∙ ap (λ r. told r earlier) who in
+          let here : slice_get es n ≡ Some e =
+          ap (slice_get es) (sym index) ∙ ap (λ r. event_at streams r i) (sym who) ∙ at in
+          let more : n + 1 ≡ suc n = omega arith in
+          let number : 0 + n ≡ n = omega arith in
+          let place : marks p (0 + n) ≡ marks q i =
+          ap (marks p) (number ∙ sym index) ∙ ap (λ r. marks r i) (sym who) in
+          ap whole more ∙ told_more (marks p) 0 es n e here
+          ∙ ap (λ b. whole n ++ cond b (e ∷ []) []) place
+      | false ↦ λ other.
+          let same : n + 0 ≡ n = omega arith in
+          ap whole same ∙ sym (append-nil (whole n))
+    ] refl
+
+tell_along : (streams : List Stream) (marks : Marks) (p : Pid) (earlier ms : List Move)
+    → AllAlong (IsNext streams) earlier ms → told_first streams marks p (told p earlier + told p ms)
+    ≡ told_first streams marks p (told p earlier) ++ told_all marks p ms
+tell_along streams marks p earlier [] all =
+    let same : told p earlier + 0 ≡ told p earlier = omega arith in
+    ap (told_first streams marks p) same
+    ∙ sym (append-nil (told_first streams marks p (told p earlier)))
+tell_along streams marks p earlier (m ∷ ms) all =
+    let whole = told_first streams marks p in
+    let next = all.0 in
+    let rest = tell_along streams marks p (m ∷ earlier) ms all.1 in
+    let one = tell_by streams marks earlier p m.item m.event next.at next.turn in
+    let step : whole (told p earlier + one_by p m.item) ≡ whole (told p earlier) ++ told_by marks p m =
+    one ∙ ap (λ y. whole (told p earlier) ++ told_by marks p y) next.is in
+    let sum : told p earlier + (told p ms + one_by p m.item) ≡ told p earlier + one_by p m.item + told p ms =
+    omega arith in
+    ap whole sum
+    ∙ rest
+    ∙ ap (λ xs. xs ++ told_all marks p ms) step
+    ∙ append_assoc (whole (told p earlier)) (told_by marks p m) (told_all marks p ms)
+
+-- a reported item that comes later has an index below the count at the end
+index_low : (streams : List Stream) (p : Pid) (i : ℕ) (earlier ms : List Move) → AllAlong (IsNext streams) earlier ms
+    → (n : ℕ) (m : Move) → slice_get ms n ≡ Some m → m.item ≡ item.Reported p i → i < told p earlier + told p ms
+index_low streams p i earlier [] all n m at is = absurd (none-some m at)
+index_low streams p i earlier (y ∷ ms) all zero m at is =
+    let same : y ≡ m = same_Some y m at in
+    let item_is : y.item ≡ item.Reported p i = ap (λ (z : Move). z.item) same ∙ is in
+    let count : told p earlier ≡ i = subst (IsInTurn earlier) item_is all.0.turn in
+    let one : one_by p y.item ≡ 1 =
+    ap (one_by p) item_is ∙ ap (λ b. let k : ℕ = if b then 1 else 0 in k) (pid_eq-refl p) in
+    let total : told p (y ∷ ms) ≡ told p ms + one_by p y.item = refl in
+    omega arith
+index_low streams p i earlier (y ∷ ms) all (suc n) m at is =
+    let rest = index_low streams p i (y ∷ earlier) ms all.1 n m at is in
+    let grown : told p (y ∷ earlier) ≡ told p earlier + one_by p y.item = refl in
+    let total : told p (y ∷ ms) ≡ told p ms + one_by p y.item = refl in
+    omega arith
+
+at_index : (es : List Event) (k : ℕ) → k < length es → (e : Event) × (slice_get es k ≡ Some e)
+at_index [] k less = absurd (omega arith)
+at_index (e ∷ es) zero less = (e, refl)
+at_index (e ∷ es) (suc k) less = at_index es k (omega arith)
+
+-- each event of p is that of one of these moves
+abbrev pub AreMoved : List Stream → Pid → List Move → Type 0
+AreMoved streams p ms = (i : ℕ) (e : Event) → event_at streams p i ≡ Some e
+    → (n : ℕ) × (m : Move) × (slice_get ms n ≡ Some m) × (m.item ≡ item.Reported p i)
+
+no_more : (streams : List Stream) (p : Pid) (ms : List Move) → AllAlong (IsNext streams) [] ms → AreMoved streams p ms
+    → told p ms < length (events_of streams p) → ⊥
+no_more streams p ms all whole less =
+    let next = at_index (events_of streams p) (told p ms) less in
+    let place = whole (told p ms) next.0 next.1 in
+    let low = index_low streams p (told p ms) [] ms all place.0 place.1 place.2 place.3 in
+    omega arith
+
+-- if each event of p is among the moves, they tell all the told ones
+pub tells_all : (streams : List Stream) (marks : Marks) (p : Pid) (ms : List Move) → AllAlong (IsNext streams) [] ms
+    → AreMoved streams p ms → told_all marks p ms ≡ told_from (marks p) 0 (events_of streams p)
+tells_all streams marks p ms all whole =
+    let es = events_of streams p in
+    let tell = tell_along streams marks p [] ms all in
+    let enough : length es ≤ told p ms = elim (cases_lt (told p ms) (length es)) [
+      | inr least ↦ least
+      | inl less ↦ absurd (no_more streams p ms all whole less)
+    ] in
+    let same : 0 + told p ms ≡ told p ms = omega arith in
+    sym tell ∙ ap (told_first streams marks p) same
+    ∙ ap (told_from (marks p) 0) (take_all (told p ms) es enough)

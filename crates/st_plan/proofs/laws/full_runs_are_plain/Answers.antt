@@ -1,0 +1,6 @@
+-- The lemma says it.
+use Rattle.st_plan.proofs.Plainness.{full_plain}
+use Rattle.st_plan.proofs.laws.full_runs_are_plain.Goals as goal
+
+pub returns : goal.returns
+returns c = full_plain

@@ -1,0 +1,6 @@
+-- The lemma says it.
+use Rattle.st_plan.proofs.FullRuns.{run_full}
+use Rattle.st_plan.proofs.laws.full_runs_have_full_streams.Goals as goal
+
+pub returns : goal.returns
+returns c = run_full
