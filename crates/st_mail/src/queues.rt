@@ -99,10 +99,8 @@ impl Queues {
         ensures pushed { OnOk result (
             self.new.lists ≡ slice_set self.old.lists queue (list_at self.old queue ++ message ∷ [])) }
         ensures succeeds { 0 < self.old.spare → IsOk result }
-        ensures lists_stay { OnErr result (self.new.lists ≡ self.old.lists) }
-        ensures spare { self.old.spare ≤ self.new.spare + 1 }
         ensures had_room { 0 < self.old.spare → self.old.spare ≡ self.new.spare + 1 }
-        ensures spare_stays { OnErr result (self.old.spare ≤ self.new.spare) }
+        ensures lists_stay { OnErr result (self.new.lists ≡ self.old.lists) }
     {
         self.reserve(1)?;
         self.push_reserved(queue, message);
