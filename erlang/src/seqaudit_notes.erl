@@ -78,6 +78,7 @@ collected(#{facts := Facts} = Collection) ->
                     {strays, "~ts: ~b messages to the collector were no trace events"},
                     {left, "~ts: ~b bytes of the file are cut or damaged, and were left out"}],
                known(Kind, Collection) > 0]
+        ++ pauses(Node, Facts)
         ++ written_over(Node, Collection)
         ++ tracer(Node, maps:get(tracer, Facts, put_back)).
 
@@ -122,6 +123,12 @@ why(Why) ->
         [{atom, <<"fell_behind">>}] ->
             "events came faster than they could be written without runtime_tools; what came until "
                 "then is here";
+        [{atom, <<"fell_behind">>}, _] ->
+            text("events came faster than they could be written, ~ts times",
+                 [reason(lists:last(parts(Why)))]);
+        [{atom, <<"unwatched">>}, _] ->
+            text("the process that bounds the memory of the trace port ended (~ts)",
+                 [reason(lists:last(parts(Why)))]);
         [{atom, <<"owner_out_of_reach">>}] ->
             "the node that led the collection was out of reach for too long";
         [{atom, <<"owner">>}, _] ->
@@ -144,11 +151,34 @@ split(Node, #{split := Split}) ->
     case [seqaudit_external:number(Part) || Part <- parts(Split)] of
         [Times, Milliseconds] when is_integer(Times), is_integer(Milliseconds) ->
             [text("~ts: the connection was lost ~ts, for ~b ms in all; collecting went on",
-                  [Node, case Times of 1 -> "once"; _ -> text("~b times", [Times]) end, Milliseconds])];
+                  [Node, times(Times), Milliseconds])];
         _ -> []
     end;
 split(_Node, _Facts) ->
     [].
+
+%% The tracer was off while the port was behind.
+pauses(Node, #{pauses := {Times, Lasted, First}}) ->
+    [text("~ts: events came faster than they could be written, so the tracer was off ~ts, for ~ts "
+          "ms in all, and what happened meanwhile is lost (it can't be counted): ~ts~ts",
+          [Node, times(Times), seqaudit_explain:number(Lasted),
+           lists:join(", ", lists:map(fun pause/1, First)),
+           case Times - length(First) of
+               More when More > 0 -> [", and ", times(More), " more"];
+               _ -> ""
+           end])];
+pauses(_Node, _Facts) ->
+    [].
+
+times(1) -> "once";
+times(Times) -> [seqaudit_explain:number(Times), " times"].
+
+pause({Since, open}) -> ["from ", moment(Since), " to the end"];
+pause({Since, Lasted}) -> text("at ~ts for ~b ms", [moment(Since), Lasted]).
+
+moment(Since) ->
+    string:replace(calendar:system_time_to_rfc3339(Since, [{unit, millisecond}, {offset, "Z"},
+                                                           {time_designator, $\s}]), "Z", " UTC").
 
 written_over(Node, Collection) ->
     case over(Collection) of

@@ -1,0 +1,159 @@
+%% @doc Bounds what a trace port holds in memory.
+%%
+%% Traced processes don't wait for the port: what it hasn't written yet is held as binaries. It answers
+%% a question once it has written what came before. So if an answer is late, and the node's binaries
+%% have grown meanwhile, the port has fallen behind. Then the tracer is taken off until the port answers
+%% in time again. All that it was given is written. How many events come in such a pause nobody can know,
+%% so the folder's facts say when it began and how long it took.
+%%
+%% Two processes do this, and run before others: one waits for the port, and the other one for nothing.
+%% Both end with the collector.
+-module(seqaudit_watch).
+
+-export([start/2, stop/1, failure/2]).
+-export_type([watch/0, pauses/0]).
+
+%% The port is asked again after this time, and an answer that takes longer is late.
+-define(LOOK_MS, 20).
+%% The port is behind if the node's binaries have grown by so many bytes since it was last in time.
+-define(BEHIND_BYTES, 33_554_432).
+%% To ask how much they take costs each scheduler a moment. It is done if something came to the port,
+%% and else after so many answers.
+-define(ANSWERS, 50).
+%% After so many pauses the tracer stays off.
+-define(MOST_PAUSES, 1_000).
+%% So many pauses are noted one by one.
+-define(LISTED, 10).
+
+-opaque watch() :: pid().
+
+-type pauses() :: {Times :: non_neg_integer(), Milliseconds :: non_neg_integer(),
+                 First :: [{Since :: non_neg_integer(), Milliseconds :: non_neg_integer() | open}]}.
+%% How often the tracer was off, for how long in all, and the first pauses: when each began, in
+%% milliseconds since 1970, and how long it was, if it has ended.
+
+-record(state, {port :: port(),
+                folder :: file:filename(),
+                collector :: pid(),
+                asker :: pid(),
+                %% What the port had written, and what the binaries took, when it was last in time.
+                written = 0 :: non_neg_integer(),
+                binaries :: non_neg_integer(),
+                answers = 0 :: non_neg_integer(),
+                off = no :: no | {Since :: non_neg_integer(), Monotonic :: integer()},
+                pauses = {0, 0, []} :: pauses()}).
+
+%% @doc Begins to watch a trace port of the caller, which writes to this folder.
+-spec start(port(), file:filename()) -> watch().
+start(Port, Folder) ->
+    Collector = self(),
+    spawn_opt(fun() ->
+                      Asker = spawn_opt(fun() -> ask_on(Port) end, [link, {priority, high}]),
+                      look(#state{port = Port, folder = Folder, collector = Collector,
+                                  asker = Asker, binaries = erlang:memory(binary)})
+              end, [link, {priority, high}]).
+
+%% @doc Ends it. Whether the tracer is off because the port was behind, as far as is known.
+-spec stop(watch()) -> boolean().
+stop(Watch) ->
+    seqaudit_scribe:closed(Watch, true).
+
+%% @doc Whether this message to the collector says that the tracer has to stay off.
+-spec failure(term(), watch()) -> {failed, term()} | none.
+failure({?MODULE, Watch, Reason}, Watch) -> {failed, Reason};
+failure({'EXIT', Watch, Reason}, Watch) -> {failed, {unwatched, Reason}};
+failure(_, _) -> none.
+
+%% The port's answer is how many bytes it has written.
+ask_on(Port) ->
+    receive
+        {ask, Watch} ->
+            Watch ! {self(), erlang:port_info(Port, output)},
+            ask_on(Port)
+    end.
+
+look(#state{asker = Asker} = State) ->
+    Asker ! {ask, self()},
+    await(in_time, State).
+
+await(When, #state{asker = Asker} = State) ->
+    receive
+        {Asker, {output, Written}} -> rest(answered(When, Written, State));
+        {Asker, undefined} -> await_end(State);
+        {close, From, Closed} -> close(From, Closed, State)
+    after ?LOOK_MS ->
+        late(State)
+    end.
+
+rest(State) ->
+    receive
+        {close, From, Closed} -> close(From, Closed, State)
+    after ?LOOK_MS ->
+        look(State)
+    end.
+
+%% There is nothing more to watch.
+await_end(State) ->
+    receive
+        {close, From, Closed} -> close(From, Closed, State)
+    end.
+
+close(From, Closed, #state{off = Off} = State) ->
+    _ = pause_ended(State),
+    unlink(From),
+    From ! {Closed, Off =/= no},
+    ok.
+
+answered(late, _Written, State) ->
+    State;
+answered(in_time, Written, #state{off = no, written = Written, answers = Answers} = State)
+  when Answers < ?ANSWERS ->
+    State#state{answers = Answers + 1};
+answered(in_time, Written, State) ->
+    On = put_on(State),
+    On#state{written = Written, answers = 0, binaries = erlang:memory(binary)}.
+
+late(#state{off = no, binaries = Before} = State) ->
+    case erlang:memory(binary) - Before > ?BEHIND_BYTES of
+        true -> behind(take_off(State));
+        false -> await(late, State)
+    end;
+late(State) ->
+    await(late, State).
+
+behind(#state{pauses = {?MOST_PAUSES, _, _}} = State) ->
+    State#state.collector ! {?MODULE, self(), {fell_behind, ?MOST_PAUSES}},
+    await_end(State);
+behind(State) ->
+    await(late, State).
+
+%% A tracer that somebody else put in the port's place stays there.
+take_off(#state{port = Port, pauses = {Times, Lasted, First}} = State) ->
+    case seq_trace:get_system_tracer() of
+        Port ->
+            _ = seq_trace:set_system_tracer(false),
+            Since = erlang:system_time(millisecond),
+            Listed = First ++ [{Since, open} || Times < ?LISTED],
+            noted(State#state{off = {Since, erlang:monotonic_time(millisecond)},
+                              pauses = {Times + 1, Lasted, Listed}});
+        _ ->
+            State
+    end.
+
+put_on(#state{off = no} = State) ->
+    State;
+put_on(#state{port = Port} = State) ->
+    %% The port may be gone.
+    _ = seq_trace:get_system_tracer() =:= false andalso (catch seq_trace:set_system_tracer(Port)),
+    pause_ended(State).
+
+pause_ended(#state{off = no} = State) ->
+    State;
+pause_ended(#state{off = {Since, Monotonic}, pauses = {Times, Lasted, First}} = State) ->
+    Took = erlang:monotonic_time(millisecond) - Monotonic,
+    Listed = lists:keyreplace(Since, 1, First, {Since, Took}),
+    noted(State#state{off = no, pauses = {Times, Lasted + Took, Listed}}).
+
+noted(#state{folder = Folder, pauses = Pauses} = State) ->
+    _ = seqaudit_spool:note(Folder, #{pauses => Pauses}),
+    State.
