@@ -459,6 +459,7 @@ close(#state{by = closed, folder = Folder} = State) ->
 close(#state{by = {port, Port}} = State) ->
     Written = written(Port),
     _ = (catch erlang:port_control(Port, $f, "")),
+    unlink(Port),
     _ = (catch port_close(Port)),
     close(State#state{by = closed, written = Written});
 close(#state{by = {scribe, _}} = State) ->

@@ -27,9 +27,9 @@ handle_cast(Request, Fun) ->
 print(Label, What) ->
     seqaudit_trace:with_trace(Label, fun() -> seq_trace:print(What), ok end).
 
-%% Prints so many messages of a megabyte each, faster than a port writes them.
+%% Prints so many messages of 32 KB in a moment.
 flood(Times) ->
-    Large = binary:copy(<<0>>, 1_048_576),
+    Large = binary:copy(<<0>>, 32_768),
     seqaudit_trace:with_trace(1, fun() -> [seq_trace:print(Large) || _ <- lists:seq(1, Times)] end),
     ok.
 
