@@ -11,6 +11,8 @@
 -define(LISTED, 50).
 %% Reasons come from files, so little of them is shown.
 -define(REASON, 200).
+%% A byte that says what it is, and four with the size.
+-define(BEFORE_EVENT, 5).
 
 -type sizes() :: #{bytes | processes | events => non_neg_integer()}.
 
@@ -36,14 +38,15 @@ known(Kind, #{facts := Facts} = Collection) ->
     count(Kind, Facts) + count(Kind, Collection).
 
 %% The bytes that a port wrote over, and about how many events they were: all that came to the port
-%% without what its files have.
+%% without what its files have. The port counts an event without what stands before it in a file.
 over(#{facts := #{by := port, written := Written, came := Came, kept := Kept, kept_bytes := Size,
-                  cut := Cut}}) when Written > Came + Cut ->
-    Over = Written - Came - Cut,
-    {Over, case Size of
-               0 -> 0;
-               _ -> max(1, Over * Kept div Size)
-           end};
+                  cut := Cut} = Facts}) ->
+    Over = Written + ?BEFORE_EVENT * (Kept + count(dropped_here, Facts)) - Came - Cut,
+    case Size - ?BEFORE_EVENT * Kept of
+        _ when Over =< 0 -> {0, 0};
+        Bytes when Bytes > 0 -> {Over, max(1, Over * Kept div Bytes)};
+        _ -> {Over, 0}
+    end;
 over(_) ->
     {0, 0}.
 

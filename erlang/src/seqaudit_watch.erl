@@ -13,13 +13,16 @@
 -export([start/2, stop/1, failure/2]).
 -export_type([watch/0, pauses/0]).
 
-%% The port is asked again after this time, and an answer that takes longer is late.
+%% An answer that takes longer is late. If much came to the port it is asked again after this time.
 -define(LOOK_MS, 20).
+%% If less came, asking so often would cost a node that is hardly traced more than tracing does.
+-define(BUSY_BYTES, 1_048_576).
+-define(QUIET_MS, 100).
 %% The port is behind if the node's binaries have grown by so many bytes since it was last in time.
 -define(BEHIND_BYTES, 33_554_432).
-%% To ask how much they take costs each scheduler a moment. It is done if something came to the port,
-%% and else after so many answers.
--define(ANSWERS, 50).
+%% To ask how much they take costs each scheduler a moment. It is done if much came to the port, and
+%% else after so many answers.
+-define(ANSWERS, 10).
 %% After so many pauses the tracer stays off.
 -define(MOST_PAUSES, 1_000).
 %% So many pauses are noted one by one.
@@ -40,6 +43,7 @@
                 written = 0 :: non_neg_integer(),
                 binaries :: non_neg_integer(),
                 answers = 0 :: non_neg_integer(),
+                rest = ?LOOK_MS :: ?LOOK_MS | ?QUIET_MS,
                 off = no :: no | {Since :: non_neg_integer(), Monotonic :: integer()},
                 pauses = {0, 0, []} :: pauses()}).
 
@@ -85,10 +89,10 @@ await(When, #state{asker = Asker} = State) ->
         late(State)
     end.
 
-rest(State) ->
+rest(#state{rest = Rest} = State) ->
     receive
         {close, From, Closed} -> close(From, Closed, State)
-    after ?LOOK_MS ->
+    after Rest ->
         look(State)
     end.
 
@@ -105,13 +109,13 @@ close(From, Closed, #state{off = Off} = State) ->
     ok.
 
 answered(late, _Written, State) ->
-    State;
-answered(in_time, Written, #state{off = no, written = Written, answers = Answers} = State)
-  when Answers < ?ANSWERS ->
-    State#state{answers = Answers + 1};
+    State#state{rest = ?LOOK_MS};
+answered(in_time, Written, #state{off = no, written = Before, answers = Answers} = State)
+  when Written - Before < ?BUSY_BYTES, Answers < ?ANSWERS ->
+    State#state{written = Written, answers = Answers + 1, rest = ?QUIET_MS};
 answered(in_time, Written, State) ->
     On = put_on(State),
-    On#state{written = Written, answers = 0, binaries = erlang:memory(binary)}.
+    On#state{written = Written, answers = 0, binaries = erlang:memory(binary), rest = ?LOOK_MS}.
 
 late(#state{off = no, binaries = Before} = State) ->
     case erlang:memory(binary) - Before > ?BEHIND_BYTES of

@@ -76,7 +76,7 @@ written_over_test() ->
     ok = seqaudit_trace:start(#{name => Name, bytes => 65_536}),
     seqaudit_trace:with_trace(1, fun() -> [seq_trace:print({number, K}) || K <- lists:seq(1, 20_000)] end),
     {ok, #{events := Events, dropped := Dropped}} = seqaudit_trace:stop(),
-    true = abs(Events + Dropped - 20_000) < 2_000,
+    true = abs(Events + Dropped - 20_000) < 500,
     {ok, [#{events := Kept}]} = seqaudit_events:read(Name ++ ".events"),
     {seq_trace, 1, {print, _, _, _, {number, 20_000}}} = lists:last(Kept),
     {seq_trace, 1, {print, _, _, _, {number, First}}} = hd(Kept),
