@@ -68,6 +68,7 @@
                 former :: tracer(),
                 by :: {port, port()} | {scribe, seqaudit_scribe:scribe()} | closed,
                 watch = none :: none | seqaudit_watch:watch(),
+                paused = #{} :: seqaudit_spool:facts(),
                 buffer = {0, []} :: {non_neg_integer(), iolist()},
                 %% Bytes of all events, kept or dropped, if the collector itself is the tracer.
                 came = 0 :: non_neg_integer(),
@@ -427,8 +428,11 @@ named_late(#state{processes = Known} = State) ->
 %% none because the port is behind, or gone.
 take_off(#state{tracer = on, by = By, watch = Watch, former = Former} = State) ->
     ok = release_trigger(State),
-    Behind = Watch =/= none andalso seqaudit_watch:stop(Watch),
-    State#state{watch = none,
+    {Behind, Paused} = case Watch of
+                           none -> {false, #{}};
+                           _ -> seqaudit_watch:stop(Watch)
+                       end,
+    State#state{watch = none, paused = Paused,
                 tracer = case {seq_trace:get_system_tracer(), By} of
                              {Port, {port, Port}} -> put_back(Former);
                              {Self, _} when Self =:= self() -> put_back(Former);
@@ -475,9 +479,10 @@ written(Port) ->
     end.
 
 last_facts(State) ->
-    Facts = #{written => State#state.written, dropped => State#state.dropped,
-              strays => State#state.strays, tracer => State#state.tracer,
-              processes => (named_late(State))#state.processes},
+    Paused = State#state.paused,
+    Facts = Paused#{written => State#state.written, dropped => State#state.dropped,
+                    strays => State#state.strays, tracer => State#state.tracer,
+                    processes => (named_late(State))#state.processes},
     case State#state.ended of
         no -> Facts;
         Ended -> Facts#{ended => Ended}

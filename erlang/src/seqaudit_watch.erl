@@ -1,13 +1,14 @@
 %% @doc Bounds what a trace port holds in memory.
 %%
-%% Traced processes don't wait for the port: what it hasn't written yet is held as binaries. It answers
-%% a question once it has written what came before. So if an answer is late, and the node's binaries
-%% have grown meanwhile, the port has fallen behind. Then the tracer is taken off until the port answers
-%% in time again. All that it was given is written. How many events come in such a pause nobody can know,
-%% so the folder's facts say when it began and how long it took.
+%% Traced processes don't wait for the port: what it hasn't written yet is held as binaries. It
+%% answers a question once it has written what came before. So if an answer is late, and the node's
+%% binaries have grown meanwhile, the port has fallen behind. Then the tracer is taken off, the port
+%% is asked again, and when it answers the tracer is put on. So all that the port was given is
+%% written. How many events come in such a pause nobody can know; the folder's facts say when it
+%% began and how long it took.
 %%
-%% Two processes do this, and run before others: one waits for the port, and the other one for nothing.
-%% Both end with the collector.
+%% Two processes do this, and run before others: one waits for the port, and the other one for
+%% nothing. Both end with the collector.
 -module(seqaudit_watch).
 
 -export([start/2, stop/1, failure/2]).
@@ -57,10 +58,10 @@ start(Port, Folder) ->
                                   asker = Asker, binaries = erlang:memory(binary)})
               end, [link, {priority, high}]).
 
-%% @doc Ends it. Whether the tracer is off because the port was behind, as far as is known.
--spec stop(watch()) -> boolean().
+%% @doc Ends it. Whether the tracer may be off because the port was behind, and the facts of that.
+-spec stop(watch()) -> {boolean(), #{pauses => pauses()}}.
 stop(Watch) ->
-    seqaudit_scribe:closed(Watch, true).
+    seqaudit_scribe:closed(Watch, {true, #{}}).
 
 %% @doc Whether this message to the collector says that the tracer has to stay off.
 -spec failure(term(), watch()) -> {failed, term()} | none.
@@ -73,20 +74,23 @@ ask_on(Port) ->
     receive
         {ask, Watch} ->
             Watch ! {self(), erlang:port_info(Port, output)},
-            ask_on(Port)
+            ask_on(Port);
+        close ->
+            ok
     end.
 
-look(#state{asker = Asker} = State) ->
+look(#state{asker = Asker, off = Off} = State) ->
     Asker ! {ask, self()},
-    await(in_time, State).
+    await(case Off of no -> in_time; _ -> off end, State).
 
-await(When, #state{asker = Asker} = State) ->
+%% The answer is in time yet, late, or one to a question that was asked while the tracer was off.
+await(Answer, #state{asker = Asker} = State) ->
     receive
-        {Asker, {output, Written}} -> rest(answered(When, Written, State));
+        {Asker, {output, Written}} -> rest(answered(Answer, Written, State));
         {Asker, undefined} -> await_end(State);
         {close, From, Closed} -> close(From, Closed, State)
     after ?LOOK_MS ->
-        late(State)
+        late(Answer, State)
     end.
 
 rest(#state{rest = Rest} = State) ->
@@ -102,10 +106,14 @@ await_end(State) ->
         {close, From, Closed} -> close(From, Closed, State)
     end.
 
-close(From, Closed, #state{off = Off} = State) ->
-    _ = pause_ended(State),
+close(From, Closed, #state{off = Off, asker = Asker} = State) ->
+    Asker ! close,
     unlink(From),
-    From ! {Closed, Off =/= no},
+    Facts = case pause_ended(State) of
+                #state{pauses = {0, _, _}} -> #{};
+                #state{pauses = Pauses} -> #{pauses => Pauses}
+            end,
+    From ! {Closed, {Off =/= no, Facts}},
     ok.
 
 answered(late, _Written, State) ->
@@ -113,17 +121,17 @@ answered(late, _Written, State) ->
 answered(in_time, Written, #state{off = no, written = Before, answers = Answers} = State)
   when Written - Before < ?BUSY_BYTES, Answers < ?ANSWERS ->
     State#state{written = Written, answers = Answers + 1, rest = ?QUIET_MS};
-answered(in_time, Written, State) ->
+answered(_, Written, State) ->
     On = put_on(State),
     On#state{written = Written, answers = 0, binaries = erlang:memory(binary), rest = ?LOOK_MS}.
 
-late(#state{off = no, binaries = Before} = State) ->
+late(_, #state{off = no, binaries = Before} = State) ->
     case erlang:memory(binary) - Before > ?BEHIND_BYTES of
         true -> behind(take_off(State));
         false -> await(late, State)
     end;
-late(State) ->
-    await(late, State).
+late(Answer, State) ->
+    await(Answer, State).
 
 behind(#state{pauses = {?MOST_PAUSES, _, _}} = State) ->
     State#state.collector ! {?MODULE, self(), {fell_behind, ?MOST_PAUSES}},
@@ -147,7 +155,8 @@ take_off(#state{port = Port, pauses = {Times, Lasted, First}} = State) ->
 put_on(#state{off = no} = State) ->
     State;
 put_on(#state{port = Port} = State) ->
-    %% The port may be gone.
+    %% The disk may be slow, so it is waited for while the tracer is off. The port may be gone.
+    _ = noted(pause_ended(State)),
     _ = seq_trace:get_system_tracer() =:= false andalso (catch seq_trace:set_system_tracer(Port)),
     pause_ended(State).
 
@@ -156,7 +165,7 @@ pause_ended(#state{off = no} = State) ->
 pause_ended(#state{off = {Since, Monotonic}, pauses = {Times, Lasted, First}} = State) ->
     Took = erlang:monotonic_time(millisecond) - Monotonic,
     Listed = lists:keyreplace(Since, 1, First, {Since, Took}),
-    noted(State#state{off = no, pauses = {Times, Lasted + Took, Listed}}).
+    State#state{off = no, pauses = {Times, Lasted + Took, Listed}}.
 
 noted(#state{folder = Folder, pauses = Pauses} = State) ->
     _ = seqaudit_spool:note(Folder, #{pauses => Pauses}),
