@@ -67,8 +67,13 @@ end_in_pause_test_() ->
         {ok, #{notes := Notes}} = seqaudit_trace:stop(),
         ok = one_note("so the tracer was off ", Notes),
         ok = no_note("took the collector's place", Notes),
-        false = erpc:call(There, seq_trace, get_system_tracer, [])
+        false = erpc:call(There, seq_trace, get_system_tracer, []),
+        unwatched(There)
     end).
+
+%% No process is left that looked at the port.
+unwatched(There) ->
+    seqaudit_test_nodes:until(fun() -> [] =:= erpc:call(There, seqaudit_test_server, running, [seqaudit_watch]) end).
 
 killed_in_pause_test_() ->
     flooded("killed_in_pause", fun(There, _, Port) ->
@@ -76,6 +81,7 @@ killed_in_pause_test_() ->
         seqaudit_test_nodes:until(fun() -> erpc:call(There, erlang, port_info, [Port]) =:= undefined end),
         receive after 300 -> ok end,
         false = erpc:call(There, seq_trace, get_system_tracer, []),
+        unwatched(There),
         {ok, #{notes := Notes}} = seqaudit_trace:stop(),
         ok = one_note("its collector went down (killed)", Notes),
         ok = one_note("so the tracer was off ", Notes)

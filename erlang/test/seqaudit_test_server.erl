@@ -2,7 +2,7 @@
 -module(seqaudit_test_server).
 -behaviour(gen_server).
 
--export([start/1, start/2, print/2, flood/1, load/2, without_runtime_tools/0, begin_shop/0, order/1,
+-export([start/1, start/2, print/2, flood/1, load/2, running/1, without_runtime_tools/0, begin_shop/0, order/1,
          shop_token/0, with_token/1, init/1, handle_call/3, handle_cast/2]).
 
 start(Fun) ->
@@ -64,6 +64,10 @@ write(Other, Numbers, End, Count) ->
 
 echo(To) ->
     receive Message -> To ! {back, Message}, echo(To) end.
+
+%% The processes that are in a function of the module.
+running(Module) ->
+    [Pid || Pid <- processes(), {_, {In, _, _}} <- [process_info(Pid, current_function)], In =:= Module].
 
 %% As if the node had no runtime_tools.
 without_runtime_tools() ->
