@@ -77,6 +77,12 @@ unwatched(There) ->
 
 killed_in_pause_test_() ->
     flooded("killed_in_pause", fun(There, _, Port) ->
+        [{_, Folder}] = seqaudit_trace:folders(),
+        seqaudit_test_nodes:until(fun() ->
+            {ok, true} =:= seqaudit_events:fold(Folder, fun({facts, #{pauses := _}}, _) -> true;
+                                                           (_, Noted) -> Noted
+                                                        end, false)
+        end),
         exit(erpc:call(There, erlang, whereis, [seqaudit_collector]), kill),
         seqaudit_test_nodes:until(fun() -> erpc:call(There, erlang, port_info, [Port]) =:= undefined end),
         receive after 300 -> ok end,
@@ -90,7 +96,7 @@ killed_in_pause_test_() ->
 %% Somebody else's tracer is left alone, by the port too when it has caught up.
 taken_in_pause_test_() ->
     flooded("taken_in_pause", fun(There, _, Port) ->
-        Own = erpc:call(There, seqaudit_test_server, start, [fun(X) -> X end]),
+        Own = erpc:call(There, erlang, spawn, [timer, sleep, [infinity]]),
         _ = erpc:call(There, seq_trace, set_system_tracer, [Own]),
         %% The port answers when it has caught up; then its watch looks again.
         {output, _} = erpc:call(There, erlang, port_info, [Port, output]),
