@@ -5,7 +5,8 @@
 %% minute. Events go to files of {@link seqaudit_spool} as they come, by one of two ways:
 %% <ul>
 %% <li>A trace port of `runtime_tools' writes wrapped files: once they have their total size, the
-%% oldest events are written over. How many bytes came is known, so what was lost is known too.</li>
+%% oldest events are written over. How many bytes came is known, so what was lost is known too.
+%% {@link seqaudit_watch} takes the tracer off while the port is behind, and notes when that was.</li>
 %% <li>If `runtime_tools' isn't there, the collector itself is the tracer. It has the first events
 %% written up to the total size and counts those beyond; {@link seqaudit_scribe} writes them, so that
 %% the collector is always back at its queue. It looks at that with each event, and takes itself off
@@ -66,6 +67,8 @@
                 trigger :: trigger() | none,
                 former :: tracer(),
                 by :: {port, port()} | {scribe, seqaudit_scribe:scribe()} | closed,
+                watch = none :: none | seqaudit_watch:watch(),
+                paused = #{} :: seqaudit_spool:facts(),
                 buffer = {0, []} :: {non_neg_integer(), iolist()},
                 %% Bytes of all events, kept or dropped, if the collector itself is the tracer.
                 came = 0 :: non_neg_integer(),
@@ -149,7 +152,7 @@ begin_tracing(#state{folder = Folder} = State, Options) ->
         ok = seqaudit_spool:note(Folder, first_facts(By, State)),
         _ = maps:get(reset, Options, false) andalso seq_trace:reset_trace(),
         _ = seq_trace:set_system_tracer(case By of {port, Port} -> Port; _ -> self() end),
-        Opened = State#state{by = By},
+        Opened = State#state{by = By, watch = watch(By, State)},
         case pull_trigger(State#state.trigger) of
             ok ->
                 erlang:send_after(?TICK_MS, self(), tick),
@@ -170,12 +173,16 @@ first_facts(By, #state{bytes = Bytes}) ->
       by => case By of {port, _} -> port; _ -> process end,
       clock => {erlang:time_offset(), erlang:convert_time_unit(1, second, native)}}.
 
-%% The port is made by whoever calls the function of `dbg', and ends with that process.
+%% The port is made by whoever calls the function of `dbg', and ends with that process. It can be
+%% watched if the node knows how much memory binaries take.
 open(true, #state{folder = Folder, bytes = Bytes} = State) ->
     {Base, Suffix} = seqaudit_spool:base(Folder),
     Size = max(1, Bytes div ?FILES),
-    try (dbg:trace_port(file, {Base, wrap, Suffix, Size, ?FILES}))() of
-        Port when is_port(Port) -> {port, Port}
+    try
+        _ = erlang:memory(binary),
+        Port = (dbg:trace_port(file, {Base, wrap, Suffix, Size, ?FILES}))(),
+        true = is_port(Port),
+        {port, Port}
     catch
         _:_ -> open(false, State)
     end;
@@ -183,6 +190,9 @@ open(false, #state{folder = Folder}) ->
     _ = process_flag(priority, high),
     {ok, Scribe} = seqaudit_scribe:open(Folder),
     {scribe, Scribe}.
+
+watch({port, Port}, #state{folder = Folder}) -> seqaudit_watch:start(Port, Folder);
+watch({scribe, _}, _State) -> none.
 
 %% Sets the token by a match specification, which sends no message. Calls are traced for this process,
 %% so that a killed collector leaves nothing that acts.
@@ -261,13 +271,15 @@ handle_info({'EXIT', Port, Reason}, #state{by = {port, Port}} = State) ->
     go_on(ended({disk, Reason}, (take_off(State))#state{by = closed}));
 handle_info({timeout, _, owner}, State) ->
     go_on(State);
-handle_info(Message, #state{by = {scribe, Scribe}} = State) ->
-    case seqaudit_scribe:failure(Message, Scribe) of
-        {failed, Reason} -> go_on(close(ended({disk, Reason}, take_off(State))));
+handle_info(Message, State) ->
+    case failure(Message, State) of
+        {failed, Why} -> go_on(close(ended(Why, take_off(State))));
         none -> stray(State)
-    end;
-handle_info(_Stray, State) ->
-    stray(State).
+    end.
+
+failure(Message, #state{by = {scribe, Scribe}}) -> seqaudit_scribe:failure(Message, Scribe);
+failure(_Message, #state{watch = none}) -> none;
+failure(Message, #state{watch = Watch}) -> seqaudit_watch:failure(Message, Watch).
 
 %% @private
 -spec terminate(term(), #state{}) -> ok.
@@ -412,15 +424,22 @@ named_late(#state{processes = Known} = State) ->
                                            is_map_key(name, About)]),
     State#state{processes = Late}.
 
-%% Puts the former tracer back, unless somebody else's stands in the collector's place.
-take_off(#state{tracer = on} = State) ->
+%% Puts the former tracer back, unless somebody else's stands in the collector's place. There may be
+%% none because the port is behind, or gone.
+take_off(#state{tracer = on, by = By, watch = Watch, former = Former} = State) ->
     ok = release_trigger(State),
-    State#state{tracer = case {seq_trace:get_system_tracer(), State#state.by} of
-                             {Port, {port, Port}} -> put_back(State#state.former);
-                             {Self, _} when Self =:= self() -> put_back(State#state.former);
+    {Behind, Paused} = case Watch of
+                           none -> {false, #{}};
+                           _ -> seqaudit_watch:stop(Watch)
+                       end,
+    State#state{watch = none, paused = Paused,
+                tracer = case {seq_trace:get_system_tracer(), By} of
+                             {Port, {port, Port}} -> put_back(Former);
+                             {Self, _} when Self =:= self() -> put_back(Former);
+                             {false, {port, _}} when Behind -> put_back(Former);
                              {false, {port, Port}} ->
                                  case erlang:port_info(Port, id) of
-                                     undefined -> put_back(State#state.former);
+                                     undefined -> put_back(Former);
                                      _ -> taken
                                  end;
                              _ -> taken
@@ -444,6 +463,7 @@ close(#state{by = closed, folder = Folder} = State) ->
 close(#state{by = {port, Port}} = State) ->
     Written = written(Port),
     _ = (catch erlang:port_control(Port, $f, "")),
+    unlink(Port),
     _ = (catch port_close(Port)),
     close(State#state{by = closed, written = Written});
 close(#state{by = {scribe, _}} = State) ->
@@ -459,9 +479,10 @@ written(Port) ->
     end.
 
 last_facts(State) ->
-    Facts = #{written => State#state.written, dropped => State#state.dropped,
-              strays => State#state.strays, tracer => State#state.tracer,
-              processes => (named_late(State))#state.processes},
+    Paused = State#state.paused,
+    Facts = Paused#{written => State#state.written, dropped => State#state.dropped,
+                    strays => State#state.strays, tracer => State#state.tracer,
+                    processes => (named_late(State))#state.processes},
     case State#state.ended of
         no -> Facts;
         Ended -> Facts#{ended => Ended}

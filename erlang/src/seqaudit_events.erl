@@ -51,7 +51,8 @@
                    dropped | own | strays | written | bytes | kept | kept_bytes | dropped_here | came
                    | cut => non_neg_integer(),
                    since => calendar:datetime(), tracer => put_back | taken | gone,
-                   by => port | process, clock => {integer(), pos_integer()}}.
+                   pauses => seqaudit_watch:pauses(), by => port | process,
+                   clock => {integer(), pos_integer()}}.
 %% Facts of a file that have the form that they should have.
 
 -type item() :: collection | {facts, facts()} | {event, binary()} | {dropped, non_neg_integer()}
@@ -319,11 +320,21 @@ read_fact(Key, Value) ->
         {<<"cut">>, N} when is_integer(N), N >= 0 -> [{cut, N}];
         {<<"clock">>, {Offset, Second}} when is_integer(Offset), is_integer(Second), Second > 0 ->
             [{clock, {Offset, Second}}];
+        {<<"pauses">>, {Times, Lasted, First}}
+          when is_integer(Times), Times > 0, is_integer(Lasted), Lasted >= 0, length(First) >= 0 ->
+            [{pauses, {Times, Lasted, [Pause || Pause <- First, is_pause(Pause)]}}];
         {<<"by">>, By} when By =:= port; By =:= process -> [{by, By}];
         {<<"tracer">>, Tracer} when Tracer =:= put_back; Tracer =:= taken; Tracer =:= gone ->
             [{tracer, Tracer}];
         _ -> []
     end.
+
+is_pause({Since, open}) -> is_time(Since);
+is_pause({Since, Lasted}) -> is_time(Since) andalso is_integer(Lasted) andalso Lasted >= 0;
+is_pause(_) -> false.
+
+%% A time of the system in milliseconds, in the years from 1970 to 9999.
+is_time(Since) -> is_integer(Since) andalso Since >= 0 andalso Since < 253_402_300_800_000.
 
 small(Value) when byte_size(Value) > ?FACT -> other;
 small(Value) -> seqaudit_external:to_term(Value).

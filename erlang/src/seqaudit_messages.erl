@@ -20,7 +20,7 @@ header() ->
     ?HEADER.
 
 %% @doc The line of a message.
--spec entry(non_neg_integer(), binary()) -> iodata().
+-spec entry(non_neg_integer(), binary()) -> [iodata() | byte(), ...].
 entry(Number, Text) ->
     [<<"value\t">>, integer_to_binary(Number), $\t, Text, $\n].
 

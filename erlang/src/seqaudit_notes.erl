@@ -11,6 +11,8 @@
 -define(LISTED, 50).
 %% Reasons come from files, so little of them is shown.
 -define(REASON, 200).
+%% A byte that says what it is, and four with the size.
+-define(BEFORE_EVENT, 5).
 
 -type sizes() :: #{bytes | processes | events => non_neg_integer()}.
 
@@ -36,14 +38,15 @@ known(Kind, #{facts := Facts} = Collection) ->
     count(Kind, Facts) + count(Kind, Collection).
 
 %% The bytes that a port wrote over, and about how many events they were: all that came to the port
-%% without what its files have.
+%% without what its files have. The port counts an event without what stands before it in a file.
 over(#{facts := #{by := port, written := Written, came := Came, kept := Kept, kept_bytes := Size,
-                  cut := Cut}}) when Written > Came + Cut ->
-    Over = Written - Came - Cut,
-    {Over, case Size of
-               0 -> 0;
-               _ -> max(1, Over * Kept div Size)
-           end};
+                  cut := Cut} = Facts}) ->
+    Over = Written + ?BEFORE_EVENT * (Kept + count(dropped_here, Facts)) - Came - Cut,
+    case Size - ?BEFORE_EVENT * Kept of
+        _ when Over =< 0 -> {0, 0};
+        Bytes when Bytes > 0 -> {Over, max(1, Over * Kept div Bytes)};
+        _ -> {Over, 0}
+    end;
 over(_) ->
     {0, 0}.
 
@@ -78,6 +81,7 @@ collected(#{facts := Facts} = Collection) ->
                     {strays, "~ts: ~b messages to the collector were no trace events"},
                     {left, "~ts: ~b bytes of the file are cut or damaged, and were left out"}],
                known(Kind, Collection) > 0]
+        ++ pauses(Node, Facts)
         ++ written_over(Node, Collection)
         ++ tracer(Node, maps:get(tracer, Facts, put_back)).
 
@@ -122,6 +126,12 @@ why(Why) ->
         [{atom, <<"fell_behind">>}] ->
             "events came faster than they could be written without runtime_tools; what came until "
                 "then is here";
+        [{atom, <<"fell_behind">>}, _] ->
+            text("events came faster than they could be written, ~ts times",
+                 [reason(lists:last(parts(Why)))]);
+        [{atom, <<"unwatched">>}, _] ->
+            text("the process that bounds the memory of the trace port ended (~ts)",
+                 [reason(lists:last(parts(Why)))]);
         [{atom, <<"owner_out_of_reach">>}] ->
             "the node that led the collection was out of reach for too long";
         [{atom, <<"owner">>}, _] ->
@@ -144,11 +154,34 @@ split(Node, #{split := Split}) ->
     case [seqaudit_external:number(Part) || Part <- parts(Split)] of
         [Times, Milliseconds] when is_integer(Times), is_integer(Milliseconds) ->
             [text("~ts: the connection was lost ~ts, for ~b ms in all; collecting went on",
-                  [Node, case Times of 1 -> "once"; _ -> text("~b times", [Times]) end, Milliseconds])];
+                  [Node, times(Times), Milliseconds])];
         _ -> []
     end;
 split(_Node, _Facts) ->
     [].
+
+%% The tracer was off while the port was behind.
+pauses(Node, #{pauses := {Times, Lasted, First}}) ->
+    [text("~ts: events came faster than they could be written, so the tracer was off ~ts, for ~ts "
+          "ms in all, and what happened meanwhile is lost (it can't be counted): ~ts~ts",
+          [Node, times(Times), seqaudit_explain:number(Lasted),
+           lists:join(", ", lists:map(fun pause/1, First)),
+           case Times - length(First) of
+               More when More > 0 -> [", and ", times(More), " more"];
+               _ -> ""
+           end])];
+pauses(_Node, _Facts) ->
+    [].
+
+times(1) -> "once";
+times(Times) -> [seqaudit_explain:number(Times), " times"].
+
+pause({Since, open}) -> ["from ", moment(Since), " to the end"];
+pause({Since, Lasted}) -> text("at ~ts for ~b ms", [moment(Since), Lasted]).
+
+moment(Since) ->
+    string:replace(calendar:system_time_to_rfc3339(Since, [{unit, millisecond}, {offset, "Z"},
+                                                           {time_designator, $\s}]), "Z", " UTC").
 
 written_over(Node, Collection) ->
     case over(Collection) of

@@ -8,7 +8,7 @@
 %% Both end with the collector. The writer first writes what it was given.
 -module(seqaudit_scribe).
 
--export([open/1, write/3, unwritten/1, meet/2, failure/2, close/1]).
+-export([open/1, write/3, unwritten/1, meet/2, failure/2, close/1, closed/2]).
 -export_type([scribe/0]).
 
 -record(scribe, {writer :: pid(),
@@ -62,8 +62,8 @@ meet(Pids, #scribe{asker = Asker}) ->
 
 %% @doc Whether this message to the collector says that nothing can be written any more.
 -spec failure(term(), scribe()) -> {failed, term()} | none.
-failure({?MODULE, Writer, Reason}, #scribe{writer = Writer}) -> {failed, Reason};
-failure({'EXIT', Writer, Reason}, #scribe{writer = Writer}) -> {failed, Reason};
+failure({?MODULE, Writer, Reason}, #scribe{writer = Writer}) -> {failed, {disk, Reason}};
+failure({'EXIT', Writer, Reason}, #scribe{writer = Writer}) -> {failed, {disk, Reason}};
 failure(_, _) -> none.
 
 %% @doc Ends both, once all that was given is written. What the processes are called that were asked.
@@ -72,6 +72,8 @@ close(#scribe{writer = Writer, asker = Asker}) ->
     _ = closed(Writer, ok),
     closed(Asker, #{}).
 
+%% @doc Asks a process of the collector to end, and returns what it says then, or `Else' if it is gone.
+-spec closed(pid(), Result) -> Result.
 closed(Process, Else) ->
     Closed = monitor(process, Process),
     Process ! {close, self(), Closed},

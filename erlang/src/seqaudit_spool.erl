@@ -20,7 +20,8 @@
                    processes => #{pid() => about()}, written => non_neg_integer(),
                    dropped => non_neg_integer(), own => non_neg_integer(),
                    strays => non_neg_integer(), tracer => put_back | taken | gone,
-                   ended => {term(), calendar:datetime()}, atom() => term()}.
+                   pauses => seqaudit_watch:pauses(), ended => {term(), calendar:datetime()},
+                   atom() => term()}.
 %% What is known of a collection. Later facts take the place of earlier ones; of `processes' they
 %% are added.
 

@@ -27,7 +27,7 @@
 -define(FLAGS, [send, 'receive', print, timestamp, strict_monotonic_timestamp,
                 monotonic_timestamp]).
 %% Modules that another node needs: the collector, what it stands on, and this one for `with_trace'.
--define(MODULES, [seqaudit_spool, seqaudit_scribe, seqaudit_collector, ?MODULE]).
+-define(MODULES, [seqaudit_spool, seqaudit_scribe, seqaudit_watch, seqaudit_collector, ?MODULE]).
 -define(REMOTE_MS, 15_000).
 %% A node that is out of reach is tried again in these steps.
 -define(REACH_MS, 500).

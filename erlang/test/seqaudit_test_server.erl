@@ -2,7 +2,7 @@
 -module(seqaudit_test_server).
 -behaviour(gen_server).
 
--export([start/1, start/2, print/2, load/2, without_runtime_tools/0, begin_shop/0, order/1,
+-export([start/1, start/2, print/2, flood/1, load/2, running/1, without_runtime_tools/0, begin_shop/0, order/1,
          shop_token/0, with_token/1, init/1, handle_call/3, handle_cast/2]).
 
 start(Fun) ->
@@ -26,6 +26,12 @@ handle_cast(Request, Fun) ->
 %% Prints under a token, in this process.
 print(Label, What) ->
     seqaudit_trace:with_trace(Label, fun() -> seq_trace:print(What), ok end).
+
+%% Prints so many messages of 32 KB in a moment.
+flood(Times) ->
+    Large = binary:copy(<<0>>, 32_768),
+    seqaudit_trace:with_trace(1, fun() -> [seq_trace:print(Large) || _ <- lists:seq(1, Times)] end),
+    ok.
 
 %% So many pairs write lists of 500 numbers to each other for so long, all under tokens; how many
 %% messages that was.
@@ -58,6 +64,10 @@ write(Other, Numbers, End, Count) ->
 
 echo(To) ->
     receive Message -> To ! {back, Message}, echo(To) end.
+
+%% The processes that are in a function of the module.
+running(Module) ->
+    [Pid || Pid <- processes(), {_, {In, _, _}} <- [process_info(Pid, current_function)], In =:= Module].
 
 %% As if the node had no runtime_tools.
 without_runtime_tools() ->
