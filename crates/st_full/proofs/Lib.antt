@@ -58,6 +58,8 @@ pub mod Fronting
 pub mod Combining
 pub mod Stretching
 pub mod Best
+pub mod Founding
+pub mod Chosen
 pub mod ForCallers
 mod Cases
 mod HiddenCases
