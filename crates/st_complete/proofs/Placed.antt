@@ -3,11 +3,11 @@
 -- the law says. And why told is what is told of both: the marked events of a completion of all events are
 -- these in turn.
 use Rattle.std.proofs.Common.{◌≡◌, inl, inr, ℕ, ◌+◌, zero, suc, ◌<◌, ◌≤◌, ◌||◌, Bool, true, false, cond, List, [], ◌∷◌}
-use Rattle.std.proofs.Common.{◌++◌, map, length, drop, take, get_or, slice_get, Some, None, option_map, append_assoc, append-nil}
+use Rattle.std.proofs.Common.{◌++◌, map, length, drop, get_or, slice_get, Some, None, option_map, append_assoc, append-nil}
 use Rattle.std.proofs.Common.{refl, sym, ◌∙◌, ap, subst, arith}
 use Rattle.std.specs.List.{AllByRecursion}
 use Rattle.std.proofs.lemmas.Bool.{cases_lt, false≢true}
-use Rattle.std.proofs.lemmas.List.{drop_all, drop_more}
+use Rattle.std.proofs.lemmas.List.{drop_more}
 use Rattle.std.proofs.lemmas.Option.{none-some, same_Some, slice_get-map}
 use Rattle.st_core.specs.declared.types.Pid.{Pid}
 use Rattle.st_core.specs.declared.types.Event.{Event}
@@ -16,7 +16,7 @@ use Rattle.st_core.specs.Run.{Stream, pids_of}
 use Rattle.st_core.specs.Streams.{events_of, is_among, IsStreams, lists, stream_of}
 use Rattle.st_core.proofs.ForCallers.{all_at, pid_same}
 use Rattle.st_pair.specs.Pairing.{refusal}
-use Rattle.st_pair.proofs.ForCallers.{at_get_or, events_in}
+use Rattle.st_pair.proofs.ForCallers.{events_in}
 use Rattle.st_order.proofs.ForCallers.{all_found}
 use Rattle.st_plan.specs.Marks.{all_streams, told_events, told_streams, Marked, Whole}
 use Rattle.st_full.specs.FinalReasons.{HasNoFinalReason, IsSuppliedAtLeast, IsZeroBehind, Late, TooHigh, Unfounded}

@@ -1,11 +1,11 @@
 -- Why the scarce counts are found. Each is the prev of some event, for a send or print that asks for it is
 -- reported, or hidden with a receive that has its prev. So they are among the counts of the streams. These
 -- rise, so each need is one of at most one of them, and the needs of all together are the sum.
-use Rattle.std.proofs.Common.{◌≡◌, ◌⊎◌, inl, inr, ℕ, ◌+◌, ◌-◌, zero, suc, ◌<◌, ◌≤◌, ◌==◌, ◌&&◌, ◌||◌, nat_lt, Bool}
-use Rattle.std.proofs.Common.{true, false, cond, List, [], ◌∷◌, ◌++◌, map, filter, length, drop, take, get_or, slice_get}
-use Rattle.std.proofs.Common.{Some, None, sum_by, if◌then◌else◌, refl, sym, ◌∙◌, ap, subst, arith}
-use Rattle.std.specs.List.{AllByRecursion, count_by}
-use Rattle.std.proofs.lemmas.Bool.{and_from, and_parts, cases_lt, eq-eqb, eqb-true, false≢true, lt-ltb, ltb-true}
+use Rattle.std.proofs.Common.{◌≡◌, inl, inr, ℕ, ◌+◌, ◌-◌, zero, suc, ◌<◌, ◌≤◌, ◌==◌, ◌&&◌, ◌||◌, Bool}
+use Rattle.std.proofs.Common.{true, false, cond, List, [], ◌∷◌, ◌++◌, map, filter, length, take, get_or, slice_get}
+use Rattle.std.proofs.Common.{Some, sum_by, refl, sym, ◌∙◌, ap, subst, arith}
+use Rattle.std.specs.List.{count_by}
+use Rattle.std.proofs.lemmas.Bool.{and_parts, cases_lt, eq-eqb, eqb-true, false≢true, lt-ltb, ltb-true}
 use Rattle.std.proofs.lemmas.Bool.Decides.{nat_tests}
 use Rattle.std.proofs.lemmas.Option.{none-some, same_Some}
 use Rattle.std.proofs.lemmas.List.{take_all}
@@ -20,7 +20,7 @@ use Rattle.st_core.proofs.ForCallers.{eqb-swap}
 use Rattle.st_pair.specs.Places.{event_at, is_stamp}
 use Rattle.st_pair.proofs.ForCallers.{events_in}
 use Rattle.st_full.specs.FinalReasons.{IsStampOf}
-use Rattle.st_full.specs.HiddenSends.{hidden_send, hidden_sends}
+use Rattle.st_full.specs.HiddenSends.{hidden_sends}
 use Rattle.st_full.specs.Needs.{is_need}
 use Rattle.st_full.specs.Renumbering.{counts_of}
 use Rattle.st_full.specs.Scarce.{is_scarce, stamp_excess}

@@ -2,15 +2,13 @@
 -- process has one stamp of a count. So between two stamps, by count, stand those of their stretch and no
 -- reported one; and if two in a stretch ask for two counts, one of them asks for another count than the
 -- last before it that asks.
-use Rattle.std.proofs.Common.{◌≡◌, ◌⊎◌, inl, inr, ℕ, ◌+◌, zero, suc, ◌<◌, ◌≤◌, ◌==◌, ◌&&◌, ◌||◌, nat_lt, not, Bool}
-use Rattle.std.proofs.Common.{true, false, cond, List, [], ◌∷◌, ◌++◌, map, filter, length, drop, take, get_or, slice_get}
-use Rattle.std.proofs.Common.{Option, Some, None, is_some, append_assoc, append-nil, refl, sym, ◌∙◌, ap, subst, arith}
+use Rattle.std.proofs.Common.{◌≡◌, ◌⊎◌, inl, inr, ℕ, ◌+◌, zero, suc, ◌<◌, ◌≤◌, ◌==◌, ◌&&◌, nat_lt, not, Bool}
+use Rattle.std.proofs.Common.{true, false, cond, List, [], ◌∷◌, ◌++◌, map, filter, length, take, get_or, slice_get}
+use Rattle.std.proofs.Common.{Option, Some, None, is_some, append_assoc, refl, sym, ◌∙◌, ap, subst, arith}
 use Rattle.std.specs.Prelude.{IfNone}
 use Rattle.std.specs.List.{Contains}
-use Rattle.std.specs.List.Sorted.{IsNonDecreasingBy, IsPermutation}
 use Rattle.std.proofs.lemmas.Bool.{and_from, and_parts, cases_lt, eq-eqb, eqb-true, false≢true, lt-ltb, ltb-true}
 use Rattle.std.proofs.lemmas.Option.{none-some, same_Some}
-use Rattle.std.proofs.lemmas.List.{take_all}
 use Rattle.std.proofs.lemmas.List.Elements.{filter_more}
 use Rattle.std.proofs.lemmas.List.Sorted.{Contains-permutation, IsPermutation-sym}
 use Rattle.st_core.specs.declared.types.Pid.{Pid}
@@ -23,7 +21,7 @@ use Rattle.st_pair.specs.declared.answer.Source.{Source}
 use Rattle.st_pair.specs.declared.answer.Source.TheVariants as source
 use Rattle.st_pair.specs.Pairing.{refusal, stamp_of}
 use Rattle.st_pair.specs.Places.{event_at, first, is_stamp}
-use Rattle.st_pair.proofs.ForCallers.{at_get_or, blank, event_none, given_at, once_place, paired, take_map}
+use Rattle.st_pair.proofs.ForCallers.{at_get_or, blank, event_none, given_at, paired, take_map}
 use Rattle.st_order.specs.Items.{is_hidden}
 use Rattle.st_plan.specs.Marks.{Marked}
 use Rattle.st_full.specs.FinalReasons.{IsReported, IsStampOf}

@@ -1,6 +1,6 @@
 -- For the parts alone: the scarce counts; the stamps of a process, by rising count, each told if it was reported; and two
 -- of them in one stretch that ask for two of these counts.
-use Rattle.std.specs.Prelude.{◌≡◌, ℕ, ◌<◌, ◌≤◌, ◌==◌, ◌&&◌, ◌||◌, nat_lt, not, Bool, true, false, List, [], ◌∷◌, ◌++◌}
+use Rattle.std.specs.Prelude.{◌≡◌, ℕ, ◌<◌, ◌≤◌, ◌==◌, ◌&&◌, ◌||◌, nat_lt, not, Bool, true, false, List, ◌++◌}
 use Rattle.std.specs.Prelude.{map, filter, length, slice_get, Option, Some, None, if◌then◌else◌}
 use Rattle.std.specs.List.Sorted.{IsNonDecreasingBy, IsPermutation}
 use Rattle.st_core.specs.declared.types.Pid.{Pid}

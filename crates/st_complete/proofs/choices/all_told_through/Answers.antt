@@ -1,5 +1,5 @@
 -- The marks of the process at one place, whose events are all of the whole there.
-use Rattle.std.proofs.Common.{◌≡◌, ◌++◌, ◌∷◌, [], get_or, length, length-append, sym, ◌∙◌, ap, arith}
+use Rattle.std.proofs.Common.{◌≡◌, ◌++◌, ◌∷◌, [], get_or, length, length-append, ◌∙◌, ap, arith}
 use Rattle.st_complete.proofs.Constructed.{item_at}
 use Rattle.st_complete.proofs.Placed.{events_placed, told_all, told_place}
 use Rattle.st_complete.proofs.choices.all_told_through.Goals as goal

@@ -1,7 +1,4 @@
 -- Each process has a placing, so a best one is found.
-use Rattle.std.proofs.Common.{◌≡◌, subst}
-use Rattle.st_full.specs.HiddenSends.{hidden_sends}
-use Rattle.st_complete.specs.Placings.{IsBestPlaced}
 use Rattle.st_complete.proofs.Placed.{some_placed}
 use Rattle.st_complete.proofs.choices.placed_whole.Goals as goal
 

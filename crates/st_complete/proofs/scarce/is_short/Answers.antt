@@ -1,10 +1,10 @@
 -- What a process's stamps exceed its own messages by is taken from the free processes, if it is there.
-use Rattle.std.proofs.Common.{◌≡◌, get_or, refl, ◌∙◌, arith}
+use Rattle.std.proofs.Common.{refl, ◌∙◌, arith}
 use Rattle.st_core.specs.declared.types.Pid.{Pid}
 use Rattle.st_core.specs.Run.{pids_of}
 use Rattle.st_full.specs.Scarce.{stamp_excess}
 use Rattle.st_complete.proofs.Scarcity.{hidden_here, short_here, short_nowhere}
-use Rattle.st_complete.proofs.Supplied.{free_count, left_more}
+use Rattle.st_complete.proofs.Supplied.{left_more}
 use Rattle.st_complete.proofs.scarce.is_short.Goals as goal
 
 abbrev none : Pid

@@ -1,5 +1,5 @@
 -- The higher stamp of two has a place; and if no process has two, no stretch has.
-use Rattle.std.proofs.Common.{get_or, length, sym, ◌∙◌, ap, arith}
+use Rattle.std.proofs.Common.{length, sym, ◌∙◌, ap, arith}
 use Rattle.st_core.specs.declared.types.Pid.{Pid}
 use Rattle.st_complete.proofs.Scarcity.{hidden_here}
 use Rattle.st_complete.proofs.Stretched.{none_anywhere, none_next_place, place_there, place_two}
