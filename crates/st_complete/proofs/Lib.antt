@@ -9,3 +9,6 @@ pub mod Supplied
 pub mod ZeroBehind
 pub mod Needed
 pub mod Constructed
+pub mod Scarcity
+pub mod Stretched
+pub mod Placed

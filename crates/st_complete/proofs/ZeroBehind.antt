@@ -116,7 +116,7 @@ all_below q n low (x ∷ rest) =
 
 -- WHAT IS FOUND
 
-gives_true : (b : Bool) (x y : Pid × ℕ) → cond b (Some y) None ≡ Some x → (b ≡ true) × (y ≡ x)
+pub gives_true : (b : Bool) (x y : Pid × ℕ) → cond b (Some y) None ≡ Some x → (b ≡ true) × (y ≡ x)
 gives_true true x y is = (refl, same_Some y x is)
 gives_true false x y is = absurd (none-some x is)
 

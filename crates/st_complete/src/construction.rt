@@ -28,9 +28,9 @@ use std::marker::Model;
 
 /// An event, and whether it is told.
 #[derive(Clone, Copy, Debug)]
-struct Marked {
-    event: Event,
-    told: bool,
+pub(crate) struct Marked {
+    pub(crate) event: Event,
+    pub(crate) told: bool,
 }
 
 impl Model for Marked {
@@ -45,9 +45,9 @@ impl Model for Marked {
 
 /// A process with all its events.
 #[derive(Debug, Drop)]
-struct Whole {
-    pid: Pid,
-    marked: Vec<Marked>,
+pub(crate) struct Whole {
+    pub(crate) pid: Pid,
+    pub(crate) marked: Vec<Marked>,
 }
 
 impl Model for Whole {
@@ -106,10 +106,17 @@ impl Whole {
     }
 
     /// Its pid.
-    fn pid(&self) -> Pid
+    pub(crate) fn pid(&self) -> Pid
         ensures { result ≡ self.now.pid }
     {
         self.pid
+    }
+
+    /// Its events with their marks.
+    pub(crate) fn marked(&self) -> &[Marked]
+        ensures { result.now ≡ self.now.marked }
+    {
+        &self.marked
     }
 
     /// All its events.
@@ -343,7 +350,7 @@ fn add_process(draft: &mut Draft, pid: Pid, events: &[Event]) -> Result<(), Allo
 }
 
 /// All events as streams.
-fn streams_of(alloc: Global, wholes: &[Whole]) -> Result<Streams, AllocError>
+pub(crate) fn streams_of(alloc: Global, wholes: &[Whole]) -> Result<Streams, AllocError>
     requires { IsStreams (all_streams wholes.now) }
     ensures { IfOk result (λ streams. streams ≡ all_streams wholes.now) }
 {

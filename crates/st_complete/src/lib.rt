@@ -8,6 +8,7 @@
 mod answer;
 mod candidate;
 mod certificates;
+mod choices;
 mod completion;
 mod construction;
 mod decision;
@@ -15,12 +16,16 @@ mod feeds;
 mod flaws;
 mod judge;
 mod places;
+mod placing;
 mod prices;
 mod ranks;
+mod scarce;
 mod search;
+mod stretches;
 mod supplies;
 #[cfg(test)]
 mod tests;
+mod undecided;
 mod unsent;
 mod zeros;
 

@@ -5,10 +5,12 @@
 use crate::answer::{Answer, CompleteFault, Never};
 use crate::candidate::Candidate;
 use crate::completion::Completion;
+use crate::construction::Marked;
 use crate::decision::{answer_by_definition, complete};
 use crate::flaws::{Flaw, find_flaw, find_hidden};
 use crate::judge::judge;
 use crate::ranks::renumbered;
+use crate::stretches::first_other;
 use st_core::{Draft, Event, Kind, Label, Pid, Serial, Streams};
 use st_pair::pair;
 use std::alloc::{AllocError, Global};
@@ -312,5 +314,34 @@ fn generated_streams_are_completed(rt: HostRuntime) -> Result<(), Fail> {
         }
     }
     assert!(rt; completed >= COMPLETED);
+    Ok(())
+}
+
+/// A print of 30, told or not.
+fn stamp(prev: u64, this: u64, told: bool) -> Marked {
+    Marked {
+        event: print(prev, this, p30()),
+        told,
+    }
+}
+
+/// The count of the stamp that asks for another scarce count than one before it in its stretch.
+fn other_count(stamps: &[Marked], counts: &[u64]) -> Option<u64> {
+    first_other(stamps, counts).map(|other| other.event.serial.this)
+}
+
+#[test]
+fn one_stretch_asks_for_two_scarce_counts(rt: HostRuntime) -> Result<(), Fail> {
+    let stamps = [stamp(0, 1, false), stamp(1, 3, false), stamp(2, 4, false)];
+    assert_eq!(rt; other_count(&stamps, &[0, 1, 2]), Some(4));
+    assert_eq!(rt; other_count(&stamps, &[0, 2]), None);
+    Ok(())
+}
+
+#[test]
+fn a_reported_stamp_ends_its_stretch(rt: HostRuntime) -> Result<(), Fail> {
+    let stamps = [stamp(1, 3, false), stamp(2, 4, true), stamp(1, 5, false)];
+    assert_eq!(rt; other_count(&stamps, &[0, 1, 2]), Some(4));
+    assert_eq!(rt; other_count(&stamps[1..], &[0, 1, 2]), None);
     Ok(())
 }

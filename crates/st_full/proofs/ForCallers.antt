@@ -8,3 +8,18 @@ pub use Rattle.st_full.proofs.Decision.{decides, never_shown, no_reason}
 pub use Rattle.st_full.proofs.ReasonlessStreams.{IsNeedOf, need_of}
 pub use Rattle.st_full.proofs.SameNames.{streams_with}
 pub use Rattle.st_full.proofs.StampsTold.{told_zeros_final}
+pub use Rattle.st_full.proofs.ZeroFreePlacings.{founded_least}
+pub use Rattle.st_full.proofs.ChosenPlacings.{AreScarce, chosen_open, IsChosen, IsOpenTo, needs_of_all, stream_by, streams_by}
+pub use Rattle.st_full.proofs.Leasts.{Among, among_filter, mixed, timely_is}
+pub use Rattle.st_full.proofs.Mixes.{among_at, at_among, IsTakenApart, placing_from, timely_of}
+pub use Rattle.st_full.proofs.MergedPlacings.{some_placing}
+pub use Rattle.st_full.proofs.ReasonlessStreams.{fit_together}
+pub use Rattle.st_full.proofs.JointPlacings.{hidden_one, one_hidden}
+pub use Rattle.st_full.proofs.UntoldEvents.{hidden_is}
+pub use Rattle.st_full.proofs.Lookups.{HasStamp, none_stamped}
+pub use Rattle.st_full.proofs.InsertedEvents.{listed_at}
+pub use Rattle.st_full.proofs.StampsTold.{stamper}
+pub use Rattle.st_full.proofs.Suppliers.{named, own_at}
+pub use Rattle.st_full.proofs.BestChoices.{none_late}
+pub use Rattle.st_full.proofs.ShownStreams.{lists_among}
+pub use Rattle.st_full.proofs.UntoldEvents.{untold_events as events_untold}

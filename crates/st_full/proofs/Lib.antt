@@ -55,6 +55,8 @@ pub mod ZeroFronts
 pub mod CombinedPlacings
 pub mod CombinedStretches
 pub mod BestPlacings
+pub mod ZeroFreePlacings
+pub mod ChosenPlacings
 pub mod ForCallers
 mod Cases
 mod HiddenCases

@@ -37,7 +37,7 @@ timely_same xs ys (e ∷ es) same timely = (
   timely_same (xs ++ e ∷ []) (ys ++ e ∷ []) es (alike_push xs ys e same).greatest timely.1,
 )
 
-above_not_late : (before : List Event) (e : Event) → greatest_count before < e.serial.this
+pub above_not_late : (before : List Event) (e : Event) → greatest_count before < e.serial.this
     → is_late before e ≡ false
 above_not_late before e above =
     ap (λ b. is_stamp e && not b) (lt-ltb (greatest_count before) e.serial.this above)

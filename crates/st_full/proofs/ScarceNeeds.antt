@@ -22,6 +22,7 @@ use Rattle.st_full.specs.FinalReasons.{HasNoFinalReason, IsSuppliedAtLeast, leas
 use Rattle.st_full.specs.FinalReasons.{Unfounded, Unsent}
 use Rattle.st_full.specs.HiddenSends.{least, stamps_with}
 use Rattle.st_full.specs.Needs.{HoldsOfNone, is_late, is_need, is_rootless, marked_of}
+use Rattle.st_full.specs.Reasons.{HasNoReason}
 use Rattle.st_full.specs.Scarce.{is_scarce, IsBest, stamp_excess}
 use Rattle.st_full.specs.Supply.{excess, is_free, IsSupplied, needs, needs_from}
 use Rattle.st_full.proofs.Choices.{mark_at, shown_if_chosen, told_somewhere}
@@ -208,9 +209,8 @@ module _ (top : ℕ) (streams : List Stream) (none : HasNoFinalReason top stream
             omega arith
       ] refl)
 
+  pub best_none : HasNoReason top all
+  best_none = record { timely = best.timely; founded = founded; supplied = supplied; within = within }
+
   pub best_shown : IsShownInOneTrace top streams
-  best_shown = shown_if_chosen top streams (record {
-    wholes = wholes;
-    choice = choice;
-    none = record { timely = best.timely; founded = founded; supplied = supplied; within = within };
-  })
+  best_shown = shown_if_chosen top streams (record { wholes = wholes; choice = choice; none = best_none })

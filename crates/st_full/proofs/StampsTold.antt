@@ -28,7 +28,7 @@ use Rattle.st_full.proofs.UntoldEvents.{got_if}
 use Rattle.st_full.proofs.Zeros.{zeros_final}
 
 -- a process's own stamp is from it
-stamper : (k : Kind) (from : Pid) (to : Option Pid) (p : Pid)
+pub stamper : (k : Kind) (from : Pid) (to : Option Pid) (p : Pid)
     → (let b : Bool = elim k [ kind.Send ↦ true | kind.Receive ↦ false | kind.Print ↦ true ] in b) ≡ true
     → is_of k from to p ≡ true → from ≡ p
 stamper kind.Send from to p stamps own = pid_same from p (and_parts (pid_eq from p) (is_some to) own).0

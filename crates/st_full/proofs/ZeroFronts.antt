@@ -145,7 +145,7 @@ needs_fewer v xs ys (e ∷ es) some left counts =
           (omega arith)
     ] refl
 
-stamp_leaves : (before : List Event) (e : Event) → is_stamp e ≡ true → prev_after (before ++ e ∷ []) ≡ e.serial.prev
+pub stamp_leaves : (before : List Event) (e : Event) → is_stamp e ≡ true → prev_after (before ++ e ∷ []) ≡ e.serial.prev
 stamp_leaves before e stamps =
     prev_push before e ∙ sym (leaves e) ∙ ap (λ b. cond (not b) e.serial.this e.serial.prev) stamps
 
@@ -161,7 +161,7 @@ no_need v before e left =
 abbrev one_if : Bool → ℕ
 one_if b = if b then 1 else 0
 
-no_cost : (v : ℕ) (before : List Event) (e : Event) → e.serial.prev ≡ prev_after before
+pub no_cost : (v : ℕ) (before : List Event) (e : Event) → e.serial.prev ≡ prev_after before
     → one_if (is_need before e && e.serial.prev == v) ≡ 0
 no_cost v before e left = ap one_if (no_need v before e left)
 
@@ -184,7 +184,7 @@ module _ (before front : List Event) (e : Event) (back : List Event) (receive : 
   back_timely : AreTimely behind back
   back_timely = (timely_back before front (e ∷ back) timely).1
 
-  move_timely : AreTimely (before ++ e ∷ []) (front ++ back)
+  pub move_timely : AreTimely (before ++ e ∷ []) (front ++ back)
   move_timely = timely_both (before ++ e ∷ []) front back (receives_timely (before ++ e ∷ []) front receive)
       (timely_alike behind moved back same_counts back_timely)
 

@@ -1,0 +1,28 @@
+-- For the parts alone: whole streams in which each process is at a best placing.
+use Rattle.std.specs.Prelude.{◌≡◌, ℕ, List, map}
+use Rattle.std.specs.List.{AllByRecursion}
+use Rattle.st_core.specs.Run.{Stream, pids_of}
+use Rattle.st_core.specs.Streams.{events_of}
+use Rattle.st_plan.specs.Marks.{Whole}
+use Rattle.st_full.specs.HiddenSends.{hidden_sends}
+use Rattle.st_complete.specs.declared.answer.Answer.{Answer}
+use Rattle.st_complete.specs.declared.answer.Answer.TheVariants as answer
+use Rattle.st_complete.specs.Completions.{Completes}
+use Rattle.st_complete.specs.Placings.{IsBestPlaced}
+use Rattle.st_complete.specs.TwoScarce.{HasTwoScarce}
+
+-- its process has the fewest needs of these counts
+abbrev pub IsWholeBest : List Stream → List ℕ → Whole → Type 0
+IsWholeBest streams counts w =
+    IsBestPlaced counts (events_of streams w.pid) (hidden_sends streams w.pid) w.marked
+
+-- these are all processes, each at such a placing
+pub record AreBestPlaced (streams : List Stream) (counts : List ℕ) (wholes : List Whole) : Type 0 where
+  pub pids : map (λ w. w.pid) wholes ≡ pids_of streams
+  pub best : AllByRecursion (IsWholeBest streams counts) wholes
+
+-- a completion, or an event that tells of two scarce counts in one stretch
+abbrev pub IsByPlaces : ℕ → List Stream → Answer → Type 0
+IsByPlaces top streams (answer.Whole wholes) = Completes top streams wholes
+IsByPlaces top streams (answer.Never p i reason) = ⊥
+IsByPlaces top streams (answer.Open p i) = HasTwoScarce streams p i
