@@ -9,3 +9,4 @@ pub mod Supplied
 pub mod ZeroBehind
 pub mod Needed
 pub mod Constructed
+pub mod Columns

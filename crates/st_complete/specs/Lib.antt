@@ -7,3 +7,6 @@ pub mod Flaws
 pub mod Counts
 pub mod Told
 pub mod Zeros
+-- Where hidden sends stand, and which sends are hidden.
+pub mod Placings
+pub mod Hidden
