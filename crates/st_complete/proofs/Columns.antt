@@ -397,3 +397,31 @@ late_below counts told hs es taken j within late low =
     late_none counts (told_last told (left_at hs j)) es (drop j hs) (taken - 1 - j) f
     (drop_at hs j (taken - 1 - j) ∙ ap (slice_get hs) place ∙ at)
     (late_higher told (told_last told (left_at hs j)) f (omega arith) (late f at))
+
+-- FROM COLUMN TO COLUMN
+
+pub beyond_next : (counts : List ℕ) (es hs : List Event) (column : Column) (i : ℕ) → i < length es
+    → IsFor counts (left_at es (i + 1)) (drop (i + 1) es) hs column
+    → IsBeyond counts (left_at es i) (drop i es) hs column
+beyond_next counts es hs column i within is =
+    let e = get_or es i blank in
+    subst (λ fs. IsBeyond counts (left_at es i) fs hs column) (sym (drop_more es i blank within))
+    (subst (λ l. IsFor counts l (drop (i + 1) es) hs column) (left_next es i e (at_get_or es i blank within)) is)
+
+pub beyond_end : (counts : List ℕ) (told : Left) (es hs : List Event) (column : Column) (i : ℕ) → length es ≤ i
+    → ((taken : ℕ) → taken ≤ length hs → cell_of column taken ≡ cond (nat_lt taken (length hs)) None (Some 0))
+    → IsBeyond counts told (drop i es) hs column
+beyond_end counts told es hs column i past is =
+    subst (λ fs. IsBeyond counts told fs hs column) (sym (drop_all i es past)) is
+
+pub beyond_first : (counts : List ℕ) (es hs : List Event) (column : Column) (i : ℕ) → i ≡ 0
+    → IsBeyond counts (left_at es i) (drop i es) hs column → IsBeyond counts (left_by []) es hs column
+beyond_first counts es hs column i is beyond =
+    subst (λ l. IsBeyond counts l es hs column) (lefts_first (left_by []) (left_by []) es)
+    (subst (λ n. IsBeyond counts (left_at es n) (drop n es) hs column) is beyond)
+
+pub first_cell : (counts : List ℕ) (es hs : List Event) (column : Column) → IsFor counts (left_by []) es hs column
+    → cell_of column 0 ≡ fewest_after counts (left_by []) es hs
+first_cell counts es hs column is =
+    is 0 (omega arith)
+    ∙ ap (λ l. fewest_after counts (told_last (left_by []) l) es hs) (lefts_first (left_by []) (left_by []) hs)

@@ -10,3 +10,5 @@ pub mod ZeroBehind
 pub mod Needed
 pub mod Constructed
 pub mod Columns
+pub mod Orders
+pub mod Hiding

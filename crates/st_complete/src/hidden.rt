@@ -1,13 +1,16 @@
 //! The hidden sends of each process: the sends whose messages were received and which the process
 //! didn't report, by rising count.
 
-ghost use Rattle.std.specs.Prelude.{◌≡◌, ◌++◌, [], map, IfOk, None, OnOk};
+ghost use Rattle.std.specs.Prelude.{◌≡◌, ◌&&◌, ◌++◌, Some, map, nat_lt, not, IfOk, None, OnOk};
 ghost use Rattle.st_core.specs.Run.{pids_of};
 ghost use Rattle.st_core.specs.Streams.{events_of};
 ghost use Rattle.st_pair.specs.Links.{IsPairing};
 ghost use Rattle.st_pair.specs.Pairing.{refusal};
+ghost use Rattle.st_pair.specs.Places.{event_at};
+ghost use Rattle.st_core.specs.Pid.{pid_eq};
+ghost use Rattle.st_order.specs.Items.{is_hidden};
 ghost use Rattle.st_full.specs.HiddenSends.{hidden_sends, send_of};
-ghost use Rattle.st_complete.specs.Hidden.{hidden_among, hidden_in, rising_from};
+ghost use Rattle.st_complete.specs.Hidden.{hidden_among, hidden_in, next_count, rising_from};
 
 use crate::flaws::is_hidden_source;
 use st_core::{Event, Kind, Pid, Sequence, Streams};
@@ -24,6 +27,25 @@ fn send_of(event: &Event) -> Event
     }
 }
 
+/// Whether the event is a receive of a hidden send of this process.
+fn hides_send_of(
+    streams: &Streams,
+    pairing: &Pairing,
+    pid: Pid,
+    index: u64,
+    event: &Event,
+    sender: Pid,
+) -> bool
+    requires paired { IsPairing streams.now pairing.now }
+    requires at { event_at streams.now pid index ≡ Some event.now }
+    ensures { result ≡ (is_hidden streams.now event.now && pid_eq event.now.from sender) }
+{
+    let _streams = streams;
+    let hides = is_hidden_source(pairing.source(pid, index));
+    let own = event.from == sender;
+    hides && own
+}
+
 /// Adds the hidden sends of a process whose messages these events receive.
 fn note_hidden(
     hidden: &mut Vec<Event>,
@@ -38,9 +60,8 @@ fn note_hidden(
     ensures { OnOk result
         (hidden.new.items ≡ hidden.old.items ++ hidden_in streams.now sender events.now) }
 {
-    let _streams = streams;
     for (i, event) in events.iter().enumerate() {
-        if is_hidden_source(pairing.source(pid, i as u64)) && event.from == sender {
+        if hides_send_of(streams, pairing, pid, i as u64, event, sender) {
             hidden.push(send_of(event))?;
         }
     }
@@ -66,6 +87,16 @@ fn hidden_among(
     Ok(hidden)
 }
 
+/// Whether the count is above the last one, if there was one.
+fn is_above(last: Option<u64>, count: u64) -> bool
+    ensures { result ≡ not (nat_lt count (next_count last)) }
+{
+    match last {
+        None => true,
+        Some(other) => other < count,
+    }
+}
+
 /// The events whose counts are above those of all before them.
 fn rising(alloc: Global, events: &[Event]) -> Result<Vec<Event>, AllocError>
     ensures { IfOk result (λ kept. kept.items ≡ rising_from 0 events.now) }
@@ -73,7 +104,7 @@ fn rising(alloc: Global, events: &[Event]) -> Result<Vec<Event>, AllocError>
     let mut last: Option<u64> = None;
     let mut kept = Vec::new(alloc);
     for event in events {
-        if last.is_none_or(|count| count < event.serial.this) {
+        if is_above(last, event.serial.this) {
             kept.push(*event)?;
             last = Some(event.serial.this);
         }

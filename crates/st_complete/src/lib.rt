@@ -15,6 +15,7 @@ mod feeds;
 mod flaws;
 mod hidden;
 mod judge;
+mod least;
 mod places;
 mod placing;
 mod prices;

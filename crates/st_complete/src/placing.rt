@@ -9,7 +9,7 @@
 //! hidden sends.
 
 ghost use Rattle.std.specs.Prelude.{◌≡◌, ◌<◌, ◌≤◌, ◌+◌, ◌-◌, ◌^◌, ◌⊎◌, ◌==◌, ℕ, [], true, IfOk, OnOk};
-ghost use Rattle.std.specs.Prelude.{get_or, length, slice_get, nat_lt, if◌then◌else◌};
+ghost use Rattle.std.specs.Prelude.{drop, get_or, length, slice_get, nat_lt, if◌then◌else◌};
 ghost use Rattle.st_core.specs.declared.types.Event.{Event as EventValue};
 ghost use Rattle.std.specs.Option.{ForSome};
 ghost use Rattle.st_complete.specs.Flaws.{left_by};
@@ -285,6 +285,16 @@ fn column_before(
     Ok(column)
 }
 
+/// The events from this index on.
+fn rest_from(events: &[Event], index: usize) -> &[Event]
+    ensures { result.now ≡ drop index events.now }
+{
+    if index < events.len() {
+        return &events[index..];
+    }
+    &[]
+}
+
 /// The fewest needs of messages of these counts in an order of the events and hidden sends in which
 /// no stamp is late; none if there is no such order.
 pub(crate) fn fewest_needs(
@@ -306,7 +316,7 @@ pub(crate) fn fewest_needs(
             alloc,
             counts,
             told,
-            &events[index..],
+            rest_from(events, index),
             hidden,
             &sent,
             &column,

@@ -62,14 +62,14 @@ pub(crate) fn is_untaken(told: &Told, pid: Pid) -> bool
 }
 
 /// How many sends to the process are told whose receives aren't.
-fn untaken_count(all: &[Told], pid: Pid) -> usize
+pub(crate) fn untaken_count(all: &[Told], pid: Pid) -> usize
     ensures { result ≡ count_by (is_untaken pid) all.now }
 {
     all.iter().filter(|told| is_untaken(told, pid)).count()
 }
 
 /// The number of processes of which nothing is told.
-fn unused_count(all: &[Told]) -> usize
+pub(crate) fn unused_count(all: &[Told]) -> usize
     ensures { result ≡ count_by is_unused all.now }
 {
     all.iter().filter(|told| is_unused(told)).count()
