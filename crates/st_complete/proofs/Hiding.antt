@@ -306,7 +306,7 @@ hides_if streams e hides =
           ] refl h
     ] refl hides
 
-if_hides : (streams : List Stream) (e : Event) → is_stamp e ≡ false → stamp_of streams e.from e.serial.this ≡ None
+pub if_hides : (streams : List Stream) (e : Event) → is_stamp e ≡ false → stamp_of streams e.from e.serial.this ≡ None
     → is_hidden streams e ≡ true
 if_hides streams e receives none =
     let from = λ (o : Option (ℕ × Event)). let s : Source =

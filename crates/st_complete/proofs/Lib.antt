@@ -12,3 +12,4 @@ pub mod Constructed
 pub mod Columns
 pub mod Orders
 pub mod Hiding
+pub mod Asked

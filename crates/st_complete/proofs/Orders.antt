@@ -233,7 +233,7 @@ some_among : {X : Type 0} (x : X) (xs : List X) → Among x xs → 0 < length xs
 some_among x [] among = absurd among
 some_among x (y ∷ xs) among = omega arith
 
-none_if_no_length : {X : Type 0} (xs : List X) → length xs ≤ 0 → xs ≡ []
+pub none_if_no_length : {X : Type 0} (xs : List X) → length xs ≤ 0 → xs ≡ []
 none_if_no_length [] low = refl
 none_if_no_length (x ∷ xs) low = absurd (omega arith)
 

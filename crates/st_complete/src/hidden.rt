@@ -123,9 +123,11 @@ pub(crate) fn hidden_sends_of(
     requires paired { IsPairing streams.now pairing.now }
     ensures { IfOk result (λ sends. sends.items ≡ hidden_sends streams.now pid) }
 {
+    let _pids = streams.pids();
     let mut hidden = hidden_among(alloc, streams, pairing, pid)?;
     hidden.sort_unstable_by_key(|send| send.serial.this);
-    rising(alloc, &hidden)
+    let sends = rising(alloc, &hidden)?;
+    Ok(sends)
 }
 
 /// The hidden sends of each process. It looks at all events once for each process.

@@ -15,6 +15,7 @@ ghost use Rattle.st_complete.specs.Hidden.{AreAskedSupplied, asks};
 ghost use Rattle.st_complete.specs.Told.{told_of};
 
 use crate::flaws::{is_hidden_source, is_stamp};
+use crate::hidden::all_hidden_sends;
 use crate::placing::fewest_needs;
 use crate::unsent::{Told, all_told, untaken_count, unused_count};
 use st_core::{Event, Pid, Sequence, Streams};
@@ -133,13 +134,12 @@ fn unsent_at_least_in(
 ///
 /// It counts the messages anew for each such event, which takes a time quadratic in the events, and
 /// in a stretch between two reported stamps with hidden sends as much again for each of these.
-pub(crate) fn find_unsent_at_least(
+fn find_unsent_at_least(
     alloc: Global,
     streams: &Streams,
     pairing: &Pairing,
     lists: &[Sequence<Event>],
 ) -> Result<Option<(Pid, u64)>, AllocError>
-    requires accepted { refusal streams.now ≡ None }
     requires paired { IsPairing streams.now pairing.now }
     requires hidden { lists.now ≡ map (hidden_sends streams.now) (pids_of streams.now) }
     ensures some { IfOk result
@@ -155,4 +155,22 @@ pub(crate) fn find_unsent_at_least(
         }
     }
     Ok(None)
+}
+
+/// The first such event. It looks at all events once for each process, and then as often as
+/// `find_unsent_at_least` does.
+pub(crate) fn find_shortage(
+    alloc: Global,
+    streams: &Streams,
+    pairing: &Pairing,
+) -> Result<Option<(Pid, u64)>, AllocError>
+    requires accepted { refusal streams.now ≡ None }
+    requires paired { IsPairing streams.now pairing.now }
+    ensures some { IfOk result
+        (λ found. ForSome found (λ at. IsUnsentAtLeast streams.now at.0 at.1)) }
+    ensures none { IfOk result
+        (λ found. IfNone found ((v : ℕ) → IsSuppliedAtLeast streams.now v)) }
+{
+    let lists = all_hidden_sends(alloc, streams, pairing)?;
+    find_unsent_at_least(alloc, streams, pairing, &lists)
 }

@@ -14,7 +14,7 @@ pub use Rattle.st_full.proofs.StampsTold.{told_zeros_final}
 pub use Rattle.st_full.proofs.Asking.{IsTaken}
 pub use Rattle.st_full.proofs.Supplies.{greatest_among, highest}
 pub use Rattle.st_full.proofs.Untold.{AreBelow, AreHidden, count_at, HasCount, HaveHidden, hidden_all, hidden_is}
-pub use Rattle.st_full.proofs.Untold.{IsHiddenSend, RisesFrom, untold_events}
-pub use Rattle.st_full.proofs.Leasts.{Among, among_filter, mixed, smallest_low, timely_is}
-pub use Rattle.st_full.proofs.Mixing.{among_at, placing_from}
+pub use Rattle.st_full.proofs.Untold.{first_of, IsHiddenSend, RisesFrom, untold_events}
+pub use Rattle.st_full.proofs.Leasts.{Among, among_filter, mixed, never_shown_anywhere, smallest_low, timely_is}
+pub use Rattle.st_full.proofs.Mixing.{among_at, among_marks, at_among, placing_from}
 pub use Rattle.st_full.proofs.Fewest.{best_placing}
