@@ -316,43 +316,43 @@ if_hides streams e receives none =
     ap (λ b. test b (stamp_of streams e.from e.serial.this)) receives ∙ ap (test false) none
 
 module _ (streams : List Stream) (q : Pid) (rising : IsRising (pids_of streams)) (accepted : refusal streams ≡ None)
-    where
-  is_hidden_send : (f : Event) → IsHiddenOf streams q f → hidden_send streams q f.serial.this ≡ Some f
-  is_hidden_send f h =
-      let e = h.event in
-      let says = hides_if streams e h.hides in
-      let count : e.serial.this ≡ f.serial.this = ap (λ (x : Event). x.serial.this) h.is in
-      let find = λ (o : Option (Pid × ℕ)). option_map send_of (option_and_then (λ at. event_at streams at.0 at.1) o) in
-      let once = only_receive streams h.pid h.index e h.at says.0 (paired streams accepted).once in
-      ap (λ p. hidden_send streams p f.serial.this) (sym h.from)
-      ∙ ap (hidden_send streams e.from) (sym count)
-      ∙ ap (λ (o : Option (ℕ × Event)). cond (is_none o) (find (receive_of streams e.from e.serial.this)) None) says.1
-      ∙ ap find once
-      ∙ ap (option_map send_of) h.at
-      ∙ ap Some h.is
+  where
+    is_hidden_send : (f : Event) → IsHiddenOf streams q f → hidden_send streams q f.serial.this ≡ Some f
+    is_hidden_send f h =
+        let e = h.event in
+        let says = hides_if streams e h.hides in
+        let count : e.serial.this ≡ f.serial.this = ap (λ (x : Event). x.serial.this) h.is in
+        let find = λ (o : Option (Pid × ℕ)). option_map send_of (option_and_then (λ at. event_at streams at.0 at.1) o) in
+        let once = only_receive streams h.pid h.index e h.at says.0 (paired streams accepted).once in
+        ap (λ p. hidden_send streams p f.serial.this) (sym h.from)
+        ∙ ap (hidden_send streams e.from) (sym count)
+        ∙ ap (λ (o : Option (ℕ × Event)). cond (is_none o) (find (receive_of streams e.from e.serial.this)) None) says.1
+        ∙ ap find once
+        ∙ ap (option_map send_of) h.at
+        ∙ ap Some h.is
 
-  pub sends_are : (sorted : List Event) → IsPermutation (hidden_among streams q streams) sorted → NeverFalls sorted
-      → rising_from 0 sorted ≡ hidden_sends streams q
-  sends_are sorted moved falls =
-      let all = hidden_among streams q streams in
-      let found = all_found streams rising in
-      let of = λ (k : ℕ) (f : Event) (at : slice_get (rising_from 0 sorted) k ≡ Some f).
-      among_hidden streams q streams found f
-      (permuted sorted all f (IsPermutation-sym all sorted moved) (rising_among 0 sorted k f at)) in
-      hidden_all streams q 0 (suc (highest streams)) (rising_from 0 sorted) (rising_rises 0 sorted)
-      (λ k f at.
-      let h = of k f at in
-      let here = count_at (events_of streams h.pid) h.index h.event h.at in
-      let low = greatest_among streams h.pid in
-      let count = ap (λ (x : Event). x.serial.this) h.is in
-      omega arith)
-      (λ k f at. is_hidden_send f (of k f at))
-      (λ w f _ is.
-      let h = hidden_is streams q w f rising is in
-      let t = h.taken in
-      let none : stamp_of streams t.event.from t.event.serial.this ≡ None =
-      ap (λ p. stamp_of streams p t.event.serial.this) t.from ∙ ap (stamp_of streams q) t.count ∙ h.unstamped in
-      let there = hidden_amid streams q streams t.pid t.index t.event t.at
-      (if_hides streams t.event t.receives none) t.from in
-      subst (HasCount (rising_from 0 sorted)) t.count
-      (rising_has 0 sorted falls (send_of t.event) (permuted all sorted (send_of t.event) moved there) (omega arith)))
+    pub sends_are : (sorted : List Event) → IsPermutation (hidden_among streams q streams) sorted → NeverFalls sorted
+        → rising_from 0 sorted ≡ hidden_sends streams q
+    sends_are sorted moved falls =
+        let all = hidden_among streams q streams in
+        let found = all_found streams rising in
+        let of = λ (k : ℕ) (f : Event) (at : slice_get (rising_from 0 sorted) k ≡ Some f).
+        among_hidden streams q streams found f
+        (permuted sorted all f (IsPermutation-sym all sorted moved) (rising_among 0 sorted k f at)) in
+        hidden_all streams q 0 (suc (highest streams)) (rising_from 0 sorted) (rising_rises 0 sorted)
+        (λ k f at.
+        let h = of k f at in
+        let here = count_at (events_of streams h.pid) h.index h.event h.at in
+        let low = greatest_among streams h.pid in
+        let count = ap (λ (x : Event). x.serial.this) h.is in
+        omega arith)
+        (λ k f at. is_hidden_send f (of k f at))
+        (λ w f _ is.
+        let h = hidden_is streams q w f rising is in
+        let t = h.taken in
+        let none : stamp_of streams t.event.from t.event.serial.this ≡ None =
+        ap (λ p. stamp_of streams p t.event.serial.this) t.from ∙ ap (stamp_of streams q) t.count ∙ h.unstamped in
+        let there = hidden_amid streams q streams t.pid t.index t.event t.at
+        (if_hides streams t.event t.receives none) t.from in
+        subst (HasCount (rising_from 0 sorted)) t.count
+        (rising_has 0 sorted falls (send_of t.event) (permuted all sorted (send_of t.event) moved there) (omega arith)))
