@@ -19,6 +19,7 @@ use Rattle.st_pair.specs.Pairing.{refusal}
 use Rattle.st_pair.specs.Places.{event_at, is_stamp}
 use Rattle.st_pair.proofs.ForCallers.{paired, refused_never_shown, serial_rises, stamp_counts_rise}
 use Rattle.st_plan.specs.Marks.{all_streams, told_events, told_streams, Marked, Whole}
+use Rattle.st_full.specs.FinalReasons.{Unsent as unsent_at_least}
 use Rattle.st_full.specs.Completed.{IsCompleted, IsShownInOneTrace}
 use Rattle.st_plan.specs.Full.{IsFull}
 use Rattle.st_full.specs.Local.{IsNeedless}
@@ -26,7 +27,7 @@ use Rattle.st_full.specs.Needs.{HoldsOfNone, is_late, is_rootless, marked_of}
 use Rattle.st_full.specs.Reasons.{HasNoReason}
 use Rattle.st_full.specs.Supply.{IsSupplied}
 use Rattle.st_full.specs.Wholes.{wholes_of}
-use Rattle.st_full.proofs.ForCallers.{run_completed, told_zeros_final}
+use Rattle.st_full.proofs.ForCallers.{never_shown_anywhere, run_completed, told_zeros_final}
 use Rattle.st_complete.specs.declared.answer.Never.{Never}
 use Rattle.st_complete.specs.declared.answer.Never.TheVariants as never
 use Rattle.st_complete.specs.declared.answer.Answer.{Answer}
@@ -154,7 +155,12 @@ reason_final top streams p i never.Unfounded law sound is = λ most acts none sh
       | inr behind ↦ told_zeros_final most streams sound is.0 p i behind acts none shows
     ]
 reason_final top streams p i never.Unsent law sound is = λ most acts none shows.
-    is.1.unsupplied ((law most streams acts shows none sound.draft.rising).2 is.1.event.serial.prev)
+    elim is.1 [
+      | inl unsent ↦
+          unsent.unsupplied ((law most streams acts shows none sound.draft.rising).2 unsent.event.serial.prev)
+      | inr at_least ↦ never_shown_anywhere most streams sound.draft.rising
+          (unsent_at_least at_least.event.serial.prev) at_least.unsupplied acts none shows
+    ]
 reason_final top streams p i never.TooHigh law sound is = λ shown.
     let full = run_completed top streams shown.acts shown.shows shown.one_trace sound.draft.rising in
     above top is.1.event.serial.this is.1.holds

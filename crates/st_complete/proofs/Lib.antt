@@ -12,3 +12,7 @@ pub mod Constructed
 pub mod Scarcity
 pub mod Stretched
 pub mod Placed
+pub mod Columns
+pub mod Orders
+pub mod Hiding
+pub mod Asked

@@ -244,14 +244,14 @@ supplied_next streams es i d at before here = λ j e less there need. elim (case
 ]
 
 -- some term of a sum isn't 0
-record HasSome (f : Pid → ℕ) (ps : List Pid) : Type 0 where
-  index : ℕ
-  pid : Pid
-  at : slice_get ps index ≡ Some pid
-  some : 0 < f pid
+pub record HasSome (f : Pid → ℕ) (ps : List Pid) : Type 0 where
+  pub index : ℕ
+  pub pid : Pid
+  pub at : slice_get ps index ≡ Some pid
+  pub some : 0 < f pid
 
 -- else all are
-some_or_nothing : (f : Pid → ℕ) (ps : List Pid) → HasSome f ps ⊎ (sum_by f ps ≡ 0)
+pub some_or_nothing : (f : Pid → ℕ) (ps : List Pid) → HasSome f ps ⊎ (sum_by f ps ≡ 0)
 some_or_nothing f [] = inr refl
 some_or_nothing f (p ∷ ps) = elim (cases_lt 0 (f p)) [
   | inl less ↦ inl (record { index = 0; pid = p; at = refl; some = less })
@@ -261,7 +261,7 @@ some_or_nothing f (p ∷ ps) = elim (cases_lt 0 (f p)) [
   ]
 ]
 
-index_within : {X : Type 0} (xs : List X) (i : ℕ) (x : X) → slice_get xs i ≡ Some x → i < length xs
+pub index_within : {X : Type 0} (xs : List X) (i : ℕ) (x : X) → slice_get xs i ≡ Some x → i < length xs
 index_within [] i x at = absurd (cc)
 index_within (y ∷ xs) zero x at = omega arith
 index_within (y ∷ xs) (suc i) x at = let rest = index_within xs i x at in omega (arith, rest)

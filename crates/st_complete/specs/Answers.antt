@@ -1,5 +1,5 @@
 -- What the results mean: a completion, or a place and a reason why no acts without a reset show the streams.
-use Rattle.std.specs.Prelude.{◌≡◌, ◌⊎◌, ℕ, ◌<◌, ◌≤◌, nat_lt, Bool, true, false, List, take, slice_get, Some}
+use Rattle.std.specs.Prelude.{◌≡◌, ◌⊎◌, ℕ, ◌<◌, ◌≤◌, ◌||◌, nat_lt, Bool, true, false, List, take, slice_get, Some}
 use Rattle.std.specs.Prelude.{None, IsSome}
 use Rattle.st_core.specs.declared.types.Pid.{Pid}
 use Rattle.st_core.specs.declared.types.Event.{Event}
@@ -11,7 +11,7 @@ use Rattle.st_pair.specs.Pairing.{refusal}
 use Rattle.st_pair.specs.Places.{event_at, is_stamp}
 use Rattle.st_order.specs.Items.{is_hidden}
 use Rattle.st_full.specs.Completed.{IsShownInOneTrace}
-use Rattle.st_full.specs.FinalReasons.{IsZeroBehind}
+use Rattle.st_full.specs.FinalReasons.{IsSuppliedAtLeast, IsZeroBehind}
 use Rattle.st_full.specs.Needs.{HoldsOfNone, is_late, is_need, is_rootless}
 use Rattle.st_full.specs.Reasons.{HasEachSend}
 use Rattle.st_full.specs.Supply.{IsSupplied}
@@ -50,6 +50,14 @@ pub record IsUnsent (streams : List Stream) (p : Pid) (i : ℕ) : Type 0 where
   pub need : is_need (take i (events_of streams p)) event ≡ true
   pub unsupplied : ¬ IsSupplied streams event.serial.prev
 
+-- event i of p is a send or print, or the receive of a hidden send, and of its prev there are more needs than messages
+-- that may feed them, even if each process has its hidden sends where it needs the fewest
+pub record IsUnsentAtLeast (streams : List Stream) (p : Pid) (i : ℕ) : Type 0 where
+  pub event : Event
+  pub at : event_at streams p i ≡ Some event
+  pub asks : (is_stamp event || is_hidden streams event) ≡ true
+  pub unsupplied : ¬ IsSuppliedAtLeast streams event.serial.prev
+
 -- event j of these is the last before index i that counts no lower than this
 pub record IsHigher (es : List Event) (i this j : ℕ) : Type 0 where
   pub event : Event
@@ -78,7 +86,7 @@ IsReason top streams p i (never.Late j) =
     (refusal streams ≡ None) × HoldsThere is_late streams p i × IsLastHigher streams p i j
 IsReason top streams p i never.Unfounded =
     (refusal streams ≡ None) × HoldsOfNone is_late streams × IsUnfounded streams p i
-IsReason top streams p i never.Unsent = IsRooted streams × IsUnsent streams p i
+IsReason top streams p i never.Unsent = IsRooted streams × (IsUnsent streams p i ⊎ IsUnsentAtLeast streams p i)
 IsReason top streams p i never.TooHigh = IsRooted streams × HoldsThere (is_too_high top) streams p i
 
 -- no acts without a reset show the streams, however far clocks go; for TooHigh, as far as these go
@@ -95,12 +103,13 @@ pub record HidesSend (streams : List Stream) : Type 0 where
   pub hides : is_hidden streams event ≡ true
 
 -- The streams are undecided: the send of some receive is hidden; nothing that is read off the
--- events of one process alone refuses them, and no two events tell of a need of 0; and the event is
--- there.
+-- events of one process alone refuses them, no two events tell of a need of 0, and of each count there are enough
+-- messages with hidden sends at the best places; and the event is there.
 pub record IsUndecided (top : ℕ) (streams : List Stream) (p : Pid) (i : ℕ) : Type 0 where
   pub hidden : HidesSend streams
   pub rooted : IsRooted streams
   pub founded : (q : Pid) (j : ℕ) → ¬ IsZeroBehind streams q j
+  pub supplied : (v : ℕ) → IsSuppliedAtLeast streams v
   pub within : HoldsOfNone (is_too_high top) streams
   pub there : IsSome (event_at streams p i)
 

@@ -13,3 +13,5 @@ pub mod Zeros
 pub mod Placings
 pub mod Stamps
 pub mod Choices
+-- Where hidden sends stand, and which sends are hidden.
+pub mod Hidden

@@ -26,8 +26,10 @@ pub enum Never {
     /// print or the receive of such a send, both of one process, and that with the lower count has
     /// another prev than 0.
     Unfounded,
-    /// The process must have received a message of the count that the event has as its prev. More
-    /// such messages are missing than processes may have sent.
+    /// Messages of the count that the event has as its prev must have been received, and more of
+    /// them are missing than processes may have sent. The event is a send or print that needs one;
+    /// or, if sends are hidden, any send or print, or the receive of a hidden send, with this prev:
+    /// too many are missing wherever the hidden sends stand.
     Unsent,
     /// No clock goes up to the event's count.
     TooHigh,

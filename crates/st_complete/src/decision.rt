@@ -7,7 +7,7 @@ ghost use Rattle.st_core.specs.declared.types.Pid.{Pid as PidValue};
 ghost use Rattle.st_pair.specs.Links.{IsPairing};
 ghost use Rattle.st_pair.specs.Pairing.{refusal, IsPairFault};
 ghost use Rattle.st_pair.specs.Places.{event_at};
-ghost use Rattle.st_full.specs.FinalReasons.{IsZeroBehind};
+ghost use Rattle.st_full.specs.FinalReasons.{IsSuppliedAtLeast, IsZeroBehind};
 ghost use Rattle.st_full.specs.Needs.{is_late, is_rootless, HoldsOfNone};
 ghost use Rattle.st_complete.specs.Answers.{is_too_high, HidesSend, HoldsThere, IsAnswer};
 ghost use Rattle.st_complete.specs.Answers.{IsNeverFinal};
@@ -19,6 +19,7 @@ use crate::candidate::Candidate;
 use crate::construction::construct;
 use crate::flaws::{Flaw, find_flaw, find_hidden};
 use crate::judge::judge;
+use crate::least::find_shortage;
 use crate::search::{Outcome, search};
 use crate::unsent::{find_unsent, is_unsent};
 use crate::zeros::find_zero_behind;
@@ -123,6 +124,7 @@ fn open_answer<const TOP: u64>(
     requires hidden { HidesSend streams.now }
     requires rooted { IsRooted streams.now }
     requires founded { (q : PidValue) (j : ℕ) → ¬ IsZeroBehind streams.now q j }
+    requires supplied { (v : ℕ) → IsSuppliedAtLeast streams.now v }
     requires within { HoldsOfNone (is_too_high TOP) streams.now }
     requires there { IsSome (event_at streams.now receive.0 receive.1) }
     ensures { IsAnswer TOP streams.now result }
@@ -193,11 +195,12 @@ fn answer_without_hidden<const TOP: u64>(
     }
 }
 
-/// The answer if a send is hidden, the search found no completion, and no two events tell of a need
-/// of 0: `Unsent`, if a count of the messages shows it, else `Open`.
-fn answer_by_counts<const TOP: u64>(
+/// `Unsent`, if there are too few messages of some count even with hidden sends at the best places,
+/// else `Open`.
+fn answer_by_least<const TOP: u64>(
     alloc: Global,
     streams: &Streams,
+    pairing: &Pairing,
     place: Option<(Pid, u64)>,
     receive: (Pid, u64),
 ) -> Result<Answer, CompleteFault>
@@ -205,13 +208,38 @@ fn answer_by_counts<const TOP: u64>(
     requires rooted { IsRooted streams.now }
     requires founded { (q : PidValue) (j : ℕ) → ¬ IsZeroBehind streams.now q j }
     requires within { HoldsOfNone (is_too_high TOP) streams.now }
+    requires paired { IsPairing streams.now pairing.now }
+    requires there { IsSome (event_at streams.now receive.0 receive.1) }
+    ensures { IfOk result (IsAnswer TOP streams.now) }
+{
+    match find_shortage(alloc, streams, pairing) {
+        Err(_) => Err(CompleteFault::Memory),
+        Ok(Some((pid, index))) => Ok(Answer::Never(pid, index, Never::Unsent)),
+        Ok(None) => Ok(open_answer::<TOP>(streams, place, receive)),
+    }
+}
+
+/// The answer if a send is hidden, the search found no completion, and no two events tell of a need
+/// of 0: `Unsent`, if a count of the messages shows it, else `Open`.
+fn answer_by_counts<const TOP: u64>(
+    alloc: Global,
+    streams: &Streams,
+    pairing: &Pairing,
+    place: Option<(Pid, u64)>,
+    receive: (Pid, u64),
+) -> Result<Answer, CompleteFault>
+    requires hidden { HidesSend streams.now }
+    requires rooted { IsRooted streams.now }
+    requires founded { (q : PidValue) (j : ℕ) → ¬ IsZeroBehind streams.now q j }
+    requires within { HoldsOfNone (is_too_high TOP) streams.now }
+    requires paired { IsPairing streams.now pairing.now }
     requires there { IsSome (event_at streams.now receive.0 receive.1) }
     ensures { IfOk result (IsAnswer TOP streams.now) }
 {
     match unsent_place(alloc, streams, place) {
         Err(_) => Err(CompleteFault::Memory),
         Ok(Some((pid, index))) => Ok(Answer::Never(pid, index, Never::Unsent)),
-        Ok(None) => Ok(open_answer::<TOP>(streams, place, receive)),
+        Ok(None) => answer_by_least::<TOP>(alloc, streams, pairing, place, receive),
     }
 }
 
@@ -220,19 +248,21 @@ fn answer_by_counts<const TOP: u64>(
 fn answer_with_hidden<const TOP: u64>(
     alloc: Global,
     streams: &Streams,
+    pairing: &Pairing,
     place: Option<(Pid, u64)>,
     receive: (Pid, u64),
 ) -> Result<Answer, CompleteFault>
     requires hidden { HidesSend streams.now }
     requires rooted { IsRooted streams.now }
     requires within { HoldsOfNone (is_too_high TOP) streams.now }
+    requires paired { IsPairing streams.now pairing.now }
     requires there { IsSome (event_at streams.now receive.0 receive.1) }
     ensures { IfOk result (IsAnswer TOP streams.now) }
 {
     match find_zero_behind(alloc, streams) {
         Err(_) => Err(CompleteFault::Memory),
         Ok(Some((pid, index))) => Ok(zero_behind_answer::<TOP>(streams, pid, index)),
-        Ok(None) => answer_by_counts::<TOP>(alloc, streams, place, receive),
+        Ok(None) => answer_by_counts::<TOP>(alloc, streams, pairing, place, receive),
     }
 }
 
@@ -251,7 +281,7 @@ fn answer_after_search<const TOP: u64>(
 {
     match find_hidden(streams, pairing) {
         None => answer_without_hidden::<TOP>(alloc, streams, place),
-        Some(receive) => answer_with_hidden::<TOP>(alloc, streams, place, receive),
+        Some(receive) => answer_with_hidden::<TOP>(alloc, streams, pairing, place, receive),
     }
 }
 

@@ -52,7 +52,7 @@ pub(crate) fn is_stamp(event: &Event) -> bool
 }
 
 /// The prev that an event leaves: its own if it is a send or print, the count of a receive.
-fn prev_left(event: &Event) -> u64
+pub(crate) fn prev_left(event: &Event) -> u64
     ensures { result ≡ prev_after (event.now ∷ []) }
 {
     match event.kind {
@@ -62,7 +62,7 @@ fn prev_left(event: &Event) -> u64
 }
 
 /// Whether the source is a hidden send.
-fn is_hidden_source(source: Option<Source>) -> bool
+pub(crate) fn is_hidden_source(source: Option<Source>) -> bool
     ensures { result ≡ is_hidden_in source }
 {
     match source {

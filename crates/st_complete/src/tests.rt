@@ -167,6 +167,53 @@ fn nobody_is_free_to_send(rt: HostRuntime) -> Result<(), Fail> {
     Ok(())
 }
 
+/// 30 received these serials from itself, after these prints, and reported no send.
+fn own_receives(
+    alloc: Global,
+    prints: &[(u64, u64)],
+    serials: &[(u64, u64)],
+) -> Result<Streams, Fail> {
+    let mut draft = Draft::new(alloc);
+    draft.open(p30())?;
+    for &(prev, this) in prints {
+        draft.add(p30(), print(prev, this, p30()))?;
+    }
+    for &(prev, this) in serials {
+        let received = event(Kind::Receive, prev, this, p30(), Some(p30()), 5);
+        draft.add(p30(), received)?;
+    }
+    Ok(draft.close()?)
+}
+
+#[test]
+fn a_hidden_send_lacks_a_message_wherever_it_stands(rt: HostRuntime) -> Result<(), Fail> {
+    let streams = own_receives(rt.alloc(), &[(0, 1), (0, 2)], &[(1, 3)])?;
+    let answer = complete::<MOST>(rt.alloc(), &streams)?;
+    let Answer::Never(pid, index, Never::Unsent) = answer else {
+        panic!(rt; "another answer");
+    };
+    assert_eq!(rt; pid, p30());
+    assert_eq!(rt; index, 2);
+    Ok(())
+}
+
+#[test]
+fn a_hidden_send_behind_its_cause_lacks_none(rt: HostRuntime) -> Result<(), Fail> {
+    let streams = own_receives(rt.alloc(), &[], &[(0, 1), (1, 2)])?;
+    let answer = complete::<MOST>(rt.alloc(), &streams)?;
+    assert!(rt; matches!(answer, Answer::Whole(_)));
+    Ok(())
+}
+
+/// 1 and 2 could each be served, but not both.
+#[test]
+fn two_scarce_counts_in_a_stretch_stay_open(rt: HostRuntime) -> Result<(), Fail> {
+    let streams = own_receives(rt.alloc(), &[], &[(0, 2), (0, 1), (1, 3), (2, 4)])?;
+    let answer = complete::<MOST>(rt.alloc(), &streams)?;
+    assert!(rt; matches!(answer, Answer::Open(..)));
+    Ok(())
+}
+
 /// 30 printed 2 with this prev, and 31 received its send of 3 with prev 0, which nobody reported.
 fn zero_behind(alloc: Global, prev: u64) -> Option<Streams> {
     let mut draft = Draft::new(alloc);

@@ -226,7 +226,7 @@ module _ (streams : List Stream) (q : Pid) where
     | suc k ↦ λ at. record { index = k; event = has.event; at = at; count = has.count }
   ] has.at
 
-  hidden_all : (v n : ℕ) (es : List Event) → RisesFrom v es → AreBelow (v + n) es → AreHidden es → HaveHidden v es
+  pub hidden_all : (v n : ℕ) (es : List Event) → RisesFrom v es → AreBelow (v + n) es → AreHidden es → HaveHidden v es
       → es ≡ hidden_from streams q v n
   hidden_all v zero [] rises below hidden have = refl
   hidden_all v zero (e ∷ es) rises below hidden have =

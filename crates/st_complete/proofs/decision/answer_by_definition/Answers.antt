@@ -1,9 +1,10 @@
 -- The event that is named is unsent; and if there is none, no reason is left.
+use Rattle.std.proofs.Common.{inl}
 use Rattle.st_complete.proofs.Answered.{none_left}
 use Rattle.st_complete.proofs.decision.answer_by_definition.Goals as goal
 
 pub returns-in-Ok-Some : goal.returns-in-Ok-Some
-returns-in-Ok-Some g c = (c.requires.rooted, c.in-Ok-Some.ensures.some _ c.in-Ok-Some.field-0-is)
+returns-in-Ok-Some g c = (c.requires.rooted, inl (c.in-Ok-Some.ensures.some _ c.in-Ok-Some.field-0-is))
 
 pub construct-requires-clause-sends : goal.construct-requires-clause-sends
 construct-requires-clause-sends g c = record { accepted = c.requires.rooted.accepted; reported = c.requires.none }
