@@ -17,6 +17,27 @@ const SHORT_WALK: u64 = 256;
 /// takes about as long.
 const WALKS_AN_INDEX: u64 = 16;
 
+/// How a message is searched for before a receive takes it.
+#[derive(Clone, Copy, Debug, PartialEq, Eq)]
+pub(crate) enum Search {
+    /// From the front.
+    Front,
+    /// By the stamp of its token if it has one, from both ends at once; else not at all.
+    Stamp,
+}
+
+impl Search {
+    // How many messages a walk passes that searches for the message that lay at this place, before so
+    // many others.
+    fn passed(self, place: u64, others: u64, message: &Message) -> u64 {
+        match self {
+            Search::Front => place,
+            Search::Stamp if message.token.is_none() => 0,
+            Search::Stamp => place.min(others.saturating_sub(place)),
+        }
+    }
+}
+
 /// How the messages of one queue are found.
 #[derive(Drop)]
 pub(crate) enum Finder {
@@ -72,8 +93,8 @@ impl Finder {
         }
     }
 
-    /// Follows a list that the message at this place has left. If there is no index, that place was
-    /// found by a walk. An empty queue needs no memory.
+    /// Follows a list that the message at this place has left, and which a search walked before. An
+    /// empty queue needs no memory.
     pub(crate) fn remove(
         &mut self,
         alloc: Global,
@@ -81,6 +102,7 @@ impl Finder {
         list: usize,
         place: u64,
         message: &Message,
+        search: Search,
     )
         requires within { list < length lists.now.lists }
         requires finder { IsFinder self.old }
@@ -93,7 +115,8 @@ impl Finder {
         } else if let Finder::Index(index) = self {
             index.remove(place, message);
         } else {
-            self.count_walk(alloc, lists, list, place);
+            let passed = search.passed(place, lists.len(list), message);
+            self.count_walk(alloc, lists, list, passed);
         }
     }
 

@@ -9,6 +9,7 @@ ghost use Rattle.st_core.specs.Step.{untraced};
 ghost use Rattle.st_arena.specs.Calls.{PassesOnce};
 ghost use Rattle.st_mail.specs.Mail.{queue_in, left_by, bears_stamp};
 
+use crate::finder::Search;
 use crate::queues::Queues;
 use st_core::{Message, Pid, Want};
 use std::alloc::{AllocError, Global};
@@ -22,6 +23,9 @@ pub struct Mailboxes {
     // How many messages at the front of each mailbox were wiped: what is stored of them may still have
     // its token, which counts for nothing. A wipe is of all that lie there, so it leaves no gap.
     wiped: Vec<u64>,
+
+    // Whether messages of any mailbox were wiped.
+    was_wiped: bool,
 }
 
 impl Model for Mailboxes {
@@ -45,6 +49,16 @@ fn untraced(message: Message) -> Message
     }
 }
 
+/// How the message of a receive with this pattern is searched for. One that is taken by its place may
+/// have been asked for by its stamp (`place_of_one`), once messages were wiped from the front
+/// (`place_of`).
+fn search_for(want: &Want, was_wiped: bool) -> Search {
+    match want {
+        Want::Place(_) if !was_wiped => Search::Stamp,
+        _ => Search::Front,
+    }
+}
+
 impl Mailboxes {
     /// As many empty mailboxes as `count`, with room for no message yet. Fails if memory runs
     /// out.
@@ -54,7 +68,11 @@ impl Mailboxes {
     {
         let queues = Queues::new(alloc, count)?;
         let wiped = vec![in alloc; 0; count]?;
-        Ok(Mailboxes { queues, wiped })
+        Ok(Mailboxes {
+            queues,
+            wiped,
+            was_wiped: false,
+        })
     }
 
     /// Makes room for `count` more messages, in any mailboxes. If there is room already, nothing
@@ -181,8 +199,9 @@ impl Mailboxes {
             self.queues.count_walk(mailbox);
             return None;
         };
-        let message = self.queues.take_at(mailbox, place).unwrap();
         let wiped = self.wiped[mailbox];
+        let search = search_for(want, self.was_wiped);
+        let message = self.queues.take_at(mailbox, place, search).unwrap();
         if place >= wiped {
             return Some((place, message));
         }
@@ -221,5 +240,6 @@ impl Mailboxes {
         ensures spare { self.new.spare ≡ self.old.spare }
     {
         self.wiped[mailbox] = self.len(mailbox);
+        self.was_wiped = true;
     }
 }

@@ -9,7 +9,7 @@ ghost use Rattle.st_arena.specs.Arena.{list_at};
 ghost use Rattle.st_arena.specs.Calls.{PassesOnce};
 ghost use Rattle.st_mail.specs.Mail.{bears_stamp};
 
-use crate::finder::Finder;
+use crate::finder::{Finder, Search};
 use st_arena::Lists;
 use st_core::{Message, Pid, Token};
 use std::alloc::{AllocError, Global};
@@ -121,9 +121,9 @@ impl Queues {
         self.finders[queue].push(self.alloc, &self.lists, queue, &message);
     }
 
-    /// Takes the message at this place out of the queue, if it is that long. Its room is there for the
-    /// next one, in any queue.
-    pub(crate) fn take_at(&mut self, queue: usize, place: u64) -> Option<Message>
+    /// Takes the message at this place, which was searched for, out of the queue, if it is that long. Its
+    /// room is there for the next one, in any queue.
+    pub(crate) fn take_at(&mut self, queue: usize, place: u64, search: Search) -> Option<Message>
         requires { queue < length self.old.lists }
         ensures value { result ≡ slice_get (list_at self.old queue) place }
         ensures taken { OnSome result (
@@ -132,7 +132,7 @@ impl Queues {
         ensures nothing_there { IfNone result (self.new ≡ self.old) }
     {
         let message = self.lists.take_at(queue, place)?;
-        self.finders[queue].remove(self.alloc, &self.lists, queue, place, &message);
+        self.finders[queue].remove(self.alloc, &self.lists, queue, place, &message, search);
         Some(message)
     }
 
