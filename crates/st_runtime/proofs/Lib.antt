@@ -1,4 +1,5 @@
 -- What the step calls and the calls of a system need.
+pub mod CallLemmas
 pub mod RowLemmas
 pub mod LogLemmas
 pub mod PartLemmas

@@ -12,6 +12,7 @@ ghost use Rattle.st_runtime.specs.Pcb.{IsKept, IsSame, IsStepped, IsBetween, len
 ghost use Rattle.st_runtime.specs.Pcb.{is_wide, greatest_rank};
 
 pub mod acts;
+pub mod calls;
 pub mod entry;
 pub mod log;
 pub mod parts;

@@ -140,12 +140,12 @@ impl<const TOP: u64, const RANKS: u64> System<TOP, RANKS> {
         let Some((me, them)) = self.places(act) else {
             return Err(ActFault::Unknown);
         };
-        let Ok(()) = seat.mine.reserve(1) else {
+        let Ok(()) = seat.mine.reserve() else {
             return Err(ActFault::Memory);
         };
         let n = seat.mine.len() as u64;
         let reply = self.act_under_locks(rt, gate, me, them, act, n)?;
-        seat.mine.push_reserved((*act, reply));
+        let _place = seat.mine.push_reserved(act, &reply);
         Ok(reply)
     }
 

@@ -8,6 +8,7 @@ ghost use Rattle.st_runtime.specs.Pieces.{pids_in, calls_of, seats_at, IsSeated,
 use crate::join::same::{is_same_act, is_same_reply};
 use crate::join::whole::place_in;
 use crate::pcb::Pcb;
+use crate::pcb::calls::CallLog;
 use crate::pcb::entry::Entry;
 use crate::pcb::log::Log;
 use crate::system::seat::Seat;
@@ -120,14 +121,14 @@ fn has_no_seat(seats: &[Seat], pid: Pid) -> bool
 }
 
 /// Whether these are the calls of the pid in the log.
-fn holds_calls(mine: &[(Act, Reply)], pid: Pid, log: &Log) -> bool
-    ensures { IsTrue result ↔ (mine.now ≡ calls_of pid log.now.entries) }
+fn holds_calls(mine: &CallLog, pid: Pid, log: &Log) -> bool
+    ensures { IsTrue result ↔ (mine.now.calls ≡ calls_of pid log.now.entries) }
 {
     let mut next = 0;
     for place in 0..log.len() {
         let entry = log.at(place);
         if entry.act.actor() == pid {
-            if next >= mine.len() || !is_call(&mine[next], &entry) {
+            if next >= mine.len() || !is_call(&mine.at(next), &entry) {
                 return false;
             }
             next += 1;

@@ -9,6 +9,7 @@ ghost use Rattle.st_runtime.specs.Logs.{last_rank};
 ghost use Rattle.st_runtime.specs.Rows.{unranked, unranked_in, IsPlaced};
 
 use crate::fault::PcbFault;
+use crate::pcb::calls::CallLog;
 use crate::pcb::entry::Entry;
 use crate::pcb::row::{Content, Row, Unranked, content_of};
 use std::alloc::{AllocError, Global};
@@ -22,12 +23,14 @@ const NEAR: usize = 64;
 const MOST_APART: usize = 4_294_967_295;
 
 /// The entries of the acts that touched one process, in order. An entry of a reset or a tracer change
-/// takes 16 bytes and at most as many again as room to grow; any other takes 192.
+/// takes 16 bytes and at most as many again as room to grow; one of another act takes 40 if it wasn't
+/// reported and carried no token, and if the call is of a frequent form (`pcb::calls`), and 192 at most.
 #[derive(Drop)]
 pub struct Log {
     rows: Vec<Row>,
+    calls: CallLog,
     apart: Vec<Unranked>,
-    // For so many more entries there is room in both, whatever is logged.
+    // For so many more entries there is room in all, whatever is logged.
     reserved: usize,
 }
 
@@ -40,12 +43,12 @@ impl Model for Log {
     ghost use Rattle.st_runtime.specs.Rows.{entries_of, IsLog};
 
     ghost view = { λ l. record {
-      entries = entries_of l.rows.items l.apart.items;
+      entries = entries_of l.calls.calls l.apart.items l.rows.items;
       spare = l.reserved;
     } };
 
     ghost invariant = { λ l.
-        IsLog l.rows.items l.apart.items (vec_capacity l.rows) (vec_capacity l.apart) l.reserved };
+        IsLog l.rows.items l.calls l.apart.items (vec_capacity l.rows) (vec_capacity l.apart) l.reserved };
 }
 
 impl Log {
@@ -60,6 +63,7 @@ impl Log {
         }
         Ok(Log {
             rows: Vec::with_capacity(alloc, capacity)?,
+            calls: CallLog::with_capacity(alloc, capacity)?,
             apart: Vec::with_capacity(alloc, capacity)?,
             reserved: capacity,
         })
@@ -97,7 +101,7 @@ impl Log {
     {
         let row = self.rows[place];
         row.content
-            .unranked(self.apart.as_slice())
+            .unranked(&self.calls, self.apart.as_slice())
             .with_rank(row.rank)
     }
 
@@ -147,6 +151,7 @@ impl Log {
             return Err(AllocError);
         }
         self.rows.reserve(1)?;
+        self.calls.reserve()?;
         self.apart.reserve(1)?;
         self.reserved = 1;
         Ok(())
@@ -158,7 +163,7 @@ impl Log {
         ensures entries { self.new.entries ≡ self.old.entries ++ entry.now ∷ [] }
         ensures spare { self.old.spare ≡ self.new.spare + 1 }
     {
-        let content = keep_content(&mut self.apart, entry);
+        let content = keep_content(&mut self.calls, &mut self.apart, entry);
         self.rows.push_reserved(Row {
             rank: entry.rank,
             content,
@@ -167,18 +172,26 @@ impl Log {
     }
 }
 
-/// What a row says of the entry, which is put apart if a row can't say all of it.
-fn keep_content(apart: &mut Vec<Unranked>, entry: &Entry) -> Content
+/// What a row says of the entry, which is put apart, or its call among the others, if a row can't say
+/// all of it.
+fn keep_content(calls: &mut CallLog, apart: &mut Vec<Unranked>, entry: &Entry) -> Content
+    requires call_room { 0 < calls.old.spare }
     requires room { vec_len apart.old < vec_capacity apart.old }
     requires places { vec_len apart.old < 4294967295 }
-    ensures says { unranked_in apart.new.items result ≡ unranked entry.now }
-    ensures placed { IsPlaced (length apart.new.items) result }
+    ensures says { unranked_in calls.new.calls apart.new.items result ≡ unranked entry.now }
+    ensures placed { IsPlaced (length calls.new.calls) (length apart.new.items) result }
+    ensures calls { (calls.new.calls ≡ calls.old.calls)
+        ⊎ (calls.new.calls ≡ calls.old.calls ++ (entry.now.act, entry.now.reply) ∷ []) }
+    ensures spare { calls.old.spare ≤ calls.new.spare + 1 }
     ensures apart { (apart.new.items ≡ apart.old.items)
         ⊎ (apart.new.items ≡ apart.old.items ++ unranked entry.now ∷ []) }
     ensures capacity { vec_capacity apart.new ≡ vec_capacity apart.old }
 {
     if let Some(content) = content_of(entry) {
         return content;
+    }
+    if let (None, None) = (entry.report, entry.carried) {
+        return Content::Call(calls.push_reserved(&entry.act, &entry.reply));
     }
     let place = apart.len() as u32;
     apart.push_reserved(Unranked::of(entry));

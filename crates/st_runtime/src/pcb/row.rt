@@ -1,10 +1,11 @@
 //! The rows of a log. They are small, since a reset or a tracer change puts one into the log of each
 //! process of its node. Such a row says all of its entry. Of any other entry it says the rank and
-//! where the rest is.
+//! where the rest is: a call alone, if the act wasn't reported and carried no token.
 
 ghost use Rattle.std.specs.Prelude.{◌≡◌, length, IfSome};
-ghost use Rattle.st_runtime.specs.Rows.{by_node, with_rank, unranked, unranked_in, IsAll, IsPlaced};
+ghost use Rattle.st_runtime.specs.Rows.{untold, with_rank, unranked, unranked_in, IsAll, IsPlaced};
 
+use crate::pcb::calls::CallLog;
 use crate::pcb::entry::Entry;
 use st_core::{Act, Event, Pid, Reply, Token};
 
@@ -29,6 +30,8 @@ pub enum Content {
     /// A tracer change by this process, to some tracer or none, which returned whether the process was
     /// traced before.
     Tracer(Pid, bool, bool),
+    /// The call at this place, which wasn't reported and carried no token.
+    Call(u32),
     /// What stands at this place among the entries that are kept apart.
     Apart(u32),
 }
@@ -61,29 +64,30 @@ pub fn content_of(entry: &Entry) -> Option<Content>
 }
 
 impl Content {
-    /// The entry without its rank, if these are the entries that are kept apart.
-    pub fn unranked(self, apart: &[Unranked]) -> Unranked
-        requires { IsPlaced (length apart.now) self }
-        ensures { result ≡ unranked_in apart.now self }
+    /// The entry without its rank, if these are the calls and the entries that are kept apart.
+    pub fn unranked(self, calls: &CallLog, apart: &[Unranked]) -> Unranked
+        requires { IsPlaced (length calls.now.calls) (length apart.now) self }
+        ensures { result ≡ unranked_in calls.now.calls apart.now self }
     {
         match self {
-            Content::Reset(actor) => Unranked::by_node(Act::Reset(actor), Reply::Done),
+            Content::Reset(actor) => Unranked::untold((Act::Reset(actor), Reply::Done)),
             Content::Tracer(actor, on, was) => {
-                Unranked::by_node(Act::Tracer(actor, on), Reply::Was(was))
+                Unranked::untold((Act::Tracer(actor, on), Reply::Was(was)))
             }
+            Content::Call(place) => Unranked::untold(calls.at(place as usize)),
             Content::Apart(place) => apart[place as usize],
         }
     }
 }
 
 impl Unranked {
-    /// That of an act of a whole node, which isn't reported and carries no token.
-    fn by_node(act: Act, reply: Reply) -> Unranked
-        ensures { result ≡ by_node act reply }
+    /// That of a call which wasn't reported and carried no token.
+    fn untold(call: (Act, Reply)) -> Unranked
+        ensures { result ≡ untold call }
     {
         Unranked {
-            act,
-            reply,
+            act: call.0,
+            reply: call.1,
             report: None,
             carried: None,
         }

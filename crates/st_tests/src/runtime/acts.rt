@@ -16,13 +16,14 @@ type Played = (Act, Result<Reply, ActFault>);
 
 /// Asserts that a seat made, after its first acts, exactly those of these acts that are accepted.
 fn assert_made(rt: &impl Abort, seat: &Seat, first: usize, acts: &[Played]) {
-    let mut made = seat.mine().iter().skip(first);
+    let mut place = first;
     for (act, expected) in acts {
         if let Ok(reply) = expected {
-            same(rt, &made.next(), &Some(&(*act, *reply)));
+            same(rt, &seat.mine().get(place), &Some((*act, *reply)));
+            place += 1;
         }
     }
-    assert!(rt; made.next().is_none());
+    same(rt, &seat.mine().len(), &place);
 }
 
 /// Makes acts through a seat, and asserts what each returns, and that the seat keeps those that are accepted.
