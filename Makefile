@@ -11,7 +11,7 @@ FILE ?= examples/collected.txt
 SOURCES := crates.txt $(shell find crates -path '*/out' -prune -o -type f -print)
 CODE := crates.txt $(filter %.rt,$(SOURCES))
 
-.PHONY: help quick try program demo install test layout layers docs test-program test-erlang test-conformance bench hostile clean distclean
+.PHONY: help quick try program demo install test wrong-bodies layout layers docs test-program test-erlang test-conformance bench hostile clean distclean
 .DELETE_ON_ERROR:
 
 help:
@@ -30,7 +30,7 @@ try: bin/quick/seqaudit ## runs the unproved seqaudit: COMMAND=.. FILE=.. (at on
 	@echo 'An unproved run: "make program" proves seqaudit.' >&2
 	@bin/quick/seqaudit $(COMMAND) < $(FILE)
 
-program: ## proves both programs and all below them, and builds them in bin/ (22 minutes, beside other work; after an edit less)
+program: ## proves both programs and all below them, and builds them in bin/ (30 to 40 minutes; after an edit less)
 	@.ci/prove $(PROGRAMS)
 	@$(MAKE) --no-print-directory $(PROGRAMS:%=bin/%)
 
@@ -53,11 +53,15 @@ install: $(PROGRAMS:%=bin/%) ## copies the proved programs, man pages and comple
 	install -D -m 644 completions/seqtool.bash $(SHARE)/bash-completion/completions/seqaudit
 	install -D -m 644 -t $(SHARE)/zsh/site-functions completions/_seqtool
 
-test: layout layers docs ## the merge gate: all proofs from nothing, the wrong bodies, the tests (more than an hour on four cores)
+test: layout layers docs ## the merge gate: all proofs from nothing, the wrong bodies of must-fail/, the tests (more than an hour on four cores)
 	rt ci
 	@$(MAKE) --no-print-directory test-program
 	@$(MAKE) --no-print-directory test-erlang
 	@$(MAKE) --no-print-directory test-conformance
+
+# The gate tries the wrong bodies that tell most, since each takes a check of its own.
+wrong-bodies: ## tries all wrong bodies, many in one check (an hour or more, after program)
+	@.ci/wrong-bodies
 
 # The gate asks for the layout of `rt fmt` too, but only after the proofs below a crate.
 layout: ## names the sources that rt fmt would lay out otherwise (3 seconds)
@@ -83,7 +87,7 @@ test-program: ## the programs that were built last: examples/, random traces, a 
 	else echo "There is no python3 here: seqtool's words and the faults are skipped."; fi
 
 # Traces of a real Erlang node, if there is one, by the program that was built last.
-test-erlang: ## the tests of erlang/, with the programs that were built last (3 to 5 minutes; needs erl)
+test-erlang: ## the tests of erlang/, with the programs that were built last (3 to 5 minutes; needs erl; some need runtime_tools)
 	@if command -v erl >/dev/null; then SEQAUDIT=$(BUILT) SEQTOOL=$(BUILT_TOOL) $(MAKE) --no-print-directory -C erlang test; \
 	else echo "There is no erl here (Debian's erlang-base): the Erlang tests are skipped."; fi
 

@@ -6,12 +6,13 @@ second, and the peaks of memory of both in megabytes. What both write must be th
 scheduler's choice; that output is only written."""
 
 import filecmp
-import os
 import statistics
-import subprocess
 import sys
-import time
 from collections import Counter
+
+sys.dont_write_bytecode = True
+
+from one_run import run_once  # noqa: E402
 
 BUNDLES = {
     "ordinary": "8 processes",
@@ -24,16 +25,12 @@ BUNDLES = {
 COMMANDS = {"check": "run", "replay": "run", "audit": "streams", "chart": "streams", "drive": "scripts"}
 
 
-def run_once(words, source, target):
-    """The seconds and the peak of memory, in megabytes. (What a child inherits counts, so this program stays small.)"""
-    with open(source, "rb") as given, open(target, "wb") as taken:
-        begin = time.perf_counter()
-        child = subprocess.Popen(words, stdin=given, stdout=taken)
-        _, status, usage = os.wait4(child.pid, 0)
-        seconds = time.perf_counter() - begin
+def measured(words, source, target):
+    """The seconds and the peak of memory, in megabytes."""
+    status, seconds, _, peak = run_once(words, source, target)
     if status:
-        sys.exit(f"{' '.join(words)} < {source}: status {os.waitstatus_to_exitcode(status)}")
-    return seconds, usage.ru_maxrss // 1024
+        sys.exit(f"{' '.join(words)} < {source}: status {status}")
+    return seconds, peak >> 20
 
 
 def commonest_label(path):
@@ -48,7 +45,7 @@ def compare(programs, words, source, rounds):
     runs = {program: [] for program in programs}
     for _ in range(rounds):
         for place, program in enumerate(programs):
-            runs[program].append(run_once([program, *words], source, f"bin/bench/{place}.written"))
+            runs[program].append(measured([program, *words], source, f"bin/bench/{place}.written"))
     if words != ["drive"] and not filecmp.cmp("bin/bench/0.written", "bin/bench/1.written", shallow=False):
         sys.exit(f"{' '.join(words)} < {source}: the programs write different texts")
     return [(statistics.median(seconds for seconds, _ in done), max(peak for _, peak in done)) for done in runs.values()]

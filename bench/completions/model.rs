@@ -2,9 +2,9 @@
 //!
 //! `model runs SEED COUNT` writes traces of runs without a reset, with reports dropped; `model small
 //! SEED COUNT` writes small streams of any kind. Each is one line of numbers for the driver. `model judge KIND
-//! TRACES ANSWERS` reads both and says what doesn't agree: of `runs` a `never`; of `small` each answer, against a
-//! search through all runs of up to the greatest count that the streams have. It counts the answers, those that are
-//! `open` by whether some stretch has two scarce prevs.
+//! TRACES ANSWERS` reads both and says what doesn't agree: of `runs` each answer but a completion; of `small` each answer,
+//! against a search through all runs of up to the greatest count that the streams have; of both each `open` of streams in
+//! which no stretch asks for two scarce counts. It counts the answers.
 
 use std::collections::HashSet;
 use std::fs::File;
@@ -416,11 +416,14 @@ fn judge(kind: &str, traces: &str, answers: &str) -> io::Result<()> {
         if words[0] == "never" {
             name = format!("never {}", words[3]);
         }
-        if kind == "runs" && words[0] == "never" {
-            complaint = "never, of a run".to_string();
+        if kind == "runs" && words[0] != "whole" {
+            complaint = format!("{}, of a run", words[0]);
         }
         if words[0] == "open" && hidden.is_empty() {
             complaint = "open, and no send is hidden".to_string();
+        }
+        if words[0] == "open" && !has_two_scarce(&streams) {
+            complaint = "open, and no stretch asks for two scarce counts".to_string();
         }
         if kind == "small" {
             match has_run(&streams) {

@@ -2,13 +2,12 @@
 
 import os
 import subprocess
-import sys
 import tempfile
 from dataclasses import dataclass
-from pathlib import Path
+
+from one_run import run_once
 
 USAGE = b"usage: seqaudit check|audit|replay|drive|chart --label N\n"
-MEASURE = Path(__file__).with_name("measure.py")
 COMMANDS = (("check",), ("audit",), ("replay",), ("drive",), ("chart", "--label", "17"))
 
 
@@ -75,8 +74,6 @@ class Program:
             given, written = os.path.join(folder, "given"), os.path.join(folder, "written")
             with open(given, "wb") as file:
                 file.writelines(pieces)
-            told = subprocess.run([sys.executable, "-B", MEASURE, str(seconds), given, written, self.path, *words],
-                                  stdout=subprocess.PIPE, check=True).stdout
-            status, taken, megabytes = told.split()
+            status, taken, _, peak = run_once([self.path, *words], given, written, seconds)
             with open(written, "rb") as file:
-                return Answer(int(status), file.read()), float(taken), int(megabytes)
+                return Answer(status, file.read()), taken, peak >> 20

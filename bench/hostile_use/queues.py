@@ -9,7 +9,7 @@ SMALL, GREAT = 10_000, 1_000_000
 BOUND = {SMALL: 1, GREAT: 10}
 # The most memory that each command takes for a message, in bytes; `drive` keeps an entry for each act. Beside that a
 # program takes some megabytes for any input.
-BYTES = {"check": 400, "replay": 450, "audit": 400, "drive": 900, "chart": 400}
+BYTES = {"check": 400, "replay": 450, "audit": 400, "drive": 450, "chart": 400}
 LEAST_MEGABYTES = 20
 
 # A server with so many waiting messages makes so many calls, and takes the messages after that.

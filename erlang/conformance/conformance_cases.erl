@@ -85,7 +85,7 @@ name_there_is_named(There) ->
     {P, _, Events} = traced(1, fun() -> {?MODULE, There} ! message end),
     [{send, {0, 1}, P, {?MODULE, There}, message}] = Events.
 
-%% A send to a port is an event; its answer is none, and leaves the token.
+%% A send to a port is an event; what it sends back is none, and leaves the token.
 port_has_no_token() ->
     {P, {Port, Token, Token}, Events} =
         traced(1, fun() ->

@@ -18,31 +18,23 @@
 
 %% What `audit', `chart' and `why' have of a trace, once it is cut as was asked.
 with_trace(Name, Wish, Do) ->
-    with_legend(Name, fun(Legend) ->
-        Times = times(Name),
-        case seqaudit_bundle:read(Name ++ ".seqtrace") of
-            {ok, Streams} ->
-                Trace = #{name => Name, legend => Legend, times => maps:get(events, Times),
-                          timed => Times, notes => notes(Name), whole => Streams},
-                with_cut(Trace, Wish, Do);
-            {error, {file, _, _} = Reason} ->
-                {?SYSTEM, seqaudit_bundle:format_error(Reason)};
-            {error, Reason} ->
-                {?INPUT, seqaudit_bundle:format_error(Reason)}
-        end
+    with_file(seqaudit_legend:read(Name ++ ".terms"), fun seqaudit_legend:format_error/1, fun(Legend) ->
+        with_file(seqaudit_bundle:read(Name ++ ".seqtrace"), fun seqaudit_bundle:format_error/1, fun(Streams) ->
+            with_file(times(Name), fun seqaudit_times:format_error/1, fun(Times) ->
+                with_cut(#{name => Name, legend => Legend, times => maps:get(events, Times), timed => Times,
+                           notes => notes(Name), whole => Streams}, Wish, Do)
+            end)
+        end)
     end).
+
+with_file({ok, Read}, _FormatError, Do) -> Do(Read);
+with_file({error, {file, _, _} = Reason}, FormatError, _Do) -> {?SYSTEM, FormatError(Reason)};
+with_file({error, Reason}, FormatError, _Do) -> {?INPUT, FormatError(Reason)}.
 
 with_cut(#{whole := Streams, legend := Legend, times := Times} = Trace, Wish, Do) ->
     case seqaudit_cut:cut(Streams, Wish, Legend, Times) of
         {ok, Cut, Note} -> Do(Trace#{streams => Cut, cut => Note});
         {error, Reason} -> {?UNFIT, seqaudit_cut:format_error(Reason)}
-    end.
-
-with_legend(Name, Do) ->
-    case seqaudit_legend:read(Name ++ ".terms") of
-        {ok, Legend} -> Do(Legend);
-        {error, {file, _, _} = Reason} -> {?SYSTEM, seqaudit_legend:format_error(Reason)};
-        {error, Reason} -> {?INPUT, seqaudit_legend:format_error(Reason)}
     end.
 
 notes(Name) ->
@@ -51,10 +43,11 @@ notes(Name) ->
         {error, _} -> []
     end.
 
+%% A trace without timestamps has no such file.
 times(Name) ->
     case seqaudit_times:read(Name ++ ".times") of
-        {ok, Times} -> Times;
-        {error, _} -> seqaudit_times:none()
+        {error, {file, _, enoent}} -> {ok, seqaudit_times:none()};
+        Read -> Read
     end.
 
 %% What the options cut the trace to.
@@ -72,16 +65,23 @@ wish(Options, Cuts) ->
 %% The outcome of the audit, and of each part between resets if there are any.
 with_outcome(#{streams := Streams} = Trace, Do) ->
     case ask(Streams, Trace) of
-        {ok, #{said := never, finding := {Reason, _}} = Outcome} when Reason =/= <<"prevnotbefore">> ->
-            case seqaudit_parts:split(Streams) of
+        {ok, Outcome} ->
+            case parts(Outcome, Streams) of
                 [_] -> Do(Trace#{outcome => Outcome, parts => []});
                 Parts -> with_parts(Parts, [], Trace#{outcome => Outcome}, Do)
             end;
-        {ok, Outcome} ->
-            Do(Trace#{outcome => Outcome, parts => []});
         {error, Reason} ->
             {?SYSTEM, seqaudit_program:format_error(Reason)}
     end.
+
+%% The parts between resets, if these may be why the streams don't fit.
+parts(#{said := never, finding := {Reason, _}}, Streams) ->
+    case seqaudit_reasons:allows_reset(Reason) of
+        true -> seqaudit_parts:split(Streams);
+        false -> [Streams]
+    end;
+parts(_, Streams) ->
+    [Streams].
 
 with_parts([], Outcomes, Trace, Do) ->
     Do(Trace#{parts => lists:reverse(Outcomes)});
@@ -105,7 +105,7 @@ audit(#{"" := [Name]} = Options) ->
         with_outcome(Trace, fun(Audited) -> audit(Audited, Options) end)
     end);
 audit(_) ->
-    {usage, "audit takes the NAME of one trace"}.
+    {usage, "audit needs the NAME of one trace"}.
 
 audit(#{name := Name, legend := Legend, notes := Notes, cut := Cut, outcome := Outcome,
         parts := Parts, streams := Streams, timed := Times}, Options) ->
@@ -159,7 +159,7 @@ chart(#{"" := [Name], "--html" := _} = Options) ->
         end)
     end);
 chart(_) ->
-    {usage, "chart takes the NAME of one trace, and --label or --html"}.
+    {usage, "chart needs the NAME of one trace, and --label or --html"}.
 
 %% A trace that the programs don't take as a whole may be taken when it is cut to the label.
 chart_label(Number, Label, #{streams := Streams, legend := Legend, times := Times} = Trace, Options) ->
@@ -217,7 +217,7 @@ chart_streams(Number, Which, Streams, Title, #{legend := Legend, timed := Times}
         {ok, {Status, _}} when Status =:= ?UNFIT; Status =:= ?INPUT ->
             Status;
         {ok, {?USAGE, _}} ->
-            {?USAGE, "this seqaudit has no chart yet; build a later one"};
+            {?USAGE, "this seqaudit doesn't know `chart'; build a newer one"};
         {ok, {Status, Fault}} ->
             {Status, Fault};
         {error, Reason} ->
@@ -254,7 +254,7 @@ page(Audited, #{"--html" := [File | _]}, Label, Status) ->
         {error, Reason} -> {?SYSTEM, seqaudit_page:format_error(Reason)}
     end.
 
-%% @doc Tells the chain from an event back to its beginning, or what came of it.
+%% @doc Prints the chain from an event back to its beginning, or what the event caused.
 -spec why(options()) -> result().
 why(#{"" := [Name], "--event" := [Event | _]} = Options) ->
     with_trace(Name, wish(Options, [labels, processes, from, to]), fun(#{legend := Legend} = Trace) ->
@@ -264,7 +264,7 @@ why(#{"" := [Name], "--event" := [Event | _]} = Options) ->
         end)
     end);
 why(_) ->
-    {usage, "why takes the NAME of one trace, and --event"}.
+    {usage, "why needs the NAME of one trace, and --event"}.
 
 why(Event, Shown, Options, #{legend := Legend, timed := Times}) ->
     Found = [{Place, Streams} || Streams <- Shown,

@@ -9,6 +9,8 @@
 -export([complete/2, name/3, find/3, format_error/1]).
 -export_type([streams/0, event/0, pid_text/0, at/0, place/0]).
 
+-import(seqaudit_errors, [text/2]).
+
 -type pid_text() :: binary().
 %% A process as the bundle spells it, `<<"<0.81.0>">>'.
 
@@ -282,12 +284,11 @@ names(Streams, Legend) ->
 %% @doc A reason of this module in words, with what to do about it.
 -spec format_error(term()) -> string().
 format_error({file, File, Reason}) ->
-    text("~ts: ~ts; `seqaudit-node convert' writes it", [File, file:format_error(Reason)]);
+    seqaudit_errors:unread(File, Reason);
 format_error({not_a_bundle, File, Line}) ->
-    text("~ts, line ~b, isn't a line of a bundle; `seqaudit-node convert' writes it anew",
-         [File, Line]);
+    seqaudit_errors:wrong_line(File, Line, "a line of a bundle");
 format_error({no_event_name, Name}) ->
-    text("~ts names no event; an event is named by its process and its number there, as shop#24",
+    text("~ts isn't the name of an event; write its process and its number there, as shop#24",
          [Name]);
 format_error({no_process, Name, Names}) ->
     text("there is no process ~ts; the trace has ~ts",
@@ -297,6 +298,3 @@ format_error({no_event, Name, []}) ->
 format_error({no_event, Name, Places}) ->
     text("there is no event ~ts: the numbers of that process go from ~b to ~b",
          [Name, hd(Places), lists:last(Places)]).
-
-text(Format, Values) ->
-    lists:flatten(io_lib:format(Format, Values)).

@@ -430,4 +430,4 @@ named(Listed, Known) ->
 %% @doc A reason of this module in words, with what to do about it.
 -spec format_error({file, file:filename(), term()}) -> string().
 format_error({file, File, Reason}) ->
-    lists:flatten(io_lib:format("~ts can't be written: ~ts", [File, file:format_error(Reason)])).
+    seqaudit_errors:text("~ts can't be written: ~ts", [File, file:format_error(Reason)]).

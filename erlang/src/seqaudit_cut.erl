@@ -7,6 +7,8 @@
 -export([cut/4, format_error/1]).
 -export_type([wish/0, times/0]).
 
+-import(seqaudit_errors, [text/2]).
+
 -type wish() :: #{labels => [string()], processes => [string()], from => string(), to => string()}.
 %% Labels and processes as `seqaudit-node' prints them, and seconds after the first event.
 
@@ -134,13 +136,11 @@ is_cut(Id, Kept) -> not is_map_key(Id, Kept).
 format_error(no_times) ->
     "this trace has no times (NAME.times), so it can't be cut by them; trace with a timestamp flag";
 format_error({no_seconds, Word}) ->
-    text("~ts is no time; --from and --to take seconds after the first event, as 1.5", [Word]);
+    text("~ts isn't a time; --from and --to take seconds after the first event, as 1.5", [Word]);
 format_error({nothing_left, Events}) ->
-    text("no event is left of ~ts: none has all that the options ask for", [seqaudit_explain:count(Events, "event")]);
+    text("the cut leaves none of ~ts: no event has all that the options ask for",
+         [seqaudit_explain:count(Events, "event")]);
 format_error({no_process, _, _} = Reason) ->
     seqaudit_bundle:format_error(Reason);
 format_error(Reason) ->
     seqaudit_legend:format_error(Reason).
-
-text(Format, Values) ->
-    lists:flatten(io_lib:format(Format, Values)).

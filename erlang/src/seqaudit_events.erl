@@ -17,6 +17,8 @@
          whole_entries/3, writable/1, format_error/1]).
 -export_type([collection/0, item/0, facts/0, about/0]).
 
+-import(seqaudit_errors, [text/2]).
+
 %% The first line of NAME.events. Behind it stand entries: a byte that says what, a size of four
 %% bytes, and a term. Events and drops (whose four bytes are their number) are as in a trace file.
 -define(HEADER, "seqaudit events 2\n").
@@ -494,6 +496,3 @@ format_error({broken_trace, File, Left}) ->
          [File, Left]);
 format_error({text, File, Line, Reason}) ->
     text("~ts, line ~b: ~ts", [File, Line, Reason]).
-
-text(Format, Values) ->
-    lists:flatten(io_lib:format(Format, Values)).

@@ -2,18 +2,14 @@
 %% what to look at.
 -module(seqaudit_explain).
 
--export([count/2, number/1, headline/2, outcome/3, parts/3, whole/2, sentence/2, reset_places/2, losses/1]).
+-export([count/2, number/1, headline/2, outcome/3, parts/3, whole/2, sentence/2, sentence/4, reset_places/2, losses/1]).
 
--import(seqaudit_legend, [process/2, label/2, value/2]).
+-import(seqaudit_legend, [process/2, label/2]).
 
 %% So many unreported events are listed; the rest are counted.
 -define(LISTED, 20).
 %% Characters of a term in a sentence.
 -define(CHARACTERS, 80).
-
-%% Of each process whether its token's print flag is on: a certificate's prints without it are
-%% no prints of the trace, they move the clock to where the trace has it.
--type prints() :: #{binary() => boolean()}.
 
 %% @doc The outcome in one line.
 -spec headline(seqaudit_outcome:outcome(), seqaudit_legend:legend()) -> unicode:chardata().
@@ -21,12 +17,12 @@ headline(#{said := Said, streams := Streams} = Outcome, _Legend) when Said =:= f
     [format("fits: ~ts of ~ts", [count(length(reported(Streams)), "event"),
                                  count(length(Streams), "process")]),
      left_out(missing(Outcome), Outcome), $\n];
-headline(#{said := never, finding := {<<"prevnotbefore">> = Reason, Found}}, Legend) ->
-    format("doesn't fit: no run reports this trace~ts (~ts)~n",
-           [about(", because of ", Found, Legend), Reason]);
 headline(#{said := never, finding := {Reason, Found}}, Legend) ->
-    format("doesn't fit: no run without a reset reports this trace~ts (~ts)~n",
-           [about(", because of ", Found, Legend), Reason]);
+    format("doesn't fit: no run~ts reports this trace~ts (~ts)~n",
+           [case seqaudit_reasons:allows_reset(Reason) of
+                true -> " without a reset";
+                false -> ""
+            end, about(", because of ", Found, Legend), Reason]);
 headline(#{said := open, finding := {_, Found}}, Legend) ->
     format("not known: no run was found that reports this trace, and no reason why there is none~ts~n",
            [about("; the search ended at ", Found, Legend)]);
@@ -49,6 +45,9 @@ unreported_or_cut(#{}) -> "nobody reported".
 what_is_missing(#{cut := true}) -> "What nobody reported, or what the cut took away:\n";
 what_is_missing(#{}) -> "What nobody reported:\n".
 
+what_waits(#{cut := true}) -> "Messages without a receive here: ";
+what_waits(#{}) -> "Messages without a reported receive: ".
+
 %% The unreported events, each as a function of the legend, and how many stamps more.
 missing(#{said := Said, streams := Streams}) ->
     #{hidden := Hidden, unreceived := Unreceived, silent := Silent, jumps := Jumps} = Gaps =
@@ -66,18 +65,27 @@ missing(#{said := Said, streams := Streams}) ->
 unreported(Streams) ->
     [{added, Row} || #{hidden := false, id := {_, {_, _}}} = Row <- seqaudit_causes:rows(Streams)].
 
-%% What is known to be gone, by a cut or from the collectors' notes, was left out though no event tells of it.
-left_out(#{events := [], stamps := 0, leaps := 0}, #{streams := []}) ->
-    "";
-left_out(#{events := [], stamps := 0, leaps := 0}, #{cut := Cut, lost := Lost}) when Cut; Lost ->
-    "; nothing is missing between them";
-left_out(#{events := [], stamps := 0, leaps := 0}, _Outcome) ->
-    "; nothing was left out";
-left_out(#{events := Events, stamps := Stamps, leaps := Leaps}, Outcome) ->
-    [", with ",
-     lists:join(", ", [[count(length(Events), "event"), " that ", unreported_or_cut(Outcome)] || Events =/= []]
-                ++ [count(Stamps, "silent stamp") || Stamps > 0]
-                ++ [count(Leaps, "jump of a counter") || Leaps > 0])].
+%% What is known to be gone, by a cut or from the collectors' notes, was left out though no event tells of it. So was a
+%% receive that nobody reported, or it is still to come.
+left_out(#{events := [], stamps := 0, leaps := 0, waiting := []}, Outcome) ->
+    case Outcome of
+        #{streams := []} -> "";
+        #{cut := Cut, lost := Lost} when Cut; Lost -> "; nothing is missing between them";
+        #{} -> "; nothing was left out"
+    end;
+left_out(#{events := Events, stamps := Stamps, leaps := Leaps, waiting := Waiting}, Outcome) ->
+    Missing = [[count(length(Events), "event"), " that ", unreported_or_cut(Outcome)] || Events =/= []]
+        ++ [count(Stamps, "silent stamp") || Stamps > 0]
+        ++ [count(Leaps, "jump of a counter") || Leaps > 0],
+    [[[", with ", lists:join(", ", Missing)] || Missing =/= []],
+     [["; ", not_received(length(Waiting), Outcome)] || Waiting =/= []]].
+
+not_received(Count, Outcome) ->
+    [count(Count, "message"), case Count of 1 -> " has"; _ -> " have" end,
+     case Outcome of
+         #{cut := true} -> " no receive here";
+         #{} -> " no reported receive, and may still wait"
+     end].
 
 %% @doc How many of a thing there are, in words.
 -spec count(non_neg_integer(), string()) -> string().
@@ -100,13 +108,14 @@ outcome(Outcome, Notes, Legend) ->
     [headline(Outcome, Legend), details(Outcome, Legend), losses(Notes)].
 
 details(#{said := Said} = Outcome, Legend) when Said =:= fits; Said =:= completed ->
-    #{events := Events, silent := Silent, before := Before, spawns := Spawns, jumps := Jumps} =
+    #{events := Events, silent := Silent, before := Before, spawns := Spawns, jumps := Jumps, waiting := Waiting} =
         missing(Outcome),
     [[what_is_missing(Outcome) || Events =/= []],
      [["  ", missing_event(Event, Legend), $\n] || Event <- lists:sublist(Events, ?LISTED)],
      [["  and ", number(length(Events) - ?LISTED), " more\n"] || length(Events) > ?LISTED],
-     ["What the unknown messages were can't be told, nor whether other processes sent them.\n"
+     ["Nobody knows what the unknown messages were, or whether other processes sent them.\n"
       || lists:any(fun is_invented/1, Events)],
+     [[what_waits(Outcome), messages(Waiting, Legend), ".\n"] || Waiting =/= []],
      [["Silent stamps are counts that no event here has: ", counted(Silent, Legend),
        ". They were prints, or sends whose receives weren't reported either.\n"] || Silent =/= []],
      [["A counter jumps if it stands higher than anything reported explains: ", often(Jumps, Legend),
@@ -119,7 +128,7 @@ details(#{said := Said} = Outcome, Legend) when Said =:= fits; Said =:= complete
 details(#{said := fault}, _Legend) ->
     "";
 details(#{finding := {Reason, Found}} = Outcome, Legend) ->
-    {Meaning, Look} = reason(Reason),
+    {Meaning, Look} = seqaudit_reasons:explain(Reason),
     [[["  ", found(One, Legend), $\n] || One <- Found],
      format("What it means: ~ts~nWhat to look at: ~ts~n", [Meaning, Look]),
      renumbered(Outcome),
@@ -131,7 +140,7 @@ tool(not_there) ->
     "seqtool would say what the trace lacks, but it isn't there: `make program' builds it (`make quick' "
     "unproved), and the variable SEQTOOL says where it is.\n";
 tool({failed, Fault}) ->
-    format("seqtool was asked what the trace lacks; it said: ~ts~n", [Fault]).
+    format("seqtool can't say what the trace lacks: ~ts~n", [Fault]).
 
 renumbered(#{renumbered := true}) ->
     "The counts were renumbered for the audit, which doesn't change the answer; the serials shown here "
@@ -142,19 +151,27 @@ times(1) -> "once";
 times(Count) -> [number(Count), " times"].
 
 often(Counts, Legend) ->
-    listed([["that of ", process(Pid, Legend), $\s, times(Count)] || {Pid, Count} <- Counts]).
+    of_processes([["that of ", process(Pid, Legend), $\s, times(Count)] || {Pid, Count} <- Counts]).
 
 stood([{First, Count} | Counts], Legend) ->
-    listed([[process(First, Legend), " stood at ", number(Count)]
-            | [["that of ", process(Pid, Legend), " at ", number(One)] || {Pid, One} <- Counts]]).
+    of_processes([[process(First, Legend), " stood at ", number(Count)]
+                  | [["that of ", process(Pid, Legend), " at ", number(One)] || {Pid, One} <- Counts]]).
 
 counted(Counts, Legend) ->
-    listed([[number(Count), " of ", process(Pid, Legend)] || {Pid, Count} <- Counts]).
+    of_processes([[number(Count), " of ", process(Pid, Legend)] || {Pid, Count} <- Counts]).
 
 %% What is said of each of several processes; the first of them are named.
-listed(Texts) ->
-    More = [["and so of ", number(length(Texts) - ?LISTED), " more processes"] || length(Texts) > ?LISTED],
-    lists:join(", ", lists:sublist(Texts, ?LISTED) ++ More).
+of_processes(Texts) ->
+    listed(fun(Text) -> Text end, Texts, fun(More) -> ["and so of ", number(More), " more processes"] end).
+
+listed(Say, Things, More) ->
+    lists:join(", ", lists:map(Say, lists:sublist(Things, ?LISTED))
+               ++ [More(length(Things) - ?LISTED) || length(Things) > ?LISTED]).
+
+messages(Sends, Legend) ->
+    listed(fun(#{id := {Pid, At}, event := #{to := To}}) ->
+                   [seqaudit_bundle:name(Pid, At, Legend), " to ", process(To, Legend)]
+           end, Sends, fun(More) -> ["and ", number(More), " more"] end).
 
 is_invented({added, #{invented := Invented}}) -> Invented;
 is_invented(_) -> false.
@@ -188,6 +205,9 @@ brief(Value, Legend) ->
     seqaudit_terms:short(unicode:characters_to_list(seqaudit_legend:brief(Value, Legend)),
                          ?CHARACTERS).
 
+%% @doc The same of such an event with this message, all in words.
+-spec sentence(send | 'receive' | print, unicode:chardata(), unicode:chardata(), unicode:chardata()) ->
+          unicode:chardata().
 sentence(send, From, To, Term) -> [From, " sends ", Term, " to ", To];
 sentence('receive', From, To, Term) -> [To, " receives ", Term, " from ", From];
 sentence(print, From, _, Term) -> [From, " prints ", Term].
@@ -230,7 +250,7 @@ reset_places(Parts, Legend) ->
 reset_at(Places, Legend) ->
     case [Place || {_, Last, First} = Place <- Places, Last =/= none, First =/= none] of
         [] -> "between events of different processes";
-        Known -> listed([reset_place(Place, Legend) || Place <- Known])
+        Known -> of_processes([reset_place(Place, Legend) || Place <- Known])
     end.
 
 reset_place({Pid, Last, First}, Legend) ->
@@ -243,110 +263,9 @@ whole(#{streams := Streams, answer := Answer}, Legend) ->
     [[[process(Pid, Legend), ":\n",
        [["  ", found({{Pid, At}, Event}, Legend), $\n] || #{at := At} = Event <- Events]]
       || {Pid, Events} <- Streams],
-     acts(Answer, Legend)].
-
-acts(Answer, Legend) ->
-    case binary:split(Answer, <<"\nacts\n">>) of
-        [_, Acts] ->
-            {Lines, _} = lists:mapfoldl(fun(Line, {Number, Prints}) ->
-                                                act(words(Line), Line, Number, Prints, Legend)
-                                        end, {0, #{}}, binary:split(Acts, <<"\n">>, [global, trim])),
-            ["The acts of the run:\n", Lines];
-        _ ->
-            ""
-    end.
-
-words(Line) -> binary:split(Line, <<" ">>, [global]).
+     seqaudit_acts:explain(Answer, Legend)].
 
 format(Format, Values) -> io_lib:format(Format, Values).
-
--spec act([binary()], binary(), non_neg_integer(), prints(), seqaudit_legend:legend()) ->
-          {unicode:chardata(), {non_neg_integer(), prints()}}.
-act(Words, Line, Number, Prints, Legend) ->
-    case act(Words, Prints, Legend) of
-        none -> {[Line, $\n], {Number, Prints}};
-        {Text, New} -> {[format("~6b  ", [Number]), Text, $\n], {Number + 1, New}}
-    end.
-
-act([Word, Pid | Rest], Prints, Legend) ->
-    Who = process(Pid, Legend),
-    case {Word, Rest} of
-        {<<"tracer">>, [Set]} -> {["the tracer of ", Who, "'s node is on: ", Set], Prints};
-        {<<"restore">>, [Label, Send, Receive, Print | _]} ->
-            Flags = [Flag || {Flag, <<"true">>} <- [{"send", Send}, {"receive", Receive},
-                                                    {"print", Print}]],
-            {format("~ts has label ~ts, flags [~ts]",
-                    [Who, label(Label, Legend), lists:join(", ", Flags)]),
-             Prints#{Pid => Print =:= <<"true">>}};
-        {<<"print">>, [Value]} ->
-            case Prints of
-                #{Pid := true} -> {[Who, " prints ", value(Value, Legend)], Prints};
-                #{} -> {[Who, "'s clock moves, as by something that wasn't reported"], Prints}
-            end;
-        {<<"send">>, [To, Value]} ->
-            {sentence(send, Who, process(To, Legend), value(Value, Legend)), Prints};
-        {<<"receive">>, [<<"place">>, Place]} ->
-            {[Who, " receives the message at place ", Place, " of its queue"], Prints};
-        {<<"clear">>, []} -> {[Who, " has no token any more"], Prints#{Pid => false}};
-        {<<"set">>, [<<"label">>, Label]} ->
-            {[Who, " begins a trace with label ", label(Label, Legend)], Prints#{Pid => false}};
-        _ -> none
-    end;
-act(_, _Prints, _Legend) ->
-    none.
-
-%% What a reason means, and what to look at.
-reason(<<"prevnotbefore">>) ->
-    {"the first number of an event's serial isn't below its second. No run does that: the file was "
-     "changed, or a token's serial was set by hand.",
-     "seq_trace:set_token/2 with serial, and tokens that set_token/1 puts back."};
-reason(<<"notrising">>) ->
-    {"one process stamped both events, and the later one has no higher count: its counter went back. "
-     "Only a reset does that.",
-     "seq_trace:reset_trace/0 between the two; a token that set_token/1 puts back, which moves the "
-     "counter of a standard node; files of two runs converted as one."};
-reason(<<"repeated">>) ->
-    {"messages with one sender and one count were received twice. Only a reset at the sender's node "
-     "lets it send a count again.",
-     "seq_trace:reset_trace/0; events that were collected twice, by a second tracer or by files of "
-     "the same run; a send that was resolved to the wrong process (NAME.notes)."};
-reason(<<"mismatch">>) ->
-    {"what was received isn't what its sender sent with this count. Only a reset lets it use a count "
-     "again.",
-     "files of two runs converted as one; seq_trace:reset_trace/0; sends that were resolved or not "
-     "(NAME.notes)."};
-reason(<<"late">>) ->
-    {"the process had received a message with this count or a higher one before, and its counter never "
-     "falls behind what it received. Only a reset puts it back.",
-     "seq_trace:reset_trace/0 between the two; a token that set_token/1 puts back, which moves the "
-     "counter of a standard node; files of two runs converted as one."};
-reason(<<"unfounded">>) ->
-    {"by its serial the event follows nothing, but its process had received a message of a trace "
-     "before. Only a reset makes a process forget that.",
-     "seq_trace:reset_trace/0 before the event; a token that set_token/1 puts back; files of two "
-     "runs converted as one."};
-reason(<<"unsent">>) ->
-    {"more events follow messages with this count than there are processes that can have sent one, "
-     "as each process uses a count once. Only a reset lets it use a count again.",
-     "seq_trace:reset_trace/0; a token that set_token/1 puts back; processes that took part and "
-     "aren't in the trace (--process or --label cut them, or their node was lost)."};
-reason(<<"open">>) ->
-    {"so many sends are unreported that seqtool couldn't try all orders of them.",
-     "the send flag: with it on, seqtool always decides. A cut to fewer processes or labels may help too."};
-reason(<<"uncaused">>) ->
-    {"the event follows something that its process received and that isn't in the trace. That need "
-     "not be a fault: seqaudit by itself looks for no unreported receives.",
-     "flags that were off (set send, receive and print); events that were dropped (NAME.notes); a "
-     "token put back by set_token/1 after a receive; a process spawned inside the trace."};
-reason(<<"toowide">>) ->
-    {"too many counts are missing: more than 1,000 before this event, or 1,000,000 in all.",
-     "a tracer that came on long after the token was set: begin with reset, or set the token after "
-     "the start; flags that were off for long; a process that spawned another inside the trace."};
-reason(<<"notreplayed">>) ->
-    {"the run that seqaudit tried reports something else. That need not be a fault: it tries one order "
-     "of the events, and no other.",
-     "messages with a lower serial that were received after ones with a higher; flags that were "
-     "off."}.
 
 fault(<<"fault too large">>) ->
     "the trace has more than 67,108,864 bytes; cut it with --label, --process, --from and --to";

@@ -8,12 +8,14 @@
 
 -type gaps() :: #{hidden := [seqaudit_causes:row()],
                   unreceived := [{Event :: seqaudit_causes:row(), Send :: seqaudit_causes:row()}],
+                  waiting := [seqaudit_causes:row()],
                   before := counted(), spawns := counted(), silent := counted(),
                   jumps := counted()}.
 %% <dl>
 %% <dt>`hidden'</dt><dd>the sends that only their receives tell of</dd>
 %% <dt>`unreceived'</dt><dd>the first event that follows each message whose receive wasn't reported,
 %% and the send of that message</dd>
+%% <dt>`waiting'</dt><dd>the sends of the other messages whose receive wasn't reported: these may still wait</dd>
 %% <dt>`before'</dt><dd>where the counter of a process stood before its first stamp, if not at 0</dd>
 %% <dt>`spawns'</dt><dd>how often OTP moved a counter on as it answered a spawn</dd>
 %% <dt>`silent'</dt><dd>how many stamps came between a process's events and were not reported</dd>
@@ -25,11 +27,14 @@
 find(Streams) ->
     Rows = seqaudit_causes:rows(Streams),
     Index = seqaudit_causes:index(Rows),
+    Received = maps:from_keys([Send || #{cause := {How, Send}} <- Rows, How =:= sent orelse How =:= unreported],
+                              received),
     Counted = [{Pid, counters(Pid, Events, Index)} || {Pid, Events} <- Streams],
     #{hidden => [Row || #{hidden := true} = Row <- Rows],
       unreceived => [{Row, maps:get(Send, Index)}
                      || #{cause := {unreported, Send}} = Row
                             <- firsts([Row || #{cause := {unreported, _}} = Row <- Rows])],
+      waiting => [Row || #{id := Id, event := #{kind := send}} = Row <- Rows, not is_map_key(Id, Received)],
       before => counted(before, Counted), spawns => counted(spawns, Counted),
       silent => counted(silent, Counted),
       jumps => counted(jumps, Counted)}.

@@ -7,13 +7,13 @@
 -spec all() -> string().
 all() ->
     "usage: seqaudit-node COMMAND ..\n"
-    "From a running Erlang node to a trace that is audited and drawn.\n\n"
-    "  collect   traces nodes, and writes what came\n"
-    "  convert   makes a trace of files of events\n"
+    "Traces running Erlang nodes, and audits, draws and explains the traces.\n\n"
+    "  collect   traces nodes, and writes what they report to files\n"
+    "  convert   makes a trace from files of events\n"
     "  audit     says whether the events of a trace fit together, and what is missing\n"
     "  chart     prints the messages of a trace, or draws them\n"
-    "  why       tells what led to an event, or what came of it\n\n"
-    "`seqaudit-node COMMAND --help' says more of each.\n" ++ statuses().
+    "  why       says what caused an event, or what it caused\n\n"
+    "`seqaudit-node COMMAND --help' has the options of each.\n" ++ statuses().
 
 %% @doc How a command is called.
 -spec usage(string()) -> string().
@@ -22,7 +22,7 @@ usage(Command) ->
     lists:append(["usage: seqaudit-node ", Usage, "\n`seqaudit-node ", Command,
                   " --help' has the options.\n"]).
 
-%% @doc All that is to be known of a command.
+%% @doc The whole help of a command.
 -spec of_command(string()) -> string().
 of_command(Command) ->
     {Usage, About} = text(Command),
@@ -30,10 +30,10 @@ of_command(Command) ->
 
 statuses() ->
     "\nStatus: 0 all is done, or the trace fits\n"
-    "        1 the trace doesn't fit, or isn't known to, or something isn't in it\n"
-    "        2 a file isn't understood\n"
-    "        3 the command isn't understood\n"
-    "        4 a file, a node or a program can't be had\n".
+    "        1 the trace doesn't fit, or nobody knows; or what you ask for isn't in it\n"
+    "        2 a file can't be understood, or is too large\n"
+    "        3 the command line can't be understood\n"
+    "        4 a file, a node or a program is missing or fails\n".
 
 text("collect") ->
     {"collect --node NAME@HOST .. -o NAME [OPTION ..]",
@@ -47,16 +47,16 @@ text("collect") ->
      "                      seqaudit_trace:with_trace(TERM, fun() -> .. end)\n"
      "  --times             give that token a flag for timestamps\n"
      "  --reset             take all tokens off first, so that all counters begin at 0\n\n"
-     "  --bytes BYTES       how much each node's files hold, 268435456 if this isn't given;\n"
-     "                      beyond that the oldest events are written over\n"
-     "  --limit EVENTS      keep only so many first events of each node\n"
-     "  --folder FOLDER     where each node makes a folder for its files; its folder for temporary files\n"
-     "                      if this isn't given\n\n"
-     "  --cookie-file FILE  a file with the cookie; the variable SEQAUDIT_COOKIE may have it too\n"
-     "  --cookie COOKIE     the same, but all users of this machine can see it\n"};
+     "  --bytes BYTES       the most that each node's files may have, 268435456 if this isn't given;\n"
+     "                      then new events replace the oldest ones\n"
+     "  --limit EVENTS      keep only the first so many events of each node\n"
+     "  --folder FOLDER     each node makes the folder of its files in this one, or in that for temporary\n"
+     "                      files if this isn't given\n\n"
+     "  --cookie-file FILE  read the cookie from a file; the variable SEQAUDIT_COOKIE may have it too\n"
+     "  --cookie COOKIE     the cookie, but all users of this machine can see it here\n"};
 text("convert") ->
     {"convert FILE .. -o NAME",
-     "Makes a trace of files of events: NAME.seqtrace; NAME.terms, what its numbers stand for; NAME.messages,\n"
+     "Makes a trace from files of events: NAME.seqtrace; NAME.terms, what its numbers stand for; NAME.messages,\n"
      "the whole texts of long messages; NAME.notes, what was decided or left out; and NAME.times, if the\n"
      "events have timestamps.\n\n"
      "  FILE                a NAME.events, the folder of a collector, term_to_binary of a list of events,\n"
@@ -66,20 +66,20 @@ text("audit") ->
     {"audit NAME [OPTION ..]",
      "Says whether the events of a trace fit together, and what is missing. The run that shows it is kept\n"
      "in NAME.answer, which `seqaudit check' confirms.\n\n"
-     "  --whole             print all events, and the acts of the run, too\n"
-     "  --parts             if resets stand between, print all that is found of each part\n" ++ cuts(label)};
+     "  --whole             print all events and the acts of the run as well\n"
+     "  --parts             if resets divide the trace, print all that was found out of each part\n" ++ cuts(label)};
 text("chart") ->
     {"chart NAME --label TERM [OPTION ..]\n       seqaudit-node chart NAME --html FILE [OPTION ..]",
      "Prints the messages of a label, with what caused each, and draws them; or makes a page of all labels.\n\n"
      "  --label TERM        the label\n"
      "  --svg FILE          draw it, for a document, up to 2,000 rows\n"
-     "  --html FILE         make a page to look around in, in a browser; it needs no label\n" ++ cuts(no_label)};
+     "  --html FILE         make a page for a browser, with all labels; it needs no --label\n" ++ cuts(no_label)};
 text("why") ->
     {"why NAME --event PROCESS#NUMBER [OPTION ..]",
-     "Tells what led to an event, back to where the trace begins.\n\n"
+     "Says what caused an event, back to where the trace begins.\n\n"
      "  --event PROCESS#NUMBER\n"
      "                      the event, by its name in audits and charts, as shop#2\n"
-     "  --effects           tell what came of the event instead\n" ++ cuts(label)}.
+     "  --effects           say what the event caused instead\n" ++ cuts(label)}.
 
 cuts(Label) ->
     "\nTo look at a part of the trace:\n" ++

@@ -9,6 +9,8 @@
 -export([find_label/2, format_error/1]).
 -export_type([legend/0]).
 
+-import(seqaudit_errors, [text/2]).
+
 -define(HEADER, <<"seqaudit terms 1">>).
 
 %% Messages of gen_server: a call, a cast, and the replies to an alias and to a reference; and those
@@ -127,10 +129,9 @@ parse(Text) ->
 %% @doc A reason of this module in words, with what to do about it.
 -spec format_error(term()) -> string().
 format_error({file, File, Reason}) ->
-    text("~ts: ~ts; `seqaudit-node convert' writes it", [File, file:format_error(Reason)]);
+    seqaudit_errors:unread(File, Reason);
 format_error({not_terms, File, Line}) ->
-    text("~ts, line ~b, is no entry of NAME.terms; `seqaudit-node convert' writes it anew",
-         [File, Line]);
+    seqaudit_errors:wrong_line(File, Line, "an entry of NAME.terms");
 format_error({labels_alike, Text, Numbers}) ->
     text("several labels are printed ~ts; give the number of the one that is meant: ~ts",
          [Text, lists:join(", ", Numbers)]);
@@ -139,6 +140,3 @@ format_error({no_label, Text, []}) ->
 format_error({no_label, Text, Labels}) ->
     text("there is no label ~ts; the trace has ~ts",
          [Text, lists:join(", ", lists:sublist(Labels, 20))]).
-
-text(Format, Values) ->
-    lists:flatten(io_lib:format(Format, Values)).

@@ -111,9 +111,6 @@ fold_lines(Device, Number, Do, Before, File) ->
 %% @doc A reason of this module in words, with what to do about it.
 -spec format_error(term()) -> string().
 format_error({file, File, Reason}) ->
-    text("~ts: ~ts; `seqaudit-node convert' writes it", [File, file:format_error(Reason)]);
+    seqaudit_errors:unread(File, Reason);
 format_error({not_messages, File, Line}) ->
-    text("~ts, line ~b, is no entry of NAME.messages; `seqaudit-node convert' writes it anew", [File, Line]).
-
-text(Format, Values) ->
-    lists:flatten(io_lib:format(Format, Values)).
+    seqaudit_errors:wrong_line(File, Line, "an entry of NAME.messages").

@@ -116,7 +116,7 @@ collect(#{"--node" := Nodes, "-o" := [Name]} = Options) when not is_map_key("", 
         {error, Text} -> {usage, Text}
     end;
 collect(_) ->
-    {usage, "collect takes --node and -o, and no words but options"}.
+    {usage, "collect needs --node and -o, and takes options alone"}.
 
 %% How long to collect, and what seqaudit_trace:start/1 takes.
 collect_options(Nodes, Options) ->
@@ -151,7 +151,7 @@ whole(Option, Least, Options) ->
 node_name(Word) ->
     case {string:split(Word, "@", all), length(Word) =< 255} of
         {[[_ | _], [_ | _]], true} -> list_to_atom(Word);
-        _ -> throw(Word ++ " is no name of a node; it is written name@host")
+        _ -> throw(Word ++ " isn't the name of a node; it is written name@host")
     end.
 
 trigger(#{"--trigger" := [Function | _], "--label" := [Label | _]} = Options) ->
@@ -159,7 +159,7 @@ trigger(#{"--trigger" := [Function | _], "--label" := [Label | _]} = Options) ->
 trigger(Options) when is_map_key("--trigger", Options); is_map_key("--label", Options) ->
     throw("--trigger and --label go together");
 trigger(#{"--times" := _}) ->
-    throw("--times goes with --trigger; a token that a program sets has a flag for it");
+    throw("--times goes with --trigger; a program that sets tokens gives them the flag for timestamps itself");
 trigger(_) ->
     none.
 
@@ -167,7 +167,7 @@ function(Word) ->
     case re:run(Word, "^([^:]+):([^:]+)/([0-9]{1,3})$", [unicode, {capture, all_but_first, list}]) of
         {match, [Module, Function, Arity]} ->
             {list_to_atom(Module), list_to_atom(Function), list_to_integer(Arity)};
-        nomatch -> throw(Word ++ " is no function; it is written module:function/2")
+        nomatch -> throw(Word ++ " isn't a function; it is written module:function/2")
     end.
 
 label(Word) ->
@@ -175,13 +175,13 @@ label(Word) ->
         {ok, Tokens, _} ->
             case erl_parse:parse_term(Tokens) of
                 {ok, Label} -> Label;
-                {error, _} -> throw(Word ++ " is no Erlang term")
+                {error, _} -> throw(Word ++ " isn't an Erlang term")
             end;
-        {error, _, _} -> throw(Word ++ " is no Erlang term")
+        {error, _, _} -> throw(Word ++ " isn't an Erlang term")
     end.
 
 collect({error, {cookie, Reason}}, _Start, _Wait) ->
-    failed(?SYSTEM, ["the cookie can't be had: ", Reason]);
+    failed(?SYSTEM, ["the cookie can't be used: ", Reason]);
 collect({error, Reason}, _Start, _Wait) ->
     failed(?SYSTEM, io_lib:format("this Erlang can't take part in distribution; it needs a home "
                                   "folder for its cookie, and epmd: ~0tp", [Reason]));
@@ -193,7 +193,7 @@ collect(ok, #{nodes := Nodes} = Start, Wait) ->
             io:format("tracing ~ts ~ts~ts",
                       [lists:join(", ", [atom_to_list(Node) || Node <- Nodes]), how_long(Wait),
                        advice(Start)]),
-            [io:format("  events of ~ts go to ~ts there~n", [Node, Folder])
+            [io:format("  ~ts writes its events to ~ts~n", [Node, Folder])
              || {Node, Folder} <- seqaudit_trace:folders()],
             _ = seqaudit_signals:wait(Asked, Wait),
             written(seqaudit_trace:stop(), fun seqaudit_trace:format_error/1);
@@ -267,4 +267,4 @@ convert(#{"" := Files, "-o" := [Name]}) ->
             failed(?INPUT, seqaudit_events:format_error(Reason))
     end;
 convert(_) ->
-    {usage, "convert takes files of events, and -o"}.
+    {usage, "convert needs files of events, and -o"}.

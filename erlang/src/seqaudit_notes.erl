@@ -3,6 +3,8 @@
 
 -export([notes/2, dropped/3]).
 
+-import(seqaudit_errors, [text/2]).
+
 %% The limits of the program's reader.
 -define(MOST_BYTES, 67_108_864).
 -define(MOST_PROCESSES, 1_024).
@@ -73,13 +75,13 @@ nothing(_) ->
 collected(#{facts := Facts} = Collection) ->
     Node = seqaudit_terms:plain(maps:get(node, Facts, <<"a node">>)),
     lost(Node, Facts) ++ ended(Node, Facts) ++ split(Node, Facts)
-        ++ [text(Format, [Node, known(Kind, Collection)])
-            || {Kind, Format} <-
-                   [{dropped, "~ts: ~b events came beyond the limit and were dropped; raise "
-                     "the limit or trace for a shorter time"},
-                    {own, "~ts: ~b events that named the collector were left out"},
-                    {strays, "~ts: ~b messages to the collector were no trace events"},
-                    {left, "~ts: ~b bytes of the file are cut or damaged, and were left out"}],
+        ++ [text(Format, [Node, seqaudit_explain:count(known(Kind, Collection), Thing)])
+            || {Kind, Thing, Format} <-
+                   [{dropped, "event", "~ts: the collector dropped ~ts beyond the limit; raise the limit "
+                     "or trace for a shorter time"},
+                    {own, "event", "~ts: convert left out ~ts that named the collector"},
+                    {strays, "message", "~ts: the collector got ~ts besides trace events"},
+                    {left, "byte", "~ts: convert left out ~ts of the file, which is cut or damaged there"}],
                known(Kind, Collection) > 0]
         ++ pauses(Node, Facts)
         ++ written_over(Node, Collection)
@@ -196,7 +198,7 @@ tracer(Node, taken) ->
     [text("~ts: another system tracer took the collector's place, and was left there; events after "
           "that are lost", [Node])];
 tracer(Node, gone) ->
-    [text("~ts: the former system tracer is there no more, so the node has none now", [Node])].
+    [text("~ts: the former system tracer is gone, so the node has none now", [Node])].
 
 converted(Counts) ->
     [text(Format, [seqaudit_explain:count(count(Kind, Counts), thing(Kind))])
@@ -207,8 +209,8 @@ converted(Counts) ->
               "whose it was, and it stands as a process of its own"},
              {unresolved, "~ts to an alias or a name that nothing resolves; it stands as a process of "
               "its own"},
-             {strays, "~ts that aren't events of seq_trace were left out"},
-             {nameless, "~ts of more than 65,536 processes of a node, or nodes, were left out"}],
+             {strays, "convert left out ~ts that seq_trace doesn't write"},
+             {nameless, "convert left out ~ts, as it takes 65,536 nodes and as many processes of each"}],
         count(Kind, Counts) > 0].
 
 thing(strays) -> "entry";
@@ -216,8 +218,8 @@ thing(nameless) -> "event";
 thing(_) -> "send".
 
 limits(Sizes) ->
-    [text("seqaudit won't take this bundle: it has ~b ~ts, and the reader takes ~b; trace for a "
-          "shorter time, or fewer of them", [count(Kind, Sizes), Kind, Most])
+    [text("seqaudit won't take this bundle: it has ~b ~ts, and the reader takes ~b; audit a part of it "
+          "(--label, --process), or trace for a shorter time", [count(Kind, Sizes), Kind, Most])
      || {Kind, Most} <- [{bytes, ?MOST_BYTES}, {processes, ?MOST_PROCESSES},
                          {events, ?MOST_EVENTS}],
         count(Kind, Sizes) > Most].
@@ -243,6 +245,3 @@ several(What, Entries) when length(Entries) =< ?LISTED ->
 several(What, Entries) ->
     Shown = lists:append(lists:join("; ", lists:sublist(Entries, ?LISTED))),
     [What ++ text("~ts; and ~b more, see NAME.terms", [Shown, length(Entries) - ?LISTED])].
-
-text(Format, Values) ->
-    lists:flatten(io_lib:format(Format, Values)).

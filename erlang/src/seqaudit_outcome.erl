@@ -37,8 +37,6 @@
 
 -define(FITS, 0).
 -define(UNFIT, 1).
-%% Reasons after which no run without a reset is left.
--define(FINAL, [<<"prevnotbefore">>, <<"notrising">>, <<"repeated">>, <<"mismatch">>]).
 
 %% @doc Asks the programs.
 -spec ask(seqaudit_bundle:streams()) -> {ok, outcome()} | {error, term()}.
@@ -90,7 +88,7 @@ audit(Ranks, File, Outcome) ->
 %% What seqaudit says alone.
 unfit(Report, #{streams := Streams} = Outcome) ->
     {Reason, _} = Finding = finding(Report, Streams),
-    Said = case lists:member(Reason, ?FINAL) of
+    Said = case seqaudit_reasons:is_final(Reason) of
                true -> never;
                false -> unexplained
            end,

@@ -75,8 +75,7 @@ escape(Text) ->
 format_error({messages, Reason}) ->
     seqaudit_messages:format_error(Reason);
 format_error({file, File, Reason}) ->
-    lists:flatten(io_lib:format("~ts: ~ts; a page is made of what stands there",
-                                [File, file:format_error(Reason)])).
+    seqaudit_errors:text("~ts: ~ts; a page needs this file", [File, file:format_error(Reason)]).
 
 data(#{name := Name, legend := Legend, outcome := Outcome, parts := Parts} = Audited, Label, Limit) ->
     Shown = case Parts of

@@ -3,6 +3,8 @@
 
 -export([ask/2, ask/3, ask_if_known/3, find/0, find/1, unproved/0, run/3, with_text/2, format_error/1]).
 
+-import(seqaudit_errors, [text/2]).
+
 %% The file goes to the program's standard input, which a port can't close.
 -define(SHELL, "exec \"$0\" \"$@\" <\"$SEQAUDIT_INPUT\"").
 -define(QUIET_SHELL, ?SHELL " 2>/dev/null").
@@ -127,7 +129,7 @@ format_error({not_run, Program}) ->
 format_error({empty, Program}) ->
     text("~ts wrote nothing; is it seqaudit?", [Program]);
 format_error({cut, Program}) ->
-    text("what ~ts wrote is cut", [Program]);
+    text("the output of ~ts breaks off", [Program]);
 format_error({missing, Name, Program}) ->
     text("there is no ~ts, which the variable ~ts names", [Program, string:uppercase(Name)]);
 format_error({no_program, Name, Beside}) ->
@@ -135,7 +137,4 @@ format_error({no_program, Name, Beside}) ->
          "or two, and `make program' proved; or say where it is in the variable ~ts",
          [Name, lists:join(" or ", Beside), string:uppercase(Name)]);
 format_error({file, File, Reason}) ->
-    text("~ts: ~ts; `seqaudit-node convert' writes it", [File, file:format_error(Reason)]).
-
-text(Format, Values) ->
-    lists:flatten(io_lib:format(Format, Values)).
+    seqaudit_errors:unread(File, Reason).

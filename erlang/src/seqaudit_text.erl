@@ -16,6 +16,8 @@
 
 -export([fold/3, read/1]).
 
+-import(seqaudit_errors, [text/2]).
+
 -define(NOWHERE, <<"nonode@nohost">>).
 %% Terms may be so deep; what is printed for people isn't.
 -define(DEPTH, 10_000).
@@ -42,7 +44,7 @@
 fold(Text, Do, Acc) ->
     case is_utf8(Text) of
         true -> scan(Text, {Text, #place{}, false, none}, Do, {new, Acc});
-        false -> {error, {1, "this is no UTF-8 text"}}
+        false -> {error, {1, "this isn't UTF-8 text"}}
     end.
 
 is_utf8(<<Seven:56, Rest/binary>>) when Seven band 16#80808080808080 =:= 0 -> is_utf8(Rest);
@@ -186,10 +188,10 @@ between(Bytes) ->
 fault(Reason) -> throw({fault, Reason}).
 
 -spec syntax(binary(), binary()) -> no_return().
-syntax(<<>>, _Begin) -> fault("this is no Erlang term: it isn't closed");
+syntax(<<>>, _Begin) -> fault("this isn't an Erlang term: it isn't closed");
 syntax(Bytes, _Begin) ->
     {Before, _} = line(Bytes),
-    fault("this is no Erlang term: syntax error before: " ++ shown(Before)).
+    fault("this isn't an Erlang term: syntax error before: " ++ shown(Before)).
 
 %% The first characters; a cut one isn't shown.
 shown(Bytes) ->
@@ -286,7 +288,7 @@ map(Bytes, Place, Depth) ->
     {Count, Pairs, Rest} = pairs(Bytes, Place, Depth),
     case seqaudit_external:take(<<116, Count:32, Pairs/binary>>) of
         {ok, Map, <<>>} -> {Map, Rest};
-        _ -> fault("this is no Erlang term: a map isn't one")
+        _ -> fault("this isn't an Erlang term: a map isn't one")
     end.
 
 pairs(Bytes, Place, Depth) ->
@@ -325,7 +327,7 @@ binary(Bytes, Done) ->
                        <<":", After/binary>> -> integer(between(After));
                        After -> {8, After}
                    end,
-    Size =< 1_000_000 orelse fault("this is no Erlang term: a segment is too large"),
+    Size =< 1_000_000 orelse fault("this isn't an Erlang term: a segment is too large"),
     next_segment(Rest, <<Done/bitstring, Number:Size>>).
 
 next_segment(Bytes, Done) ->
@@ -354,7 +356,7 @@ opaque(Kind, Bytes, Place) ->
             <<Inner:Size/binary, ">", Rest/binary>> = Bytes,
             {opaque_term(Kind, numbers(Inner), Place), Rest};
         nomatch ->
-            fault("this is no Erlang term: a < isn't closed")
+            fault("this isn't an Erlang term: a < isn't closed")
     end.
 
 %% Where the closing angle is.
@@ -413,7 +415,7 @@ function(Bytes) ->
             {tuple(2, <<(seqaudit_external:atom(<<"fun">>))/binary,
                         (text_list(unicode:characters_to_list(Inner)))/binary>>), Rest};
         nomatch ->
-            fault("this is no Erlang term: a #Fun< isn't closed")
+            fault("this isn't an Erlang term: a #Fun< isn't closed")
     end.
 
 export(Bytes) ->
@@ -467,7 +469,7 @@ quoted(<<C/utf8, Rest/binary>>, Quote, Done) -> quoted(Rest, Quote, <<Done/binar
 escaped(<<"x{", Rest/binary>>) ->
     case binary:split(Rest, <<"}">>) of
         [Digits, After] when byte_size(Digits) =< 6 -> {unicode(Digits, 16), After};
-        _ -> fault("this is no Erlang term: an escape isn't closed")
+        _ -> fault("this isn't an Erlang term: an escape isn't closed")
     end;
 escaped(<<"x", Digits:2/binary, Rest/binary>>) -> {unicode(Digits, 16), Rest};
 escaped(<<A, B, C, Rest/binary>>) when A >= $0, A =< $7, B >= $0, B =< $7, C >= $0, C =< $7 ->
@@ -485,16 +487,16 @@ escaped(<<>>) -> fault("a quote isn't closed").
 unicode(Digits, Base) ->
     try binary_to_integer(Digits, Base) of
         C when C >= 0, C =< 16#D7FF; C >= 16#E000, C =< 16#10FFFF -> C;
-        _ -> fault("this is no Erlang term: an escape is no character")
+        _ -> fault("this isn't an Erlang term: an escape isn't a character")
     catch
-        error:badarg -> fault("this is no Erlang term: an escape is no character")
+        error:badarg -> fault("this isn't an Erlang term: an escape isn't a character")
     end.
 
 character(<<"\\", Rest0/binary>>) ->
     {C, Rest} = escaped(Rest0),
     {small(C), Rest};
 character(<<C/utf8, Rest/binary>>) -> {small(C), Rest};
-character(<<>>) -> fault("this is no Erlang term: it isn't closed").
+character(<<>>) -> fault("this isn't an Erlang term: it isn't closed").
 
 %% A whole number, perhaps to a base, or a float.
 number(Bytes, Sign) ->
@@ -509,12 +511,12 @@ number(Bytes, Sign) ->
             {small(whole(<<Sign/binary, Digits/binary>>, 10)), Rest}
     end.
 
-whole(<<>>, _Base) -> fault("this is no Erlang term: a number is missing");
+whole(<<>>, _Base) -> fault("this isn't an Erlang term: a number is missing");
 whole(Digits, _Base) when byte_size(Digits) > ?DIGITS ->
     fault("this number has more than 20000 digits");
 whole(Digits, Base) ->
     try binary_to_integer(Digits, Base)
-    catch error:badarg -> fault("this is no Erlang term: " ++ shown(Digits) ++ " is no number")
+    catch error:badarg -> fault("this isn't an Erlang term: " ++ shown(Digits) ++ " isn't a number")
     end.
 
 integer(<<C, _/binary>> = Bytes) when C >= $0, C =< $9 ->
@@ -531,7 +533,7 @@ based(Base, Bytes, Sign) ->
     {Word, Rest} = alphanumeric(Bytes, <<>>),
     case whole(Base, 10) of
         B when B >= 2, B =< 36 -> {small(whole(<<Sign/binary, Word/binary>>, B)), Rest};
-        _ -> fault("this is no Erlang term: a number has no such base")
+        _ -> fault("this isn't an Erlang term: a number has no such base")
     end.
 
 alphanumeric(<<C, Rest/binary>>, Done)
@@ -550,7 +552,7 @@ float(Digits, {Fraction, Rest}, Sign) ->
 
 float_of(Parts) ->
     try <<70, (binary_to_float(iolist_to_binary(Parts))):64/float>>
-    catch error:badarg -> fault("this is no Erlang term: a number is no float")
+    catch error:badarg -> fault("this isn't an Erlang term: a number isn't a float")
     end.
 
 %% A word that needs no quotes.
@@ -573,8 +575,5 @@ name_characters(Rest, Done) ->
 atom(Name) ->
     case is_name(Name) of
         true -> seqaudit_external:atom(Name);
-        false -> fault("this is no Erlang term: a name is longer than 255 characters")
+        false -> fault("this isn't an Erlang term: a name is longer than 255 characters")
     end.
-
-text(Format, Values) ->
-    lists:flatten(io_lib:format(Format, Values)).

@@ -15,6 +15,8 @@
 -export([none/0, write/4, read/1, at/2, took/2, summary/1, summary/2, format_error/1]).
 -export_type([times/0]).
 
+-import(seqaudit_errors, [text/2]).
+
 -define(HEADER, <<"seqaudit times 1">>).
 
 -type event() :: {Process :: binary(), I :: non_neg_integer()}.
@@ -158,9 +160,6 @@ span(Nanoseconds) -> text("~b s", [Nanoseconds div 1_000_000_000]).
 %% @doc A reason of this module in words, with what to do about it.
 -spec format_error(term()) -> string().
 format_error({file, File, Reason}) ->
-    text("~ts: ~ts", [File, file:format_error(Reason)]);
+    seqaudit_errors:unread(File, Reason);
 format_error({not_times, File, Line}) ->
-    text("~ts, line ~b, is no entry of NAME.times; `seqaudit-node convert' writes it anew", [File, Line]).
-
-text(Format, Values) ->
-    lists:flatten(io_lib:format(Format, Values)).
+    seqaudit_errors:wrong_line(File, Line, "an entry of NAME.times").

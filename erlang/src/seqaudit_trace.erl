@@ -100,15 +100,23 @@ is_valid(Option, Value) when Option =:= reset; Option =:= port -> is_boolean(Val
 is_valid(_, _) -> true.
 
 %% @doc Takes the collectors off and writes the files. Returns how many events were kept and
-%% dropped, and which files were written. Where the process that led the collection was killed, it
+%% dropped, and which files were written. If the process that led the collection was killed, it
 %% writes what came until then.
 -spec stop() -> {ok, seqaudit_convert:summary()} | {error, term()}.
 stop() ->
     _ = seq_trace:set_token([]),
-    try
-        gen_server:call(?MODULE, stop, infinity)
+    Leader = monitor(process, ?MODULE),
+    try gen_server:call(?MODULE, stop, infinity) of
+        {ok, Summary} ->
+            %% It goes now; once it has gone, the next collection can start.
+            receive {'DOWN', Leader, process, _, _} -> {ok, Summary} end;
+        {error, Reason} ->
+            demonitor(Leader, [flush]),
+            {error, Reason}
     catch
-        exit:{noproc, _} -> recover(left_over())
+        exit:{noproc, _} ->
+            demonitor(Leader, [flush]),
+            recover(left_over())
     end.
 
 recover(none) ->
@@ -172,7 +180,7 @@ format_error({node, Node, {no_function, {Module, Function, Arity}}}) ->
     text("node ~ts has no function ~ts:~ts/~b; is its module loaded there, and is it spelled so?",
          [Node, Module, Function, Arity]);
 format_error({node, Node, {file, File, Reason}}) ->
-    text("node ~ts can't write to ~ts: ~ts; say another folder (--folder)",
+    text("node ~ts can't write to ~ts: ~ts; name another folder (--folder)",
          [Node, File, file:format_error(Reason)]);
 format_error({node, Node, {already_started, _}}) ->
     text("node ~ts already has a collector; end the trace that uses it, with "
@@ -297,7 +305,7 @@ lead_on(#node{collector = Collector, is = {away, Since}, split = {Times, Sum}} =
         exit:_ -> try_later(Node)
     end.
 
-%% Where one node fails, the collectors that are on already end with their owner, this process.
+%% If one node fails, the collectors that are on already end with their owner, this process.
 start_all([], _Options, Started) ->
     {ok, lists:reverse(Started)};
 start_all([Node | Nodes], Options, Started) ->

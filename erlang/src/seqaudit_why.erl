@@ -1,4 +1,4 @@
-%% @doc Why an event came about, and what came of it, in words.
+%% @doc What caused an event, and what it caused, in words.
 -module(seqaudit_why).
 
 -export([chain/4, effects/4, name/2, cause/2]).
@@ -37,9 +37,9 @@ ending(#{cause := open, event := #{prev := Prev}}) ->
     io_lib:format("There the trace begins, with the counter at ~b, or the event follows something that "
                   "nobody reported.~n", [Prev]);
 ending(#{cause := missing}) ->
-    "Nobody reported what that follows.\n";
+    "Nobody reported what this event follows.\n";
 ending(#{cause := unseen}) ->
-    "Nobody reported that send, so it isn't known what it follows.\n";
+    "Nobody reported that send, so nobody knows what it follows.\n";
 ending(_) ->
     "There the chain runs into itself: these events don't fit.\n".
 
@@ -51,7 +51,7 @@ effects(Place, Rows, Legend, Times) ->
         [] ->
             [name(Place, Legend), " caused nothing that was reported.\n"];
         Effects ->
-            [io_lib:format("~ts caused ~ts, here in an order in which they can have happened:~n",
+            [io_lib:format("~ts caused ~ts, here in an order in which they may have happened:~n",
                            [name(Place, Legend), seqaudit_explain:count(length(Effects), "event")]),
              [["  ", name(Id, Legend), ": ", seqaudit_explain:sentence(Row, Legend), time(Id, Times),
                ", ", cause(Cause, Legend), $\n]

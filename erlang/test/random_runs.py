@@ -5,7 +5,7 @@
 
 Each number from FIRST to LAST makes one run. The model and the program must answer the same to
 `check` of its acts, to `check` of the acts after a tampering, and to `audit` and `chart` of its
-streams, where the program has these commands. Where every stamp and every receive of a message with
+streams, if the program has these commands. If every stamp and every receive of a message with
 a token is reported and nothing is reset, the streams must fit; and each fits must pass `check`.
 
 Each number also makes wild streams: those of another run with one to three damages. `audit` and
@@ -193,7 +193,7 @@ def compare_streams(program, streams, counted, called):
     return answer, status
 
 
-# All that the auditor answers.
+# All that the auditor may say.
 ANSWERS = ("fits", "prevnotbefore", "notrising", "repeated", "mismatch", "uncaused", "toowide", "notreplayed")
 ENOUGH = 300
 

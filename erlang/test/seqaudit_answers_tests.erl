@@ -5,7 +5,7 @@
 -module(seqaudit_answers_tests).
 
 -export([second_trace_test_/0, workers_test_/0, supervisor_test_/0, flags_test_/0, reset_test_/0,
-         lost_node_test_/0, cut_test_/0, files_test_/0, no_tool_test_/0, older_tools_test_/0]).
+         early_stop_test_/0, lost_node_test_/0, cut_test_/0, files_test_/0, no_tool_test_/0, older_tools_test_/0]).
 -export([tool/0]).
 -export([init/1, echo/0]).
 
@@ -126,14 +126,32 @@ reset_test_() ->
         stopped()
     end, [["audit"], ["audit", "--parts"], ["chart", "--label", "second"], ["why", "--event", "shop#9"]]).
 
+%% A trace that is stopped after a second question was sent, and before it was received.
+early_stop_test_() ->
+    said("early_stop", fun(Name) ->
+        Late = stays(fun() -> receive {From, 1} -> From ! {answer, 1} end end),
+        true = register(late, Late),
+        ok = seqaudit_trace:start(#{name => Name}),
+        as(customer, fun() ->
+            seqaudit_trace:with_trace(ask, fun() ->
+                late ! {self(), 1},
+                receive {answer, 1} -> ok end,
+                late ! {self(), 2}
+            end)
+        end),
+        {messages, [{_, 2}]} = process_info(Late, messages),
+        stopped()
+    end, [["audit"], ["chart", "--label", "ask"]]).
+
 %% A node that is lost in the middle: what it had reported is on its disk, which is lost too or isn't.
 lost_node_test_() ->
-    [said(Case, fun(Name) -> lost_node(Name, SharedDisk) end, [["audit"], ["chart", "--label", "ask"]])
+    [said(Case, fun(Name) ->
+         seqaudit_test_nodes:with_second(Case, fun(There) -> lost_node(There, Name, SharedDisk) end)
+     end, [["audit"], ["chart", "--label", "ask"]])
      || {Case, SharedDisk} <- [{"lost_node", true}, {"lost_disk", false}]].
 
 %% The customer is answered once. Then the node goes, and nobody gets the second question.
-lost_node(Name, SharedDisk) ->
-    {ok, Stop, There} = seqaudit_test_nodes:start(),
+lost_node(There, Name, SharedDisk) ->
     {_, Binary, File} = code:get_object_code(?MODULE),
     {module, _} = erpc:call(There, code, load_binary, [?MODULE, File, Binary]),
     Echo = spawn(There, ?MODULE, echo, []),
@@ -153,9 +171,7 @@ lost_node(Name, SharedDisk) ->
     end),
     ok = application:set_env(seqaudit, shared_disk, SharedDisk),
     try stopped() after application:unset_env(seqaudit, shared_disk) end,
-    [ok = seqaudit_spool:remove(Folder) || filelib:is_dir(Folder)],
-    catch Stop(),
-    _ = net_kernel:stop().
+    [ok = seqaudit_spool:remove(Folder) || filelib:is_dir(Folder)].
 
 echo() ->
     receive {From, N} -> From ! {echo, N} end,
@@ -271,7 +287,7 @@ older_tools_test_() ->
                 checked(Name),
                 has(command(["chart", "--label", "work"], Name, Completes), ["ann#0~1", "(status 0)"]),
                 Alone = command(["audit"], Name, older(Tool, "renumber | complete")),
-                has(Alone, ["not explained: ", "seqtool was asked what the trace lacks; it said: it doesn't know `complete'", "(status 1)"]),
+                has(Alone, ["not explained: ", "seqtool can't say what the trace lacks: it doesn't know `complete'", "(status 1)"]),
                 nothing_of(Alone, ["error: what is"])
         end
     end}.
@@ -335,11 +351,11 @@ said(Case, Trace, Commands) ->
     {Case, {timeout, 180, fun() ->
         Name = seqaudit_audits:file(Case),
         [file:delete(File) || File <- filelib:wildcard(Name ++ ".*")],
-        Trace(Name),
-        case {auditor(), tool()} of
-            {none, _} -> io:format(user, "~ts: skipped, there is no auditor~n", [Case]);
-            {_, none} -> io:format(user, "~ts: skipped, there is no seqtool~n", [Case]);
-            {_, Tool} ->
+        case {Trace(Name), auditor(), tool()} of
+            {skipped, _, _} -> skipped;
+            {_, none, _} -> io:format(user, "~ts: skipped, there is no auditor~n", [Case]);
+            {_, _, none} -> io:format(user, "~ts: skipped, there is no seqtool~n", [Case]);
+            {_, _, Tool} ->
                 Said = [[$$, $\s, lists:join(" ", ["seqaudit-node", hd(Words), Case | [quoted(Word) || Word <- tl(Words)]]),
                          $\n, command(Words, Name, Tool)] || Words <- Commands],
                 checked(Name),

@@ -1,5 +1,5 @@
-%% What the tests ask of the auditor and the checker. The model is asked wherever Python is there, and
-%% the program where it is built and has the command; then both must write the same.
+%% What the tests ask the auditor and the checker. The model is asked if there is Python, and the
+%% program if it is built and has the command; then both must write the same.
 -module(seqaudit_audits).
 
 -export([file/1, mode/1, home/0, fits/1, audit/1, answer/2, has/1, has/2, programs/0, tools/0, model/0]).

@@ -12,23 +12,20 @@
 %% Runs a test on a second node, whose port is about to fall behind.
 flooded(Name, Test) ->
     {timeout, 120, fun() ->
-        case seqaudit_test_nodes:start() of
-            {ok, Stop, There} ->
-                File = seqaudit_audits:file(Name),
-                ok = seqaudit_trace:start(#{name => File, nodes => [There], bytes => ?BYTES}),
-                Port = erpc:call(There, seq_trace, get_system_tracer, []),
-                true = is_port(Port),
-                Flooding = erpc:send_request(There, seqaudit_test_server, flood, [?FLOOD]),
-                seqaudit_test_nodes:until(fun() -> not seqaudit_test_nodes:is_traced(There) end),
-                try Test(There, File, Port), ok = erpc:receive_response(Flooding, 60_000)
-                after
-                    _ = seqaudit_trace:stop(),
-                    Stop()
-                end;
-            {error, Reason} ->
-                io:format(user, "a second node: skipped, ~0tp~n", [Reason])
-        end
+        seqaudit_test_nodes:on_port(Name, fun() ->
+            seqaudit_test_nodes:with_second(Name, fun(There) -> flood(Name, Test, There) end)
+        end)
     end}.
+
+flood(Name, Test, There) ->
+    File = seqaudit_audits:file(Name),
+    ok = seqaudit_trace:start(#{name => File, nodes => [There], bytes => ?BYTES}),
+    Port = erpc:call(There, seq_trace, get_system_tracer, []),
+    true = is_port(Port),
+    Flooding = erpc:send_request(There, seqaudit_test_server, flood, [?FLOOD]),
+    seqaudit_test_nodes:until(fun() -> not seqaudit_test_nodes:is_traced(There) end),
+    Test(There, File, Port),
+    ok = erpc:receive_response(Flooding, 60_000).
 
 one_note(Part, Notes) ->
     [_] = [Note || Note <- Notes, string:find(Note, Part) =/= nomatch],
@@ -109,6 +106,9 @@ taken_in_pause_test_() ->
 
 %% What a port is sent in a moment, and has soon written, is collected whole.
 small_load_test() ->
+    seqaudit_test_nodes:on_port("small_load", fun small_load/0).
+
+small_load() ->
     Name = seqaudit_audits:file("small_load"),
     ok = seqaudit_trace:start(#{name => Name}),
     seqaudit_trace:with_trace(1, fun() ->
@@ -119,22 +119,24 @@ small_load_test() ->
 
 %% If nobody watches the port any more, or it was behind too often, the collecting ends.
 unwatched_test_() ->
-    [{timeout, 60, fun() ->
-         ok = seqaudit_trace:start(#{name => seqaudit_audits:file("unwatched")}),
-         ok = seqaudit_test_server:print(1, before),
-         Collector = whereis(seqaudit_collector),
-         {links, Links} = process_info(Collector, links),
-         [Watch] = [Pid || Pid <- Links, is_pid(Pid)],
-         {priority, high} = process_info(Watch, priority),
-         End(Collector, Watch),
-         seqaudit_test_nodes:until(fun() -> seq_trace:get_system_tracer() =:= false end),
-         {ok, #{events := 1, dropped := 0, notes := Notes}} = seqaudit_trace:stop(),
-         ok = one_note("collecting ended early, at 2", Notes),
-         ok = one_note(Why, Notes)
-     end} || {Why, End} <- [{"the process that bounds the memory of the trace port ended (killed)",
+    [{timeout, 60, fun() -> seqaudit_test_nodes:on_port("unwatched", fun() -> watch_ends(Why, End) end) end}
+     || {Why, End} <- [{"the process that bounds the memory of the trace port ended (killed)",
                              fun(_, Watch) -> exit(Watch, kill) end},
                             {"events came faster than they could be written, 1000 times",
                              fun(To, Watch) -> To ! {seqaudit_watch, Watch, {fell_behind, 1_000}} end}]].
+
+watch_ends(Why, End) ->
+    ok = seqaudit_trace:start(#{name => seqaudit_audits:file("unwatched")}),
+    ok = seqaudit_test_server:print(1, before),
+    Collector = whereis(seqaudit_collector),
+    {links, Links} = process_info(Collector, links),
+    [Watch] = [Pid || Pid <- Links, is_pid(Pid)],
+    {priority, high} = process_info(Watch, priority),
+    End(Collector, Watch),
+    seqaudit_test_nodes:until(fun() -> seq_trace:get_system_tracer() =:= false end),
+    {ok, #{events := 1, dropped := 0, notes := Notes}} = seqaudit_trace:stop(),
+    ok = one_note("collecting ended early, at 2", Notes),
+    ok = one_note(Why, Notes).
 
 %% What the notes say of pauses, and of facts that have no such form nothing.
 notes_test() ->

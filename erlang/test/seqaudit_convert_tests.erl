@@ -5,7 +5,7 @@
          reset_aliases_test/0, ambiguous_aliases_test/0,
          repeated_names_test/0,
          counts_test/0, limits_test/0, too_many_test_/0,
-         lost_test/0, hostile_test_/0, hostile_trace_test_/0,
+         lost_test/0, hostile_test_/0, hostile_trace_test_/0, hostile_process_test_/0,
          text_test/0, text_faults_test/0, external_test/0, trace_file_test/0]).
 
 %% What the auditor says of traces of real programs that were captured on a node.
@@ -96,7 +96,7 @@ reset_aliases_test() ->
     %% The same message: the label does.
     ["<0.31.0>", "<0.32.0>"] = receivers(send, convert(Reply(one, A, R1, ok) ++ Reply(two, B, R1, ok))).
 
-%% Where two receives or two requests fit, nobody is named.
+%% If two receives or two requests fit, nobody is named.
 ambiguous_aliases_test() ->
     [S, A, B] = [pid(node(), N, 0) || N <- [30, 31, 32]],
     R = make_ref(),
@@ -146,9 +146,9 @@ counts_test() ->
     #{events := 1, dropped := 9, notes := [Dropped, Own, Left]} =
         seqaudit_convert:convert([#{node => 'a@h', dropped => 2, own => 1, strays => 0, events =>
             [{seq_trace, 1, {print, {0, 1}, self(), [], x}} | Strays]}]),
-    true = has(Dropped, "a@h: 2 events came beyond the limit"),
-    true = has(Own, "a@h: 1 events that named the collector"),
-    true = has(Left, "6 entries that aren't events").
+    true = has(Dropped, "a@h: the collector dropped 2 events beyond the limit"),
+    true = has(Own, "a@h: convert left out 1 event that named the collector"),
+    true = has(Left, "convert left out 6 entries that seq_trace doesn't write").
 
 %% What the program's reader won't take is said.
 limits_test() ->
@@ -162,7 +162,7 @@ too_many_test_() ->
         Events = [{seq_trace, 1, {print, {0, 1}, pid('a@h', N, Serial), [], x}}
                   || Serial <- [0, 1, 2], N <- lists:seq(0, 32_767)],
         #{events := 65_536, processes := 65_536, dropped := 32_768, notes := Notes} = convert(Events),
-        true = lists:any(fun(Note) -> has(Note, "32,768 events of more than 65,536 processes") end, Notes)
+        true = lists:any(fun(Note) -> has(Note, "left out 32,768 events, as it takes 65,536 nodes and as many processes of each") end, Notes)
     end}.
 
 lost_test() ->
@@ -192,18 +192,29 @@ hostile_test_() ->
 %% The same on their way through the tracer of a node.
 hostile_trace_test_() ->
     {timeout, 120, fun() ->
-        Terms = hostile(),
-        Name = seqaudit_audits:file("hostile"),
-        ok = seqaudit_trace:start(#{name => Name}),
-        seqaudit_trace:with_trace(1, fun() ->
-            [begin self() ! Term, receive _ -> ok end end || Term <- Terms]
-        end),
-        Count = 2 * length(Terms),
-        {ok, #{events := Count}} = seqaudit_trace:stop(),
-        {ok, [#{events := Events}]} = seqaudit_events:read(Name ++ ".events"),
-        Count = length(Events),
-        seqaudit_audits:fits(Name)
+        seqaudit_test_nodes:on_port("hostile_trace", fun() -> hostile_trace("hostile", true, hostile()) end)
     end}.
+
+%% And without a trace port, through the collector itself. An event of a megabyte would be too much for its queue.
+hostile_process_test_() ->
+    {timeout, 120, fun() ->
+        Small = [Term || Term <- hostile(), erlang:external_size(Term) < 200_000],
+        true = length(Small) > 10,
+        hostile_trace("hostile_process", false, Small)
+    end}.
+
+hostile_trace(File, Port, Terms) ->
+    {module, _} = code:ensure_loaded(seqaudit_test_nodes),
+    Name = seqaudit_audits:file(File),
+    ok = seqaudit_trace:start(#{name => Name, port => Port}),
+    seqaudit_trace:with_trace(1, fun() ->
+        [begin self() ! Term, receive _ -> ok end, seqaudit_test_nodes:keep_pace() end || Term <- Terms]
+    end),
+    Count = 2 * length(Terms),
+    {ok, #{events := Count}} = seqaudit_trace:stop(),
+    {ok, [#{events := Events}]} = seqaudit_events:read(Name ++ ".events"),
+    Count = length(Events),
+    seqaudit_audits:fits(Name).
 
 hostile() ->
     Deep = fun(Wrap) -> lists:foldl(fun(_, Term) -> Wrap(Term) end, x, lists:seq(1, 300_000)) end,

@@ -1,7 +1,7 @@
 %% Answers and charts with names and terms in the place of numbers.
 -module(seqaudit_explain_tests).
 
--export([whole_test/0, fits_test/0, many_test/0, unreceived_test/0, completed_test/0, labels_test/0, places_test/0, reasons_test/0, no_tool_test/0, faults_test/0,
+-export([whole_test/0, acts_test/0, reported_acts_test_/0, fits_test/0, many_test/0, unreceived_test/0, completed_test/0, labels_test/0, places_test/0, reasons_test/0, no_tool_test/0, faults_test/0,
          losses_test/0, chart_test/0, drawing_test/0, dashed_test/0, drawing_is_safe_test/0, large_drawing_test_/0,
          too_large_drawing_test/0, brief_test/0, legend_test/0]).
 
@@ -40,6 +40,67 @@ whole_test() ->
          "     3  alice has no token any more", "     4  alice begins a trace with label {order,7}",
          "     5  alice has label {order,7}, flags [print]", "     6  alice prints start\n"]).
 
+%% A token travels with a message, with its flags and its label, and a queue gives what is wanted of it. Each act stands
+%% under its own number.
+acts_test() ->
+    Acts = ["tracer <0.30.0> true", "set <0.30.0> label 17", "print <0.30.0> 5", "set <0.30.0> print true",
+            "print <0.30.0> 7", "set <0.30.0> send true", "send <0.30.0> <0.31.0> 6", "set <0.30.0> receive true",
+            "set <0.30.0> label 1000000", "send <0.30.0> <0.31.0> 7", "set <0.30.0> send false",
+            "set <0.30.0> receive false", "send <0.30.0> <0.31.0> 0",
+            "receive <0.31.0> value 7", "printat <0.31.0> 1000000 7", "printat <0.31.0> 17 7", "receive <0.31.0> place 1",
+            "receive <0.31.0> first", "set <0.31.0> print false", "print <0.31.0> 7", "receive <0.31.0> from <0.30.0>",
+            "look <0.31.0>", "send <0.30.0> <0.31.0> 6", "reset <0.30.0>", "print <0.30.0> 7",
+            "receive <0.31.0> both <0.30.0> 6", "set <0.31.0> print true", "print <0.31.0> 7", "clear <0.31.0>",
+            "tracer <0.31.0> false"],
+    Said = ["somebody sets the tracer of alice's node", "alice begins a trace with label 17",
+            "alice's clock moves, as by something that wasn't reported", "alice sets the flag print",
+            "alice prints start", "alice sets the flag send", "alice sends {ok,six} to bob & <co>",
+            "alice sets the flag receive", "alice changes its label to {order,7}", "alice sends start to bob & <co>",
+            "alice takes off the flag send", "alice takes off the flag receive",
+            "alice sends an unknown message to bob & <co>, which wasn't reported",
+            "bob & <co> receives start from alice", "bob & <co> prints start",
+            "bob & <co> would print with label 17, and has another one",
+            "bob & <co> receives an unknown message from alice, which wasn't reported",
+            "bob & <co> receives {ok,six} from alice, which wasn't reported", "bob & <co> takes off the flag print",
+            "bob & <co>'s clock moves, as by something that wasn't reported", "bob & <co> finds no such message in its queue",
+            "bob & <co> looks at its token", "alice sends an unknown message to bob & <co>, which wasn't reported",
+            "all tokens and counters of alice's node are reset", "alice prints without a token, which does nothing",
+            "bob & <co> receives an unknown message from alice, which wasn't reported",
+            "bob & <co> begins a trace with label 0, and sets the flag print", "bob & <co> prints start",
+            "bob & <co> has no token any more", "somebody takes the tracer of bob & <co>'s node off"],
+    Answer = iolist_to_binary(["seqtrace 1\nprocess <0.30.0>\nprocess <0.31.0>\nacts\n", [[Act, $\n] || Act <- Acts]]),
+    Lines = [iolist_to_binary(io_lib:format("~6b  ~ts", [Number, Line])) || {Number, Line} <- lists:enumerate(0, Said)],
+    [<<"The acts of the run:">> | Explained] =
+        binary:split(unicode:characters_to_binary(seqaudit_acts:explain(Answer, legend())), <<"\n">>, [global, trim]),
+    [] = [{Act, One, Other} || {Act, One, Other} <- lists:zip3(Acts, Explained, Lines), One =/= Other],
+    "" = seqaudit_acts:explain(<<"added 0\n">>, legend()).
+
+%% The acts that the programs write for a trace report just its events, by what is said of them; also if its receives, or
+%% its sends, are gone.
+reported_acts_test_() ->
+    {timeout, 120, fun() ->
+        case {seqaudit_program:find("seqaudit"), seqaudit_program:find("seqtool")} of
+            {{ok, _}, {ok, _}} ->
+                Captures = filelib:wildcard(filename:join([seqaudit_audits:home(), "test", "captures", "*.txt"])),
+                Said = [reported_acts(Capture, Gone) || Capture <- Captures, Gone <- [none, send, 'receive']],
+                [true, true] = [lists:member(One, Said) || One <- [fits, completed]];
+            _ ->
+                io:format(user, "acts of captures: skipped, the programs aren't built~n", [])
+        end
+    end}.
+
+reported_acts(Capture, Gone) ->
+    {ok, Collections} = seqaudit_events:read(Capture),
+    #{seqtrace := Text} = seqaudit_convert:convert(Collections),
+    Left = streams(seqaudit_bundle:text([{Pid, [Event || #{kind := Kind} = Event <- Events, Kind =/= Gone]}
+                                         || {Pid, Events} <- streams(Text)])),
+    {ok, #{said := Said, answer := Answer}} = seqaudit_outcome:ask(Left),
+    Lines = binary:split(unicode:characters_to_binary(seqaudit_acts:explain(Answer, legend())), <<"\n">>, [global]),
+    Told = [Line || Line <- Lines, match =:= re:run(Line, " (sends|receives|prints) ", [{capture, none}]),
+                    nomatch =:= re:run(Line, "wasn't reported", [{capture, none}])],
+    {Capture, true, _} = {Capture, Said =:= never orelse length(Told) =:= seqaudit_bundle:events(Left), Told},
+    Said.
+
 %% What a fits says of hidden sends, of counters that stood high, of silent stamps and of spawns.
 fits_test() ->
     <<"fits: 2 events of 2 processes; nothing was left out\n">> =
@@ -53,6 +114,22 @@ fits_test() ->
     <<"fits: 1 event of 1 process; nothing was left out\n">> =
         said((outcome(fits, Print))#{cut => false, lost => false}),
     <<"fits: 0 events of 0 processes\n">> = said(outcome(fits, [])),
+    %% Nor of one with messages that nobody is known to have received.
+    Sends = "seqtrace 1\nprocess <0.30.0>\n{seq_trace,17,{send,{0,1},<0.30.0>,<0.31.0>,7}}\n"
+            "{seq_trace,17,{send,{0,2},<0.30.0>,<0.31.0>,6}}\nprocess <0.31.0>\n",
+    <<"fits: 2 events of 2 processes; 2 messages have no reported receive, and may still wait\n"
+      "Messages without a reported receive: alice#0 to bob & <co>, alice#1 to bob & <co>.\n">> =
+        said(outcome(fits, streams(Sends))),
+    One = Sends ++ "{seq_trace,17,{'receive',{0,2},<0.30.0>,<0.31.0>,6}}\n",
+    has(said((outcome(fits, streams(One)))#{cut => false, lost => true}),
+        ["fits: 3 events of 2 processes; 1 message has no reported receive, and may still wait\n"]),
+    <<"fits: 3 events of 2 processes; 1 message has no receive here\n"
+      "Messages without a receive here: alice#0 to bob & <co>.\n">> =
+        said((outcome(fits, streams(One)))#{cut => true, lost => false}),
+    %% A receive that nobody reported, and that an event follows, is told among what nobody reported.
+    has(said(outcome(completed, streams(Sends ++ "{seq_trace,17,{print,{1,3},<0.31.0>,[],7}}\n"))),
+        ["fits: 3 events of 2 processes, with 1 event that nobody reported; 1 message has no reported receive, "
+         "and may still wait\n", "Messages without a reported receive: alice#1 to bob & <co>.\n"]),
     Gaps = "seqtrace 1\nprocess <0.30.0>\n"
            "{seq_trace,17,{print,{4999,5000},<0.30.0>,[],7}}\n"
            "{seq_trace,17,{print,{4999,5003},<0.30.0>,[],7}}\n"
@@ -78,6 +155,10 @@ many_test() ->
                streams(["seqtrace 1\n", [["process ", pid(K), $\n, Print(pid(K), From)] || K <- lists:seq(1, 50)]])
            end,
     has(said(outcome(fits, Many(9))), [", that of <0.120.0> at 8, and so of 30 more processes.\n"]),
+    Sends = [io_lib:format("{seq_trace,17,{send,{0,~b},<0.30.0>,<0.30.0>,7}}~n", [This]) || This <- lists:seq(1, 1_025)],
+    has(said(outcome(fits, streams(["seqtrace 1\nprocess <0.30.0>\n", Sends]))),
+        ["fits: 1,025 events of 1 process; 1,025 messages have no reported receive, and may still wait\n",
+         "Messages without a reported receive: alice#0 to alice, alice#1 to alice, ", ", alice#19 to alice, and 1,005 more.\n"]),
     Numbered = [{Pid, [Event#{at := 1} || Event <- Events]} || {Pid, Events} <- Many(1)],
     has(unicode:characters_to_binary(seqaudit_explain:reset_places([Many(1), Numbered], legend())),
         ["The reset came after <0.101.0>#0 and before <0.101.0>#1, ", ", and so of 30 more processes.\n"]),
@@ -114,7 +195,7 @@ completed_test() ->
          "  alice#1~1: alice sends an unknown message to bob & <co>, serial {0,2}, label 17\n",
          "  bob & <co>#1~1: bob & <co> receives start from alice, serial {0,1}, label 17\n",
          "  bob & <co>#2~1: bob & <co> receives an unknown message from alice",
-         "What the unknown messages were can't be told"]),
+         "Nobody knows what the unknown messages were"]),
     [{ok, {<<"<0.31.0>">>, {2, 1}}}, {ok, {<<"<0.30.0>">>, 0}}] =
         [seqaudit_bundle:find(Name, Completed, legend()) || Name <- ["bob & <co>#2~1", "<0.30.0>#0"]],
     [{error, {no_event_name, "alice"}}, {error, {no_process, <<"carol">>, _}}, {error, {no_event, "alice#9", [0]}}] =
@@ -180,9 +261,9 @@ losses_test() ->
                                       <<"labels that aren't numbers from 0 to 4294967295 have numbers: 1000000 is lost">>,
                                       <<"no processes, or their number was taken, so they have free numbers: <0.9.0> is lost">>,
                                       <<"a@h: more came than the files hold, and the oldest 9 bytes were written over">>,
-                                      <<"a@h: 7 events came beyond the limit and were dropped">>])),
+                                      <<"a@h: the collector dropped 7 events beyond the limit">>])),
     <<"The trace isn't whole:\n  a@h: its", _/binary>> = Text,
-    has(Text, ["7 events came beyond", "the oldest 9 bytes"]),
+    has(Text, ["dropped 7 events beyond", "the oldest 9 bytes"]),
     [nomatch, nomatch] = [binary:match(Text, Part) || Part <- [<<"alias">>, <<"labels">>]].
 
 chart() ->

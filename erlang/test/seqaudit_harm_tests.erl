@@ -14,64 +14,62 @@
 %% 200 pairs that write lists of 500 numbers to each other under tokens for 5 s: the node takes less than
 %% 200 MB more than without a tracer, with all its schedulers.
 load_test_() ->
-    {timeout, 240, fun() ->
-        Without = peak(fun(_) -> ok end, fun() -> ok end),
-        With = peak(fun(There) ->
-                            ok = seqaudit_trace:start(#{nodes => [There], bytes => 8_000_000,
-                                                        name => seqaudit_audits:file("load")})
-                    end,
-                    fun() ->
-                            {ok, #{events := Events, dropped := Dropped, notes := Notes}} =
-                                seqaudit_trace:stop(),
-                            true = Events > 1_000 andalso Dropped > 1_000,
-                            [_] = [Note || Note <- Notes, string:find(Note, "were written over, about") =/= nomatch],
-                            [] = [Note || Note <- Notes, Lost <- ["went down", "was lost"],
-                                          string:find(Note, Lost) =/= nomatch],
-                            true = filelib:file_size(seqaudit_audits:file("load.events")) < 10_000_000
-                    end),
-        io:format(user, "load: ~b MB without a tracer, ~b MB with~n",
-                  [Without div ?MEGABYTE, With div ?MEGABYTE]),
-        true = With - Without < 200 * ?MEGABYTE
-    end}.
+    {timeout, 240, fun() -> seqaudit_test_nodes:on_port("load", fun load/0) end}.
+
+load() ->
+    bounded("load", fun(There) ->
+        ok = seqaudit_trace:start(#{nodes => [There], bytes => 8_000_000, name => seqaudit_audits:file("load")})
+    end, fun() ->
+        {ok, #{events := Events, dropped := Dropped, notes := Notes}} = seqaudit_trace:stop(),
+        true = Events > 1_000 andalso Dropped > 1_000,
+        [_] = [Note || Note <- Notes, string:find(Note, "were written over, about") =/= nomatch],
+        [] = [Note || Note <- Notes, Lost <- ["went down", "was lost"], string:find(Note, Lost) =/= nomatch],
+        true = filelib:file_size(seqaudit_audits:file("load.events")) < 10_000_000
+    end).
 
 %% Without runtime_tools the collector takes itself off in time, within the same bound.
 load_without_port_test_() ->
     {timeout, 240, fun() ->
-        Without = peak(fun(_) -> ok end, fun() -> ok end),
-        With = peak(fun(There) ->
-                            ok = erpc:call(There, seqaudit_test_server, without_runtime_tools, []),
-                            ok = seqaudit_trace:start(#{nodes => [There], bytes => 8_000_000,
-                                                        name => seqaudit_audits:file("load_without")})
-                    end,
-                    fun() ->
-                            {ok, #{events := Events, notes := Notes}} = seqaudit_trace:stop(),
-                            true = Events > 100,
-                            [_] = [Note || Note <- Notes,
-                                           string:find(Note, "collecting ended early, at 2") =/= nomatch,
-                                           string:find(Note, "without runtime_tools") =/= nomatch]
-                    end),
-        io:format(user, "load without a port: ~b MB without a tracer, ~b MB with~n",
-                  [Without div ?MEGABYTE, With div ?MEGABYTE]),
-        true = With - Without < 200 * ?MEGABYTE
+        bounded("load without a port", fun(There) ->
+            ok = erpc:call(There, seqaudit_test_server, without_runtime_tools, []),
+            ok = seqaudit_trace:start(#{nodes => [There], bytes => 8_000_000,
+                                        name => seqaudit_audits:file("load_without")})
+        end, fun() ->
+            {ok, #{events := Events, notes := Notes}} = seqaudit_trace:stop(),
+            true = Events > 100,
+            [_] = [Note || Note <- Notes, string:find(Note, "collecting ended early, at 2") =/= nomatch,
+                           string:find(Note, "without runtime_tools") =/= nomatch]
+        end)
     end}.
 
+%% A node takes little more memory under the load if it is traced.
+bounded(What, Begin, End) ->
+    case {peak(What, fun(_) -> ok end, fun() -> ok end), peak(What, Begin, End)} of
+        {Without, With} when is_integer(Without), is_integer(With) ->
+            io:format(user, "~ts: ~b MB without a tracer, ~b MB with~n",
+                      [What, Without div ?MEGABYTE, With div ?MEGABYTE]),
+            true = With - Without < 200 * ?MEGABYTE;
+        _ ->
+            skipped
+    end.
+
 %% The greatest memory that a node of its own took under the load, in bytes.
-peak(Begin, End) ->
-    {ok, Stop, There} = seqaudit_test_nodes:start(),
-    try
+peak(What, Begin, End) ->
+    seqaudit_test_nodes:with_second(What, fun(There) ->
         Begin(There),
         Sent = erpc:call(There, seqaudit_test_server, load, [?PAIRS, ?LOAD_MS]),
         true = Sent > ?PAIRS,
         Peak = seqaudit_test_nodes:peak(There),
         End(),
         Peak
-    after
-        Stop()
-    end.
+    end).
 
 %% Of events that were written over the bytes are counted. Their number is taken from the size of the
 %% kept ones, whose numbers are larger here and take some bytes more.
 written_over_test() ->
+    seqaudit_test_nodes:on_port("written_over", fun written_over/0).
+
+written_over() ->
     Name = seqaudit_audits:file("over"),
     ok = seqaudit_trace:start(#{name => Name, bytes => 65_536}),
     seqaudit_trace:with_trace(1, fun() -> [seq_trace:print({number, K}) || K <- lists:seq(1, 20_000)] end),
@@ -82,19 +80,15 @@ written_over_test() ->
     {seq_trace, 1, {print, _, _, _, {number, First}}} = hd(Kept),
     First = 20_001 - Events.
 
-on_another(Test) ->
+%% Runs a test of this name on a second node, with the words that name it on a command line.
+on_another(What, Test) ->
     {timeout, 120, fun() ->
-        case seqaudit_test_nodes:start() of
-            {ok, Stop, There} ->
-                try Test(There, ["--node ", atom_to_list(There)]) after Stop() end;
-            {error, Reason} ->
-                io:format(user, "a second node: skipped, ~0tp~n", [Reason])
-        end
+        seqaudit_test_nodes:with_second(What, fun(There) -> Test(There, ["--node ", atom_to_list(There)]) end)
     end}.
 
 %% On a terminal, Ctrl-C ends the collecting as --seconds does. Meanwhile the command is a hidden node.
 collect_until_ctrl_c_test_() ->
-    on_another(fun(There, Node) ->
+    on_another("collect until ctrl c", fun(There, Node) ->
         case os:find_executable("python3") of
             false -> io:format(user, "Ctrl-C: skipped, there is no python3 to press it~n", []);
             _ ->
@@ -121,7 +115,7 @@ press() ->
 
 %% SIGTERM too.
 collect_until_kill_test_() ->
-    on_another(fun(There, Node) ->
+    on_another("collect until kill", fun(There, Node) ->
         Name = seqaudit_audits:file("sigterm"),
         {0, Said} = terminated_when([node_command(), " collect ", Node, " -o ", Name], Name,
                                     fun() -> seqaudit_test_nodes:print_when_traced(There) end),
@@ -136,7 +130,7 @@ collect_until_kill_test_() ->
 
 %% Calls of a function set the token, with timestamps, until the end; the program has no word of it.
 trigger_test_() ->
-    on_another(fun(There, Node) ->
+    on_another("trigger", fun(There, Node) ->
         ok = erpc:call(There, seqaudit_test_server, begin_shop, []),
         Name = seqaudit_audits:file("trigger"),
         {0, Said} = terminated_when([node_command(), " collect ", Node, " --trigger ",
@@ -165,7 +159,7 @@ is_triggered(There) ->
 
 %% A cookie comes from a file or a variable too, so that nobody sees it on the command line.
 cookies_test_() ->
-    on_another(fun(_There, Node) ->
+    on_another("cookies", fun(_There, Node) ->
         Name = seqaudit_audits:file("cookies"),
         Cookie = atom_to_list(erlang:get_cookie()),
         ok = file:write_file(Name ++ ".cookie", [Cookie, $\n]),
@@ -175,7 +169,7 @@ cookies_test_() ->
         {4, Wrong} = run(Collect, [{"SEQAUDIT_COOKIE", "wrong"}]),
         {_, _} = binary:match(Wrong, <<"is the cookie the same?">>),
         {4, NoFile} = run([Collect, " --cookie-file /no/such/file"], []),
-        {_, _} = binary:match(NoFile, <<"the cookie can't be had: /no/such/file: no such file">>)
+        {_, _} = binary:match(NoFile, <<"the cookie can't be used: /no/such/file: no such file">>)
     end).
 
 %% Files with the contents of messages are their owner's alone, and so is the folder on the node.
@@ -199,14 +193,14 @@ collect_errors_test_() ->
              {3, Text} = run([node_command(), " collect -o ", Name, $\s, Words], []),
              {_, _} = binary:match(Text, Part),
              nomatch = binary:match(Text, [<<"erl:">>, <<"badmatch">>, <<"{error">>])
-         end || {Words, Part} <- [{"--node nohost", <<"nohost is no name of a node; it is written name@host">>},
-                                  {"--node @h", <<"@h is no name of a node">>},
+         end || {Words, Part} <- [{"--node nohost", <<"nohost isn't the name of a node; it is written name@host">>},
+                                  {"--node @h", <<"@h isn't the name of a node">>},
                                   {"--node a@h --limit -5", <<"--limit can't be -5">>},
                                   {"--node a@h --bytes many", <<"--bytes can't be many">>},
                                   {"--node a@h --seconds 0", <<"--seconds can't be 0">>},
-                                  {"--node a@h --trigger shop --label 1", <<"shop is no function">>},
+                                  {"--node a@h --trigger shop --label 1", <<"shop isn't a function">>},
                                   {"--node a@h --trigger shop:order/2", <<"--trigger and --label go together">>},
-                                  {"--node a@h --trigger a:b/1 --label '{x'", <<"{x is no Erlang term">>},
+                                  {"--node a@h --trigger a:b/1 --label '{x'", <<"{x isn't an Erlang term">>},
                                   {"--node a@h --times", <<"--times goes with --trigger">>},
                                   {"--node a@h --frobnicate", <<"collect has no option --frobnicate">>}]],
         {4, Small} = run([node_command(), " collect --node nobody@localhost --cookie c --bytes 10 -o ", Name], []),

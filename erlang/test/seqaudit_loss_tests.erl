@@ -6,21 +6,9 @@
          late_events_test/0, written_over_test/0, broken_port_test/0, broken_disk_test_/0, stray_tokens_test_/0, own_events_test/0, late_names_test_/0,
          refused_options_test/0]).
 
-%% Runs a test on a second node.
-on_two(Test) ->
-    {timeout, 60, fun() ->
-        case seqaudit_test_nodes:start() of
-            {ok, Stop, There} ->
-                try Test(There)
-                after
-                    _ = seqaudit_trace:stop(),
-                    %% The test may have killed the node.
-                    try Stop() catch exit:noproc -> net_kernel:stop() end
-                end;
-            {error, Reason} ->
-                io:format(user, "a second node: skipped, ~0tp~n", [Reason])
-        end
-    end}.
+%% Runs a test of this name on a second node.
+on_two(What, Test) ->
+    {timeout, 60, fun() -> seqaudit_test_nodes:with_second(What, Test) end}.
 
 begin_on(There, Name, Options) ->
     File = seqaudit_audits:file(Name),
@@ -49,15 +37,16 @@ removed(Folders) ->
     [] = [Folder || Folder <- Folders, filelib:is_dir(Folder)].
 
 net_split_test_() ->
-    on_two(fun(There) ->
+    on_two("net split", fun(There) ->
         {File, Folders} = begin_on(There, "split", #{}),
+        Tracer = erpc:call(There, seq_trace, get_system_tracer, []),
         ok = print(There, before),
         true = erlang:disconnect_node(There),
         until(fun() -> not is_led(There) end),
         until(fun() -> net_kernel:connect_node(There) =:= true end),
         ok = print(There, behind),
         until(fun() -> is_led(There) end),
-        true = is_port(erpc:call(There, seq_trace, get_system_tracer, [])),
+        Tracer = erpc:call(There, seq_trace, get_system_tracer, []),
         {ok, #{events := 2, dropped := 0, notes := Notes}} = seqaudit_trace:stop(),
         [before, behind] = printed(File),
         ok = one_note("the connection was lost once", Notes),
@@ -70,18 +59,14 @@ is_led(There) ->
     {monitors, Monitors} = process_info(whereis(seqaudit_trace), monitors),
     [] =/= [Pid || {process, Pid} <- Monitors, node(Pid) =:= There].
 
-kill_node(There) ->
-    [] = os:cmd("kill -9 " ++ erpc:call(There, os, getpid, [])),
-    until(fun() -> not lists:member(There, nodes()) end).
-
 %% A node that is killed leaves on the disk what came until a tick before.
 killed_node_test_() ->
-    on_two(fun(There) ->
+    on_two("killed node", fun(There) ->
         {File, [_, Folder] = Folders} = begin_on(There, "killed_node", #{}),
         ok = print(There, before),
         seqaudit_test_server:print(1, here),
         on_disk(Folder, 1),
-        kill_node(There),
+        seqaudit_test_nodes:kill(There),
         {ok, #{events := 2, notes := Notes}} = seqaudit_trace:stop(),
         [before, here] = lists:sort(printed(File)),
         ok = one_note("the node was lost, or the connection to it; what it wrote before, 1 event, is here", Notes),
@@ -90,11 +75,11 @@ killed_node_test_() ->
 
 %% Of a node that is gone with its disk the notes say where the events are.
 out_of_reach_test_() ->
-    on_two(fun(There) ->
+    on_two("out of reach", fun(There) ->
         {File, [_, Folder] = Folders} = begin_on(There, "no_reach", #{}),
         ok = print(There, away),
         on_disk(Folder, 1),
-        kill_node(There),
+        seqaudit_test_nodes:kill(There),
         {ok, #{events := 0, notes := Notes}} = apart(fun seqaudit_trace:stop/0),
         [Left] = [Each || Each <- Folders, filelib:is_dir(Each),
                           [] =/= [Note || Note <- Notes, string:find(Note, Each) =/= nomatch]],
@@ -109,7 +94,7 @@ apart(Do) ->
     try Do() after application:unset_env(seqaudit, shared_disk) end.
 
 other_disk_test_() ->
-    on_two(fun(There) ->
+    on_two("other disk", fun(There) ->
         {File, Folders} = begin_on(There, "other_disk", #{}),
         [ok = print(There, {K, lists:duplicate(1_000, K)}) || K <- lists:seq(1, 3_000)],
         {ok, #{events := 3_000}} = apart(fun seqaudit_trace:stop/0),
@@ -121,7 +106,7 @@ killed_collector_test_() ->
     [killed_collector(Port) || Port <- [true, false]].
 
 killed_collector(Port) ->
-    on_two(fun(There) ->
+    on_two("killed collector", fun(There) ->
         {File, [_, Folder] = Folders} = begin_on(There, "killed_collector", #{port => Port}),
         ok = print(There, before),
         on_disk(Folder, 1),
@@ -136,7 +121,7 @@ killed_collector(Port) ->
 
 %% Whoever leads the collection is killed: `stop' writes what came until then.
 killed_leader_test_() ->
-    on_two(fun(There) ->
+    on_two("killed leader", fun(There) ->
         {File, Folders} = begin_on(There, "killed_leader", #{}),
         ok = print(There, before),
         exit(whereis(seqaudit_trace), kill),
@@ -153,7 +138,7 @@ killed_leader_test_() ->
 
 %% A collector whose owner's node doesn't come back ends by itself, and leaves what it has.
 lost_owner_test_() ->
-    on_two(fun(There) ->
+    on_two("lost owner", fun(There) ->
         Folder = filename:dirname(seqaudit_audits:file("x")),
         Owner = spawn(fun() -> receive stop -> ok end end),
         ok = seqaudit_trace:start(#{name => seqaudit_audits:file("x"), nodes => [There]}),
@@ -176,7 +161,7 @@ lost_owner_test_() ->
     end).
 
 stray_calls_test_() ->
-    on_two(fun(There) ->
+    on_two("stray calls", fun(There) ->
         {File, _} = begin_on(There, "stray_calls", #{}),
         ok = print(There, before),
         {error, unknown_call} = gen_server:call(seqaudit_trace, stray),
@@ -186,11 +171,14 @@ stray_calls_test_() ->
         ok = print(There, behind),
         {ok, #{events := 2, notes := Notes}} = seqaudit_trace:stop(),
         [before, behind] = printed(File),
-        ok = one_note("1 messages to the collector were no trace events", Notes)
+        ok = one_note("the collector got 1 message besides trace events", Notes)
     end).
 
 %% A file that the port wrote over has no term where the collector looks for the next event; it goes on.
 written_over_test() ->
+    seqaudit_test_nodes:on_port("written_over", fun written_over/0).
+
+written_over() ->
     Name = seqaudit_audits:file("written_over"),
     ok = seqaudit_trace:start(#{name => Name}),
     Collector = whereis(seqaudit_collector),
@@ -208,6 +196,9 @@ written_over_test() ->
 
 %% A trace file that can't be written any more, as on a full disk, ends the collecting with a note.
 broken_port_test() ->
+    seqaudit_test_nodes:on_port("broken_port", fun broken_port/0).
+
+broken_port() ->
     Name = seqaudit_audits:file("broken_port"),
     ok = seqaudit_trace:start(#{name => Name}),
     ok = seqaudit_test_server:print(1, before),
@@ -259,13 +250,13 @@ stray_tokens_test_() ->
          %% Looked at before the next message, which would take the token away anyhow.
          [begin
               seqaudit_trace:with_trace(1, fun() -> Stray(Collector) end),
-              until(fun() -> element(2, process_info(Collector, message_queue_len)) =:= 0 end),
+              seqaudit_test_nodes:await_collector(),
               {sequential_trace_token, []} = process_info(Collector, sequential_trace_token)
           end || Stray <- [fun(To) -> To ! stray end,
                            fun(To) -> gen_server:cast(To, stray) end,
                            fun(To) -> {error, unknown_call} = gen_server:call(To, stray) end]],
          {ok, #{notes := Notes}} = seqaudit_trace:stop(),
-         ok = one_note("3 messages to the collector were no trace events", Notes)
+         ok = one_note("the collector got 3 messages besides trace events", Notes)
      end} || Port <- [true, false]].
 
 %% Events that name the collector are counted and left out.
@@ -274,11 +265,11 @@ own_events_test() ->
     ok = seqaudit_trace:start(#{name => Name}),
     Collector = whereis(seqaudit_collector),
     seqaudit_trace:with_trace(1, fun() -> Collector ! one, Collector ! two, seq_trace:print(kept) end),
-    until(fun() -> element(2, process_info(Collector, message_queue_len)) =:= 0 end),
+    seqaudit_test_nodes:await_collector(),
     {ok, #{events := 1, dropped := Dropped, notes := Notes}} = seqaudit_trace:stop(),
     true = Dropped >= 2 + 2,
     [Own] = [Note || Note <- Notes, string:find(Note, "events that named the collector") =/= nomatch],
-    {match, [Count]} = re:run(Own, ": ([0-9]+) events", [{capture, [1], list}]),
+    {match, [Count]} = re:run(Own, "left out ([0-9]+) events", [{capture, [1], list}]),
     true = list_to_integer(Count) >= 2.
 
 %% A process that is named only after it was seen has its name at the end; one that came and went has

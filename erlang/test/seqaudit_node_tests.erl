@@ -1,7 +1,7 @@
 %% The command, run as a program of its own.
 -module(seqaudit_node_tests).
 
--export([usage_test_/0, convert_test_/0, audit_and_chart_test_/0, no_program_test_/0, failing_program_test_/0, collect_test_/0,
+-export([usage_test_/0, convert_test_/0, damaged_test_/0, audit_and_chart_test_/0, no_program_test_/0, failing_program_test_/0, collect_test_/0,
          printing/0, unproved_test/0]).
 
 usage_test_() ->
@@ -42,17 +42,41 @@ convert_test_() ->
         {_, _} = binary:match(Missing, <<"/no/such/file: no such file">>),
         ok = file:write_file(Name ++ ".txt", <<"{seq_trace,\n\n1">>),
         {2, Broken} = command(["convert ", Name, ".txt -o ", Name]),
-        {_, _} = binary:match(Broken, <<"command.txt, line 1: this is no Erlang term">>),
+        {_, _} = binary:match(Broken, <<"command.txt, line 1: this isn't an Erlang term">>),
         {4, _} = command(["convert ", capture("ring10"), " -o /no/such/folder/x"]),
         {0, Done} = command(["convert ", capture("ring10"), " -o ", Name]),
         {_, _} = binary:match(Done, <<"60 events of 10 processes">>)
+    end}.
+
+%% A file of a trace that is gone or damaged is named, with the line; one without times is as good as any.
+damaged_test_() ->
+    {timeout, 60, fun() ->
+        Name = seqaudit_audits:file("damaged"),
+        {0, _} = command(["convert ", capture("timestamps"), " -o ", Name]),
+        [begin
+             {ok, Whole} = file:read_file(Name ++ Suffix),
+             [begin
+                  ok = file:write_file(Name ++ Suffix, Text),
+                  {2, Said} = command(["audit ", Name]),
+                  {_, _} = binary:match(Said, iolist_to_binary([Name, Suffix, ", line ", Line, ", isn't ", What,
+                                                                "; `seqaudit-node convert' writes it anew\n"]))
+              end || {Line, Text} <- [{"1", <<"x\n">>}, {"2", [hd(binary:split(Whole, <<"\n">>)), "\nx\n"]}]],
+             ok = file:delete(Name ++ Suffix),
+             {Status, Gone} = command(["audit ", Name]),
+             case Suffix of
+                 ".times" -> true = Status < 2;
+                 _ -> {4, {_, _}} = {Status, binary:match(Gone, iolist_to_binary([Name, Suffix, ": no such file"]))}
+             end,
+             ok = file:write_file(Name ++ Suffix, Whole)
+         end || {Suffix, What} <- [{".terms", "an entry of NAME.terms"}, {".seqtrace", "a line of a bundle"},
+                                   {".times", "an entry of NAME.times"}]]
     end}.
 
 capture(Name) ->
     Out = filename:dirname(seqaudit_audits:file("x")),
     filename:join([filename:dirname(Out), "captures", Name ++ ".txt"]).
 
-%% Asked of the program where it has the commands, and of the model.
+%% The program is asked if it has the commands, and the model.
 audit_and_chart_test_() ->
     {timeout, 120, fun() ->
         Name = seqaudit_audits:file("asked"),
@@ -128,7 +152,7 @@ failing_program_test_() ->
              {_, _} = binary:match(Said, Sentence),
              nomatch = binary:match(Said, [<<"{error">>, <<"badmatch">>])
          end || {Script, Sentence} <- [{<<"#!/bin/sh\n">>, <<".sh wrote nothing; is it seqaudit?">>},
-                                       {<<"#!/bin/sh\nprintf 'seqtrace 1'\n">>, <<".sh wrote is cut">>},
+                                       {<<"#!/bin/sh\nprintf 'seqtrace 1'\n">>, <<".sh breaks off">>},
                                        {<<"#!/bin/sh\necho seqtrace\nkill -9 $$\n">>,
                                         <<".sh (signal 9), perhaps because memory ran out">>},
                                        {<<"#!/no/such/shell\n">>, <<".sh can't be run">>}]],
@@ -139,12 +163,7 @@ failing_program_test_() ->
 %% The command traces another node, where nothing of it is installed.
 collect_test_() ->
     {timeout, 120, fun() ->
-        case seqaudit_test_nodes:start() of
-            {ok, Stop, There} ->
-                try nobody(), collect(There) after Stop() end;
-            {error, Reason} ->
-                io:format(user, "collect: skipped, ~0tp~n", [Reason])
-        end
+        seqaudit_test_nodes:with_second("collect", fun(There) -> nobody(), collect(There) end)
     end}.
 
 nobody() ->

@@ -5,53 +5,40 @@
 
 %% A client here calls a server there by its process and by its name.
 two_nodes_test_() ->
-    {timeout, 60, fun() ->
-        case seqaudit_test_nodes:start() of
-            {ok, Stop, There} -> two_nodes(Stop, There);
-            {error, Reason} -> io:format(user, "two nodes: skipped, ~0tp~n", [Reason])
-        end
-    end}.
+    {timeout, 60, fun() -> seqaudit_test_nodes:with_second("two nodes", fun two_nodes/1) end}.
 
 %% A node that goes down in the middle takes its events with it, and the notes say so.
 node_goes_down_test_() ->
     {timeout, 60, fun() ->
-        case seqaudit_test_nodes:start() of
-            {ok, Stop, There} ->
-                ok = seqaudit_trace:start(#{name => seqaudit_audits:file("down"),
-                                            nodes => [node(), There]}),
-                seqaudit_trace:with_trace(1, fun() -> seq_trace:print(here) end),
-                Stop(),
-                {ok, #{events := 1, notes := Notes}} = seqaudit_trace:stop(),
-                [_] = [Note || Note <- Notes, string:find(Note, "the node was lost, or the connection to it") =/= nomatch];
-            {error, Reason} ->
-                io:format(user, "a node that goes down: skipped, ~0tp~n", [Reason])
-        end
+        seqaudit_test_nodes:with_second("a node that goes down", fun(There) ->
+            ok = seqaudit_trace:start(#{name => seqaudit_audits:file("down"), nodes => [node(), There]}),
+            seqaudit_trace:with_trace(1, fun() -> seq_trace:print(here) end),
+            seqaudit_test_nodes:kill(There),
+            {ok, #{events := 1, notes := Notes}} = seqaudit_trace:stop(),
+            [_] = [Note || Note <- Notes, string:find(Note, "the node was lost, or the connection to it") =/= nomatch]
+        end)
     end}.
 
-two_nodes(Stop, There) ->
+two_nodes(There) ->
     Name = seqaudit_audits:file("two_nodes"),
-    try
-        Server = erpc:call(There, seqaudit_test_server, start, [remote, fun erlang:list_to_tuple/1]),
-        ok = seqaudit_trace:start(#{name => Name, nodes => [node(), There]}),
-        false = erpc:call(There, seq_trace, get_system_tracer, []) =:= false,
-        seqaudit_trace:with_trace({to, There}, fun() ->
-            {Server} = gen_server:call(Server, [Server]),
-            {by_name} = gen_server:call({remote, There}, [by_name]),
-            seq_trace:print(asked)
-        end),
-        {ok, #{events := Events}} = seqaudit_trace:stop(),
-        false = erpc:call(There, seq_trace, get_system_tracer, []),
-        true = Events >= 9,
-        {ok, Legend} = seqaudit_legend:read(Name ++ ".terms"),
-        {ok, Text} = file:read_file(Name ++ ".seqtrace"),
-        {match, [Pid]} = re:run(Text, "<1\\.[0-9]+\\.0>", [{capture, first, binary}]),
-        Remote = list_to_binary("remote on " ++ atom_to_list(There)),
-        Remote = seqaudit_legend:process(Pid, Legend),
-        %% A process of the other node has its number in messages too.
-        {match, _} = re:run(lists:join("\n", [seqaudit_legend:value(integer_to_binary(Value), Legend)
-                                              || Value <- lists:seq(0, Events - 1)]),
-                            [",{", binary_to_list(Pid), "}}"]),
-        seqaudit_audits:fits(Name)
-    after
-        Stop()
-    end.
+    Server = erpc:call(There, seqaudit_test_server, start, [remote, fun erlang:list_to_tuple/1]),
+    ok = seqaudit_trace:start(#{name => Name, nodes => [node(), There]}),
+    false = erpc:call(There, seq_trace, get_system_tracer, []) =:= false,
+    seqaudit_trace:with_trace({to, There}, fun() ->
+        {Server} = gen_server:call(Server, [Server]),
+        {by_name} = gen_server:call({remote, There}, [by_name]),
+        seq_trace:print(asked)
+    end),
+    {ok, #{events := Events}} = seqaudit_trace:stop(),
+    false = erpc:call(There, seq_trace, get_system_tracer, []),
+    true = Events >= 9,
+    {ok, Legend} = seqaudit_legend:read(Name ++ ".terms"),
+    {ok, Text} = file:read_file(Name ++ ".seqtrace"),
+    {match, [Pid]} = re:run(Text, "<1\\.[0-9]+\\.0>", [{capture, first, binary}]),
+    Remote = list_to_binary("remote on " ++ atom_to_list(There)),
+    Remote = seqaudit_legend:process(Pid, Legend),
+    %% A process of the other node has its number in messages too.
+    {match, _} = re:run(lists:join("\n", [seqaudit_legend:value(integer_to_binary(Value), Legend)
+                                          || Value <- lists:seq(0, Events - 1)]),
+                        [",{", binary_to_list(Pid), "}}"]),
+    seqaudit_audits:fits(Name).

@@ -23,10 +23,7 @@ packaged(Rebar, Folder) ->
     true = filelib:is_regular(filename:join([Folder, "doc", "index.html"])),
     Command = filename:join([Folder, "_build", "escript", "bin", "seqaudit-node"]),
     {0, <<"usage: seqaudit-node COMMAND", _/binary>>} = seqaudit_test_shell:run(["cd / && ", Command, " --help"]),
-    case seqaudit_test_nodes:start() of
-        {ok, Stop, There} -> try collected(There, Command, Folder) after Stop() end;
-        {error, Reason} -> io:format(user, "the escript's collect: skipped, ~0tp~n", [Reason])
-    end.
+    seqaudit_test_nodes:with_second("the escript's collect", fun(There) -> collected(There, Command, Folder) end).
 
 collected(There, Command, Folder) ->
     Name = filename:join(Folder, "collected"),

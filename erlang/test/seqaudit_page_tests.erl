@@ -181,9 +181,9 @@ damaged_messages_test() ->
          {error, Reason} = seqaudit_page:html(Audited, <<>>),
          {_, _} = string:take(seqaudit_page:format_error(Reason), [$\n]),
          true = string:find(seqaudit_page:format_error(Reason), Said) =/= nomatch
-     end || {Damaged, Said} <- [{<<"other">>, "damaged.messages, line 1, is no entry"}, {<<>>, "line 1"},
-                                {[Text, "value\t7\tcut"], "line 7, is no entry"},
-                                {[Text, "value\tno text\n"], "line 7, is no entry"}]].
+     end || {Damaged, Said} <- [{<<"other">>, "damaged.messages, line 1, isn't an entry"}, {<<>>, "line 1"},
+                                {[Text, "value\t7\tcut"], "line 7, isn't an entry"},
+                                {[Text, "value\tno text\n"], "line 7, isn't an entry"}]].
 
 %% A hundred of its messages have 100,000 characters.
 large_test_() ->

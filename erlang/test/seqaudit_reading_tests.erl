@@ -197,7 +197,7 @@ log_lines_test() ->
                              "10:00:00.000 [debug] {seq_trace,1,\n   {print,{3,4},<0.80.0>,\n     [],x}} trailing\n"]),
     {ok, [{_, [_, _, _, {seq_trace, 1, {print, {3, 4}, _, [], x}}]}]} = seqaudit_text:read(Text),
     %% Without any event the first line that isn't understood is the answer.
-    {error, {1, "this is no Erlang term" ++ _}} = seqaudit_text:read(<<"2026-11-23 info: started\nok\n">>),
+    {error, {1, "this isn't an Erlang term" ++ _}} = seqaudit_text:read(<<"2026-11-23 info: started\nok\n">>),
     {error, {2, _}} = seqaudit_text:read(<<"ok\n2026-11-23 info: {seq_trace,1,\n">>).
 
 out_of_range_test() ->
@@ -261,10 +261,9 @@ version_1_test() ->
 %% A trace of ttb has names beside it.
 ttb_names_test_() ->
     {timeout, 60, fun() ->
-        case {code:ensure_loaded(ttb), seqaudit_test_nodes:start()} of
-            {{module, ttb}, {ok, Stop, There}} -> try ttb(There) after Stop() end;
-            {_, {ok, Stop, _}} -> Stop(), io:format(user, "ttb: skipped, it isn't here (erlang-observer)~n", []);
-            {_, {error, Reason}} -> io:format(user, "ttb: skipped, ~0tp~n", [Reason])
+        case code:ensure_loaded(ttb) of
+            {module, ttb} -> seqaudit_test_nodes:with_second("ttb", fun ttb/1);
+            {error, _} -> io:format(user, "ttb: skipped, it isn't here (erlang-observer)~n", [])
         end
     end}.
 
@@ -306,15 +305,12 @@ million_events_test_() ->
         Seconds = case os:getenv("LONG") of false -> 60; _ -> 10 end,
         File = seqaudit_audits:file("many.trace"),
         ok = many_calls(File, Calls),
-        case seqaudit_test_nodes:start() of
-            {ok, Stop, There} ->
-                {Microseconds, Peak} = try converted_there(There, File, 4 * Calls) after Stop() end,
-                io:format(user, "~b events: ~b ms, ~b MB~n", [4 * Calls, Microseconds div 1_000, Peak div 1_000_000]),
-                true = Peak < Bytes,
-                true = Microseconds < Seconds * 1_000_000;
-            {error, Reason} ->
-                io:format(user, "a million events: skipped, ~0tp~n", [Reason])
-        end
+        seqaudit_test_nodes:with_second("a million events", fun(There) ->
+            {Microseconds, Peak} = converted_there(There, File, 4 * Calls),
+            io:format(user, "~b events: ~b ms, ~b MB~n", [4 * Calls, Microseconds div 1_000, Peak div 1_000_000]),
+            true = Peak < Bytes,
+            true = Microseconds < Seconds * 1_000_000
+        end)
     end}.
 
 %% How long it took, and the greatest memory of the node.

@@ -69,11 +69,12 @@ echo(To) ->
 running(Module) ->
     [Pid || Pid <- processes(), {_, {In, _, _}} <- [process_info(Pid, current_function)], In =:= Module].
 
-%% As if the node had no runtime_tools.
+%% As if the node had no runtime_tools, which it may not have.
 without_runtime_tools() ->
     _ = code:purge(dbg),
     _ = code:delete(dbg),
-    true = code:del_path(runtime_tools),
+    _ = code:del_path(runtime_tools),
+    {error, _} = code:ensure_loaded(dbg),
     ok.
 
 %% A server that is called by what somebody may trace.

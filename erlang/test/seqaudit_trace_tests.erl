@@ -96,11 +96,14 @@ registered_names_test() ->
     ok = gen_server:stop(Server),
     ok_or_skipped(seqaudit_audits:fits(seqaudit_audits:file("names"))).
 
-%% A process without a name is called by what it was started with, also after its end.
+%% A process without a name is called by what it was started with, also after its end. If there is a trace port, that is
+%% known once the collector is on.
 initial_call_test() ->
     Server = seqaudit_test_server:start(fun(X) -> X end),
     {4, Legend} = traced("initial_call", #{}, fun() ->
         seqaudit_trace:with_trace(1, fun() -> gen_server:call(Server, hello) end),
+        [{_, Folder}] = seqaudit_trace:folders(),
+        is_port(seq_trace:get_system_tracer()) orelse seqaudit_test_nodes:met(Folder, [Server]),
         exit(Server, kill)
     end),
     Pid = pid_to_list(Server),
@@ -139,7 +142,7 @@ full_collector_test() ->
     ok = seqaudit_trace:start(#{name => Name, limit => 10}),
     seqaudit_trace:with_trace(1, fun() -> [seq_trace:print(K) || K <- lists:seq(1, 25)] end),
     {ok, #{events := 10, dropped := 15, notes := [Note]}} = seqaudit_trace:stop(),
-    {match, _} = re:run(Note, ": 15 events came beyond the limit"),
+    {match, _} = re:run(Note, ": the collector dropped 15 events beyond the limit"),
     ok_or_skipped(seqaudit_audits:fits(Name)).
 
 former_tracer_is_put_back_test() ->
@@ -161,7 +164,7 @@ former_tracer_is_gone_test() ->
     exit(Former, kill),
     receive {'DOWN', Monitor, process, Former, killed} -> ok end,
     {ok, #{notes := [_, Note]}} = seqaudit_trace:stop(),
-    {match, _} = re:run(Note, "the former system tracer is there no more"),
+    {match, _} = re:run(Note, "the former system tracer is gone"),
     false = seq_trace:get_system_tracer(),
     ok.
 
@@ -193,8 +196,7 @@ collector_stays_out_test() ->
         seqaudit_trace:with_trace(1, fun() ->
             seq_trace:print(before),
             seqaudit_collector ! stray,
-            Collector = whereis(seqaudit_collector),
-            seqaudit_test_nodes:until(fun() -> process_info(Collector, message_queue_len) =:= {message_queue_len, 0} end),
+            seqaudit_test_nodes:await_collector(),
             seq_trace:print(behind)
         end)
     end),
@@ -213,7 +215,11 @@ token_is_taken_off_test() ->
 %% 20,000 events of 20 processes at once: all of them come, in each process's order.
 nothing_is_lost_test_() ->
     {timeout, 60, fun() ->
-        Run = fun() -> [seq_trace:print(K) || K <- lists:seq(1, 1000)] end,
+        {module, _} = code:ensure_loaded(seqaudit_test_nodes),
+        Run = fun() ->
+            [begin seq_trace:print(K), K rem 100 > 0 orelse seqaudit_test_nodes:keep_pace() end
+             || K <- lists:seq(1, 1000)]
+        end,
         {20_000, _} = traced("many", #{}, fun() ->
             Started = [spawn_monitor(fun() -> seqaudit_trace:with_trace(L, Run) end)
                        || L <- lists:seq(1, 20)],

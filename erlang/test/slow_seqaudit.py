@@ -124,7 +124,7 @@ class World:
         self.of = {pid: Process() for pid in pids}
 
     def step(self, act, number=0):
-        """Does the act. Answers what it reports, or None, and the number of the send that a receive took."""
+        """Does the act. Returns what it reports, or None, and the number of the send that a receive took."""
         actor = parse_pid(act[1])
         if actor not in self.of:
             raise Stuck

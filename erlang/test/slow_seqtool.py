@@ -1,19 +1,31 @@
 #!/usr/bin/env python3
-"""A slow seqtool: a test model, made by the rules and not by the program.
+"""A slow seqtool: a test model, made by the rules (crates/st_completions/README.md) and not by the program.
 
-    slow_seqtool.py renumber | complete [--as added|streams|acts]    < BUNDLE
+    slow_seqtool.py renumber | complete [--as added|streams|acts]    [FILE]
 
-`renumber` is exact. `complete` puts each hidden send at the first place at which it needs nothing, and
-tries no other choice: where that leaves a need without a sender, it says `open`.
+`renumber` writes what the program writes, and `complete` too, but for what differs on purpose:
+
+- A completion that adds events may be another one, with other places of hidden sends and other senders of invented
+  messages. Its acts are others.
+- `never .. unsent` may name another event, if there are receives without their sends and several events show it.
+- `open` comes only if there is no completion, and names the first receive without its send. The program may say it of
+  streams that have one, if a stretch asks for two scarce counts.
+- `long` comes of the acts that are written here, which are more than the program's. A fault of the reader is only
+  `fault line N`, and may not be seen if it is in the acts or a limit. There are no other commands.
 """
 
 import signal
 import sys
 from collections import defaultdict
 from dataclasses import dataclass, replace
+from itertools import islice, product
 
 import slow_seqaudit as model
 from slow_seqaudit import Event, NotABundle, Unfit, show
+
+MOST_ACTS = 4_000_000
+# So many choices of placings are tried if a stretch asks for two scarce counts.
+MOST_CHOICES = 100_000
 
 
 # Streams whose events may be unreported
@@ -33,6 +45,10 @@ class Reason(Exception):
         self.word, self.place, self.other = word, place, other
 
 
+class Long(Exception):
+    """There are more acts than the reader takes."""
+
+
 def renumbered(streams):
     counts = {0} | {count for events in streams.values() for event in events
                     for count in (event.prev, event.this)}
@@ -41,135 +57,275 @@ def renumbered(streams):
             for pid, events in streams.items()}
 
 
-def with_hidden(streams, source):
-    """The streams with their hidden sends, each at the first place of its stretch, no earlier than the
-    hidden send before it, at which it needs nothing; at the earliest place if there is none."""
-    whole = {pid: [Item(event, True, (pid, i)) for i, event in enumerate(events)]
-             for pid, events in streams.items()}
-    hidden = sorted(((streams[p][i], (p, i)) for (p, i), sent in source.items() if sent is None),
-                    key=lambda found: found[0].this)
-    for event, place in hidden:
-        items = whole[event.sender]
-        behind = [k for k, item in enumerate(items)
-                  if item.event.kind != "receive" and item.event.this < event.this]
-        least = most = behind[-1] + 1 if behind else 0
-        while most < len(items) and items[most].event.kind == "receive" and items[most].event.this < event.this:
-            most += 1
-        free = [k for k in range(least, most + 1) if not needs_at(items[:k], event)]
-        items.insert((free or [least])[0], Item(replace(event, kind="send"), False, place))
-    return whole
+def is_stamp(event):
+    return event.kind != "receive"
 
 
-def needs_at(before, event):
-    """Whether the stamp behind these is a need."""
-    clock = max([item.event.this for item in before], default=0)
-    left = 0
-    if before:
-        last = before[-1].event
-        left = last.this if last.kind == "receive" else last.prev
-    return event.prev != left and event.prev < clock
+# What a process's events leave to its next one: the greatest count, and the prev of a stamp that goes on.
 
+START = (0, 0)
+
+
+def after(left, event):
+    return max(left[0], event.this), event.prev if is_stamp(event) else event.this
+
+
+def is_late(left, event):
+    return is_stamp(event) and event.this <= left[0]
+
+
+def is_need(left, event):
+    """Whether a receive of the event's prev is missing before it."""
+    return is_stamp(event) and event.prev != left[1] and event.prev < left[0]
+
+
+def lefts(events):
+    """Each event with what those before it leave."""
+    left = START
+    for event in events:
+        yield left, event
+        left = after(left, event)
+
+
+def needs(events):
+    return [event.prev for left, event in lefts(events) if is_need(left, event)]
+
+
+# The reasons that one look at the events shows
 
 def late(streams):
     for pid, events in streams.items():
-        for i, event in enumerate(events):
-            behind = [j for j in range(i) if events[j].kind == "receive" and events[j].this >= event.this]
-            if event.kind != "receive" and behind:
-                raise Reason("late", (pid, i), (pid, behind[-1]))
+        for i, (left, event) in enumerate(lefts(events)):
+            if is_late(left, event):
+                raise Reason("late", (pid, i), (pid, max(j for j in range(i) if events[j].this >= event.this)))
 
 
-def needs(whole):
-    """Of each count the needs: who, where, which item."""
-    found = defaultdict(list)
-    for pid, items in whole.items():
-        clock = last = 0
-        for k, item in enumerate(items):
-            event = item.event
-            if event.kind != "receive":
-                if event.prev not in (last,) and event.prev < clock:
-                    found[event.prev].append((pid, k, item))
-                last = event.prev
+def rootless(streams):
+    for pid, events in streams.items():
+        for i, (left, event) in enumerate(lefts(events)):
+            if is_need(left, event) and event.prev == 0:
+                raise Reason("unfounded", (pid, i))
+
+
+def zero_behind(streams):
+    """Two events that tell of stamps of one process, the lower one with a prev and the higher one without."""
+    lowest = {}
+    for _, event in model.places(streams):
+        if event.prev > 0:
+            lowest[event.sender] = min(event.this, lowest.get(event.sender, event.this))
+    for place, event in model.places(streams):
+        if event.prev == 0 and lowest.get(event.sender, event.this) < event.this:
+            raise Reason("unfounded", place)
+
+
+# Messages
+
+class Messages:
+    """Who may have sent a message of a count."""
+
+    def __init__(self, streams, source):
+        self.streams = streams
+        taken = {sent for sent in source.values() if sent}
+        self.told, self.own = defaultdict(set), defaultdict(list)
+        for place, event in model.places(streams):
+            self.told[event.this].add(event.sender)
+            if event.kind == "send" and place not in taken:
+                self.own[event.this, event.to].append(place)
+
+    def free(self, count):
+        """The processes of which nothing is told at the count."""
+        return [pid for pid in self.streams if pid not in self.told[count]]
+
+    def suffice(self, count, wanted):
+        """Whether there are enough messages of the count, if each process wants so many."""
+        return sum(max(0, wanted(pid) - len(self.own[count, pid])) for pid in self.streams) <= len(self.free(count))
+
+
+# Hidden sends and where they may stand
+
+def hidden_sends(streams, source):
+    """Of each process the sends that only their receives tell of, by rising count."""
+    found = {pid: [] for pid in streams}
+    for (pid, i), sent in source.items():
+        if sent is None:
+            event = streams[pid][i]
+            found[event.sender].append(Item(replace(event, kind="send"), False, (pid, i)))
+    return {pid: sorted(items, key=lambda item: item.event.this) for pid, items in found.items()}
+
+
+def least_of(found):
+    """Those of the tuples that no other one is below."""
+    return {needed: items for needed, items in found.items()
+            if not any(other != needed and all(n <= m for n, m in zip(other, needed)) for other in found)}
+
+
+def placings(told, hidden, counts):
+    """The placings of a process: its hidden sends among its events, in turn and with no stamp late. Only those that need
+    these counts least: how often they need each, and the items, linked from the last one back."""
+    fronts = {(0, 0): {START: {(0,) * len(counts): None}}}
+    here = {}
+    for i in range(len(told) + 1):
+        for j in range(len(hidden) + 1):
+            here = {left: least_of(found) for left, found in fronts.pop((i, j), {}).items()}
+            for to, items in ((i + 1, j), told[i:i + 1]), ((i, j + 1), hidden[j:j + 1]):
+                for item in items:
+                    for left, found in here.items():
+                        if not is_late(left, item.event):
+                            wanted = item.event.prev if is_need(left, item.event) else None
+                            behind = fronts.setdefault(to, {}).setdefault(after(left, item.event), {})
+                            for needed, before in found.items():
+                                more = tuple(n + (count == wanted) for n, count in zip(needed, counts))
+                                behind.setdefault(more, (before, item))
+    return least_of({needed: items for found in here.values() for needed, items in found.items()})
+
+
+def unlinked(items):
+    found = []
+    while items:
+        items, item = items
+        found.append(item)
+    return found[::-1]
+
+
+def told_items(streams):
+    return {pid: [Item(event, True, (pid, i)) for i, event in enumerate(events)] for pid, events in streams.items()}
+
+
+def scarce_counts(streams, hidden, messages):
+    """The counts above 0 of which there are too few messages, should all stamps with this prev need one."""
+    asking = {pid: [event.prev for event in [*events, *(item.event for item in hidden[pid])] if is_stamp(event)]
+              for pid, events in streams.items()}
+    return [count for count in sorted({count for prevs in asking.values() for count in prevs} - {0})
+            if not messages.suffice(count, lambda pid: asking[pid].count(count))]
+
+
+def asks_for_two(streams, hidden, scarce):
+    """Whether some stretch has stamps with two scarce prevs: the hidden sends between two reported stamps of a process,
+    with the second of these."""
+    for pid, events in streams.items():
+        stamps = [(event, True) for event in events if is_stamp(event)] + [(item.event, False) for item in hidden[pid]]
+        asked = set()
+        for event, told in sorted(stamps, key=lambda stamp: stamp[0].this):
+            asked |= {event.prev} & set(scarce)
+            if len(asked) > 1:
+                return True
+            if told:
+                asked = set()
+    return False
+
+
+def fewest(told, hidden, count):
+    """How often a process needs the count at the best of its placings."""
+    [(needed,)] = placings(told, hidden, [count])
+    return needed
+
+
+def is_supplied_at_least(streams, hidden, messages, count):
+    told = told_items(streams)
+    return messages.suffice(count, lambda pid: fewest(told[pid], hidden[pid], count))
+
+
+def shortage(streams, source, hidden, messages, scarce):
+    """At the first event that asks for the least count that has too few messages at the best places."""
+    for count in scarce:
+        if not is_supplied_at_least(streams, hidden, messages, count):
+            raise Reason("unsent", next(place for place, event in model.places(streams)
+                                        if event.prev == count and (is_stamp(event) or source[place] is None)))
+
+
+def with_hidden(streams, source, hidden, messages):
+    """The streams with their hidden sends at places at which there are enough messages of each count."""
+    told = told_items(streams)
+    if not any(hidden.values()):
+        return told
+    zero_behind(streams)
+    scarce = scarce_counts(streams, hidden, messages)
+    shortage(streams, source, hidden, messages, scarce)
+    found = {pid: placings(told[pid], hidden[pid], [0, *scarce]) for pid in streams}
+    for choice in islice(product(*found.values()), MOST_CHOICES):
+        needed = dict(zip(found, choice))
+        if not any(zero for zero, *_ in choice) and \
+                all(messages.suffice(count, lambda pid: needed[pid][k]) for k, count in enumerate(scarce, 1)):
+            return {pid: unlinked(found[pid][needed[pid]]) for pid in streams}
+    raise Reason("open", next(place for place, sent in source.items() if sent is None))
+
+
+# The completion
+
+@dataclass(frozen=True)
+class Supply:
+    """A message that is received right before a need: its count, who receives it, who sent it, and the need's label."""
+    count: int
+    to: tuple
+    sender: tuple
+    label: int
+
+
+def supplies(whole, messages):
+    """For each need a message, of a reported send that nobody received, or else of a process of which nothing is told at
+    the count; by rising count, and then as the needs stand."""
+    wanted = sorted((item.event.prev, pid, k) for pid, items in whole.items()
+                    for k, (left, item) in enumerate(zip(lefts_of(items), items)) if is_need(left, item.event))
+    found = []
+    for count in sorted({count for count, _, _ in wanted}):
+        own = {pid: [sender for sender, _ in messages.own[count, pid]] for pid in whole}
+        free, short = messages.free(count), None
+        for _, pid, k in (need for need in wanted if need[0] == count):
+            item, senders = whole[pid][k], own[pid] or free
+            if senders:
+                found.append(Supply(count, pid, senders.pop(0), item.event.label))
             else:
-                last = event.this
-            clock = max(clock, event.this)
+                short = item.at
+        if short:
+            raise Reason("unsent", short)
     return found
 
 
-def feed(whole, source, streams):
-    """For each need the send that it receives: an item that is there, or a process and a count."""
-    wanted = needs(whole)
-    for pid, k, item in wanted.pop(0, []):
-        raise Reason("unfounded" if item.told else "open", item.at)
-    taken = {sent for sent in source.values() if sent}
-    fed = {}
-    for count in sorted(wanted):
-        own = defaultdict(list)
-        busy = {event.sender for events in streams.values() for event in events if event.this == count}
-        for pid, items in whole.items():
-            for item in items:
-                if item.event.kind == "send" and item.event.this == count and item.told \
-                        and item.at not in taken:
-                    own[item.event.to].append(item)
-        free = [pid for pid in whole if pid not in busy]
-        left = []
-        for pid, k, item in wanted[count]:
-            if own[pid]:
-                fed[pid, k] = own[pid].pop(0)
-            else:
-                left.append((pid, k, item))
-        if len(left) > len(free):
-            hidden = any(not item.told for items in whole.values() for item in items)
-            raise Reason("open" if hidden else "unsent", wanted[count][-1][2].at)
-        for (pid, k, item), sender in zip(left, free):
-            fed[pid, k] = (sender, pid, count, item.event.label)
-    return fed
+def lefts_of(items):
+    return [left for left, _ in lefts(item.event for item in items)]
+
+
+def stamp_of(whole, pid, count):
+    return next((item.event for item in whole[pid] if is_stamp(item.event) and item.event.this == count), None)
+
+
+def put_send(whole, supply):
+    """Before the first event that reaches the count. It goes on from what is left, or begins the next event's trace."""
+    items = whole[supply.sender]
+    place = next((k for k, item in enumerate(items) if item.event.this >= supply.count), len(items))
+    left = START
+    for item in items[:place]:
+        left = after(left, item.event)
+    prev = left[1]
+    for item in items[place:place + 1]:
+        if is_stamp(item.event) and item.event.prev != prev and left[0] <= item.event.prev < supply.count:
+            prev = item.event.prev
+    event = Event(supply.label, "send", prev, supply.count, supply.sender, supply.to, 0)
+    items.insert(place, Item(event, False, None))
+
+
+def put_receive(whole, supply):
+    """Right before the first need of the count."""
+    items = whole[supply.to]
+    place = next(k for k, (left, item) in enumerate(zip(lefts_of(items), items))
+                 if is_need(left, item.event) and item.event.prev == supply.count)
+    event = stamp_of(whole, supply.sender, supply.count)
+    items.insert(place, Item(replace(event, kind="receive"), False, None))
 
 
 def completed(streams):
     source = model.pair(streams)
     late(streams)
-    whole = with_hidden(streams, source)
-    fed = feed(whole, source, streams)
-    sends = defaultdict(list)
-    for given in fed.values():
-        if not isinstance(given, Item):
-            sends[given[0]].append(given)
-    result = {}
-    for pid, items in whole.items():
-        out = []
-        for k, item in enumerate(items):
-            given = fed.get((pid, k))
-            if given is not None:
-                event = given.event if isinstance(given, Item) else \
-                    Event(given[3], "send", None, given[2], given[0], pid, 0)
-                out.append((Item(replace(event, kind="receive"), False, None), given))
-            out.append((item, None))
-        result[pid] = out
-    # Invented sends, and the prevs that they and their receives have.
-    prevs = {}
-    for pid in result:
-        for given in sorted(sends[pid], key=lambda given: given[2]):
-            out, clock, place = result[pid], 0, len(result[pid])
-            for k, (item, _) in enumerate(out):
-                clock = max(clock, item.event.this)
-                if clock >= given[2]:
-                    place = k
-                    break
-            clock = last = 0
-            for item, _ in out[:place]:
-                clock = max(clock, item.event.this)
-                last = item.event.this if item.event.kind == "receive" else item.event.prev
-            if place < len(out) and out[place][0].event.kind != "receive":
-                follows = out[place][0].event.prev
-                if follows != last and clock <= follows < given[2]:
-                    last = follows
-            prevs[given[0], given[2]] = last
-            out.insert(place, (Item(Event(given[3], "send", last, given[2], pid, given[1], 0), False, None), None))
-    for pid, out in result.items():
-        result[pid] = [Item(replace(item.event, prev=prevs[given[0], given[2]]), False, None)
-                       if given is not None and not isinstance(given, Item) else item
-                       for item, given in out]
-    return result
+    rootless(streams)
+    messages = Messages(streams, source)
+    whole = with_hidden(streams, source, hidden_sends(streams, source), messages)
+    found = supplies(whole, messages)
+    for supply in found:
+        if not stamp_of(whole, supply.sender, supply.count):
+            put_send(whole, supply)
+    for supply in found:
+        put_receive(whole, supply)
+    return whole
 
 
 class Builder(model.Builder):
@@ -179,6 +335,11 @@ class Builder(model.Builder):
         super().__init__({pid: [item.event for item in items] for pid, items in whole.items()}, source)
         self.told = {(pid, k): item.told for pid, items in whole.items() for k, item in enumerate(items)}
         self.receive_of = {sent: place for place, sent in source.items()}
+
+    def pad(self, pid, label, count):
+        if len(self.acts) + count > MOST_ACTS:
+            raise Long
+        super().pad(pid, label, count)
 
     def item(self, item):
         event, (_, place) = model.event_of(self.streams, item), item
@@ -209,31 +370,27 @@ def acts(whole):
     builder = Builder(whole, source)
     for item in model.order(events, source):
         builder.item(item)
+    if len(builder.acts) > MOST_ACTS:
+        raise Long
     return builder.acts
 
 
-def answer(words, text):
-    try:
-        streams, _ = model.read(text)
-        match words:
-            case ["renumber"]:
-                return list(model.write(renumbered(streams), None)), 0
-            case ["complete"] | ["complete", "--as", "added"]:
-                whole = completed(streams)
-                lines = [f"added {show(pid)} {k} {item.event}" for pid, items in whole.items()
-                         for k, item in enumerate(items) if not item.told]
-                return [f"added {len(lines)}", *lines], 0
-            case ["complete", "--as", "streams"]:
-                whole = completed(streams)
-                return list(model.write({pid: [item.event for item in items]
-                                         for pid, items in whole.items()}, None)), 0
-            case ["complete", "--as", "acts"]:
-                return list(model.write(streams, acts(completed(streams)))), 0
-    except NotABundle as fault:
-        return [f"fault line {fault}"], 2
-    except (Unfit, Reason) as unfit:
-        return list(report(streams, unfit)), 1
-    return ["usage: slow_seqtool.py renumber|complete [--as added|streams|acts]"], 3
+# What is written
+
+def written(words, streams):
+    """The lines of a command."""
+    match words:
+        case ["renumber"]:
+            return list(model.write(renumbered(streams), None))
+        case ["complete"] | ["complete", "--as", "added"]:
+            lines = [f"added {show(pid)} {k} {item.event}" for pid, items in completed(streams).items()
+                     for k, item in enumerate(items) if not item.told]
+            return [f"added {len(lines)}", *lines]
+        case ["complete", "--as", "streams"]:
+            whole = {pid: [item.event for item in items] for pid, items in completed(streams).items()}
+            return list(model.write(whole, None))
+        case ["complete", "--as", "acts"]:
+            return list(model.write(streams, acts(completed(streams))))
 
 
 def report(streams, unfit):
@@ -241,19 +398,58 @@ def report(streams, unfit):
     place = f"{show(unfit.place[0])} {unfit.place[1]}"
     if unfit.word == "open":
         yield f"open {place}"
-    elif unfit.word == "late":
-        yield f"never {place} late {show(unfit.other[0])} {unfit.other[1]}"
     else:
-        yield " ".join([f"never {place} {unfit.word}"] +
-                       [f"{show(pid)} {i}" for pid, i in named[1:]])
+        yield " ".join([f"never {place} {unfit.word}", *(f"{show(pid)} {i}" for pid, i in named[1:])])
     for pid, i in named:
         yield f"event {show(pid)} {i} {streams[pid][i]}"
+
+
+def answer(words, text):
+    """The lines and the status."""
+    streams = {}
+    try:
+        streams, _ = model.read(text)
+        return written(words, streams), 0
+    except NotABundle as fault:
+        return [f"fault line {fault}"], 2
+    except Long:
+        return ["long"], 5
+    except (Unfit, Reason) as unfit:
+        return list(report(streams, unfit)), 1
+
+
+def asked(words):
+    """The command and the file, if the words are understood."""
+    match words:
+        case ["renumber" | "complete" as command, *rest] if len(rest) < 2:
+            return [command], *rest
+        case ["complete", "--as", "added" | "streams" | "acts" as form, *rest] if len(rest) < 2:
+            return ["complete", "--as", form], *rest
+        case _:
+            return None
+
+
+def text_of(file):
+    """What a file has, or standard input if none is named."""
+    with open(file[0] if file else 0, encoding="utf-8", errors="surrogateescape", newline="\n") as given:
+        return given.read()
 
 
 def main():
     # What reads the output may end first, as `head` does.
     signal.signal(signal.SIGPIPE, signal.SIG_DFL)
-    lines, status = answer(sys.argv[1:], sys.stdin.read())
+    words = asked(sys.argv[1:])
+    if words is None:
+        print("usage: slow_seqtool.py renumber | complete [--as added|streams|acts]    [FILE]", file=sys.stderr)
+        sys.exit(3)
+    command, *file = words
+    try:
+        text = text_of(file)
+    except OSError as error:
+        print(f"error: {error.filename} can't be opened: {error.strerror}", file=sys.stderr)
+        print("fault device")
+        sys.exit(4)
+    lines, status = answer(command, text)
     sys.stdout.writelines(line + "\n" for line in lines)
     sys.exit(status)
 

@@ -13,7 +13,7 @@ use std::io::ErrorKind;
 use std::process::ExitCode;
 use std::{env, io};
 
-/// Why the words of the command line can't be had: memory ran out, or one isn't UTF-8 and so is no
+/// Why the words of the command line can't be read: memory ran out, or one isn't UTF-8 and so is no
 /// word of a command.
 fn why_unread(error: &io::Error) -> Refusal
     ensures memory { error_kind error.now ≡ ErrorKind.OutOfMemory → result ≡ Refusal.Memory }

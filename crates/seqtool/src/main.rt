@@ -27,8 +27,8 @@ fn words_of(rt: &HostRuntime) -> io::Result<Vec<String>> {
     Ok(words)
 }
 
-/// Does what the words ask for, on the file that they name or on standard input. A file that can't be
-/// opened is named on standard error, beside the output of a device that failed.
+/// Does what the words ask for, on the file that they name or on standard input. A file that can't
+/// be opened is named on standard error, beside the output of a device that failed.
 fn serve<H: AllocGlobal + Files + Threads + Sync + Eprint, R: ByteSource, W: ByteSink>(
     rt: &H,
     request: &Request<'_>,
@@ -57,7 +57,8 @@ fn status_of(printed: io::Result<()>, status: u8) -> u8
     }
 }
 
-/// Prints a help text or the version to standard output with status 0, and a message to standard error with status 3.
+/// Prints a help text or the version to standard output with status 0, and a message to standard
+/// error with status 3.
 fn tell_error(rt: &HostRuntime, error: &Error) -> u8 {
     if error.kind() == ErrorKind::OutOfMemory {
         return tell_no_memory(&mut WriteTo::new(rt.stdout()));

@@ -21,7 +21,7 @@ module _ {T : Type 0} where
   held_slot None held = held
   held_slot (Some node) held = refl
 
-  -- a slot holds a value where it has a node
+  -- a slot holds a value exactly if it has a node
   pub is_some-item_of : (slot : Option (Node T)) → is_some (item_of slot) ≡ is_some slot
   is_some-item_of None = refl
   is_some-item_of (Some node) = refl
@@ -127,7 +127,7 @@ module _ {T : Type 0} (slots : ℕ → Option (Node T)) (ends : Ends) (chained :
       chained.chain.apart place other within other_within
       (sym (step_is place within) ∙ same ∙ step_is other other_within)
 
-  -- the neighbours of the node at a place, where it has them, are there, and are other nodes
+  -- the neighbours of the node at a place, if it has them, are there, and are other nodes
   module _ (place key : ℕ) (node : Node T) (within : place < ends.len)
       (is_there : key ≡ key_after slots ends.first place) (is_node : slots key ≡ Some node) where
     -- the previous of the node is that at the place before

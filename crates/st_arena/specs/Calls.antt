@@ -6,7 +6,8 @@ module _ {T A : Type 0} (answers : T → A → Type 0) where
   -- at each item of the list the call gives what the function f gives, and nothing else
   abbrev pub Computes : (T → A) → List T → Type 0
   Computes f items =
-      (place : ℕ) (item : T) (answer : A) → slice_get items place ≡ Some item → answers item answer → answer ≡ f item
+      (place : ℕ) (item : T) (answer : A) → slice_get items place ≡ Some item → answers item answer
+      → answer ≡ f item
 
 module _ {T : Type 0} (answers : T → Bool → Type 0) (items : List T) where
   -- the item at the place was answered so
@@ -22,5 +23,6 @@ module _ {T : Type 0} (answers : T → Bool → Type 0) (items : List T) where
 
 -- no two items pass the test
 abbrev pub PassesOnce : {T : Type 0} → (T → Bool) → List T → Type 0
-PassesOnce {T} test items = (i j : ℕ) (x y : T) → slice_get items i ≡ Some x → slice_get items j ≡ Some y
+PassesOnce {T} test items = (i j : ℕ) (x y : T) → slice_get items i ≡ Some x
+    → slice_get items j ≡ Some y
     → test x ≡ true → test y ≡ true → i ≡ j

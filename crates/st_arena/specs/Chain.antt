@@ -1,7 +1,7 @@
 -- How a list lies in the arena: its nodes, linked by the keys under which the slab keeps them.
 -- No public clause cites this module.
-use Rattle.std.specs.Prelude.{◌≡◌, ◌≢◌, ℕ, zero, suc, ◌<◌, ◌≤◌, List, [], ◌∷◌, ◌++◌, Option, Some, None, IsSome, IfSome}
-use Rattle.std.specs.Prelude.{sum_by, slice_index_or}
+use Rattle.std.specs.Prelude.{◌≡◌, ◌≢◌, ℕ, zero, suc, ◌<◌, ◌≤◌, List, [], ◌∷◌, ◌++◌, Option, Some}
+use Rattle.std.specs.Prelude.{None, IsSome, IfSome, sum_by, slice_index_or}
 use Rattle.std.specs.Option.{option_map, option_map_or}
 use Rattle.st_arena.specs.declared.node.Node.{Node}
 use Rattle.st_arena.specs.declared.node.Ends.{Ends}
@@ -64,17 +64,20 @@ module _ {T : Type 0} (slots : ℕ → Option (Node T)) where
 
   -- each ladder holds the keys of its list's nodes; `ladders` gives that of a list which has one
   abbrev pub AreLadders : List Ends → (ℕ → Option (List ℕ)) → Type 0
-  AreLadders ends ladders = (list : ℕ) → IfSome (ladders list) (λ ladder. ladder ≡ keys_of (ends_at ends list))
+  AreLadders ends ladders = (list : ℕ)
+      → IfSome (ladders list) (λ ladder. ladder ≡ keys_of (ends_at ends list))
 
-  -- the nodes of a list stand under the keys key 0, key 1, .., each once, and each names its neighbours.
-  -- What the last node names as its next, and the first as its previous, is left open
+  -- the nodes of a list stand under the keys key 0, key 1, .., each once, and each names its
+  -- neighbours. What the last node names as its next, and the first as its previous, is left open
   pub record IsChain (ends : Ends) (key : ℕ → ℕ) : Type 0 where
     pub held : (place : ℕ) → place < ends.len → IsSome (item_of (slots (key place)))
-    pub apart : (place other : ℕ) → place < ends.len → other < ends.len → key place ≡ key other → place ≡ other
+    pub apart : (place other : ℕ) → place < ends.len → other < ends.len → key place ≡ key other
+        → place ≡ other
     pub first : 0 < ends.len → ends.first ≡ key 0
     pub last : (place : ℕ) → suc place ≡ ends.len → ends.last ≡ key place
     pub next : (place : ℕ) → suc place < ends.len → next_key (slots (key place)) ≡ key (suc place)
-    pub previous : (place : ℕ) → suc place < ends.len → previous_key (slots (key (suc place))) ≡ key place
+    pub previous : (place : ℕ) → suc place < ends.len
+        → previous_key (slots (key (suc place))) ≡ key place
 
   -- the same, under some keys
   pub record IsChained (ends : Ends) : Type 0 where
@@ -85,7 +88,8 @@ module _ {T : Type 0} (slots : ℕ → Option (Node T)) where
   pub record AreChains (ends : List Ends) (node_count capacity : ℕ) : Type 0 where
     pub key : ℕ → ℕ → ℕ
     pub chain : (list : ℕ) → IsChain (ends_at ends list) (key list)
-    pub disjoint : (list other place other_place : ℕ) → list ≢ other → place < len_of (ends_at ends list)
+    pub disjoint : (list other place other_place : ℕ) → list ≢ other
+        → place < len_of (ends_at ends list)
         → other_place < len_of (ends_at ends other) → key list place ≢ key other other_place
     pub total : sum_by len_of ends ≡ node_count
     pub within : node_count ≤ capacity
@@ -98,18 +102,21 @@ pub record KeepsLadder (old new : ℕ → Option (List ℕ)) (list : ℕ) (wante
 
 -- how one change of the slots, from old to new, tells in them
 module _ {T : Type 0} (old new : ℕ → Option (Node T)) where
-  -- if the condition holds, the node under the key names another as its next, and nothing else changed
+  -- if the condition holds, the node under the key names another as its next, and nothing else
+  -- changed
   pub record SetsNext (condition : Type 0) (key next : ℕ) : Type 0 where
     pub items_stay : (other : ℕ) → item_of (new other) ≡ item_of (old other)
     pub previous_stay : (other : ℕ) → previous_key (new other) ≡ previous_key (old other)
-    pub next_stay : (other : ℕ) → (condition → other ≢ key) → next_key (new other) ≡ next_key (old other)
+    pub next_stay : (other : ℕ) → (condition → other ≢ key)
+        → next_key (new other) ≡ next_key (old other)
     pub mended : condition → next_key (new key) ≡ next
 
   -- the same of its previous
   pub record SetsPrevious (condition : Type 0) (key previous : ℕ) : Type 0 where
     pub items_stay : (other : ℕ) → item_of (new other) ≡ item_of (old other)
     pub next_stay : (other : ℕ) → next_key (new other) ≡ next_key (old other)
-    pub previous_stay : (other : ℕ) → (condition → other ≢ key) → previous_key (new other) ≡ previous_key (old other)
+    pub previous_stay : (other : ℕ) → (condition → other ≢ key)
+        → previous_key (new other) ≡ previous_key (old other)
     pub mended : condition → previous_key (new key) ≡ previous
 
   -- the node under the key has another value, and nothing else changed
@@ -127,7 +134,8 @@ module _ {T : Type 0} (old new : ℕ → Option (Node T)) where
     pub items_stay : (other : ℕ) → other ≢ key → item_of (new other) ≡ item_of (old other)
     pub next_stay : (other : ℕ) → other ≢ key → (0 < ends.len → other ≢ ends.last)
         → next_key (new other) ≡ next_key (old other)
-    pub previous_stay : (other : ℕ) → other ≢ key → previous_key (new other) ≡ previous_key (old other)
+    pub previous_stay : (other : ℕ) → other ≢ key
+        → previous_key (new other) ≡ previous_key (old other)
     pub next : 0 < ends.len → next_key (new ends.last) ≡ key
     pub previous : previous_key (new key) ≡ ends.last
     pub first_moves : ends.len ≡ 0 → after.first ≡ key
@@ -135,27 +143,32 @@ module _ {T : Type 0} (old new : ℕ → Option (Node T)) where
     pub last : after.last ≡ key
     pub len : after.len ≡ suc ends.len
 
-  -- a list with these ends lost the node under the key, which was at the place, and has the ends `after`
+  -- a list with these ends lost the node under the key, which was at the place, and has the ends
+  -- `after`
   pub record Unlinks (ends after : Ends) (place key : ℕ) (item : T) : Type 0 where
     pub held : item_of (old key) ≡ Some item
     pub items_stay : (other : ℕ) → other ≢ key → item_of (new other) ≡ item_of (old other)
     pub next_stay : (other : ℕ) → other ≢ key → (0 < place → other ≢ previous_key (old key))
         → next_key (new other) ≡ next_key (old other)
-    pub previous_stay : (other : ℕ) → other ≢ key → (suc place < ends.len → other ≢ next_key (old key))
+    pub previous_stay : (other : ℕ) → other ≢ key
+        → (suc place < ends.len → other ≢ next_key (old key))
         → previous_key (new other) ≡ previous_key (old other)
     pub next : 0 < place → next_key (new (previous_key (old key))) ≡ next_key (old key)
-    pub previous : suc place < ends.len → previous_key (new (next_key (old key))) ≡ previous_key (old key)
+    pub previous : suc place < ends.len
+        → previous_key (new (next_key (old key))) ≡ previous_key (old key)
     pub first_moves : place ≡ 0 → after.first ≡ next_key (old key)
     pub first_stays : 0 < place → after.first ≡ ends.first
     pub last_moves : suc place ≡ ends.len → after.last ≡ previous_key (old key)
     pub last_stays : suc place < ends.len → after.last ≡ ends.last
     pub len : suc after.len ≡ ends.len
 
-  -- each of the first `count` items of a list became another, related to it by R, and nothing else changed
+  -- each of the first `count` items of a list became another, related to it by R, and nothing else
+  -- changed
   pub record ChangesItems (R : T → T → Type 0) (first count : ℕ) : Type 0 where
     pub next_stay : (other : ℕ) → next_key (new other) ≡ next_key (old other)
     pub previous_stay : (other : ℕ) → previous_key (new other) ≡ previous_key (old other)
     pub items_stay : (other : ℕ) → ((place : ℕ) → place < count → other ≢ key_after old first place)
         → item_of (new other) ≡ item_of (old other)
     pub changed : (place : ℕ) → place < count
-        → Turns R (item_of (old (key_after old first place))) (item_of (new (key_after old first place)))
+        → Turns R (item_of (old (key_after old first place)))
+        (item_of (new (key_after old first place)))

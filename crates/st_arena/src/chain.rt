@@ -1,8 +1,9 @@
-//! The chain of one list: how it is walked, and how a node joins and leaves it. No caller of the crate
-//! sees this. Each function takes the slab and the ends of one list, and changes the nodes of that list
-//! alone; `lists` puts the ends back.
+//! The chain of one list: how it is walked, and how a node joins and leaves it. No caller of the
+//! crate sees this. Each function takes the slab and the ends of one list, and changes the nodes of
+//! that list alone; `lists` puts the ends back.
 
-ghost use Rattle.std.specs.Prelude.{◌≡◌, ◌+◌, ◌<◌, ◌≤◌, ℕ, suc, length, Some, None, true, false, IfSome, IfNone};
+ghost use Rattle.std.specs.Prelude.{◌≡◌, ◌+◌, ◌<◌, ◌≤◌, ℕ, suc, length, Some, None, true, false};
+ghost use Rattle.std.specs.Prelude.{IfSome, IfNone};
 ghost use Rattle.std.specs.Fn.{FnReturnsAt};
 ghost use Rattle.slab.specs.Slab.{get, ContainsKey, slab_len, HasRoomFor};
 ghost use Rattle.st_arena.specs.Calls.{IsAnswered, IsFirstAnswered};
@@ -65,8 +66,8 @@ pub(crate) fn append<T>(nodes: &mut Slab<Node<T>>, ends: Ends, value: T) -> Ends
         next: NONE,
         previous: ends.last,
     });
-    // No list has more nodes than there are. That their number is a `usize` is known where it is read,
-    // and so the length that is counted up below stays within its type.
+    // No list has more nodes than there are. That their number is a `usize` is known where it is
+    // read, and so the length that is counted up below stays within its type.
     let _node_count = nodes.len();
     if ends.len == 0 {
         return Ends {

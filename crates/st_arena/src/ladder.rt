@@ -1,6 +1,6 @@
-//! The ladders of long lists: the keys of a list's nodes by place, each found in few steps. No caller
-//! of the crate sees them. A ladder is only an aid, so a list whose ladder can't have memory does
-//! without one, and is walked.
+//! The ladders of long lists: the keys of a list's nodes by place, each found in few steps. No
+//! caller of the crate sees them. A ladder is only an aid: if memory for it runs out, the list is
+//! walked without one.
 
 ghost use Rattle.std.specs.Prelude.{◌≡◌, ◌<◌, [], ◌∷◌, ◌++◌, map, remove, slice_get, nat_eq};
 ghost use Rattle.std.specs.Prelude.{Some, None, IfSome, IfOk, OnOk};
@@ -16,8 +16,8 @@ use std::alloc::{AllocError, Global};
 use std::collections::HashMap;
 use std::marker::Model;
 
-/// A list gets a ladder once a take has walked so far from either end: a shorter walk costs less than
-/// a ladder does. So a list that gives up its first or last items alone never has one.
+/// A list gets a ladder once a take has walked so far from either end: a shorter walk costs less
+/// than a ladder does. So a list that gives up its first or last items alone never has one.
 const FAR: u64 = 256;
 
 /// A list with fewer nodes loses its ladder. That is so few that no walk in it is far.
@@ -26,8 +26,8 @@ const SHORT: u64 = 256;
 /// So many places from either end a walk costs less than the ladder does.
 const NEAR: u64 = 8;
 
-/// A ladder with fewer live slots than this part of all is made anew, so that its memory is bounded by
-/// that of the list.
+/// A ladder with fewer live slots than this part of all is made anew, so that its memory is bounded
+/// by that of the list.
 const SPARSE: u64 = 8;
 
 /// The ladders of those lists that have one, by the list's number.
@@ -35,8 +35,8 @@ pub(crate) type Ladders = HashMap<usize, Ladder>;
 
 /// The keys of one list's nodes, from the first on. A contract sees the list of these keys.
 ///
-/// Each key has a slot, in the order in which the nodes joined the list. When a node leaves, its slot
-/// is emptied and is dead from then on. So the rank of a live slot is the place of its node.
+/// Each key has a slot, in the order in which the nodes joined the list. When a node leaves, its
+/// slot is emptied and is dead from then on. So the rank of a live slot is the place of its node.
 #[derive(Drop)]
 pub(crate) struct Ladder {
     slots: Vec<Option<usize>>,
@@ -124,8 +124,8 @@ fn push_keys<T>(
     Ok(())
 }
 
-/// The key of the node at a place of a list: by the list's ladder, unless it has none or a walk from
-/// the nearer end is short.
+/// The key of the node at a place of a list: by the list's ladder, unless it has none or a walk
+/// from the nearer end is short.
 pub(crate) fn find_key<T>(
     ladders: &Ladders,
     list: usize,
@@ -203,13 +203,13 @@ pub(crate) fn follow_take<T>(
     keep_ladder(ladders, list, ladder, is_far, alloc, nodes, ends);
 }
 
-// Gives a list this ladder, or, if there is none, a new one if one is wanted. If memory runs out, the
-// list has none.
+// Gives a list this ladder, or, if there is none, a new one if one is wanted. If memory runs out,
+// the list has none.
 //
-// A list that lost its ladder gets one at the next take that walks far. It loses it only when all its
-// slots are used or most are dead, which takes at least half as many pushes or takes as it had keys;
-// and if memory runs out, it does so before the first step. So the steps for all ladders grow as the
-// number of calls.
+// A list that lost its ladder gets one at the next take that walks far. It loses it only when all
+// its slots are used or most are dead, which takes at least half as many pushes or takes as it had
+// keys; and if memory runs out, it does so before the first step. So the steps for all ladders grow
+// as the number of calls.
 fn keep_ladder<T>(
     ladders: &mut Ladders,
     list: usize,

@@ -6,8 +6,8 @@
 //! the value that was to be pushed comes back.
 //!
 //! A list in which a take has walked far has a ladder from then on: the keys of its nodes by place,
-//! in an `st_ranks` tree, which follows each push and take. It is only an aid. If memory for it runs
-//! out, the list does without one and is walked, until a take that walks far finds memory.
+//! in an `st_ranks` tree, which follows each push and take. It is only an aid. If memory for it
+//! runs out, the list does without one and is walked, until a take that walks far finds memory.
 //!
 //! | Call | Cost | Memory |
 //! |---|---|---|

@@ -38,14 +38,16 @@ impl<T> Model for Lists<T> {
       spare = a.nodes.capacity - slab_len a.nodes;
     } };
 
-    ghost invariant = { λ a. AreChains (get a.nodes) a.ends.items (slab_len a.nodes) a.nodes.capacity
+    ghost invariant = { λ a. AreChains (get a.nodes) a.ends.items
+        (slab_len a.nodes) a.nodes.capacity
         × AreLadders (get a.nodes) a.ends.items (get_in nat_eq a.ladders) };
 }
 
 impl<T> Lists<T> {
-    ghost use Rattle.std.specs.Prelude.{◌≡◌, ◌+◌, ◌<◌, ◌≤◌, ℕ, Bool, [], ◌∷◌, ◌++◌, map, length, replicate};
-    ghost use Rattle.std.specs.Prelude.{remove, position, slice_get, slice_set, Some, None, true, false};
-    ghost use Rattle.std.specs.Prelude.{IsOk, IfOk, IfErr, OnOk, OnErr, OnSome, IfSome, IfNone, option_copied};
+    ghost use Rattle.std.specs.Prelude.{◌≡◌, ◌+◌, ◌<◌, ◌≤◌, ℕ, Bool, [], ◌∷◌, ◌++◌, map, length};
+    ghost use Rattle.std.specs.Prelude.{replicate, remove, position, slice_get, slice_set, Some};
+    ghost use Rattle.std.specs.Prelude.{None, true, false, IsOk, IfOk, IfErr, OnOk, OnErr, OnSome};
+    ghost use Rattle.std.specs.Prelude.{IfSome, IfNone, option_copied};
     ghost use Rattle.std.specs.List.{AllZip};
     ghost use Rattle.std.specs.Fn.{FnReturnsAt};
     ghost use Rattle.st_arena.specs.Arena.{list_at};
@@ -107,7 +109,8 @@ impl<T> Lists<T> {
     pub fn push_reserved(&mut self, list: usize, value: T)
         requires in_range { list < length self.old.lists }
         requires room { 0 < self.old.spare }
-        ensures pushed { self.new.lists ≡ slice_set self.old.lists list (list_at self.old list ++ value ∷ []) }
+        ensures pushed { self.new.lists
+            ≡ slice_set self.old.lists list (list_at self.old list ++ value ∷ []) }
         ensures spare { self.old.spare ≡ self.new.spare + 1 }
     {
         let ends = append(&mut self.nodes, self.ends[list], value);
@@ -143,8 +146,8 @@ impl<T> Lists<T> {
         Some(&self.nodes[key].value)
     }
 
-    /// Takes the item at a place out of a list, if the list is that long. Its node is spare from then
-    /// on.
+    /// Takes the item at a place out of a list, if the list is that long. Its node is spare from
+    /// then on.
     pub fn take_at(&mut self, list: usize, place: u64) -> Option<T>
         requires { list < length self.old.lists }
         ensures value { result ≡ slice_get (list_at self.old list) place }
@@ -188,8 +191,8 @@ impl<T> Lists<T> {
         first_answered(&self.nodes, self.ends[list], pred)
     }
 
-    /// A place of a list whose item `pred` is true of: the least one from the nearer end, so that it
-    /// takes as many steps as the place is from there.
+    /// A place of a list whose item `pred` is true of: the least one from the nearer end, so that
+    /// it takes as many steps as the place is from there.
     pub fn find_any<F: Fn(&T) -> bool>(&self, list: usize, pred: &F) -> Option<u64>
         requires in_range { list < length self.now.lists }
         requires callable { F.IsAlwaysCallable pred.now }
@@ -198,10 +201,12 @@ impl<T> Lists<T> {
         ensures absent { IfNone result ((place : ℕ) → place < length (list_at self.now list) →
             IsAnswered (FnReturnsAt F.Fn pred.now) (list_at self.now list) place false) }
 
-        // So it is the position that a test has, if `pred` computes that test and one item at most passes.
+        // So it is the position that a test has, if `pred` computes that test and one item at most
+        // passes.
         ensures position { (test : T → Bool) →
             Computes (FnReturnsAt F.Fn pred.now) test (list_at self.now list) →
-            PassesOnce test (list_at self.now list) → result ≡ position test (list_at self.now list) }
+            PassesOnce test (list_at self.now list)
+            → result ≡ position test (list_at self.now list) }
     {
         any_answered(&self.nodes, self.ends[list], pred)
     }
@@ -212,7 +217,8 @@ impl<T> Lists<T> {
         T: Drop,
         requires in_range { list < length self.old.lists }
         requires callable { F.IsAlwaysCallable change.now }
-        ensures others_stay { self.new.lists ≡ slice_set self.old.lists list (list_at self.new list) }
+        ensures others_stay { self.new.lists
+            ≡ slice_set self.old.lists list (list_at self.new list) }
         ensures changed { AllZip (FnReturnsAt F.Fn change.now)
             (list_at self.old list) (list_at self.new list) }
 

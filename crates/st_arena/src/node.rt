@@ -1,5 +1,5 @@
-//! One node, the ends of one list, and the writes of one field of a node. No caller of the crate sees
-//! them.
+//! One node, the ends of one list, and the writes of one field of a node. No caller of the crate
+//! sees them.
 
 ghost use Rattle.std.specs.Prelude.{◌≡◌, ⊤};
 ghost use Rattle.slab.specs.Slab.{get, ContainsKey, slab_len};

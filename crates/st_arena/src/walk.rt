@@ -7,7 +7,8 @@ use crate::node::Node;
 use slab::Slab;
 use std::marker::Model;
 
-/// The items of one list, from the first on. A contract sees it as the list of the items that are left.
+/// The items of one list, from the first on. A contract sees it as the list of the items that are
+/// left.
 #[derive(Drop)]
 pub struct Walk<'a, T> {
     nodes: &'a Slab<Node<T>>,

@@ -1,22 +1,23 @@
 -- Acts are tried up to the first that has no step: after acts that ran it is the first of the later ones, and what
--- comes after it isn't tried. So what a call did is what comes of the attempt.
-use Rattle.std.proofs.Common.{◌≡◌, ℕ, Bool, false, List, [], ◌∷◌, ◌++◌, Option, Some}
-use Rattle.std.proofs.Common.{None, option_map, option_and_then, Result, Ok, Err, IfErr, append_assoc}
-use Rattle.std.proofs.Common.{refl, sym, ◌∙◌, ap, subst}
+-- comes after it isn't tried. So calls in a row did what comes of their acts in a row.
+use Rattle.std.proofs.Common.{◌≡◌, ℕ, Bool, true, false, List, [], ◌∷◌, ◌++◌, Option, Some, None, option_map}
+use Rattle.std.proofs.Common.{option_and_then, Result, Ok, Err, append_assoc, refl, sym, ◌∙◌, ap, subst}
+use Rattle.std.proofs.lemmas.List.{append-nil}
 use Rattle.std.proofs.lemmas.Option.{same_Some, none-some}
 use Rattle.st_core.specs.declared.types.Act.{Act}
 use Rattle.st_core.specs.State.{State}
 use Rattle.st_core.specs.Step.{Outcome, step}
 use Rattle.st_core.specs.Run.{run_from}
-use Rattle.st_core.proofs.ForCallers.{run_parts, run_from-one}
+use Rattle.st_core.proofs.ForCallers.{run_parts}
 use Rattle.st_mail.specs.declared.outcome.Outcome.{Outcome as Told}
-use Rattle.st_world.specs.World.{outcome_to}
 use Rattle.st_plan.specs.Build.{state_after}
 use Rattle.st_plan.proofs.ForCallers.{run_append, state_append}
+use Rattle.st_audit.specs.declared.construction.Construction.{Construction}
 use Rattle.st_audit.specs.declared.construction.Halt.{Halt}
 use Rattle.st_audit.specs.declared.construction.Halt.TheVariants as halt
-use Rattle.st_audit.specs.Construction.{attempt, last_report, tried_acts, turn_by}
-use Rattle.st_audit.specs.Progress.{IsPlainHalt, IsStuck, Makes, Meets, Ran, TellsLast, TriesAct}
+use Rattle.st_audit.specs.declared.finding.Reason.{Reason}
+use Rattle.st_audit.specs.Construction.{attempt, last_report, tried_acts, turn_by, Turn, Through, Stopped, Refused}
+use Rattle.st_audit.specs.Progress.{acts_turn, Meets, TellsLast, TriesAct, WentThrough}
 
 -- ACTS THAT ARE TRIED
 
@@ -74,104 +75,247 @@ front_stuck top s (x ∷ xs) ys h =
           }
     ] refl h
 
--- acts that one is stuck in stay so with more behind them
-pub stuck_more : (top : ℕ) (s : State) (xs ys before : List Act) (h : Halt) (now : List Act)
-    → IsStuck top s xs before h now → IsStuck top s (xs ++ ys) before h now
-stuck_more top s xs ys before halt.Memory now stuck = tt
-stuck_more top s xs ys before halt.Uncaused now stuck = tt
-stuck_more top s xs ys before halt.TooWide now stuck = tt
-stuck_more top s xs ys before halt.Stopped now stuck =
-    let more = front_stuck top s xs ys stuck.0 in
-    (more.none, stuck.1 ∙ ap (λ zs. before ++ zs) (sym more.same))
+-- THE TURN OF ACTS
 
--- and with acts before them that ran
-pub stuck_later : (top : ℕ) (s t : State) (xs ys before mid : List Act) (h : Halt) (now : List Act)
-    → Ran top s xs t → mid ≡ before ++ xs → IsStuck top t ys mid h now → IsStuck top s (xs ++ ys) before h now
-stuck_later top s t xs ys before mid halt.Memory now ran put stuck = tt
-stuck_later top s t xs ys before mid halt.Uncaused now ran put stuck = tt
-stuck_later top s t xs ys before mid halt.TooWide now ran put stuck = tt
-stuck_later top s t xs ys before mid halt.Stopped now ran put stuck = (
-  none_after top s xs ys ran.outcomes ran.runs (ap (λ u. run_from top u ys) (sym ran.after) ∙ stuck.0),
-  stuck.1 ∙ ap (λ zs. zs ++ tried_acts top t ys) put ∙ append_assoc before xs (tried_acts top t ys)
-      ∙ ap (λ u. before ++ (xs ++ tried_acts top u ys)) ran.after
-      ∙ ap (λ zs. before ++ zs) (sym (tried_after top s xs ys ran.outcomes ran.runs)),
-)
+abbrev pub outcomes_in : Turn → Option (List Outcome)
+outcomes_in (Through acts os) = Some os
+outcomes_in (Stopped acts) = None
+outcomes_in (Refused r) = None
 
--- THE ATTEMPT
+abbrev pub acts_in : Turn → List Act
+acts_in (Through acts os) = acts
+acts_in (Stopped acts) = acts
+acts_in (Refused r) = []
 
--- the acts of an item of which no reason holds
-pub attempted : (top : ℕ) (s : State) (one two : Bool) (plan : Option (List Act)) (acts : List Act)
-    (o : Option (List Outcome))
-    → one ≡ false → two ≡ false → plan ≡ Some acts → run_from top s acts ≡ o
-    → attempt top s one two plan ≡ turn_by top s acts o
-attempted top s one two plan acts o is_one is_two is runs = rw (is, is_one, is_two, runs) refl
+turn_outcomes : (top : ℕ) (s : State) (acts : List Act) (o : Option (List Outcome))
+    → outcomes_in (turn_by top s acts o) ≡ o
+turn_outcomes top s acts None = refl
+turn_outcomes top s acts (Some os) = refl
 
--- which try one
-pub tries_by : (top : ℕ) (s : State) (a : Act) (rest : List Act) (o : Option (List Outcome))
+-- acts that go through run
+pub through_runs : (top : ℕ) (s : State) (acts xs : List Act) (os : List Outcome)
+    → acts_turn top s acts ≡ Through xs os → (run_from top s acts ≡ Some os) × (acts ≡ xs)
+through_runs top s acts xs os is =
+    let runs : run_from top s acts ≡ Some os =
+    sym (turn_outcomes top s acts (run_from top s acts)) ∙ ap outcomes_in is in
+    (runs, ap acts_in (sym (ap (turn_by top s acts) runs) ∙ is))
+
+-- acts that stop have no run
+stopped_none : (top : ℕ) (s : State) (acts xs : List Act) → acts_turn top s acts ≡ Stopped xs
+    → (run_from top s acts ≡ None) × (tried_acts top s acts ≡ xs)
+stopped_none top s acts xs is =
+    let none : run_from top s acts ≡ None =
+    sym (turn_outcomes top s acts (run_from top s acts)) ∙ ap outcomes_in is in
+    (none, ap acts_in (sym (ap (turn_by top s acts) none) ∙ is))
+
+-- no reason of the auditor's is against acts alone
+pub never_refused : (top : ℕ) (s : State) (acts : List Act) (o : Option (List Outcome)) (r : Reason)
+    → turn_by top s acts o ≡ Refused r → ⊥
+never_refused top s acts None r is = absurd (cc)
+never_refused top s acts (Some os) r is = absurd (cc)
+
+-- acts that try one
+tries_by : (top : ℕ) (s : State) (a : Act) (rest : List Act) (o : Option (List Outcome))
     → TriesAct (turn_by top s (a ∷ rest) o)
 tries_by top s a rest None = tt
 tries_by top s a rest (Some os) = tt
 
-tries_push : (top : ℕ) (s : State) (acts : List Act) (a : Act) (o : Option (List Outcome))
-    → TriesAct (turn_by top s (acts ++ a ∷ []) o)
-tries_push top s [] a o = tries_by top s a [] o
-tries_push top s (x ∷ acts) a o = tries_by top s x (acts ++ a ∷ []) o
+pub tries_in : (top : ℕ) (s : State) (xs : List Act) (a : Act) (ys : List Act) (o : Option (List Outcome))
+    → TriesAct (turn_by top s (xs ++ a ∷ ys) o)
+tries_in top s [] a ys o = tries_by top s a ys o
+tries_in top s (x ∷ xs) a ys o = tries_by top s x (xs ++ a ∷ ys) o
 
-pub attempt_tries : (top : ℕ) (one two : Bool) (plan : Option (List Act)) (acts : List Act) (a : Act) (s : State)
-    → one ≡ false → two ≡ false → plan ≡ Some (acts ++ a ∷ []) → TriesAct (attempt top s one two plan)
-attempt_tries top one two plan acts a s is_one is_two is =
-    let o = run_from top s (acts ++ a ∷ []) in
-    subst TriesAct (sym (attempted top s one two plan (acts ++ a ∷ []) o is_one is_two is refl))
-    (tries_push top s acts a o)
+tries_more : (top : ℕ) (s : State) (xs ys : List Act) (o p : Option (List Outcome)) → TriesAct (turn_by top s xs o)
+    → TriesAct (turn_by top s (xs ++ ys) p)
+tries_more top s [] ys None p tries = absurd tries
+tries_more top s [] ys (Some os) p tries = absurd tries
+tries_more top s (x ∷ xs) ys o p tries = tries_by top s x (xs ++ ys) p
+
+-- ACTS THAT WERE PERFORMED
+
+-- the acts ran, and stand at the end
+pub record Performed {top : ℕ} (acts : List Act) (old new : Construction top) : Type 0 where
+  pub outcomes : List Outcome
+  pub runs : run_from top old.world acts ≡ Some outcomes
+  pub after : new.world ≡ state_after old.world outcomes
+  pub put : new.acts ≡ old.acts ++ acts
+
+pub none_performed : {top : ℕ} (c : Construction top) → Performed [] c c
+none_performed c = record { outcomes = []; runs = refl; after = refl; put = sym (append-nil c.acts) }
+
+module _ {top : ℕ} {T : Type 0} (says : T → List Outcome → Type 0) where
+  -- what went through was performed
+  pub record Done (acts : List Act) (old : Construction top) (x : T) (new : Construction top) : Type 0 where
+    pub made : Performed acts old new
+    pub said : says x made.outcomes
+
+  pub done_by : (acts : List Act) (old : Construction top) (x : T) (new : Construction top)
+      → WentThrough says (acts_turn top old.world acts) old x new → Done acts old x new
+  done_by acts old x new went =
+      let parts = through_runs top old.world acts went.acts went.outcomes went.through in
+      record {
+        made = record {
+          outcomes = went.outcomes;
+          runs = parts.0;
+          after = went.after;
+          put = went.put ∙ ap (λ zs. old.acts ++ zs) (sym parts.1);
+        };
+        said = went.said;
+      }
+
+  pub goes_through : (acts : List Act) (old : Construction top) (x : T) (new : Construction top)
+      → (made : Performed acts old new) → says x made.outcomes
+      → WentThrough says (acts_turn top old.world acts) old x new
+  goes_through acts old x new made said = record {
+    acts = acts;
+    outcomes = made.outcomes;
+    through = ap (turn_by top old.world acts) made.runs;
+    said = said;
+    after = made.after;
+    put = made.put;
+  }
+
+-- one act, by its step
+pub one_step : {top : ℕ} (a : Act) (old new : Construction top) → Performed (a ∷ []) old new
+    → (o : Outcome) × (step top old.world a ≡ Some o) × (new.world ≡ o.after)
+one_step {top} a old new made =
+    let t = run_parts top old.world a [] made.outcomes made.runs in (
+      t.first,
+      t.is_first,
+      made.after ∙ ap (state_after old.world) t.is_whole
+          ∙ ap (state_after t.first.after) (sym (same_Some [] t.others t.is_rest)),
+    )
+
+-- acts in a row
+pub then_performed : {top : ℕ} (xs ys : List Act) (old mid new : Construction top) → Performed xs old mid
+    → Performed ys mid new → Performed (xs ++ ys) old new
+then_performed {top} xs ys old mid new one two = record {
+  outcomes = one.outcomes ++ two.outcomes;
+  runs = run_append top old.world xs ys one.outcomes two.outcomes one.runs
+      (ap (λ s. run_from top s ys) (sym one.after) ∙ two.runs);
+  after = two.after ∙ ap (λ s. state_after s two.outcomes) one.after
+      ∙ sym (state_append old.world one.outcomes two.outcomes);
+  put = two.put ∙ ap (λ zs. zs ++ ys) one.put ∙ append_assoc old.acts xs ys;
+}
+
+-- ONE CALL AFTER THE OTHER
+
+-- what comes of acts that halt comes of them with others behind them
+pub halts_before : {top : ℕ} {T U : Type 0} (one : T → List Outcome → Type 0) (two : U → List Outcome → Type 0)
+    (xs ys : List Act) (old : Construction top) (h : Halt) (new : Construction top)
+    → Meets one (acts_turn top old.world xs) old (Err h) new
+    → Meets two (acts_turn top old.world (xs ++ ys)) old (Err h) new
+halts_before {top} one two xs ys old halt.Memory new meets =
+    tries_more top old.world xs ys (run_from top old.world xs) (run_from top old.world (xs ++ ys)) meets
+halts_before {top} one two xs ys old halt.Uncaused new meets =
+    absurd (never_refused top old.world xs (run_from top old.world xs) _ meets)
+halts_before {top} one two xs ys old halt.TooWide new meets =
+    absurd (never_refused top old.world xs (run_from top old.world xs) _ meets)
+halts_before {top} one two xs ys old halt.Stopped new meets =
+    let was = stopped_none top old.world xs meets.acts meets.stopped in
+    let more = front_stuck top old.world xs ys was.0 in
+    record {
+      acts = tried_acts top old.world (xs ++ ys);
+      stopped = ap (turn_by top old.world (xs ++ ys)) more.none;
+      put = meets.put ∙ ap (λ zs. old.acts ++ zs) (sym (more.same ∙ was.1));
+    }
+
+-- what comes of acts after others that were performed
+pub halts_after : {top : ℕ} {T U : Type 0} (one : T → List Outcome → Type 0) (two : U → List Outcome → Type 0)
+    (xs : List Act) (a : Act) (ys : List Act) (old mid : Construction top) (h : Halt) (new : Construction top)
+    → Performed xs old mid → Meets one (acts_turn top mid.world (a ∷ ys)) mid (Err h) new
+    → Meets two (acts_turn top old.world (xs ++ a ∷ ys)) old (Err h) new
+halts_after {top} one two xs a ys old mid halt.Memory new made meets =
+    tries_in top old.world xs a ys (run_from top old.world (xs ++ a ∷ ys))
+halts_after {top} one two xs a ys old mid halt.Uncaused new made meets =
+    absurd (never_refused top mid.world (a ∷ ys) (run_from top mid.world (a ∷ ys)) _ meets)
+halts_after {top} one two xs a ys old mid halt.TooWide new made meets =
+    absurd (never_refused top mid.world (a ∷ ys) (run_from top mid.world (a ∷ ys)) _ meets)
+halts_after {top} one two xs a ys old mid halt.Stopped new made meets =
+    let was = stopped_none top mid.world (a ∷ ys) meets.acts meets.stopped in
+    let none = none_after top old.world xs (a ∷ ys) made.outcomes made.runs
+    (ap (λ s. run_from top s (a ∷ ys)) (sym made.after) ∙ was.0) in
+    let tried : xs ++ meets.acts ≡ tried_acts top old.world (xs ++ a ∷ ys) =
+    ap (λ zs. xs ++ zs) (sym was.1) ∙ ap (λ s. xs ++ tried_acts top s (a ∷ ys)) made.after
+    ∙ sym (tried_after top old.world xs (a ∷ ys) made.outcomes made.runs) in
+    record {
+      acts = tried_acts top old.world (xs ++ a ∷ ys);
+      stopped = ap (turn_by top old.world (xs ++ a ∷ ys)) none;
+      put = meets.put ∙ ap (λ zs. zs ++ meets.acts) made.put ∙ append_assoc old.acts xs meets.acts
+          ∙ ap (λ zs. old.acts ++ zs) tried;
+    }
 
 pub last_report-push : (r : Option _) (os : List Outcome) (o : Outcome) → last_report r (os ++ o ∷ []) ≡ o.report
 last_report-push r [] o = refl
 last_report-push r (p ∷ os) o = last_report-push p.report os o
 
--- acts that were made, or one of which is stuck
-pub made_meets : (top : ℕ) (one two : Bool) (plan : Option (List Act)) (acts : List Act) (a : Act) (old : State)
-    (before : List Act) (r : Result Told Halt) (new : State) (now : List Act)
-    → one ≡ false → two ≡ false → plan ≡ Some (acts ++ a ∷ []) → Makes top acts a old before r new now
-    → IfErr r IsPlainHalt → IfErr r (λ h. IsStuck top old (acts ++ a ∷ []) before h now)
-    → Meets TellsLast (attempt top old one two plan) old before r new now
-made_meets top one two plan acts a old before (Ok told) new now is_one is_two is makes plain stuck =
-    let o = outcome_to told new in
-    let os = makes.ran.outcomes in
+-- so one act more is made
+pub one_more : {top : ℕ} (xs : List Act) (a : Act) (old mid : Construction top) (r : Result Told Halt)
+    (new : Construction top) → Performed xs old mid → Meets TellsLast (acts_turn top mid.world (a ∷ [])) mid r new
+    → Meets TellsLast (acts_turn top old.world (xs ++ a ∷ [])) old r new
+unfolding then_performed
+one_more {top} xs a old mid (Ok told) new made meets =
+    let last = done_by TellsLast (a ∷ []) mid told new meets in
+    let t = run_parts top mid.world a [] last.made.outcomes last.made.runs in
+    let one : last.made.outcomes ≡ t.first ∷ [] =
+    t.is_whole ∙ ap (λ os. t.first ∷ os) (sym (same_Some [] t.others t.is_rest)) in
+    goes_through TellsLast (xs ++ a ∷ []) old told new (then_performed xs (a ∷ []) old mid new made last.made)
+    (ap (λ os. last_report None (made.outcomes ++ os)) one ∙ last_report-push None made.outcomes t.first
+    ∙ ap (last_report None) (sym one) ∙ last.said)
+one_more {top} xs a old mid (Err h) new made meets = halts_after TellsLast TellsLast xs a [] old mid h new made meets
+
+-- THE ATTEMPT
+
+-- the acts of an item of which no reason holds
+pub attempt_acts : (top : ℕ) (s : State) (one two : Bool) (plan : Option (List Act)) (acts : List Act)
+    → one ≡ false → two ≡ false → plan ≡ Some acts → attempt top s one two plan ≡ acts_turn top s acts
+attempt_acts top s one two plan acts is_one is_two is = rw (is, is_one, is_two) refl
+
+-- an attempt that goes through
+pub record Attempted (top : ℕ) (s : State) (one two : Bool) (plan : Option (List Act)) (acts : List Act)
+    (os : List Outcome) : Type 0 where
+  pub no_one : one ≡ false
+  pub no_two : two ≡ false
+  pub are : plan ≡ Some acts
+  pub runs : run_from top s acts ≡ Some os
+
+pub attempt_runs : (top : ℕ) (s : State) (one two : Bool) (plan : Option (List Act)) (acts : List Act)
+    (os : List Outcome) → attempt top s one two plan ≡ Through acts os → Attempted top s one two plan acts os
+attempt_runs top s one two None acts os is = absurd (cc)
+attempt_runs top s true two (Some xs) acts os is = absurd (cc)
+attempt_runs top s false true (Some xs) acts os is = absurd (cc)
+attempt_runs top s false false (Some xs) acts os is =
+    let parts = through_runs top s xs acts os is in
     record {
-      acts = acts ++ a ∷ [];
-      outcomes = os ++ o ∷ [];
-      through = attempted top old one two plan (acts ++ a ∷ []) (Some (os ++ o ∷ [])) is_one is_two is
-          (run_append top old acts (a ∷ []) os (o ∷ []) makes.ran.runs
-          (run_from-one top (state_after old os) a o makes.ran.steps));
-      said = last_report-push None os o;
-      after = sym (state_append old os (o ∷ []));
-      put = makes.put;
-    }
-made_meets top one two plan acts a old before (Err halt.Memory) new now is_one is_two is makes plain stuck =
-    attempt_tries top one two plan acts a old is_one is_two is
-made_meets top one two plan acts a old before (Err halt.Uncaused) new now is_one is_two is makes plain stuck =
-    absurd plain
-made_meets top one two plan acts a old before (Err halt.TooWide) new now is_one is_two is makes plain stuck =
-    absurd plain
-made_meets top one two plan acts a old before (Err halt.Stopped) new now is_one is_two is makes plain stuck =
-    record {
-      acts = tried_acts top old (acts ++ a ∷ []);
-      stopped = attempted top old one two plan (acts ++ a ∷ []) None is_one is_two is stuck.0;
-      put = stuck.1;
+      no_one = refl;
+      no_two = refl;
+      are = ap (λ (zs : List Act). Some zs) parts.1;
+      runs = ap (run_from top s) (sym parts.1) ∙ parts.0;
     }
 
--- the latter alone, for a call of any kind
-pub stuck_meets : {T : Type 0} (says : T → List Outcome → Type 0) (top : ℕ) (one two : Bool) (plan : Option (List Act))
-    (acts : List Act) (a : Act) (old : State) (before : List Act) (h : Halt) (new : State) (now : List Act)
-    → one ≡ false → two ≡ false → plan ≡ Some (acts ++ a ∷ []) → IsPlainHalt h
-    → IsStuck top old (acts ++ a ∷ []) before h now
-    → Meets says (attempt top old one two plan) old before (Err h) new now
-stuck_meets says top one two plan acts a old before halt.Memory new now is_one is_two is plain stuck =
-    attempt_tries top one two plan acts a old is_one is_two is
-stuck_meets says top one two plan acts a old before halt.Uncaused new now is_one is_two is plain stuck = absurd plain
-stuck_meets says top one two plan acts a old before halt.TooWide new now is_one is_two is plain stuck = absurd plain
-stuck_meets says top one two plan acts a old before halt.Stopped new now is_one is_two is plain stuck = record {
-  acts = tried_acts top old (acts ++ a ∷ []);
-  stopped = attempted top old one two plan (acts ++ a ∷ []) None is_one is_two is stuck.0;
-  put = stuck.1;
+-- a call whose turn goes through halts only because memory ran out
+pub only_memory : {top : ℕ} {T : Type 0} (says : T → List Outcome → Type 0) (t : Turn) (acts : List Act)
+    (os : List Outcome) (old : Construction top) (h : Halt) (new : Construction top) → t ≡ Through acts os
+    → Meets says t old (Err h) new → h ≡ halt.Memory
+only_memory says t acts os old halt.Memory new through meets = refl
+only_memory says t acts os old halt.Uncaused new through meets = absurd (cc)
+only_memory says t acts os old halt.TooWide new through meets = absurd (cc)
+only_memory says t acts os old halt.Stopped new through meets = let stopped = meets.stopped in absurd (cc)
+
+-- what a call did from one construction it did from another with the same world and the same acts
+pub from_same : {top : ℕ} {T : Type 0} (says : T → List Outcome → Type 0) (t : Turn) (mid old : Construction top)
+    (r : Result T Halt) (new : Construction top) → mid.world ≡ old.world → mid.acts ≡ old.acts
+    → Meets says t mid r new → Meets says t old r new
+from_same says t mid old (Ok x) new world acts meets = record {
+  acts = meets.acts;
+  outcomes = meets.outcomes;
+  through = meets.through;
+  said = meets.said;
+  after = meets.after ∙ ap (λ s. state_after s meets.outcomes) world;
+  put = meets.put ∙ ap (λ zs. zs ++ meets.acts) acts;
 }
+from_same says t mid old (Err halt.Memory) new world acts meets = meets
+from_same says t mid old (Err halt.Uncaused) new world acts meets = meets
+from_same says t mid old (Err halt.TooWide) new world acts meets = meets
+from_same says t mid old (Err halt.Stopped) new world acts meets =
+    record { acts = meets.acts; stopped = meets.stopped; put = meets.put ∙ ap (λ zs. zs ++ meets.acts) acts }

@@ -127,11 +127,6 @@ module _ (top : ℕ) (s : State) (a : Act) (o : Outcome) (step : step top s a �
 
 -- A STAMP
 
--- the stamp of a process whose clock and last count were these
-pub record IsStampOn (l m : LocalState) : Type 0 where
-  pub clocked : m.clock ≡ l.clock + 1
-  pub lasted : m.last ≡ l.last
-
 stamped_by : (top : ℕ) (p : Pid) (l m : LocalState) (t : Token)
     → cond (nat_lt l.clock top) (Some (record l { token = Some (stamped_token p l t); clock = l.clock + 1 })) None
     ≡ Some m → (m ≡ record l { token = Some (stamped_token p l t); clock = l.clock + 1 })
@@ -332,7 +327,8 @@ module _ (p : Pid) where
 
   raise_alone : (x : Start) (n : Label) (count : ℕ) (f : Flags) → AllByRecursion (is_alone p) (raise p x n count f)
   raise_alone x n count f = elim (nat_lt x.clock count) as (λ b. AllByRecursion (is_alone p)
-      (cond b (dress p x.token n quiet ++ (silent p (count - x.clock) ++ dress p (Some (unstamped_token p n quiet)) n f))
+      (cond b (dress p x.token n quiet
+      ++ (silent p (count - x.clock) ++ dress p (Some (unstamped_token p n quiet)) n f))
       (dress p x.token n f))) [
         | true ↦ brought_alone x.token n (count - x.clock) (dress p (Some (unstamped_token p n quiet)) n f)
             (dress_alone (Some (unstamped_token p n quiet)) n f)
@@ -352,7 +348,8 @@ module _ (p : Pid) where
 
   pub ready_alone : (x : Start) (n : Label) (s : Serial) (f : Flags) → AllByRecursion (is_alone p) (ready p x n s f)
   ready_alone x n s f = elim (s.prev == x.last) as (λ b. AllByRecursion (is_alone p)
-      (cond b (raise p x n (s.this - 1) f) (renew p x n s.prev ++ raise p (renewed_start p x n s.prev) n (s.this - 1) f))) [
+      (cond b (raise p x n (s.this - 1) f)
+      (renew p x n s.prev ++ raise p (renewed_start p x n s.prev) n (s.this - 1) f))) [
         | true ↦ raise_alone x n (s.this - 1) f
         | false ↦ all_both p (renew p x n s.prev) (raise p (renewed_start p x n s.prev) n (s.this - 1) f)
             (renew_alone x n s.prev) (raise_alone (renewed_start p x n s.prev) n (s.this - 1) f)

@@ -1,7 +1,7 @@
 -- The course of the items, from one item to the next: where the construction stands is where the items so far led, so
 -- what comes of the next one decides how the course goes on, or where it ends.
 use Rattle.std.proofs.Common.{◌≡◌, ℕ, ◌+◌, ◌-◌, ◌<◌, ◌≤◌, ◌==◌, zero, suc, false, List, [], ◌∷◌, ◌++◌}
-use Rattle.std.proofs.Common.{take, drop, length, get_or, Option, Some, None, option_map, Result, Ok, Err, slice_get}
+use Rattle.std.proofs.Common.{take, drop, length, get_or, Option, Some, None, option_map, slice_get}
 use Rattle.std.proofs.Common.{unwrap_or, refl, sym, ◌∙◌, ap, arith}
 use Rattle.std.specs.List.{last_or}
 use Rattle.std.proofs.Math.ListN.{drop_of_length-le}
@@ -13,10 +13,10 @@ use Rattle.st_core.specs.declared.types.Event.{Event}
 use Rattle.st_core.specs.declared.types.Act.{Act}
 use Rattle.st_core.specs.Pid.{IsRising}
 use Rattle.st_core.specs.State.{State, zero_state}
+use Rattle.st_core.specs.Step.{Outcome}
 use Rattle.st_core.specs.Run.{Stream, pids_of, run_from}
 use Rattle.st_core.proofs.ForCallers.{all_at}
 use Rattle.st_order.specs.declared.item.Item.{Item}
-use Rattle.st_order.specs.declared.item.Item.TheVariants as item
 use Rattle.st_order.specs.Items.{event_of}
 use Rattle.st_order.specs.Order.{IsOrder}
 use Rattle.st_plan.specs.Marks.{all_told}
@@ -24,13 +24,10 @@ use Rattle.st_plan.specs.Moves.{Move, earlier_of, move_by, moves}
 use Rattle.st_order.specs.Items.{item_place}
 use Rattle.st_plan.specs.Build.{state_after, tracers_after}
 use Rattle.st_plan.proofs.ForCallers.{earlier_more, item_is, one_move, order_there, IsThere}
-use Rattle.st_audit.specs.declared.construction.Halt.{Halt}
-use Rattle.st_audit.specs.declared.construction.Halt.TheVariants as halt
 use Rattle.st_audit.specs.declared.finding.Reason.{Reason}
-use Rattle.st_audit.specs.declared.finding.Reason.TheVariants as reason
 use Rattle.st_audit.specs.Construction.{course, end_of, first_acts, last_place, led_to, turn, End, Judged, Unfounded}
 use Rattle.st_audit.specs.Construction.{Turn, Through, Stopped, Refused}
-use Rattle.st_audit.specs.Progress.{Meets, Ran, SaysNothing}
+use Rattle.st_audit.proofs.ItemPlaces.{event_there}
 
 -- how the course goes on after a turn
 abbrev pub went_on : ℕ → List Stream → Option (Pid × ℕ) → State → List Move → List Act → Move → List Move → Turn → End
@@ -38,10 +35,6 @@ went_on top streams end s earlier acts m ms (Through more os) =
     course top streams end (state_after s os) (m ∷ earlier) (acts ++ more) ms
 went_on top streams end s earlier acts m ms (Stopped more) = Judged (acts ++ more) (Some (item_place m.item))
 went_on top streams end s earlier acts m ms (Refused r) = Unfounded (item_place m.item) r
-
-event_there : (streams : List Stream) (x : Item) → IsThere streams x → (e : Event) × (event_of streams x ≡ Some e)
-event_there streams (item.Reported p i) there = there
-event_there streams (item.Hidden p i) there = (there.0, there.1.0)
 
 -- THE BEGINNING
 
@@ -58,27 +51,20 @@ abbrev pub IsOnCourse : ℕ → List Stream → List Item → ℕ → State → 
 IsOnCourse top streams xs n s acts = end_of top streams xs
     ≡ course top streams (last_place xs) s (earlier_of streams (take n xs)) acts (moves streams (drop n xs))
 
-pub begins_course : (top : ℕ) (streams : List Stream) (xs : List Item) (s : State) (acts : List Act)
-    → 0 < length xs → Ran top (zero_state (pids_of streams)) (tracers_after None (pids_of streams)) s
-    → acts ≡ tracers_after None (pids_of streams) → IsOnCourse top streams xs 0 s acts
-begins_course top streams xs s acts some ran are =
+pub begins_course : (top : ℕ) (streams : List Stream) (xs : List Item) (s : State) (os : List Outcome)
+    → 0 < length xs → run_from top (zero_state (pids_of streams)) (tracers_after None (pids_of streams)) ≡ Some os
+    → s ≡ state_after (zero_state (pids_of streams)) os
+    → IsOnCourse top streams xs 0 s (tracers_after None (pids_of streams))
+begins_course top streams xs s os some runs after =
     let zero = zero_state (pids_of streams) in
     let first = first_acts streams xs in
-    let same : first ≡ acts = tracers_first streams xs some ∙ sym are in
-    let runs : run_from top zero first ≡ Some ran.outcomes =
-    ap (run_from top zero) (tracers_first streams xs some) ∙ ran.runs in
-    let led : led_to top zero first ≡ s =
-    ap (λ o. state_after zero (unwrap_or o [])) runs ∙ sym ran.after in
+    let same = tracers_first streams xs some in
+    let runs_first : run_from top zero first ≡ Some os = ap (run_from top zero) same ∙ runs in
+    let led : led_to top zero first ≡ s = ap (λ o. state_after zero (unwrap_or o [])) runs_first ∙ sym after in
     ap (λ t. course top streams (last_place xs) t [] first (moves streams xs)) led
     ∙ ap (λ ys. course top streams (last_place xs) s [] ys (moves streams xs)) same
 
 -- ONE ITEM MORE
-
--- the result for the item is what comes of its turn
-abbrev pub IsMet : ℕ → List Stream → List Item → ℕ → State → List Act → State → List Act → Result (Unit {0}) Halt
-    → Type 0
-IsMet top streams xs n s acts new now r = (y : Item) (e : Event) → slice_get xs n ≡ Some y → event_of streams y ≡ Some e
-    → Meets SaysNothing (turn top streams all_told s (earlier_of streams (take n xs)) (move_by y e)) s acts r new now
 
 module _ (top : ℕ) (streams : List Stream) (rising : IsRising (pids_of streams)) (xs : List Item)
     (order : IsOrder streams xs) (n : ℕ) (d : Item) (within : n < length xs) (s : State) (acts : List Act)
@@ -90,15 +76,15 @@ module _ (top : ℕ) (streams : List Stream) (rising : IsRising (pids_of streams
   at = slice_get-get_or xs n d within
 
   -- its event, and how the course goes on
-  record IsNext : Type 0 where
+  pub record IsNext : Type 0 where
     pub event : Event
     pub there : event_of streams here ≡ Some event
     pub goes : (t : Turn) → turn top streams all_told s (earlier_of streams (take n xs)) (move_by here event) ≡ t
         → end_of top streams xs ≡ went_on top streams (last_place xs) s (earlier_of streams (take n xs)) acts
         (move_by here event) (moves streams (drop (n + 1) xs)) t
 
-  next : IsNext
-  next =
+  pub course_item : IsNext
+  course_item =
       let found = event_there streams here (all_at (IsThere streams) xs n here (order_there streams rising xs order)
       (slice_get-get_or xs n d within)) in
       let m = move_by here found.0 in
@@ -115,47 +101,39 @@ module _ (top : ℕ) (streams : List Stream) (rising : IsRising (pids_of streams
             ∙ ap (went_on top streams (last_place xs) s earlier acts m rest) is;
       }
 
-  module _ (new : State) (now : List Act) where
-    pub course_next : IsMet top streams xs n s acts new now (Ok tt) → IsOnCourse top streams xs (n + 1) new now
-    course_next met =
-        let went = met here next.event at next.there in
-        let rest = moves streams (drop (n + 1) xs) in
-        let end = last_place xs in
-        let m = move_by here next.event in
-        let earlier = earlier_of streams (take n xs) in
-        next.goes (Through went.acts went.outcomes) went.through
-        ∙ ap (λ t. course top streams end t (m ∷ earlier) (acts ++ went.acts) rest) (sym went.after)
-        ∙ ap (λ ys. course top streams end new (m ∷ earlier) ys rest) (sym went.put)
-        ∙ ap (λ ms. course top streams end new ms now rest)
-        (sym (earlier_more streams xs n here next.event at next.there))
+  -- what comes of the next item
+  abbrev pub here_turn : Turn
+  here_turn = turn top streams all_told s (earlier_of streams (take n xs)) (move_by here course_item.event)
 
+  pub course_next : (new : State) (now more : List Act) (os : List Outcome) → here_turn ≡ Through more os
+      → new ≡ state_after s os → now ≡ acts ++ more → IsOnCourse top streams xs (n + 1) new now
+  course_next new now more os through after put =
+      let rest = moves streams (drop (n + 1) xs) in
+      let end = last_place xs in
+      let m = move_by here course_item.event in
+      let earlier = earlier_of streams (take n xs) in
+      course_item.goes (Through more os) through
+      ∙ ap (λ t. course top streams end t (m ∷ earlier) (acts ++ more) rest) (sym after)
+      ∙ ap (λ ys. course top streams end new (m ∷ earlier) ys rest) (sym put)
+      ∙ ap (λ ms. course top streams end new ms now rest)
+      (sym (earlier_more streams xs n here course_item.event at course_item.there))
+
+  module _ (place : Pid × ℕ) (is : place ≡ item_place (get_or xs n d)) where
     -- where it stops
-    pub course_stops : (place : Pid × ℕ) → place ≡ item_place (get_or xs n d)
-        → IsMet top streams xs n s acts new now (Err halt.Stopped) → Judged now (Some place) ≡ end_of top streams xs
-    course_stops place is met =
-        let was = met here next.event at next.there in
-        sym (next.goes (Stopped was.acts) was.stopped
-        ∙ ap (λ ys. Judged ys (Some (item_place (move_by here next.event).item))) (sym was.put)
-        ∙ ap (λ (y : Item). Judged now (Some (item_place y))) (item_is here next.event)
+    pub course_stops : (now more : List Act) → here_turn ≡ Stopped more → now ≡ acts ++ more
+        → Judged now (Some place) ≡ end_of top streams xs
+    course_stops now more stopped put =
+        sym (course_item.goes (Stopped more) stopped
+        ∙ ap (λ ys. Judged ys (Some (item_place (move_by here course_item.event).item))) (sym put)
+        ∙ ap (λ (y : Item). Judged now (Some (item_place y))) (item_is here course_item.event)
         ∙ ap (λ (p : Pid × ℕ). Judged now (Some p)) (sym is))
 
-    refused_at : (place : Pid × ℕ) (r : Reason) → place ≡ item_place here
-        → turn top streams all_told s (earlier_of streams (take n xs)) (move_by here next.event) ≡ Refused r
-        → Unfounded place r ≡ end_of top streams xs
-    refused_at place r is refused =
-        sym (next.goes (Refused r) refused
-        ∙ ap (λ (y : Item). Unfounded (item_place y) r) (item_is here next.event)
+    -- and where a reason of the auditor's holds
+    pub course_refused : (r : Reason) → here_turn ≡ Refused r → Unfounded place r ≡ end_of top streams xs
+    course_refused r refused =
+        sym (course_item.goes (Refused r) refused
+        ∙ ap (λ (y : Item). Unfounded (item_place y) r) (item_is here course_item.event)
         ∙ ap (λ (p : Pid × ℕ). Unfounded p r) (sym is))
-
-    pub course_uncaused : (place : Pid × ℕ) → place ≡ item_place (get_or xs n d)
-        → IsMet top streams xs n s acts new now (Err halt.Uncaused)
-        → Unfounded place reason.Uncaused ≡ end_of top streams xs
-    course_uncaused place is met = refused_at place reason.Uncaused is (met here next.event at next.there)
-
-    pub course_too_wide : (place : Pid × ℕ) → place ≡ item_place (get_or xs n d)
-        → IsMet top streams xs n s acts new now (Err halt.TooWide)
-        → Unfounded place reason.TooWide ≡ end_of top streams xs
-    course_too_wide place is met = refused_at place reason.TooWide is (met here next.event at next.there)
 
 -- THE END
 

@@ -13,7 +13,7 @@ use Rattle.st_order.proofs.ForCallers.{an_order, one_order}
 use Rattle.st_audit.specs.declared.finding.AuditFault.{AuditFault}
 use Rattle.st_audit.specs.declared.finding.Finding.{Finding}
 use Rattle.st_audit.specs.Construction.{end_of, IsAudit, IsFoundAt, IsFoundBy}
-use Rattle.st_audit.specs.Findings.{unfit_by}
+use Rattle.st_audit.specs.Findings.{unfit_by, HandsOn}
 
 module _ (top : ℕ) (streams : List Stream) where
   -- streams that pairing refuses
@@ -24,6 +24,10 @@ module _ (top : ℕ) (streams : List Stream) where
   refused_audit (fault.NotRising p i j) found why is = subst (λ o. IsFoundBy top streams o found) (sym why) is
   refused_audit (fault.Repeated p i q j) found why is = subst (λ o. IsFoundBy top streams o found) (sym why) is
   refused_audit (fault.Mismatch p i q j) found why is = subst (λ o. IsFoundBy top streams o found) (sym why) is
+
+  -- and so it is pairing's reason that is found of them
+  pub hands_on : (found : Finding) → IsAudit top streams found → HandsOn streams found
+  hands_on found is f why = subst (λ o. IsFoundBy top streams o found) why is
 
   -- and those that it accepts
   pub accepted_audit : (xs : List Item) (r : Result Finding AuditFault) → IsRising (pids_of streams)

@@ -1,13 +1,11 @@
 -- A finding by a reason of pairing is final, since that reason refuses the streams.
-use Rattle.std.proofs.Common.{◌≡◌, ℕ, List, Some, IfOk, ◌∙◌}
-use Rattle.std.specs.Prelude.{Result, Ok, Err}
+use Rattle.std.proofs.Common.{◌≡◌, ℕ, List, Some, ◌∙◌}
 use Rattle.std.specs.Option.{ForSome}
 use Rattle.std.proofs.lemmas.Option.{none-some}
 use Rattle.st_core.specs.Run.{Stream}
 use Rattle.st_pair.specs.Pairing.{refusal}
 use Rattle.st_pair.specs.Final.{RulesOut}
 use Rattle.st_pair.proofs.ForCallers.{refusal_rules_out}
-use Rattle.st_audit.specs.declared.finding.AuditFault.{AuditFault}
 use Rattle.st_audit.specs.declared.finding.Finding.{Finding}
 use Rattle.st_audit.specs.declared.finding.Finding.TheVariants as finding
 use Rattle.st_audit.specs.declared.finding.Reason.TheVariants as reason
@@ -26,8 +24,6 @@ refused_by top streams (finding.Unfit p i (reason.NotReplayed acts v)) is f e = 
 refused_by top streams (finding.Fits acts pairs) is f e = absurd (none-some f e)
 
 -- so what the reason rules out is ruled out
-pub finding_rules_out : (top : ℕ) (streams : List Stream) (r : Result Finding AuditFault)
-    → IfOk r (IsFinding top streams) → IfOk r (λ found. ForSome (fault_of found) (RulesOut streams))
-finding_rules_out top streams (Ok found) is =
-    λ f e. refusal_rules_out streams f (refused_by top streams found is f e)
-finding_rules_out top streams (Err why) is = tt
+pub finding_rules_out : (top : ℕ) (streams : List Stream) (found : Finding) → IsFinding top streams found
+    → ForSome (fault_of found) (RulesOut streams)
+finding_rules_out top streams found is f e = refusal_rules_out streams f (refused_by top streams found is f e)

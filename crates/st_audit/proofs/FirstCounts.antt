@@ -1,19 +1,14 @@
 -- A world begins with all counts at zero, and a tracer moves none.
-use Rattle.std.proofs.Common.{◌≡◌, ℕ, Bool, true, false, cond, List, [], ◌∷◌, ◌++◌, Some}
-use Rattle.std.proofs.Common.{append_assoc, refl, sym, ◌∙◌, ap, subst}
+use Rattle.std.proofs.Common.{◌≡◌, ℕ, Bool, true, false, cond, List, [], ◌∷◌, Some, refl, sym, ◌∙◌, ap, subst}
 use Rattle.std.proofs.lemmas.Option.{same_Some, none-some}
 use Rattle.st_core.specs.declared.types.Pid.{Pid}
-use Rattle.st_core.specs.declared.types.Act.{Act}
 use Rattle.st_core.specs.declared.types.Act.TheVariants as act
 use Rattle.st_core.specs.Pid.{pid_eq}
 use Rattle.st_core.specs.State.{LocalState, Process, State, process, zero_local, zero_state}
 use Rattle.st_core.specs.Step.{Acted, Outcome, step}
-use Rattle.st_core.specs.Run.{Stream}
-use Rattle.st_core.proofs.ForCallers.{pid_same, run_from-one}
-use Rattle.st_plan.specs.Build.{state_after}
-use Rattle.st_audit.specs.Progress.{AreCounted, IsCounted, IsSoFar, Ran}
+use Rattle.st_core.proofs.ForCallers.{pid_same}
+use Rattle.st_audit.specs.Progress.{AreCounted, IsCounted}
 use Rattle.st_audit.proofs.Counts.{HaveSame, actor_same, others_same}
-use Rattle.st_plan.proofs.ForCallers.{run_append, state_append}
 
 zero_counted : (pids : List Pid) → AreCounted [] (zero_state pids)
 zero_counted [] x r h = absurd (none-some r h)
@@ -25,11 +20,8 @@ zero_counted (p ∷ pids) x r h =
       | false ↦ λ h. zero_counted pids x r h
     ] h
 
-pub begins : (streams : List Stream) (pids : List Pid) (s : State) → s ≡ zero_state pids → IsSoFar streams [] s 0
-begins streams pids s is = record {
-  counted = subst (AreCounted []) (sym is) (zero_counted pids);
-  missed = refl;
-}
+pub begins : (pids : List Pid) (s : State) → s ≡ zero_state pids → AreCounted [] s
+begins pids s is = subst (AreCounted []) (sym is) (zero_counted pids)
 
 counted_as : (l m : LocalState) (x : Pid) → HaveSame l m → IsCounted [] x m → IsCounted [] x l
 counted_as l m x same was = record {
@@ -37,9 +29,9 @@ counted_as l m x same was = record {
   lasted = same.lasted ∙ was.lasted;
 }
 
-pub traced : (top : ℕ) (s : State) (p : Pid) (b : Bool) (o : Outcome) → step top s (act.Tracer p b) ≡ Some o
+pub tracer_counted : (top : ℕ) (s : State) (p : Pid) (b : Bool) (o : Outcome) → step top s (act.Tracer p b) ≡ Some o
     → AreCounted [] s → AreCounted [] o.after
-traced top s p b o h counted x r is =
+tracer_counted top s p b o h counted x r is =
     elim (pid_eq x p) as (λ c. pid_eq x p ≡ c → IsCounted [] x r.local) [
       | true ↦ λ e.
           let who = pid_same x p e in
@@ -55,21 +47,3 @@ traced top s p b o h counted x r is =
           let was = others_same top s (act.Tracer p b) o h tt x r e is in
           counted_as r.local was.before.local x was.same (counted x was.before was.is_before)
     ] refl
-
--- an act more ran
-pub ran_more : (top : ℕ) (old s : State) (acts : List Act) (a : Act) (o : Outcome) → Ran top old acts s
-    → step top s a ≡ Some o → Ran top old (acts ++ a ∷ []) o.after
-ran_more top old s acts a o ran h =
-    let here : step top (state_after old ran.outcomes) a ≡ Some o = ap (λ t. step top t a) (sym ran.after) ∙ h in
-    record {
-      outcomes = ran.outcomes ++ o ∷ [];
-      runs = run_append top old acts (a ∷ []) ran.outcomes (o ∷ []) ran.runs
-          (run_from-one top (state_after old ran.outcomes) a o here);
-      after = sym (state_append old ran.outcomes (o ∷ []));
-    }
-
--- and stands at the end
-pub put_more : (old xs all now new : List Act) (a : Act) → now ≡ old ++ xs → all ≡ xs ++ a ∷ [] → new ≡ now ++ a ∷ []
-    → new ≡ old ++ all
-put_more old xs all now new a before more put =
-    put ∙ ap (λ acts. acts ++ a ∷ []) before ∙ append_assoc old xs (a ∷ []) ∙ ap (λ acts. old ++ acts) (sym more)

@@ -4,8 +4,8 @@ mod Counts
 mod GreaterClocks
 mod MovedCounts
 mod NextItem
+mod PlainItems
 mod ToldCounts
-mod Runs
 mod Attempts
 mod Course
 mod DeterminedFinding
@@ -19,8 +19,7 @@ mod NoItems
 mod ReasonPlaces
 mod Finality
 mod Fullness
-mod Halts
-mod Stamps
+mod ItemPlaces
 mod Track
 mod TrueFindings
 mod Certificates

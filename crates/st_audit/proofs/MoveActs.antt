@@ -1,30 +1,24 @@
--- What the acts of a move are, by the kind of its event, and that the last of them reports it if it is told.
-use Rattle.std.proofs.Common.{◌≡◌, ℕ, ◌<◌, Bool, true, false, cond, List, [], ◌∷◌, ◌++◌, Option, Some, None, option_map}
-use Rattle.std.proofs.Common.{option_to_list, position, refl, sym, ◌∙◌, ap, subst, IfOk, Result, Ok, Err}
+-- What the acts of a move are, by the kind of its event, and that they end with its own.
+use Rattle.std.proofs.Common.{◌≡◌, ℕ, Bool, true, false, cond, List, [], ◌∷◌, ◌++◌, Option, Some, None, option_map}
+use Rattle.std.proofs.Common.{option_to_list, position, refl, sym, ◌∙◌, ap}
 use Rattle.std.proofs.lemmas.Option.{same_Some, none-some}
 use Rattle.st_core.specs.declared.types.Pid.{Pid}
 use Rattle.st_core.specs.declared.types.Event.{Event}
-use Rattle.st_core.specs.declared.types.Flags.{Flags}
 use Rattle.st_core.specs.declared.types.Kind.TheVariants as kind
 use Rattle.st_core.specs.declared.types.Act.{Act}
 use Rattle.st_core.specs.declared.types.Act.TheVariants as act
 use Rattle.st_core.specs.declared.types.Want.TheVariants as want
-use Rattle.st_core.specs.Pid.{pid_eq}
 use Rattle.st_core.specs.State.{Process, State, process}
-use Rattle.st_core.specs.Step.{actor}
-use Rattle.st_core.specs.Run.{Stream, stream}
-use Rattle.st_core.proofs.ForCallers.{pid_eq-refl}
+use Rattle.st_core.specs.Step.{Outcome, step}
+use Rattle.st_core.specs.Run.{Stream, run_from}
+use Rattle.st_core.proofs.ForCallers.{run_from-more, run_parts}
 use Rattle.st_mail.specs.Mail.{bears_stamp}
-use Rattle.st_mail.specs.declared.outcome.Outcome.{Outcome as Told}
-use Rattle.st_world.specs.World.{outcome_to, place_in}
+use Rattle.st_world.specs.World.{place_in}
 use Rattle.st_order.specs.declared.item.Item.TheVariants as item
 use Rattle.st_plan.specs.Marks.{Marks}
 use Rattle.st_plan.specs.Moves.{move_by}
-use Rattle.st_plan.specs.Build.{acts_of, flags_of, ready, start_of, GoesOn}
-use Rattle.st_plan.proofs.ForCallers.{stream_append}
-use Rattle.st_audit.specs.Progress.{if_told, is_uncaused, StampsEvent, RanTo}
-use Rattle.st_audit.proofs.Runs.{last_ran}
-use Rattle.st_audit.proofs.Silence.{ready_silent}
+use Rattle.st_plan.specs.Build.{acts_of, flags_of, ready, start_of, state_after}
+use Rattle.st_audit.specs.Progress.{if_told}
 
 -- the acts of a receive from this place, if there is one
 abbrev taking : Pid → Option ℕ → Option (List Act)
@@ -100,41 +94,32 @@ only None false e h = refl
 only (Some x) true e h = ap (λ (x : Event). Some x) (cc)
 only (Some x) false e h = absurd (cc)
 
--- if the acts before it report nothing, the last one reports the event if it is told
-pub last_reports : (top : ℕ) (streams : List Stream) (marks : Marks) (s : State) (p : Pid) (i : ℕ) (e : Event)
-    (g : GoesOn top streams marks s (move_by (item.Reported p i) e)) (acts : List Act) (a : Act) (told : Told)
-    (new : State)
-    (ran : RanTo top s acts a told new) → acts ++ a ∷ [] ≡ g.acts → actor a ≡ p → stream acts ran.outcomes p ≡ []
-    → told.report ≡ if_told (marks p i) e
-last_reports top streams marks s p i e g acts a told new ran are who silent =
-    let o = outcome_to told new in
-    let os = last_ran top s acts a told new g.acts g.outcomes ran are g.runs in
-    let mine : pid_eq (actor a) p ≡ true = ap (λ q. pid_eq q p) who ∙ pid_eq-refl p in
-    let whole : stream (acts ++ a ∷ []) (ran.outcomes ++ o ∷ []) p ≡ option_to_list told.report ++ [] =
-    stream_append top s acts (a ∷ []) ran.outcomes (o ∷ []) p ran.runs
-    ∙ ap (λ es. es ++ stream (a ∷ []) (o ∷ []) p) silent
-    ∙ ap (λ b. cond b (option_to_list told.report) [] ++ []) mine in
-    let tells : stream (acts ++ a ∷ []) (ran.outcomes ++ o ∷ []) p ≡ cond (marks p i) (e ∷ []) [] =
-    ap (λ xs. stream xs (ran.outcomes ++ o ∷ []) p) are ∙ ap (λ xs. stream g.acts xs p) os ∙ g.tells p
-    ∙ ap (λ b. cond b (cond (marks p i) (e ∷ []) []) []) (pid_eq-refl p) in
-    only told.report (marks p i) e (sym whole ∙ tells)
+-- acts that ran with one more behind them
+pub record LastStep (top : ℕ) (s : State) (xs : List Act) (a : Act) (os : List Outcome) : Type 0 where
+  pub front : List Outcome
+  pub end : Outcome
+  pub runs : run_from top s xs ≡ Some front
+  pub steps : step top (state_after s front) a ≡ Some end
+  pub whole : os ≡ front ++ end ∷ []
 
--- so if p was brought to stand ready, its stamp does
-pub stamp_reports : (top : ℕ) (streams : List Stream) (marks : Marks) (s : State) (p : Pid) (i : ℕ) (e : Event)
-    (g : GoesOn top streams marks s (move_by (item.Reported p i) e)) (f : Flags) (a : Act) (told : Told) (new : State)
-    (skipped now : ℕ) → e.serial.prev < e.serial.this → StampsEvent top s skipped p e f told new now
-    → RanTo top s (ready p (start_of g.before.local) e.label e.serial f) a told new
-    → ready p (start_of g.before.local) e.label e.serial f ++ a ∷ [] ≡ g.acts → actor a ≡ p
-    → told.report ≡ if_told (marks p i) e
-stamp_reports top streams marks s p i e g f a told new skipped now rises x ran are who =
-    let acts = ready p (start_of g.before.local) e.label e.serial f in
-    let same : x.before ≡ g.before = same_Some x.before g.before (sym x.is_before ∙ g.is_before) in
-    let caused = subst (λ (r : Process). is_uncaused (start_of r.local) e.serial ≡ false) same x.caused in
-    last_reports top streams marks s p i e g acts a told new ran are who
-    (ready_silent top s p g.before g.is_before e.label f e.serial ran.outcomes rises caused ran.runs)
-
--- two facts of a result give a third
-pub ok_both : {T E : Type 0} (r : Result T E) (P Q R : T → Type 0) → ((x : T) → P x → Q x → R x) → IfOk r P → IfOk r Q
-    → IfOk r R
-ok_both (Ok x) P Q R f one two = f x one two
-ok_both (Err e) P Q R f one two = tt
+pub last_step : (top : ℕ) (s : State) (xs : List Act) (a : Act) (os : List Outcome)
+    → run_from top s (xs ++ a ∷ []) ≡ Some os → LastStep top s xs a os
+last_step top s [] a os runs =
+    let t = run_parts top s a [] os runs in
+    record {
+      front = [];
+      end = t.first;
+      runs = refl;
+      steps = t.is_first;
+      whole = t.is_whole ∙ ap (λ zs. t.first ∷ zs) (sym (same_Some [] t.others t.is_rest));
+    }
+last_step top s (x ∷ xs) a os runs =
+    let t = run_parts top s x (xs ++ a ∷ []) os runs in
+    let rest = last_step top t.first.after xs a t.others t.is_rest in
+    record {
+      front = t.first ∷ rest.front;
+      end = rest.end;
+      runs = run_from-more top s x xs t.first rest.front t.is_first rest.runs;
+      steps = rest.steps;
+      whole = t.is_whole ∙ ap (λ zs. t.first ∷ zs) rest.whole;
+    }

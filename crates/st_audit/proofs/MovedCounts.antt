@@ -1,8 +1,8 @@
 -- What an item's acts do to the counts: those of its own process become what its move makes of them, and no others
 -- move. For a stamp that is told its report says so, for another the clock before it, for a receive its message.
 use Rattle.std.proofs.Common.{◌≡◌, ℕ, ◌+◌, ◌<◌, ◌≤◌, ◌⊎◌, inl, inr, max, true, false, not, ◌&&◌}
-use Rattle.std.proofs.Common.{◌==◌, Option, Some, None, nat_lt, refl, sym, ◌∙◌, ap, subst, arith, get_or, position}
-use Rattle.std.proofs.Common.{option_and_then}
+use Rattle.std.proofs.Common.{◌==◌, List, Option, Some, None, nat_lt, refl, sym, ◌∙◌, ap, subst, arith, get_or}
+use Rattle.std.proofs.Common.{option_and_then, position}
 use Rattle.std.proofs.lemmas.Bool.{and_parts, eqb-true, false≢true, ltb-false}
 use Rattle.std.proofs.lemmas.List.Quantifiers.{position-Some}
 use Rattle.std.proofs.lemmas.Option.{same_Some, slice_get-get_or}
@@ -21,14 +21,14 @@ use Rattle.st_core.specs.State.{LocalState, Process, State, process}
 use Rattle.st_core.specs.Stamp.{stamp_any}
 use Rattle.st_core.specs.Local.{received}
 use Rattle.st_core.specs.Pick.{pick}
-use Rattle.st_core.specs.Step.{Acted, acted, actor, prints, receives, sends}
+use Rattle.st_core.specs.Step.{Acted, Outcome, acted, actor, prints, receives, sends, step}
+use Rattle.st_core.specs.Run.{run_from}
 use Rattle.st_core.proofs.ForCallers.{mapped}
 use Rattle.st_mail.specs.Mail.{bears_stamp}
-use Rattle.st_mail.specs.declared.outcome.Outcome.{Outcome as Told}
-use Rattle.st_world.specs.World.{outcome_to}
+use Rattle.st_world.specs.World.{place_in}
 use Rattle.st_plan.specs.Build.{ready, start_of, state_after}
-use Rattle.st_audit.specs.Progress.{is_uncaused, StampsEvent, IsStampOf, IsTaken}
-use Rattle.st_audit.proofs.Counts.{HasRisen, IsNoReset, IsTold, WasActor, WasSame, actor_same, all_risen}
+use Rattle.st_audit.specs.Progress.{is_uncaused}
+use Rattle.st_audit.proofs.Counts.{IsNoReset, IsTold, WasActor, WasSame, actor_same, all_risen}
 use Rattle.st_audit.proofs.Counts.{others_same}
 use Rattle.st_audit.proofs.Counts.{ready_alone, stamp_some, stamp_told, was_same}
 use Rattle.st_plan.proofs.ForCallers.{lifted}
@@ -44,6 +44,24 @@ pub record HasMoved (q : Pid) (s : Serial) (count : ℕ) (old new : State) : Typ
   pub lasted : (r : Process) → process new q ≡ Some r → r.local.last ≡ count
 
 -- THE ACT OF A STAMP
+
+-- the act stamps for p
+abbrev pub IsStampOf : Pid → Act → Type 0
+IsStampOf p (act.Send q to v) = p ≡ q
+IsStampOf p (act.Print q v) = p ≡ q
+IsStampOf p a = ⊥
+
+-- p was brought to stand ready for the event's serial, and then stamped it with this outcome
+pub record Stamps (top : ℕ) (old : State) (p : Pid) (e : Event) (end : Outcome) : Type 0 where
+  pub before : Process
+  pub is_before : process old p ≡ Some before
+  pub caused : is_uncaused (start_of before.local) e.serial ≡ false
+  pub flags : Flags
+  pub outcomes : List Outcome
+  pub runs : run_from top old (ready p (start_of before.local) e.label e.serial flags) ≡ Some outcomes
+  pub stamp : Act
+  pub stamps : IsStampOf p stamp
+  pub steps : step top (state_after old outcomes) stamp ≡ Some end
 
 stamp_is : (p : Pid) (a : Act) → IsStampOf p a → (actor a ≡ p) × IsNoReset a
 stamp_is p (act.Send q x v) h = (sym h, tt)
@@ -109,26 +127,26 @@ acted_some top p (act.Tracer q b) r done t h is some = absurd h
 
 -- WHERE THE STAMP IS REPORTED
 
-pub reported_moves : (top : ℕ) (old : State) (skipped : ℕ) (p : Pid) (e : Event) (f : Flags) (told : Told) (new : State)
-    (now : ℕ) → StampsEvent top old skipped p e f told new now → told.report ≡ Some e
-    → HasMoved p e.serial e.serial.prev old new
-reported_moves top old skipped p e f told new now x report =
-    let risen = subst (HasRisen p old) (sym x.ran.after) (all_risen top p old
-    (ready p (start_of x.before.local) e.label e.serial f) x.ran.outcomes
-    (ready_alone p (start_of x.before.local) e.label e.serial f) x.ran.runs) in
+pub reported_moves : (top : ℕ) (old : State) (p : Pid) (e : Event) (end : Outcome) → Stamps top old p e end
+    → end.report ≡ Some e → HasMoved p e.serial e.serial.prev old end.after
+reported_moves top old p e end x report =
+    let acts = ready p (start_of x.before.local) e.label e.serial x.flags in
+    let between = state_after old x.outcomes in
+    let risen = all_risen top p old acts x.outcomes (ready_alone p (start_of x.before.local) e.label e.serial x.flags)
+    x.runs in
     let by = stamp_is p x.stamp x.stamps in
-    let was : (r : Process) → process new p ≡ Some r → WasActor top x.between x.stamp (outcome_to told new) r.local =
-    λ r h. actor_same top x.between x.stamp (outcome_to told new) x.steps by.1 r (ap (process new) by.0 ∙ h) in
-    let here : (r : Process) (h : process new p ≡ Some r) → process x.between p ≡ Some (was r h).before =
-    λ r h. ap (process x.between) (sym by.0) ∙ (was r h).is_before in
-    let serial : (r : Process) (h : process new p ≡ Some r) → IsTold (was r h).before.local (was r h).done.local e =
+    let was : (r : Process) → process end.after p ≡ Some r → WasActor top between x.stamp end r.local =
+    λ r h. actor_same top between x.stamp end x.steps by.1 r (ap (process end.after) by.0 ∙ h) in
+    let here : (r : Process) (h : process end.after p ≡ Some r) → process between p ≡ Some (was r h).before =
+    λ r h. ap (process between) (sym by.0) ∙ (was r h).is_before in
+    let serial : (r : Process) (h : process end.after p ≡ Some r)
+    → IsTold (was r h).before.local (was r h).done.local e =
     λ r h. acted_told top p x.stamp (was r h).before (was r h).done e x.stamps (was r h).is_done
     (sym (was r h).told ∙ report) in
     record {
       others = λ y r apart h.
-          let late = others_same top x.between x.stamp (outcome_to told new) x.steps by.1 y r
-          (ap (pid_eq y) by.0 ∙ apart) h in
-          was_same old x.between y r.local late (risen.others y late.before apart late.is_before);
+          let late = others_same top between x.stamp end x.steps by.1 y r (ap (pid_eq y) by.0 ∙ apart) h in
+          was_same old between y r.local late (risen.others y late.before apart late.is_before);
       before = λ r h. (risen.own (was r h).before (here r h)).before;
       is_before = λ r h. (risen.own (was r h).before (here r h)).is_before;
       clocked = λ r h.
@@ -151,34 +169,34 @@ caused_by l s h =
       | false ↦ λ e h. inr (ltb-false s.prev l.clock h)
     ] refl h
 
-pub hidden_moves : (top : ℕ) (old : State) (skipped : ℕ) (p : Pid) (e : Event) (f : Flags) (told : Told) (new : State)
-    (now : ℕ) (x : StampsEvent top old skipped p e f told new now) → e.serial.prev < e.serial.this
-    → x.before.local.clock < e.serial.this → HasMoved p e.serial e.serial.prev old new
-hidden_moves top old skipped p e f told new now x rises below =
+pub hidden_moves : (top : ℕ) (old : State) (p : Pid) (e : Event) (end : Outcome) (x : Stamps top old p e end)
+    → e.serial.prev < e.serial.this → x.before.local.clock < e.serial.this
+    → HasMoved p e.serial e.serial.prev old end.after
+hidden_moves top old p e end x rises below =
     let wide = max top e.serial.this in
     let r0 = x.before in
-    let acts = ready p (start_of r0.local) e.label e.serial f in
-    let at = is_ready wide p r0.local e.label e.serial f rises (omega arith) below
+    let between = state_after old x.outcomes in
+    let acts = ready p (start_of r0.local) e.label e.serial x.flags in
+    let at = is_ready wide p r0.local e.label e.serial x.flags rises (omega arith) below
     (caused_by r0.local e.serial x.caused) in
     let lift = lifted wide p acts old r0 r0.local at.end x.is_before refl at.runs in
-    let same : lift.os ≡ x.ran.outcomes = same_Some lift.os x.ran.outcomes
-    (sym lift.runs ∙ run_wider top wide (omega arith) old acts x.ran.outcomes x.ran.runs) in
-    let state : state_after old lift.os ≡ x.between = ap (state_after old) same ∙ sym x.ran.after in
+    let same : lift.os ≡ x.outcomes = same_Some lift.os x.outcomes
+    (sym lift.runs ∙ run_wider top wide (omega arith) old acts x.outcomes x.runs) in
+    let state : state_after old lift.os ≡ between = ap (state_after old) same in
     let r1 : Process = record r0 { local = at.end } in
-    let here : process x.between p ≡ Some r1 = ap (λ s. process s p) (sym state) ∙ lift.here in
+    let here : process between p ≡ Some r1 = ap (λ s. process s p) (sym state) ∙ lift.here in
     let by = stamp_is p x.stamp x.stamps in
-    let was : (r : Process) → process new p ≡ Some r → WasActor top x.between x.stamp (outcome_to told new) r.local =
-    λ r h. actor_same top x.between x.stamp (outcome_to told new) x.steps by.1 r (ap (process new) by.0 ∙ h) in
-    let is_r1 : (r : Process) (h : process new p ≡ Some r)
+    let was : (r : Process) → process end.after p ≡ Some r → WasActor top between x.stamp end r.local =
+    λ r h. actor_same top between x.stamp end x.steps by.1 r (ap (process end.after) by.0 ∙ h) in
+    let is_r1 : (r : Process) (h : process end.after p ≡ Some r)
     → r1 ≡ (was r h).before = λ r h. same_Some r1 (was r h).before
-    (sym here ∙ ap (process x.between) (sym by.0) ∙ (was r h).is_before) in
-    let stamped : (r : Process) (h : process new p ≡ Some r) → HasStamped at.end (was r h).done.local = λ r h.
+    (sym here ∙ ap (process between) (sym by.0) ∙ (was r h).is_before) in
+    let stamped : (r : Process) (h : process end.after p ≡ Some r) → HasStamped at.end (was r h).done.local = λ r h.
     acted_some top p x.stamp r1 (was r h).done at.token x.stamps
     (ap (λ y. acted top y x.stamp) (is_r1 r h) ∙ (was r h).is_done) at.is in
     record {
       others = λ y r apart h.
-          let late = others_same top x.between x.stamp (outcome_to told new) x.steps by.1 y r
-          (ap (pid_eq y) by.0 ∙ apart) h in
+          let late = others_same top between x.stamp end x.steps by.1 y r (ap (pid_eq y) by.0 ∙ apart) h in
           record {
             before = late.before;
             is_before = sym (lift.others y apart) ∙ ap (λ s. process s y) state ∙ late.is_before;
@@ -197,17 +215,17 @@ hidden_moves top old skipped p e f told new now x rises below =
 -- A RECEIVE
 
 -- a token that bears a stamp is there, with its count
-borne : (from : Pid) (this : ℕ) (token : Option Token) → bears_stamp from this token ≡ true
+bears_count : (from : Pid) (this : ℕ) (token : Option Token) → bears_stamp from this token ≡ true
     → (t : Token) × (token ≡ Some t) × (t.serial.this ≡ this)
-borne from this None h = absurd (false≢true h)
-borne from this (Some t) h =
+bears_count from this None h = absurd (false≢true h)
+bears_count from this (Some t) h =
     (t, refl, eqb-true t.serial.this this (and_parts (pid_eq t.from from) (t.serial.this == this) h).1)
 
 taken_by : (r : Process) (k : ℕ) (m : Message) (done : Acted) (from : Pid) (this : ℕ)
     → bears_stamp from this m.token ≡ true → receives r (Some (k, m)) ≡ done
     → (done.local.clock ≡ max r.local.clock this) × (done.local.last ≡ this)
 taken_by r k m done from this bears is =
-    let t = borne from this m.token bears in
+    let t = bears_count from this m.token bears in
     let local : received r.local (Some t.0) ≡ done.local =
     ap (received r.local) (sym t.1) ∙ ap (λ (d : Acted). d.local) is in
     let clock = ap (λ (l : LocalState). l.clock) local in
@@ -215,31 +233,31 @@ taken_by r k m done from this bears is =
     let same = t.2 in
     (omega arith, omega arith)
 
-pub taken_moves : (top : ℕ) (old : State) (p : Pid) (e : Event) (told : Told) (new : State)
-    → IsTaken top old p e told new → HasMoved p e.serial e.serial.this old new
-taken_moves top old p e told new x =
-    let a = act.Receive p (want.Place x.place) in
-    let o = outcome_to told new in
+pub taken_moves : (top : ℕ) (old : State) (p : Pid) (e : Event) (place : ℕ) (o : Outcome)
+    → place_in old p e.from e.serial.this ≡ Some place
+    → step top old (act.Receive p (want.Place place)) ≡ Some o → HasMoved p e.serial e.serial.this old o.after
+taken_moves top old p e place o found_at steps =
+    let a = act.Receive p (want.Place place) in
     let this = e.serial.this in
     let test = λ (m : Message). bears_stamp e.from this m.token in
     let any : Message = record { from = p; value = 0; token = None } in
-    let was : (r : Process) → process new p ≡ Some r → WasActor top old a o r.local =
-    λ r h. actor_same top old a o x.steps tt r h in
-    let counts : (r : Process) (h : process new p ≡ Some r)
+    let was : (r : Process) → process o.after p ≡ Some r → WasActor top old a o r.local =
+    λ r h. actor_same top old a o steps tt r h in
+    let counts : (r : Process) (h : process o.after p ≡ Some r)
     → ((was r h).done.local.clock ≡ max (was r h).before.local.clock this)
     × ((was r h).done.local.last ≡ this) = λ r h.
     let b = (was r h).before in
-    let found : position test b.queue ≡ Some x.place =
-    sym (ap (option_and_then (λ (q : Process). position test q.queue)) (was r h).is_before) ∙ x.found in
-    let at = position-Some test b.queue x.place any found in
-    let m = get_or b.queue x.place any in
-    let picked : pick (want.Place x.place) b.queue ≡ Some (x.place, m) =
-    pick_at x.place b.queue m (slice_get-get_or b.queue x.place any at.0) in
-    taken_by b x.place m (was r h).done e.from this at.1
-    (ap (receives b) (sym picked) ∙ same_Some (receives b (pick (want.Place x.place) b.queue)) (was r h).done
+    let found : position test b.queue ≡ Some place =
+    sym (ap (option_and_then (λ (q : Process). position test q.queue)) (was r h).is_before) ∙ found_at in
+    let at = position-Some test b.queue place any found in
+    let m = get_or b.queue place any in
+    let picked : pick (want.Place place) b.queue ≡ Some (place, m) =
+    pick_at place b.queue m (slice_get-get_or b.queue place any at.0) in
+    taken_by b place m (was r h).done e.from this at.1
+    (ap (receives b) (sym picked) ∙ same_Some (receives b (pick (want.Place place) b.queue)) (was r h).done
     (was r h).is_done) in
     record {
-      others = λ y r apart h. others_same top old a o x.steps tt y r apart h;
+      others = λ y r apart h. others_same top old a o steps tt y r apart h;
       before = λ r h. (was r h).before;
       is_before = λ r h. (was r h).is_before;
       clocked = λ r h. (was r h).same.clocked ∙ (counts r h).0;

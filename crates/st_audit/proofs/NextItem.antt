@@ -1,13 +1,24 @@
 -- An item's acts lead from the counts of the moves before it to those with its own: its process's become the move's,
--- and its skip is added. If the construction halts instead for a reason of its own, the counts show it.
-use Rattle.std.proofs.Common.{◌≡◌, ℕ, ◌+◌, ◌-◌, ◌==◌, ◌&&◌, ◌||◌, max, nat_lt, Bool, true, false, not, cond}
-use Rattle.std.proofs.Common.{List, ◌∷◌, take, Some, None, slice_get, refl, sym, ◌∙◌, ap, subst, arith}
+-- and its skip is added.
+use Rattle.std.proofs.Common.{◌≡◌, ℕ, ◌+◌, ◌-◌, ◌<◌, ◌==◌, ◌&&◌, max, nat_lt, Bool, true, false, not, cond}
+use Rattle.std.proofs.Common.{List, [], ◌∷◌, ◌++◌, length, take, Option, Some, None, option_and_then, slice_get}
+use Rattle.std.proofs.Common.{Result, Ok, Err, OnOk, refl, sym, ◌∙◌, ap, subst, arith}
+use Rattle.std.specs.Option.{option_map_or}
+use Rattle.std.proofs.lemmas.Bool.{ltb-true}
+use Rattle.std.proofs.lemmas.Option.{same_Some, none-some}
 use Rattle.st_core.specs.declared.types.Pid.{Pid}
 use Rattle.st_core.specs.declared.types.Event.{Event}
+use Rattle.st_core.specs.declared.types.Flags.{Flags}
+use Rattle.st_core.specs.declared.types.Kind.{Kind}
+use Rattle.st_core.specs.declared.types.Kind.TheVariants as kind
+use Rattle.st_core.specs.declared.types.Act.{Act}
+use Rattle.st_core.specs.declared.types.Act.TheVariants as act
+use Rattle.st_core.specs.declared.types.Want.TheVariants as want
 use Rattle.st_core.specs.Pid.{pid_eq, IsRising}
-use Rattle.st_core.specs.State.{LocalState, State, process}
-use Rattle.st_core.specs.Run.{Stream, pids_of}
-use Rattle.st_core.proofs.ForCallers.{pid_eq-swap, pid_same}
+use Rattle.st_core.specs.State.{LocalState, Process, State, process}
+use Rattle.st_core.specs.Step.{Outcome}
+use Rattle.st_core.specs.Run.{Stream, pids_of, run_from}
+use Rattle.st_core.proofs.ForCallers.{pid_eq-swap, pid_same, run_parts}
 use Rattle.st_pair.specs.Pairing.{refusal}
 use Rattle.st_pair.specs.Places.{is_stamp}
 use Rattle.st_pair.proofs.ForCallers.{paired, serial_rises}
@@ -15,16 +26,23 @@ use Rattle.st_order.specs.declared.item.Item.{Item}
 use Rattle.st_order.specs.declared.item.Item.TheVariants as item
 use Rattle.st_order.specs.Order.{IsOrder}
 use Rattle.st_order.specs.Items.{event_of}
-use Rattle.st_audit.specs.declared.construction.Halt.{Halt}
-use Rattle.st_audit.specs.declared.construction.Halt.TheVariants as halt
 use Rattle.st_plan.specs.Marks.{Marks}
 use Rattle.st_plan.specs.Moves.{Move, clock, is_taking, last, move_by, skip, skips, earlier_of}
-use Rattle.st_plan.specs.Reasons.{most_skipped, most_skipped_in_all, too_wide, uncaused}
-use Rattle.st_plan.specs.Build.{start_of}
-use Rattle.st_audit.specs.Progress.{if_told, is_too_wide, is_uncaused, missing_count, AreCounted, HaltsAt}
-use Rattle.st_audit.specs.Progress.{IsActed, IsCounted, IsHalt, IsHiddenDone, IsReportedDone, IsSoFar, IsStampHaltAt}
-use Rattle.st_plan.proofs.ForCallers.{earlier_more, hidden_clock}
-use Rattle.st_audit.proofs.MovedCounts.{HasMoved, hidden_moves, reported_moves, taken_moves}
+use Rattle.st_plan.specs.Reasons.{too_wide, uncaused}
+use Rattle.st_plan.specs.Plain.{out_of_turn}
+use Rattle.st_plan.specs.Build.{acts_of, flags_of, ready, start_of, state_after}
+use Rattle.st_plan.proofs.ForCallers.{earlier_more, hidden_clock, state_append}
+use Rattle.st_audit.specs.declared.construction.Construction.{Construction}
+use Rattle.st_audit.specs.declared.construction.Halt.{Halt}
+use Rattle.st_audit.specs.Construction.{acts_from, last_report, Turn, Through, Stopped, Refused}
+use Rattle.st_audit.specs.Progress.{if_told, is_below, is_high, is_marked, is_uncaused, item_turn, marked_turn}
+use Rattle.st_audit.specs.Progress.{missing_count, move_skip, AreCounted, AreTold, IsCounted, IsSoFar, SaysNothing}
+use Rattle.st_audit.specs.Progress.{Meets, WentThrough}
+use Rattle.st_audit.proofs.Attempts.{attempt_runs, last_report-push, outcomes_in, Attempted}
+use Rattle.st_audit.proofs.MoveActs.{hidden_acts, hidden_goes, last_step, print_acts, receive_acts, send_acts}
+use Rattle.st_audit.proofs.MoveActs.{send_goes, LastStep}
+use Rattle.st_audit.proofs.MoveOutcomes.{report_same}
+use Rattle.st_audit.proofs.MovedCounts.{hidden_moves, reported_moves, taken_moves, HasMoved, IsStampOf, Stamps}
 
 -- COUNTS
 
@@ -63,126 +81,248 @@ counted_next earlier m old new counted moved x r h =
           (was.same.clocked ∙ so.clocked, was.same.lasted ∙ so.lasted)
     ] refl)
 
--- the counts of the moves before the item, if the process is there
-start_skips : (earlier : List Move) (m : Move) (l : LocalState) → is_taking m ≡ false → IsCounted earlier m.who l
-    → missing_count (start_of l) m.event.serial ≡ skip earlier m
-start_skips earlier m l stamps counted =
-    ap (λ c. m.event.serial.this - 1 - c) counted.clocked
-    ∙ ap (λ b. cond b 0 (m.event.serial.this - 1 - clock m.who earlier)) (sym stamps)
+-- the counts of its process are those that its moves say
+pub caused_as : (earlier : List Move) (m : Move) (l : LocalState) → IsCounted earlier m.who l → is_taking m ≡ false
+    → uncaused earlier m ≡ false → is_uncaused (start_of l) m.event.serial ≡ false
+caused_as earlier m l so stamps h =
+    let prev = m.event.serial.prev in
+    let test = not (prev == last m.who earlier) && nat_lt prev (clock m.who earlier) in
+    ap (λ k. not (prev == k) && nat_lt prev l.clock) so.lasted
+    ∙ ap (λ k. not (prev == last m.who earlier) && nat_lt prev k) so.clocked
+    ∙ sym (ap (λ b. not b && test) stamps) ∙ h
+
+skip_as : (earlier : List Move) (m : Move) (s : State) (r : Process) → process s m.who ≡ Some r
+    → IsCounted earlier m.who r.local → move_skip s m ≡ skip earlier m
+skip_as earlier m s r here so =
+    let count = λ (r : Process). missing_count (start_of r.local) m.event.serial in
+    ap (λ o. cond (is_taking m) 0 (option_map_or count o 0)) here
+    ∙ ap (λ k. cond (is_taking m) 0 (m.event.serial.this - 1 - k)) so.clocked
+
+-- AN ITEM THAT WENT THROUGH
+
+not_stopped : (b : Bool) (t : Turn) (acts : List Act) (os : List Outcome) → cond b (Stopped []) t ≡ Through acts os
+    → (b ≡ false) × (t ≡ Through acts os)
+not_stopped true t acts os is = absurd (cc)
+not_stopped false t acts os is = (refl, is)
+
+marked_runs : (marks : Marks) (m : Move) (t : Turn) (acts : List Act) (os : List Outcome)
+    → marked_turn marks m t ≡ Through acts os → (t ≡ Through acts os) × (is_marked marks m os ≡ true)
+marked_runs marks m (Through xs ps) acts os is =
+    elim (is_marked marks m ps) as (λ b. is_marked marks m ps ≡ b
+    → cond b (Through xs ps) (Stopped xs) ≡ Through acts os
+    → (Through xs ps ≡ Through acts os) × (is_marked marks m os ≡ true)) [
+      | true ↦ λ e is. (is, ap (is_marked marks m) (sym (same_Some ps os (ap outcomes_in is))) ∙ e)
+      | false ↦ λ e is. absurd (cc)
+    ] refl is
+marked_runs marks m (Stopped xs) acts os is = absurd (cc)
+marked_runs marks m (Refused r) acts os is = absurd (cc)
+
+-- no reason held of it, and its acts ran and reported what they had to
+record ItemRuns {top : ℕ} (streams : List Stream) (marks : Marks) (c : Construction top) (earlier : List Move)
+    (m : Move) (acts : List Act) (os : List Outcome) : Type 0 where
+  pub low : is_high marks c.world m ≡ false
+  pub marked : is_marked marks m os ≡ true
+  pub tried : Attempted top c.world (uncaused earlier m) (too_wide earlier m) (acts_from streams marks c.world m) acts
+      os
+
+item_runs : {top : ℕ} (streams : List Stream) (marks : Marks) (c : Construction top) (earlier : List Move) (m : Move)
+    (acts : List Act) (os : List Outcome) → item_turn streams marks c earlier m ≡ Through acts os
+    → ItemRuns streams marks c earlier m acts os
+item_runs {top} streams marks c earlier m acts os is =
+    let turn = not_stopped (out_of_turn earlier m) _ acts os is in
+    let low = not_stopped (is_high marks c.world m) _ acts os turn.1 in
+    let runs = marked_runs marks m _ acts os low.1 in
+    record {
+      low = low.0;
+      marked = runs.1;
+      tried = attempt_runs top c.world (uncaused earlier m) (too_wide earlier m) (acts_from streams marks c.world m)
+          acts os runs.0;
+    }
+
+acts_at : (streams : List Stream) (marks : Marks) (s : State) (m : Move) (acts : List Act)
+    → acts_from streams marks s m ≡ Some acts
+    → (r : Process) × (process s m.who ≡ Some r) × (acts_of streams marks r m ≡ Some acts)
+acts_at streams marks s m acts h =
+    elim (process s m.who) as (λ o. option_and_then (λ r. acts_of streams marks r m) o ≡ Some acts
+    → (r : Process) × (o ≡ Some r) × (acts_of streams marks r m ≡ Some acts)) [
+      | None ↦ λ h. absurd (none-some acts h)
+      | Some r ↦ λ h. (r, refl, h)
+    ] h
+
+module _ (top : ℕ) (s : State) (p : Pid) (e : Event) (rises : e.serial.prev < e.serial.this) (r : Process)
+    (here : process s p ≡ Some r) (caused : is_uncaused (start_of r.local) e.serial ≡ false) (f : Flags) (a : Act)
+    (own : IsStampOf p a) (acts : List Act) (os : List Outcome) (runs : run_from top s acts ≡ Some os)
+    (are : ready p (start_of r.local) e.label e.serial f ++ a ∷ [] ≡ acts) where
+  end : LastStep top s (ready p (start_of r.local) e.label e.serial f) a os
+  end = last_step top s (ready p (start_of r.local) e.label e.serial f) a os (ap (run_from top s) are ∙ runs)
+
+  stamps : Stamps top s p e end.end
+  stamps = record {
+    before = r;
+    is_before = here;
+    caused = caused;
+    flags = f;
+    outcomes = end.front;
+    runs = end.runs;
+    stamp = a;
+    stamps = own;
+    steps = end.steps;
+  }
+
+  leads : end.end.after ≡ state_after s os
+  leads = sym (ap (state_after s) end.whole ∙ state_append s end.front (end.end ∷ []))
+
+  told_moved : last_report None os ≡ Some e → HasMoved p e.serial e.serial.prev s (state_after s os)
+  told_moved says =
+      let report : end.end.report ≡ Some e =
+      sym (ap (last_report None) end.whole ∙ last_report-push None end.front end.end) ∙ says in
+      subst (HasMoved p e.serial e.serial.prev s) leads (reported_moves top s p e end.end stamps report)
+
+  low_moved : r.local.clock < e.serial.this → HasMoved p e.serial e.serial.prev s (state_after s os)
+  unfolding stamps
+  low_moved below =
+      subst (HasMoved p e.serial e.serial.prev s) leads (hidden_moves top s p e end.end stamps rises below)
+
+not_false : (b : Bool) → not b ≡ false → b ≡ true
+not_false true h = refl
+not_false false h = absurd (cc)
+
+module _ {top : ℕ} (streams : List Stream) (marks : Marks) (c : Construction top) (earlier : List Move)
+    (so : IsSoFar streams earlier c) (acts : List Act) (os : List Outcome) where
+  module _ (p : Pid) (i : ℕ) (e : Event) (rises : e.serial.prev < e.serial.this)
+      (runs : ItemRuns streams marks c earlier (move_by (item.Reported p i) e) acts os) (r : Process)
+      (here : process c.world p ≡ Some r)
+      (are : acts_of streams marks r (move_by (item.Reported p i) e) ≡ Some acts) where
+    abbrev m : Move
+    m = move_by (item.Reported p i) e
+
+    -- the clock before a stamp that isn't told is below its count
+    is_low : is_stamp e ≡ true → marks p i ≡ false → r.local.clock < e.serial.this
+    is_low stamps untold =
+        let high = not (is_below c.world p e) in
+        let test : high ≡ false = sym (ap (λ b. not b && (is_stamp e && high)) untold ∙ ap (λ b. b && high) stamps)
+        ∙ runs.low in
+        let below : nat_lt r.local.clock e.serial.this ≡ true =
+        sym (ap (λ o. option_map_or (λ (r : Process). nat_lt r.local.clock e.serial.this) o true) here)
+        ∙ not_false (is_below c.world p e) test in
+        ltb-true r.local.clock e.serial.this below
+
+    stamp_moved : (f : Flags) (a : Act) → IsStampOf p a → is_stamp e ≡ true
+        → ready p (start_of r.local) e.label e.serial f ++ a ∷ [] ≡ acts
+        → HasMoved p e.serial (count_of m) c.world (state_after c.world os)
+    stamp_moved f a own stamps is =
+        let taking : is_taking m ≡ false = ap not stamps in
+        let caused = caused_as earlier m r.local (so.counted p r here) taking runs.tried.no_one in
+        let report = report_same (last_report None os) (if_told (marks p i) e) runs.marked in
+        subst (λ b. HasMoved p e.serial (cond b e.serial.this e.serial.prev) c.world (state_after c.world os))
+        (sym taking)
+        (elim (marks p i) as (λ b. marks p i ≡ b
+        → HasMoved p e.serial e.serial.prev c.world (state_after c.world os)) [
+          | true ↦ λ told. told_moved top c.world p e rises r here caused f a own acts os runs.tried.runs is
+              (report ∙ ap (λ b. if_told b e) told)
+          | false ↦ λ untold. low_moved top c.world p e rises r here caused f a own acts os runs.tried.runs is
+              (is_low stamps untold)
+        ] refl)
+
+    send_moved : e.kind ≡ kind.Send → (o : Option Pid) → e.to ≡ o
+        → HasMoved p e.serial (count_of m) c.world (state_after c.world os)
+    send_moved is None is_to = absurd (send_goes streams marks p i e r acts are is is_to)
+    send_moved is (Some to) is_to =
+        stamp_moved (flags_of streams marks m) (act.Send p to e.value) refl (rw is refl)
+        (send_acts streams marks p i e r acts are to is is_to)
+
+    receive_moved : e.kind ≡ kind.Receive → HasMoved p e.serial (count_of m) c.world (state_after c.world os)
+    receive_moved is =
+        let taken = receive_acts streams marks p i e r acts are c.world here is in
+        let a = act.Receive p (want.Place taken.place) in
+        let t = run_parts top c.world a [] os (ap (run_from top c.world) taken.same ∙ runs.tried.runs) in
+        let leads : t.first.after ≡ state_after c.world os =
+        ap (state_after t.first.after) (same_Some [] t.others t.is_rest)
+        ∙ sym (ap (state_after c.world) t.is_whole) in
+        let taking : is_taking m ≡ true = rw is refl in
+        subst (λ b. HasMoved p e.serial (cond b e.serial.this e.serial.prev) c.world (state_after c.world os))
+        (sym taking)
+        (subst (HasMoved p e.serial e.serial.this c.world) leads
+        (taken_moves top c.world p e taken.place t.first taken.found t.is_first))
+
+    kind_moved : (k : Kind) → e.kind ≡ k → HasMoved p e.serial (count_of m) c.world (state_after c.world os)
+    kind_moved kind.Send is = send_moved is e.to refl
+    kind_moved kind.Print is =
+        stamp_moved (flags_of streams marks m) (act.Print p e.value) refl (rw is refl)
+        (print_acts streams marks p i e r acts are is)
+    kind_moved kind.Receive is = receive_moved is
+
+  -- a hidden send is a stamp, and its sender's clock is below its count
+  hidden_moved : (p : Pid) (i : ℕ) (e : Event) → e.serial.prev < e.serial.this
+      → clock e.from earlier < e.serial.this
+      → ItemRuns streams marks c earlier (move_by (item.Hidden p i) e) acts os → (r : Process)
+      → process c.world e.from ≡ Some r → acts_of streams marks r (move_by (item.Hidden p i) e) ≡ Some acts
+      → (o : Option Pid) → e.to ≡ o
+      → HasMoved e.from e.serial e.serial.prev c.world (state_after c.world os)
+  hidden_moved p i e rises below runs r here are None is_to =
+      absurd (hidden_goes streams marks p i e r acts are is_to)
+  hidden_moved p i e rises below runs r here are (Some to) is_to =
+      let m = move_by (item.Hidden p i) e in
+      let was = so.counted e.from r here in
+      let clocked = was.clocked in
+      let caused = caused_as earlier m r.local was refl runs.tried.no_one in
+      low_moved top c.world e.from e rises r here caused (record { send = false; receive = marks p i; print = false })
+      (act.Send e.from to e.value) refl acts os runs.tried.runs
+      (hidden_acts streams marks p i e r acts to are is_to) (omega arith)
 
 -- THE NEXT STATE
 
-module _ (top : ℕ) (streams : List Stream) (xs : List Item) (n : ℕ) (old new : State) (skipped now : ℕ)
-    (so : IsSoFar streams (take n xs) old skipped) where
-  from_move : (x : Item) (e : Event) → slice_get xs n ≡ Some x → event_of streams x ≡ Some e
-      → HasMoved (move_by x e).who (move_by x e).event.serial (count_of (move_by x e)) old new
-      → now ≡ skip (earlier_of streams (take n xs)) (move_by x e) + skipped
-      → IsSoFar streams (take (n + 1) xs) new now
-  from_move x e at there moved missed =
-      let earlier = earlier_of streams (take n xs) in
+pub on_ok : {T E : Type 0} (r : Result T E) (P : Type 0) → P → OnOk r P
+on_ok (Ok x) P h = h
+on_ok (Err e) P h = tt
+
+module _ {top : ℕ} (streams : List Stream) (marks : Marks) (xs : List Item) (n : ℕ) (old new : Construction top)
+    (so : IsSoFar streams (earlier_of streams (take n xs)) old) (rising : IsRising (pids_of streams))
+    (order : IsOrder streams xs) (accepted : refusal streams ≡ None) where
+  abbrev past : List Move
+  past = earlier_of streams (take n xs)
+
+  item_moved : (x : Item) (e : Event) → slice_get xs n ≡ Some x → event_of streams x ≡ Some e → (acts : List Act)
+      (os : List Outcome) → ItemRuns streams marks old past (move_by x e) acts os → (r : Process)
+      → process old.world (move_by x e).who ≡ Some r → acts_of streams marks r (move_by x e) ≡ Some acts
+      → HasMoved (move_by x e).who (move_by x e).event.serial (count_of (move_by x e)) old.world
+      (state_after old.world os)
+  item_moved (item.Reported p i) e at there acts os runs r here are =
+      let rises = serial_rises streams (paired streams accepted) p i e there in
+      kind_moved streams marks old past so acts os p i e rises runs r here are e.kind refl
+  item_moved (item.Hidden p i) e at there acts os runs r here are =
+      let rises = serial_rises streams (paired streams accepted) p i e there in
+      let below = hidden_clock streams xs n p i e rising order at there (omega arith) in
+      hidden_moved streams marks old past so acts os p i e rises below runs r here are e.to refl
+
+  item_next : (x : Item) (e : Event) → slice_get xs n ≡ Some x → event_of streams x ≡ Some e → (u : Unit {0})
+      → WentThrough {T = Unit {0}} SaysNothing (item_turn streams marks old past (move_by x e)) old u new
+      → new.skipped ≡ move_skip old.world (move_by x e) + old.skipped → length new.told.items ≡ length streams
+      → AreTold streams (move_by x e ∷ past) new.told.items
+      → IsSoFar streams (earlier_of streams (take (n + 1) xs)) new
+  item_next x e at there u went skipped listed told =
+      let m = move_by x e in
+      let runs = item_runs streams marks old past m went.acts went.outcomes went.through in
+      let by = acts_at streams marks old.world m went.acts runs.tried.are in
+      let was = so.counted m.who by.0 by.1 in
       let more = earlier_more streams xs n x e at there in
+      let moved = subst (HasMoved m.who m.event.serial (count_of m) old.world) (sym went.after)
+      (item_moved x e at there went.acts went.outcomes runs by.0 by.1 by.2) in
       record {
-        counted = subst (λ ms. AreCounted ms new) (sym more)
-            (counted_next earlier (move_by x e) old new so.counted moved);
-        missed = missed ∙ ap (λ k. skip earlier (move_by x e) + k) so.missed ∙ ap skips (sym more);
+        counted = subst (λ ms. AreCounted ms new.world) (sym more)
+            (counted_next past m old.world new.world so.counted moved);
+        missed = skipped ∙ ap (λ k. k + old.skipped) (skip_as past m old.world by.0 by.1 was)
+            ∙ ap (λ k. skip past m + k) so.missed ∙ ap skips (sym more);
+        listed = listed;
+        told = subst (λ ms. AreTold streams ms new.told.items) (sym more) told;
       }
 
-  pub hidden_next : (p : Pid) (i : ℕ) → IsRising (pids_of streams) → IsOrder streams xs → refusal streams ≡ None
-      → slice_get xs n ≡ Some (item.Hidden p i) → IsHiddenDone top streams old skipped p i new now
-      → IsSoFar streams (take (n + 1) xs) new now
-  hidden_next p i rising order accepted at done =
-      let e = done.event in
-      let x = done.stamped in
-      let m = move_by (item.Hidden p i) e in
-      let rises = serial_rises streams (paired streams accepted) p i e done.at in
-      let earlier = earlier_of streams (take n xs) in
-      let was = so.counted e.from x.before x.is_before in
-      let clocked = was.clocked in
-      let below = hidden_clock streams xs n p i e rising order at done.at (omega arith) in
-      from_move (item.Hidden p i) e at done.at
-      (hidden_moves top old skipped e.from e done.flags done.told new now x rises (omega arith))
-      (x.missed ∙ ap (λ k. k + skipped) (start_skips earlier m x.before.local refl was))
-
-  acted_next : (marks : Marks) (p : Pid) (i : ℕ) (done : IsReportedDone top streams marks old skipped p i new now)
-      (b : Bool)
-      → refusal streams ≡ None → is_stamp done.event ≡ b → slice_get xs n ≡ Some (item.Reported p i)
-      → IsActed b top old skipped p done.event done.told new now → IsSoFar streams (take (n + 1) xs) new now
-  acted_next marks p i done true accepted stamps at acted =
-      let e = done.event in
-      let x = acted.1 in
-      let m = move_by (item.Reported p i) e in
-      let taking : is_taking m ≡ false = ap not stamps in
-      let earlier = earlier_of streams (take n xs) in
-      let rises = serial_rises streams (paired streams accepted) p i e done.at in
-      let moved : HasMoved p e.serial e.serial.prev old new =
-      elim (marks p i) as (λ b. marks p i ≡ b → done.told.report ≡ if_told b e
-      → HasMoved p e.serial e.serial.prev old new) [
-        | true ↦ λ told report. reported_moves top old skipped p e acted.0 done.told new now x report
-        | false ↦ λ untold report.
-            hidden_moves top old skipped p e acted.0 done.told new now x rises
-            (done.below untold stamps x.before x.is_before)
-      ] refl done.report in
-      from_move (item.Reported p i) e at done.at
-      (subst (λ b. HasMoved p e.serial (cond b e.serial.this e.serial.prev) old new) (sym taking)
-      moved)
-      (x.missed ∙ ap (λ k. k + skipped)
-      (start_skips earlier m x.before.local taking (so.counted p x.before x.is_before)))
-  acted_next marks p i done false accepted stamps at acted =
-      let e = done.event in
-      let m = move_by (item.Reported p i) e in
-      let taking : is_taking m ≡ true = ap not stamps in
-      let nothing : skipped ≡ 0 + skipped = omega arith in
-      let earlier = earlier_of streams (take n xs) in
-      from_move (item.Reported p i) e at done.at
-      (subst (λ b. HasMoved p e.serial (cond b e.serial.this e.serial.prev) old new) (sym taking)
-      (taken_moves top old p e done.told new acted.0))
-      (acted.1 ∙ nothing ∙ ap (λ b. cond b 0 (e.serial.this - 1 - clock p earlier) + skipped) (sym taking))
-
-  pub reported_next : (marks : Marks) (p : Pid) (i : ℕ) → refusal streams ≡ None
-      → slice_get xs n ≡ Some (item.Reported p i)
-      → IsReportedDone top streams marks old skipped p i new now → IsSoFar streams (take (n + 1) xs) new now
-  reported_next marks p i accepted at done =
-      acted_next marks p i done (is_stamp done.event) accepted refl at done.acted
-
--- WHERE IT HALTS
-
-module _ (streams : List Stream) (ys : List Item) (old : State) (skipped : ℕ)
-    (so : IsSoFar streams ys old skipped) where
-  uncaused_by : (m : Move) → is_taking m ≡ false → HaltsAt old m.who (λ x. is_uncaused x m.event.serial)
-      → uncaused (earlier_of streams ys) m ≡ true
-  uncaused_by m stamps h =
-      let was = so.counted m.who h.before h.is_before in
-      let prev = m.event.serial.prev in
-      ap (λ b. not b && (not (prev == last m.who (earlier_of streams ys))
-      && nat_lt prev (clock m.who (earlier_of streams ys)))) stamps
-      ∙ ap (λ c. not (prev == c) && nat_lt prev (clock m.who (earlier_of streams ys))) (sym was.lasted)
-      ∙ ap (λ c. not (prev == h.before.local.last) && nat_lt prev c) (sym was.clocked) ∙ h.holds
-
-  too_wide_by : (m : Move) → is_taking m ≡ false
-      → HaltsAt old m.who (λ x. is_too_wide skipped (missing_count x m.event.serial))
-      → too_wide (earlier_of streams ys) m ≡ true
-  too_wide_by m stamps h =
-      let earlier = earlier_of streams ys in
-      let was = so.counted m.who h.before h.is_before in
-      ap (λ b. not b && (nat_lt most_skipped (skip earlier m)
-      || nat_lt most_skipped_in_all (skip earlier m + skips earlier)))
-      stamps
-      ∙ ap (λ k. nat_lt most_skipped k || nat_lt most_skipped_in_all (k + skips earlier))
-      (sym (start_skips earlier m h.before.local stamps was))
-      ∙ ap (λ k. is_too_wide k (missing_count (start_of h.before.local) m.event.serial)) (sym so.missed) ∙ h.holds
-
-  pub hidden_halt : (p : Pid) (i : ℕ) (h : Halt)
-      → IsStampHaltAt streams p i (λ e. e.from) (λ e. true) old skipped h → IsHalt streams ys (item.Hidden p i) h
-  hidden_halt p i halt.Memory is = tt
-  hidden_halt p i halt.Stopped is = tt
-  hidden_halt p i halt.Uncaused is = (is.0, is.1, uncaused_by (move_by (item.Hidden p i) is.0) refl is.3)
-  hidden_halt p i halt.TooWide is = (is.0, is.1, too_wide_by (move_by (item.Hidden p i) is.0) refl is.3)
-
-  pub reported_halt : (p : Pid) (i : ℕ) (h : Halt)
-      → IsStampHaltAt streams p i (λ e. p) is_stamp old skipped h → IsHalt streams ys (item.Reported p i) h
-  reported_halt p i halt.Memory is = tt
-  reported_halt p i halt.Stopped is = tt
-  reported_halt p i halt.Uncaused is =
-      (is.0, is.1, uncaused_by (move_by (item.Reported p i) is.0) (ap not is.2) is.3)
-  reported_halt p i halt.TooWide is =
-      (is.0, is.1, too_wide_by (move_by (item.Reported p i) is.0) (ap not is.2) is.3)
+  -- unless the item halts
+  pub next_so_far : (x : Item) (e : Event) → slice_get xs n ≡ Some x → event_of streams x ≡ Some e
+      → (r : Result (Unit {0}) Halt)
+      → Meets {T = Unit {0}} SaysNothing (item_turn streams marks old past (move_by x e)) old r new
+      → OnOk r (new.skipped ≡ move_skip old.world (move_by x e) + old.skipped)
+      → length new.told.items ≡ length streams → OnOk r (AreTold streams (move_by x e ∷ past) new.told.items)
+      → OnOk r (IsSoFar streams (earlier_of streams (take (n + 1) xs)) new)
+  next_so_far x e at there (Ok u) meets skipped listed told = item_next x e at there u meets skipped listed told
+  next_so_far x e at there (Err h) meets skipped listed told = tt

@@ -81,26 +81,26 @@ module _ (streams : List Stream) where
               (places at.pid at.index at.event g (some_at streams at.pid at.index at.event at.at) at.gives)
         ] refl h
 
-    placed : (f : PairFault) → refusal streams ≡ Some f → IsPlaced streams f
-    placed f h =
+    fault_placed : (f : PairFault) → refusal streams ≡ Some f → IsPlaced streams f
+    fault_placed f h =
         rule_placed prev_not_before (not_rising streams ∷ repeated streams ∷ mismatch streams ∷ []) f prev_places
         (rule_placed (not_rising streams) (repeated streams ∷ mismatch streams ∷ []) f rising_places
         (rule_placed (repeated streams) (mismatch streams ∷ []) f repeated_places
         (rule_placed (mismatch streams) [] f mismatch_places (λ none. absurd (none-some f none))))) h
 
     -- a reason of pairing, handed on, holds there
-    pub handed : (top : ℕ) (f : PairFault) (found : Finding) → IsPairFault streams f → unfit_by f ≡ Some found
+    pub fault_holds : (top : ℕ) (f : PairFault) (found : Finding) → IsPairFault streams f → unfit_by f ≡ Some found
         → IsFinding top streams found
-    handed top fault.Memory found is h = absurd (none-some found h)
-    handed top (fault.PrevNotBefore p i) found is h =
+    fault_holds top fault.Memory found is h = absurd (none-some found h)
+    fault_holds top (fault.PrevNotBefore p i) found is h =
         subst (IsFinding top streams) (same_Some (finding.Unfit p i reason.PrevNotBefore) found h)
-        (placed (fault.PrevNotBefore p i) is, is)
-    handed top (fault.NotRising p i j) found is h =
+        (fault_placed (fault.PrevNotBefore p i) is, is)
+    fault_holds top (fault.NotRising p i j) found is h =
         subst (IsFinding top streams) (same_Some (finding.Unfit p i (reason.NotRising j)) found h)
-        (placed (fault.NotRising p i j) is, is)
-    handed top (fault.Repeated p i q j) found is h =
+        (fault_placed (fault.NotRising p i j) is, is)
+    fault_holds top (fault.Repeated p i q j) found is h =
         subst (IsFinding top streams) (same_Some (finding.Unfit p i (reason.Repeated q j)) found h)
-        (placed (fault.Repeated p i q j) is, is)
-    handed top (fault.Mismatch p i q j) found is h =
+        (fault_placed (fault.Repeated p i q j) is, is)
+    fault_holds top (fault.Mismatch p i q j) found is h =
         subst (IsFinding top streams) (same_Some (finding.Unfit p i (reason.Mismatch q j)) found h)
-        (placed (fault.Mismatch p i q j) is, is)
+        (fault_placed (fault.Mismatch p i q j) is, is)

@@ -1,11 +1,11 @@
 -- The counts of what each process told: a reported item adds one to its process's, at the place of its pid alone.
-use Rattle.std.proofs.Common.{◌≡◌, ◌≢◌, ℕ, ◌+◌, ◌^◌, ◌<◌, ◌==◌, min, zero, suc, true, false, not, cond, List, [], ◌∷◌}
+use Rattle.std.proofs.Common.{◌≡◌, ◌≢◌, ℕ, ◌+◌, ◌^◌, ◌<◌, min, zero, suc, true, false, cond, List, [], ◌∷◌}
 use Rattle.std.proofs.Common.{inl, inr}
 use Rattle.std.proofs.Common.{length, replicate, None, Option, Some, slice_get, get_or, refl, sym, ◌∙◌, ap, subst}
 use Rattle.std.proofs.Common.{arith}
 use Rattle.std.specs.List.{AllByRecursion, slice_set}
 use Rattle.std.proofs.Math.ListN.{length-map}
-use Rattle.std.proofs.lemmas.Bool.{cases_order, eqb-true, false≢true}
+use Rattle.std.proofs.lemmas.Bool.{cases_order, false≢true}
 use Rattle.std.proofs.lemmas.Bool.Decides.{nat_tests}
 use Rattle.std.proofs.lemmas.List.{get_or-replicate, length-replicate}
 use Rattle.std.proofs.lemmas.Option.{same_Some, none-some, get_or_from_slice_get, slice_get-get_or, slice_get_within}
@@ -18,8 +18,8 @@ use Rattle.st_core.proofs.ForCallers.{pid_eq-refl, pid_same, rising_at, IsBelow-
 use Rattle.st_pair.specs.Places.{event_at}
 use Rattle.st_order.specs.declared.item.Item.TheVariants as item
 use Rattle.st_plan.specs.Moves.{Move, move_by}
-use Rattle.st_plan.specs.Plain.{told, out_of_turn}
-use Rattle.st_audit.specs.Progress.{AreTold, HasTold, TellsOne}
+use Rattle.st_plan.specs.Plain.{told}
+use Rattle.st_audit.specs.Progress.{AreTold, TellsOne}
 
 none_of : (streams : List Stream) (p : Pid) → AllByRecursion (λ q. pid_eq q p ≡ false) (pids_of streams)
     → stream_of streams p ≡ None
@@ -72,18 +72,6 @@ tells_one streams p i place count old is_place was put =
           set_same old place count within ∙ ap (λ (n : ℕ). Some n) next;
       others = λ k apart. set_other old place k count apart;
     }
-
--- the next item of its process is in its turn
-pub in_turn : (streams : List Stream) (earlier : List Move) (counts : List ℕ) (p : Pid) (i : ℕ) (e : Event)
-    → AreTold streams earlier counts → out_of_turn earlier (move_by (item.Reported p i) e) ≡ false
-    → HasTold streams counts p i
-in_turn streams earlier counts p i e are turn k at fits =
-    let test : (told p earlier == i) ≡ true = elim (told p earlier == i) as (λ b. not b ≡ false → b ≡ true) [
-      | true ↦ λ h. refl
-      | false ↦ λ h. sym h
-    ] turn in
-    let same = eqb-true (told p earlier) i test in
-    are k p at (omega arith) ∙ ap (λ (n : ℕ). Some n) same
 
 -- a pid stands at one place
 one_place : (ps : List Pid) (j k : ℕ) (p : Pid) → IsRising ps → slice_get ps j ≡ Some p → slice_get ps k ≡ Some p

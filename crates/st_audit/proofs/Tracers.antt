@@ -1,6 +1,6 @@
 -- A tracer is put on a node at its first pid: those so far are the front of all of them.
 use Rattle.std.proofs.Common.{◌≡◌, ℕ, ◌==◌, Bool, true, false, not, cond, List, [], ◌∷◌, ◌++◌, Option, Some, None}
-use Rattle.std.proofs.Common.{IsSome}
+use Rattle.std.proofs.Common.{Err}
 use Rattle.std.proofs.Common.{◌+◌, ◌<◌, ◌≤◌, suc, append_assoc, arith, drop, get_or, length, refl, sym, ◌∙◌, ap, subst}
 use Rattle.std.proofs.Math.ListN.{drop_of_length-le}
 use Rattle.std.proofs.Math.Seq.{drop-cons}
@@ -9,20 +9,17 @@ use Rattle.std.proofs.lemmas.List.{append-nil}
 use Rattle.st_core.specs.declared.types.Pid.{Pid}
 use Rattle.st_core.specs.declared.types.Act.{Act}
 use Rattle.st_core.specs.declared.types.Act.TheVariants as act
-use Rattle.st_core.specs.State.{State}
-use Rattle.st_core.specs.Step.{Outcome, step}
-use Rattle.st_core.specs.Run.{run_from}
 use Rattle.st_plan.specs.Build.{tracers_after}
-use Rattle.st_audit.specs.Progress.{Ran}
-use Rattle.st_audit.proofs.FirstCounts.{put_more, ran_more}
-use Rattle.st_audit.proofs.Runs.{next_steps}
+use Rattle.st_audit.specs.declared.construction.Construction.{Construction}
+use Rattle.st_audit.specs.declared.construction.Halt.{Halt}
+use Rattle.st_audit.specs.Progress.{acts_turn, Meets, SaysNothing, TellsLast}
+use Rattle.st_audit.proofs.Attempts.{halts_after, halts_before, none_performed, then_performed, Performed}
 
 -- the tracers of the pids but these that are left were put, the last on the node that was seen
-pub record Opens (top : ℕ) (old : State) (before : List Act) (pids : List Pid) (seen : Option ℕ) (left : List Pid)
-    (now : State) (acts : List Act) : Type 0 where
+pub record Opens {top : ℕ} (pids : List Pid) (seen : Option ℕ) (left : List Pid) (old now : Construction top)
+    : Type 0 where
   pub tracers : List Act
-  pub ran : Ran top old tracers now
-  pub put : acts ≡ before ++ tracers
+  pub made : Performed tracers old now
   pub rest : tracers_after None pids ≡ tracers ++ tracers_after seen left
 
 -- the node of p is the one that was seen
@@ -48,54 +45,49 @@ was_seen seen p b is =
       | false ↦ λ h. ap not (sym h)
     ] (is ∙ ap not (seen_eq seen p))
 
-module _ (top : ℕ) (old : State) (before : List Act) (pids : List Pid) where
-  pub none_opened : Opens top old before pids None pids old before
-  none_opened = record {
-    tracers = [];
-    ran = record { outcomes = []; runs = refl; after = refl };
-    put = sym (append-nil before);
-    rest = refl;
-  }
+module _ {top : ℕ} (pids : List Pid) (old : Construction top) where
+  pub none_opened : Opens pids None pids old old
+  none_opened = record { tracers = []; made = none_performed old; rest = refl }
 
-  pub all_opened : (seen : Option ℕ) (now : State) (acts : List Act) (n : ℕ) → length pids ≤ n
-      → Opens top old before pids seen (drop n pids) now acts
-      → Ran top old (tracers_after None pids) now × (acts ≡ before ++ tracers_after None pids)
-  all_opened seen now acts n past opens =
+  pub all_opened : (seen : Option ℕ) (now : Construction top) (n : ℕ) → length pids ≤ n
+      → Opens pids seen (drop n pids) old now → Performed (tracers_after None pids) old now
+  all_opened seen now n past opens =
       let end : tracers_after seen (drop n pids) ≡ [] = ap (tracers_after seen) (drop_of_length-le pids past) in
       let whole : opens.tracers ≡ tracers_after None pids =
-      sym (opens.rest ∙ ap (λ xs. opens.tracers ++ xs) end ∙ append-nil opens.tracers) in (
-        subst (λ xs. Ran top old xs now) whole opens.ran,
-        opens.put ∙ ap (λ xs. before ++ xs) whole,
-      )
+      sym (opens.rest ∙ ap (λ xs. opens.tracers ++ xs) end ∙ append-nil opens.tracers) in
+      subst (λ xs. Performed xs old now) whole opens.made
 
-  module _ (seen : Option ℕ) (p : Pid) (left : List Pid) (now : State) (acts : List Act)
-      (opens : Opens top old before pids seen (p ∷ left) now acts) where
-    pub seen_before : is_seen seen p ≡ true → Opens top old before pids seen left now acts
+  module _ (seen : Option ℕ) (p : Pid) (left : List Pid) (now : Construction top)
+      (opens : Opens pids seen (p ∷ left) old now) where
+    pub seen_before : is_seen seen p ≡ true → Opens pids seen left old now
     seen_before is = record {
       tracers = opens.tracers;
-      ran = opens.ran;
-      put = opens.put;
+      made = opens.made;
       rest = opens.rest ∙ ap (λ b. opens.tracers ++ cond b (tracers_after seen left)
           (act.Tracer p true ∷ tracers_after (Some p.node) left)) is;
     }
 
-    after_it : is_seen seen p ≡ false
-        → tracers_after None pids ≡ opens.tracers ++ act.Tracer p true ∷ tracers_after (Some p.node) left
-    after_it is = opens.rest ∙ ap (λ b. opens.tracers ++ cond b (tracers_after seen left)
-        (act.Tracer p true ∷ tracers_after (Some p.node) left)) is
+    module _ (is : is_seen seen p ≡ false) (new : Construction top) where
+      after_it : tracers_after None pids ≡ opens.tracers ++ act.Tracer p true ∷ tracers_after (Some p.node) left
+      after_it = opens.rest ∙ ap (λ b. opens.tracers ++ cond b (tracers_after seen left)
+          (act.Tracer p true ∷ tracers_after (Some p.node) left)) is
 
-    pub one_opened : is_seen seen p ≡ false → (o : Outcome) (more : List Act)
-        → step top now (act.Tracer p true) ≡ Some o → more ≡ acts ++ act.Tracer p true ∷ []
-        → Opens top old before pids (Some p.node) left o.after more
-    one_opened is o more steps put = record {
-      tracers = opens.tracers ++ act.Tracer p true ∷ [];
-      ran = ran_more top old now opens.tracers (act.Tracer p true) o opens.ran steps;
-      put = put_more before opens.tracers _ acts more (act.Tracer p true) opens.put refl put;
-      rest = after_it is ∙ sym (append_assoc opens.tracers (act.Tracer p true ∷ [])
-          (tracers_after (Some p.node) left));
-    }
+      pub one_opened : Performed (act.Tracer p true ∷ []) now new → Opens pids (Some p.node) left old new
+      one_opened made = record {
+        tracers = opens.tracers ++ act.Tracer p true ∷ [];
+        made = then_performed opens.tracers (act.Tracer p true ∷ []) old now new opens.made made;
+        rest = after_it ∙ sym (append_assoc opens.tracers (act.Tracer p true ∷ [])
+            (tracers_after (Some p.node) left));
+      }
 
-    pub opens_on : is_seen seen p ≡ false → IsSome (run_from top old (tracers_after None pids))
-        → IsSome (step top now (act.Tracer p true))
-    opens_on is runs = next_steps top old now (tracers_after None pids) opens.tracers (act.Tracer p true)
-        (tracers_after (Some p.node) left) opens.ran (after_it is) runs
+      -- the next tracer halts all of them
+      pub opening_halts : (h : Halt)
+          → Meets TellsLast (acts_turn top now.world (act.Tracer p true ∷ [])) now (Err h) new
+          → Meets {T = Unit {0}} SaysNothing (acts_turn top old.world (tracers_after None pids)) old (Err h) new
+      opening_halts h meets =
+          let rest = tracers_after (Some p.node) left in
+          let next : Meets TellsLast (acts_turn top now.world (act.Tracer p true ∷ rest)) now (Err h) new =
+          halts_before TellsLast TellsLast (act.Tracer p true ∷ []) rest now h new meets in
+          subst (λ xs. Meets {T = Unit {0}} SaysNothing (acts_turn top old.world xs) old (Err h) new) (sym after_it)
+          (halts_after {U = Unit {0}} TellsLast SaysNothing opens.tracers (act.Tracer p true) rest old now h new
+          opens.made next)

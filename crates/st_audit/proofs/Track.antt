@@ -1,7 +1,7 @@
 -- In settled streams the construction goes on from item to item: its acts run, its world is as the moves say, and its
 -- acts tell what the moves tell. So at the end they show the told events.
-use Rattle.std.proofs.Common.{◌≡◌, ℕ, ◌+◌, ◌≤◌, suc, false, not, List, [], ◌∷◌, ◌++◌, take, drop, length, get_or}
-use Rattle.std.proofs.Common.{Some, None, IsSome, append_assoc, slice_get, refl, sym, ◌∙◌, ap, subst}
+use Rattle.std.proofs.Common.{◌≡◌, ℕ, ◌+◌, ◌<◌, ◌≤◌, suc, false, not, List, [], ◌∷◌, ◌++◌, take, drop, length, get_or}
+use Rattle.std.proofs.Common.{Some, None, Err, append_assoc, slice_get, refl, sym, ◌∙◌, ap, subst}
 use Rattle.std.proofs.lemmas.Bool.{eq-eqb}
 use Rattle.std.proofs.lemmas.List.{append-nil, take_all, take_more}
 use Rattle.std.proofs.lemmas.Option.{same_Some, get_or_from_slice_get, slice_get_within}
@@ -21,8 +21,8 @@ use Rattle.st_order.specs.declared.item.Item.TheVariants as item
 use Rattle.st_order.specs.Items.{event_of}
 use Rattle.st_order.specs.Order.{IsOrder}
 use Rattle.st_plan.specs.Marks.{all_told, told_only, Marks}
-use Rattle.st_plan.specs.Moves.{Move, earlier_of, move_by, moves}
-use Rattle.st_plan.specs.Build.{state_after, tracers_after}
+use Rattle.st_plan.specs.Moves.{Move, clock, earlier_of, is_taking, move_by, moves}
+use Rattle.st_plan.specs.Build.{state_after, tracers_after, GoesOn}
 use Rattle.st_plan.specs.Plain.{out_of_turn, told, told_all, told_by, IsSettled}
 use Rattle.st_plan.proofs.ForCallers.{clock_at, earlier_more, goes_on, in_turn_at, moves_append, one_move, opens}
 use Rattle.st_plan.proofs.ForCallers.{order_there, run_append, state_append, stream_append, stream_silent}
@@ -31,9 +31,11 @@ use Rattle.st_plan.proofs.ForCallers.{IsKept, IsThere}
 use Rattle.st_audit.specs.declared.construction.Halt.{Halt}
 use Rattle.st_audit.specs.declared.construction.Halt.TheVariants as halt
 use Rattle.st_audit.specs.Findings.{IsNo}
-use Rattle.st_audit.specs.Progress.{IsNoStop, IsPlainHalt, Ran, Serves}
-use Rattle.st_audit.proofs.Halts.{split_at}
-use Rattle.st_audit.proofs.Runs.{some_is}
+use Rattle.st_audit.specs.declared.construction.Construction.{Construction}
+use Rattle.st_audit.specs.Construction.{turn_by}
+use Rattle.st_audit.specs.Progress.{acts_turn, Meets, SaysNothing, WentThrough}
+use Rattle.st_audit.proofs.Attempts.{done_by, only_memory}
+use Rattle.st_audit.proofs.ItemPlaces.{event_there, split_at}
 
 -- THE VERDICT
 
@@ -46,18 +48,6 @@ pub shown_is_yes : (top : ℕ) (streams : List Stream) (acts : List Act) (v : ve
 shown_is_yes top streams acts v shows is refused =
     let ps = pairs acts shows.0 in
     not_yes v ps (one_verdict top streams acts v (verdicts.Yes ps) is (shows.0, shows.1, shows.2, refl)) refused
-
--- HALTS
-
-pub no_stop : (h : Halt) → h ≡ halt.Stopped → IsNoStop h → ⊥
-no_stop h is stays = subst IsNoStop is stays
-
--- opening halts because memory ran out
-pub only_memory : (h : Halt) → IsPlainHalt h → IsNoStop h → h ≡ halt.Memory
-only_memory halt.Memory plain stays = refl
-only_memory halt.Stopped plain stays = absurd stays
-only_memory halt.Uncaused plain stays = absurd plain
-only_memory halt.TooWide plain stays = absurd plain
 
 -- ON THE WAY
 
@@ -72,31 +62,65 @@ pub record IsOnTrack (top : ℕ) (streams : List Stream) (marks : Marks) (xs : L
   pub one_trace : NoReset acts
 
 -- the tracers lead to where no item was
-pub on_track : (top : ℕ) (streams : List Stream) (marks : Marks) (s : State) (acts : List Act)
-    → Ran top (zero_state (pids_of streams)) (tracers_after None (pids_of streams)) s
-    → acts ≡ tracers_after None (pids_of streams) → IsOnTrack top streams marks [] s acts
-on_track top streams marks s acts ran are =
+pub on_track : (top : ℕ) (streams : List Stream) (marks : Marks) (s : State) (os : List Outcome)
+    → run_from top (zero_state (pids_of streams)) (tracers_after None (pids_of streams)) ≡ Some os
+    → s ≡ state_after (zero_state (pids_of streams)) os
+    → IsOnTrack top streams marks [] s (tracers_after None (pids_of streams))
+on_track top streams marks s os runs after =
     let pids = pids_of streams in
     let tracers = tracers_after None pids in
     let opening = opens top streams marks in
     let o = opening.0 in
-    let same : o.os ≡ ran.outcomes = same_Some o.os ran.outcomes (sym o.runs ∙ ran.runs) in
+    let same : o.os ≡ os = same_Some o.os os (sym o.runs ∙ runs) in
     record {
-      outcomes = ran.outcomes;
-      runs = ap (run_from top (zero_state pids)) are ∙ ran.runs;
-      after = ran.after;
-      kept = subst (IsKept streams marks []) (ap (state_after (zero_state pids)) same ∙ sym ran.after) opening.1;
-      tells = λ p. ap (λ xs. stream xs ran.outcomes p) are ∙ ap (λ os. stream tracers os p) (sym same)
-          ∙ stream_silent tracers o.os p o.silent;
-      one_trace = subst NoReset (sym are) (tracers_none None pids);
+      outcomes = os;
+      runs = runs;
+      after = after;
+      kept = subst (IsKept streams marks []) (ap (state_after (zero_state pids)) same ∙ sym after) opening.1;
+      tells = λ p. ap (λ ps. stream tracers ps p) (sym same) ∙ stream_silent tracers o.os p o.silent;
+      one_trace = tracers_none None pids;
     }
 
--- and they run, whatever comes of it
-pub tracers_run : (top : ℕ) (streams : List Stream)
-    → IsSome (run_from top (zero_state (pids_of streams)) (tracers_after None (pids_of streams)))
-tracers_run top streams =
-    let o = (opens top streams all_told).0 in
-    some_is (run_from top (zero_state (pids_of streams)) (tracers_after None (pids_of streams))) o.os o.runs
+-- THE BEGINNING
+
+-- the tracers were put, and nothing else
+pub record IsBegun (top : ℕ) (streams : List Stream) (s : State) (acts : List Act) : Type 0 where
+  pub outcomes : List Outcome
+  pub runs : run_from top (zero_state (pids_of streams)) (tracers_after None (pids_of streams)) ≡ Some outcomes
+  pub after : s ≡ state_after (zero_state (pids_of streams)) outcomes
+  pub put : acts ≡ tracers_after None (pids_of streams)
+
+module _ {top : ℕ} (streams : List Stream) (pids : List Pid) (are : pids ≡ pids_of streams)
+    (old new : Construction top) (zero : old.world ≡ zero_state (pids_of streams)) where
+  abbrev plan : List Act
+  plan = tracers_after None pids
+
+  abbrev from : State
+  from = zero_state (pids_of streams)
+
+  pub tracers_begin : old.acts ≡ [] → WentThrough {T = Unit {0}} SaysNothing (acts_turn top old.world plan) old tt new
+      → IsBegun top streams new.world new.acts
+  tracers_begin empty went =
+      let made = (done_by {T = Unit {0}} SaysNothing plan old tt new went).made in
+      record {
+        outcomes = made.outcomes;
+        runs = ap (λ ps. run_from top from (tracers_after None ps)) (sym are)
+            ∙ ap (λ s. run_from top s plan) (sym zero) ∙ made.runs;
+        after = made.after ∙ ap (λ s. state_after s made.outcomes) zero;
+        put = made.put ∙ ap (λ xs. xs ++ plan) empty ∙ ap (tracers_after None) are;
+      }
+
+  -- they run, so they halt only because memory ran out
+  pub opening_memory : (h : Halt) → Meets {T = Unit {0}} SaysNothing (acts_turn top old.world plan) old (Err h) new
+      → h ≡ halt.Memory
+  opening_memory h meets =
+      let o = (opens top streams all_told).0 in
+      let runs : run_from top old.world plan ≡ Some o.os = ap (λ s. run_from top s plan) zero
+      ∙ ap (λ ps. run_from top from (tracers_after None ps)) are ∙ o.runs in
+      only_memory {T = Unit {0}} SaysNothing (acts_turn top old.world plan) plan o.os old h new
+      (ap (turn_by top old.world plan) runs) meets
+
+-- ITEM BY ITEM
 
 told_append : (marks : Marks) (p : Pid) (ms ns : List Move) → told_all marks p (ms ++ ns)
     ≡ told_all marks p ms ++ told_all marks p ns
@@ -105,30 +129,31 @@ told_append marks p (m ∷ ms) ns =
     ap (λ es. told_by marks p m ++ es) (told_append marks p ms ns)
     ∙ sym (append_assoc (told_by marks p m) (told_all marks p ms) (told_all marks p ns))
 
-event_there : (streams : List Stream) (x : Item) → IsThere streams x → (e : Event) × (event_of streams x ≡ Some e)
-event_there streams (item.Reported p i) there = there
-event_there streams (item.Hidden p i) there = (there.0, there.1.0)
-
 take_one : (xs : List Item) (n : ℕ) (x : Item) → slice_get xs n ≡ Some x → take (n + 1) xs ≡ take n xs ++ x ∷ []
 take_one xs n x at =
     take_more xs n x (slice_get_within xs n x at)
     ∙ ap (λ y. take n xs ++ y ∷ []) (get_or_from_slice_get xs n x x at)
 
-turn_by : (earlier : List Move) (x : Item) (e : Event)
+in_turn_by : (earlier : List Move) (x : Item) (e : Event)
     → ((p : Pid) (i : ℕ) → (move_by x e).item ≡ item.Reported p i → told p earlier ≡ i)
     → out_of_turn earlier (move_by x e) ≡ false
-turn_by earlier (item.Reported p i) e turn = ap not (eq-eqb (told p earlier) i (turn p i refl))
-turn_by earlier (item.Hidden p i) e turn = refl
+in_turn_by earlier (item.Reported p i) e turn = ap not (eq-eqb (told p earlier) i (turn p i refl))
+in_turn_by earlier (item.Hidden p i) e turn = refl
 
 -- what stands for an item if there is none
 abbrev pub none : Item
 none = item.Reported (record { node = 0; number = 0 }) 0
 
--- the item's move goes on, and keeps what the moves say
+-- the item's move is in its turn, its clock below its stamp, and goes on, and what is kept is what the moves say
 pub record GoesNext (top : ℕ) (streams : List Stream) (marks : Marks) (earlier : List Move) (x : Item) (s : State)
     : Type 0 where
-  pub serves : Serves top streams marks earlier x s
-  pub kept : IsKept streams marks (move_by x serves.event ∷ earlier) (state_after s serves.goes.outcomes)
+  pub event : Event
+  pub there : event_of streams x ≡ Some event
+  pub in_turn : out_of_turn earlier (move_by x event) ≡ false
+  pub below : is_taking (move_by x event) ≡ false
+      → clock (move_by x event).who earlier < (move_by x event).event.serial.this
+  pub goes : GoesOn top streams marks s (move_by x event)
+  pub kept : IsKept streams marks (move_by x event ∷ earlier) (state_after s goes.outcomes)
 
 module _ (top : ℕ) (streams : List Stream) (marks : Marks) (sound : IsStreams streams)
     (settled : IsSettled top streams) (xs : List Item) (order : IsOrder streams xs) where
@@ -144,25 +169,24 @@ module _ (top : ℕ) (streams : List Stream) (marks : Marks) (sound : IsStreams 
         let split = split_at streams xs n x found.0 at found.1 in
         let on = goes_on top streams marks sound settled xs order earlier later m split s track.kept in
         record {
-          serves = record {
-            event = found.0;
-            there = found.1;
-            in_turn = turn_by earlier x found.0 (in_turn_at top streams marks sound settled xs order earlier
-                later m split);
-            below = clock_at top streams marks sound settled xs order earlier later m split;
-            goes = on.0;
-          };
+          event = found.0;
+          there = found.1;
+          in_turn = in_turn_by earlier x found.0 (in_turn_at top streams marks sound settled xs order earlier later m
+              split);
+          below = clock_at top streams marks sound settled xs order earlier later m split;
+          goes = on.0;
           kept = on.1;
         }
 
     -- with its acts
-    pub track_next : (m : GoesNext top streams marks (earlier_of streams (take n xs)) x s) (new : State) (now : List Act)
-        → now ≡ acts ++ m.serves.goes.acts → new ≡ state_after s m.serves.goes.outcomes
+    pub track_next : (m : GoesNext top streams marks (earlier_of streams (take n xs)) x s)
+        (new : State) (now : List Act)
+        → now ≡ acts ++ m.goes.acts → new ≡ state_after s m.goes.outcomes
         → IsOnTrack top streams marks (take (n + 1) xs) new now
     track_next m new now put after =
-        let g = m.serves.goes in
-        let e = m.serves.event in
-        let there = m.serves.there in
+        let g = m.goes in
+        let e = m.event in
+        let there = m.there in
         let move = move_by x e in
         let zero = zero_state (pids_of streams) in
         let os = track.outcomes in

@@ -41,8 +41,8 @@ use Rattle.st_audit.specs.Construction.{turn, turn_by, End, Judged, Unfounded, T
 use Rattle.st_audit.specs.Construction.{IsAudit, IsFoundAt, IsFoundBy}
 use Rattle.st_audit.specs.Findings.{IsFinding, IsReason}
 use Rattle.st_audit.proofs.Course.{last_at, went_on}
-use Rattle.st_audit.proofs.Halts.{place_there}
-use Rattle.st_audit.proofs.ReasonPlaces.{handed}
+use Rattle.st_audit.proofs.ItemPlaces.{place_there}
+use Rattle.st_audit.proofs.ReasonPlaces.{fault_holds}
 use Rattle.st_audit.proofs.Track.{none}
 
 -- THE PLACES
@@ -232,7 +232,7 @@ findings_hold top streams found sound is =
     let rising = sound.draft.rising in
     elim (refusal streams) as (λ o. refusal streams ≡ o → IsFoundBy top streams o found
     → IsFinding top streams found) [
-      | Some f ↦ λ why is. handed streams rising top f found (pair_fault streams f why) is
+      | Some f ↦ λ why is. fault_holds streams rising top f found (pair_fault streams f why) is
       | None ↦ λ accepted is.
           let is_order = an_order streams rising (paired streams accepted).once in
           found_holds top streams accepted (end_of top streams (order streams)) found

@@ -1,7 +1,7 @@
--- The whole construction as a function of the streams: for each item of the order its acts, or why it stops there; the
--- acts up to that place; and the finding that comes of them (own profile).
-use Rattle.std.specs.Prelude.{◌≡◌, ℕ, ◌==◌, ◌&&◌, Bool, true, false, List, [], ◌∷◌, ◌++◌, Option, Some, None}
-use Rattle.std.specs.Prelude.{if◌then◌else◌, option_map, option_and_then, unwrap_or}
+-- The whole construction as a function of the streams: for each item of the order its acts, or why
+-- it stops there; the acts up to that place; and the finding that comes of them (own profile).
+use Rattle.std.specs.Prelude.{◌≡◌, ℕ, ◌==◌, ◌&&◌, Bool, true, false, List, [], ◌∷◌, ◌++◌, Option}
+use Rattle.std.specs.Prelude.{Some, None, if◌then◌else◌, option_map, option_and_then, unwrap_or}
 use Rattle.std.specs.Option.{option_eq, option_map_or}
 use Rattle.std.specs.List.{last_or}
 use Rattle.st_core.specs.declared.types.Pid.{Pid}
@@ -49,15 +49,16 @@ event_eq d e = d.label.0 == e.label.0 && (kind_eq d.kind e.kind && (d.serial.pre
 -- the acts up to the first that has no step, and that one
 abbrev pub tried_acts : ℕ → State → List Act → List Act
 tried_acts top s [] = []
-tried_acts top s (a ∷ rest) = a ∷ (elim (step top s a) [ None ↦ [] | Some o ↦ tried_acts top o.after rest ])
+tried_acts top s (a ∷ rest) =
+    a ∷ (elim (step top s a) [ None ↦ [] | Some o ↦ tried_acts top o.after rest ])
 
 -- what the last of these reports; this report if there is none
 abbrev pub last_report : Option Event → List Outcome → Option Event
 last_report r [] = r
 last_report r (o ∷ os) = last_report o.report os
 
--- What comes of an item. Through: its acts, with their outcomes. Stopped: the streams go on another way than the acts,
--- of which these were tried. Refused: one of the auditor's own reasons
+-- What comes of an item. Through: its acts, with their outcomes. Stopped: the streams go on another
+-- way than the acts, of which these were tried. Refused: one of the auditor's own reasons
 pub data Turn : Type 0 where
   Through : List Act → List Outcome → Turn
   Stopped : List Act → Turn
@@ -75,7 +76,8 @@ attempt top s true is_too_wide (Some acts) = Refused reason.Uncaused
 attempt top s false true (Some acts) = Refused reason.TooWide
 attempt top s false false (Some acts) = turn_by top s acts (run_from top s acts)
 
--- the acts of a move from this state; none if its process isn't there, or the message that it receives
+-- the acts of a move from this state; none if its process isn't there, or the message that it
+-- receives
 abbrev pub acts_from : List Stream → Marks → State → Move → Option (List Act)
 acts_from streams marks s m = option_and_then (λ r. acts_of streams marks r m) (process s m.who)
 
@@ -95,18 +97,21 @@ compared_turn m (Refused r) = Refused r
 -- what comes of a move from this state, after those earlier ones, if its event is told
 abbrev pub turn : ℕ → List Stream → Marks → State → List Move → Move → Turn
 turn top streams marks s earlier m = if out_of_turn earlier m then Stopped [] else
-    compared_turn m (attempt top s (uncaused earlier m) (too_wide earlier m) (acts_from streams marks s m))
+    compared_turn m (attempt top s (uncaused earlier m) (too_wide earlier m)
+    (acts_from streams marks s m))
 
 -- ALL ITEMS
 
--- How the construction ends. Judged: acts for the checker, and the place of the last item that was tried. Unfounded: a
--- reason of the auditor's own, and the place of the item of which it holds
+-- How the construction ends. Judged: acts for the checker, and the place of the last item that was
+-- tried. Unfounded: a reason of the auditor's own, and the place of the item of which it holds
 pub data End : Type 0 where
   Judged : List Act → Option (Pid × ℕ) → End
   Unfounded : Pid × ℕ → Reason → End
 
--- What comes of these moves, with these acts before them. If none of them stops it, it ends at the place `end`
-abbrev pub course : ℕ → List Stream → Option (Pid × ℕ) → State → List Move → List Act → List Move → End
+-- What comes of these moves, with these acts before them. If none of them stops it, it ends at the
+-- place `end`
+abbrev pub course : ℕ → List Stream → Option (Pid × ℕ) → State → List Move → List Act → List Move
+    → End
 course top streams end s earlier acts [] = Judged acts end
 course top streams end s earlier acts (m ∷ ms) = elim (turn top streams all_told s earlier m) [
   | Through more os ↦ course top streams end (state_after s os) (m ∷ earlier) (acts ++ more) ms
@@ -141,7 +146,8 @@ abbrev pub IsFoundAt : ℕ → List Stream → End → Finding → Type 0
 IsFoundAt top streams (Judged acts end) (finding.Fits found pairs) =
     (found ≡ acts) × verdicts.IsVerdict top streams acts (verdicts.Yes pairs)
 IsFoundAt top streams (Judged acts end) (finding.Unfit p i (reason.NotReplayed found v)) =
-    (found ≡ acts) × (end ≡ Some (p, i)) × verdicts.IsVerdict top streams acts (verdict_of v) × IsNo (verdict_of v)
+    (found ≡ acts) × (end ≡ Some (p, i)) × verdicts.IsVerdict top streams acts (verdict_of v)
+    × IsNo (verdict_of v)
 IsFoundAt top streams (Judged acts end) found = ⊥
 IsFoundAt top streams (Unfounded at r) found = found ≡ finding.Unfit at.0 at.1 r
 

@@ -31,12 +31,15 @@ IsReason top streams p i (reason.Mismatch q j) = refusal streams ≡ Some (fault
 IsReason top streams p i reason.Uncaused = (refusal streams ≡ None) × HoldsAt uncaused streams p i
 IsReason top streams p i reason.TooWide = (refusal streams ≡ None) × HoldsAt too_wide streams p i
 IsReason top streams p i (reason.NotReplayed acts v) =
-    (refusal streams ≡ None) × verdicts.IsVerdict top streams acts (verdict_of v) × IsNo (verdict_of v)
+    (refusal streams ≡ None) × verdicts.IsVerdict top streams acts (verdict_of v)
+    × IsNo (verdict_of v)
 
 -- a certificate that the checker accepts; or an event that is there, and a reason that holds there
 abbrev pub IsFinding : ℕ → List Stream → Finding → Type 0
-IsFinding top streams (finding.Fits acts pairs) = verdicts.IsVerdict top streams acts (verdicts.Yes pairs)
-IsFinding top streams (finding.Unfit p i r) = IsSome (event_at streams p i) × IsReason top streams p i r
+IsFinding top streams (finding.Fits acts pairs) =
+    verdicts.IsVerdict top streams acts (verdicts.Yes pairs)
+IsFinding top streams (finding.Unfit p i r) =
+    IsSome (event_at streams p i) × IsReason top streams p i r
 
 -- a reason of pairing as a finding
 abbrev pub unfit_by : PairFault → Option Finding

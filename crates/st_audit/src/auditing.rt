@@ -1,13 +1,12 @@
 //! The auditor.
 
-ghost use Rattle.std.specs.Prelude.{◌≡◌, ◌⊎◌, IfErr, IfOk, IsSome, None, [], ◌∷◌, Some};
-ghost use Rattle.st_core.specs.Run.{pids_of, Shows};
+ghost use Rattle.std.specs.Prelude.{◌≡◌, ◌⊎◌, IfOk, None, [], Some};
+ghost use Rattle.st_core.specs.Run.{pids_of};
 ghost use Rattle.st_core.specs.Streams.{IsStreams};
 ghost use Rattle.std.specs.Option.{ForSome};
 ghost use Rattle.st_order.specs.Order.{IsOrder};
 ghost use Rattle.st_pair.specs.Links.{IsPairing};
-ghost use Rattle.st_pair.specs.Pairing.{refusal, IsPairFault};
-ghost use Rattle.st_pair.specs.Places.{event_at};
+ghost use Rattle.st_pair.specs.Pairing.{refusal};
 ghost use Rattle.st_pair.specs.Final.{RulesOut};
 ghost use Rattle.st_audit.specs.Construction.{end_of, IsAudit, IsFoundAt, Judged};
 ghost use Rattle.st_audit.specs.Findings.{fault_of, unfit_by, HandsOn, IsFinding, IsCertificate};
@@ -52,11 +51,7 @@ fn judge<const TOP: u64>(
     acts: Sequence<Act>,
     place: (Pid, u64),
 ) -> Result<Finding, AuditFault>
-    requires there { IsSome (event_at streams.now place.0 place.1) }
-    requires accepted { refusal streams.now ≡ None }
-    ensures found { IfOk result (IsFinding TOP streams.now) }
     ensures exact { IfOk result (IsFoundAt TOP streams.now (Judged acts (Some place))) }
-    ensures shown { Shows TOP streams.now acts → IfOk result IsCertificate }
 {
     match check::<TOP>(alloc, streams, acts.as_slice()) {
         Err(_) => Err(AuditFault::Memory),
@@ -71,9 +66,7 @@ fn finding_of_nothing<const TOP: u64>(
     streams: &Streams,
 ) -> Result<Finding, AuditFault>
     requires { IsOrder streams.now [] }
-    ensures found { IfOk result (IsFinding TOP streams.now) }
     ensures exact { IfOk result (IsFoundAt TOP streams.now (Judged [] None)) }
-    ensures fits { IfOk result IsCertificate }
 {
     let acts = Sequence::new(alloc);
     match check::<TOP>(alloc, streams, acts.as_slice()) {
@@ -95,13 +88,11 @@ fn finding_in_order<const TOP: u64>(
     items: &[Item],
 ) -> Result<Finding, AuditFault>
     requires streams { IsStreams streams.now }
+    requires pids { pids.now ≡ pids_of streams.now }
     requires accepted { refusal streams.now ≡ None }
+    requires paired { IsPairing streams.now pairing.now }
     requires order { IsOrder streams.now items.now }
-    ensures found { IfOk result (IsFinding TOP streams.now) }
-    ensures exact { IsPairing streams.now pairing.now → pids.now ≡ pids_of streams.now →
-        IfOk result (IsFoundAt TOP streams.now (end_of TOP streams.now items.now)) }
-    ensures plain_fits { IsPairing streams.now pairing.now → pids.now ≡ pids_of streams.now →
-        IsPlain TOP streams.now → IfOk result IsCertificate }
+    ensures exact { IfOk result (IsFoundAt TOP streams.now (end_of TOP streams.now items.now)) }
 {
     if items.is_empty() {
         return finding_of_nothing::<TOP>(alloc, streams);
@@ -136,11 +127,8 @@ fn finding_of<const TOP: u64>(
     alloc: Global,
     streams: &Streams,
 ) -> Result<Finding, AuditFault>
-    ensures found { IfOk result (IsFinding TOP streams.now) }
+    ensures streams { IsStreams streams.now }
     ensures exact { IfOk result (IsAudit TOP streams.now) }
-    ensures handed_on { IfOk result (HandsOn streams.now) }
-    ensures certain { IfOk result (λ found.
-        IsPlain TOP streams.now ⊎ IsFullyShown TOP streams.now → IsCertificate found) }
 {
     let pids = streams.pids();
     let pairing = match pair(alloc, streams) {

@@ -54,7 +54,7 @@ fn build<const TOP: u64, M: Tells>(
 }
 
 /// Acts without a reset that show those events of the streams that are told, if the streams are
-/// plain; else there may be none, and the checker says what the acts are worth.
+/// plain; else there may be none, and the checker judges the acts.
 ///
 /// It sorts on several threads, with one result for every number of threads.
 pub fn told_acts<const TOP: u64, M: Tells>(

@@ -3,18 +3,14 @@
 //!
 //! After each item the clock and the last count of each process are what the items so far make of
 //! them. It stops if a reason of the auditor's own holds of an item, or if the world
-//! doesn't go the way of the streams; what the acts are then worth the checker says.
+//! doesn't go the way of the streams; the checker then judges the acts.
 
-ghost use Rattle.std.specs.Prelude.{◌≡◌, ◌+◌, ◌++◌, ◌<◌, ◌↔◌, [], ◌∷◌, length, option_map, Bool};
-ghost use Rattle.std.specs.Prelude.{IfErr, IfOk, IsSome, IsTrue, None, List, OnOk, Some, true, take, slice_get};
-ghost use Rattle.std.specs.Prelude.{if◌then◌else◌, ℕ};
-ghost use Rattle.st_core.specs.Run.{pids_of, run_from, Stream};
-ghost use Rattle.st_core.specs.declared.types.Act.TheVariants as act;
+ghost use Rattle.std.specs.Prelude.{◌≡◌, ◌+◌, ◌<◌, ◌↔◌, ◌&&◌, [], ◌∷◌, length, not, take, ℕ};
+ghost use Rattle.std.specs.Prelude.{option_map};
+ghost use Rattle.std.specs.Prelude.{if◌then◌else◌, slice_get, IfOk, IsTrue, List, None, OnOk, Some};
+ghost use Rattle.st_core.specs.Run.{pids_of, Stream};
 ghost use Rattle.st_core.specs.declared.types.Event.{Event as EventValue};
-ghost use Rattle.st_core.specs.declared.types.Pid.{Pid as PidValue};
-ghost use Rattle.st_core.specs.declared.types.Want.TheVariants as want;
-ghost use Rattle.st_core.specs.State.{process, zero_state, Process};
-ghost use Rattle.st_core.specs.Step.{step};
+ghost use Rattle.st_core.specs.State.{process, zero_state};
 ghost use Rattle.st_core.specs.Streams.{IsStreams};
 ghost use Rattle.st_pair.specs.Links.{IsPairing};
 ghost use Rattle.st_pair.specs.Pairing.{refusal};
@@ -23,17 +19,13 @@ ghost use Rattle.st_order.specs.declared.item.Item.{Item as ItemValue};
 ghost use Rattle.st_order.specs.declared.item.Item.TheVariants as item;
 ghost use Rattle.st_order.specs.Items.{event_of};
 ghost use Rattle.st_order.specs.Order.{IsOrder};
-ghost use Rattle.st_world.specs.World.{outcome_to, place_in};
-ghost use Rattle.st_plan.specs.Build.{flags_of, ready, start_of, tracers_after, GoesOn};
+ghost use Rattle.st_plan.specs.Build.{flags_of, start_of, tracers_after};
 ghost use Rattle.st_plan.specs.Moves.{earlier_of, move_by};
-ghost use Rattle.st_audit.specs.Progress.{if_told, is_too_wide, is_uncaused, missing_count};
-ghost use Rattle.st_audit.specs.Progress.{AreCounted, IsClockBelow, IsHalt};
-ghost use Rattle.st_audit.specs.Progress.{IsActed, IsActHalt, IsHiddenDone, IsPlainHalt, IsReportedDone, IsSoFar};
-ghost use Rattle.st_audit.specs.Progress.{StampsEvent, IsStampHalt, IsStampHaltAt, IsStampOf, IsTaken, Ran};
-ghost use Rattle.st_audit.specs.Progress.{AreTold, PutsActs, HasTold, IsNoStop, Makes, Serves, TellsOne};
-ghost use Rattle.st_audit.specs.Progress.{move_turn, report_turn, stamp_turn, take_turn, IsCountedAs, IsStuck, Meets};
-ghost use Rattle.st_audit.specs.Progress.{SaysNothing, TellsLast};
-ghost use Rattle.st_audit.specs.Construction.{turn};
+ghost use Rattle.st_audit.specs.Progress.{acts_turn, if_told, is_below, is_too_wide, is_uncaused};
+ghost use Rattle.st_audit.specs.Progress.{item_turn, missing_count, move_skip, move_turn};
+ghost use Rattle.st_audit.specs.Progress.{report_turn, stamp_skip, stamp_turn, take_turn};
+ghost use Rattle.st_audit.specs.Progress.{IsCountedAs, IsSoFar, Meets, SaysNothing, TellsLast};
+ghost use Rattle.st_audit.specs.Progress.{TellsOne};
 
 use st_core::{Act, Event, Flags, Kind, Pid, Sequence, Serial, Streams, Want};
 use st_order::Item;
@@ -105,7 +97,8 @@ fn with_skipped(skipped: u64, more: u64) -> Option<u64>
 /// received under a flag exactly if a receive that is told is paired with it.
 fn flags_of<M: Tells>(marks: &M, pairing: &Pairing, pid: Pid, index: u64, event: &Event) -> Flags
     ensures { (streams : List Stream) → IsPairing streams pairing.now →
-        result ≡ flags_of streams (M.marks marks.now) (move_by (item.Reported pid index) event.now) }
+        result ≡ flags_of streams (M.marks marks.now)
+        (move_by (item.Reported pid index) event.now) }
 {
     match event.kind {
         Kind::Send => Flags {
@@ -148,11 +141,9 @@ fn is_report(report: Option<Event>, event: &Event, is_told: bool) -> bool
 impl<const TOP: u64> Construction<TOP> {
     /// No items yet, and no acts.
     pub(crate) fn new(alloc: Global, streams: &Streams) -> Result<Construction<TOP>, AllocError>
-        ensures so_far { IfOk result (λ c. IsSoFar streams.now [] c.world c.skipped) }
-        ensures told { IfOk result (λ c. length c.told.items ≡ length streams.now) }
-        ensures acts { IfOk result (λ c. c.acts ≡ []) }
+        ensures so_far { IfOk result (λ c. IsSoFar streams.now [] c) }
         ensures world { IfOk result (λ c. c.world ≡ zero_state (pids_of streams.now)) }
-        ensures tells { IfOk result (λ c. AreTold streams.now [] c.told.items) }
+        ensures acts { IfOk result (λ c. c.acts ≡ []) }
     {
         let pids = streams.pids();
         let Ok(world) = World::new(alloc, pids) else {
@@ -182,15 +173,10 @@ impl<const TOP: u64> Construction<TOP> {
 
     /// Puts a tracer on each node, by its least pid.
     pub(crate) fn open(&mut self, pids: &[Pid]) -> Result<(), Halt>
-        requires { AreCounted [] self.old.world }
-        ensures counted { OnOk result (AreCounted [] self.new.world) }
-        ensures ran { OnOk result (Ran TOP self.old.world (tracers_after None pids.now) self.new.world) }
-        ensures acts { OnOk result (self.new.acts ≡ self.old.acts ++ tracers_after None pids.now) }
-        ensures goes { IsSome (run_from TOP self.old.world (tracers_after None pids.now)) →
-            IfErr result IsNoStop }
-        ensures skipped { self.new.skipped ≡ self.old.skipped }
-        ensures told { self.new.told ≡ self.old.told }
-        ensures halt { IfErr result IsPlainHalt }
+        ensures exact { Meets SaysNothing
+            (acts_turn TOP self.old.world (tracers_after None pids.now)) self.old result self.new }
+        ensures so_far { (streams : List Stream) → IsSoFar streams [] self.old →
+            OnOk result (IsSoFar streams [] self.new) }
     {
         let mut node: Option<u16> = None;
         for &pid in pids {
@@ -204,13 +190,10 @@ impl<const TOP: u64> Construction<TOP> {
 
     /// Puts the act at the end, and steps it.
     fn perform(&mut self, act: Act) -> Result<Outcome, Halt>
-        ensures step { IfOk result (λ told. step TOP self.old.world act ≡ Some (outcome_to told self.new.world)) }
-        ensures acts { OnOk result (self.new.acts ≡ self.old.acts ++ act ∷ []) }
-        ensures goes { IsSome (step TOP self.old.world act) → IfErr result IsNoStop }
-        ensures stuck { IfErr result (λ h. IsStuck TOP self.old.world (act ∷ []) self.old.acts h self.new.acts) }
+        ensures exact { Meets TellsLast (acts_turn TOP self.old.world (act ∷ []))
+            self.old result self.new }
         ensures skipped { self.new.skipped ≡ self.old.skipped }
         ensures told { self.new.told ≡ self.old.told }
-        ensures halt { IfErr result IsPlainHalt }
     {
         let Ok(()) = self.acts.push(act) else {
             return Err(Halt::Memory);
@@ -224,13 +207,10 @@ impl<const TOP: u64> Construction<TOP> {
 
     /// The same for acts in a row.
     fn perform_all(&mut self, plan: &[Act]) -> Result<(), Halt>
-        ensures ran { OnOk result (Ran TOP self.old.world plan.now self.new.world) }
-        ensures acts { OnOk result (self.new.acts ≡ self.old.acts ++ plan.now) }
-        ensures goes { IsSome (run_from TOP self.old.world plan.now) → IfErr result IsNoStop }
-        ensures stuck { IfErr result (λ h. IsStuck TOP self.old.world plan.now self.old.acts h self.new.acts) }
+        ensures exact { Meets SaysNothing (acts_turn TOP self.old.world plan.now)
+            self.old result self.new }
         ensures skipped { self.new.skipped ≡ self.old.skipped }
         ensures told { self.new.told ≡ self.old.told }
-        ensures halt { IfErr result IsPlainHalt }
     {
         for &act in plan {
             self.perform(act)?;
@@ -260,16 +240,11 @@ impl<const TOP: u64> Construction<TOP> {
         flags: Flags,
         act: Act,
     ) -> Result<Outcome, Halt>
-        requires { IsStampOf pid act }
-        ensures stamped { IfOk result (λ told. StampsEvent TOP self.old.world self.old.skipped pid event.now flags told
-            self.new.world self.new.skipped) }
-        ensures makes { (before : Process) → process self.old.world pid ≡ Some before →
-            Makes TOP (ready pid (start_of before.local) event.now.label event.now.serial flags) act
-            self.old.world self.old.acts result self.new.world self.new.acts }
-        ensures exact { Meets TellsLast (stamp_turn TOP self.old.world self.old.skipped pid event.now flags act)
-            self.old.world self.old.acts result self.new.world self.new.acts }
+        ensures exact { Meets TellsLast (stamp_turn self.old pid event.now flags act)
+            self.old result self.new }
+        ensures skipped { OnOk result
+            (self.new.skipped ≡ stamp_skip self.old.world pid event.now + self.old.skipped) }
         ensures told { self.new.told ≡ self.old.told }
-        ensures halt { IfErr result (IsStampHalt self.old.world self.old.skipped pid event.now) }
     {
         let Some(start) = self.start(pid) else {
             return Err(Halt::Stopped);
@@ -291,15 +266,10 @@ impl<const TOP: u64> Construction<TOP> {
 
     /// Lets the process take the message whose token has the event's from and count.
     fn receive(&mut self, pid: Pid, event: &Event) -> Result<Outcome, Halt>
-        ensures taken { IfOk result (λ told. IsTaken TOP self.old.world pid event.now told self.new.world) }
-        ensures makes { (place : ℕ) → place_in self.old.world pid event.now.from event.now.serial.this ≡ Some place →
-            Makes TOP [] (act.Receive pid (want.Place place)) self.old.world self.old.acts result
-            self.new.world self.new.acts }
-        ensures exact { Meets TellsLast (take_turn TOP self.old.world pid event.now)
-            self.old.world self.old.acts result self.new.world self.new.acts }
+        ensures exact { Meets TellsLast (take_turn self.old pid event.now)
+            self.old result self.new }
         ensures skipped { self.new.skipped ≡ self.old.skipped }
         ensures told { self.new.told ≡ self.old.told }
-        ensures halt { IfErr result IsPlainHalt }
     {
         match self.world.place_of(pid, event.from, event.serial.this) {
             None => Err(Halt::Stopped),
@@ -316,18 +286,13 @@ impl<const TOP: u64> Construction<TOP> {
         pid: Pid,
         index: u64,
     ) -> Result<(), Halt>
-        ensures done { OnOk result (IsHiddenDone TOP streams.now self.old.world self.old.skipped pid index
-            self.new.world self.new.skipped) }
-        ensures follows { (e : EventValue) → event_at streams.now pid index ≡ Some e →
-            (g : GoesOn TOP streams.now (M.marks marks.now) self.old.world (move_by (item.Hidden pid index) e)) →
-            PutsActs g.acts g.outcomes self.old.world self.old.acts result self.new.world self.new.acts }
         ensures exact { (e : EventValue) → event_at streams.now pid index ≡ Some e →
-            Meets SaysNothing (move_turn TOP streams.now (M.marks marks.now) self.old.world self.old.skipped
-            (move_by (item.Hidden pid index) e))
-            self.old.world self.old.acts result self.new.world self.new.acts }
+            Meets SaysNothing (move_turn streams.now (M.marks marks.now) self.old
+            (move_by (item.Hidden pid index) e)) self.old result self.new }
+        ensures skipped { (e : EventValue) → event_at streams.now pid index ≡ Some e →
+            OnOk result (self.new.skipped ≡
+            move_skip self.old.world (move_by (item.Hidden pid index) e) + self.old.skipped) }
         ensures told { self.new.told ≡ self.old.told }
-        ensures halt { IfErr result (IsStampHaltAt streams.now pid index (λ e. e.from) (λ e. true)
-            self.old.world self.old.skipped) }
     {
         let Some(event) = streams.event(pid, index) else {
             return Err(Halt::Stopped);
@@ -355,21 +320,12 @@ impl<const TOP: u64> Construction<TOP> {
         index: u64,
         event: &Event,
     ) -> Result<Outcome, Halt>
-        ensures acted { IfOk result (λ told. IsActed (is_stamp event.now) TOP self.old.world self.old.skipped pid
-            event.now told self.new.world self.new.skipped) }
-        ensures follows { (streams : List Stream) → IsPairing streams pairing.now →
-            (g : GoesOn TOP streams (M.marks marks.now) self.old.world (move_by (item.Reported pid index) event.now)) →
-            PutsActs g.acts g.outcomes self.old.world self.old.acts result self.new.world self.new.acts }
-        ensures reports { (streams : List Stream) → IsPairing streams pairing.now →
-            GoesOn TOP streams (M.marks marks.now) self.old.world (move_by (item.Reported pid index) event.now) →
-            event.now.serial.prev < event.now.serial.this →
-            IfOk result (λ told. told.report ≡ if_told (M.marks marks.now pid index) event.now) }
         ensures exact { (streams : List Stream) → IsPairing streams pairing.now →
-            Meets TellsLast (move_turn TOP streams (M.marks marks.now) self.old.world self.old.skipped
-            (move_by (item.Reported pid index) event.now))
-            self.old.world self.old.acts result self.new.world self.new.acts }
+            Meets TellsLast (move_turn streams (M.marks marks.now) self.old
+            (move_by (item.Reported pid index) event.now)) self.old result self.new }
+        ensures skipped { OnOk result (self.new.skipped ≡ move_skip self.old.world
+            (move_by (item.Reported pid index) event.now) + self.old.skipped) }
         ensures told { self.new.told ≡ self.old.told }
-        ensures halt { IfErr result (IsActHalt (is_stamp event.now) self.old.world self.old.skipped pid event.now) }
     {
         let flags = flags_of(marks, pairing, pid, index, event);
         match event.kind {
@@ -384,12 +340,20 @@ impl<const TOP: u64> Construction<TOP> {
 
     /// Whether the process's clock is below the event's count.
     fn is_below(&self, pid: Pid, event: &Event) -> bool
-        ensures { IsTrue result ↔ IsClockBelow self.now.world pid event.now }
+        ensures { result ≡ is_below self.now.world pid event.now }
     {
         match self.world.clock(pid) {
             None => true,
             Some(clock) => clock < event.serial.this,
         }
+    }
+
+    /// Whether the event is a stamp that isn't told, though the clock isn't below its count.
+    fn is_high(&self, pid: Pid, event: &Event, is_told: bool) -> bool
+        ensures { result ≡ (not is_told &&
+            (is_stamp event.now && not (is_below self.now.world pid event.now))) }
+    {
+        !is_told && is_stamp(event) && !self.is_below(pid, event)
     }
 
     /// The event at this place, if it is the next of its process, by an act that reports it
@@ -404,24 +368,17 @@ impl<const TOP: u64> Construction<TOP> {
         index: u64,
     ) -> Result<(), Halt>
         requires { length self.old.told.items ≡ length streams.now }
-        ensures done { OnOk result (IsReportedDone TOP streams.now (M.marks marks.now) self.old.world self.old.skipped
-            pid index self.new.world self.new.skipped) }
-        ensures follows { (e : EventValue) → event_at streams.now pid index ≡ Some e →
-            e.serial.prev < e.serial.this → IsPairing streams.now pairing.now →
-            HasTold streams.now self.old.told.items pid index →
-            (is_stamp e ≡ true → IsClockBelow self.old.world pid e) →
-            (g : GoesOn TOP streams.now (M.marks marks.now) self.old.world (move_by (item.Reported pid index) e)) →
-            PutsActs g.acts g.outcomes self.old.world self.old.acts result self.new.world self.new.acts }
-        ensures exact { (e : EventValue) → event_at streams.now pid index ≡ Some e →
-            IsPairing streams.now pairing.now → M.marks marks.now pid index ≡ true → (n : ℕ) →
+        ensures exact { (e : EventValue) (n : ℕ) → event_at streams.now pid index ≡ Some e →
+            IsPairing streams.now pairing.now →
             IsCountedAs streams.now self.old.told.items pid n →
-            Meets SaysNothing (report_turn TOP streams.now (M.marks marks.now) self.old.world self.old.skipped n
-            (move_by (item.Reported pid index) e) index)
-            self.old.world self.old.acts result self.new.world self.new.acts }
-        ensures tells { OnOk result (TellsOne streams.now pid index self.old.told.items self.new.told.items) }
+            Meets SaysNothing (report_turn streams.now (M.marks marks.now) self.old n
+            (move_by (item.Reported pid index) e)) self.old result self.new }
+        ensures skipped { (e : EventValue) → event_at streams.now pid index ≡ Some e →
+            OnOk result (self.new.skipped ≡
+            move_skip self.old.world (move_by (item.Reported pid index) e) + self.old.skipped) }
+        ensures tells { OnOk result
+            (TellsOne streams.now pid index self.old.told.items self.new.told.items) }
         ensures told { length self.new.told.items ≡ length self.old.told.items }
-        ensures halt { IfErr result (IsStampHaltAt streams.now pid index (λ e. pid) is_stamp
-            self.old.world self.old.skipped) }
     {
         let Some(place) = streams.place_of(pid) else {
             return Err(Halt::Stopped);
@@ -433,7 +390,7 @@ impl<const TOP: u64> Construction<TOP> {
             return Err(Halt::Stopped);
         };
         let is_told = marks.is_told(pid, index);
-        if !is_told && is_stamp(&event) && !self.is_below(pid, &event) {
+        if self.is_high(pid, &event, is_told) {
             return Err(Halt::Stopped);
         }
         let told = self.act(alloc, pairing, marks, pid, index, &event)?;
@@ -458,30 +415,16 @@ impl<const TOP: u64> Construction<TOP> {
         requires streams { IsStreams streams.now }
         requires order { IsOrder streams.now items.now }
         requires accepted { refusal streams.now ≡ None }
-        requires so_far { IsSoFar streams.now (take number items.now) self.old.world self.old.skipped }
-        requires told { length self.old.told.items ≡ length streams.now }
-        ensures so_far { OnOk result
-            (IsSoFar streams.now (take (number + 1) items.now) self.new.world self.new.skipped) }
-        ensures follows { (x : ItemValue) → slice_get items.now number ≡ Some x →
-            IsPairing streams.now pairing.now →
-            AreTold streams.now (earlier_of streams.now (take number items.now)) self.old.told.items →
-            (m : Serves TOP streams.now (M.marks marks.now) (earlier_of streams.now (take number items.now)) x
-            self.old.world) →
-            PutsActs m.goes.acts m.goes.outcomes self.old.world self.old.acts result
-            self.new.world self.new.acts }
+        requires paired { IsPairing streams.now pairing.now }
+        requires so_far { IsSoFar streams.now
+            (earlier_of streams.now (take number items.now)) self.old }
         ensures exact { (x : ItemValue) (e : EventValue) → slice_get items.now number ≡ Some x →
-            event_of streams.now x ≡ Some e → IsPairing streams.now pairing.now →
-            ((p : PidValue) (i : ℕ) → M.marks marks.now p i ≡ true) →
-            AreTold streams.now (earlier_of streams.now (take number items.now)) self.old.told.items →
-            Meets SaysNothing (turn TOP streams.now (M.marks marks.now) self.old.world
+            event_of streams.now x ≡ Some e →
+            Meets SaysNothing (item_turn streams.now (M.marks marks.now) self.old
             (earlier_of streams.now (take number items.now)) (move_by x e))
-            self.old.world self.old.acts result self.new.world self.new.acts }
-        ensures tells { AreTold streams.now (earlier_of streams.now (take number items.now)) self.old.told.items →
-            OnOk result (AreTold streams.now (earlier_of streams.now (take (number + 1) items.now))
-            self.new.told.items) }
-        ensures told { length self.new.told.items ≡ length streams.now }
-        ensures halt { (x : ItemValue) → slice_get items.now number ≡ Some x →
-            IfErr result (IsHalt streams.now (take number items.now) x) }
+            self.old result self.new }
+        ensures so_far { OnOk result (IsSoFar streams.now
+            (earlier_of streams.now (take (number + 1) items.now)) self.new) }
     {
         match items[number] {
             Item::Reported(pid, index) => self.report(alloc, streams, pairing, marks, pid, index),

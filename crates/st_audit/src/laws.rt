@@ -1,5 +1,6 @@
-//! Laws of the finding that the streams determine, as the contracts of functions that do nothing: each clause is a
-//! theorem over the definitions of `specs/`, and a proof that calls the function may use it.
+//! Laws of the finding that the streams determine, as the contracts of functions that do nothing:
+//! each clause is a theorem over the definitions of `specs/`, and a proof that calls the function
+//! may use it.
 
 ghost use Rattle.std.specs.Prelude.{◌≡◌, ◌⊎◌, ℕ, List};
 ghost use Rattle.st_core.specs.Run.{Stream};
@@ -10,22 +11,24 @@ ghost use Rattle.st_audit.specs.declared.finding.Finding.{Finding as FindingValu
 ghost use Rattle.st_audit.specs.Construction.{IsAudit};
 ghost use Rattle.st_audit.specs.Findings.{IsCertificate, IsFinding};
 
-/// The streams have one finding at most, its acts and pairs included: so `audit` returns the same one each time, for
-/// every number of threads, unless memory runs out.
+/// The streams have one finding at most, its acts and pairs included: so `audit` returns the same
+/// one each time, for every number of threads, unless memory runs out.
 pub fn one_finding()
     ensures { (top : ℕ) (streams : List Stream) (one other : FindingValue) → IsAudit top streams one
         → IsAudit top streams other → one ≡ other }
 {}
 
-/// It holds of them: it is a certificate that the checker accepts, or the event that it names is there and its reason
-/// holds at it.
+/// It holds of them: it is a certificate that the checker accepts, or the event that it names is
+/// there and its reason holds at it.
 pub fn findings_hold()
     ensures { (top : ℕ) (streams : List Stream) (found : FindingValue) → IsStreams streams
         → IsAudit top streams found → IsFinding top streams found }
 {}
 
-/// It is a certificate if no reason holds of the streams, or if some run without a reset reported all of itself.
+/// It is a certificate if no reason holds of the streams, or if some run without a reset reported
+/// all of itself.
 pub fn certain_streams_fit()
     ensures { (top : ℕ) (streams : List Stream) (found : FindingValue) → IsStreams streams
-        → IsPlain top streams ⊎ IsFullyShown top streams → IsAudit top streams found → IsCertificate found }
+        → IsPlain top streams ⊎ IsFullyShown top streams → IsAudit top streams found
+        → IsCertificate found }
 {}

@@ -1,7 +1,7 @@
 //! The auditor: finds a certificate for collected streams, or an event and a reason.
 //!
-//! It knows the streams, their pairing and their order, builds acts from them, and asks the checker.
-//! A certificate that it hands out is one that the checker accepted. It knows no text.
+//! It knows the streams, their pairing and their order, builds acts from them, and asks the
+//! checker. A certificate that it hands out is one that the checker accepted. It knows no text.
 #![tactic(auto)]
 
 mod auditing;

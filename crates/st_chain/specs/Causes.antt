@@ -49,7 +49,8 @@ event_in (Some cause.Start) = None
 -- the list goes on from this place, each place the cause of the one before, until Hidden or Start
 abbrev pub IsBackFrom : List Stream → Option (Pid × ℕ) → List (Pid × ℕ) → Type 0
 IsBackFrom streams at [] = at ≡ None
-IsBackFrom streams at (x ∷ rest) = (at ≡ Some x) × IsBackFrom streams (event_in (cause_at streams x.0 x.1)) rest
+IsBackFrom streams at (x ∷ rest) =
+    (at ≡ Some x) × IsBackFrom streams (event_in (cause_at streams x.0 x.1)) rest
 
 -- the place of the event at (p, i), if there is one
 abbrev pub place_at : List Stream → Pid → ℕ → Option (Pid × ℕ)

@@ -6,11 +6,12 @@ use Rattle.st_core.specs.declared.types.Event.{Event}
 use Rattle.st_core.specs.Run.{Stream}
 use Rattle.st_core.specs.Streams.{events_of}
 
--- the indexes of those of these events that have the label, where the first of them stands at index i
+-- the indexes of those of these events that have the label, if the first of them stands at index i
 abbrev pub labelled_indexes : Label → ℕ → List Event → List ℕ
 labelled_indexes label i [] = []
 labelled_indexes label i (e ∷ es) =
-    if e.label.0 == label.0 then i ∷ labelled_indexes label (i + 1) es else labelled_indexes label (i + 1) es
+    if e.label.0 == label.0 then i
+    ∷ labelled_indexes label (i + 1) es else labelled_indexes label (i + 1) es
 
 -- the indexes of p's events with the label, rising
 abbrev pub chain : List Stream → Pid → Label → List ℕ

@@ -1,5 +1,6 @@
 -- How the chains of all processes and labels are kept: each is a list that has a number.
-use Rattle.std.specs.Prelude.{◌≡◌, ℕ, ◌<◌, List, [], ◌∷◌, ◌++◌, length, Option, Some, None, if◌then◌else◌}
+use Rattle.std.specs.Prelude.{◌≡◌, ℕ, ◌<◌, List, [], ◌∷◌, ◌++◌, length, Option, Some, None}
+use Rattle.std.specs.Prelude.{if◌then◌else◌}
 use Rattle.std.specs.declared.cmp.Ordering.{Ordering}
 use Rattle.std.specs.Ordering.{nat_cmp, ordering_then}
 use Rattle.st_core.specs.declared.types.Pid.{Pid}
@@ -30,10 +31,13 @@ listed_under (s ∷ rest) key = part_from s.pid 0 s.events key ++ listed_under r
 -- a key has one number at most, below the count, and shares it with no other
 pub record AreNumbers (number : ChainKey → Option ℕ) (count : ℕ) : Type 0 where
   pub within : (key : ChainKey) (n : ℕ) → number key ≡ Some n → n < count
-  pub apart : (key other : ChainKey) (n : ℕ) → number key ≡ Some n → number other ≡ Some n → key ≡ other
+  pub apart : (key other : ChainKey) (n : ℕ) → number key ≡ Some n → number other ≡ Some n
+      → key ≡ other
 
 -- the list with a key's number is its chain, and the chain of a key without a number is empty
-pub record IsTable (streams : List Stream) (number : ChainKey → Option ℕ) (lists : Arena ℕ) : Type 0 where
+pub record IsTable (streams : List Stream) (number : ChainKey → Option ℕ)
+    (lists : Arena ℕ) : Type 0 where
   pub within : (key : ChainKey) (n : ℕ) → number key ≡ Some n → n < length lists.lists
-  pub listed : (key : ChainKey) (n : ℕ) → number key ≡ Some n → list_at lists n ≡ chain_of streams key
+  pub listed : (key : ChainKey) (n : ℕ) → number key ≡ Some n
+      → list_at lists n ≡ chain_of streams key
   pub missing : (key : ChainKey) → number key ≡ None → chain_of streams key ≡ []

@@ -5,12 +5,12 @@ use st_core::Pid;
 /// What an event follows.
 #[derive(Clone, Copy, Debug, PartialEq, Eq)]
 pub enum Cause {
-    /// The event at this place, a process and an index in its stream counted from 0: of a receive
-    /// its send, of a send or print the receive whose count is its prev.
+    /// The event at this place, a process and an index in its stream counted from 0: the send of a
+    /// receive, or the receive whose count is the prev of a send or print.
     Event(Pid, u64),
-    /// Of a receive: a send that nobody reported.
+    /// The send of a receive, if nobody reported it.
     Hidden,
-    /// Of a send or print: no reported receive has that count. It begins a trace, or its cause was
-    /// not reported.
+    /// Nothing that was reported: no receive has the prev of this send or print as its count. It
+    /// begins a trace, or its cause wasn't reported.
     Start,
 }

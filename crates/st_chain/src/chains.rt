@@ -1,17 +1,18 @@
 //! The chains and the causes of all events, and the way back over the causes.
 //!
-//! Of a send or print the last receive whose count is its prev is found once, for all events of a
-//! process in one pass; the rest is read from the streams and their pairing.
+//! The last receive whose count is the prev of a send or print is found once, in one pass over all
+//! events of a process; the rest is read from the streams and their pairing.
 
-ghost use Rattle.std.specs.Prelude.{◌≡◌, ◌+◌, ℕ, List, map, None, Some, IfOk, OnOk, nat_eq, slice_get};
-ghost use Rattle.std.specs.Prelude.{option_and_then};
+ghost use Rattle.std.specs.Prelude.{◌≡◌, ◌+◌, ℕ, List, map, None, Some, IfOk, OnOk, nat_eq};
+ghost use Rattle.std.specs.Prelude.{slice_get, option_and_then};
 ghost use Rattle.indexmap.specs.IndexMap.{get};
 ghost use Rattle.st_core.specs.Run.{Stream};
 ghost use Rattle.st_core.specs.declared.types.Event.{Event as EventValue};
 ghost use Rattle.st_core.specs.Streams.{events_of, IsStreams};
 ghost use Rattle.st_pair.specs.Links.{IsPairing};
 ghost use Rattle.st_pair.specs.Pairing.{refusal, source_at};
-ghost use Rattle.st_chain.specs.Causes.{backs_from, cause_at, event_in, place_at, received_before, IsBackFrom};
+ghost use Rattle.st_chain.specs.Causes.{backs_from, cause_at, event_in, place_at, received_before};
+ghost use Rattle.st_chain.specs.Causes.{IsBackFrom};
 ghost use Rattle.st_chain.specs.Labels.{chain};
 
 use crate::cause::Cause;
@@ -27,7 +28,8 @@ use std::marker::Model;
 fn note(table: &mut IndexMap<u64, u64>, event: &Event, index: u64) -> Result<(), AllocError>
     ensures { (es : List EventValue) → slice_get es index ≡ Some event.now
         → ((this : ℕ) → get nat_eq table.old this ≡ received_before es this index)
-        → OnOk result ((this : ℕ) → get nat_eq table.new this ≡ received_before es this (index + 1)) }
+        → OnOk result ((this : ℕ)
+        → get nat_eq table.new this ≡ received_before es this (index + 1)) }
 {
     match event.kind {
         Kind::Send | Kind::Print => Ok(()),
@@ -56,7 +58,8 @@ fn backs(alloc: Global, events: &[Event]) -> Result<Vec<Option<u64>>, AllocError
 
 /// The receives before all events.
 fn all_backs(alloc: Global, streams: &Streams) -> Result<Vec<Sequence<Option<u64>>>, AllocError>
-    ensures backs { IfOk result (λ v. v.items ≡ map (λ s. backs_from s.events 0 s.events) streams.now) }
+    ensures backs { IfOk result
+        (λ v. v.items ≡ map (λ s. backs_from s.events 0 s.events) streams.now) }
     ensures streams { OnOk result (IsStreams streams.now) }
 {
     let mut lists = Vec::new(alloc);
@@ -118,11 +121,13 @@ impl<'a> Model for Chains<'a> {
     ghost view = { λ a. a.streams.now };
 
     ghost invariant = { λ a.
-        AreChainsKept a.streams.now a.pairing.now a.backs.items (get chain_key_cmp a.table.numbers) a.table.lists };
+        AreChainsKept a.streams.now a.pairing.now a.backs.items
+        (get chain_key_cmp a.table.numbers) a.table.lists };
 }
 
 impl<'a> Chains<'a> {
-    /// The chains of streams, by the pairing that was made from them. Fails only if memory runs out.
+    /// The chains of streams, by the pairing that was made from them. Fails only if memory runs
+    /// out.
     pub fn new(
         alloc: Global,
         streams: &'a Streams,
@@ -198,7 +203,8 @@ impl<'a> Chains<'a> {
         ensures before { result ≡ event_in (cause_at self.now pid index) }
         ensures accepted { refusal self.now ≡ None }
     {
-        // Reading a field shows what the type keeps: that pairing accepted the streams, so that the way back ends.
+        // Reading a field shows what the type keeps: that pairing accepted the streams, so that the
+        // way back ends.
         let _ = &self.backs;
         match self.cause(pid, index) {
             Some(Cause::Event(from, place)) => Some((from, place)),

@@ -1,10 +1,11 @@
 //! The chains of all processes and labels, as lists in one arena.
 //!
-//! The arena wants to know how many lists there are. So one pass over the events numbers the pairs of
-//! a process and a label that they have, and a second one puts each event's index into the list of
-//! its pair.
+//! The arena wants to know how many lists there are. So one pass over the events numbers the pairs
+//! of a process and a label that they have, and a second one puts each event's index into the list
+//! of its pair.
 
-ghost use Rattle.std.specs.Prelude.{◌≡◌, ◌≢◌, ◌++◌, ◌<◌, [], ℕ, List, None, Some, IfOk, OnOk, length};
+ghost use Rattle.std.specs.Prelude.{◌≡◌, ◌≢◌, ◌++◌, ◌<◌, [], ℕ, List, None, Some, IfOk, OnOk};
+ghost use Rattle.std.specs.Prelude.{length};
 ghost use Rattle.std.specs.BTreeMap.{btree_map_len, get};
 ghost use Rattle.st_core.specs.Run.{Stream};
 ghost use Rattle.st_arena.specs.Arena.{list_at};
@@ -39,7 +40,8 @@ pub struct LabelTable {
 impl LabelTable {
     /// The chains of all processes and labels: n log n steps for n events.
     pub fn new(alloc: Global, streams: &Streams) -> Result<LabelTable, AllocError>
-        ensures { IfOk result (λ table. IsTable streams.now (get chain_key_cmp table.numbers) table.lists) }
+        ensures { IfOk result (λ table. IsTable streams.now
+            (get chain_key_cmp table.numbers) table.lists) }
     {
         let numbers = numbers_of(alloc, streams)?;
         let lists = lists_of(alloc, streams, &numbers)?;
@@ -48,8 +50,10 @@ impl LabelTable {
 
     /// The chain of a process and a label, found in logarithmic time.
     pub fn chain(&self, key: ChainKey) -> Chain<'_>
-        requires within { (n : ℕ) → get chain_key_cmp self.now.numbers key ≡ Some n → n < length self.now.lists.lists }
-        ensures { (streams : List Stream) → IsTable streams (get chain_key_cmp self.now.numbers) self.now.lists
+        requires within { (n : ℕ) → get chain_key_cmp self.now.numbers key ≡ Some n
+            → n < length self.now.lists.lists }
+        ensures { (streams : List Stream)
+            → IsTable streams (get chain_key_cmp self.now.numbers) self.now.lists
             → result ≡ chain_of streams key }
     {
         match self.numbers.get(&key) {
@@ -63,7 +67,8 @@ impl LabelTable {
 /// none before.
 fn number(numbers: &mut BTreeMap<ChainKey, usize>, key: ChainKey) -> Result<(), AllocError>
     requires { AreNumbers (get chain_key_cmp numbers.old) (btree_map_len numbers.old) }
-    ensures numbered { OnOk result (AreNumbers (get chain_key_cmp numbers.new) (btree_map_len numbers.new)) }
+    ensures numbered { OnOk result
+        (AreNumbers (get chain_key_cmp numbers.new) (btree_map_len numbers.new)) }
     ensures missing { OnOk result ((other : KeyValue) → get chain_key_cmp numbers.new other ≡ None
         → (get chain_key_cmp numbers.old other ≡ None) × (other ≢ key)) }
 {
@@ -85,7 +90,8 @@ fn number_labels(
     events: &[Event],
 ) -> Result<(), AllocError>
     requires { AreNumbers (get chain_key_cmp numbers.old) (btree_map_len numbers.old) }
-    ensures numbered { OnOk result (AreNumbers (get chain_key_cmp numbers.new) (btree_map_len numbers.new)) }
+    ensures numbered { OnOk result
+        (AreNumbers (get chain_key_cmp numbers.new) (btree_map_len numbers.new)) }
     ensures missing { OnOk result ((key : KeyValue) → get chain_key_cmp numbers.new key ≡ None
         → (get chain_key_cmp numbers.old key ≡ None) × (part_from pid 0 events.now key ≡ [])) }
 {
@@ -100,7 +106,8 @@ fn number_labels(
 fn numbers_of(alloc: Global, streams: &Streams) -> Result<BTreeMap<ChainKey, usize>, AllocError>
     ensures numbered { IfOk result (λ numbers.
         AreNumbers (get chain_key_cmp numbers) (btree_map_len numbers)) }
-    ensures missing { IfOk result (λ numbers. (key : KeyValue) → get chain_key_cmp numbers key ≡ None
+    ensures missing { IfOk result
+        (λ numbers. (key : KeyValue) → get chain_key_cmp numbers key ≡ None
         → chain_of streams.now key ≡ []) }
 {
     let mut numbers = BTreeMap::new(alloc);
@@ -118,7 +125,8 @@ fn list_events(
     events: &[Event],
 ) -> Result<(), AllocError>
     requires { AreNumbers (get chain_key_cmp numbers.now) (length lists.old.lists) }
-    ensures listed { OnOk result ((key : KeyValue) (n : ℕ) → get chain_key_cmp numbers.now key ≡ Some n
+    ensures listed { OnOk result
+        ((key : KeyValue) (n : ℕ) → get chain_key_cmp numbers.now key ≡ Some n
         → list_at lists.new n ≡ list_at lists.old n ++ part_from pid 0 events.now key) }
     ensures count { OnOk result (length lists.new.lists ≡ length lists.old.lists) }
 {
@@ -131,15 +139,16 @@ fn list_events(
     Ok(())
 }
 
-/// The chains of all numbered processes and labels. Their room is made at once, so that none is left
-/// over.
+/// The chains of all numbered processes and labels. Their room is made at once, so that none is
+/// left over.
 fn lists_of(
     alloc: Global,
     streams: &Streams,
     numbers: &BTreeMap<ChainKey, usize>,
 ) -> Result<Lists<u64>, AllocError>
     requires { AreNumbers (get chain_key_cmp numbers.now) (btree_map_len numbers.now) }
-    ensures listed { IfOk result (λ lists. (key : KeyValue) (n : ℕ) → get chain_key_cmp numbers.now key ≡ Some n
+    ensures listed { IfOk result
+        (λ lists. (key : KeyValue) (n : ℕ) → get chain_key_cmp numbers.now key ≡ Some n
         → list_at lists n ≡ chain_of streams.now key) }
     ensures count { IfOk result (λ lists. length lists.lists ≡ btree_map_len numbers.now) }
 {

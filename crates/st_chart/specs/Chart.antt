@@ -1,6 +1,7 @@
--- The chart of one label, as bytes (own profile): a lane for each process, and a line for each item.
-use Rattle.std.specs.Prelude.{ℕ, ◌+◌, ◌==◌, ◌||◌, Bool, false, List, [], ◌∷◌, ◌++◌, filter, codes, decimal}
-use Rattle.std.specs.Prelude.{Option, Some, None, if◌then◌else◌}
+-- The chart of one label, as bytes (own profile): a lane for each process, and a line for each
+-- item.
+use Rattle.std.specs.Prelude.{ℕ, ◌+◌, ◌==◌, ◌||◌, Bool, false, List, [], ◌∷◌, ◌++◌, filter, codes}
+use Rattle.std.specs.Prelude.{decimal, Option, Some, None, if◌then◌else◌}
 use Rattle.std.specs.List.{flat_map, filter_map, list_any}
 use Rattle.std.specs.Option.{option_map_or}
 use Rattle.st_core.specs.declared.types.Pid.{Pid}
@@ -73,7 +74,8 @@ letter (item.Reported p i) kind.Print = codes "   P"
 
 -- the mark in p's lane
 abbrev pub mark : ChartedItem → Pid → List ℕ
-mark x p = if is_at x p then letter x.item x.event.kind else if is_end x.event p then codes "   ." else codes "   |"
+mark x p = if is_at x p then letter x.item x.event.kind else if is_end x.event p then codes "   ."
+    else codes "   |"
 
 -- ---- words
 
@@ -101,7 +103,8 @@ origin_words streams (item.Hidden p i) = codes "unseen"
 -- word, serial, value and cause
 abbrev pub item_words : List Stream → ChartedItem → List ℕ
 item_words streams x =
-    item_word x.item x.event.kind ++ codes " " ++ spelled.serial x.event.serial ++ codes " " ++ decimal x.event.value
+    item_word x.item x.event.kind ++ codes " " ++ spelled.serial x.event.serial ++ codes " "
+    ++ decimal x.event.value
     ++ codes " " ++ origin_words streams x.item
 
 -- a mark in each lane, two spaces, and the words

@@ -8,8 +8,10 @@ use Rattle.st_chart.specs.Chart.{charted_of, is_end, item_line}
 
 -- p is an end of it
 abbrev pub is_end_in : List Stream → Label → Pid → Item → Bool
-is_end_in streams label p x = elim (charted_of streams label x) [ None ↦ false | Some c ↦ is_end c.event p ]
+is_end_in streams label p x =
+    elim (charted_of streams label x) [ None ↦ false | Some c ↦ is_end c.event p ]
 
 -- its line
 abbrev pub line_in : List Stream → Label → List Stream → List Pid → Item → List ℕ
-line_in streams label caused ps x = elim (charted_of streams label x) [ None ↦ [] | Some c ↦ item_line caused ps c ]
+line_in streams label caused ps x =
+    elim (charted_of streams label x) [ None ↦ [] | Some c ↦ item_line caused ps c ]

@@ -65,5 +65,6 @@ unfit_text streams p i r = unfit_line p i r ++ event_line streams p i ++ evidenc
 
 -- the bundle with its acts, or why there is none
 abbrev pub report_text : List Stream → Finding → List ℕ
-report_text streams (finding.Fits acts pairs) = spelling (record { streams = streams; acts = Some acts })
+report_text streams (finding.Fits acts pairs) =
+    spelling (record { streams = streams; acts = Some acts })
 report_text streams (finding.Unfit p i r) = unfit_text streams p i r

@@ -7,8 +7,8 @@ ghost use Rattle.st_text.specs.Room.{buffer_room, line_room};
 ghost use Rattle.st_text.specs.Writing.{WritesOn, WritesText};
 ghost use Rattle.st_order.specs.Labels.{item_has_label};
 ghost use Rattle.st_chart.specs.Answer.{WritesChart};
-ghost use Rattle.st_chart.specs.Chart.{all_charted, lane_line, lane_lines, mark, item_line, label_line};
-ghost use Rattle.st_chart.specs.Chart.{chart_lines, chart_text};
+ghost use Rattle.st_chart.specs.Chart.{all_charted, lane_line, lane_lines, mark, item_line};
+ghost use Rattle.st_chart.specs.Chart.{label_line, chart_lines, chart_text};
 ghost use Rattle.st_chart.specs.Parts.{line_in};
 
 use crate::charted::{ChartedItem, is_any_charted};
@@ -133,7 +133,8 @@ fn write_items<W: ByteSink>(
     items: &[Item],
     label: Label,
 ) -> Result<(), Device>
-    ensures { WritesOn W.puts W.failed (flat_map (line_in streams.now label chains.now lanes.now) items.now)
+    ensures { WritesOn W.puts W.failed
+        (flat_map (line_in streams.now label chains.now lanes.now) items.now)
         writer.old writer.new buffer.old.items buffer.new.items result }
 {
     for item in items {
@@ -193,7 +194,8 @@ pub fn chart<W: ByteSink>(
     requires { chains.now ≡ streams.now }
     ensures written { WritesChart W.puts W.failed (chart_text streams.now items.now label)
         writer.old writer.new result }
-    ensures no_label { result ≡ Err ChartFault.NoLabel ↔ list_any (item_has_label streams.now label) items.now ≡ false }
+    ensures no_label { result ≡ Err ChartFault.NoLabel
+        ↔ list_any (item_has_label streams.now label) items.now ≡ false }
 {
     if !is_any_charted(streams, label, items) {
         return Err(ChartFault::NoLabel);

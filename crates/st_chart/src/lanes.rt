@@ -69,7 +69,8 @@ pub(crate) fn lanes_of(
     label: Label,
     items: &[Item],
 ) -> Result<Vec<Pid>, AllocError>
-    ensures { IfOk result (λ pids. pids.items ≡ lanes streams.now (all_charted streams.now items.now label)) }
+    ensures { IfOk result (λ pids. pids.items
+        ≡ lanes streams.now (all_charted streams.now items.now label)) }
 {
     let ends = ends_of(alloc, streams, label, items)?;
     ends_among(alloc, streams.pids(), &ends)

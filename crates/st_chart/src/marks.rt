@@ -4,7 +4,8 @@ ghost use Rattle.std.specs.Prelude.{◌≡◌, ◌≤◌, ◌+◌, ◌++◌, cod
 ghost use Rattle.arrayvec.specs.ArrayVec.{array_vec_len};
 ghost use Rattle.st_text.specs.Room.{buffer_room, line_room};
 ghost use Rattle.st_chart.specs.Words.{ended_line};
-ghost use Rattle.st_chart.specs.Chart.{letter, mark, item_word, cause_words, origin_words, item_words};
+ghost use Rattle.st_chart.specs.Chart.{letter, mark, item_word, cause_words, origin_words};
+ghost use Rattle.st_chart.specs.Chart.{item_words};
 ghost use Rattle.st_chart.specs.Room.{mark_room, item_word_room, origin_room, item_room};
 
 use crate::charted::{ChartedItem, is_end};
@@ -106,7 +107,8 @@ fn put_item_words(buffer: &mut Buffer, chains: &Chains, charted: &ChartedItem)
 /// Appends what follows the marks.
 pub(crate) fn put_item(buffer: &mut Buffer, chains: &Chains, charted: &ChartedItem)
     requires { array_vec_len buffer.old + line_room ≤ buffer_room }
-    ensures { buffer.new.items ≡ buffer.old.items ++ ended_line (codes "  " ++ item_words chains.now charted.now) }
+    ensures { buffer.new.items
+        ≡ buffer.old.items ++ ended_line (codes "  " ++ item_words chains.now charted.now) }
 {
     put_bytes(buffer, b"  ");
     put_item_words(buffer, chains, charted);

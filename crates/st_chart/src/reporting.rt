@@ -7,8 +7,9 @@ ghost use Rattle.st_text.specs.Room.{buffer_room, line_room, number_room, pid_ro
 ghost use Rattle.st_text.specs.Writing.{WritesOn, WritesText};
 ghost use Rattle.st_chart.specs.Words.{ended_line, place_words};
 ghost use Rattle.st_chart.specs.Room.{place_room, verdict_room, reason_room};
-ghost use Rattle.st_chart.specs.Report.{verdict_words, reason_words, unfit_line, event_words, event_front, event_line};
-ghost use Rattle.st_chart.specs.Report.{act_line, evidence, unfit_text, report_text};
+ghost use Rattle.st_chart.specs.Report.{verdict_words, reason_words, unfit_line, event_words};
+ghost use Rattle.st_chart.specs.Report.{event_front, event_line, act_line, evidence, unfit_text};
+ghost use Rattle.st_chart.specs.Report.{report_text};
 
 use crate::words::put_place;
 use st_audit::{Finding, Reason};
@@ -46,7 +47,8 @@ fn put_verdict(buffer: &mut Buffer, verdict: &Verdict)
 fn put_other(buffer: &mut Buffer, word: &[u8], pid: Pid, index: u64)
     requires { array_vec_len buffer.old + (length word.now + place_room) ≤ buffer_room }
     ensures items { buffer.new.items ≡ buffer.old.items ++ (word.now ++ place_words pid index) }
-    ensures len { array_vec_len buffer.new ≤ array_vec_len buffer.old + (length word.now + place_room) }
+    ensures len { array_vec_len buffer.new
+        ≤ array_vec_len buffer.old + (length word.now + place_room) }
 {
     put_bytes(buffer, word);
     put_place(buffer, pid, index);
@@ -130,7 +132,8 @@ fn write_unfit_line<W: ByteSink>(
     Ok(())
 }
 
-/// Writes a place and the event there, in two parts: together they may take more than a line's room.
+/// Writes a place and the event there, in two parts: together they may take more than a line's
+/// room.
 fn write_event<W: ByteSink>(
     writer: &mut W,
     buffer: &mut Buffer,
@@ -216,7 +219,8 @@ fn send_unfit<W: ByteSink>(
     index: u64,
     reason: &Reason,
 ) -> Result<(), Device>
-    ensures { WritesText W.puts W.failed (unfit_text streams.now pid index reason.now) writer.old writer.new result }
+    ensures { WritesText W.puts W.failed
+        (unfit_text streams.now pid index reason.now) writer.old writer.new result }
 {
     let mut buffer = Buffer::new();
     write_unfit(writer, &mut buffer, streams, pid, index, reason)?;
@@ -230,7 +234,8 @@ pub fn report<W: ByteSink>(
     streams: &Streams,
     finding: &Finding,
 ) -> Result<(), Device>
-    ensures { WritesText W.puts W.failed (report_text streams.now finding.now) writer.old writer.new result }
+    ensures { WritesText W.puts W.failed
+        (report_text streams.now finding.now) writer.old writer.new result }
 {
     match finding {
         Finding::Fits(acts, _) => write_parts(writer, streams, Some(acts.as_slice())),

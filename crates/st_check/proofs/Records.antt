@@ -84,7 +84,8 @@ module _ (acts : List Act) (a : Act) (os : List Outcome) (o : Outcome) (even : l
       ] refl
 
   recorded_more : (pids : List Pid) (report : Option Event) → o.report ≡ report
-      → with_reported (reported_streams pids acts os) (actor a) report ≡ reported_streams pids (acts ++ a ∷ []) (os ++ o ∷ [])
+      → with_reported (reported_streams pids acts os) (actor a) report
+      ≡ reported_streams pids (acts ++ a ∷ []) (os ++ o ∷ [])
   recorded_more [] None is = refl
   recorded_more [] (Some e) is = refl
   recorded_more (q ∷ pids) None is =
@@ -198,7 +199,10 @@ unlisted_rest pids acts os [] all = refl
 unlisted_rest pids acts os (p ∷ rest) all =
     let test = λ (e : Event). not (names_listed (reported_streams pids acts os) e) in
     ap (λ (k : Option ℕ). let o : Option (Pid × ℕ) =
-    elim k [ None ↦ unlisted_among (reported_streams pids acts os) (reported_streams rest acts os) | Some i ↦ Some (p, i) ] in o)
+    elim k [
+      | None ↦ unlisted_among (reported_streams pids acts os) (reported_streams rest acts os)
+      | Some i ↦ Some (p, i)
+    ] in o)
     (position-none test (stream acts os p)
     (all_false pids acts os (stream acts os p) (stream_among pids acts os p all)))
     ∙ unlisted_rest pids acts os rest all

@@ -14,5 +14,6 @@ acts_among pids a = is_among pids (actor a) && is_among pids (receiver a)
 -- at most TOP acts of these pids have a run: a clock rises by one an act at most
 abbrev pub FewActsRun : Type 0
 FewActsRun =
-    (top : ℕ) (pids : List Pid) (acts : List Act) → length acts ≤ top → list_all (acts_among pids) acts ≡ true
+    (top : ℕ) (pids : List Pid) (acts : List Act) → length acts ≤ top
+    → list_all (acts_among pids) acts ≡ true
     → IsSome (run top pids acts)

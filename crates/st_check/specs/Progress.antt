@@ -1,6 +1,7 @@
--- What the checker keeps while acts pass. For the contracts of its parts alone: what it returns is in `Answers`.
-use Rattle.std.specs.Prelude.{◌≡◌, ℕ, ◌+◌, ◌<◌, ◌≤◌, IsSome, slice_get, List, [], ◌∷◌, length, map, slice_set}
-use Rattle.std.specs.Prelude.{slice_index, slice_index_or, remove, Option, Some, None}
+-- What the checker keeps while acts pass. For the contracts of its parts alone: what it returns is
+-- in `Answers`.
+use Rattle.std.specs.Prelude.{◌≡◌, ℕ, ◌+◌, ◌<◌, ◌≤◌, IsSome, slice_get, List, [], ◌∷◌, length, map}
+use Rattle.std.specs.Prelude.{slice_set, slice_index, slice_index_or, remove, Option, Some, None}
 use Rattle.st_core.specs.declared.types.Pid.{Pid}
 use Rattle.st_core.specs.declared.types.Act.{Act}
 use Rattle.st_core.specs.declared.types.Event.{Event}
@@ -42,16 +43,18 @@ counts_with counts place (Some e) = slice_set counts place (slice_index counts p
 -- the lists after the number at this place of one was taken out
 abbrev pub without_tag : List (List ℕ) → ℕ → Option ℕ → List (List ℕ)
 without_tag lists list None = lists
-without_tag lists list (Some place) = slice_set lists list (remove (slice_index_or lists list []) place)
+without_tag lists list (Some place) =
+    slice_set lists list (remove (slice_index_or lists list []) place)
 
 -- the pair of a receive of this number that took out a send's number, if it did
 abbrev pub pair_to : ℕ → Option ℕ → List (ℕ × ℕ)
 pair_to n None = []
 pair_to n (Some s) = (n, s) ∷ []
 
--- acts that pass, the state that they lead to, how many events each process reported, the tags of each queue, and the
--- pairs
-pub record IsPassed (top : ℕ) (streams : List Stream) (acts : List Act) (s : State) (counts : List ℕ)
+-- acts that pass, the state that they lead to, how many events each process reported, the tags of
+-- each queue, and the pairs
+pub record IsPassed (top : ℕ) (streams : List Stream) (acts : List Act) (s : State)
+    (counts : List ℕ)
     (tags : List (List ℕ)) (ps : List (ℕ × ℕ)) : Type 0 where
   pub outcomes : List Outcome
   pub passing : IsPassing top streams acts outcomes
@@ -70,7 +73,8 @@ stop_of fault.ClockFull = stop.Stuck
 abbrev pub IsStop : ℕ → List Stream → List Act → Stop → Type 0
 IsStop top streams acts stop.Memory = Unit {0}
 IsStop top streams acts stop.Stuck = run top (pids_of streams) acts ≡ None
-IsStop top streams acts stop.Differs = IsSome (run top (pids_of streams) acts) × ¬ Passes top streams acts
+IsStop top streams acts stop.Differs =
+    IsSome (run top (pids_of streams) acts) × ¬ Passes top streams acts
 
 -- each of the first n processes reported all its events
 abbrev pub NoneLeftBefore : List Stream → List ℕ → ℕ → Type 0

@@ -1,4 +1,5 @@
--- What a replay records while acts have a run. For the contracts of its parts alone: what it returns is in `Answers`.
+-- What a replay records while acts have a run. For the contracts of its parts alone: what it
+-- returns is in `Answers`.
 use Rattle.std.specs.Prelude.{◌≡◌, ℕ, List, map, Option, Some, None}
 use Rattle.st_core.specs.declared.types.Pid.{Pid}
 use Rattle.st_core.specs.declared.types.Event.{Event}
@@ -17,7 +18,8 @@ with_reported streams p None = streams
 with_reported streams p (Some e) = added streams p e
 
 -- acts that have a run, the state that it leads to, its streams and its replies
-pub record IsReplayedTo (top : ℕ) (pids : List Pid) (acts : List Act) (s : State) (streams : List Stream)
+pub record IsReplayedTo (top : ℕ) (pids : List Pid) (acts : List Act) (s : State)
+    (streams : List Stream)
     (replies : List Reply) : Type 0 where
   pub outcomes : List Outcome
   pub runs : run top pids acts ≡ Some outcomes

@@ -1,10 +1,11 @@
 //! Acts that pass one by one: the world, how far each stream was matched, the tags of each queue
 //! and the pairs.
 
-ghost use Rattle.std.specs.Prelude.{◌≡◌, ◌<◌, ◌+◌, ◌++◌, ◌↔◌, [], length, take, slice_get, slice_index};
-ghost use Rattle.std.specs.Prelude.{Some, IsTrue, IfOk, IfErr, IfSome, IfNone, OnOk};
+ghost use Rattle.std.specs.Prelude.{◌≡◌, ◌<◌, ◌+◌, ◌++◌, ◌↔◌, [], length, take, slice_get};
+ghost use Rattle.std.specs.Prelude.{slice_index, Some, IsTrue, IfOk, IfErr, IfSome, IfNone, OnOk};
 ghost use Rattle.std.specs.Option.{ForSome};
-ghost use Rattle.st_check.specs.Progress.{counts_with, pair_to, stop_of, IsPassed, IsStop, IsLeft, NoneLeftBefore};
+ghost use Rattle.st_check.specs.Progress.{counts_with, pair_to, stop_of, IsPassed, IsStop, IsLeft};
+ghost use Rattle.st_check.specs.Progress.{NoneLeftBefore};
 ghost use Rattle.st_core.specs.Run.{pids_of};
 ghost use Rattle.st_core.specs.Streams.{IsStreams};
 
@@ -50,7 +51,8 @@ fn stop_of(fault: StepFault) -> Stop
 impl<const TOP: u64> Progress<TOP> {
     /// No acts yet.
     pub(crate) fn new(alloc: Global, streams: &Streams) -> Result<Progress<TOP>, AllocError>
-        ensures { IfOk result (λ p. IsPassed TOP streams.now [] p.world p.counts.items p.tags.lists p.pairs) }
+        ensures { IfOk result
+            (λ p. IsPassed TOP streams.now [] p.world p.counts.items p.tags.lists p.pairs) }
     {
         let pids = streams.pids();
         let Ok(world) = World::new(alloc, pids) else {
@@ -113,8 +115,10 @@ impl<const TOP: u64> Progress<TOP> {
     fn count(&mut self, place: usize, events: &[Event], report: Option<Event>) -> bool
         requires { place < length self.old.counts.items }
         ensures next { IsTrue result ↔
-            ForSome report (λ e. slice_get events.now (slice_index self.old.counts.items place) ≡ Some e) }
-        ensures counts { IsTrue result → self.new.counts.items ≡ counts_with self.old.counts.items place report }
+            ForSome report (λ e. slice_get events.now (slice_index self.old.counts.items place)
+            ≡ Some e) }
+        ensures counts { IsTrue result
+            → self.new.counts.items ≡ counts_with self.old.counts.items place report }
         ensures world { self.new.world ≡ self.old.world }
         ensures tags { self.new.tags ≡ self.old.tags }
         ensures pairs { self.new.pairs ≡ self.old.pairs }
@@ -134,7 +138,8 @@ impl<const TOP: u64> Progress<TOP> {
     pub(crate) fn first_left(&self, streams: &Streams) -> Option<Pid>
         requires { length self.now.counts.items ≡ length (pids_of streams.now) }
         ensures found { IfSome result (IsLeft streams.now self.now.counts.items) }
-        ensures none { IfNone result (NoneLeftBefore streams.now self.now.counts.items (length (pids_of streams.now))) }
+        ensures none { IfNone result
+            (NoneLeftBefore streams.now self.now.counts.items (length (pids_of streams.now))) }
         ensures streams { IsStreams streams.now }
     {
         let pids = streams.pids();

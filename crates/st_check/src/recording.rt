@@ -1,6 +1,7 @@
 //! The replay of acts: the world, and what each process reported and each act replied so far.
 
-ghost use Rattle.std.specs.Prelude.{◌≡◌, ◌<◌, ◌+◌, [], length, take, IfOk, IfErr, OnOk, MatchBool, None, true};
+ghost use Rattle.std.specs.Prelude.{◌≡◌, ◌<◌, ◌+◌, [], length, take, IfOk, IfErr, OnOk, MatchBool};
+ghost use Rattle.std.specs.Prelude.{None, true};
 ghost use Rattle.std.specs.Option.{ForSome};
 ghost use Rattle.st_check.specs.Answers.{reported_streams, IsReplay, IsReplayFault, RisesOnRun};
 ghost use Rattle.st_check.specs.Recorded.{with_reported, IsReplayedTo};
@@ -62,7 +63,8 @@ pub fn replay<const TOP: u64>(
 impl<const TOP: u64> Recording<TOP> {
     /// No acts yet.
     fn new(alloc: Global, pids: &[Pid]) -> Result<Recording<TOP>, ReplayFault>
-        ensures recorded { IfOk result (λ r. IsReplayedTo TOP pids.now [] r.world r.streams r.replies) }
+        ensures recorded { IfOk result
+            (λ r. IsReplayedTo TOP pids.now [] r.world r.streams r.replies) }
         ensures rising { OnOk result (IsRising pids.now) }
         ensures fault { IfErr result (IsReplayFault pids.now) }
     {

@@ -24,7 +24,8 @@ fn push_tag(
     requires rising { IsRising (pids_of streams.now) }
     requires even { length tags.old.lists ≡ length (pids_of streams.now) }
     ensures { OnOk result ((t : Tags) → tags.old.lists ≡ map t (pids_of streams.now) →
-        tags.new.lists ≡ map (λ x. if pid_eq x to then t x ++ number ∷ [] else t x) (pids_of streams.now)) }
+        tags.new.lists ≡ map (λ x. if pid_eq x to then t x ++ number ∷ [] else t x)
+        (pids_of streams.now)) }
 {
     let Some(list) = streams.place_of(to) else {
         return Ok(());

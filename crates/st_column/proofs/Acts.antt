@@ -49,7 +49,8 @@ both_flat : (p q : Pid) (v : ℕ) → spelled.act (acts.Receive p (wants.Both q 
     ≡ codes "receive " ++ (spelled.pid p ++ (codes " both " ++ (spelled.pid q ++ (codes " " ++ decimal v))))
 both_flat p q v =
     spaced (codes "receive ") p (spelled.want (wants.Both q v))
-    ∙ ap (λ (t : List ℕ). codes "receive " ++ (spelled.pid p ++ (codes " " ++ t))) (spaced (codes "both ") q (decimal v))
+    ∙ ap (λ (t : List ℕ). codes "receive " ++ (spelled.pid p ++ (codes " " ++ t)))
+    (spaced (codes "both ") q (decimal v))
 
 printat_flat : (p : Pid) (l : Label) (v : ℕ) → spelled.act (acts.PrintAt p l v)
     ≡ codes "printat " ++ (spelled.pid p ++ (codes " " ++ (decimal l.0 ++ (codes " " ++ decimal v))))
@@ -88,7 +89,8 @@ module _ (wide : Bool) where
       (actor_out wide (codes "receive ") (codes " first") _ p refl f (last_word wide (codes " first") refl))
   want_out p (wants.From q) f v n =
       act_at 2 _ (lit< tt) (spaced (codes "receive ") p (spelled.want (wants.From q)))
-      (actor_out wide (codes "receive ") (codes " from <M.P.0>") _ p refl f (last_pid wide (codes " from ") q refl n.1.0))
+      (actor_out wide (codes "receive ") (codes " from <M.P.0>") _ p refl f
+      (last_pid wide (codes " from ") q refl n.1.0))
   want_out p (wants.Value v) f le n =
       act_at 3 _ (lit< tt) (spaced (codes "receive ") p (spelled.want (wants.Value v)))
       (actor_out wide (codes "receive ") (codes " value N") _ p refl f
@@ -182,11 +184,13 @@ module _ (wide : Bool) where
   act_out (acts.Send p q v) f n =
       act_at 0 _ (lit< tt) (sends_flat p q v)
       (actor_out wide (codes "send ") (codes " <M.P.0> N") _ p refl n.0
-      (actor_out wide (codes " ") (codes " N") _ q refl n.1.0 (last_count wide (codes " ") 78 most_number v refl refl f.2)))
+      (actor_out wide (codes " ") (codes " N") _ q refl n.1.0
+      (last_count wide (codes " ") 78 most_number v refl refl f.2)))
   act_out (acts.Receive p w) f n = want_out p w n.0 f.1 n
   act_out (acts.Print p v) f n =
       act_at 6 _ (lit< tt) (spaced (codes "print ") p (decimal v))
-      (actor_out wide (codes "print ") (codes " N") _ p refl n.0 (last_count wide (codes " ") 78 most_number v refl refl f.1))
+      (actor_out wide (codes "print ") (codes " N") _ p refl n.0
+      (last_count wide (codes " ") 78 most_number v refl refl f.1))
   act_out (acts.PrintAt p l v) f n =
       act_at 7 _ (lit< tt) (printat_flat p l v)
       (actor_out wide (codes "printat ") (codes " L N") _ p refl n.0
@@ -445,7 +449,8 @@ module _ (wide : Bool) where
       (tokens_in text)
       three in
       let five =
-      either_in print_lines (token_lines ++ (flag_lines ++ (tracer_lines ++ (restore_send_lines ++ restore_lines)))) text
+      either_in print_lines (token_lines
+      ++ (flag_lines ++ (tracer_lines ++ (restore_send_lines ++ restore_lines)))) text
       (prints_in text) four_groups in
       either_in message_lines
       (print_lines ++ (token_lines ++ (flag_lines ++ (tracer_lines ++ (restore_send_lines ++ restore_lines))))) text

@@ -54,7 +54,8 @@ module _ (wide : Bool) where
       → Spells wide (codes ",<M.P.0>,N}}") (codes "," ++ (spelled.pid q ++ (codes "," ++ (decimal v ++ codes "}}"))))
   to_out q v f le =
       actor_out wide (codes ",") (codes ",N}}") _ q refl f
-      (count_out wide (codes ",") 78 most_number v (codes "}}") (codes "}}") refl refl le (last_word wide (codes "}}") refl))
+      (count_out wide (codes ",") 78 most_number v (codes "}}") (codes "}}") refl refl le
+      (last_word wide (codes "}}") refl))
 
   none_out : (v : ℕ) → v ≤ most_number → Spells wide (codes ",[],N}}") (codes ",[]," ++ (decimal v ++ codes "}}"))
   none_out v le =
@@ -140,7 +141,8 @@ module _ (wide : Bool) where
   message_in : (word : List ℕ) (k : Kind) (text : List ℕ) → are_bytes wide word ≡ true
       → ((rest : List ℕ) → word ++ rest ≡ codes ",{" ++ (spelled.kind k ++ (codes ",{" ++ rest)))
       → ((q : Pid) → FitsNode wide q → FitsPlace k (Some q))
-      → Spells wide (codes "{seq_trace,L" ++ (word ++ (codes "N,N},<M.P.0>" ++ codes ",<M.P.0>,N}}"))) text → IsEvent text
+      → Spells wide (codes "{seq_trace,L"
+      ++ (word ++ (codes "N,N},<M.P.0>" ++ codes ",<M.P.0>,N}}"))) text → IsEvent text
   message_in word k text bytes is place x =
       let b = begun_in word (codes ",<M.P.0>,N}}") text bytes x in
       let q = actor_in wide (codes ",") (codes ",N}}") b.rest refl b.more in

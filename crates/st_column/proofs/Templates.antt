@@ -152,8 +152,12 @@ module _ (wide : Bool) where
                 let old = b.most k some (omega (arith, below)) in
                 (old.0, omega (arith, old.1, one), old.2)
             | inr above ↦
-                let same : k ≡ i + 1 = omega (arith, above, le) in
-                (m, omega (arith, same, two), subst (λ (j : ℕ). IsLongest (Spells wide template) (drop j line) m) (sym same) l)
+                let same : k ≡ i + 1 = omega (arith, above, le) in (
+                  m,
+                  omega (arith, same, two),
+                  subst
+                      (λ (j : ℕ). IsLongest (Spells wide template) (drop j line) m) (sym same) l,
+                )
           ]
 
       newer : best ≤ i + 1 + m → IsBest template line (i + 1) (i + 1 + m)

@@ -1,7 +1,8 @@
--- The lines of the grammar by templates, for the functions that compute the column. That they are the very lines that
--- may stand there is proved (proofs/Grammar.antt).
-use Rattle.std.specs.Prelude.{◌≡◌, ℕ, ◌≤◌, ◌<◌, ◌==◌, if◌then◌else◌, Bool, true, false, List, [], ◌∷◌, ◌++◌, ◌⊎◌}
-use Rattle.std.specs.Prelude.{length, take, Option, Some, None, MatchOption, codes, decimal}
+-- The lines of the grammar by templates, for the functions that compute the column. That they are
+-- the very lines that may stand there is proved (proofs/Grammar.antt).
+use Rattle.std.specs.Prelude.{◌≡◌, ℕ, ◌≤◌, ◌<◌, ◌==◌, if◌then◌else◌, Bool, true, false, List, []}
+use Rattle.std.specs.Prelude.{◌∷◌, ◌++◌, ◌⊎◌, length, take, Option, Some, None, MatchOption, codes}
+use Rattle.std.specs.Prelude.{decimal}
 use Rattle.st_text.specs.Range.{most_pid, most_label, most_number}
 use Rattle.st_column.specs.declared.above.Above.{Above}
 use Rattle.st_column.specs.declared.above.Above.TheVariants as above
@@ -10,8 +11,8 @@ use Rattle.st_column.specs.declared.above.Above.TheVariants as above
 abbrev pub IsNumber : ℕ → List ℕ → Type 0
 IsNumber most word = (n : ℕ) × (n ≤ most) × (word ≡ decimal n)
 
--- ---- templates: M stands for a node, P for a number of a pid, L for a label, N for any other number, each other byte
--- for itself
+-- ---- templates: M stands for a node, P for a number of a pid, L for a label, N for any other
+-- number, each other byte for itself
 
 -- the greatest node: below `seqtrace 1` it is 0
 abbrev pub most_node : Bool → ℕ
@@ -21,7 +22,8 @@ most_node false = 0
 module _ (wide : Bool) where
   abbrev pub most_of : ℕ → Option ℕ
   most_of c =
-      if c == 77 then Some (most_node wide) else (if c == 80 then Some most_pid else (if c == 76 then Some most_label
+      if c == 77 then Some (most_node wide)
+      else (if c == 80 then Some most_pid else (if c == 76 then Some most_label
       else (if c == 78 then Some most_number else None)))
 
   abbrev pub IsPiece : ℕ → List ℕ → Type 0
@@ -31,7 +33,8 @@ module _ (wide : Bool) where
   abbrev pub Spells : List ℕ → List ℕ → Type 0
   Spells [] text = text ≡ []
   Spells (c ∷ template) text =
-      (word : List ℕ) × (rest : List ℕ) × (text ≡ word ++ rest) × IsPiece c word × Spells template rest
+      (word : List ℕ) × (rest : List ℕ) × (text ≡ word ++ rest) × IsPiece c word
+      × Spells template rest
 
   abbrev pub IsAnyOf : List (List ℕ) → List ℕ → Type 0
   IsAnyOf [] text = ⊥
@@ -47,26 +50,31 @@ rare_lines = codes "process <M.P.0>" ∷ codes "acts" ∷ []
 
 abbrev pub event_lines : List (List ℕ)
 event_lines =
-    codes "{seq_trace,L,{send,{N,N},<M.P.0>,<M.P.0>,N}}" ∷ codes "{seq_trace,L,{'receive',{N,N},<M.P.0>,<M.P.0>,N}}"
+    codes "{seq_trace,L,{send,{N,N},<M.P.0>,<M.P.0>,N}}"
+    ∷ codes "{seq_trace,L,{'receive',{N,N},<M.P.0>,<M.P.0>,N}}"
     ∷ codes "{seq_trace,L,{print,{N,N},<M.P.0>,[],N}}" ∷ []
 
 abbrev pub message_lines : List (List ℕ)
 message_lines =
-    codes "send <M.P.0> <M.P.0> N" ∷ codes "receive <M.P.0> first" ∷ codes "receive <M.P.0> from <M.P.0>"
+    codes "send <M.P.0> <M.P.0> N" ∷ codes "receive <M.P.0> first"
+    ∷ codes "receive <M.P.0> from <M.P.0>"
     ∷ codes "receive <M.P.0> value N" ∷ []
 
 abbrev pub print_lines : List (List ℕ)
 print_lines =
-    codes "receive <M.P.0> both <M.P.0> N" ∷ codes "receive <M.P.0> place N" ∷ codes "print <M.P.0> N"
+    codes "receive <M.P.0> both <M.P.0> N" ∷ codes "receive <M.P.0> place N"
+    ∷ codes "print <M.P.0> N"
     ∷ codes "printat <M.P.0> L N" ∷ []
 
 abbrev pub token_lines : List (List ℕ)
 token_lines =
-    codes "set <M.P.0> label L" ∷ codes "clear <M.P.0>" ∷ codes "look <M.P.0>" ∷ codes "reset <M.P.0>" ∷ []
+    codes "set <M.P.0> label L" ∷ codes "clear <M.P.0>" ∷ codes "look <M.P.0>"
+    ∷ codes "reset <M.P.0>" ∷ []
 
 abbrev pub flag_lines : List (List ℕ)
 flag_lines =
-    codes "set <M.P.0> send true" ∷ codes "set <M.P.0> send false" ∷ codes "set <M.P.0> receive true"
+    codes "set <M.P.0> send true" ∷ codes "set <M.P.0> send false"
+    ∷ codes "set <M.P.0> receive true"
     ∷ codes "set <M.P.0> receive false" ∷ []
 
 abbrev pub tracer_lines : List (List ℕ)
@@ -76,19 +84,24 @@ tracer_lines =
 
 abbrev pub restore_send_lines : List (List ℕ)
 restore_send_lines =
-    codes "restore <M.P.0> L true true true N N <M.P.0>" ∷ codes "restore <M.P.0> L true true false N N <M.P.0>"
-    ∷ codes "restore <M.P.0> L true false true N N <M.P.0>" ∷ codes "restore <M.P.0> L true false false N N <M.P.0>"
+    codes "restore <M.P.0> L true true true N N <M.P.0>"
+    ∷ codes "restore <M.P.0> L true true false N N <M.P.0>"
+    ∷ codes "restore <M.P.0> L true false true N N <M.P.0>"
+    ∷ codes "restore <M.P.0> L true false false N N <M.P.0>"
     ∷ []
 
 abbrev pub restore_lines : List (List ℕ)
 restore_lines =
-    codes "restore <M.P.0> L false true true N N <M.P.0>" ∷ codes "restore <M.P.0> L false true false N N <M.P.0>"
-    ∷ codes "restore <M.P.0> L false false true N N <M.P.0>" ∷ codes "restore <M.P.0> L false false false N N <M.P.0>"
+    codes "restore <M.P.0> L false true true N N <M.P.0>"
+    ∷ codes "restore <M.P.0> L false true false N N <M.P.0>"
+    ∷ codes "restore <M.P.0> L false false true N N <M.P.0>"
+    ∷ codes "restore <M.P.0> L false false false N N <M.P.0>"
     ∷ []
 
 abbrev pub act_lines : List (List ℕ)
 act_lines =
-    message_lines ++ print_lines ++ token_lines ++ flag_lines ++ tracer_lines ++ restore_send_lines ++ restore_lines
+    message_lines ++ print_lines ++ token_lines ++ flag_lines ++ tracer_lines ++ restore_send_lines
+    ++ restore_lines
 
 abbrev pub lines_below : Above → List (List ℕ)
 lines_below above.Nothing = header_lines

@@ -4,10 +4,10 @@ ghost use Rattle.std.specs.Prelude.{◌≡◌, ◌≤◌, ◌<◌, ◌+◌, ◌-
 ghost use Rattle.std.specs.Option.{SomeIff};
 ghost use Rattle.st_text.specs.declared.line.Line.{Line};
 ghost use Rattle.st_column.specs.Column.{IsLineBehind, IsLongest, above_of, has_wide_header};
-ghost use Rattle.st_column.specs.Longest.{IsNumberFront, Spells, IsAnyOf, most_of};
-ghost use Rattle.st_column.specs.Longest.{header_lines, rare_lines, event_lines, act_lines, lines_below};
-ghost use Rattle.st_column.specs.Longest.{message_lines, print_lines, token_lines, flag_lines, tracer_lines};
-ghost use Rattle.st_column.specs.Longest.{restore_send_lines, restore_lines};
+ghost use Rattle.st_column.specs.Longest.{IsNumberFront, Spells, IsAnyOf, most_of, header_lines};
+ghost use Rattle.st_column.specs.Longest.{rare_lines, event_lines, act_lines, lines_below};
+ghost use Rattle.st_column.specs.Longest.{message_lines, print_lines, token_lines, flag_lines};
+ghost use Rattle.st_column.specs.Longest.{tracer_lines, restore_send_lines, restore_lines};
 
 use crate::above::Above;
 
@@ -91,7 +91,8 @@ fn of_two(wide: bool, one: &[u8], two: &[u8], line: &[u8]) -> usize
 
 /// The same of four templates.
 fn of_four(wide: bool, one: &[u8], two: &[u8], three: &[u8], four: &[u8], line: &[u8]) -> usize
-    ensures { IsLongest (IsAnyOf wide (one.now ∷ two.now ∷ three.now ∷ four.now ∷ [])) line.now result }
+    ensures { IsLongest (IsAnyOf wide
+        (one.now ∷ two.now ∷ three.now ∷ four.now ∷ [])) line.now result }
 {
     let front = of_two(wide, one, two, line);
     let back = of_two(wide, three, four, line);
@@ -154,7 +155,8 @@ fn of_prints(wide: bool, line: &[u8]) -> usize
     )
 }
 
-/// How many bytes of the line the set of a label, or an act that names its actor alone, begins with.
+/// How many bytes of the line the set of a label, or an act that names its actor alone, begins
+/// with.
 fn of_tokens(wide: bool, line: &[u8]) -> usize
     ensures { IsLongest (IsAnyOf wide token_lines) line.now result }
 {
@@ -248,8 +250,8 @@ fn of_lines(wide: bool, above: Above, line: &[u8]) -> usize
     }
 }
 
-/// How many bytes at the front of a line some line that may stand there begins with, and no more. `wide`: the header
-/// lets pids of other nodes in.
+/// How many bytes at the front of a line some line that may stand there begins with, and no more.
+/// `wide`: the header lets pids of other nodes in.
 pub fn column_below(above: Above, wide: bool, line: &[u8]) -> usize
     ensures { (ls : List Line) → above ≡ above_of ls → wide ≡ has_wide_header ls →
         IsLongest (IsLineBehind ls) line.now result }

@@ -2,6 +2,7 @@
 use Rattle.std.proofs.Common.{◌≡◌, ◌≢◌, ℕ, Bool, true, false, List, refl, subst}
 use Rattle.std.specs.Prelude.{◌↔◌, Some, Result, Err}
 use Rattle.st_core.specs.declared.types.Label.{Label}
+use Rattle.st_core.specs.declared.device.sink.ByteSink.{Ghosts as SinkOf}
 use Rattle.st_core.specs.Run.{Stream}
 use Rattle.st_pair.specs.declared.answer.PairFault.{PairFault}
 use Rattle.st_pair.specs.declared.answer.PairFault.TheVariants as fault
@@ -12,20 +13,19 @@ use Rattle.st_chart.specs.declared.fault.ChartFault.{ChartFault}
 use Rattle.st_chart.specs.declared.fault.ChartFault.TheVariants as chart_fault
 use Rattle.st_commands.specs.Output.{Output}
 use Rattle.st_commands.specs.Audited.{report_output}
-use Rattle.st_commands.specs.Command.{Delivers}
+use Rattle.st_commands.specs.Command.{Delivers, call}
 use Rattle.st_commands.specs.Parts.{ChartsTo, OfReason}
 
--- if the answer is another than that no item has the label, one has it
+-- if the result isn't that no item has the label, one has it
 pub labelled : {T : Type 0} (r : Result T ChartFault) (some : Bool) → r ≢ Err chart_fault.NoLabel
     → (r ≡ Err chart_fault.NoLabel ↔ some ≡ false) → some ≡ true
 labelled r true other iff = refl
 labelled r false other iff = absurd (other (iff.1 refl))
 
 -- what is delivered from where the chart left the writer is delivered from where it found it
-pub from_there : {W : Type 0} (puts : W → List ℕ → W → Type 0) (failed : W → Bool) (old there new : W) (out : Output)
-    (status : ℕ) → there ≡ old → Delivers puts failed there new out status → Delivers puts failed old new out status
-from_there puts failed old there new out status same d =
-    subst (λ w. Delivers puts failed w new out status) same d
+pub from_there : {W : Type 0} (device : SinkOf W) (old there new : W) (out : Output) (status : ℕ) → there ≡ old
+    → Delivers (call device there new) out status → Delivers (call device old new) out status
+from_there device old there new out status same d = subst (λ w. Delivers (call device w new) out status) same d
 
 -- a reason that isn't Memory is reported
 pub unpaired : (streams : List Stream) (label : Label) (f : PairFault) (found : Finding) → IsPairFault streams f

@@ -1,5 +1,5 @@
 -- What the parts of a command say adds up to what the command owes: the bytes that were read go with each answer.
-use Rattle.std.proofs.Common.{◌≡◌, ◌≢◌, ℕ, ◌<◌, ◌≤◌, Bool, false, List, length, refl, sym, subst}
+use Rattle.std.proofs.Common.{◌≡◌, ◌≢◌, ℕ, ◌<◌, ◌≤◌, false, List, length, refl, sym, subst}
 use Rattle.std.proofs.Common.{inl, inr, arith}
 use Rattle.std.specs.Prelude.{Some, None, Result, Ok, Err, MatchResult}
 use Rattle.st_core.specs.declared.types.Act.{Act}
@@ -29,43 +29,59 @@ use Rattle.st_commands.specs.Audited.{IsAuditedWithin, report_output}
 use Rattle.st_commands.specs.Audited as audits
 use Rattle.st_commands.specs.Charted.{IsCharted, drawn, no_label}
 use Rattle.st_commands.specs.Charted as charts
-use Rattle.st_commands.specs.Command.{ReadsAllWithin, Owes, OwesWithin, OfBytes, ForMemory, ForReader}
-use Rattle.st_commands.specs.Command.{Delivers, Whole, Part, Tells}
+use Rattle.st_commands.specs.Command.{ReaderCall, WriterCall, ReadsAllWithin, Owes, OwesWithin}
+use Rattle.st_commands.specs.Command.{OfBytes, ForMemory, ForReader, Delivers, Whole, Part, Tells}
 use Rattle.st_commands.specs.Parts.{ChecksTo, AuditsTo, DrawsTo, ChartsTo, ReplaysTo, OfBundle, OfSome, OfNone}
 use Rattle.st_commands.specs.Parts as parts
 use Rattle.st_commands.specs.Meaning.{SaysWithin}
 
 -- ---- writing
 
-pub delivers : {W T E : Type 0} (puts : W → List ℕ → W → Type 0) (failed : W → Bool) (old new : W) (out : Output)
-    (r : Result T E) (status : ℕ)
-    → WritesText puts failed out.text old new r → MatchResult r (λ _. status ≡ out.status) (λ _. status ≡ 4)
-    → Delivers puts failed old new out status
-delivers puts failed old new out (Ok v) status w e = subst (Delivers puts failed old new out) (sym e) (Whole w)
-delivers puts failed old new out (Err x) status w e = subst (Delivers puts failed old new out) (sym e) (Part w)
+pub delivers : {W T E : Type 0} (writer : WriterCall W) (out : Output) (r : Result T E) (status : ℕ)
+    → WritesText writer.device.puts writer.device.failed out.text writer.old writer.new r
+    → MatchResult r (λ _. status ≡ out.status) (λ _. status ≡ 4)
+    → Delivers writer out status
+delivers writer out (Ok v) status w e = subst (Delivers writer out) (sym e) (Whole w)
+delivers writer out (Err x) status w e = subst (Delivers writer out) (sym e) (Part w)
 
-module _ (limits : Limits) {R : Type 0} (gives : R → List ℕ → R → Type 0) (ended : R → Type 0) (failed : R → Bool)
-    (old new : R) where
+module _ {W : Type 0} (writer : WriterCall W) (status : ℕ) where
+  -- what was told is owed for another reason too
+  pub tells_as : {P Q : Output → Type 0} → ((out : Output) → P out → Q out) → Tells writer P status
+      → Tells writer Q status
+  tells_as owed told =
+      record { output = told.output; owed = owed told.output told.owed; delivered = told.delivered }
+
+  -- what is told of a bundle's acts is told of the bundle
+  pub tells_of_acts : (OfActs : List Stream → List Act → Output → Type 0) (c : Contents) (acts : List Act)
+      → c.acts ≡ Some acts → Tells writer (OfActs c.streams acts) status → Tells writer (OfBundle OfActs c) status
+  tells_of_acts OfActs c acts e told = tells_as (λ out is. OfSome acts out e is) told
+
+module _ (limits : Limits) {R : Type 0} (reader : ReaderCall R) where
   -- ---- reading
 
+  abbrev Reads : Result Bundle ReadFault → Type 0
+  Reads r =
+      ReadsSourceWithin limits reader.device.gives reader.device.ended reader.device.failed reader.old reader.new r
+
   -- all bytes up to the source's end
-  up_to_end : (bytes : List ℕ) → InARow gives old bytes new → ended new → failed new ≡ false
-      → ReadsAllWithin limits gives ended failed old new bytes
+  up_to_end : (bytes : List ℕ) → InARow reader.device.gives reader.old bytes reader.new
+      → reader.device.ended reader.new → reader.device.failed reader.new ≡ false
+      → ReadsAllWithin limits reader bytes
   up_to_end bytes given end sound = record { given = given; whole = inl end; sound = sound }
 
   module _ (IsOutput : List ℕ → Output → Type 0)
       (faulty : (bytes : List ℕ) (f : ReadFault) → fault_within limits bytes ≡ Some f → IsOutput bytes (refused f))
     where
       -- a fault of the bytes that were read
-      of_fault : (bytes : List ℕ) (f : ReadFault) → InARow gives old bytes new → ended new → failed new ≡ false
+      of_fault : (bytes : List ℕ) (f : ReadFault) → InARow reader.device.gives reader.old bytes reader.new
+          → reader.device.ended reader.new → reader.device.failed reader.new ≡ false
           → fault_within limits bytes ≡ Some f
-          → OwesWithin limits gives ended failed old new IsOutput (refused f)
+          → OwesWithin limits reader IsOutput (refused f)
       of_fault bytes f given end sound is =
           OfBytes bytes (refused f) (up_to_end bytes given end sound) (faulty bytes f is)
 
       -- a refusal of the reader is owed, whatever the command makes of bytes
-      pub owes_fault : (f : ReadFault) → ReadsSourceWithin limits gives ended failed old new (Err f)
-          → OwesWithin limits gives ended failed old new IsOutput (refused f)
+      owes_fault : (f : ReadFault) → Reads (Err f) → OwesWithin limits reader IsOutput (refused f)
       owes_fault faults.Memory h =
           ForMemory h.bytes (up_to_end h.bytes h.given h.answer.end h.answer.after) h.answer.small
       owes_fault faults.Device h = ForReader h.bytes h.given h.answer.small h.answer.mark
@@ -87,14 +103,18 @@ module _ (limits : Limits) {R : Type 0} (gives : R → List ℕ → R → Type 0
       owes_fault faults.Truncated h =
           of_fault h.bytes faults.Truncated h.given h.answer.end h.answer.after h.answer.answer
 
+      pub tells_fault : {W : Type 0} (writer : WriterCall W) (status : ℕ) (f : ReadFault) → Reads (Err f)
+          → Delivers writer (refused f) status → Tells writer (OwesWithin limits reader IsOutput) status
+      tells_fault writer status f h told = record { output = refused f; owed = owes_fault f h; delivered = told }
+
   -- the bytes of a bundle that was read
   pub record WasRead (c : Contents) : Type 0 where
     pub bytes : List ℕ
-    pub all : ReadsAllWithin limits gives ended failed old new bytes
+    pub all : ReadsAllWithin limits reader bytes
     pub small : length bytes ≤ limits.bytes
     pub spelled : SpellsWithin limits bytes c.streams c.acts
 
-  pub was_read : (b : Bundle) → ReadsSourceWithin limits gives ended failed old new (Ok b) → WasRead (contents b)
+  pub was_read : (b : Bundle) → Reads (Ok b) → WasRead (contents b)
   was_read b h = record {
     bytes = h.bytes;
     all = up_to_end h.bytes h.given h.answer.end h.answer.after;
@@ -106,9 +126,9 @@ module _ (limits : Limits) {R : Type 0} (gives : R → List ℕ → R → Type 0
   module _ (IsOutput : List ℕ → Output → Type 0) (OfActs : List Stream → List Act → Output → Type 0) (c : Contents)
       (h : WasRead c) where
     pub owes_bundle : ((acts : List Act) (out : Output) → SpellsWithin limits h.bytes c.streams (Some acts)
-        → OfActs c.streams acts out → OwesWithin limits gives ended failed old new IsOutput out)
+        → OfActs c.streams acts out → OwesWithin limits reader IsOutput out)
         → (SpellsWithin limits h.bytes c.streams None → IsOutput h.bytes no_acts)
-        → (out : Output) → OfBundle OfActs c out → OwesWithin limits gives ended failed old new IsOutput out
+        → (out : Output) → OfBundle OfActs c out → OwesWithin limits reader IsOutput out
     owes_bundle of_acts lacking out (OfSome acts o e is) =
         of_acts acts o (subst (SpellsWithin limits h.bytes c.streams) e h.spelled) is
     owes_bundle of_acts lacking out (OfNone e) =
@@ -118,7 +138,7 @@ module _ (limits : Limits) {R : Type 0} (gives : R → List ℕ → R → Type 0
 
   module _ (c : Contents) (h : WasRead c) where
     owes_judged : (acts : List Act) (out : Output) → SpellsWithin limits h.bytes c.streams (Some acts)
-        → ChecksTo c.streams acts out → OwesWithin limits gives ended failed old new (IsCheckedWithin limits) out
+        → ChecksTo c.streams acts out → OwesWithin limits reader (IsCheckedWithin limits) out
     owes_judged acts out spelled (parts.Judges v is follows paired) =
         OfBytes h.bytes (judged v) h.all
         (Judged h.bytes v (record {
@@ -133,7 +153,7 @@ module _ (limits : Limits) {R : Type 0} (gives : R → List ℕ → R → Type 0
     owes_judged acts out spelled parts.NoRoomToCheck = ForMemory h.bytes h.all h.small
 
     pub owes_check : (out : Output) → OfBundle ChecksTo c out
-        → OwesWithin limits gives ended failed old new (IsCheckedWithin limits) out
+        → OwesWithin limits reader (IsCheckedWithin limits) out
     owes_check =
         owes_bundle (IsCheckedWithin limits) ChecksTo c h owes_judged
         (λ spelled. checked.Lacking h.bytes (record { streams = c.streams; spelled = spelled }))
@@ -141,78 +161,74 @@ module _ (limits : Limits) {R : Type 0} (gives : R → List ℕ → R → Type 0
     -- ---- audit
 
     pub owes_audit : (out : Output) → AuditsTo c.streams out
-        → OwesWithin limits gives ended failed old new (IsAuditedWithin limits) out
+        → OwesWithin limits reader (IsAuditedWithin limits) out
     owes_audit out (parts.Finds found is on) =
         OfBytes h.bytes (report_output c.streams found) h.all
         (audits.Found h.bytes c.streams found
         (record { given = c.acts; spelled = h.spelled; finding = is; handed_on = on }))
     owes_audit out parts.NoRoomToAudit = ForMemory h.bytes h.all h.small
 
-  -- ---- what a status says
+-- ---- what a status says
 
-  module _ {W : Type 0} (puts : W → List ℕ → W → Type 0) (write_failed : W → Bool) (writer written : W)
-      (IsOutput : List ℕ → Output → Type 0) (Means : List ℕ → Output → Type 0) (n : ℕ) (other : n ≢ 4)
-      (meant : (bytes : List ℕ) (out : Output) → IsOutput bytes out → out.status ≡ n → Means bytes out) where
-    says_owed : (out : Output) (status : ℕ) → OwesWithin limits gives ended failed old new IsOutput out
-        → Delivers puts write_failed writer written out status → status ≡ n
-        → SaysWithin limits gives ended failed old new puts write_failed writer written Means
-    says_owed out status (OfBytes bytes o all is) (Whole w) e =
-        record { bytes = bytes; output = o; reads = all; writes = w; means = meant bytes o is e }
-    says_owed out status (OfBytes bytes o all is) (Part w) e = absurd (other (sym e))
-    says_owed out status (ForMemory bytes all small) (Whole w) e = absurd (other (sym e))
-    says_owed out status (ForMemory bytes all small) (Part w) e = absurd (other (sym e))
-    says_owed out status (ForReader bytes given small mark) (Whole w) e = absurd (other (sym e))
-    says_owed out status (ForReader bytes given small mark) (Part w) e = absurd (other (sym e))
+module _ {limits : Limits} {R W : Type 0} {reader : ReaderCall R} {writer : WriterCall W}
+    {IsOutput Means : List ℕ → Output → Type 0} (n : ℕ) (other : n ≢ 4)
+    (meant : (bytes : List ℕ) (out : Output) → IsOutput bytes out → out.status ≡ n → Means bytes out) where
+  says_owed : (out : Output) (status : ℕ) → OwesWithin limits reader IsOutput out → Delivers writer out status
+      → status ≡ n → SaysWithin limits reader writer Means
+  says_owed out status (OfBytes bytes o all is) (Whole w) e =
+      record { bytes = bytes; output = o; reads = all; writes = w; means = meant bytes o is e }
+  says_owed out status (OfBytes bytes o all is) (Part w) e = absurd (other (sym e))
+  says_owed out status (ForMemory bytes all small) (Whole w) e = absurd (other (sym e))
+  says_owed out status (ForMemory bytes all small) (Part w) e = absurd (other (sym e))
+  says_owed out status (ForReader bytes given small mark) (Whole w) e = absurd (other (sym e))
+  says_owed out status (ForReader bytes given small mark) (Part w) e = absurd (other (sym e))
 
-    -- a status other than that of a failure: an output with this status was written whole
-    pub says : (status : ℕ) → Tells puts write_failed writer written
-        (OwesWithin limits gives ended failed old new IsOutput) status
-        → status ≡ n
-        → SaysWithin limits gives ended failed old new puts write_failed writer written Means
-    says status told e = says_owed told.output status told.owed told.delivered e
+  -- a status other than that of a failure: an output with this status was written whole
+  pub says : {status : ℕ} → Tells writer (OwesWithin limits reader IsOutput) status → status ≡ n
+      → SaysWithin limits reader writer Means
+  says told e = says_owed told.output _ told.owed told.delivered e
 
 -- ---- the commands within the reader's limits
 
-module _ {R : Type 0} (gives : R → List ℕ → R → Type 0) (ended : R → Type 0) (failed : R → Bool) (old new : R) where
-  module _ (c : Contents) (h : WasRead standard gives ended failed old new c) where
-    -- ---- chart
+module _ {R : Type 0} (reader : ReaderCall R) (c : Contents) (h : WasRead standard reader c) where
+  -- ---- chart
 
-    owes_drawn : (label : Label) (items : List Item) (out : Output) → refusal c.streams ≡ None
-        → IsOrder c.streams items → DrawsTo c.streams label items out
-        → Owes gives ended failed old new (IsCharted label) out
-    owes_drawn label items out ok is (parts.Draws some) =
-        OfBytes h.bytes (drawn c.streams items label) h.all
-        (charts.Drawn h.bytes c.streams items
-        (record { given = c.acts; spelled = h.spelled; accepted = ok; order = is }) some)
-    owes_drawn label items out ok is (parts.LacksLabel none) =
-        OfBytes h.bytes (no_label label) h.all
-        (charts.Unlabelled h.bytes c.streams items
-        (record { given = c.acts; spelled = h.spelled; accepted = ok; order = is }) none)
-    owes_drawn label items out ok is parts.NoRoomToDraw = ForMemory h.bytes h.all h.small
+  owes_drawn : (label : Label) (items : List Item) (out : Output) → refusal c.streams ≡ None
+      → IsOrder c.streams items → DrawsTo c.streams label items out
+      → Owes reader (IsCharted label) out
+  owes_drawn label items out ok is (parts.Draws some) =
+      OfBytes h.bytes (drawn c.streams items label) h.all
+      (charts.Drawn h.bytes c.streams items
+      (record { given = c.acts; spelled = h.spelled; accepted = ok; order = is }) some)
+  owes_drawn label items out ok is (parts.LacksLabel none) =
+      OfBytes h.bytes (no_label label) h.all
+      (charts.Unlabelled h.bytes c.streams items
+      (record { given = c.acts; spelled = h.spelled; accepted = ok; order = is }) none)
+  owes_drawn label items out ok is parts.NoRoomToDraw = ForMemory h.bytes h.all h.small
 
-    pub owes_chart : (label : Label) (out : Output) → ChartsTo c.streams label out
-        → Owes gives ended failed old new (IsCharted label) out
-    owes_chart label out (parts.OfOrder items o ok is draws) = owes_drawn label items o ok is draws
-    owes_chart label out (parts.OfReason f found is by) =
-        OfBytes h.bytes (report_output c.streams found) h.all
-        (charts.Unpaired h.bytes c.streams found
-        (record { given = c.acts; spelled = h.spelled; fault = f; refused = is; found_by = by }))
-    owes_chart label out parts.NoRoomToOrder = ForMemory h.bytes h.all h.small
+  pub owes_chart : (label : Label) (out : Output) → ChartsTo c.streams label out
+      → Owes reader (IsCharted label) out
+  owes_chart label out (parts.OfOrder items o ok is draws) = owes_drawn label items o ok is draws
+  owes_chart label out (parts.OfReason f found is by) =
+      OfBytes h.bytes (report_output c.streams found) h.all
+      (charts.Unpaired h.bytes c.streams found
+      (record { given = c.acts; spelled = h.spelled; fault = f; refused = is; found_by = by }))
+  owes_chart label out parts.NoRoomToOrder = ForMemory h.bytes h.all h.small
 
-    -- ---- replay
+  -- ---- replay
 
-    owes_run : (acts : List Act) (out : Output) → Spells h.bytes c.streams (Some acts) → ReplaysTo c.streams acts out
-        → Owes gives ended failed old new IsReplayed out
-    owes_run acts out spelled (parts.Runs os is) =
-        OfBytes h.bytes (replays.replayed (pids_of c.streams) acts os) h.all
-        (replays.Ran h.bytes (pids_of c.streams) acts os
-        (record { streams = c.streams; spelled = spelled; listed = refl; runs = is }))
-    owes_run acts out spelled (parts.Sticks n is) =
-        OfBytes h.bytes (replays.stuck n) h.all
-        (replays.Stuck h.bytes n (record { streams = c.streams; acts = acts; spelled = spelled; sticks = is }))
-    owes_run acts out spelled parts.NoRoomToReplay = ForMemory h.bytes h.all h.small
+  owes_run : (acts : List Act) (out : Output) → Spells h.bytes c.streams (Some acts) → ReplaysTo c.streams acts out
+      → Owes reader IsReplayed out
+  owes_run acts out spelled (parts.Runs os is) =
+      OfBytes h.bytes (replays.replayed (pids_of c.streams) acts os) h.all
+      (replays.Ran h.bytes (pids_of c.streams) acts os
+      (record { streams = c.streams; spelled = spelled; listed = refl; runs = is }))
+  owes_run acts out spelled (parts.Sticks n is) =
+      OfBytes h.bytes (replays.stuck n) h.all
+      (replays.Stuck h.bytes n (record { streams = c.streams; acts = acts; spelled = spelled; sticks = is }))
+  owes_run acts out spelled parts.NoRoomToReplay = ForMemory h.bytes h.all h.small
 
-    pub owes_replay : (out : Output) → OfBundle ReplaysTo c out → Owes gives ended failed old new IsReplayed out
-    owes_replay =
-        owes_bundle standard gives ended failed old new IsReplayed ReplaysTo c h owes_run
-        (λ spelled. replays.Lacking h.bytes (record { streams = c.streams; spelled = spelled }))
+  pub owes_replay : (out : Output) → OfBundle ReplaysTo c out → Owes reader IsReplayed out
+  owes_replay =
+      owes_bundle standard reader IsReplayed ReplaysTo c h owes_run
+      (λ spelled. replays.Lacking h.bytes (record { streams = c.streams; spelled = spelled }))

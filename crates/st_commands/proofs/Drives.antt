@@ -25,14 +25,14 @@ use Rattle.st_text.specs.Limits.{standard}
 use Rattle.st_text.specs.Text.{Contents, is_listed}
 use Rattle.st_commands.specs.Output.{Output}
 use Rattle.st_commands.specs.Checked.{top, Spells}
-use Rattle.st_commands.specs.Command.{Owes, OfBytes, ForMemory, Tells}
+use Rattle.st_commands.specs.Command.{ReaderCall, Owes, OfBytes, ForMemory}
 use Rattle.st_commands.specs.Parts.{DrivesTo, Records, Refuses, NoRoomToDrive, OfBundle, drive_refused}
-use Rattle.st_commands.specs.Meaning.{MeansDriven, Says}
+use Rattle.st_commands.specs.Meaning.{MeansDriven}
 use Rattle.st_commands.specs.Laws.{DrivenMeans, RecordedIsYes}
 use Rattle.st_commands.specs.Recorded.{ranks, scripts_of, HasRecord, IsRecorded, record_output}
 use Rattle.st_commands.specs.Recorded as records
 use Rattle.st_commands.proofs.Meanings.{fault_status_high, shown_is_yes}
-use Rattle.st_commands.proofs.Deliveries.{WasRead, owes_bundle, says}
+use Rattle.st_commands.proofs.Deliveries.{WasRead, owes_bundle}
 
 -- ---- the scripts of few acts hold few acts
 
@@ -169,11 +169,10 @@ recorded_is_yes bytes r h spelled out is =
 
 -- ---- what is owed
 
-module _ {R : Type 0} (gives : R → List ℕ → R → Type 0) (ended : R → Type 0) (failed : R → Bool) (old new : R)
-    (c : Contents) (h : WasRead standard gives ended failed old new c) where
+module _ {R : Type 0} (reader : ReaderCall R) (c : Contents) (h : WasRead standard reader c) where
   owes_refused : (acts : List Act) → Spells h.bytes c.streams (Some acts) → (f : DriveFault)
       → IsDriveFault top ranks (pids_of c.streams) (scripts_of (pids_of c.streams) acts) f
-      → Owes gives ended failed old new IsRecorded (drive_refused f)
+      → Owes reader IsRecorded (drive_refused f)
   owes_refused acts s drive.Memory is = ForMemory h.bytes h.all h.small
   owes_refused acts s (drive.Act p n f) is =
       OfBytes h.bytes (records.act_fault p n) h.all
@@ -187,26 +186,14 @@ module _ {R : Type 0} (gives : R → List ℕ → R → Type 0) (ended : R → T
   owes_refused acts s drive.NotRising falls = absurd (falls s.text.bundle.streams.draft.rising)
 
   owes_driven : (acts : List Act) (out : Output) → Spells h.bytes c.streams (Some acts)
-      → DrivesTo c.streams acts out → Owes gives ended failed old new IsRecorded out
+      → DrivesTo c.streams acts out → Owes reader IsRecorded out
   owes_driven acts out s (Records r is) =
       OfBytes h.bytes (record_output r) h.all
       (records.Recorded h.bytes r (record { streams = c.streams; acts = acts; spelled = s; driven = is }))
   owes_driven acts out s (Refuses f is) = owes_refused acts s f is
   owes_driven acts out s NoRoomToDrive = ForMemory h.bytes h.all h.small
 
-  pub owes_drive : (out : Output) → OfBundle DrivesTo c out → Owes gives ended failed old new IsRecorded out
+  pub owes_drive : (out : Output) → OfBundle DrivesTo c out → Owes reader IsRecorded out
   owes_drive =
-      owes_bundle standard gives ended failed old new IsRecorded DrivesTo c h owes_driven
+      owes_bundle standard reader IsRecorded DrivesTo c h owes_driven
       (λ s. records.Lacking h.bytes (record { streams = c.streams; spelled = s }))
-
--- ---- of a call
-
-module _ {R W : Type 0} (gives : R → List ℕ → R → Type 0) (ended : R → Type 0) (read_failed : R → Bool)
-    (reader read : R)
-    (puts : W → List ℕ → W → Type 0) (write_failed : W → Bool) (writer written : W) (status : ℕ)
-    (told : Tells puts write_failed writer written (Owes gives ended read_failed reader read IsRecorded) status) where
-  pub says_driven : status ≡ 0 → Says gives ended read_failed reader read puts write_failed writer written MeansDriven
-  says_driven e =
-      says standard gives ended read_failed reader read puts write_failed writer written IsRecorded MeansDriven 0
-      (λ same. cc)
-      driven_means status told e

@@ -1,5 +1,5 @@
 -- Status 0 of an audit belongs to a certificate alone, and status 1 to an event and a reason.
-use Rattle.std.proofs.Common.{◌≡◌, ℕ, Bool, List, refl, arith}
+use Rattle.std.proofs.Common.{◌≡◌, ℕ, List, refl, arith}
 use Rattle.st_core.specs.Run.{Stream}
 use Rattle.st_core.specs.Verdict.{Yes}
 use Rattle.st_audit.specs.declared.finding.Finding.{Finding}
@@ -10,13 +10,11 @@ use Rattle.st_commands.specs.Output.{Output, judged}
 use Rattle.st_commands.specs.Checked.{Judged}
 use Rattle.st_commands.specs.Audited.{HasFindingWithin, IsAudited, IsAuditedWithin, Found, Faulty, report_output}
 use Rattle.st_commands.specs.Audited.{finding_status}
-use Rattle.st_commands.specs.Command.{Owes, OwesWithin, Tells}
-use Rattle.st_commands.specs.Meaning.{MeansFits, MeansFitsWithin, MeansUnfit, MeansUnfitWithin, Says, SaysWithin}
+use Rattle.st_commands.specs.Meaning.{MeansFitsWithin, MeansUnfitWithin}
 use Rattle.st_commands.specs.Laws.{FitsMeans, UnfitMeans, CertificateIsYes, certificate}
 use Rattle.st_commands.proofs.Meanings.{fault_status_high}
 use Rattle.st_commands.proofs.Outputs.{one_check}
 use Rattle.st_commands.proofs.OwedOutputs.{judgement}
-use Rattle.st_commands.proofs.Deliveries.{says}
 
 -- ---- what is found
 
@@ -100,39 +98,3 @@ certificate_is_yes streams acts pairs accepted spelled out is =
     let bytes = certificate streams acts in
     one_check bytes out (judged (Yes pairs)) is
     (Judged bytes (Yes pairs) (judgement bytes streams acts (Yes pairs) spelled accepted))
-
--- ---- of a call
-
-module _ {R W : Type 0} (gives : R → List ℕ → R → Type 0) (ended : R → Type 0) (read_failed : R → Bool)
-    (reader read : R)
-    (puts : W → List ℕ → W → Type 0) (write_failed : W → Bool) (writer written : W) (status : ℕ)
-    (told : Tells puts write_failed writer written (Owes gives ended read_failed reader read IsAudited) status) where
-  pub says_fits : status ≡ 0 → Says gives ended read_failed reader read puts write_failed writer written MeansFits
-  says_fits e =
-      says standard gives ended read_failed reader read puts write_failed writer written IsAudited MeansFits 0
-      (λ same. cc)
-      fits_means status told e
-
-  pub says_unfit : status ≡ 1 → Says gives ended read_failed reader read puts write_failed writer written MeansUnfit
-  says_unfit e =
-      says standard gives ended read_failed reader read puts write_failed writer written IsAudited MeansUnfit 1
-      (λ same. cc)
-      unfit_means status told e
-
-module _ (limits : Limits) {R W : Type 0} (gives : R → List ℕ → R → Type 0) (ended : R → Type 0)
-    (read_failed : R → Bool) (reader read : R)
-    (puts : W → List ℕ → W → Type 0) (write_failed : W → Bool) (writer written : W) (status : ℕ)
-    (told : Tells puts write_failed writer written
-    (OwesWithin limits gives ended read_failed reader read (IsAuditedWithin limits)) status) where
-  pub says_fits_within : status ≡ 0
-      → SaysWithin limits gives ended read_failed reader read puts write_failed writer written (MeansFitsWithin limits)
-  says_fits_within e =
-      says limits gives ended read_failed reader read puts write_failed writer written (IsAuditedWithin limits)
-      (MeansFitsWithin limits) 0 (λ same. cc) (fits_means_within limits) status told e
-
-  pub says_unfit_within : status ≡ 1
-      → SaysWithin limits gives ended read_failed reader read puts write_failed writer written
-      (MeansUnfitWithin limits)
-  says_unfit_within e =
-      says limits gives ended read_failed reader read puts write_failed writer written (IsAuditedWithin limits)
-      (MeansUnfitWithin limits) 1 (λ same. cc) (unfit_means_within limits) status told e

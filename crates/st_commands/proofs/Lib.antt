@@ -1,4 +1,4 @@
--- The lemmas.
+-- The lemmas; what upper crates may cite is in `ForCallers`.
 pub mod Texts
 pub mod Deliveries
 pub mod Charts
@@ -6,7 +6,6 @@ pub mod Replays
 pub mod Labels
 pub mod Subcommands
 pub mod Refusals
-pub mod Examples
 pub mod OwedOutputs
 pub mod Outputs
 pub mod ChartOutputs
@@ -15,3 +14,5 @@ pub mod Findings
 pub mod Scripts
 pub mod Drives
 pub mod StoredRuns
+pub mod Cases
+pub mod ForCallers

@@ -1,6 +1,6 @@
 -- A status belongs to one kind of output: 0 to a yes, 1 to a no. So an output with it has that verdict, which tells
 -- the rest.
-use Rattle.std.proofs.Common.{◌≡◌, ◌≢◌, ℕ, ◌+◌, ◌≤◌, Bool, List, take, refl, ap, subst, arith}
+use Rattle.std.proofs.Common.{◌≡◌, ◌≢◌, ℕ, ◌+◌, ◌≤◌, List, take, refl, ap, subst, arith}
 use Rattle.std.specs.Prelude.{Option, Some, None, IsSome}
 use Rattle.st_core.specs.declared.types.Act.{Act}
 use Rattle.st_core.specs.State.{zero_state}
@@ -15,12 +15,10 @@ use Rattle.st_text.specs.declared.limits.Limits.{Limits}
 use Rattle.st_text.specs.Limits.{standard}
 use Rattle.st_commands.specs.Output.{Output, judged, refused}
 use Rattle.st_commands.specs.Checked.{top, IsJudgedWithin, IsChecked, IsCheckedWithin, Judged, Lacking, Faulty}
-use Rattle.st_commands.specs.Command.{Owes, OwesWithin, Tells}
-use Rattle.st_commands.specs.Meaning.{MeansYes, MeansYesWithin, MeansNo, MeansNoWithin, Says, SaysWithin}
+use Rattle.st_commands.specs.Meaning.{MeansYesWithin, MeansNoWithin}
 use Rattle.st_commands.specs.Laws.{YesMeans, NoMeans, ShownIsYes, NeverStuck, NeverStuckInReplay}
 use Rattle.st_commands.proofs.Outputs.{one_check}
 use Rattle.st_commands.proofs.OwedOutputs.{judgement, spelled_run}
-use Rattle.st_commands.proofs.Deliveries.{says}
 
 -- ---- faults have neither status
 
@@ -150,38 +148,3 @@ never_stuck bytes n j = has_step j.streams j.acts (n + 1) (spelled_run bytes j.s
 pub never_stuck_in_replay : NeverStuckInReplay
 never_stuck_in_replay bytes n h =
     has_step h.streams h.acts (n + 1) (spelled_run bytes h.streams h.acts h.spelled) h.sticks.none
-
--- ---- of a call
-
-module _ {R W : Type 0} (gives : R → List ℕ → R → Type 0) (ended : R → Type 0) (read_failed : R → Bool)
-    (reader read : R)
-    (puts : W → List ℕ → W → Type 0) (write_failed : W → Bool) (writer written : W) (status : ℕ)
-    (told : Tells puts write_failed writer written (Owes gives ended read_failed reader read IsChecked) status) where
-  pub says_yes : status ≡ 0 → Says gives ended read_failed reader read puts write_failed writer written MeansYes
-  says_yes e =
-      says standard gives ended read_failed reader read puts write_failed writer written IsChecked MeansYes 0
-      (λ same. cc)
-      yes_means status told e
-
-  pub says_no : status ≡ 1 → Says gives ended read_failed reader read puts write_failed writer written MeansNo
-  says_no e =
-      says standard gives ended read_failed reader read puts write_failed writer written IsChecked MeansNo 1
-      (λ same. cc)
-      no_means status told e
-
-module _ (limits : Limits) {R W : Type 0} (gives : R → List ℕ → R → Type 0) (ended : R → Type 0)
-    (read_failed : R → Bool) (reader read : R)
-    (puts : W → List ℕ → W → Type 0) (write_failed : W → Bool) (writer written : W) (status : ℕ)
-    (told : Tells puts write_failed writer written
-    (OwesWithin limits gives ended read_failed reader read (IsCheckedWithin limits)) status) where
-  pub says_yes_within : status ≡ 0
-      → SaysWithin limits gives ended read_failed reader read puts write_failed writer written (MeansYesWithin limits)
-  says_yes_within e =
-      says limits gives ended read_failed reader read puts write_failed writer written (IsCheckedWithin limits)
-      (MeansYesWithin limits) 0 (λ same. cc) (yes_means_within limits) status told e
-
-  pub says_no_within : status ≡ 1
-      → SaysWithin limits gives ended read_failed reader read puts write_failed writer written (MeansNoWithin limits)
-  says_no_within e =
-      says limits gives ended read_failed reader read puts write_failed writer written (IsCheckedWithin limits)
-      (MeansNoWithin limits) 1 (λ same. cc) (no_means_within limits) status told e

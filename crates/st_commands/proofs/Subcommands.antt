@@ -66,7 +66,7 @@ module _ (words : List Text) (app : App) (same : app ≡ command_line) where
   refused_by e refused.Usage is (inl memory) = absurd (is memory)
   refused_by e refused.Usage is (inr among) = none_asked words (kind_of e) (fault_of command_line words) refl among
 
-  -- an error of `clap`'s that is no want of memory says that the words ask for nothing
+  -- an error of `clap`'s, unless memory ran out, says that the words ask for nothing
   pub refusal_by : (e : Error) (r : Refusal) → IsRefusalOf (kind_of e) r → HasKind (fault_of app words) e
       → IsRefusal words r
   refusal_by e r is has = refused_by e r is (subst (λ (a : App). HasKind (fault_of a words) e) same has)

@@ -1,5 +1,5 @@
--- What `audit` makes of bytes: the report of what is found of the streams that they spell, or why they spell none. The
--- acts in the input are ignored.
+-- What `audit` makes of bytes: the report of what is found of the streams that they spell, or why
+-- they spell none. The acts in the input are ignored.
 use Rattle.std.specs.Prelude.{◌≡◌, ℕ, List, Option, Some}
 use Rattle.st_core.specs.declared.types.Act.{Act}
 use Rattle.st_core.specs.Run.{Stream}
@@ -20,11 +20,14 @@ finding_status (finding.Unfit p i r) = 1
 
 -- the report of what was found of streams
 abbrev pub report_output : List Stream → Finding → Output
-report_output streams found = record { text = report_text streams found; status = finding_status found }
+report_output streams found =
+    record { text = report_text streams found; status = finding_status found }
 
--- The bytes spell streams, of which this is found: acts that the checker accepts, or an event that is there and a
--- reason that holds there. If pairing refuses the streams, its reason is what is found.
-pub record HasFindingWithin (limits : Limits) (bytes : List ℕ) (streams : List Stream) (found : Finding) : Type 0 where
+-- The bytes spell streams, of which this is found: acts that the checker accepts, or an event that
+-- is there and a reason that holds there. If pairing refuses the streams, its reason is what is
+-- found.
+pub record HasFindingWithin (limits : Limits) (bytes : List ℕ) (streams : List Stream)
+    (found : Finding) : Type 0 where
   pub given : Option (List Act)
   pub spelled : SpellsWithin limits bytes streams given
   pub finding : IsFinding top streams found
@@ -32,7 +35,8 @@ pub record HasFindingWithin (limits : Limits) (bytes : List ℕ) (streams : List
 
 -- the output of the bytes
 pub data IsAuditedWithin (limits : Limits) : List ℕ → Output → Type 0 where
-  Found : (bytes : List ℕ) (streams : List Stream) (found : Finding) → HasFindingWithin limits bytes streams found
+  Found : (bytes : List ℕ) (streams : List Stream) (found : Finding)
+      → HasFindingWithin limits bytes streams found
       → IsAuditedWithin limits bytes (report_output streams found)
   Faulty : (bytes : List ℕ) (f : ReadFault) → fault_within limits bytes ≡ Some f
       → IsAuditedWithin limits bytes (refused f)

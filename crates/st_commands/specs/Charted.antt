@@ -1,5 +1,5 @@
--- What `chart` makes of bytes: the chart of one label of the streams that they spell, or why there is none. The acts in
--- the input are ignored.
+-- What `chart` makes of bytes: the chart of one label of the streams that they spell, or why there
+-- is none. The acts in the input are ignored.
 use Rattle.std.specs.Prelude.{◌≡◌, ℕ, true, false, List, ◌++◌, Option, Some, None, codes}
 use Rattle.std.specs.List.{list_any}
 use Rattle.st_core.specs.declared.types.Label.{Label}
@@ -46,10 +46,16 @@ pub record HasReason (bytes : List ℕ) (streams : List Stream) (found : Finding
 
 -- the output of the bytes
 pub data IsCharted (label : Label) : List ℕ → Output → Type 0 where
-  Drawn : (bytes : List ℕ) (streams : List Stream) (items : List Item) → HasOrder bytes streams items
-      → list_any (item_has_label streams label) items ≡ true → IsCharted label bytes (drawn streams items label)
-  Unlabelled : (bytes : List ℕ) (streams : List Stream) (items : List Item) → HasOrder bytes streams items
-      → list_any (item_has_label streams label) items ≡ false → IsCharted label bytes (no_label label)
-  Unpaired : (bytes : List ℕ) (streams : List Stream) (found : Finding) → HasReason bytes streams found
+  Drawn : (bytes : List ℕ) (streams : List Stream) (items : List Item)
+      → HasOrder bytes streams items
+      → list_any (item_has_label streams label) items ≡ true
+      → IsCharted label bytes (drawn streams items label)
+  Unlabelled : (bytes : List ℕ) (streams : List Stream) (items : List Item)
+      → HasOrder bytes streams items
+      → list_any (item_has_label streams label) items ≡ false
+      → IsCharted label bytes (no_label label)
+  Unpaired : (bytes : List ℕ) (streams : List Stream) (found : Finding)
+      → HasReason bytes streams found
       → IsCharted label bytes (report_output streams found)
-  Faulty : (bytes : List ℕ) (f : ReadFault) → fault bytes ≡ Some f → IsCharted label bytes (refused f)
+  Faulty : (bytes : List ℕ) (f : ReadFault) → fault bytes ≡ Some f
+      → IsCharted label bytes (refused f)

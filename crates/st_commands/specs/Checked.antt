@@ -1,4 +1,5 @@
--- What `check` makes of bytes: the verdict of the streams and acts that they spell, or why they spell none.
+-- What `check` makes of bytes: the verdict of the streams and acts that they spell, or why they
+-- spell none.
 use Rattle.std.specs.Prelude.{◌≡◌, ℕ, List, Option, Some, None}
 use Rattle.st_core.specs.declared.types.Act.{Act}
 use Rattle.st_core.specs.Run.{Stream}
@@ -16,7 +17,8 @@ abbrev pub top : ℕ
 top = 18446744073709551615
 
 -- the bytes are the text of these streams, and of acts if there are any, within these limits
-pub record SpellsWithin (limits : Limits) (bytes : List ℕ) (streams : List Stream) (acts : Option (List Act)) : Type 0
+pub record SpellsWithin (limits : Limits) (bytes : List ℕ) (streams : List Stream)
+    (acts : Option (List Act)) : Type 0
   where
     pub text : IsText bytes (record { streams = streams; acts = acts })
     pub within : IsWithinLimits limits (record { streams = streams; acts = acts })
@@ -25,8 +27,8 @@ pub record SpellsWithin (limits : Limits) (bytes : List ℕ) (streams : List Str
 abbrev pub Spells : List ℕ → List Stream → Option (List Act) → Type 0
 Spells bytes streams acts = SpellsWithin standard bytes streams acts
 
--- the bytes spell streams and acts, of which this is the verdict; on a yes each reported receive has a pair in which
--- it follows its send
+-- the bytes spell streams and acts, of which this is the verdict; on a yes each reported receive
+-- has a pair in which it follows its send
 pub record IsJudgedWithin (limits : Limits) (bytes : List ℕ) (v : Verdict) : Type 0 where
   pub streams : List Stream
   pub acts : List Act
@@ -42,7 +44,8 @@ pub record LacksActsWithin (limits : Limits) (bytes : List ℕ) : Type 0 where
 
 -- the output of the bytes
 pub data IsCheckedWithin (limits : Limits) : List ℕ → Output → Type 0 where
-  Judged : (bytes : List ℕ) (v : Verdict) → IsJudgedWithin limits bytes v → IsCheckedWithin limits bytes (judged v)
+  Judged : (bytes : List ℕ) (v : Verdict) → IsJudgedWithin limits bytes v
+      → IsCheckedWithin limits bytes (judged v)
   Lacking : (bytes : List ℕ) → LacksActsWithin limits bytes → IsCheckedWithin limits bytes no_acts
   Faulty : (bytes : List ℕ) (f : ReadFault) → fault_within limits bytes ≡ Some f
       → IsCheckedWithin limits bytes (refused f)

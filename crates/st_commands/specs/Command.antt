@@ -1,6 +1,8 @@
 -- What a call of a command does to its reader and its writer: it reads all bytes, writes their
 -- output, and returns its status.
-use Rattle.std.specs.Prelude.{◌≡◌, ℕ, ◌+◌, ◌≤◌, Bool, true, false, List, length, ◌⊎◌, Some, None}
+use Rattle.std.specs.Prelude.{◌≡◌, ℕ, ◌+◌, ◌≤◌, true, false, List, length, ◌⊎◌, Some, None}
+use Rattle.st_core.specs.declared.device.sink.ByteSink.{Ghosts as SinkOf}
+use Rattle.st_core.specs.declared.device.source.ByteSource.{Ghosts as SourceOf}
 use Rattle.st_core.specs.Device.{InARow}
 use Rattle.st_text.specs.declared.limits.Limits.{Limits}
 use Rattle.st_text.specs.Limits.{standard}
@@ -16,32 +18,53 @@ use Rattle.st_commands.specs.Replayed.{IsReplayed}
 use Rattle.st_commands.specs.Charted.{IsCharted}
 use Rattle.st_commands.specs.Recorded.{IsRecorded}
 
--- of a reader: how much it takes, what its calls give, whether it is at its end, whether it failed, and its states
--- before and after
-module _ (limits : Limits) {R : Type 0} (gives : R → List ℕ → R → Type 0) (ended : R → Type 0)
-    (failed : R → Bool) (old new : R) where
-  -- The reader gave these bytes, one piece after the other, without a failure; and then it had no more, or they are
-  -- one more than may be read.
-  pub record ReadsAllWithin (bytes : List ℕ) : Type 0 where
-    pub given : InARow gives old bytes new
-    pub whole : ended new ⊎ (length bytes ≡ limits.bytes + 1)
-    pub sound : failed new ≡ false
+-- ---- the call of a device
 
-  -- The output that a command owes, by what it makes of all the bytes. Memory that runs out and a failed reader have
-  -- outputs of their own, and neither comes in place of the fault of too many bytes.
+-- A command's call as a device sees it: what the device's trait says of it, and its states before
+-- and after.
+pub record Call (Trait : Type 1) (S : Type 0) : Type 1 where
+  pub device : Trait
+  pub old : S
+  pub new : S
+
+-- A clause writes `call R.ByteSource reader.old reader.new` of a reader, and
+-- `call W.ByteSink writer.old writer.new` of a writer.
+abbrev pub call : {Trait : Type 1} {S : Type 0} → Trait → S → S → Call Trait S
+call device old new = record { device = device; old = old; new = new }
+
+abbrev pub ReaderCall : Type 0 → Type 1
+ReaderCall R = Call (SourceOf R) R
+
+abbrev pub WriterCall : Type 0 → Type 1
+WriterCall W = Call (SinkOf W) W
+
+-- ---- reading
+
+module _ (limits : Limits) {R : Type 0} (reader : ReaderCall R) where
+  -- The reader gave these bytes, one piece after the other, without a failure; and then it had no
+  -- more, or they are one more than may be read.
+  pub record ReadsAllWithin (bytes : List ℕ) : Type 0 where
+    pub given : InARow reader.device.gives reader.old bytes reader.new
+    pub whole : reader.device.ended reader.new ⊎ (length bytes ≡ limits.bytes + 1)
+    pub sound : reader.device.failed reader.new ≡ false
+
+  -- The output that a command owes, by what it makes of all the bytes. Memory that runs out and a
+  -- failed reader have outputs of their own, and neither comes in place of the fault of too many
+  -- bytes.
   pub data OwesWithin (IsOutput : List ℕ → Output → Type 0) : Output → Type 0 where
-    OfBytes : (bytes : List ℕ) (out : Output) → ReadsAllWithin bytes → IsOutput bytes out → OwesWithin IsOutput out
-    ForMemory : (bytes : List ℕ) → ReadsAllWithin bytes → length bytes ≤ limits.bytes → OwesWithin IsOutput no_memory
-    ForReader : (bytes : List ℕ) → InARow gives old bytes new → length bytes ≤ limits.bytes → failed new ≡ true
+    OfBytes : (bytes : List ℕ) (out : Output) → ReadsAllWithin bytes → IsOutput bytes out
+        → OwesWithin IsOutput out
+    ForMemory : (bytes : List ℕ) → ReadsAllWithin bytes → length bytes ≤ limits.bytes
+        → OwesWithin IsOutput no_memory
+    ForReader : (bytes : List ℕ) → InARow reader.device.gives reader.old bytes reader.new
+        → length bytes ≤ limits.bytes
+        → reader.device.failed reader.new ≡ true
         → OwesWithin IsOutput no_device
 
 -- the same within the reader's limits
-module _ {R : Type 0} (gives : R → List ℕ → R → Type 0) (ended : R → Type 0) (failed : R → Bool) (old new : R) where
-  abbrev pub ReadsAll : List ℕ → Type 0
-  ReadsAll bytes = ReadsAllWithin standard gives ended failed old new bytes
-
+module _ {R : Type 0} (reader : ReaderCall R) where
   abbrev pub Owes : (List ℕ → Output → Type 0) → Output → Type 0
-  Owes IsOutput out = OwesWithin standard gives ended failed old new IsOutput out
+  Owes IsOutput out = OwesWithin standard reader IsOutput out
 
   -- the output that each command owes
   abbrev pub OwesBy : Task → Output → Type 0
@@ -54,16 +77,19 @@ module _ {R : Type 0} (gives : R → List ℕ → R → Type 0) (ended : R → T
   -- the output that the program owes, by its words: if they ask for no command, nothing is read
   pub data OwesFor (words : List Text) : Output → Type 0 where
     ForCommand : (t : Task) (out : Output) → asked words ≡ Some t → OwesBy t out → OwesFor words out
-    ForUsage : asked words ≡ None → new ≡ old → OwesFor words usage
-    ForNoMemory : new ≡ old → OwesFor words no_memory
+    ForUsage : asked words ≡ None → reader.new ≡ reader.old → OwesFor words usage
+    ForNoMemory : reader.new ≡ reader.old → OwesFor words no_memory
 
--- of a writer: what its calls put, whether it failed, and its states before and after
-module _ {W : Type 0} (puts : W → List ℕ → W → Type 0) (failed : W → Bool) (old new : W) where
-  -- The output was written whole and its status returned; or the writer failed after a prefix of the text, and the
-  -- status is 4.
+-- ---- writing
+
+module _ {W : Type 0} (writer : WriterCall W) where
+  -- The output was written whole and its status returned; or the writer failed after a prefix of
+  -- the text, and the status is 4.
   pub data Delivers (out : Output) : ℕ → Type 0 where
-    Whole : Writes puts failed out.text old new → Delivers out out.status
-    Part : WritesPart puts failed out.text old new → Delivers out 4
+    Whole : Writes writer.device.puts writer.device.failed out.text writer.old writer.new
+        → Delivers out out.status
+    Part : WritesPart writer.device.puts writer.device.failed out.text writer.old writer.new
+        → Delivers out 4
 
   -- an output that is owed was delivered
   pub record Tells (IsOwed : Output → Type 0) (status : ℕ) : Type 0 where

@@ -14,44 +14,51 @@ use Rattle.st_commands.specs.Meaning.{MeansYes, MeansNo, MeansFits, MeansUnfit, 
 
 -- status 0 is a yes, and status 1 a no
 abbrev pub YesMeans : Type 0
-YesMeans = (bytes : List ℕ) (out : Output) → IsChecked bytes out → out.status ≡ 0 → MeansYes bytes out
+YesMeans =
+    (bytes : List ℕ) (out : Output) → IsChecked bytes out → out.status ≡ 0 → MeansYes bytes out
 
 abbrev pub NoMeans : Type 0
 NoMeans = (bytes : List ℕ) (out : Output) → IsChecked bytes out → out.status ≡ 1 → MeansNo bytes out
 
--- where the bytes spell acts that show the streams, the output is a yes
+-- if the bytes spell acts that show the streams, the output is a yes
 abbrev pub ShownIsYes : Type 0
 ShownIsYes =
-    (bytes : List ℕ) (streams : List Stream) (acts : List Act) (out : Output) → Spells bytes streams (Some acts)
+    (bytes : List ℕ) (streams : List Stream) (acts : List Act) (out : Output)
+    → Spells bytes streams (Some acts)
     → Shows top streams acts → IsChecked bytes out → out.status ≡ 0
 
 -- status 0 of `audit` is a certificate, and status 1 an event and a reason
 abbrev pub FitsMeans : Type 0
-FitsMeans = (bytes : List ℕ) (out : Output) → IsAudited bytes out → out.status ≡ 0 → MeansFits bytes out
+FitsMeans =
+    (bytes : List ℕ) (out : Output) → IsAudited bytes out → out.status ≡ 0 → MeansFits bytes out
 
 abbrev pub UnfitMeans : Type 0
-UnfitMeans = (bytes : List ℕ) (out : Output) → IsAudited bytes out → out.status ≡ 1 → MeansUnfit bytes out
+UnfitMeans =
+    (bytes : List ℕ) (out : Output) → IsAudited bytes out → out.status ≡ 1 → MeansUnfit bytes out
 
 -- the text of streams and acts
 abbrev pub certificate : List Stream → List Act → List ℕ
 certificate streams acts = spelling (record { streams = streams; acts = Some acts })
 
--- if acts have the verdict yes, and their text is one within the reader's limits, `check` of it says yes and the pairs,
--- and nothing else
+-- if acts have the verdict yes, and their text is one within the reader's limits, `check` of it
+-- says yes and the pairs, and nothing else
 abbrev pub CertificateIsYes : Type 0
 CertificateIsYes =
-    (streams : List Stream) (acts : List Act) (pairs : List (ℕ × ℕ)) → IsVerdict top streams acts (Yes pairs)
+    (streams : List Stream) (acts : List Act) (pairs : List (ℕ × ℕ))
+    → IsVerdict top streams acts (Yes pairs)
     → Spells (certificate streams acts) streams (Some acts)
     → (out : Output) → IsChecked (certificate streams acts) out → out ≡ judged (Yes pairs)
 
 -- status 0 of `drive` is a record
 abbrev pub DrivenMeans : Type 0
-DrivenMeans = (bytes : List ℕ) (out : Output) → IsRecorded bytes out → out.status ≡ 0 → MeansDriven bytes out
+DrivenMeans =
+    (bytes : List ℕ) (out : Output) → IsRecorded bytes out → out.status ≡ 0 → MeansDriven bytes out
 
 -- if the text of a record is one within the reader's limits, `check` of it says yes
 abbrev pub RecordedIsYes : Type 0
 RecordedIsYes =
-    (bytes : List ℕ) (r : Record) → HasRecord bytes r → Spells (record_output r).text r.streams (Some r.acts)
+    (bytes : List ℕ) (r : Record) → HasRecord bytes r
+    → Spells (record_output r).text r.streams (Some r.acts)
     → (out : Output) → IsChecked (record_output r).text out → out.status ≡ 0
 
 -- bytes have an output of the command, and one at most
@@ -59,9 +66,11 @@ abbrev pub HasOutput : (List ℕ → Output → Type 0) → Type 0
 HasOutput IsOutput = (bytes : List ℕ) → (out : Output) × IsOutput bytes out
 
 abbrev pub HasOneOutput : (List ℕ → Output → Type 0) → Type 0
-HasOneOutput IsOutput = (bytes : List ℕ) (one other : Output) → IsOutput bytes one → IsOutput bytes other → one ≡ other
+HasOneOutput IsOutput =
+    (bytes : List ℕ) (one other : Output) → IsOutput bytes one → IsOutput bytes other → one ≡ other
 
--- no act of a text is stuck: clocks don't reach TOP within the reader's limits, and the pids of acts are listed
+-- no act of a text is stuck: clocks don't reach TOP within the reader's limits, and the pids of
+-- acts are listed
 abbrev pub NeverStuck : Type 0
 NeverStuck = (bytes : List ℕ) (n : ℕ) → ¬ IsJudged bytes (Stuck n)
 

@@ -25,6 +25,7 @@ words lines.Usage = usage_words
 abbrev pub text_of : OutputLine → List ℕ
 text_of l = ended_line (words l)
 
--- how many bytes the words of a line take at most, each number given the room of the longest: an act that was refused
+-- how many bytes the words of a line take at most, each number given the room of the longest: an
+-- act that was refused
 abbrev pub words_room : ℕ
 words_room = 11 + pid_room + number_room

@@ -1,6 +1,6 @@
--- What a yes and a no of `check`, the findings of `audit` and a record of `drive` mean, each as one record of plain
--- facts, in the words of the machine.
-use Rattle.std.specs.Prelude.{◌≡◌, ℕ, Bool, List, ◌++◌, Option, Some, IsSome, All, codes, filter}
+-- What a yes and a no of `check`, the findings of `audit` and a record of `drive` mean, each as one
+-- record of plain facts, in the words of the machine.
+use Rattle.std.specs.Prelude.{◌≡◌, ℕ, List, ◌++◌, Option, Some, IsSome, All, codes, filter}
 use Rattle.std.specs.List.{flat_map}
 use Rattle.st_core.specs.declared.types.Pid.{Pid}
 use Rattle.st_core.specs.declared.types.Act.{Act}
@@ -21,7 +21,7 @@ use Rattle.st_text.specs.Writing.{Writes}
 use Rattle.st_chart.specs.Words.{ended_line}
 use Rattle.st_commands.specs.Output.{Output, pair_line, verdict_text}
 use Rattle.st_commands.specs.Checked.{top, Spells, SpellsWithin}
-use Rattle.st_commands.specs.Command.{ReadsAllWithin}
+use Rattle.st_commands.specs.Command.{ReaderCall, WriterCall, ReadsAllWithin}
 
 -- a yes: status 0
 pub record MeansYes (bytes : List ℕ) (out : Output) : Type 0 where
@@ -36,7 +36,8 @@ pub record MeansYes (bytes : List ℕ) (out : Output) : Type 0 where
   pub reports : All (λ x. stream acts outcomes x.pid ≡ x.events) streams
   -- each receive that was reported stands in a pair
   pub paired : AllPaired outcomes (pairs acts outcomes)
-  -- in each pair the receive follows its send, with the same label and serial, and no send stands twice
+  -- in each pair the receive follows its send, with the same label and serial, and no send stands
+  -- twice
   pub follows : Follows acts outcomes (pairs acts outcomes)
   -- the text is the line yes and a line for each of these pairs
   pub text : out.text ≡ ended_line (codes "yes") ++ flat_map pair_line (pairs acts outcomes)
@@ -48,11 +49,13 @@ pub record MeansNo (bytes : List ℕ) (out : Output) : Type 0 where
   pub verdict : Verdict
   -- the bytes spell streams and acts, within the reader's limits
   pub spelled : Spells bytes streams (Some acts)
-  -- the acts don't show the streams: they have no run in which each process reports exactly its stream
+  -- the acts don't show the streams: they have no run in which each process reports exactly its
+  -- stream
   pub refuted : ¬ Shows top streams acts
   -- the text names a place
   pub text : out.text ≡ verdict_text verdict
-  -- and the place shows it: all before it passes, and act n has no step or reports another event, or p has events left
+  -- and the place shows it: all before it passes, and act n has no step or reports another event,
+  -- or p has events left
   pub place : IsVerdict top streams acts verdict
 
 -- a certificate: status 0 of `audit`
@@ -101,26 +104,24 @@ pub record MeansDriven (bytes : List ℕ) (out : Output) : Type 0 where
   -- in it each process reports exactly its stream; so the acts show the streams (`Shows`)
   pub reports : All (λ x. stream acts outcomes x.pid ≡ x.events) streams
   -- each process's acts are its own of the given ones, in their order
-  pub own : All (λ p. filter (λ a. pid_eq (actor a) p) acts ≡ filter (λ a. pid_eq (actor a) p) given) (pids_of streams)
+  pub own : All (λ p. filter (λ a. pid_eq (actor a) p) acts
+      ≡ filter (λ a. pid_eq (actor a) p) given) (pids_of streams)
   -- the text is that of the streams with these acts
   pub text : out.text ≡ spelling (record { streams = streams; acts = Some acts })
 
 -- all bytes were read, and of them an output with this meaning was written whole
-pub record SaysWithin (limits : Limits) {R W : Type 0} (gives : R → List ℕ → R → Type 0) (ended : R → Type 0)
-    (read_failed : R → Bool) (reader read : R)
-    (puts : W → List ℕ → W → Type 0) (write_failed : W → Bool) (writer written : W)
-    (Means : List ℕ → Output → Type 0) : Type 0 where
+pub record SaysWithin (limits : Limits) {R W : Type 0} (reader : ReaderCall R)
+    (writer : WriterCall W) (Means : List ℕ → Output → Type 0) : Type 0 where
   pub bytes : List ℕ
   pub output : Output
-  pub reads : ReadsAllWithin limits gives ended read_failed reader read bytes
-  pub writes : Writes puts write_failed output.text writer written
+  pub reads : ReadsAllWithin limits reader bytes
+  pub writes : Writes writer.device.puts writer.device.failed output.text writer.old writer.new
   pub means : Means bytes output
 
 -- the same within the reader's limits
-abbrev pub Says : {R W : Type 0} → (R → List ℕ → R → Type 0) → (R → Type 0) → (R → Bool) → R → R
-    → (W → List ℕ → W → Type 0) → (W → Bool) → W → W → (List ℕ → Output → Type 0) → Type 0
-Says gives ended read_failed reader read puts write_failed writer written Means =
-    SaysWithin standard gives ended read_failed reader read puts write_failed writer written Means
+abbrev pub Says : {R W : Type 0} → ReaderCall R → WriterCall W → (List ℕ → Output → Type 0)
+    → Type 0
+Says reader writer Means = SaysWithin standard reader writer Means
 
 -- ---- the same within limits that are handed in: all is as above but for the limits
 
@@ -136,7 +137,8 @@ pub record MeansYesWithin (limits : Limits) (bytes : List ℕ) (out : Output) : 
   pub reports : All (λ x. stream acts outcomes x.pid ≡ x.events) streams
   -- each receive that was reported stands in a pair
   pub paired : AllPaired outcomes (pairs acts outcomes)
-  -- in each pair the receive follows its send, with the same label and serial, and no send stands twice
+  -- in each pair the receive follows its send, with the same label and serial, and no send stands
+  -- twice
   pub follows : Follows acts outcomes (pairs acts outcomes)
   -- the text is the line yes and a line for each of these pairs
   pub text : out.text ≡ ended_line (codes "yes") ++ flat_map pair_line (pairs acts outcomes)
@@ -147,11 +149,13 @@ pub record MeansNoWithin (limits : Limits) (bytes : List ℕ) (out : Output) : T
   pub verdict : Verdict
   -- the bytes spell streams and acts, within these limits
   pub spelled : SpellsWithin limits bytes streams (Some acts)
-  -- the acts don't show the streams: they have no run in which each process reports exactly its stream
+  -- the acts don't show the streams: they have no run in which each process reports exactly its
+  -- stream
   pub refuted : ¬ Shows top streams acts
   -- the text names a place
   pub text : out.text ≡ verdict_text verdict
-  -- and the place shows it: all before it passes, and act n has no step or reports another event, or p has events left
+  -- and the place shows it: all before it passes, and act n has no step or reports another event,
+  -- or p has events left
   pub place : IsVerdict top streams acts verdict
 
 pub record MeansFitsWithin (limits : Limits) (bytes : List ℕ) (out : Output) : Type 0 where

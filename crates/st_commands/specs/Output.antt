@@ -1,6 +1,6 @@
 -- What the program writes and returns: a text of whole lines, and an exit status (own profile).
--- The status is 0 for a yes or a run, 1 for a no, 2 for a faulty input, 3 for a faulty command line, and 4 if
--- memory runs out or a device fails.
+-- The status is 0 for a yes or a run, 1 for a no, 2 for a faulty input, 3 for a faulty command
+-- line, and 4 if memory runs out or a device fails.
 use Rattle.std.specs.Prelude.{ℕ, List, Some, ◌++◌, codes, decimal}
 use Rattle.std.specs.List.{flat_map}
 use Rattle.st_core.specs.declared.types.Act.{Act}
@@ -46,7 +46,10 @@ judged v = record { text = verdict_text v; status = verdict_status v }
 
 -- the text of streams and acts
 abbrev pub bundled : List Stream → List Act → Output
-bundled streams acts = record { text = spelling (record { streams = streams; acts = Some acts }); status = 0 }
+bundled streams acts = record {
+  text = spelling (record { streams = streams; acts = Some acts });
+  status = 0;
+}
 
 -- ---- faults
 

@@ -1,5 +1,5 @@
--- The outputs of a bundle that was read, for the contracts of the functions that a command is made of. What a command
--- does in all stands in `Command`.
+-- The outputs of a bundle that was read, for the contracts of the functions that a command is made
+-- of. What a command does in all stands in `Command`.
 use Rattle.std.specs.Prelude.{◌≡◌, ℕ, true, false, List, Some, None}
 use Rattle.std.specs.List.{list_any}
 use Rattle.st_core.specs.declared.types.Label.{Label}
@@ -27,11 +27,13 @@ use Rattle.st_commands.specs.Checked.{top}
 use Rattle.st_commands.specs.Replayed.{replayed, stuck}
 use Rattle.st_commands.specs.Audited.{report_output}
 use Rattle.st_commands.specs.Charted.{drawn, no_label}
-use Rattle.st_commands.specs.Recorded.{ranks, scripts_of, record_output, act_fault, thread_fault, join_fault}
+use Rattle.st_commands.specs.Recorded.{ranks, scripts_of, record_output, act_fault, thread_fault}
+use Rattle.st_commands.specs.Recorded.{join_fault}
 
 -- the verdict of streams and acts
 pub data ChecksTo (streams : List Stream) (acts : List Act) : Output → Type 0 where
-  Judges : (v : Verdict) → IsVerdict top streams acts v → FollowsAll top streams acts v → PairsAll top streams acts v
+  Judges : (v : Verdict) → IsVerdict top streams acts v → FollowsAll top streams acts v
+      → PairsAll top streams acts v
       → ChecksTo streams acts (judged v)
   NoRoomToCheck : ChecksTo streams acts no_memory
 
@@ -43,8 +45,10 @@ pub data AuditsTo (streams : List Stream) : Output → Type 0 where
 
 -- the chart of an order's items
 pub data DrawsTo (streams : List Stream) (label : Label) (items : List Item) : Output → Type 0 where
-  Draws : list_any (item_has_label streams label) items ≡ true → DrawsTo streams label items (drawn streams items label)
-  LacksLabel : list_any (item_has_label streams label) items ≡ false → DrawsTo streams label items (no_label label)
+  Draws : list_any (item_has_label streams label) items ≡ true
+      → DrawsTo streams label items (drawn streams items label)
+  LacksLabel : list_any (item_has_label streams label) items ≡ false
+      → DrawsTo streams label items (no_label label)
   NoRoomToDraw : DrawsTo streams label items no_memory
 
 -- the chart of streams
@@ -72,15 +76,19 @@ pub data ReplaysTo (streams : List Stream) (acts : List Act) : Output → Type 0
 
 -- what the acts come to as scripts of the streams' processes
 pub data DrivesTo (streams : List Stream) (acts : List Act) : Output → Type 0 where
-  Records : (r : Record) → IsDriven top ranks (pids_of streams) (scripts_of (pids_of streams) acts) r
+  Records : (r : Record) → IsDriven top ranks (pids_of streams)
+      (scripts_of (pids_of streams) acts) r
       → DrivesTo streams acts (record_output r)
-  Refuses : (f : DriveFault) → IsDriveFault top ranks (pids_of streams) (scripts_of (pids_of streams) acts) f
+  Refuses : (f : DriveFault)
+      → IsDriveFault top ranks (pids_of streams) (scripts_of (pids_of streams) acts) f
       → DrivesTo streams acts (drive_refused f)
   NoRoomToDrive : DrivesTo streams acts no_memory
 
 -- the same of a bundle, which may have no acts
-pub data OfBundle (OfActs : List Stream → List Act → Output → Type 0) (c : Contents) : Output → Type 0 where
-  OfSome : (acts : List Act) (out : Output) → c.acts ≡ Some acts → OfActs c.streams acts out → OfBundle OfActs c out
+pub data OfBundle (OfActs : List Stream → List Act → Output → Type 0) (c : Contents) : Output
+    → Type 0 where
+  OfSome : (acts : List Act) (out : Output) → c.acts ≡ Some acts → OfActs c.streams acts out
+      → OfBundle OfActs c out
   OfNone : c.acts ≡ None → OfBundle OfActs c no_acts
 
 abbrev pub replayed_output : Replayed → List Act → Output

@@ -1,5 +1,6 @@
--- What `drive` makes of bytes: the bundle of one run in which each process makes its own of the acts that they spell,
--- in order, or that there is none, or why they spell no acts. The events in the input are ignored.
+-- What `drive` makes of bytes: the bundle of one run in which each process makes its own of the
+-- acts that they spell, in order, or that there is none, or why they spell no acts. The events in
+-- the input are ignored.
 use Rattle.std.specs.Prelude.{◌≡◌, ℕ, List, ◌++◌, Some, map, codes, decimal}
 use Rattle.st_core.specs.declared.types.Pid.{Pid}
 use Rattle.st_core.specs.declared.types.Act.{Act}
@@ -26,9 +27,13 @@ scripts_of pids acts = map (λ p. acts_by p acts) pids
 
 -- the record as a bundle
 abbrev pub record_output : Record → Output
-record_output r = record { text = spelling (record { streams = r.streams; acts = Some r.acts }); status = 0 }
+record_output r = record {
+  text = spelling (record { streams = r.streams; acts = Some r.acts });
+  status = 0;
+}
 
--- the bytes spell streams and acts, and this is a record of the acts as scripts of the streams' processes
+-- the bytes spell streams and acts, and this is a record of the acts as scripts of the streams'
+-- processes
 pub record HasRecord (bytes : List ℕ) (r : Record) : Type 0 where
   pub streams : List Stream
   pub acts : List Act
@@ -58,18 +63,20 @@ pub record HasActs (bytes : List ℕ) : Type 0 where
   pub acts : List Act
   pub spelled : Spells bytes streams (Some acts)
 
--- The bytes spell streams and acts, and act n of p's script is told to have found another process under a lock than its
--- own. No call leaves that, which no clause says.
+-- The bytes spell streams and acts, and the output says that act n of p's script found another
+-- process under a lock than its own. No call leaves that, which no clause says.
 pub record HasStray (bytes : List ℕ) (p : Pid) (n : ℕ) : Type 0 where
   pub streams : List Stream
   pub acts : List Act
   pub spelled : Spells bytes streams (Some acts)
-  pub refused : IsDriveFault top ranks (pids_of streams) (scripts_of (pids_of streams) acts) (drive.Act p n act.Stray)
+  pub refused : IsDriveFault top ranks (pids_of streams) (scripts_of (pids_of streams) acts)
+      (drive.Act p n act.Stray)
 
 -- the output of the bytes; an act is refused for no other cause
 pub data IsRecorded : List ℕ → Output → Type 0 where
   Recorded : (bytes : List ℕ) (r : Record) → HasRecord bytes r → IsRecorded bytes (record_output r)
-  Strayed : (bytes : List ℕ) (p : Pid) (n : ℕ) → HasStray bytes p n → IsRecorded bytes (act_fault p n)
+  Strayed : (bytes : List ℕ) (p : Pid) (n : ℕ) → HasStray bytes p n
+      → IsRecorded bytes (act_fault p n)
   Unstarted : (bytes : List ℕ) → HasActs bytes → IsRecorded bytes thread_fault
   Unjoined : (bytes : List ℕ) → HasActs bytes → IsRecorded bytes join_fault
   Lacking : (bytes : List ℕ) → LacksActs bytes → IsRecorded bytes no_acts

@@ -1,5 +1,5 @@
--- What `replay` makes of bytes: the bundle of what the acts that they spell report, or the act without a step, or why
--- they spell none. The events in the input are ignored.
+-- What `replay` makes of bytes: the bundle of what the acts that they spell report, or the act
+-- without a step, or why they spell none. The events in the input are ignored.
 use Rattle.std.specs.Prelude.{◌≡◌, ℕ, List, ◌++◌, Some, codes, decimal}
 use Rattle.st_core.specs.declared.types.Pid.{Pid}
 use Rattle.st_core.specs.declared.types.Act.{Act}
@@ -16,14 +16,18 @@ use Rattle.st_commands.specs.Checked.{top, Spells, LacksActs}
 -- what the acts' run over the pids reports, as a bundle with the acts
 abbrev pub replayed : List Pid → List Act → List Outcome → Output
 replayed pids acts os =
-    record { text = spelling (record { streams = reported_streams pids acts os; acts = Some acts }); status = 0 }
+    record {
+      text = spelling (record { streams = reported_streams pids acts os; acts = Some acts });
+      status = 0;
+    }
 
 -- act n has no step
 abbrev pub stuck : ℕ → Output
 stuck n = record { text = ended_line (codes "no stuck " ++ decimal n); status = 1 }
 
 -- the bytes spell streams and acts that have this run over the streams' pids
-pub record HasRun (bytes : List ℕ) (pids : List Pid) (acts : List Act) (os : List Outcome) : Type 0 where
+pub record HasRun (bytes : List ℕ) (pids : List Pid) (acts : List Act)
+    (os : List Outcome) : Type 0 where
   pub streams : List Stream
   pub spelled : Spells bytes streams (Some acts)
   pub listed : pids ≡ pids_of streams
@@ -38,7 +42,8 @@ pub record HasStuck (bytes : List ℕ) (n : ℕ) : Type 0 where
 
 -- the output of the bytes
 pub data IsReplayed : List ℕ → Output → Type 0 where
-  Ran : (bytes : List ℕ) (pids : List Pid) (acts : List Act) (os : List Outcome) → HasRun bytes pids acts os
+  Ran : (bytes : List ℕ) (pids : List Pid) (acts : List Act) (os : List Outcome)
+      → HasRun bytes pids acts os
       → IsReplayed bytes (replayed pids acts os)
   Stuck : (bytes : List ℕ) (n : ℕ) → HasStuck bytes n → IsReplayed bytes (stuck n)
   Lacking : (bytes : List ℕ) → LacksActs bytes → IsReplayed bytes no_acts

@@ -1,10 +1,10 @@
 -- The command line, in the words of `clap`: which command a list of words asks for.
-use Rattle.std.specs.Prelude.{◌≡◌, ◌≢◌, ℕ, pos, true, List, [], ◌∷◌, Option, Some, None, option_map, option_and_then}
-use Rattle.std.specs.Prelude.{codes, if◌then◌else◌}
+use Rattle.std.specs.Prelude.{◌≡◌, ◌≢◌, ℕ, pos, true, List, Option, Some, None, option_map}
+use Rattle.std.specs.Prelude.{option_and_then, codes, if◌then◌else◌}
 use Rattle.std.specs.Str.{bytes_eq}
 use Rattle.std.specs.Str.Parse.{digits_value, without_leading_plus}
-use Rattle.clap.specs.Words.{App, Row, Rule, Text, new_app, new_rule, one_of, with_rule, with_subcommand, subcommand_of}
-use Rattle.clap.specs.Words.{fault_of}
+use Rattle.clap.specs.Words.{App, Row, Rule, Text, new_app, new_rule, one_of, with_rule}
+use Rattle.clap.specs.Words.{with_subcommand, subcommand_of, fault_of}
 use Rattle.clap.specs.ValueTests.{is_unsigned_in}
 use Rattle.clap.specs.Walk.{is_empty}
 use Rattle.clap.specs.declared.builder.value_parser.ValueParser.TheVariants as parser
@@ -35,7 +35,8 @@ chart_line = with_rule (new_app (codes "chart")) label_rule
 -- the program and its commands, of which `chart` alone takes words of its own
 abbrev pub command_line : App
 command_line =
-    with_subcommand (with_subcommand (with_subcommand (with_subcommand (with_subcommand (new_app (codes "seqaudit"))
+    with_subcommand (with_subcommand
+    (with_subcommand (with_subcommand (with_subcommand (new_app (codes "seqaudit"))
     (new_app (codes "check")).top) (new_app (codes "audit")).top) (new_app (codes "replay")).top)
     (new_app (codes "drive")).top) chart_line.top
 
@@ -47,12 +48,15 @@ label_numbered n = record { 0 = n }
 -- the label that a text writes: its number, if it is one from 0 to the greatest
 abbrev pub label_in : Text → Option Label
 label_in text =
-    if is_unsigned_in 0 greatest_label text then Some (label_numbered (digits_value 10 (without_leading_plus text)))
+    if is_unsigned_in 0 greatest_label text
+    then Some (label_numbered (digits_value 10 (without_leading_plus text)))
     else None
 
--- the chart that the words of `chart` ask for, by what `clap` found in them; of a number it leaves a first minus out
+-- the chart that the words of `chart` ask for, by what `clap` found in them; of a number it leaves
+-- a first minus out
 abbrev pub chart_of : List Row → Option Task
-chart_of found = option_map (λ l. task.Chart l) (option_and_then label_in (one_of (codes "label") found))
+chart_of found =
+    option_map (λ l. task.Chart l) (option_and_then label_in (one_of (codes "label") found))
 
 -- the command of this name, of whose own words `clap` found these
 abbrev pub task_of : Text → List Row → Option Task
@@ -63,16 +67,12 @@ task_of name found =
     else (if bytes_eq name (codes "drive") then Some task.Drive
     else (if bytes_eq name (codes "chart") then chart_of found else None))))
 
--- the command that the words ask for, by the subcommand that `clap` finds in them; none if it refuses them, or
--- if it finds no subcommand
+-- the command that the words ask for, by the subcommand that `clap` finds in them; none if it
+-- refuses them, or if it finds no subcommand
 abbrev pub asked : List Text → Option Task
 asked words =
     if is_empty (fault_of command_line words) then option_and_then (λ p. task_of p.0 p.1)
     (subcommand_of command_line words) else None
-
--- the words that ask for a chart of the label that this text writes
-abbrev pub chart_words : Text → Text → List Text
-chart_words name text = name ∷ codes "chart" ∷ codes "--label" ∷ text ∷ []
 
 -- ---- refusals
 

@@ -3,9 +3,10 @@
 ghost use Rattle.std.specs.Prelude.{◌≡◌, MatchResult};
 ghost use Rattle.st_check.specs.Answers.{verdict_of};
 ghost use Rattle.st_commands.specs.Audited.{finding_status, report_output};
-ghost use Rattle.st_commands.specs.Command.{Delivers};
+ghost use Rattle.st_commands.specs.Command.{Delivers, call};
 ghost use Rattle.st_commands.specs.Lines.{text_of};
-ghost use Rattle.st_commands.specs.Output.{verdict_status, fault_status, judged, refusal_output, refused, bundled};
+ghost use Rattle.st_commands.specs.Output.{verdict_status, fault_status, judged, refusal_output};
+ghost use Rattle.st_commands.specs.Output.{refused, bundled};
 
 use crate::lines::{OutputLine, send_line, send_verdict};
 use crate::words::Refusal;
@@ -16,7 +17,7 @@ use st_core::{Act, ByteSink, Streams};
 use st_text::{Device, ReadFault, write_parts};
 
 /// The status for a text that was written, or for a writer that failed.
-fn status_of(sent: Result<(), Device>, status: u8) -> u8
+pub fn status_of(sent: Result<(), Device>, status: u8) -> u8
     ensures { MatchResult sent (λ _. result ≡ status) (λ _. result ≡ 4) }
 {
     match sent {
@@ -63,7 +64,8 @@ fn fault_status(fault: ReadFault) -> u8
 
 /// Writes a line, and returns its status.
 pub(crate) fn tell_line<W: ByteSink>(writer: &mut W, line: OutputLine, status: u8) -> u8
-    ensures { Delivers W.puts W.failed writer.old writer.new (record { text = text_of line; status = status }) result }
+    ensures { Delivers (call W.ByteSink writer.old writer.new)
+        (record { text = text_of line; status = status }) result }
 {
     let sent = send_line(writer, line);
     status_of(sent, status)
@@ -71,39 +73,42 @@ pub(crate) fn tell_line<W: ByteSink>(writer: &mut W, line: OutputLine, status: u
 
 /// Writes a verdict, and returns its status.
 pub(crate) fn tell_verdict<W: ByteSink>(writer: &mut W, verdict: &Verdict) -> u8
-    ensures { Delivers W.puts W.failed writer.old writer.new (judged (verdict_of verdict.now)) result }
+    ensures { Delivers (call W.ByteSink writer.old writer.new)
+        (judged (verdict_of verdict.now)) result }
 {
     let sent = send_verdict(writer, verdict);
     status_of(sent, verdict_status(verdict))
 }
 
 /// Writes the report of what was found of streams, and returns its status.
-pub(crate) fn tell_finding<W: ByteSink>(writer: &mut W, streams: &Streams, finding: &Finding) -> u8
-    ensures { Delivers W.puts W.failed writer.old writer.new (report_output streams.now finding.now) result }
+pub fn tell_finding<W: ByteSink>(writer: &mut W, streams: &Streams, finding: &Finding) -> u8
+    ensures { Delivers (call W.ByteSink writer.old writer.new)
+        (report_output streams.now finding.now) result }
 {
     let sent = report(writer, streams, finding);
     status_of(sent, finding_status(finding))
 }
 
 /// Writes a fault, and returns its status.
-pub(crate) fn tell_fault<W: ByteSink>(writer: &mut W, fault: ReadFault) -> u8
-    ensures { Delivers W.puts W.failed writer.old writer.new (refused fault) result }
+pub fn tell_fault<W: ByteSink>(writer: &mut W, fault: ReadFault) -> u8
+    ensures { Delivers (call W.ByteSink writer.old writer.new) (refused fault) result }
 {
     tell_line(writer, OutputLine::Fault(fault), fault_status(fault))
 }
 
 /// Writes the text of streams and acts, and returns its status.
-pub(crate) fn tell_bundle<W: ByteSink>(writer: &mut W, streams: &Streams, acts: &[Act]) -> u8
-    ensures { Delivers W.puts W.failed writer.old writer.new (bundled streams.now acts.now) result }
+pub fn tell_bundle<W: ByteSink>(writer: &mut W, streams: &Streams, acts: &[Act]) -> u8
+    ensures { Delivers (call W.ByteSink writer.old writer.new)
+        (bundled streams.now acts.now) result }
 {
     let sent = write_parts(writer, streams, Some(acts));
     status_of(sent, 0)
 }
 
-/// Writes what words deserve that ask for no command: `fault memory` with status 4, or the usage line
-/// with status 3. If the writer fails it is 4.
+/// Writes what is due if the words ask for no command: `fault memory` with status 4, or the usage
+/// line with status 3. If the writer fails, the status is 4.
 pub fn tell_refusal<W: ByteSink>(writer: &mut W, refusal: Refusal) -> u8
-    ensures { Delivers W.puts W.failed writer.old writer.new (refusal_output refusal) result }
+    ensures { Delivers (call W.ByteSink writer.old writer.new) (refusal_output refusal) result }
 {
     match refusal {
         Refusal::Memory => tell_fault(writer, ReadFault::Memory),

@@ -3,7 +3,7 @@
 
 ghost use Rattle.std.specs.Prelude.{◌≡◌};
 ghost use Rattle.st_commands.specs.Audited.{IsAudited, IsAuditedWithin};
-ghost use Rattle.st_commands.specs.Command.{Owes, OwesWithin, Tells};
+ghost use Rattle.st_commands.specs.Command.{Owes, OwesWithin, Tells, call};
 ghost use Rattle.st_commands.specs.Meaning.{Says, MeansFits, MeansUnfit};
 ghost use Rattle.st_commands.specs.Meaning.{SaysWithin, MeansFitsWithin, MeansUnfitWithin};
 ghost use Rattle.st_commands.specs.Parts.{AuditsTo};
@@ -23,7 +23,7 @@ fn audit_streams<H: Threads + Sync, W: ByteSink>(
     streams: &Streams,
     writer: &mut W,
 ) -> u8
-    ensures { Tells W.puts W.failed writer.old writer.new (AuditsTo streams.now) result }
+    ensures { Tells (call W.ByteSink writer.old writer.new) (AuditsTo streams.now) result }
 {
     match audit::<TOP>(rt, alloc, streams) {
         Ok(finding) => tell_finding(writer, streams, &finding),
@@ -31,28 +31,29 @@ fn audit_streams<H: Threads + Sync, W: ByteSink>(
     }
 }
 
-/// Reads a bundle within the standard limits and writes what is found of its streams: see `run_audit_within`.
+/// Reads a bundle within the standard limits and writes what is found of its streams: see
+/// `run_audit_within`.
 pub fn run_audit<H: Threads + Sync, R: ByteSource, W: ByteSink>(
     rt: &H,
     alloc: Global,
     reader: &mut R,
     writer: &mut W,
 ) -> u8
-    ensures told { Tells W.puts W.failed writer.old writer.new
-        (Owes R.gives R.ended R.failed reader.old reader.new IsAudited) result }
+    ensures told { Tells (call W.ByteSink writer.old writer.new)
+        (Owes (call R.ByteSource reader.old reader.new) IsAudited) result }
 
     // What that says of a certificate and of a reason, in the machine's own words.
-    ensures fits { result ≡ 0 →
-        Says R.gives R.ended R.failed reader.old reader.new W.puts W.failed writer.old writer.new MeansFits }
-    ensures unfit { result ≡ 1 →
-        Says R.gives R.ended R.failed reader.old reader.new W.puts W.failed writer.old writer.new MeansUnfit }
+    ensures fits { result ≡ 0 → Says (call R.ByteSource reader.old reader.new)
+        (call W.ByteSink writer.old writer.new) MeansFits }
+    ensures unfit { result ≡ 1 → Says (call R.ByteSource reader.old reader.new)
+        (call W.ByteSink writer.old writer.new) MeansUnfit }
 {
     run_audit_within(rt, alloc, reader, writer, Limits::STANDARD)
 }
 
-/// Reads a bundle within these limits and writes its streams with a certificate's acts, with status 0, or an event and
-/// a reason, with status 1. Faulty input is 2; if memory runs out, or a reader or a writer fails, it is 4. It sorts on
-/// several threads.
+/// Reads a bundle within these limits and writes its streams with a certificate's acts, with status
+/// 0, or an event and a reason, with status 1. Faulty input is 2; if memory runs out, or a reader
+/// or a writer fails, it is 4. It sorts on several threads.
 pub fn run_audit_within<H: Threads + Sync, R: ByteSource, W: ByteSink>(
     rt: &H,
     alloc: Global,
@@ -60,16 +61,15 @@ pub fn run_audit_within<H: Threads + Sync, R: ByteSource, W: ByteSink>(
     writer: &mut W,
     limits: Limits,
 ) -> u8
-    ensures told { Tells W.puts W.failed writer.old writer.new
-        (OwesWithin limits R.gives R.ended R.failed reader.old reader.new (IsAuditedWithin limits)) result }
+    ensures told { Tells (call W.ByteSink writer.old writer.new)
+        (OwesWithin limits (call R.ByteSource reader.old reader.new)
+        (IsAuditedWithin limits)) result }
 
     // What that says of a certificate and of a reason, in the machine's own words.
-    ensures fits { result ≡ 0 →
-        SaysWithin limits R.gives R.ended R.failed reader.old reader.new W.puts W.failed writer.old writer.new
-        (MeansFitsWithin limits) }
-    ensures unfit { result ≡ 1 →
-        SaysWithin limits R.gives R.ended R.failed reader.old reader.new W.puts W.failed writer.old writer.new
-        (MeansUnfitWithin limits) }
+    ensures fits { result ≡ 0 → SaysWithin limits (call R.ByteSource reader.old reader.new)
+        (call W.ByteSink writer.old writer.new) (MeansFitsWithin limits) }
+    ensures unfit { result ≡ 1 → SaysWithin limits (call R.ByteSource reader.old reader.new)
+        (call W.ByteSink writer.old writer.new) (MeansUnfitWithin limits) }
 {
     match read_within(alloc, reader, limits) {
         Ok(bundle) => audit_streams(rt, alloc, &bundle.streams, writer),

@@ -5,7 +5,7 @@ ghost use Rattle.std.specs.Prelude.{◌≡◌};
 ghost use Rattle.st_pair.specs.Links.{IsPairing};
 ghost use Rattle.st_pair.specs.Pairing.{IsPairFault};
 ghost use Rattle.st_commands.specs.Charted.{IsCharted};
-ghost use Rattle.st_commands.specs.Command.{Owes, Tells};
+ghost use Rattle.st_commands.specs.Command.{Owes, Tells, call};
 ghost use Rattle.st_commands.specs.Parts.{ChartsTo, DrawsTo};
 
 use crate::answer::{tell_fault, tell_finding, tell_line};
@@ -28,7 +28,7 @@ fn tell_unpaired<W: ByteSink>(
     writer: &mut W,
 ) -> u8
     requires { IsPairFault streams.now fault }
-    ensures { Tells W.puts W.failed writer.old writer.new (ChartsTo streams.now label) result }
+    ensures { Tells (call W.ByteSink writer.old writer.new) (ChartsTo streams.now label) result }
 {
     match unfit_by(fault) {
         Some(finding) => tell_finding(writer, streams, &finding),
@@ -46,7 +46,8 @@ fn tell_chart<W: ByteSink>(
     writer: &mut W,
 ) -> u8
     requires { chains.now ≡ streams.now }
-    ensures { Tells W.puts W.failed writer.old writer.new (DrawsTo streams.now label items.now) result }
+    ensures { Tells (call W.ByteSink writer.old writer.new)
+        (DrawsTo streams.now label items.now) result }
 {
     match chart(alloc, writer, streams, chains, items, label) {
         Ok(()) => 0,
@@ -66,7 +67,7 @@ fn chart_paired<H: Threads + Sync, W: ByteSink>(
     writer: &mut W,
 ) -> u8
     requires { IsPairing streams.now pairing.now }
-    ensures { Tells W.puts W.failed writer.old writer.new (ChartsTo streams.now label) result }
+    ensures { Tells (call W.ByteSink writer.old writer.new) (ChartsTo streams.now label) result }
 {
     let Ok(chains) = Chains::new(alloc, streams, pairing) else {
         return tell_fault(writer, ReadFault::Memory);
@@ -85,7 +86,7 @@ fn chart_streams<H: Threads + Sync, W: ByteSink>(
     label: Label,
     writer: &mut W,
 ) -> u8
-    ensures { Tells W.puts W.failed writer.old writer.new (ChartsTo streams.now label) result }
+    ensures { Tells (call W.ByteSink writer.old writer.new) (ChartsTo streams.now label) result }
 {
     match pair(alloc, streams) {
         Ok(pairing) => chart_paired(rt, alloc, streams, &pairing, label, writer),
@@ -93,9 +94,9 @@ fn chart_streams<H: Threads + Sync, W: ByteSink>(
     }
 }
 
-/// Reads a bundle and writes the chart of the label, with status 0. If no item has the label, or the
-/// streams can't be paired, it says so with status 1. Faulty input is 2; if memory runs out, or a
-/// reader or a writer fails, it is 4. It sorts on several threads.
+/// Reads a bundle and writes the chart of the label, with status 0. If no item has the label, or
+/// the streams can't be paired, it says so with status 1. Faulty input is 2; if memory runs out, or
+/// a reader or a writer fails, it is 4. It sorts on several threads.
 pub fn run_chart<H: Threads + Sync, R: ByteSource, W: ByteSink>(
     rt: &H,
     alloc: Global,
@@ -103,8 +104,8 @@ pub fn run_chart<H: Threads + Sync, R: ByteSource, W: ByteSink>(
     writer: &mut W,
     label: Label,
 ) -> u8
-    ensures { Tells W.puts W.failed writer.old writer.new
-        (Owes R.gives R.ended R.failed reader.old reader.new (IsCharted label)) result }
+    ensures { Tells (call W.ByteSink writer.old writer.new)
+        (Owes (call R.ByteSource reader.old reader.new) (IsCharted label)) result }
 {
     match read(alloc, reader) {
         Ok(bundle) => chart_streams(rt, alloc, &bundle.streams, label, writer),

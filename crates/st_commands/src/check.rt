@@ -3,7 +3,7 @@
 ghost use Rattle.std.specs.Prelude.{◌≡◌};
 ghost use Rattle.st_text.specs.Contents.{contents};
 ghost use Rattle.st_commands.specs.Checked.{IsChecked, IsCheckedWithin};
-ghost use Rattle.st_commands.specs.Command.{Owes, OwesWithin, Tells};
+ghost use Rattle.st_commands.specs.Command.{Owes, OwesWithin, Tells, call};
 ghost use Rattle.st_commands.specs.Meaning.{Says, MeansYes, MeansNo};
 ghost use Rattle.st_commands.specs.Meaning.{SaysWithin, MeansYesWithin, MeansNoWithin};
 ghost use Rattle.st_commands.specs.Parts.{ChecksTo, OfBundle};
@@ -20,7 +20,7 @@ pub(crate) const TOP: u64 = u64::MAX;
 
 /// Writes the verdict of streams and acts, and returns its status.
 fn check_acts<W: ByteSink>(alloc: Global, streams: &Streams, acts: &[Act], writer: &mut W) -> u8
-    ensures { Tells W.puts W.failed writer.old writer.new (ChecksTo streams.now acts.now) result }
+    ensures { Tells (call W.ByteSink writer.old writer.new) (ChecksTo streams.now acts.now) result }
 {
     match check::<TOP>(alloc, streams, acts) {
         Ok(verdict) => tell_verdict(writer, &verdict),
@@ -30,7 +30,8 @@ fn check_acts<W: ByteSink>(alloc: Global, streams: &Streams, acts: &[Act], write
 
 /// Writes the verdict of a bundle, and returns its status.
 fn check_bundle<W: ByteSink>(alloc: Global, bundle: &Bundle, writer: &mut W) -> u8
-    ensures { Tells W.puts W.failed writer.old writer.new (OfBundle ChecksTo (contents bundle.now)) result }
+    ensures { Tells (call W.ByteSink writer.old writer.new)
+        (OfBundle ChecksTo (contents bundle.now)) result }
 {
     match &bundle.acts {
         Some(acts) => check_acts(alloc, &bundle.streams, acts.as_slice(), writer),
@@ -40,19 +41,20 @@ fn check_bundle<W: ByteSink>(alloc: Global, bundle: &Bundle, writer: &mut W) -> 
 
 /// Reads a bundle within the standard limits and writes its verdict: see `run_check_within`.
 pub fn run_check<R: ByteSource, W: ByteSink>(alloc: Global, reader: &mut R, writer: &mut W) -> u8
-    ensures told { Tells W.puts W.failed writer.old writer.new
-        (Owes R.gives R.ended R.failed reader.old reader.new IsChecked) result }
+    ensures told { Tells (call W.ByteSink writer.old writer.new)
+        (Owes (call R.ByteSource reader.old reader.new) IsChecked) result }
 
     // What that says of a yes and a no, in the machine's own words.
-    ensures yes { result ≡ 0 →
-        Says R.gives R.ended R.failed reader.old reader.new W.puts W.failed writer.old writer.new MeansYes }
-    ensures no { result ≡ 1 →
-        Says R.gives R.ended R.failed reader.old reader.new W.puts W.failed writer.old writer.new MeansNo }
+    ensures yes { result ≡ 0 → Says (call R.ByteSource reader.old reader.new)
+        (call W.ByteSink writer.old writer.new) MeansYes }
+    ensures no { result ≡ 1 → Says (call R.ByteSource reader.old reader.new)
+        (call W.ByteSink writer.old writer.new) MeansNo }
 {
     run_check_within(alloc, reader, writer, Limits::STANDARD)
 }
 
-/// Reads a bundle within these limits and writes its verdict: `yes` and the pairs with status 0, or a no with status
+/// Reads a bundle within these limits and writes its verdict: `yes` and the pairs with status 0, or
+/// a no with status
 /// 1. Faulty input is 2; if memory runs out, or a reader or a writer fails, it is 4.
 pub fn run_check_within<R: ByteSource, W: ByteSink>(
     alloc: Global,
@@ -60,16 +62,15 @@ pub fn run_check_within<R: ByteSource, W: ByteSink>(
     writer: &mut W,
     limits: Limits,
 ) -> u8
-    ensures told { Tells W.puts W.failed writer.old writer.new
-        (OwesWithin limits R.gives R.ended R.failed reader.old reader.new (IsCheckedWithin limits)) result }
+    ensures told { Tells (call W.ByteSink writer.old writer.new)
+        (OwesWithin limits (call R.ByteSource reader.old reader.new)
+        (IsCheckedWithin limits)) result }
 
     // What that says of a yes and a no, in the machine's own words.
-    ensures yes { result ≡ 0 →
-        SaysWithin limits R.gives R.ended R.failed reader.old reader.new W.puts W.failed writer.old writer.new
-        (MeansYesWithin limits) }
-    ensures no { result ≡ 1 →
-        SaysWithin limits R.gives R.ended R.failed reader.old reader.new W.puts W.failed writer.old writer.new
-        (MeansNoWithin limits) }
+    ensures yes { result ≡ 0 → SaysWithin limits (call R.ByteSource reader.old reader.new)
+        (call W.ByteSink writer.old writer.new) (MeansYesWithin limits) }
+    ensures no { result ≡ 1 → SaysWithin limits (call R.ByteSource reader.old reader.new)
+        (call W.ByteSink writer.old writer.new) (MeansNoWithin limits) }
 {
     match read_within(alloc, reader, limits) {
         Ok(bundle) => check_bundle(alloc, &bundle, writer),

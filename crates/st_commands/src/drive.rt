@@ -1,12 +1,12 @@
 //! The command `drive`: what the acts of the input's bundle come to if each process makes its own,
 //! in order, on a thread of its own. The events in the input are ignored.
 
-ghost use Rattle.std.specs.Prelude.{◌≡◌, ◌≢◌, ◌<◌, ◌∷◌, ◌++◌, [], IfOk, OnErr, OnOk, length, map, replicate};
-ghost use Rattle.std.specs.Prelude.{slice_set, slice_index_or};
+ghost use Rattle.std.specs.Prelude.{◌≡◌, ◌≢◌, ◌<◌, ◌∷◌, ◌++◌, [], IfOk, OnErr, OnOk, length, map};
+ghost use Rattle.std.specs.Prelude.{replicate, slice_set, slice_index_or};
 ghost use Rattle.st_core.specs.Run.{pids_of};
 ghost use Rattle.st_runtime.specs.Driven.{acts_by};
 ghost use Rattle.st_text.specs.Contents.{contents};
-ghost use Rattle.st_commands.specs.Command.{Delivers, Owes, Tells};
+ghost use Rattle.st_commands.specs.Command.{Delivers, Owes, Tells, call};
 ghost use Rattle.st_commands.specs.Meaning.{Says, MeansDriven};
 ghost use Rattle.st_commands.specs.Parts.{DrivesTo, OfBundle, drive_refused};
 ghost use Rattle.st_commands.specs.Recorded.{IsRecorded, scripts_of};
@@ -39,7 +39,8 @@ fn empty_scripts(alloc: Global, count: usize) -> Result<Vec<Sequence<Act>>, Allo
 fn push_at(scripts: &mut [Sequence<Act>], place: usize, act: Act) -> Result<(), AllocError>
     requires { place < length scripts.old }
     ensures ok { OnOk result
-        (scripts.new ≡ slice_set scripts.old place (slice_index_or scripts.old place [] ++ act ∷ [])) }
+        (scripts.new ≡ slice_set scripts.old place
+        (slice_index_or scripts.old place [] ++ act ∷ [])) }
     ensures err { OnErr result (scripts.new ≡ scripts.old) }
 {
     let script = &mut scripts[place];
@@ -68,7 +69,7 @@ fn scripts_of(
 /// Writes why scripts weren't driven, and returns its status.
 fn tell_undriven<W: ByteSink>(writer: &mut W, fault: DriveFault) -> u8
     requires { fault ≢ DriveFault.NotRising }
-    ensures { Delivers W.puts W.failed writer.old writer.new (drive_refused fault) result }
+    ensures { Delivers (call W.ByteSink writer.old writer.new) (drive_refused fault) result }
 {
     match fault {
         DriveFault::Memory => tell_fault(writer, ReadFault::Memory),
@@ -87,7 +88,7 @@ fn drive_acts<H: Threads + Wait + Sync, W: ByteSink>(
     acts: Sequence<Act>,
     writer: &mut W,
 ) -> u8
-    ensures { Tells W.puts W.failed writer.old writer.new (DrivesTo streams.now acts) result }
+    ensures { Tells (call W.ByteSink writer.old writer.new) (DrivesTo streams.now acts) result }
 {
     let Ok(scripts) = scripts_of(alloc, streams, acts) else {
         return tell_fault(writer, ReadFault::Memory);
@@ -105,7 +106,8 @@ fn drive_bundle<H: Threads + Wait + Sync, W: ByteSink>(
     bundle: Bundle,
     writer: &mut W,
 ) -> u8
-    ensures { Tells W.puts W.failed writer.old writer.new (OfBundle DrivesTo (contents bundle)) result }
+    ensures { Tells (call W.ByteSink writer.old writer.new)
+        (OfBundle DrivesTo (contents bundle)) result }
 {
     let Bundle { streams, acts } = bundle;
     match acts {
@@ -115,20 +117,20 @@ fn drive_bundle<H: Threads + Wait + Sync, W: ByteSink>(
 }
 
 /// Reads a bundle, drives the acts of each process on a thread of its own, and writes the bundle of
-/// the one run that they made, with status 0. Faulty input is 2; if memory runs out, a thread can't be
-/// started, or a reader or a writer fails, it is 4. It waits for locks and for the threads.
+/// the one run that they made, with status 0. Faulty input is 2; if memory runs out, a thread can't
+/// be started, or a reader or a writer fails, it is 4. It waits for locks and for the threads.
 pub fn run_drive<H: Threads + Wait + Sync, R: ByteSource, W: ByteSink>(
     rt: &H,
     alloc: Global,
     reader: &mut R,
     writer: &mut W,
 ) -> u8
-    ensures told { Tells W.puts W.failed writer.old writer.new
-        (Owes R.gives R.ended R.failed reader.old reader.new IsRecorded) result }
+    ensures told { Tells (call W.ByteSink writer.old writer.new)
+        (Owes (call R.ByteSource reader.old reader.new) IsRecorded) result }
 
     // What that says of a record, in the machine's own words.
-    ensures driven { result ≡ 0 →
-        Says R.gives R.ended R.failed reader.old reader.new W.puts W.failed writer.old writer.new MeansDriven }
+    ensures driven { result ≡ 0 → Says (call R.ByteSource reader.old reader.new)
+        (call W.ByteSink writer.old writer.new) MeansDriven }
 {
     match read(alloc, reader) {
         Ok(bundle) => drive_bundle(rt, alloc, bundle, writer),

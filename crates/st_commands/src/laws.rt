@@ -37,8 +37,8 @@ pub fn fits_means()
     ensures { FitsMeans }
 {}
 
-/// An output of the audit with status 1 means that the bytes spell streams, and that the named event
-/// is there and the reason holds at it.
+/// An output of the audit with status 1 means that the bytes spell streams, and that the named
+/// event is there and the reason holds at it.
 pub fn unfit_means()
     ensures { UnfitMeans }
 {}
@@ -48,9 +48,10 @@ pub fn certificate_is_yes()
     ensures { CertificateIsYes }
 {}
 
-/// An output of the drive with status 0 means that the bytes spell acts of listed processes, and that
-/// what it writes is the text of streams and acts that are a run of the machine from zero clocks in
-/// which each process reports exactly its stream and makes exactly its own acts of those, in order.
+/// An output of the drive with status 0 means that the bytes spell acts of listed processes, and
+/// that what it writes is the text of streams and acts that are a run of the machine from zero
+/// clocks in which each process reports exactly its stream and makes exactly its own acts of those,
+/// in order.
 pub fn driven_means()
     ensures { DrivenMeans }
 {}
@@ -69,8 +70,8 @@ pub fn an_answer()
     a_verdict();
 }
 
-/// Bytes have one output at most of the check, of the replay and of each label's chart, so whoever knows the bytes that
-/// were read knows which output is owed.
+/// Bytes have one output at most of the check, of the replay and of each label's chart, so whoever
+/// knows the bytes that were read knows which output is owed.
 pub fn one_answer()
     ensures check { HasOneOutput IsChecked }
     ensures replay { HasOneOutput IsReplayed }

@@ -1,8 +1,9 @@
-//! The commands of `seqaudit` on any reader and writer: each reads all bytes, writes the text that
-//! they deserve, and returns the exit status.
+//! The commands of `seqaudit` on any reader and writer: each reads all bytes, writes the output for
+//! them, and returns the exit status.
 //!
-//! What `run` writes and returns is said by its contract, and for each command by that of a function
-//! of its own; the definitions stand in `specs/`, and what the outputs mean in `laws`.
+//! The contract of `run` says what it writes and returns, and each command has a function whose
+//! contract says it for that command. The definitions stand in `specs/`; `laws` says what the
+//! outputs mean.
 #![tactic(auto)]
 
 mod answer;
@@ -16,11 +17,11 @@ mod program;
 mod replay;
 mod words;
 
-pub use answer::tell_refusal;
+pub use answer::{status_of, tell_bundle, tell_fault, tell_finding, tell_refusal};
 pub use audit::{run_audit, run_audit_within};
 pub use chart::run_chart;
 pub use check::{run_check, run_check_within};
 pub use drive::run_drive;
 pub use program::run;
 pub use replay::run_replay;
-pub use words::{Refusal, Task, chart_labels, plain_words, read_words};
+pub use words::{Refusal, Task, read_words};

@@ -48,7 +48,8 @@ pub(crate) enum OutputLine {
 fn put_numbered(buffer: &mut Buffer, words: &[u8], number: u64)
     requires { array_vec_len buffer.old + (length words.now + number_room) ≤ buffer_room }
     ensures items { buffer.new.items ≡ buffer.old.items ++ (words.now ++ decimal number) }
-    ensures len { array_vec_len buffer.new ≤ array_vec_len buffer.old + (length words.now + number_room) }
+    ensures len { array_vec_len buffer.new
+        ≤ array_vec_len buffer.old + (length words.now + number_room) }
 {
     put_bytes(buffer, words);
     put_number(buffer, number);
@@ -190,7 +191,8 @@ fn write_verdict<W: ByteSink>(
     }
 }
 
-/// Writes one line to the writer. Not inlined, so that its buffer isn't on the stack of its callers.
+/// Writes one line to the writer. Not inlined, so that its buffer isn't on the stack of its
+/// callers.
 #[inline(never)]
 pub(crate) fn send_line<W: ByteSink>(writer: &mut W, line: OutputLine) -> Result<(), Device>
     ensures { WritesText W.puts W.failed (text_of line) writer.old writer.new result }
@@ -203,7 +205,8 @@ pub(crate) fn send_line<W: ByteSink>(writer: &mut W, line: OutputLine) -> Result
 /// Writes a verdict to the writer. Not inlined, for the same reason.
 #[inline(never)]
 pub(crate) fn send_verdict<W: ByteSink>(writer: &mut W, verdict: &Verdict) -> Result<(), Device>
-    ensures { WritesText W.puts W.failed (verdict_text (verdict_of verdict.now)) writer.old writer.new result }
+    ensures { WritesText W.puts W.failed
+        (verdict_text (verdict_of verdict.now)) writer.old writer.new result }
 {
     let mut buffer = Buffer::new();
     write_verdict(writer, &mut buffer, verdict)?;

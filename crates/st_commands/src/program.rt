@@ -1,7 +1,7 @@
 //! A run of the program: the command that its words ask for, on its reader and its writer.
 
 ghost use Rattle.std.specs.Prelude.{map};
-ghost use Rattle.st_commands.specs.Command.{OwesBy, OwesFor, Tells};
+ghost use Rattle.st_commands.specs.Command.{OwesBy, OwesFor, Tells, call};
 
 use crate::answer::tell_refusal;
 use crate::audit::run_audit;
@@ -22,8 +22,8 @@ fn run_task<H: AllocGlobal + Threads + Wait + Sync, R: ByteSource, W: ByteSink>(
     reader: &mut R,
     writer: &mut W,
 ) -> u8
-    ensures { Tells W.puts W.failed writer.old writer.new
-        (OwesBy R.gives R.ended R.failed reader.old reader.new task) result }
+    ensures { Tells (call W.ByteSink writer.old writer.new)
+        (OwesBy (call R.ByteSource reader.old reader.new) task) result }
 {
     match task {
         Task::Check => run_check(rt.alloc(), reader, writer),
@@ -34,8 +34,8 @@ fn run_task<H: AllocGlobal + Threads + Wait + Sync, R: ByteSource, W: ByteSink>(
     }
 }
 
-/// Does what the words ask for, of which the first is the program's name, and gives the exit
-/// status. Words that ask for no command are told how to, with status 3. All texts go to the
+/// Does what the words ask for, of which the first is the program's name, and returns the exit
+/// status. If they ask for no command, it writes the usage line, with status 3. All texts go to the
 /// writer.
 pub fn run<H: AllocGlobal + Threads + Wait + Sync, S: AsStr, R: ByteSource, W: ByteSink>(
     rt: &H,
@@ -43,8 +43,8 @@ pub fn run<H: AllocGlobal + Threads + Wait + Sync, S: AsStr, R: ByteSource, W: B
     reader: &mut R,
     writer: &mut W,
 ) -> u8
-    ensures { Tells W.puts W.failed writer.old writer.new
-        (OwesFor R.gives R.ended R.failed reader.old reader.new (map S.text words.now)) result }
+    ensures { Tells (call W.ByteSink writer.old writer.new)
+        (OwesFor (call R.ByteSource reader.old reader.new) (map S.text words.now)) result }
 {
     match read_words(rt.alloc(), words) {
         Ok(task) => run_task(rt, task, reader, writer),

@@ -2,7 +2,7 @@
 //! ignored.
 
 ghost use Rattle.st_text.specs.Contents.{contents};
-ghost use Rattle.st_commands.specs.Command.{Delivers, Owes, Tells};
+ghost use Rattle.st_commands.specs.Command.{Delivers, Owes, Tells, call};
 ghost use Rattle.st_commands.specs.Parts.{OfBundle, ReplaysTo, replayed_output};
 ghost use Rattle.st_commands.specs.Replayed.{IsReplayed};
 
@@ -16,7 +16,8 @@ use std::alloc::Global;
 
 /// Writes what acts that were replayed came to, and returns its status.
 fn tell_replayed<W: ByteSink>(writer: &mut W, replayed: &Replayed, acts: &[Act]) -> u8
-    ensures { Delivers W.puts W.failed writer.old writer.new (replayed_output replayed.now acts.now) result }
+    ensures { Delivers (call W.ByteSink writer.old writer.new)
+        (replayed_output replayed.now acts.now) result }
 {
     match replayed {
         Replayed::Ran(streams, _) => tell_bundle(writer, streams, acts),
@@ -26,7 +27,8 @@ fn tell_replayed<W: ByteSink>(writer: &mut W, replayed: &Replayed, acts: &[Act])
 
 /// Writes what the acts report in a run over the streams' processes, and returns its status.
 fn replay_acts<W: ByteSink>(alloc: Global, streams: &Streams, acts: &[Act], writer: &mut W) -> u8
-    ensures { Tells W.puts W.failed writer.old writer.new (ReplaysTo streams.now acts.now) result }
+    ensures { Tells (call W.ByteSink writer.old writer.new)
+        (ReplaysTo streams.now acts.now) result }
 {
     match replay::<TOP>(alloc, streams.pids(), acts) {
         Ok(replayed) => tell_replayed(writer, &replayed, acts),
@@ -37,7 +39,8 @@ fn replay_acts<W: ByteSink>(alloc: Global, streams: &Streams, acts: &[Act], writ
 
 /// Writes what a bundle's acts report, and returns its status.
 fn replay_bundle<W: ByteSink>(alloc: Global, bundle: &Bundle, writer: &mut W) -> u8
-    ensures { Tells W.puts W.failed writer.old writer.new (OfBundle ReplaysTo (contents bundle.now)) result }
+    ensures { Tells (call W.ByteSink writer.old writer.new)
+        (OfBundle ReplaysTo (contents bundle.now)) result }
 {
     match &bundle.acts {
         Some(acts) => replay_acts(alloc, &bundle.streams, acts.as_slice(), writer),
@@ -49,8 +52,8 @@ fn replay_bundle<W: ByteSink>(alloc: Global, bundle: &Bundle, writer: &mut W) ->
 /// without a step, with status 1. Faulty input is 2; if memory runs out, or a reader or a writer
 /// fails, it is 4.
 pub fn run_replay<R: ByteSource, W: ByteSink>(alloc: Global, reader: &mut R, writer: &mut W) -> u8
-    ensures { Tells W.puts W.failed writer.old writer.new
-        (Owes R.gives R.ended R.failed reader.old reader.new IsReplayed) result }
+    ensures { Tells (call W.ByteSink writer.old writer.new)
+        (Owes (call R.ByteSource reader.old reader.new) IsReplayed) result }
 {
     match read(alloc, reader) {
         Ok(bundle) => replay_bundle(alloc, &bundle, writer),

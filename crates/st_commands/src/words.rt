@@ -1,10 +1,10 @@
 //! The command line: which command the words ask for. `clap` reads them; nothing here reads the
 //! input or writes.
 
-ghost use Rattle.std.specs.Prelude.{◌≡◌, [], ◌∷◌, codes, Some, None, IfOk, IfErr, map};
-ghost use Rattle.clap.specs.Words.{Text, app_of, found_of, kind_of, rows_of};
-ghost use Rattle.st_commands.specs.Words.{asked, chart_line, chart_of, chart_words, command_line, label_numbered};
-ghost use Rattle.st_commands.specs.Words.{task_of, IsRefusal, IsRefusalOf};
+ghost use Rattle.std.specs.Prelude.{◌≡◌, Some, IfOk, IfErr, map};
+ghost use Rattle.clap.specs.Words.{app_of, found_of, kind_of, rows_of};
+ghost use Rattle.st_commands.specs.Words.{asked, chart_line, chart_of, command_line, task_of};
+ghost use Rattle.st_commands.specs.Words.{IsRefusal, IsRefusalOf};
 
 use clap::error::ErrorKind;
 use clap::{Arg, ArgMatches, Command, Error};
@@ -124,44 +124,3 @@ pub fn read_words<S: AsStr>(alloc: Global, words: &[S]) -> Result<Task, Refusal>
         Err(error) => Err(why_refused(&error)),
     }
 }
-
-/// Law: whatever the program's name, the word of a command alone asks for that command, but for
-/// `chart`, which wants its label. No word, a second word, a word in part and a request for help ask
-/// for nothing.
-pub fn plain_words()
-    ensures check { (name : Text) → asked (name ∷ codes "check" ∷ []) ≡ Some Task.Check }
-    ensures audit { (name : Text) → asked (name ∷ codes "audit" ∷ []) ≡ Some Task.Audit }
-    ensures replay { (name : Text) → asked (name ∷ codes "replay" ∷ []) ≡ Some Task.Replay }
-    ensures drive { (name : Text) → asked (name ∷ codes "drive" ∷ []) ≡ Some Task.Drive }
-    ensures none { asked [] ≡ None }
-    ensures no_word { (name : Text) → asked (name ∷ []) ≡ None }
-    ensures two_words { (name : Text) → asked (name ∷ codes "check" ∷ codes "again" ∷ []) ≡ None }
-    ensures part { (name : Text) → asked (name ∷ codes "chec" ∷ []) ≡ None }
-    ensures help { (name : Text) → asked (name ∷ codes "--help" ∷ []) ≡ None }
-    ensures chart { (name : Text) → asked (name ∷ codes "chart" ∷ []) ≡ None }
-{}
-
-/// Law: what `clap`'s reader of integers makes of labels. A plus and zeros may stand in front, and
-/// the label may follow `=`, and then a minus may stand before a zero. More than the greatest label, no
-/// digits at all, a word that begins with a minus, and the option twice ask for nothing.
-pub fn chart_labels()
-    ensures plain { (name : Text) → asked (chart_words name (codes "17")) ≡ Some (Task.Chart (label_numbered 17)) }
-    ensures plus { (name : Text) → asked (chart_words name (codes "+17")) ≡ Some (Task.Chart (label_numbered 17)) }
-    ensures zeros { (name : Text) → asked (chart_words name (codes "017")) ≡ Some (Task.Chart (label_numbered 17)) }
-    ensures greatest { (name : Text) → asked (chart_words name (codes "4294967295"))
-        ≡ Some (Task.Chart (label_numbered 4294967295)) }
-    ensures too_great { (name : Text) → asked (chart_words name (codes "4294967296")) ≡ None }
-    ensures negative { (name : Text) → asked (chart_words name (codes "-1")) ≡ None }
-    ensures empty { (name : Text) → asked (chart_words name []) ≡ None }
-    ensures word { (name : Text) → asked (chart_words name (codes "x")) ≡ None }
-    ensures joined { (name : Text) → asked (name ∷ codes "chart" ∷ codes "--label=17" ∷ [])
-        ≡ Some (Task.Chart (label_numbered 17)) }
-    ensures joined_minus { (name : Text) → asked (name ∷ codes "chart" ∷ codes "--label=-1" ∷ []) ≡ None }
-    ensures minus_zero { (name : Text) → asked (name ∷ codes "chart" ∷ codes "--label=-0" ∷ [])
-        ≡ Some (Task.Chart (label_numbered 0)) }
-    ensures unfinished { (name : Text) → asked (name ∷ codes "chart" ∷ codes "--label" ∷ []) ≡ None }
-    ensures twice { (name : Text) →
-        asked (name ∷ codes "chart" ∷ codes "--label=17" ∷ codes "--label=17" ∷ []) ≡ None }
-    ensures bare { (name : Text) → asked (name ∷ codes "chart" ∷ codes "17" ∷ []) ≡ None }
-    ensures elsewhere { (name : Text) → asked (name ∷ codes "check" ∷ codes "--label" ∷ codes "17" ∷ []) ≡ None }
-{}

@@ -2,8 +2,8 @@
 -- completion, in which none of them holds. And why acts show the streams otherwise: a completion
 -- needs nothing, and if each receive has its send, the reasons decide.
 use Rattle.std.proofs.Common.{◌≡◌, ◌↔◌, inl, inr, ℕ, ◌<◌, ◌≤◌, zero, suc, ◌&&◌, nat_lt, not, Bool, true}
-use Rattle.std.proofs.Common.{false, cond, List}
-use Rattle.std.proofs.Common.{[], ◌∷◌, map, find, slice_get, take, Option, Some, None, refl, sym, ◌∙◌, ap, subst, arith}
+use Rattle.std.proofs.Common.{false, cond, List, [], ◌∷◌, map, find, slice_get, take, Option, Some, None}
+use Rattle.std.proofs.Common.{refl, sym, ◌∙◌, ap, subst, arith}
 use Rattle.std.proofs.lemmas.Bool.{false≢true}
 use Rattle.std.proofs.lemmas.Bool.Decides.{nat_tests}
 use Rattle.std.proofs.lemmas.Option.{same_Some}
@@ -19,21 +19,21 @@ use Rattle.st_pair.specs.Pairing.{refusal}
 use Rattle.st_pair.specs.Places.{event_at, is_stamp}
 use Rattle.st_pair.proofs.ForCallers.{paired, refused_never_shown, serial_rises, stamp_counts_rise}
 use Rattle.st_plan.specs.Marks.{all_streams, told_events, told_streams, Marked, Whole}
-use Rattle.st_full.specs.Completed.{IsCompleted, IsShownInOneTrace}
+use Rattle.st_completions.specs.FinalReasons.{Unsent as unsent_at_least}
+use Rattle.st_completions.specs.Completed.{IsCompleted, IsShownInOneTrace}
 use Rattle.st_plan.specs.Full.{IsFull}
-use Rattle.st_full.specs.Local.{IsNeedless}
-use Rattle.st_full.specs.Needs.{HoldsOfNone, is_late, is_rootless, marked_of}
-use Rattle.st_full.specs.Reasons.{HasNoReason}
-use Rattle.st_full.specs.Supply.{IsSupplied}
-use Rattle.st_full.specs.Wholes.{wholes_of}
-use Rattle.st_full.proofs.ForCallers.{run_completed, told_zeros_final}
-use Rattle.st_complete.specs.declared.answer.Never.{Never}
-use Rattle.st_complete.specs.declared.answer.Never.TheVariants as never
-use Rattle.st_complete.specs.declared.answer.Answer.{Answer}
-use Rattle.st_complete.specs.declared.answer.Answer.TheVariants as answer
-use Rattle.st_complete.specs.Flaws.{LastHigher}
-use Rattle.st_complete.specs.Answers.{is_too_high, HoldsThere, IsAnswer, IsFinal, IsHigher, IsLastHigher, IsNeverFinal}
-use Rattle.st_complete.specs.Answers.{IsOtherwiseShown, IsReason, IsRooted}
+use Rattle.st_completions.specs.Local.{IsNeedless}
+use Rattle.st_completions.specs.Needs.{HoldsOfNone, is_late, is_rootless, marked_of}
+use Rattle.st_completions.specs.Supply.{IsSupplied}
+use Rattle.st_completions.specs.Wholes.{wholes_of}
+use Rattle.st_completions.proofs.ForCallers.{never_shown_anywhere, run_completed, told_zeros_final}
+use Rattle.st_needs.specs.Reasons.{HoldsThere}
+use Rattle.st_hidden.specs.declared.answer.Never.{Never}
+use Rattle.st_hidden.specs.declared.answer.Never.TheVariants as never
+use Rattle.st_hidden.specs.declared.answer.Answer.{Answer}
+use Rattle.st_hidden.specs.declared.answer.Answer.TheVariants as answer
+use Rattle.st_hidden.specs.Answers.{IsAnswer, IsFinal, IsLastHigher, IsNeverFinal, IsOtherwiseShown, IsReason}
+use Rattle.st_complete.specs.Higher.{IsHigher, LastHigher}
 
 -- THE LAST EVENT THAT COUNTS NO LOWER
 
@@ -45,7 +45,8 @@ abbrev IsNot : Bool → Type 0
 IsNot stamp = stamp ≡ true → ⊥
 
 receive_if : (stamp : Bool) → IsNot stamp → stamp ≡ false
-receive_if stamp never_is = elim stamp as (λ b. IsNot b → b ≡ false) [ true ↦ λ h. absurd (h refl) | false ↦ λ h. refl ] never_is
+receive_if stamp never_is = elim stamp as
+    (λ b. IsNot b → b ≡ false) [ true ↦ λ h. absurd (h refl) | false ↦ λ h. refl ] never_is
 
 -- in streams that pairing accepts it is a receive
 pub last_higher : (streams : List Stream) (p : Pid) (i j this : ℕ) (e : Event) → refusal streams ≡ None
@@ -154,7 +155,12 @@ reason_final top streams p i never.Unfounded law sound is = λ most acts none sh
       | inr behind ↦ told_zeros_final most streams sound is.0 p i behind acts none shows
     ]
 reason_final top streams p i never.Unsent law sound is = λ most acts none shows.
-    is.1.unsupplied ((law most streams acts shows none sound.draft.rising).2 is.1.event.serial.prev)
+    elim is.1 [
+      | inl unsent ↦
+          unsent.unsupplied ((law most streams acts shows none sound.draft.rising).2 unsent.event.serial.prev)
+      | inr at_least ↦ never_shown_anywhere most streams sound.draft.rising
+          (unsent_at_least at_least.event.serial.prev) at_least.unsupplied acts none shows
+    ]
 reason_final top streams p i never.TooHigh law sound is = λ shown.
     let full = run_completed top streams shown.acts shown.shows shown.one_trace sound.draft.rising in
     above top is.1.event.serial.this is.1.holds
@@ -168,14 +174,11 @@ never_final top streams (answer.Open p i) law sound is = tt
 
 -- STREAMS THAT ARE SHOWN
 
-pub not_above : (top this : ℕ) → nat_lt top this ≡ false → this ≤ top
-not_above top this low = grind (arith, nat_tests, low)
-
 abbrev pub AreShownIfNeedless : Type 0
 AreShownIfNeedless = (top : ℕ) (streams : List Stream) → IsRising (pids_of streams)
     → (IsShownInOneTrace top streams ↔ IsCompleted IsNeedless top streams)
 
--- a completion needs nothing; and Open says that a send is hidden
+-- a completion needs nothing; and Open says that a send is hidden and a stretch asks for two scarce counts
 pub otherwise_shown : (top : ℕ) (streams : List Stream) (found : Answer) → AreShownIfNeedless → IsStreams streams
     → IsAnswer top streams found → IsOtherwiseShown top streams found
 otherwise_shown top streams (answer.Whole wholes) law sound is =
@@ -186,21 +189,14 @@ otherwise_shown top streams (answer.Whole wholes) law sound is =
       is = is.needless;
     })
 otherwise_shown top streams (answer.Never p i reason) law sound is = tt
-otherwise_shown top streams (answer.Open p i) law sound is = λ sends.
+otherwise_shown top streams (answer.Open p i) law sound is =
     let h = is.hidden in
-    false≢true (sym (sends.reported h.pid h.index h.event h.at) ∙ h.hides)
-
--- STREAMS WITHOUT A REASON
-
--- no reason that decides is left
-pub none_left : (top : ℕ) (streams : List Stream) → IsRooted streams → HoldsOfNone (is_too_high top) streams
-    → ((v : ℕ) → IsSupplied streams v) → HasNoReason top streams
-none_left top streams rooted within supplied = record {
-  timely = rooted.timely;
-  founded = rooted.rooted;
-  supplied = supplied;
-  within = λ p i e at. not_above top e.serial.this (within p i e at);
-}
+    let t = is.two.two in
+    let counts = t.counts in (
+      λ sends. false≢true (sym (sends.reported h.pid h.index h.event h.at) ∙ h.hides),
+      λ no_two. t.two (no_two t.event.from t.low t.high t.low_of t.high_of (omega arith) t.one_stretch t.low_asks
+          t.high_asks),
+    )
 
 -- AN EVENT THAT IS LATE
 

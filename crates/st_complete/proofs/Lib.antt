@@ -1,11 +1,4 @@
 -- The lemmas.
-pub mod Kept
-pub mod Flawed
 pub mod Judged
 pub mod Answered
-pub mod Counted
-pub mod Ranking
-pub mod Supplied
-pub mod ZeroBehind
-pub mod Needed
-pub mod Constructed
+pub mod Linked

@@ -1,9 +1,4 @@
--- What public contracts cite: what a completion is, and what the results mean.
-pub mod Completions
-pub mod Answers
--- For the parts alone: tests of one event, and where they hold first; counts as they stand; what is told of one count;
--- and needs of 0 that two events tell.
-pub mod Flaws
-pub mod Counts
-pub mod Told
-pub mod Zeros
+-- Public contracts cite what the results mean in `st_hidden`, and what a completion is in `st_needs`.
+-- For the parts alone: what the judge asks of an event, and the last event that counts no lower.
+pub mod Links
+pub mod Higher

@@ -1,10 +1,15 @@
 //! Whole streams with invented events among those that are there.
 
-use crate::completion::marks_at;
-use crate::feeds::{Feed, pid_at};
-use crate::flaws::{Left, is_stamp};
+ghost use Rattle.std.specs.Prelude.{◌≡◌};
+ghost use Rattle.st_complete.specs.Links.{receipt_of};
+
+use crate::feeds::{Feed, Feeding, Need, pid_at};
+use crate::lean::Whole;
+use crate::links::short;
 use st_core::{Draft, Event, Kind, Pid, Sequence, Serial, Streams};
+use st_needs::{Left, is_marked, is_stamp, marks_at};
 use std::alloc::{AllocError, Global};
+use std::mem::replace;
 
 /// Whole streams that may be a completion: all events, and which of them are told.
 #[derive(Debug, Drop)]
@@ -15,22 +20,32 @@ pub(crate) struct Candidate {
     pub told: Vec<Sequence<bool>>,
 }
 
-/// An untold event and its place.
-#[derive(Clone, Copy, Debug)]
+impl Candidate {
+    /// The same, as the acts are built from it.
+    pub(crate) fn whole(&self) -> Whole<'_> {
+        Whole {
+            streams: &self.streams,
+            told: &self.told,
+        }
+    }
+}
+
+/// An untold event: its place, and the message that it sends or receives.
+#[derive(Clone, Copy, Debug, PartialEq, Eq, PartialOrd, Ord)]
 pub(crate) struct Extra {
     /// The process, by its place in the streams.
-    pub process: usize,
+    pub process: u32,
     /// The index of the event that it stands before.
-    pub index: usize,
-    /// The event.
-    pub event: Event,
+    pub index: u32,
+    /// The message, by its number. Of sends before one event that with the lower number comes
+    /// first; before one event there is at most one receive.
+    pub message: u32,
 }
 
 impl Extra {
-    /// The key by which extras are sorted. Of sends before one event that with the lower count
-    /// comes first; before one event there is at most one receive.
-    fn key(&self) -> (usize, usize, u64) {
-        (self.process, self.index, self.event.serial.this)
+    /// Whether it stands before this event of the process at this place.
+    fn is_before(&self, process: u32, index: u32) -> bool {
+        self.process == process && self.index == index
     }
 }
 
@@ -43,33 +58,37 @@ pub(crate) struct Extras {
     pub receives: Vec<Extra>,
 }
 
-/// A send that must be invented for a need.
-#[derive(Clone, Copy, Debug, PartialEq, Eq, PartialOrd, Ord)]
-struct WantedSend {
-    /// Its sender.
-    from: usize,
-    /// Its count.
-    count: u64,
-    /// The process of the need.
-    to: usize,
-    /// The index of the need.
-    index: usize,
-}
-
-/// The sends that must be invented, by sender and count.
-fn wanted_sends(alloc: Global, feeds: &[Feed]) -> Result<Vec<WantedSend>, AllocError> {
-    let mut wanted = Vec::new(alloc);
-    for feed in feeds {
-        if feed.sent.is_none() {
-            wanted.push(WantedSend {
-                from: feed.from,
-                count: feed.need.count,
-                to: feed.need.process,
-                index: feed.need.index,
-            })?;
+/// The needs whose messages must be invented, by sender and count.
+fn wanted_needs(
+    alloc: Global,
+    feeding: &Feeding,
+    process_count: usize,
+) -> Result<Vec<u32>, AllocError> {
+    let mut starts = vec![in alloc; 0usize; process_count]?;
+    for feed in &feeding.feeds {
+        if let Feed::Invented(from) = feed {
+            if let Some(count) = starts.get_mut(*from as usize) {
+                *count = count.saturating_add(1);
+            }
         }
     }
-    wanted.sort()?;
+    let mut total: usize = 0;
+    for start in starts.iter_mut() {
+        let count = *start;
+        *start = total;
+        total = total.saturating_add(count);
+    }
+    let mut wanted = vec![in alloc; 0u32; total]?;
+    for &number in &feeding.order {
+        if let Some(Feed::Invented(from)) = feeding.feeds.get(number as usize) {
+            if let Some(start) = starts.get_mut(*from as usize) {
+                if let Some(slot) = wanted.get_mut(*start) {
+                    *slot = number;
+                }
+                *start = start.saturating_add(1);
+            }
+        }
+    }
     Ok(wanted)
 }
 
@@ -84,12 +103,15 @@ fn prev_before(left: Left, count: u64, next: Option<&Event>) -> u64 {
     }
 }
 
-/// The invented sends and their receives.
+/// The invented sends.
 #[derive(Debug, Drop)]
 struct Inventions {
-    extras: Extras,
+    /// The messages, by sender and count.
+    messages: Vec<Event>,
+    /// Where they stand.
+    sends: Vec<Extra>,
     /// The process whose sends are being invented.
-    process: Option<usize>,
+    process: Option<u32>,
     /// The index of the event that the last send stands before.
     index: usize,
     /// What the process's events before that index leave.
@@ -106,8 +128,10 @@ pub(crate) fn events_at(streams: &Streams, process: usize) -> &[Event] {
     }
 }
 
-/// The untold receive of a send.
-fn receive_of(sent: &Event) -> Event {
+/// The receive of a send.
+pub(crate) fn receive_of(sent: &Event) -> Event
+    ensures { result ≡ receipt_of sent.now }
+{
     Event {
         kind: Kind::Receive,
         ..*sent
@@ -123,17 +147,11 @@ pub(crate) fn items_from<T>(items: &[T], index: usize) -> &[T] {
 }
 
 impl Inventions {
-    /// None yet, with room for so many sends and receives.
-    fn new(
-        alloc: Global,
-        send_count: usize,
-        receive_count: usize,
-    ) -> Result<Inventions, AllocError> {
+    /// None yet, with room for so many sends, and for as many messages as needs have.
+    fn new(alloc: Global, send_count: usize, need_count: usize) -> Result<Inventions, AllocError> {
         Ok(Inventions {
-            extras: Extras {
-                sends: Vec::with_capacity(alloc, send_count)?,
-                receives: Vec::with_capacity(alloc, receive_count)?,
-            },
+            messages: Vec::with_capacity(alloc, need_count)?,
+            sends: Vec::with_capacity(alloc, send_count)?,
             process: None,
             index: 0,
             left: Left::by_none(),
@@ -142,7 +160,7 @@ impl Inventions {
     }
 
     /// Turns to the sends of this process.
-    fn turn_to(&mut self, process: usize) {
+    fn turn_to(&mut self, process: u32) {
         if self.process != Some(process) {
             self.process = Some(process);
             self.index = 0;
@@ -163,172 +181,222 @@ impl Inventions {
         }
     }
 
-    /// Invents a send and its receive. Sends of a process come by rising count.
-    fn invent(&mut self, streams: &Streams, wanted: WantedSend) -> Result<(), AllocError> {
-        let (Some(from), Some(to)) = (pid_at(streams, wanted.from), pid_at(streams, wanted.to))
+    /// Invents a message of this sender for a need. Messages of a process come by rising count.
+    fn invent(&mut self, streams: &Streams, need: Need, sender: u32) -> Result<(), AllocError> {
+        let process = need.process as usize;
+        let (Some(from), Some(to)) = (pid_at(streams, sender as usize), pid_at(streams, process))
         else {
             return Ok(());
         };
-        let Some(need) = streams.event(to, wanted.index as u64) else {
+        let Some(asks) = events_at(streams, process).get(need.index as usize) else {
             return Ok(());
         };
         let events = streams.events(from);
-        self.turn_to(wanted.from);
-        self.go_on(events, wanted.count);
+        self.turn_to(sender);
+        self.go_on(events, need.count);
         let sent = Event {
-            label: need.label,
+            label: asks.label,
             kind: Kind::Send,
             to: Some(to),
             from,
             serial: Serial {
-                prev: prev_before(self.left_by_sends, wanted.count, events.get(self.index)),
-                this: wanted.count,
+                prev: prev_before(self.left_by_sends, need.count, events.get(self.index)),
+                this: need.count,
             },
             value: 0,
         };
         self.left_by_sends = self.left_by_sends.after(&sent);
-        self.extras.sends.push(Extra {
-            process: wanted.from,
-            index: self.index,
-            event: sent,
+        self.sends.push(Extra {
+            process: sender,
+            index: short(self.index),
+            message: short(self.messages.len()),
         })?;
-        self.extras.receives.push(Extra {
-            process: wanted.to,
-            index: wanted.index,
-            event: receive_of(&sent),
-        })?;
+        self.messages.push(sent)?;
         Ok(())
-    }
-
-    /// The extras.
-    fn into_extras(self) -> Extras {
-        let Inventions {
-            extras,
-            process: _,
-            index: _,
-            left: _,
-            left_by_sends: _,
-        } = self;
-        extras
     }
 }
 
-/// The sends and receives that these feeds lack in the whole streams. The reported sends are those
-/// of the streams that these complete.
-pub(crate) fn extras_of(
+/// Messages, the untold sends of some of them, and their untold receives.
+#[derive(Debug, Drop)]
+pub(crate) struct Fed {
+    /// The messages.
+    pub messages: Vec<Event>,
+    /// Where they are sent and received.
+    pub extras: Extras,
+}
+
+/// Adds the messages of reported sends, and notes the message of each need.
+fn note_reported(
+    streams: &Streams,
+    feeding: &Feeding,
+    messages: &mut Vec<Event>,
+    numbers: &mut [u32],
+) -> Result<(), AllocError> {
+    for (number, feed) in feeding.feeds.iter().enumerate() {
+        if let Feed::Reported(from, index) = feed {
+            if let Some(sent) = events_at(streams, *from as usize).get(*index as usize) {
+                if let Some(slot) = numbers.get_mut(number) {
+                    *slot = short(messages.len());
+                }
+                messages.push(*sent)?;
+            }
+        }
+    }
+    Ok(())
+}
+
+/// The receives of the needs' messages, right before the needs.
+fn receives_of(alloc: Global, needs: &[Need], numbers: &[u32]) -> Result<Vec<Extra>, AllocError> {
+    let mut receives = Vec::with_capacity(alloc, needs.len())?;
+    for (need, message) in needs.iter().zip(numbers) {
+        receives.push(Extra {
+            process: need.process,
+            index: need.index,
+            message: *message,
+        })?;
+    }
+    Ok(receives)
+}
+
+/// The sends and receives that the needs of the whole streams lack, each of which gets a message.
+/// The reported sends are those of the streams that these complete.
+pub(crate) fn feed_all(
     alloc: Global,
     streams: &Streams,
     whole: &Streams,
-    feeds: Vec<Feed>,
-) -> Result<Extras, AllocError> {
-    let wanted = wanted_sends(alloc, &feeds)?;
-    let mut inventions = Inventions::new(alloc, wanted.len(), feeds.len())?;
-    for &send in &wanted {
-        inventions.invent(whole, send)?;
-    }
-    let mut extras = inventions.into_extras();
-    for feed in &feeds {
-        let sent = feed
-            .sent
-            .and_then(|index| events_at(streams, feed.from).get(index));
-        if let Some(sent) = sent {
-            extras.receives.push(Extra {
-                process: feed.need.process,
-                index: feed.need.index,
-                event: receive_of(sent),
-            })?;
+    feeding: Feeding,
+) -> Result<Fed, AllocError> {
+    let wanted = wanted_needs(alloc, &feeding, whole.pids().len())?;
+    let mut numbers = vec![in alloc; 0u32; feeding.needs.len()]?;
+    let mut inventions = Inventions::new(alloc, wanted.len(), feeding.needs.len())?;
+    for &number in &wanted {
+        let number = number as usize;
+        if let (Some(&need), Some(Feed::Invented(sender))) = (
+            feeding.needs.get(number),
+            feeding.feeds.get(number),
+        ) {
+            if let Some(slot) = numbers.get_mut(number) {
+                *slot = short(inventions.messages.len());
+            }
+            inventions.invent(whole, need, *sender)?;
         }
     }
-    Ok(extras)
+    let Inventions {
+        mut messages,
+        sends,
+        process: _,
+        index: _,
+        left: _,
+        left_by_sends: _,
+    } = inventions;
+    note_reported(streams, &feeding, &mut messages, &mut numbers)?;
+    let receives = receives_of(alloc, &feeding.needs, &numbers)?;
+    Ok(Fed {
+        messages,
+        extras: Extras { sends, receives },
+    })
 }
 
-/// Adds the first of the untold events, as long as they stand before this event of the process, and
-/// returns the others.
-fn add_extras<'a>(
-    draft: &mut Draft,
-    marks: &mut Vec<bool>,
-    pid: Pid,
-    extras: &'a [Extra],
-    process: usize,
-    index: usize,
-) -> Result<&'a [Extra], AllocError> {
-    let mut rest = extras;
-    for extra in extras {
-        if extra.process != process || extra.index != index {
-            return Ok(rest);
+/// Whole streams that are being put together, with the untold events that are left.
+#[derive(Debug, Drop)]
+struct Assembly<'a> {
+    draft: Draft,
+    /// The marks of the process whose events are being added.
+    marks: Vec<bool>,
+    messages: &'a [Event],
+    sends: &'a [Extra],
+    receives: &'a [Extra],
+}
+
+impl Assembly<'_> {
+    /// Adds an event of the process.
+    fn add(&mut self, pid: Pid, event: Event, told: bool) -> Result<(), AllocError> {
+        let Ok(()) = self.draft.add(pid, event) else {
+            return Err(AllocError);
+        };
+        self.marks.push(told)?;
+        Ok(())
+    }
+
+    /// Adds the untold sends that stand before this event of the process.
+    fn add_sends(&mut self, pid: Pid, process: u32, index: u32) -> Result<(), AllocError> {
+        for extra in self.sends {
+            if !extra.is_before(process, index) {
+                return Ok(());
+            }
+            if let Some(sent) = self.messages.get(extra.message as usize) {
+                self.add(pid, *sent, false)?;
+            }
+            self.sends = items_from(self.sends, 1);
         }
-        let Ok(()) = draft.add(pid, extra.event) else {
-            return Err(AllocError);
-        };
-        marks.push(false)?;
-        rest = rest.split_first().map_or(&[], |(_, others)| others);
+        Ok(())
     }
-    Ok(rest)
-}
 
-/// Adds the events of a process, each behind the untold ones that stand before it, and returns the
-/// untold sends and receives that are left.
-fn add_process<'a>(
-    draft: &mut Draft,
-    marks: &mut Vec<bool>,
-    streams: &Streams,
-    base: Option<&Candidate>,
-    extras: (&'a [Extra], &'a [Extra]),
-    process: usize,
-) -> Result<(&'a [Extra], &'a [Extra]), AllocError> {
-    let Some(pid) = pid_at(streams, process) else {
-        return Ok(extras);
-    };
-    let (mut sends, mut receives) = extras;
-    let events = streams.events(pid);
-    for (index, event) in events.iter().enumerate() {
-        sends = add_extras(draft, marks, pid, sends, process, index)?;
-        receives = add_extras(draft, marks, pid, receives, process, index)?;
-        let Ok(()) = draft.add(pid, *event) else {
-            return Err(AllocError);
-        };
-        marks.push(is_told(base, process, index))?;
+    /// Adds the untold receives that stand before this event of the process.
+    fn add_receives(&mut self, pid: Pid, process: u32, index: u32) -> Result<(), AllocError> {
+        for extra in self.receives {
+            if !extra.is_before(process, index) {
+                return Ok(());
+            }
+            if let Some(sent) = self.messages.get(extra.message as usize) {
+                self.add(pid, receive_of(sent), false)?;
+            }
+            self.receives = items_from(self.receives, 1);
+        }
+        Ok(())
     }
-    sends = add_extras(draft, marks, pid, sends, process, events.len())?;
-    receives = add_extras(draft, marks, pid, receives, process, events.len())?;
-    Ok((sends, receives))
-}
 
-/// Whether the event of the candidate is told; if there is no candidate, each event is.
-fn is_told(base: Option<&Candidate>, process: usize, index: usize) -> bool {
-    match base {
-        None => true,
-        Some(candidate) => marks_at(&candidate.told, process)
-            .get(index)
-            .copied()
-            .unwrap_or(false),
+    /// Adds the events of a process, each behind the untold ones that stand before it. Events past
+    /// the end of the marks are told if there are none at all.
+    fn add_process(
+        &mut self,
+        pid: Pid,
+        process: usize,
+        events: &[Event],
+        told: Option<&[bool]>,
+    ) -> Result<(), AllocError> {
+        let process = short(process);
+        for (i, event) in events.iter().enumerate() {
+            let index = short(i);
+            self.add_sends(pid, process, index)?;
+            self.add_receives(pid, process, index)?;
+            self.add(pid, *event, told.is_none_or(|marks| is_marked(marks, i)))?;
+        }
+        let index = short(events.len());
+        self.add_sends(pid, process, index)?;
+        self.add_receives(pid, process, index)
     }
 }
 
-/// The streams with the extras; nothing if an extra names a process that isn't listed, which the
-/// search never asks for.
-fn with_extras(
+/// The streams with these untold events, which rise; nothing if an extra names a process that isn't
+/// listed, which the search never asks for.
+fn with_extras<'a>(
     alloc: Global,
     streams: &Streams,
     base: Option<&Candidate>,
-    mut extras: Extras,
+    messages: &'a [Event],
+    extras: &'a Extras,
 ) -> Result<Option<Candidate>, AllocError> {
-    extras.sends.sort_by_key(|extra| extra.key())?;
-    extras.receives.sort_by_key(|extra| extra.key())?;
-    let mut draft = Draft::new(alloc);
+    let mut assembly = Assembly {
+        draft: Draft::new(alloc),
+        marks: Vec::new(alloc),
+        messages,
+        sends: &extras.sends,
+        receives: &extras.receives,
+    };
     for &pid in streams.pids() {
-        let Ok(()) = draft.open(pid) else {
+        let Ok(()) = assembly.draft.open(pid) else {
             return Err(AllocError);
         };
     }
-    let mut told = Vec::new(alloc);
-    let mut rest = (extras.sends.as_slice(), extras.receives.as_slice());
-    for process in 0..streams.pids().len() {
-        let mut marks = Vec::new(alloc);
-        rest = add_process(&mut draft, &mut marks, streams, base, rest, process)?;
-        told.push(Sequence::from_vec(marks))?;
+    let mut told = Vec::with_capacity(alloc, streams.pids().len())?;
+    for (process, &pid) in streams.pids().iter().enumerate() {
+        let marks = base.map(|candidate| marks_at(&candidate.told, process));
+        assembly.add_process(pid, process, streams.events(pid), marks)?;
+        let full = replace(&mut assembly.marks, Vec::new(alloc));
+        told.push(Sequence::from_vec(full))?;
     }
-    match draft.close() {
+    match assembly.draft.close() {
         Err(_) => Ok(None),
         Ok(streams) => Ok(Some(Candidate { streams, told })),
     }
@@ -338,16 +406,18 @@ fn with_extras(
 pub(crate) fn with_untold(
     alloc: Global,
     streams: &Streams,
-    extras: Extras,
+    messages: &[Event],
+    extras: &Extras,
 ) -> Result<Option<Candidate>, AllocError> {
-    with_extras(alloc, streams, None, extras)
+    with_extras(alloc, streams, None, messages, extras)
 }
 
 /// The candidate with these untold events besides its own.
 pub(crate) fn with_more(
     alloc: Global,
     candidate: &Candidate,
-    extras: Extras,
+    messages: &[Event],
+    extras: &Extras,
 ) -> Result<Option<Candidate>, AllocError> {
-    with_extras(alloc, &candidate.streams, Some(candidate), extras)
+    with_extras(alloc, &candidate.streams, Some(candidate), messages, extras)
 }

@@ -1,16 +1,19 @@
 //! The acts of a completion.
 
-ghost use Rattle.std.specs.Prelude.{◌≡◌, true, IfOk};
+ghost use Rattle.std.specs.Prelude.{◌≡◌, ◌≤◌, length, true, IfOk, IfSome};
 ghost use Rattle.st_core.specs.Laws.{is_reset, NoReset};
 ghost use Rattle.st_core.specs.Run.{Shows};
 ghost use Rattle.st_core.specs.Verdict.{IsVerdict, Yes};
 
 use crate::answer::{Certificate, CertificateFault};
-use crate::completion::Completion;
+use crate::climbs::with_shared_climbs;
+use crate::homes::with_near_homes;
+use crate::lean::{LeanFault, Whole, lean_acts};
 use st_audit::told_acts;
 use st_check::{Verdict, check};
 use st_core::{Act, Sequence, Streams};
-use std::alloc::Global;
+use st_needs::Completion;
+use std::alloc::{AllocError, Global};
 use std::thread::Threads;
 
 /// Whether the act is a reset.
@@ -43,18 +46,23 @@ fn has_no_reset(acts: &[Act]) -> bool
     true
 }
 
-/// Asks the checker whether the acts show the streams. If it says yes, and none of them is a reset,
-/// they are the certificate.
+/// Asks the checker whether the acts show the streams. If it says yes, none of them is a reset, and
+/// they are at most `most`, they are the certificate.
 fn certify<const TOP: u64>(
     alloc: Global,
     streams: &Streams,
     acts: Sequence<Act>,
+    most: u64,
 ) -> Result<Certificate, CertificateFault>
     ensures verdict { IfOk result
         (λ found. IsVerdict TOP streams.now found.acts (Yes found.pairs)) }
     ensures shows { IfOk result (λ found. Shows TOP streams.now found.acts) }
     ensures one_trace { IfOk result (λ found. NoReset found.acts) }
+    ensures within { IfOk result (λ found. length found.acts ≤ most) }
 {
+    if acts.len() as u64 > most {
+        return Err(CertificateFault::TooMany);
+    }
     if !has_no_reset(acts.as_slice()) {
         return Err(CertificateFault::TooMany);
     }
@@ -65,11 +73,112 @@ fn certify<const TOP: u64>(
     }
 }
 
+/// Asks the checker whether the lean acts show the streams. If there are none, or it doesn't say
+/// yes, nothing is certified.
+fn certify_lean<const TOP: u64>(
+    rt: &(impl Threads + Sync),
+    alloc: Global,
+    streams: &Streams,
+    whole: Whole<'_>,
+    most: u64,
+) -> Result<Option<Certificate>, AllocError>
+    ensures verdict { IfOk result (λ some. IfSome some
+        (λ found. IsVerdict TOP streams.now found.acts (Yes found.pairs))) }
+    ensures shows { IfOk result (λ some. IfSome some (λ found. Shows TOP streams.now found.acts)) }
+    ensures one_trace { IfOk result (λ some. IfSome some (λ found. NoReset found.acts)) }
+    ensures within { IfOk result (λ some. IfSome some (λ found. length found.acts ≤ most)) }
+{
+    let acts = match lean_acts::<TOP>(rt, alloc, whole, most) {
+        Ok(acts) => acts,
+        Err(LeanFault::Memory) => return Err(AllocError),
+        Err(LeanFault::TooMany | LeanFault::Stopped) => return Ok(None),
+    };
+    match certify::<TOP>(alloc, streams, acts, most) {
+        Ok(found) => Ok(Some(found)),
+        Err(CertificateFault::Memory) => Err(AllocError),
+        Err(CertificateFault::TooMany) => Ok(None),
+    }
+}
+
+/// The same with shared climbs.
+fn certify_shared<const TOP: u64>(
+    rt: &(impl Threads + Sync),
+    alloc: Global,
+    streams: &Streams,
+    whole: Whole<'_>,
+    most: u64,
+) -> Result<Option<Certificate>, AllocError>
+    ensures verdict { IfOk result (λ some. IfSome some
+        (λ found. IsVerdict TOP streams.now found.acts (Yes found.pairs))) }
+    ensures shows { IfOk result (λ some. IfSome some (λ found. Shows TOP streams.now found.acts)) }
+    ensures one_trace { IfOk result (λ some. IfSome some (λ found. NoReset found.acts)) }
+    ensures within { IfOk result (λ some. IfSome some (λ found. length found.acts ≤ most)) }
+{
+    match with_shared_climbs(alloc, whole)? {
+        None => certify_lean::<TOP>(rt, alloc, streams, whole, most),
+        Some(candidate) => certify_lean::<TOP>(rt, alloc, streams, candidate.whole(), most),
+    }
+}
+
+/// The same with invented messages from processes that need few silent stamps for them.
+fn certify_completion<const TOP: u64>(
+    rt: &(impl Threads + Sync),
+    alloc: Global,
+    streams: &Streams,
+    completion: &Completion,
+    most: u64,
+) -> Result<Option<Certificate>, AllocError>
+    ensures verdict { IfOk result (λ some. IfSome some
+        (λ found. IsVerdict TOP streams.now found.acts (Yes found.pairs))) }
+    ensures shows { IfOk result (λ some. IfSome some (λ found. Shows TOP streams.now found.acts)) }
+    ensures one_trace { IfOk result (λ some. IfSome some (λ found. NoReset found.acts)) }
+    ensures within { IfOk result (λ some. IfSome some (λ found. length found.acts ≤ most)) }
+{
+    let whole = Whole {
+        streams: completion.streams(),
+        told: completion.marks(),
+    };
+    match with_near_homes(alloc, whole)? {
+        None => certify_shared::<TOP>(rt, alloc, streams, whole, most),
+        Some(candidate) => certify_shared::<TOP>(rt, alloc, streams, candidate.whole(), most),
+    }
+}
+
+/// Certifies the acts of the auditor's construction, for which it is proved that they show the told
+/// events of plain streams.
+pub(crate) fn certify_told<const TOP: u64>(
+    rt: &(impl Threads + Sync),
+    alloc: Global,
+    streams: &Streams,
+    completion: &Completion,
+    most: u64,
+) -> Result<Certificate, CertificateFault>
+    ensures verdict { IfOk result
+        (λ found. IsVerdict TOP streams.now found.acts (Yes found.pairs)) }
+    ensures shows { IfOk result (λ found. Shows TOP streams.now found.acts) }
+    ensures one_trace { IfOk result (λ found. NoReset found.acts) }
+    ensures within { IfOk result (λ found. length found.acts ≤ most) }
+{
+    let Ok(built) = told_acts::<TOP, Completion>(rt, alloc, completion.streams(), completion) else {
+        return Err(CertificateFault::Memory);
+    };
+    match built {
+        Some(acts) => certify::<TOP>(alloc, streams, acts, most),
+        None => Err(CertificateFault::TooMany),
+    }
+}
+
 /// Writes the acts of a completion. They show the streams: the checker has said yes to them.
 ///
-/// It fails with `TooMany` if there are more than `most` acts. Each count that is missing between
-/// two events of the completion takes an act, so it also fails with `TooMany` if more than 1,000
-/// counts are missing before one event, or 1,000,000 in all.
+/// A token is changed only if its label, or a flag that decides whether an event is told, is
+/// wrong. Silent acts, which report nothing, stand for the untold events of the completion, and for
+/// counts that a process passed unreported: each count is a print, or the send of a message that
+/// raises the clock of another process, if that saves more than half of the acts there.
+///
+/// If these acts are more than `most`, or the checker refuses them, which no test has seen, the
+/// acts of the auditor's construction are tried. So it fails with `TooMany` only if these don't
+/// serve either: they are more than `most`, or more than 1,000 counts are missing before one event,
+/// or 1,000,000 in all.
 ///
 /// It sorts on several threads, and the result is the same for every number of threads.
 pub fn certificate<const TOP: u64>(
@@ -83,12 +192,11 @@ pub fn certificate<const TOP: u64>(
         (λ found. IsVerdict TOP streams.now found.acts (Yes found.pairs)) }
     ensures shows { IfOk result (λ found. Shows TOP streams.now found.acts) }
     ensures one_trace { IfOk result (λ found. NoReset found.acts) }
+    ensures within { IfOk result (λ found. length found.acts ≤ most) }
 {
-    let Ok(built) = told_acts::<TOP, Completion>(rt, alloc, completion.streams(), completion) else {
-        return Err(CertificateFault::Memory);
-    };
-    match built {
-        Some(acts) if acts.len() as u64 <= most => certify::<TOP>(alloc, streams, acts),
-        _ => Err(CertificateFault::TooMany),
+    match certify_completion::<TOP>(rt, alloc, streams, completion, most) {
+        Err(AllocError) => Err(CertificateFault::Memory),
+        Ok(Some(found)) => Ok(found),
+        Ok(None) => certify_told::<TOP>(rt, alloc, streams, completion, most),
     }
 }

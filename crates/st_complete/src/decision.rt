@@ -1,4 +1,4 @@
-//! `complete`: first the reasons that one look at the events shows, then the search, and where it
+//! `complete`: first the reasons that one look at the events shows, then the search, and if it
 //! finds no completion, the reasons that count messages.
 
 ghost use Rattle.std.specs.Prelude.{◌≡◌, ◌≤◌, ℕ, true, IfOk, IsSome, None, length};
@@ -7,25 +7,25 @@ ghost use Rattle.st_core.specs.declared.types.Pid.{Pid as PidValue};
 ghost use Rattle.st_pair.specs.Links.{IsPairing};
 ghost use Rattle.st_pair.specs.Pairing.{refusal, IsPairFault};
 ghost use Rattle.st_pair.specs.Places.{event_at};
-ghost use Rattle.st_full.specs.FinalReasons.{IsZeroBehind};
-ghost use Rattle.st_full.specs.Needs.{is_late, is_rootless, HoldsOfNone};
-ghost use Rattle.st_complete.specs.Answers.{is_too_high, HidesSend, HoldsThere, IsAnswer};
-ghost use Rattle.st_complete.specs.Answers.{IsNeverFinal};
-ghost use Rattle.st_complete.specs.Answers.{IsOtherwiseShown, IsRooted, IsUnsent};
-ghost use Rattle.st_complete.specs.Flaws.{HidesNone, LastHigher};
+ghost use Rattle.st_completions.specs.FinalReasons.{IsSuppliedAtLeast, IsZeroBehind};
+ghost use Rattle.st_completions.specs.Needs.{is_late, is_rootless, HoldsOfNone};
+ghost use Rattle.st_needs.specs.Reasons.{is_too_high, HidesNone, HidesSend, HoldsThere, IsRooted};
+ghost use Rattle.st_needs.specs.Reasons.{IsUnsent};
+ghost use Rattle.st_hidden.specs.Answers.{IsAnswer, IsNeverFinal, IsOtherwiseShown};
+ghost use Rattle.st_complete.specs.Higher.{LastHigher};
 
-use crate::answer::{Answer, CompleteFault, Never};
+use crate::answer::CompleteFault;
 use crate::candidate::Candidate;
-use crate::construction::construct;
-use crate::flaws::{Flaw, find_flaw, find_hidden};
 use crate::judge::judge;
 use crate::search::{Outcome, search};
-use crate::unsent::{find_unsent, is_unsent};
-use crate::zeros::find_zero_behind;
-use st_core::{Event, Pid, Streams};
-use st_full::laws::{
+use st_completions::laws::{
     runs_have_full_completions, shown_exactly_where_nothing_is_needed,
     shown_streams_have_nothing_against_them,
+};
+use st_core::{Event, Pid, Streams};
+use st_hidden::{Answer, Never, answer_by_least};
+use st_needs::{
+    Flaw, complete_by_definition, find_flaw, find_hidden, find_unsent, find_zero_behind, is_unsent,
 };
 use st_pair::{PairFault, Pairing, pair};
 use std::alloc::{AllocError, Global};
@@ -107,36 +107,8 @@ fn zero_behind_answer<const TOP: u64>(streams: &Streams, pid: Pid, index: u64) -
     Answer::Never(pid, index, Never::Unfounded)
 }
 
-/// Whether the event is there.
-fn is_there(streams: &Streams, pid: Pid, index: u64) -> bool
-    ensures { result ≡ true → IsSome (event_at streams.now pid index) }
-{
-    streams.event(pid, index).is_some()
-}
-
-/// `Open` at the place that the search named, or if it named none, at this receive.
-fn open_answer<const TOP: u64>(
-    streams: &Streams,
-    place: Option<(Pid, u64)>,
-    receive: (Pid, u64),
-) -> Answer
-    requires hidden { HidesSend streams.now }
-    requires rooted { IsRooted streams.now }
-    requires founded { (q : PidValue) (j : ℕ) → ¬ IsZeroBehind streams.now q j }
-    requires within { HoldsOfNone (is_too_high TOP) streams.now }
-    requires there { IsSome (event_at streams.now receive.0 receive.1) }
-    ensures { IsAnswer TOP streams.now result }
-{
-    if let Some((pid, index)) = place {
-        if is_there(streams, pid, index) {
-            return Answer::Open(pid, index);
-        }
-    }
-    Answer::Open(receive.0, receive.1)
-}
-
 /// The answer if no send is hidden, found without the search: `Unsent`, or the completion that
-/// `construct` builds.
+/// `complete_by_definition` builds.
 pub(crate) fn answer_by_definition<const TOP: u64>(
     alloc: Global,
     streams: &Streams,
@@ -149,7 +121,7 @@ pub(crate) fn answer_by_definition<const TOP: u64>(
     match find_unsent(alloc, streams) {
         Err(_) => Err(CompleteFault::Memory),
         Ok(Some((pid, index))) => Ok(Answer::Never(pid, index, Never::Unsent)),
-        Ok(None) => match construct::<TOP>(alloc, streams) {
+        Ok(None) => match complete_by_definition::<TOP>(alloc, streams) {
             Err(_) => Err(CompleteFault::Memory),
             Ok(completion) => Ok(Answer::Whole(completion)),
         },
@@ -194,10 +166,11 @@ fn answer_without_hidden<const TOP: u64>(
 }
 
 /// The answer if a send is hidden, the search found no completion, and no two events tell of a need
-/// of 0: `Unsent`, if a count of the messages shows it, else `Open`.
+/// of 0: `Unsent` at the place that the search named, if it is so, else the answer by best places.
 fn answer_by_counts<const TOP: u64>(
     alloc: Global,
     streams: &Streams,
+    pairing: &Pairing,
     place: Option<(Pid, u64)>,
     receive: (Pid, u64),
 ) -> Result<Answer, CompleteFault>
@@ -205,34 +178,40 @@ fn answer_by_counts<const TOP: u64>(
     requires rooted { IsRooted streams.now }
     requires founded { (q : PidValue) (j : ℕ) → ¬ IsZeroBehind streams.now q j }
     requires within { HoldsOfNone (is_too_high TOP) streams.now }
+    requires paired { IsPairing streams.now pairing.now }
     requires there { IsSome (event_at streams.now receive.0 receive.1) }
     ensures { IfOk result (IsAnswer TOP streams.now) }
 {
     match unsent_place(alloc, streams, place) {
         Err(_) => Err(CompleteFault::Memory),
         Ok(Some((pid, index))) => Ok(Answer::Never(pid, index, Never::Unsent)),
-        Ok(None) => Ok(open_answer::<TOP>(streams, place, receive)),
+        Ok(None) => match answer_by_least::<TOP>(alloc, streams, pairing, place, receive) {
+            Err(_) => Err(CompleteFault::Memory),
+            Ok(answer) => Ok(answer),
+        },
     }
 }
 
 /// The answer if a send is hidden and the search found no completion: a reason, if two events tell
-/// of a need of 0 or there are too few messages of a count, else `Open`.
+/// of a need of 0 or there are too few messages of a count, else the answer by best places.
 fn answer_with_hidden<const TOP: u64>(
     alloc: Global,
     streams: &Streams,
+    pairing: &Pairing,
     place: Option<(Pid, u64)>,
     receive: (Pid, u64),
 ) -> Result<Answer, CompleteFault>
     requires hidden { HidesSend streams.now }
     requires rooted { IsRooted streams.now }
     requires within { HoldsOfNone (is_too_high TOP) streams.now }
+    requires paired { IsPairing streams.now pairing.now }
     requires there { IsSome (event_at streams.now receive.0 receive.1) }
     ensures { IfOk result (IsAnswer TOP streams.now) }
 {
     match find_zero_behind(alloc, streams) {
         Err(_) => Err(CompleteFault::Memory),
         Ok(Some((pid, index))) => Ok(zero_behind_answer::<TOP>(streams, pid, index)),
-        Ok(None) => answer_by_counts::<TOP>(alloc, streams, place, receive),
+        Ok(None) => answer_by_counts::<TOP>(alloc, streams, pairing, place, receive),
     }
 }
 
@@ -251,7 +230,7 @@ fn answer_after_search<const TOP: u64>(
 {
     match find_hidden(streams, pairing) {
         None => answer_without_hidden::<TOP>(alloc, streams, place),
-        Some(receive) => answer_with_hidden::<TOP>(alloc, streams, place, receive),
+        Some(receive) => answer_with_hidden::<TOP>(alloc, streams, pairing, place, receive),
     }
 }
 
@@ -330,11 +309,11 @@ fn answer_of<const TOP: u64>(alloc: Global, streams: &Streams) -> Result<Answer,
 }
 
 /// Finds a completion of the streams, or an event and the reason why they have none. If no
-/// receive's send is hidden, it always finds one of the two; else it may find neither, and returns
-/// `Open`. The same streams always get the same result.
+/// receive's send is hidden, or no stretch asks for two scarce counts, it always finds one of the
+/// two; else it may find neither, and returns `Open`. The same streams always get the same result.
 ///
 /// The time is nearly linear in the events if the search finds a completion. If it finds none, and
-/// a send is hidden, `complete` looks at all events once for each process.
+/// a send is hidden, it may be quadratic in the events.
 pub fn complete<const TOP: u64>(alloc: Global, streams: &Streams) -> Result<Answer, CompleteFault>
     ensures answer { IfOk result (IsAnswer TOP streams.now) }
     ensures ruled_out { IfOk result (IsNeverFinal TOP streams.now) }

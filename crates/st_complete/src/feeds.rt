@@ -1,67 +1,72 @@
 //! Which message each need gets, by the counts alone.
 //!
 //! A need is a send or print whose prev a receive that isn't told must have left. It gets a message
-//! of that count: a reported one that nobody is told to have received, or one of a process of which
+//! of that count: a reported one whose receive wasn't reported, or one of a process of which
 //! nothing is told at this count.
 
 use crate::candidate::items_from;
-use crate::flaws::{Left, is_stamp};
-use crate::places::HiddenSend;
+use crate::links::short;
 use st_core::{Event, Kind, Pid, Streams};
+use st_needs::{Left, is_stamp};
 use st_pair::Pairing;
 use std::alloc::{AllocError, Global};
 
-/// A need: its count, the place of its process in the streams, and its index there.
+/// A need: its count, the place of its process in the streams, and its index there. Indexes have
+/// half the memory of a `usize` here: one past what they hold is wrong, and the judge refuses what
+/// comes of it.
 #[derive(Clone, Copy, Debug, PartialEq, Eq, PartialOrd, Ord)]
 pub(crate) struct Need {
     /// The prev that is needed.
     pub count: u64,
     /// The process, by its place in the streams.
-    pub process: usize,
+    pub process: u32,
     /// The event's index.
-    pub index: usize,
+    pub index: u32,
 }
 
-/// A reported send that nobody is told to have received.
+/// A reported send whose receive wasn't reported.
 #[derive(Clone, Copy, Debug, PartialEq, Eq, PartialOrd, Ord)]
 struct Supply {
     count: u64,
-    to: usize,
-    from: usize,
-    index: usize,
+    to: u32,
+    from: u32,
+    index: u32,
 }
 
 /// A process whose send or print of this count is told, itself or by the receive of its message.
 #[derive(Clone, Copy, Debug, PartialEq, Eq, PartialOrd, Ord)]
 struct Sender {
     count: u64,
-    from: usize,
+    from: u32,
 }
 
 /// The message that a need gets.
 #[derive(Clone, Copy, Debug)]
-pub(crate) struct Feed {
-    /// The need.
-    pub need: Need,
-    /// The sender, by its place in the streams.
-    pub from: usize,
-    /// The index of its send, if it is reported.
-    pub sent: Option<usize>,
+pub(crate) enum Feed {
+    /// None.
+    Missing,
+    /// That of a reported send: its sender, by its place in the streams, and its index.
+    Reported(u32, u32),
+    /// One that is invented, of this sender.
+    Invented(u32),
 }
 
 /// The messages that the needs get, and the counts of which there are too few messages.
 #[derive(Debug, Drop)]
 pub(crate) struct Feeding {
-    /// The message of each need that gets one.
+    /// The needs, by process and index.
+    pub needs: Vec<Need>,
+    /// The numbers of the needs, by rising count.
+    pub order: Vec<u32>,
+    /// The message of each need.
     pub feeds: Vec<Feed>,
     /// The last need of each count of which there are too few messages, by rising count.
     pub short: Vec<Need>,
 }
 
-/// What the events say of needs and of messages.
+/// What the events say of messages.
 #[derive(Debug, Drop)]
 pub(crate) struct Tables {
-    needs: Vec<Need>,
     supplies: Vec<Supply>,
     senders: Vec<Sender>,
 }
@@ -80,14 +85,17 @@ impl Tables {
             return Ok(());
         };
         let count = event.serial.this;
-        self.senders.push(Sender { count, from })?;
+        self.senders.push(Sender {
+            count,
+            from: short(from),
+        })?;
         if event.kind == Kind::Send && pairing.receiver(event.from, index as u64).is_none() {
             if let Some(to) = event.to.and_then(|to| streams.place_of(to)) {
                 self.supplies.push(Supply {
                     count,
-                    to,
-                    from: process,
-                    index,
+                    to: short(to),
+                    from: short(process),
+                    index: short(index),
                 })?;
             }
         }
@@ -108,53 +116,13 @@ impl Tables {
         Ok(())
     }
 
-    /// Notes the needs among the events of the process at this place.
-    fn note_needs(&mut self, process: usize, events: &[Event]) -> Result<(), AllocError> {
-        let mut left = Left::by_none();
-        for (index, event) in events.iter().enumerate() {
-            if left.lacks(event) {
-                self.needs.push(Need {
-                    count: event.serial.prev,
-                    process,
-                    index,
-                })?;
-            }
-            left = left.after(event);
-        }
-        Ok(())
-    }
-
-    /// Notes a need of the count, at any index.
-    fn need(&mut self, process: usize, count: u64) -> Result<(), AllocError> {
-        if count == 0 {
-            return Ok(());
-        }
-        self.needs.push(Need {
-            count,
-            process,
-            index: 0,
-        })?;
-        Ok(())
-    }
-
-    /// Notes a need of each send's and print's prev.
-    fn need_all(&mut self, process: usize, events: &[Event]) -> Result<(), AllocError> {
-        for event in events {
-            if is_stamp(event) {
-                self.need(process, event.serial.prev)?;
-            }
-        }
-        Ok(())
-    }
-
-    /// The tables of the messages of streams, each sorted. There are no needs yet.
+    /// The tables of the messages of streams, each sorted.
     pub(crate) fn of(
         alloc: Global,
         streams: &Streams,
         pairing: &Pairing,
     ) -> Result<Tables, AllocError> {
         let mut tables = Tables {
-            needs: Vec::new(alloc),
             supplies: Vec::new(alloc),
             senders: Vec::with_capacity(alloc, streams.total() as usize)?,
         };
@@ -165,16 +133,6 @@ impl Tables {
         tables.senders.sort()?;
         tables.senders.dedup();
         Ok(tables)
-    }
-
-    /// Replaces the needs by those of these whole streams.
-    fn set_needs(&mut self, streams: &Streams) -> Result<(), AllocError> {
-        self.needs.clear();
-        for (process, &pid) in streams.pids().iter().enumerate() {
-            self.note_needs(process, streams.events(pid))?;
-        }
-        self.needs.sort()?;
-        Ok(())
     }
 
     /// The supply with this number among those of the need's count to the need's process.
@@ -204,17 +162,90 @@ impl Tables {
     }
 }
 
+/// The needs of streams.
+#[derive(Debug, Drop)]
+struct Needs {
+    /// The needs, by process and index.
+    all: Vec<Need>,
+}
+
+impl Needs {
+    /// Notes the needs among the events of the process at this place.
+    fn note(&mut self, process: usize, events: &[Event]) -> Result<(), AllocError> {
+        let mut left = Left::by_none();
+        for (index, event) in events.iter().enumerate() {
+            if left.lacks(event) {
+                self.all.push(Need {
+                    count: event.serial.prev,
+                    process: short(process),
+                    index: short(index),
+                })?;
+            }
+            left = left.after(event);
+        }
+        Ok(())
+    }
+
+    /// Notes a need of the count, at any index.
+    fn note_count(&mut self, process: usize, count: u64) -> Result<(), AllocError> {
+        if count == 0 {
+            return Ok(());
+        }
+        self.all.push(Need {
+            count,
+            process: short(process),
+            index: 0,
+        })?;
+        Ok(())
+    }
+
+    /// Notes a need of each send's and print's prev.
+    fn note_all(&mut self, process: usize, events: &[Event]) -> Result<(), AllocError> {
+        for event in events {
+            if is_stamp(event) {
+                self.note_count(process, event.serial.prev)?;
+            }
+        }
+        Ok(())
+    }
+
+    /// The needs of these whole streams.
+    fn of(alloc: Global, streams: &Streams) -> Result<Needs, AllocError> {
+        let mut needs = Needs {
+            all: Vec::new(alloc),
+        };
+        for (process, &pid) in streams.pids().iter().enumerate() {
+            needs.note(process, streams.events(pid))?;
+        }
+        Ok(needs)
+    }
+
+    /// The numbers of these needs, by rising count; those of one count as they stand.
+    fn order(&self, alloc: Global) -> Result<Vec<u32>, AllocError> {
+        let mut keys = Vec::with_capacity(alloc, self.all.len())?;
+        for (number, need) in self.all.iter().enumerate() {
+            keys.push((need.count, short(number)))?;
+        }
+        keys.sort()?;
+        let mut order = Vec::with_capacity(alloc, keys.len())?;
+        for (_, number) in &keys {
+            order.push(*number)?;
+        }
+        Ok(order)
+    }
+}
+
 /// How far the messages of one count are given out.
 #[derive(Clone, Copy, Debug)]
 struct Progress {
     /// The count.
     count: u64,
     /// The process whose needs are being given messages.
-    process: usize,
+    process: u32,
     /// How many of its own supplies its needs have.
     own: usize,
     /// The least place that the next free process may have.
-    free: usize,
+    free: u32,
     /// The number of the first sender that isn't less than this count and that place.
     sender: usize,
 }
@@ -244,7 +275,7 @@ impl Progress {
     /// Takes the next free process, if there is one: one of which nothing is told at the count.
     /// Senders stand by rising count and place, and so do the free processes that are taken, so
     /// that no sender is looked at twice.
-    fn take_free(&mut self, tables: &Tables, process_count: usize) -> Option<usize> {
+    fn take_free(&mut self, tables: &Tables, process_count: u32) -> Option<u32> {
         let count = self.count;
         let from = self.free;
         self.sender = tables.sender_from(self.sender, Sender { count, from });
@@ -272,46 +303,44 @@ impl Feeding {
         Ok(())
     }
 
-    /// Gives the need the next message.
-    fn feed(
+    /// The next message for this need.
+    fn next_feed(
         &mut self,
         tables: &Tables,
         given: &mut Progress,
         need: Need,
-        process_count: usize,
-    ) -> Result<(), AllocError> {
+        process_count: u32,
+    ) -> Result<Feed, AllocError> {
         if let Some(supply) = tables.supply(need, given.own) {
             given.own = given.own.saturating_add(1);
-            self.feeds.push(Feed {
-                need,
-                from: supply.from,
-                sent: Some(supply.index),
-            })?;
-            return Ok(());
+            return Ok(Feed::Reported(supply.from, supply.index));
         }
         match given.take_free(tables, process_count) {
-            None => self.lack(need),
-            Some(from) => {
-                self.feeds.push(Feed {
-                    need,
-                    from,
-                    sent: None,
-                })?;
-                Ok(())
+            None => {
+                self.lack(need)?;
+                Ok(Feed::Missing)
             }
+            Some(from) => Ok(Feed::Invented(from)),
         }
     }
 
-    /// The message of each need that gets one.
-    pub(crate) fn into_feeds(self) -> Vec<Feed> {
-        let Feeding { feeds, short: _ } = self;
-        feeds
-    }
-
-    /// The last need of each count of which there are too few messages.
-    pub(crate) fn into_short(self) -> Vec<Need> {
-        let Feeding { feeds: _, short } = self;
-        short
+    /// Gives the need with this number the next message.
+    fn feed(
+        &mut self,
+        tables: &Tables,
+        given: Progress,
+        number: usize,
+        process_count: u32,
+    ) -> Result<Progress, AllocError> {
+        let Some(&need) = self.needs.get(number) else {
+            return Ok(given);
+        };
+        let mut given = given.before(need);
+        let next = self.next_feed(tables, &mut given, need, process_count)?;
+        if let Some(feed) = self.feeds.get_mut(number) {
+            *feed = next;
+        }
+        Ok(given)
     }
 
     /// The messages of all needs of whole streams, from the tables of the streams that they
@@ -321,16 +350,25 @@ impl Feeding {
     pub(crate) fn of(
         alloc: Global,
         whole: &Streams,
-        tables: &mut Tables,
+        tables: &Tables,
     ) -> Result<Feeding, AllocError> {
-        tables.set_needs(whole)?;
-        Feeding::by(alloc, whole, tables)
+        let needs = Needs::of(alloc, whole)?;
+        Feeding::by(alloc, whole, tables, needs)
     }
 
-    /// The messages of all needs of these tables.
-    fn by(alloc: Global, streams: &Streams, tables: &Tables) -> Result<Feeding, AllocError> {
+    /// The messages of these needs.
+    fn by(
+        alloc: Global,
+        streams: &Streams,
+        tables: &Tables,
+        needs: Needs,
+    ) -> Result<Feeding, AllocError> {
+        let order = needs.order(alloc)?;
+        let Needs { all } = needs;
         let mut feeding = Feeding {
-            feeds: Vec::with_capacity(alloc, tables.needs.len())?,
+            feeds: vec![in alloc; Feed::Missing; all.len()]?,
+            needs: all,
+            order: Vec::new(alloc),
             short: Vec::new(alloc),
         };
         let mut given = Progress {
@@ -340,12 +378,23 @@ impl Feeding {
             free: 0,
             sender: 0,
         };
-        let process_count = streams.pids().len();
-        for &need in &tables.needs {
-            given = given.before(need);
-            feeding.feed(tables, &mut given, need, process_count)?;
+        let process_count = short(streams.pids().len());
+        for &number in &order {
+            given = feeding.feed(tables, given, number as usize, process_count)?;
         }
+        feeding.order = order;
         Ok(feeding)
+    }
+
+    /// The last need of each count of which there are too few messages.
+    pub(crate) fn into_short(self) -> Vec<Need> {
+        let Feeding {
+            needs: _,
+            order: _,
+            feeds: _,
+            short,
+        } = self;
+        short
     }
 }
 
@@ -354,18 +403,22 @@ impl Feeding {
 pub(crate) fn scarce_counts(
     alloc: Global,
     streams: &Streams,
-    tables: &mut Tables,
-    hidden: &[HiddenSend],
+    tables: &Tables,
+    hidden: &[Event],
 ) -> Result<Vec<Need>, AllocError> {
-    tables.needs.clear();
+    let mut needs = Needs {
+        all: Vec::new(alloc),
+    };
     for (process, &pid) in streams.pids().iter().enumerate() {
-        tables.need_all(process, streams.events(pid))?;
+        needs.note_all(process, streams.events(pid))?;
     }
     for send in hidden {
-        tables.need(send.from, send.event.serial.prev)?;
+        if let Some(from) = streams.place_of(send.from) {
+            needs.note_count(from, send.serial.prev)?;
+        }
     }
-    tables.needs.sort()?;
-    Ok(Feeding::by(alloc, streams, tables)?.into_short())
+    needs.all.sort()?;
+    Ok(Feeding::by(alloc, streams, tables, needs)?.into_short())
 }
 
 /// The pid of the process at this place.

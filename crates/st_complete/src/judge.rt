@@ -1,17 +1,21 @@
 //! The judge of the search: whether whole streams are a completion.
 
-ghost use Rattle.std.specs.Prelude.{◌≡◌, ◌↔◌, true, IfOk, IsTrue};
+ghost use Rattle.std.specs.Prelude.{◌≡◌, ◌↔◌, true, false, List, IfOk, IsTrue};
 ghost use Rattle.std.specs.Option.{ForSome};
+ghost use Rattle.st_core.specs.declared.types.Event.{Event as EventValue};
 ghost use Rattle.st_core.specs.Streams.{IsStreams};
-ghost use Rattle.st_full.specs.Local.{IsNeedless};
+ghost use Rattle.st_pair.specs.Pairing.{is_send};
+ghost use Rattle.st_pair.specs.Places.{is_stamp};
+ghost use Rattle.st_completions.specs.Local.{IsNeedless};
 ghost use Rattle.st_plan.specs.Marks.{told_events, told_streams};
-ghost use Rattle.st_complete.specs.Completions.{marked_with, wholes_with, Completes};
+ghost use Rattle.st_needs.specs.Completions.{marked_with, wholes_with, Completes};
+ghost use Rattle.st_needs.specs.Flaws.{left_by, GoesOnWithin};
+ghost use Rattle.st_complete.specs.Links.{other_end, receipt_of, AreEventsFit, IsLinked};
 
-use crate::candidate::Candidate;
-use crate::completion::{Completion, completion_of, is_marked, marks_at};
-use crate::flaws::{Flaw, has_flaw, has_hidden};
-use st_core::{Event, Pid, Sequence, Streams};
-use st_pair::{PairFault, pair};
+use crate::candidate::{Candidate, receive_of};
+use crate::links::links_of;
+use st_core::{Event, Kind, Pid, Sequence, Streams};
+use st_needs::{Completion, Left, completion_of, is_marked, marks_at};
 use std::alloc::{AllocError, Global};
 
 /// Whether these are one event.
@@ -69,33 +73,115 @@ fn tells_streams(all: &Streams, lists: &[Sequence<bool>], streams: &Streams) -> 
     true
 }
 
+/// The index that a process, by its place, has for the other end of the message of its event at
+/// this index.
+fn other_end(links: &[Sequence<u32>], place: usize, index: usize) -> u32
+    ensures { result ≡ other_end links.now place index }
+{
+    match links.get(place) {
+        None => 0,
+        Some(row) => row.as_slice().get(index).copied().unwrap_or(0),
+    }
+}
+
+/// Whether the event is the receive of this one, and this a send.
+fn is_received(sent: &Event, event: &Event) -> bool
+    ensures sends { result ≡ true → is_send sent.now ≡ true }
+    ensures same { result ≡ true → receipt_of sent.now ≡ event.now }
+{
+    match sent.kind {
+        Kind::Receive | Kind::Print => false,
+        Kind::Send => is_same_event(&receive_of(sent), event),
+    }
+}
+
+/// Whether the receive at this index has a send, at the index that its link has, which has this
+/// index for its receive.
+fn is_linked(
+    streams: &Streams,
+    links: &[Sequence<u32>],
+    index: usize,
+    link: u32,
+    event: &Event,
+) -> bool
+    ensures { result ≡ true → IsLinked streams.now links.now index event.now }
+{
+    let Some(place) = streams.place_of(event.from) else {
+        return false;
+    };
+    let Some(sent) = streams.event(event.from, u64::from(link)) else {
+        return false;
+    };
+    if !is_received(&sent, event) {
+        return false;
+    }
+    other_end(links, place, link as usize) as usize == index
+}
+
+/// Whether the event at this index of the process at this place is no receive, or has its send.
+fn has_send(
+    streams: &Streams,
+    links: &[Sequence<u32>],
+    place: usize,
+    index: usize,
+    event: &Event,
+) -> bool
+    ensures { result ≡ true → is_stamp event.now ≡ false
+        → IsLinked streams.now links.now index event.now }
+{
+    match event.kind {
+        Kind::Send | Kind::Print => true,
+        Kind::Receive => {
+            let link = other_end(links, place, index);
+            is_linked(streams, links, index, link, event)
+        }
+    }
+}
+
+/// Whether all of these events are fit, which are those of the process at this place.
+fn are_fit(
+    streams: &Streams,
+    links: &[Sequence<u32>],
+    top: u64,
+    place: usize,
+    events: &[Event],
+) -> bool
+    ensures { result ≡ true → AreEventsFit top streams.now links.now events.now }
+{
+    let mut left = Left::by_none();
+    for (i, event) in events.iter().enumerate() {
+        if !left.goes_on(event, top) {
+            return false;
+        }
+        if !has_send(streams, links, place, i, event) {
+            return false;
+        }
+        left = left.after(event);
+    }
+    true
+}
+
+/// Whether all events are fit: then nothing is needed in the streams.
+fn are_all_fit(streams: &Streams, links: &[Sequence<u32>], top: u64) -> bool
+    ensures { result ≡ true → IsNeedless top streams.now }
+{
+    for (place, &pid) in streams.pids().iter().enumerate() {
+        if !are_fit(streams, links, top, place, streams.events(pid)) {
+            return false;
+        }
+    }
+    true
+}
+
 /// Whether nothing is needed in the streams: whether pairing accepts them, no send is hidden, and
-/// no event is late, a need or above TOP.
+/// no event is late, a need or above TOP. It pairs each receive with its send by links, which are
+/// looked at from both ends.
 fn is_needless<const TOP: u64>(alloc: Global, streams: &Streams) -> Result<bool, AllocError>
     ensures { IfOk result (λ yes. yes ≡ true → IsNeedless TOP streams.now) }
 {
-    let pairing = match pair(alloc, streams) {
-        Ok(pairing) => pairing,
-        Err(PairFault::Memory) => return Err(AllocError),
-        Err(_) => return Ok(false),
-    };
-    let hidden = has_hidden(streams, &pairing);
-    if hidden {
-        return Ok(false);
-    }
-    let late = has_flaw(streams, Flaw::Late);
-    if late {
-        return Ok(false);
-    }
-    let need = has_flaw(streams, Flaw::Need);
-    if need {
-        return Ok(false);
-    }
-    let high = has_flaw(streams, Flaw::TooHigh(TOP));
-    if high {
-        return Ok(false);
-    }
-    Ok(true)
+    let links = links_of(alloc, streams)?;
+    let fit = are_all_fit(streams, &links, TOP);
+    Ok(fit)
 }
 
 /// Checks a candidate, and returns it as a completion of the streams if it is one.

@@ -8,24 +8,22 @@
 mod answer;
 mod candidate;
 mod certificates;
-mod completion;
-mod construction;
+mod climbs;
 mod decision;
 mod feeds;
-mod flaws;
+mod homes;
+mod insertion;
 mod judge;
+mod lean;
+mod links;
 mod places;
 mod prices;
-mod ranks;
 mod search;
-mod supplies;
 #[cfg(test)]
 mod tests;
-mod unsent;
-mod zeros;
 
-pub use answer::{Answer, Certificate, CertificateFault, CompleteFault, Never};
+pub use answer::{Certificate, CertificateFault, CompleteFault};
 pub use certificates::certificate;
-pub use completion::Completion;
 pub use decision::complete;
-pub use ranks::renumbered;
+pub use st_hidden::{Answer, Never};
+pub use st_needs::{Completion, renumbered};

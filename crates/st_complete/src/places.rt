@@ -6,43 +6,35 @@
 //! `place_all` walks once over each stretch between two reported stamps, for the places with the
 //! least price.
 
-use crate::candidate::{Extra, Extras, events_at};
-use crate::flaws::{Left, is_stamp};
+use crate::candidate::{Extra, Extras, items_from};
+use crate::links::short;
 use crate::prices::Prices;
 use st_core::{Event, Kind, Serial, Streams};
+use st_needs::{Left, is_stamp};
 use st_pair::{Pairing, Source};
 use std::alloc::{AllocError, Global};
-
-/// A hidden send.
-#[derive(Clone, Copy, Debug)]
-pub(crate) struct HiddenSend {
-    /// Its sender, by its place in the streams.
-    pub from: usize,
-    /// The send.
-    pub event: Event,
-}
 
 /// The hidden sends of streams, by sender and count.
 pub(crate) fn hidden_sends(
     alloc: Global,
     streams: &Streams,
     pairing: &Pairing,
-) -> Result<Vec<HiddenSend>, AllocError> {
+) -> Result<Vec<Event>, AllocError> {
     let mut hidden = Vec::new(alloc);
     for &pid in streams.pids() {
         for (index, event) in streams.events(pid).iter().enumerate() {
+            if is_stamp(event) {
+                continue;
+            }
             if pairing.source(pid, index as u64) == Some(Source::Hidden) {
-                if let Some(from) = streams.place_of(event.from) {
-                    let event = Event {
-                        kind: Kind::Send,
-                        ..*event
-                    };
-                    hidden.push(HiddenSend { from, event })?;
-                }
+                hidden.push(Event {
+                    kind: Kind::Send,
+                    ..*event
+                })?;
             }
         }
     }
-    hidden.sort_by_key(|send| (send.from, send.event.serial.this))?;
+    hidden.sort_by_key(|send| (send.from, send.serial.this))?;
     Ok(hidden)
 }
 
@@ -57,13 +49,20 @@ struct Walk {
     place: usize,
     /// The price of the needs so far.
     cost: u64,
-    /// The walk that this one goes on from, by its number among all.
+    /// The step that it goes on from, by its number among all.
     before: usize,
     /// The last hidden sends in a row that stand here with one prev.
     run: Run,
 }
 
-/// HiddenSend sends in a row at one place and with one prev.
+/// What is kept of a walk once it goes on: its last place, and the step before that.
+#[derive(Clone, Copy, Debug)]
+struct Step {
+    place: usize,
+    before: usize,
+}
+
+/// Hidden sends in a row at one place and with one prev.
 #[derive(Clone, Copy, Debug)]
 struct Run {
     /// The number of the first one.
@@ -131,15 +130,15 @@ impl Ground {
         self.left.get(index).map_or(0, |left| left.prev)
     }
 
-    /// The index of the next receive of this count between these indices.
-    fn receive(&self, count: u64, from: usize, end: usize) -> Option<usize> {
-        let key = (count, from);
-        let at = self.receives.partition_point(|receive| *receive < key);
-        let (found, index) = *self.receives.get(at)?;
-        if found == count && index < end {
-            Some(index)
+    /// The receives of this count, by index.
+    fn receives_of(&self, count: u64) -> &[(u64, usize)] {
+        let start = self.receives.partition_point(|receive| receive.0 < count);
+        let rest = items_from(&self.receives, start);
+        let end = rest.partition_point(|receive| receive.0 == count);
+        if end <= rest.len() {
+            &rest[..end]
         } else {
-            None
+            rest
         }
     }
 
@@ -164,9 +163,12 @@ struct Stretch {
 /// The walks over a stretch.
 #[derive(Debug, Drop)]
 struct Walks {
-    all: Vec<Walk>,
-    /// The number of the first walk up to the last hidden send.
-    last: usize,
+    /// The steps of all walks, those of the last hidden send at the end.
+    steps: Vec<Step>,
+    /// The walks up to the last hidden send, in the order of their last steps.
+    now: Vec<Walk>,
+    /// The walks over the next one, as far as they are known.
+    next: Vec<Walk>,
     /// The serial of the stamp before the next one.
     before: Serial,
     /// The latest index before which it may stand.
@@ -178,30 +180,97 @@ fn is_better(walk: &Walk, other: &Walk) -> bool {
     walk.cost < other.cost || (walk.cost == other.cost && walk.place <= other.place)
 }
 
+/// A hidden send that the walks go over.
+#[derive(Clone, Copy, Debug)]
+struct Move<'a> {
+    /// Its number in the stretch.
+    number: usize,
+    /// Its serial.
+    serial: Serial,
+    /// The price of a need of its prev.
+    price: u64,
+    /// The receives of its prev.
+    receives: &'a [(u64, usize)],
+}
+
+impl Move<'_> {
+    /// The index of the next receive of its prev between these indices.
+    fn receive(&self, from: usize, end: usize) -> Option<usize> {
+        let at = self.receives.partition_point(|receive| receive.1 < from);
+        let (_, index) = *self.receives.get(at)?;
+        if index < end { Some(index) } else { None }
+    }
+}
+
 impl Walks {
+    /// The one walk over no hidden send.
+    fn over_none(alloc: Global, stretch: Stretch, count: usize) -> Result<Walks, AllocError> {
+        let run = Run {
+            first: 0,
+            cost: 0,
+            before: stretch.before,
+            limit: stretch.start,
+        };
+        let mut walks = Walks {
+            steps: Vec::with_capacity(alloc, count.saturating_add(1))?,
+            now: Vec::new(alloc),
+            next: Vec::new(alloc),
+            before: stretch.before,
+            limit: stretch.end,
+        };
+        walks.next.push(Walk {
+            place: stretch.start,
+            cost: 0,
+            before: 0,
+            run,
+        })?;
+        walks.turn()?;
+        Ok(walks)
+    }
+
+    /// Makes the next walks those up to the last hidden send.
+    fn turn(&mut self) -> Result<(), AllocError> {
+        self.now.clear();
+        for walk in &self.next {
+            self.steps.push(Step {
+                place: walk.place,
+                before: walk.before,
+            })?;
+            self.now.push(*walk)?;
+        }
+        self.next.clear();
+        Ok(())
+    }
+
+    /// The number of the step that a walk up to the last hidden send ends with, by its place among
+    /// these.
+    fn step_of(&self, at: usize) -> usize {
+        self.steps
+            .len()
+            .saturating_sub(self.now.len())
+            .saturating_add(at)
+    }
+
     /// Adds a walk, unless one that is kept goes no further and costs no more.
-    fn keep(&mut self, start: usize, walk: Walk) -> Result<(), AllocError> {
-        let mut worst = start;
-        for number in start..self.all.len() {
-            let Some(other) = self.all.get(number) else {
-                break;
-            };
+    fn keep(&mut self, walk: Walk) -> Result<(), AllocError> {
+        let mut worst = 0;
+        for (at, other) in self.next.iter().enumerate() {
             if other.place <= walk.place && other.cost <= walk.cost {
                 return Ok(());
             }
             if self
-                .all
+                .next
                 .get(worst)
                 .is_none_or(|found| is_better(found, other))
             {
-                worst = number;
+                worst = at;
             }
         }
-        if self.all.len().saturating_sub(start) < WALKS {
-            self.all.push(walk)?;
+        if self.next.len() < WALKS {
+            self.next.push(walk)?;
             return Ok(());
         }
-        if let Some(found) = self.all.get_mut(worst) {
+        if let Some(found) = self.next.get_mut(worst) {
             if is_better(&walk, found) {
                 *found = walk;
             }
@@ -211,70 +280,51 @@ impl Walks {
 
     /// The two ways to go on from a walk over a hidden send: it stays at the walk's place, or moves
     /// behind the next receive of its prev.
-    fn go_on(
-        &mut self,
-        ground: &Ground,
-        prices: &Prices,
-        start: usize,
-        from: usize,
-        number: usize,
-        serial: Serial,
-    ) -> Result<(), AllocError> {
-        let Some(&walk) = self.all.get(from) else {
+    fn go_on(&mut self, ground: &Ground, at: usize, over: Move) -> Result<(), AllocError> {
+        let Some(&walk) = self.now.get(at) else {
             return Ok(());
         };
-        let needs = ground.is_need(serial.prev, walk.place, self.before);
-        let price = if needs { prices.of(serial.prev) } else { 0 };
+        let prev = over.serial.prev;
+        let needs = ground.is_need(prev, walk.place, self.before);
+        let price = if needs { over.price } else { 0 };
+        let before = self.step_of(at);
         let run = Run {
-            first: number,
+            first: over.number,
             cost: price,
             before: self.before,
             limit: self.limit,
         };
-        self.keep(
-            start,
-            Walk {
-                place: walk.place,
-                cost: walk.cost.saturating_add(price),
-                before: from,
-                run: if serial.prev == self.before.prev && number != 0 {
-                    walk.run
-                } else {
-                    run
-                },
+        self.keep(Walk {
+            place: walk.place,
+            cost: walk.cost.saturating_add(price),
+            before,
+            run: if prev == self.before.prev && over.number != 0 {
+                walk.run
+            } else {
+                run
             },
-        )?;
+        })?;
         if price == 0 {
             return Ok(());
         }
-        let Some(index) = ground.receive(serial.prev, walk.place, self.limit) else {
+        let Some(index) = over.receive(walk.place, self.limit) else {
             return Ok(());
         };
-        self.keep(
-            start,
-            Walk {
-                place: index.saturating_add(1),
-                cost: walk.cost,
-                before: from,
-                run: Run { cost: 0, ..run },
-            },
-        )
+        self.keep(Walk {
+            place: index.saturating_add(1),
+            cost: walk.cost,
+            before,
+            run: Run { cost: 0, ..run },
+        })
     }
 
     /// Goes on from all walks over the next hidden send.
-    fn step(
-        &mut self,
-        ground: &Ground,
-        prices: &Prices,
-        number: usize,
-        serial: Serial,
-    ) -> Result<(), AllocError> {
-        let start = self.all.len();
-        for from in self.last..start {
-            self.go_on(ground, prices, start, from, number, serial)?;
+    fn step(&mut self, ground: &Ground, over: Move) -> Result<(), AllocError> {
+        for at in 0..self.now.len() {
+            self.go_on(ground, at, over)?;
         }
-        self.last = start;
-        self.before = serial;
+        self.turn()?;
+        self.before = over.serial;
         Ok(())
     }
 }
@@ -324,8 +374,8 @@ impl Ground {
     }
 }
 
-/// The number of the walk that costs least, and whether its last run moves to the end of the
-/// stretch.
+/// The walk that costs least, by its place among those up to the last hidden send, and whether its
+/// last run moves to the end of the stretch.
 fn least_walk(
     ground: &Ground,
     prices: &Prices,
@@ -333,14 +383,14 @@ fn least_walk(
     end: usize,
     prev: Option<u64>,
 ) -> (usize, bool) {
-    let mut least = (u64::MAX, walks.last, false);
-    for (number, walk) in walks.all.iter().enumerate().skip(walks.last) {
+    let mut least = (u64::MAX, 0, false);
+    for (at, walk) in walks.now.iter().enumerate() {
         let (cost, moves) = match prev {
             None => (walk.cost, false),
             Some(prev) => ground.end_cost(prices, walk, end, walks.before, prev),
         };
         if cost < least.0 {
-            least = (cost, number, moves);
+            least = (cost, at, moves);
         }
     }
     (least.1, least.2)
@@ -351,148 +401,152 @@ fn walk_all(
     alloc: Global,
     ground: &Ground,
     prices: &Prices,
-    hidden: &[HiddenSend],
+    hidden: &[Event],
     stretch: Stretch,
 ) -> Result<Walks, AllocError> {
-    let run = Run {
-        first: 0,
-        cost: 0,
-        before: stretch.before,
-        limit: stretch.start,
-    };
-    let mut walks = Walks {
-        all: Vec::new(alloc),
-        last: 0,
-        before: stretch.before,
-        limit: stretch.end,
-    };
-    walks.all.push(Walk {
-        place: stretch.start,
-        cost: 0,
-        before: 0,
-        run,
-    })?;
+    let mut walks = Walks::over_none(alloc, stretch, hidden.len())?;
     for (number, send) in hidden.iter().enumerate() {
-        let serial = send.event.serial;
+        let serial = send.serial;
+        let price = prices.of(serial.prev);
+        let over = Move {
+            number,
+            serial,
+            price,
+            receives: if price == 0 {
+                &[]
+            } else {
+                ground.receives_of(serial.prev)
+            },
+        };
         walks.limit = ground.reach(serial.this).min(stretch.end);
-        walks.step(ground, prices, number, serial)?;
+        walks.step(ground, over)?;
     }
     Ok(walks)
 }
 
-/// Puts hidden sends before the event at this index.
-fn place_before(
-    hidden: &[HiddenSend],
-    index: usize,
-    extras: &mut Vec<Extra>,
-) -> Result<(), AllocError> {
-    for send in hidden {
-        extras.push(Extra {
-            process: send.from,
-            index,
-            event: send.event,
-        })?;
-    }
-    Ok(())
+/// A process whose hidden sends are being placed.
+#[derive(Debug, Drop)]
+struct Site<'a> {
+    /// Its place in the streams.
+    process: u32,
+    ground: Ground,
+    prices: &'a Prices,
 }
 
-/// Puts the hidden sends of a stretch at the places of its least walk, or if no count is scarce,
-/// before its receives.
-fn place_stretch(
-    alloc: Global,
-    ground: &Ground,
-    prices: &Prices,
-    hidden: &[HiddenSend],
-    stretch: Stretch,
-    prev: Option<u64>,
-    extras: &mut Vec<Extra>,
-) -> Result<(), AllocError> {
-    if hidden.is_empty() || prices.is_empty() {
-        return place_before(hidden, stretch.start, extras);
-    }
-    let walks = walk_all(alloc, ground, prices, hidden, stretch)?;
-    let (least, moves) = least_walk(ground, prices, &walks, stretch.end, prev);
-    let last_run = walks.all.get(least).map_or(0, |walk| walk.run.first);
-    let mut at = least;
-    for (number, send) in hidden.iter().enumerate().rev() {
-        let Some(walk) = walks.all.get(at) else {
-            return Ok(());
-        };
-        extras.push(Extra {
-            process: send.from,
-            index: if moves && number >= last_run {
-                stretch.end
-            } else {
-                walk.place
-            },
-            event: send.event,
-        })?;
-        at = walk.before;
-    }
-    Ok(())
-}
-
-/// Puts the hidden sends of a process at their places.
-fn place_process(
-    alloc: Global,
-    prices: &Prices,
-    events: &[Event],
-    hidden: &[HiddenSend],
-    extras: &mut Vec<Extra>,
-) -> Result<(), AllocError> {
-    if hidden.is_empty() {
-        return Ok(());
-    }
-    let ground = if prices.is_empty() {
-        Ground::of_none(alloc)
-    } else {
-        Ground::of(alloc, events)?
-    };
-    let mut rest = hidden;
-    let mut start = 0;
-    let mut before = Serial { prev: 0, this: 0 };
-    for (end, event) in events.iter().enumerate() {
-        if !is_stamp(event) {
-            continue;
+impl Site<'_> {
+    /// Puts the next messages, so many, before the event at this index.
+    fn place_before(
+        &self,
+        count: usize,
+        index: usize,
+        extras: &mut Vec<Extra>,
+    ) -> Result<(), AllocError> {
+        for _ in 0..count {
+            let message = short(extras.len());
+            extras.push(Extra {
+                process: self.process,
+                index: short(index),
+                message,
+            })?;
         }
-        let count = rest.partition_point(|send| send.event.serial.this < event.serial.this);
-        let (now, later) = rest.split_at(count);
-        let stretch = Stretch { start, end, before };
-        place_stretch(
-            alloc,
-            &ground,
-            prices,
-            now,
-            stretch,
-            Some(event.serial.prev),
-            extras,
-        )?;
-        rest = later;
-        start = end.saturating_add(1);
-        before = event.serial;
+        Ok(())
     }
-    let stretch = Stretch {
-        start,
-        end: events.len(),
-        before,
-    };
-    place_stretch(alloc, &ground, prices, rest, stretch, None, extras)
+
+    /// Puts the next messages, the hidden sends of a stretch, at the places of its least walk, or
+    /// if no count is scarce, before its receives.
+    fn place_stretch(
+        &self,
+        alloc: Global,
+        hidden: &[Event],
+        stretch: Stretch,
+        prev: Option<u64>,
+        extras: &mut Vec<Extra>,
+    ) -> Result<(), AllocError> {
+        let first = extras.len();
+        self.place_before(hidden.len(), stretch.start, extras)?;
+        if hidden.is_empty() || self.prices.is_empty() {
+            return Ok(());
+        }
+        let walks = walk_all(alloc, &self.ground, self.prices, hidden, stretch)?;
+        let (least, moves) = least_walk(&self.ground, self.prices, &walks, stretch.end, prev);
+        let last_run = walks.now.get(least).map_or(0, |walk| walk.run.first);
+        let mut at = walks.step_of(least);
+        for number in (0..hidden.len()).rev() {
+            let Some(step) = walks.steps.get(at) else {
+                return Ok(());
+            };
+            if let Some(extra) = extras.get_mut(first.saturating_add(number)) {
+                extra.index = if moves && number >= last_run {
+                    short(stretch.end)
+                } else {
+                    short(step.place)
+                };
+            }
+            at = step.before;
+        }
+        Ok(())
+    }
+
+    /// Puts the hidden sends of the process at their places.
+    fn place_process(
+        &self,
+        alloc: Global,
+        events: &[Event],
+        hidden: &[Event],
+        extras: &mut Vec<Extra>,
+    ) -> Result<(), AllocError> {
+        let mut rest = hidden;
+        let mut start = 0;
+        let mut before = Serial { prev: 0, this: 0 };
+        for (end, event) in events.iter().enumerate() {
+            if !is_stamp(event) {
+                continue;
+            }
+            let count = rest.partition_point(|send| send.serial.this < event.serial.this);
+            let (now, later) = rest.split_at(count);
+            let stretch = Stretch { start, end, before };
+            self.place_stretch(alloc, now, stretch, Some(event.serial.prev), extras)?;
+            rest = later;
+            start = end.saturating_add(1);
+            before = event.serial;
+        }
+        let stretch = Stretch {
+            start,
+            end: events.len(),
+            before,
+        };
+        self.place_stretch(alloc, rest, stretch, None, extras)
+    }
 }
 
-/// The hidden sends as untold events, at places that cost least by these prices.
+/// The hidden sends as untold events, at places that cost least by these prices. Each is the
+/// message of its number.
 pub(crate) fn place_all(
     alloc: Global,
     streams: &Streams,
-    hidden: &[HiddenSend],
+    hidden: &[Event],
     prices: &Prices,
 ) -> Result<Extras, AllocError> {
     let mut sends = Vec::with_capacity(alloc, hidden.len())?;
     let mut rest = hidden;
-    for process in 0..streams.pids().len() {
-        let count = rest.partition_point(|send| send.from <= process);
+    for (place, &pid) in streams.pids().iter().enumerate() {
+        let count = rest.partition_point(|send| send.from <= pid);
         let (own, later) = rest.split_at(count);
-        place_process(alloc, prices, events_at(streams, process), own, &mut sends)?;
         rest = later;
+        if own.is_empty() {
+            continue;
+        }
+        let events = streams.events(pid);
+        let site = Site {
+            process: short(place),
+            ground: if prices.is_empty() {
+                Ground::of_none(alloc)
+            } else {
+                Ground::of(alloc, events)?
+            },
+            prices,
+        };
+        site.place_process(alloc, events, own, &mut sends)?;
     }
     Ok(Extras {
         sends,

@@ -1,11 +1,11 @@
 //! The search for whole streams that may be a completion.
 
-use crate::candidate::{Candidate, extras_of, with_more, with_untold};
+use crate::candidate::{Candidate, feed_all, with_more, with_untold};
 use crate::feeds::{Feeding, Need, Tables, pid_at, scarce_counts};
-use crate::flaws::is_stamp;
-use crate::places::{HiddenSend, hidden_sends, place_all};
+use crate::places::{hidden_sends, place_all};
 use crate::prices::Prices;
-use st_core::{Pid, Streams};
+use st_core::{Event, Pid, Streams};
+use st_needs::is_stamp;
 use st_pair::Pairing;
 use std::alloc::{AllocError, Global};
 
@@ -38,18 +38,18 @@ enum Round {
 fn feed_needs(
     alloc: Global,
     streams: &Streams,
-    tables: &mut Tables,
+    tables: &Tables,
     candidate: Candidate,
 ) -> Result<Option<Round>, AllocError> {
     let feeding = Feeding::of(alloc, &candidate.streams, tables)?;
     if !feeding.short.is_empty() {
         return Ok(Some(Round::Short(candidate, feeding.into_short())));
     }
-    if feeding.feeds.is_empty() {
+    if feeding.needs.is_empty() {
         return Ok(Some(Round::Whole(candidate)));
     }
-    let extras = extras_of(alloc, streams, &candidate.streams, feeding.into_feeds())?;
-    Ok(with_more(alloc, &candidate, extras)?.map(Round::Whole))
+    let fed = feed_all(alloc, streams, &candidate.streams, feeding)?;
+    Ok(with_more(alloc, &candidate, &fed.messages, &fed.extras)?.map(Round::Whole))
 }
 
 /// The place of a process's send or print of this count in the streams; if it is a hidden send, the
@@ -72,8 +72,8 @@ fn place_of_stamp(streams: &Streams, pid: Pid, this: u64) -> Option<(Pid, u64)> 
 
 /// The place in the streams of a need of the candidate.
 fn place_in(streams: &Streams, candidate: &Candidate, need: Need) -> Option<(Pid, u64)> {
-    let pid = pid_at(&candidate.streams, need.process)?;
-    let event = candidate.streams.event(pid, need.index as u64)?;
+    let pid = pid_at(&candidate.streams, need.process as usize)?;
+    let event = candidate.streams.event(pid, u64::from(need.index))?;
     place_of_stamp(streams, pid, event.serial.this)
 }
 
@@ -83,18 +83,18 @@ fn search_with_hidden(
     alloc: Global,
     streams: &Streams,
     pairing: &Pairing,
-    hidden: &[HiddenSend],
+    hidden: &[Event],
 ) -> Result<Option<Outcome>, AllocError> {
-    let mut tables = Tables::of(alloc, streams, pairing)?;
-    let scarce = scarce_counts(alloc, streams, &mut tables, hidden)?;
+    let tables = Tables::of(alloc, streams, pairing)?;
+    let scarce = scarce_counts(alloc, streams, &tables, hidden)?;
     let mut prices = Prices::of_scarce(alloc, &scarce)?;
     let mut place = None;
     for _ in 0..ROUNDS {
         let extras = place_all(alloc, streams, hidden, &prices)?;
-        let Some(candidate) = with_untold(alloc, streams, extras)? else {
+        let Some(candidate) = with_untold(alloc, streams, hidden, &extras)? else {
             return Ok(None);
         };
-        let (candidate, short) = match feed_needs(alloc, streams, &mut tables, candidate)? {
+        let (candidate, short) = match feed_needs(alloc, streams, &tables, candidate)? {
             None => return Ok(None),
             Some(Round::Whole(whole)) => return Ok(Some(Outcome::Candidate(whole))),
             Some(Round::Short(candidate, short)) => (candidate, short),
@@ -121,14 +121,14 @@ pub(crate) fn search(
     if !hidden.is_empty() {
         return search_with_hidden(alloc, streams, pairing, &hidden);
     }
-    let mut tables = Tables::of(alloc, streams, pairing)?;
-    let feeding = Feeding::of(alloc, streams, &mut tables)?;
+    let tables = Tables::of(alloc, streams, pairing)?;
+    let feeding = Feeding::of(alloc, streams, &tables)?;
     drop(tables);
     if let Some(need) = feeding.short.first() {
-        let place = pid_at(streams, need.process);
-        return Ok(place.map(|pid| Outcome::Short(pid, need.index as u64)));
+        let place = pid_at(streams, need.process as usize);
+        return Ok(place.map(|pid| Outcome::Short(pid, u64::from(need.index))));
     }
-    let extras = extras_of(alloc, streams, streams, feeding.into_feeds())?;
-    let found = with_untold(alloc, streams, extras)?;
+    let fed = feed_all(alloc, streams, streams, feeding)?;
+    let found = with_untold(alloc, streams, &fed.messages, &fed.extras)?;
     Ok(found.map(Outcome::Candidate))
 }

@@ -1,18 +1,17 @@
-//! The completion by its definition: of worked streams, as they were completed by hand, and of
-//! generated ones, each through the checker that judges what the search finds. And needs of 0 that
-//! two events tell.
+//! What no public call shows: that the judge takes completions that are right, those of generated
+//! streams by the definition; and that the acts of the auditor's construction are certified.
 
-use crate::answer::{Answer, CompleteFault, Never};
-use crate::candidate::Candidate;
-use crate::completion::Completion;
+use crate::answer::CompleteFault;
+use crate::certificates::certify_told;
 use crate::decision::{answer_by_definition, complete};
-use crate::flaws::{Flaw, find_flaw, find_hidden};
+use crate::insertion::with_insertions_by_count;
 use crate::judge::judge;
-use crate::ranks::renumbered;
+use crate::lean::Whole;
 use st_core::{Draft, Event, Kind, Label, Pid, Serial, Streams};
+use st_hidden::Answer;
+use st_needs::{Completion, Flaw, find_flaw, find_hidden};
 use st_pair::pair;
 use std::alloc::{AllocError, Global};
-use std::process::Abort;
 use std::test::Fail;
 
 /// The greatest clock.
@@ -23,16 +22,8 @@ const ROUNDS: u64 = 300;
 
 const STEPS: u64 = 14;
 
-/// At least so many of them are completed; of the others a reason stands against each.
+/// At least so many of them are completed; for each of the others there is a reason.
 const COMPLETED: u64 = 60;
-
-fn p30() -> Pid {
-    Pid::new(30)
-}
-
-fn p31() -> Pid {
-    Pid::new(31)
-}
 
 fn event(kind: Kind, prev: u64, this: u64, from: Pid, to: Option<Pid>, value: u64) -> Event {
     Event {
@@ -49,24 +40,7 @@ fn print(prev: u64, this: u64, from: Pid) -> Event {
     event(Kind::Print, prev, this, from, None, 4)
 }
 
-/// 30 printed 3 and 5, and then goes on from a message of 3 that nobody reported; and these events
-/// of 31, if it is there.
-fn needing_streams(alloc: Global, others: Option<&[Event]>) -> Result<Streams, Fail> {
-    let mut draft = Draft::new(alloc);
-    draft.open(p30())?;
-    for (prev, this) in [(0, 3), (0, 5), (3, 6)] {
-        draft.add(p30(), print(prev, this, p30()))?;
-    }
-    if let Some(others) = others {
-        draft.open(p31())?;
-        for other in others {
-            draft.add(p31(), *other)?;
-        }
-    }
-    Ok(draft.close()?)
-}
-
-/// The completion by its definition, if no send is hidden and nothing stands against the streams.
+/// The completion by its definition, if no send is hidden and no reason holds of the streams.
 fn constructed_completion(
     alloc: Global,
     streams: &Streams,
@@ -92,144 +66,20 @@ fn constructed_completion(
     }
 }
 
-/// The completion once more, as the checker lets it through.
+/// The completion once more, as the judge lets it through.
 fn judge_again(
     alloc: Global,
     streams: &Streams,
-    completion: Completion,
+    completion: &Completion,
 ) -> Result<Option<Completion>, AllocError> {
-    let Completion {
-        streams: all,
-        told,
-        added: _,
-    } = completion;
-    judge::<MOST>(alloc, streams, Candidate { streams: all, told })
-}
-
-/// Asserts that the completion has this untold event, and so many.
-fn assert_added(
-    rt: &impl Abort,
-    alloc: Global,
-    streams: &Streams,
-    pid: Pid,
-    index: u64,
-    wanted: Event,
-    added: u64,
-) -> Result<(), Fail> {
-    let completion = constructed_completion(alloc, streams)?.ok_or("not completed")?;
-    let completion = judge_again(alloc, streams, completion)?.ok_or("refused")?;
-    assert_eq!(rt; completion.added(), added);
-    assert_eq!(rt; completion.told(pid, index), Some(false));
-    assert_eq!(rt; completion.streams().event(pid, index), Some(wanted));
-    Ok(())
-}
-
-#[test]
-fn a_reported_send_serves_the_need(rt: HostRuntime) -> Result<(), Fail> {
-    let sent = event(Kind::Send, 0, 3, p31(), Some(p30()), 7);
-    let streams = needing_streams(rt.alloc(), Some(&[sent]))?;
-    let wanted = event(Kind::Receive, 0, 3, p31(), Some(p30()), 7);
-    assert_added(&rt, rt.alloc(), &streams, p30(), 2, wanted, 1)
-}
-
-#[test]
-fn a_free_process_sends(rt: HostRuntime) -> Result<(), Fail> {
-    let streams = needing_streams(rt.alloc(), Some(&[]))?;
-    let wanted = event(Kind::Send, 0, 3, p31(), Some(p30()), 0);
-    assert_added(&rt, rt.alloc(), &streams, p31(), 0, wanted, 2)
-}
-
-#[test]
-fn the_invented_send_begins_the_trace(rt: HostRuntime) -> Result<(), Fail> {
-    let streams = needing_streams(rt.alloc(), Some(&[print(2, 5, p31())]))?;
-    let wanted = event(Kind::Send, 2, 3, p31(), Some(p30()), 0);
-    assert_added(&rt, rt.alloc(), &streams, p31(), 0, wanted, 2)
-}
-
-#[test]
-fn a_process_alone_sent_to_itself(rt: HostRuntime) -> Result<(), Fail> {
-    let alloc = rt.alloc();
-    let mut draft = Draft::new(alloc);
-    draft.open(p30())?;
-    draft.add(p30(), print(0, 3, p30()))?;
-    draft.add(p30(), print(2, 5, p30()))?;
-    let streams = draft.close()?;
-    let wanted = event(Kind::Receive, 0, 2, p30(), Some(p30()), 0);
-    assert_added(&rt, alloc, &streams, p30(), 2, wanted, 2)
-}
-
-#[test]
-fn nobody_is_free_to_send(rt: HostRuntime) -> Result<(), Fail> {
-    let streams = needing_streams(rt.alloc(), None)?;
-    assert!(rt; constructed_completion(rt.alloc(), &streams)?.is_none());
-    Ok(())
-}
-
-/// 30 printed 2 with this prev, and 31 received its send of 3 with prev 0, which nobody reported.
-fn zero_behind(alloc: Global, prev: u64) -> Option<Streams> {
-    let mut draft = Draft::new(alloc);
-    draft.open(p30()).ok()?;
-    draft.add(p30(), print(prev, 2, p30())).ok()?;
-    draft.open(p31()).ok()?;
-    let received = event(Kind::Receive, 0, 3, p30(), Some(p31()), 5);
-    draft.add(p31(), received).ok()?;
-    draft.close().ok()
-}
-
-#[test]
-fn two_events_tell_of_a_need_of_0(rt: HostRuntime) -> Result<(), Fail> {
-    let streams = zero_behind(rt.alloc(), 1).ok_or("no streams")?;
-    let answer = complete::<MOST>(rt.alloc(), &streams)?;
-    let Answer::Never(pid, index, Never::Unfounded) = answer else {
-        panic!(rt; "another answer");
+    let whole = Whole {
+        streams: completion.streams(),
+        told: completion.marks(),
     };
-    assert_eq!(rt; pid, p31());
-    assert_eq!(rt; index, 0);
-    Ok(())
-}
-
-#[test]
-fn a_prev_of_0_behind_another_is_no_need(rt: HostRuntime) -> Result<(), Fail> {
-    let streams = zero_behind(rt.alloc(), 0).ok_or("no streams")?;
-    let answer = complete::<MOST>(rt.alloc(), &streams)?;
-    assert!(rt; matches!(answer, Answer::Whole(_)));
-    Ok(())
-}
-
-/// These streams, at the second try if memory runs out.
-fn made_streams(rt: &impl Abort, alloc: Global) -> Streams {
-    match zero_behind(alloc, 1) {
-        Some(streams) => streams,
-        None => zero_behind(alloc, 1).expect(rt, "no streams at the second try"),
+    match with_insertions_by_count(alloc, whole, Vec::new(alloc))? {
+        None => Ok(None),
+        Some(candidate) => judge::<MOST>(alloc, streams, candidate),
     }
-}
-
-/// If memory runs out the call says so, and the same call decides afterwards.
-#[test]
-fn after_memory_ran_out_the_same_call_refuses(rt: HostRuntime) {
-    let alloc = rt.alloc();
-    let streams = made_streams(&rt, alloc);
-    let answer = match complete::<MOST>(alloc, &streams) {
-        Err(CompleteFault::Memory) => complete::<MOST>(alloc, &streams),
-        answer => answer,
-    };
-    assert!(rt; matches!(answer, Ok(Answer::Never(_, 0, Never::Unfounded))));
-}
-
-/// Renumbering says so too, and the same call renumbers afterwards.
-#[test]
-fn after_memory_ran_out_the_same_call_renumbers(rt: HostRuntime) {
-    let alloc = rt.alloc();
-    let streams = made_streams(&rt, alloc);
-    let ranked = match renumbered(alloc, &streams) {
-        Err(AllocError) => renumbered(alloc, &streams),
-        ranked => ranked,
-    };
-    let ranked = ranked.expect(&rt, "not renumbered at the second try");
-    assert_eq!(rt;
-        ranked.event(p31(), 0).map(|event| event.serial.this),
-        Some(3)
-    );
 }
 
 /// A generator of numbers: a linear congruence (Knuth's multiplier).
@@ -307,10 +157,42 @@ fn generated_streams_are_completed(rt: HostRuntime) -> Result<(), Fail> {
     for _ in 0..ROUNDS {
         let streams = generated_streams(alloc, &mut random)?;
         if let Some(completion) = constructed_completion(alloc, &streams)? {
-            assert!(rt; judge_again(alloc, &streams, completion)?.is_some());
+            assert!(rt; judge_again(alloc, &streams, &completion)?.is_some());
             completed = completed.wrapping_add(1);
         }
     }
     assert!(rt; completed >= COMPLETED);
+    Ok(())
+}
+
+/// 30 sends a message to 31, which sends one back, and 30 prints.
+fn request(alloc: Global) -> Result<Streams, Fail> {
+    let (client, server) = (Pid::new(30), Pid::new(31));
+    let mut draft = Draft::new(alloc);
+    draft.open(client)?;
+    draft.open(server)?;
+    let asked = event(Kind::Send, 0, 1, client, Some(server), 4);
+    let told = event(Kind::Send, 1, 2, server, Some(client), 4);
+    let [got, heard] = [asked, told].map(|sent| Event {
+        kind: Kind::Receive,
+        ..sent
+    });
+    for event in [asked, heard, print(2, 3, client)] {
+        draft.add(client, event)?;
+    }
+    for event in [got, told] {
+        draft.add(server, event)?;
+    }
+    Ok(draft.close()?)
+}
+
+#[test]
+fn the_acts_of_the_construction_are_certified(rt: HostRuntime) -> Result<(), Fail> {
+    let streams = request(rt.alloc())?;
+    let Answer::Whole(completion) = complete::<MOST>(rt.alloc(), &streams)? else {
+        panic!(rt; "not completed");
+    };
+    let found = certify_told::<MOST>(&rt, rt.alloc(), &streams, &completion, 100)?;
+    assert!(rt; found.acts.len() >= 7);
     Ok(())
 }

@@ -244,7 +244,7 @@ tracer_of_one_node =
     (act.Tracer d true ∷ act.Set d (component.Label (label_of 17)) ∷ act.Set d (component.Receive true) ∷ act.Send d e
     5 ∷ act.Receive e want.First ∷ []) (Left e) refl
 
--- and it answers what the actor's own mark was before
+-- and it replies what the actor's own mark was before
 abbrev replies_of : List Act → Option (List Reply)
 replies_of acts = option_map (map (λ (o : Outcome). o.reply)) (run top (d ∷ e ∷ []) acts)
 

@@ -1,5 +1,6 @@
 -- Without a reset no stamp stands twice in a queue: a send's new stamp is above its actor's clock, and all that this
--- process stamped before is not. A receive takes a message out, and no other act touches a queue; and clocks don't fall.
+-- process stamped before is not. A receive takes a message out, and no other act touches a queue;
+-- and clocks don't fall.
 use Rattle.std.proofs.Common.{◌≡◌, ℕ, zero, suc, true, false, cond, List, [], ◌∷◌, ◌++◌}
 use Rattle.std.proofs.Common.{Option, Some, None, All, refl, sym, ◌∙◌, ap, subst, arith}
 use Rattle.std.specs.List.{AllByRecursion, remove}
@@ -140,7 +141,8 @@ module _ (top : ℕ) (s : State) (a : Act) (o : Outcome) (h : step top s a ≡ S
         | true ↦ λ mine.
             let who = actor_is s (actor a) p t.before r t.is_before is_r mine in
             let part : receives r (pick w r.queue) ≡ t.done =
-            same_Some _ t.done (ap (λ x. acted top r x) (sym is_a) ∙ ap (λ (x : Process). acted top x a) (sym who) ∙ t.is_done) in
+            same_Some _ t.done (ap (λ x. acted top r x) (sym is_a)
+            ∙ ap (λ (x : Process). acted top x a) (sym who) ∙ t.is_done) in
             subst (λ (d : Acted). IsQueueOnce o.after d.queue) part
             (received_once top s p o a h plain r (pick w r.queue) is)
       ] refl

@@ -43,7 +43,7 @@ is_lt-Less Less is = refl
 is_lt-Less Equal is = absurd (cc)
 is_lt-Less Greater is = absurd (cc)
 
--- what `is_sorted_by` answers
+-- what `is_sorted_by` returns
 pub rising_from_answer : (ps : List Pid) (r : Bool)
     → IsAllAdjacentAnswer (λ x y b. b ≡ is_lt (pid_cmp x y)) ps r → IsTrue r ↔ IsRising ps
 rising_from_answer ps true is =

@@ -1,7 +1,8 @@
 -- Devices: where bytes come from and go to (own profile).
 -- Words for the contracts of the byte sources and sinks; nothing here is about tracing.
-use Rattle.std.specs.Prelude.{◌≡◌, ℕ, ◌-◌, ◌==◌, ◌&&◌, ◌||◌, nat_lt, Bool, true, false, List, [], ◌++◌, length, drop}
-use Rattle.std.specs.Prelude.{replicate, min, Option, Some, None, Result, Ok, MatchResult, option_map, if◌then◌else◌}
+use Rattle.std.specs.Prelude.{◌≡◌, ℕ, ◌-◌, ◌==◌, ◌&&◌, ◌||◌, nat_lt, Bool, true, false, List, []}
+use Rattle.std.specs.Prelude.{◌++◌, length, drop, replicate, min, Option, Some, None, Result, Ok}
+use Rattle.std.specs.Prelude.{MatchResult, option_map, if◌then◌else◌}
 
 -- the mark of a device is false until a call fails, then true, and each later call fails
 abbrev pub Marks : {T E : Type 0} → Bool → Bool → Result T E → Type 0
@@ -11,10 +12,12 @@ Marks old new r = MatchResult r (λ _. (old ≡ false) × (new ≡ false)) (λ _
 abbrev pub PassesEmpty : {S E : Type 0} → Bool → List ℕ → S → S → Result ℕ E → Type 0
 PassesEmpty failed piece old new r = failed ≡ false → piece ≡ [] → (r ≡ Ok 0) × (new ≡ old)
 
--- calls in a row from one state of a device to another, and the bytes that they passed, one piece after the other
+-- calls in a row from one state of a device to another, and the bytes that they passed, one piece
+-- after the other
 pub data InARow {S : Type 0} (passes : S → List ℕ → S → Type 0) : S → List ℕ → S → Type 0 where
   NoCall : (s : S) → InARow passes s [] s
-  OneMore : (a b c : S) (xs ys : List ℕ) → InARow passes a xs b → passes b ys c → InARow passes a (xs ++ ys) c
+  OneMore : (a b c : S) (xs ys : List ℕ) → InARow passes a xs b → passes b ys c
+      → InARow passes a (xs ++ ys) c
 
 -- how much of n bytes a fuse lets through; no fuse lets all through
 abbrev pub through : Option ℕ → ℕ → ℕ
@@ -36,7 +39,8 @@ pub record MemoryInput : Type 0 where
   pub fuse : Option ℕ
   pub failed : Bool
 
--- a sink over memory: the bytes that were written, the room that is left, what its fuse lets through, and its mark
+-- a sink over memory: the bytes that were written, the room that is left, what its fuse lets
+-- through, and its mark
 pub record MemoryOutput : Type 0 where
   pub written : List ℕ
   pub room : ℕ
@@ -45,7 +49,8 @@ pub record MemoryOutput : Type 0 where
 
 -- how many bytes a take with a piece of n places gives, none if it fails
 abbrev pub taken_count : MemoryInput → ℕ → Option ℕ
-taken_count s n = option_map (λ most. min most (length s.left)) (let_through s.failed n (through s.fuse n))
+taken_count s n =
+    option_map (λ most. min most (length s.left)) (let_through s.failed n (through s.fuse n))
 
 -- how many bytes of a piece of n a put writes, none if it fails
 abbrev pub put_count : MemoryOutput → ℕ → Option ℕ

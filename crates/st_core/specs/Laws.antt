@@ -1,6 +1,8 @@
--- Laws of the machine: what one act leaves alone, what holds in every run, and what in every run without a reset.
-use Rattle.std.specs.Prelude.{◌≡◌, ◌≢◌, ℕ, ◌+◌, ◌<◌, ◌≤◌, ◌⊎◌, max, Bool, true, false, List, [], ◌∷◌, length, map, take}
-use Rattle.std.specs.Prelude.{Some, None, is_some, IsSome, slice_get, All, AllPairs, option_and_then}
+-- Laws of the machine: what one act leaves alone, what holds in every run, and what in every run
+-- without a reset.
+use Rattle.std.specs.Prelude.{◌≡◌, ◌≢◌, ℕ, ◌+◌, ◌<◌, ◌≤◌, ◌⊎◌, max, Bool, true, false, List, []}
+use Rattle.std.specs.Prelude.{◌∷◌, length, map, take, Some, None, is_some, IsSome, slice_get, All}
+use Rattle.std.specs.Prelude.{AllPairs, option_and_then}
 use Rattle.std.specs.List.{AllByRecursion}
 use Rattle.std.specs.Option.{ForSome, option_map_or}
 use Rattle.st_core.specs.declared.types.Pid.{Pid}
@@ -23,14 +25,15 @@ pub record LeavesOthers (a : Act) (before after : State) : Type 0 where
   pub pids : map (λ r. r.pid) after ≡ map (λ r. r.pid) before
   pub untouched : (p : Pid) → touches a p ≡ false → process after p ≡ process before p
 
--- a token that p stamped: it is from p, its serial rises, and its count is one that a clock can have
+-- a token that p stamped: it is from p, its serial rises, and its count is one that a clock can
+-- have
 pub record IsStamped (top : ℕ) (p : Pid) (t : Token) : Type 0 where
   pub from : t.from ≡ p
   pub rises : t.serial.prev < t.serial.this
   pub within : t.serial.this ≤ top
 
--- what holds of each process in every run: the last count is at most the clock, the clock at most TOP,
--- and the token of each queued message, if it has one, was stamped by the message's sender
+-- what holds of each process in every run: the last count is at most the clock, the clock at most
+-- TOP, and the token of each queued message, if it has one, was stamped by the message's sender
 pub record IsSound (top : ℕ) (r : Process) : Type 0 where
   pub ordered : r.local.last ≤ r.local.clock
   pub within : r.local.clock ≤ top
@@ -51,14 +54,16 @@ abbrev pub ReportsAmong : List Pid → Act → Outcome → Type 0
 ReportsAmong pids a o = ForSome o.report (IsReportAmong pids (actor a))
 
 -- act n is p's and reports e
-pub record Reports (acts : List Act) (os : List Outcome) (p : Pid) (n : ℕ) (e : Event) : Type 0 where
+pub record Reports (acts : List Act) (os : List Outcome) (p : Pid) (n : ℕ)
+    (e : Event) : Type 0 where
   pub act : Act
   pub at : slice_get acts n ≡ Some act
   pub own : actor act ≡ p
   pub report : option_and_then (λ o. o.report) (slice_get os n) ≡ Some e
 
 -- act n reports event i of p's stream: the acts before it report the i events before e
-pub record ReportsEvent (acts : List Act) (os : List Outcome) (p : Pid) (i : ℕ) (e : Event) (n : ℕ) : Type 0 where
+pub record ReportsEvent (acts : List Act) (os : List Outcome) (p : Pid) (i : ℕ) (e : Event)
+    (n : ℕ) : Type 0 where
   pub reports : Reports acts os p n e
   pub before : length (stream (take n acts) (take n os) p) ≡ i
 
@@ -77,10 +82,11 @@ clock_in s p = elim (process s p) [ None ↦ 0 | Some r ↦ r.local.clock ]
 
 -- no process's clock falls from one outcome to a later one
 abbrev pub ClocksNeverFall : List Outcome → Type 0
-ClocksNeverFall os = AllPairs (λ o later. (p : Pid) → clock_in o.after p ≤ clock_in later.after p) os
+ClocksNeverFall os =
+    AllPairs (λ o later. (p : Pid) → clock_in o.after p ≤ clock_in later.after p) os
 
--- an act of this kind after which its actor has the token t has stamped it: a send and a print stamp what there is, a
--- printat a token with its label
+-- an act of this kind after which its actor has the token t has stamped it: a send and a print
+-- stamp what there is, a printat a token with its label
 abbrev pub stamps : Act → Token → Bool
 stamps (act.Send p q v) t = true
 stamps (act.Print p v) t = true
@@ -88,7 +94,8 @@ stamps (act.PrintAt p n v) t = has_label n (Some t)
 stamps a t = false
 
 -- act n is p's and stamped the token t
-pub record StampsToken (acts : List Act) (os : List Outcome) (p : Pid) (n : ℕ) (t : Token) : Type 0 where
+pub record StampsToken (acts : List Act) (os : List Outcome) (p : Pid) (n : ℕ)
+    (t : Token) : Type 0 where
   pub act : Act
   pub at : slice_get acts n ≡ Some act
   pub own : actor act ≡ p
@@ -114,7 +121,8 @@ IsStampedBefore s m = ForSome m.token (λ t. t.serial.this ≤ clock_in s t.from
 -- no stamp stands twice in a queue, and none is yet to come
 pub record HasStampsOnce (s : State) : Type 0 where
   pub once : (p : Pid) (r : Process) → process s p ≡ Some r → StampsStandOnce r.queue
-  pub before : (p : Pid) (r : Process) → process s p ≡ Some r → AllByRecursion (IsStampedBefore s) r.queue
+  pub before : (p : Pid) (r : Process) → process s p ≡ Some r
+      → AllByRecursion (IsStampedBefore s) r.queue
 
 -- no message of the one queue bears a stamp that one of the other bears
 abbrev pub AreAllApart : List Message → List Message → Type 0
@@ -125,8 +133,8 @@ abbrev pub HasQueuesApart : State → Type 0
 HasQueuesApart s = (p q : Pid) (x y : Process) → p ≢ q → process s p ≡ Some x → process s q ≡ Some y
     → AreAllApart x.queue y.queue
 
--- act n lifts p's clock to this count: the clock stands at it after the act, and below it after each earlier one. So
--- one act at most lifts a clock to a count, and to a greater count a later act
+-- act n lifts p's clock to this count: the clock stands at it after the act, and below it after
+-- each earlier one. So one act at most lifts a clock to a count, and to a greater count a later act
 pub record LiftsClock (os : List Outcome) (p : Pid) (this n : ℕ) : Type 0 where
   pub outcome : Outcome
   pub at : slice_get os n ≡ Some outcome
@@ -136,7 +144,8 @@ pub record LiftsClock (os : List Outcome) (p : Pid) (this n : ℕ) : Type 0 wher
 -- the act stamps a token, or takes a message that has one
 abbrev pub moves_token : Process → Act → Bool
 moves_token r (act.Send p q v) = is_some r.local.token
-moves_token r (act.Receive p w) = option_map_or (λ found. is_some found.1.token) (pick w r.queue) false
+moves_token r (act.Receive p w) =
+    option_map_or (λ found. is_some found.1.token) (pick w r.queue) false
 moves_token r (act.Print p v) = is_some r.local.token
 moves_token r (act.PrintAt p n v) = has_label n r.local.token
 moves_token r a = false
@@ -154,7 +163,8 @@ abbrev pub greatest_count : List Event → ℕ
 greatest_count [] = 0
 greatest_count (e ∷ es) = max e.serial.this (greatest_count es)
 
--- the prev that the last of these events leaves for the next: a receive its this, a send or a print its own; 0 of none
+-- the prev that the last of these events leaves for the next: a receive its this, a send or a print
+-- its own; 0 of none
 abbrev pub prev_after : List Event → ℕ
 prev_after [] = 0
 prev_after (e ∷ []) = elim e.kind [
@@ -164,8 +174,8 @@ prev_after (e ∷ []) = elim e.kind [
 ]
 prev_after (e ∷ f ∷ es) = prev_after (f ∷ es)
 
--- the send or print e goes on from these events of its process: it has the next count, and the prev that they leave, or
--- in a new trace their greatest count
+-- the send or print e goes on from these events of its process: it has the next count, and the prev
+-- that they leave, or in a new trace their greatest count
 pub record GoesOnFrom (es : List Event) (e : Event) : Type 0 where
   pub count : e.serial.this ≡ greatest_count es + 1
   pub prev : (e.serial.prev ≡ prev_after es) ⊎ (e.serial.prev ≡ greatest_count es)
@@ -175,13 +185,14 @@ abbrev pub AreAllListed : List Stream → Type 0
 AreAllListed streams = (p : Pid) (i : ℕ) (e : Event) → slice_get (events_of streams p) i ≡ Some e
     → names_listed streams e ≡ true
 
--- event i of p names a pid that isn't listed, and no event before it does: none of p's with a lower index, and none of
--- a process with a lower pid
+-- event i of p names a pid that isn't listed, and no event before it does: none of p's with a lower
+-- index, and none of a process with a lower pid
 pub record IsLeastUnlisted (streams : List Stream) (p : Pid) (i : ℕ) : Type 0 where
   pub event : Event
   pub at : slice_get (events_of streams p) i ≡ Some event
   pub names : names_listed streams event ≡ false
   pub earlier : (j : ℕ) (e : Event) → j < i → slice_get (events_of streams p) j ≡ Some e
       → names_listed streams e ≡ true
-  pub lower : (q : Pid) (j : ℕ) (e : Event) → IsBelow q p → slice_get (events_of streams q) j ≡ Some e
+  pub lower : (q : Pid) (j : ℕ) (e : Event) → IsBelow q p
+      → slice_get (events_of streams q) j ≡ Some e
       → names_listed streams e ≡ true

@@ -1,5 +1,6 @@
--- The definitions, in the order in which they build on each other. From `Pid` to `Verdict` the machine, its runs and
--- what they show; then collected streams, the laws of every run, and byte devices. Public contracts rest on these.
+-- The definitions, in the order in which they build on each other. From `Pid` to `Verdict` the
+-- machine, its runs and what they show; then collected streams, the laws of every run, and byte
+-- devices. Public contracts rest on these.
 pub mod Pid
 pub mod State
 pub mod Stamp

@@ -1,7 +1,8 @@
--- What went through a device of std's, as standard input and output, which don't tell what they hold (own profile).
--- Nothing can be said of bytes from outside but that a call passed them. These facts are names for that, without
--- content of their own: a function over any source or sink is proved for all of them at once and can't tell which it
--- has, among them a `Recorder`, whose relation is the record of what passed.
+-- What went through a device of std's, such as standard input and output: no contract says what
+-- they hold (own profile). All that can be said of bytes from outside is that a call passed them.
+-- These facts are names for that and say nothing more. A function over any source or sink is
+-- proved for all of them at once and can't tell which it has; one of them is a `Recorder`, whose
+-- relation is the record of what passed.
 use Rattle.std.specs.Prelude.{ℕ, List}
 
 -- one call led from one state to the other and passed these bytes

@@ -1,5 +1,5 @@
--- What holds of each call of a device holds of calls in a row, since their bytes follow one another.
--- For the laws of `Recorder` alone: no contract cites these.
+-- What holds of each call of a device holds of calls in a row, since their bytes follow one
+-- another. For the laws of `Recorder` alone: no contract cites these.
 use Rattle.std.specs.Prelude.{ℕ, List, Option}
 use Rattle.std.specs.Io.KnownBytes.{Consumes, Appends}
 use Rattle.std.proofs.KnownBytes.{Consumes-nil, Consumes-trans, Appends-nil, Appends-trans}
@@ -11,7 +11,8 @@ pub row_consumes : {S : Type 0} (left : S → Option (List ℕ)) (gives : S → 
     → (a b : S) (bytes : List ℕ) → InARow gives a bytes b → Consumes (left a) (left b) bytes
 row_consumes left gives each a b bytes (NoCall s) = Consumes-nil (left s)
 row_consumes left gives each a b bytes (OneMore x y z xs ys row call) =
-    Consumes-trans (left x) (left y) (left z) xs ys (row_consumes left gives each x y xs row) (each y ys z call)
+    Consumes-trans (left x) (left y) (left z) xs ys (row_consumes left gives each x y xs row)
+    (each y ys z call)
 
 -- what calls in a row wrote stands at the end of what was written
 pub row_appends : {S : Type 0} (written : S → Option (List ℕ)) (puts : S → List ℕ → S → Type 0)

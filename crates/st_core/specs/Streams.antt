@@ -1,6 +1,7 @@
 -- Streams: what each process reported, and where they hang together (own profile).
-use Rattle.std.specs.Prelude.{◌≡◌, ℕ, ◌&&◌, Bool, true, false, not, List, [], ◌∷◌, ◌++◌, map, length, sum_by, find}
-use Rattle.std.specs.Prelude.{position, Option, Some, None, if◌then◌else◌, is_some, is_none}
+use Rattle.std.specs.Prelude.{◌≡◌, ℕ, ◌&&◌, Bool, true, false, not, List, [], ◌∷◌, ◌++◌, map}
+use Rattle.std.specs.Prelude.{length, sum_by, find, position, Option, Some, None, if◌then◌else◌}
+use Rattle.std.specs.Prelude.{is_some, is_none}
 use Rattle.std.specs.List.{AllByRecursion, list_any}
 use Rattle.std.specs.Option.{option_map_or}
 use Rattle.st_core.specs.declared.types.Pid.{Pid}
@@ -30,8 +31,8 @@ events_of streams p = elim (stream_of streams p) [ None ↦ [] | Some x ↦ x.ev
 abbrev pub total_of : List Stream → ℕ
 total_of streams = sum_by (λ x. length x.events) streams
 
--- an event of this kind, from and to is one of p: from it for a send, which has a to; to it for a receive; from it
--- for a print, which has none
+-- an event of this kind, from and to is one of p: from it for a send, which has a to; to it for a
+-- receive; from it for a print, which has none
 abbrev pub is_of : Kind → Pid → Option Pid → Pid → Bool
 is_of kind.Send from to p = pid_eq from p && is_some to
 is_of kind.Receive from to p = option_map_or (λ q. pid_eq q p) to false

@@ -1,5 +1,5 @@
-//! Laws of the machine, as contracts of functions that do nothing: each clause is a theorem over the
-//! definitions of `specs/`, and a proof that calls the function may use it.
+//! Laws of the machine, as contracts of functions that do nothing: each clause is a theorem over
+//! the definitions of `specs/`, and a proof that calls the function may use it.
 
 ghost use Rattle.std.specs.Prelude.{◌≡◌, ◌≢◌, ◌≤◌, ◌↔◌, ℕ, List, MatchOption, Some, All};
 ghost use Rattle.std.specs.Prelude.{IsSome, length, option_and_then, slice_get, take};
@@ -9,8 +9,9 @@ ghost use Rattle.st_core.specs.declared.types.Event.{Event};
 ghost use Rattle.st_core.specs.declared.types.Kind.TheVariants as kind;
 ghost use Rattle.st_core.specs.declared.types.Pid.{Pid};
 ghost use Rattle.st_core.specs.declared.types.Token.{Token};
-ghost use Rattle.st_core.specs.Laws.{AreAllListed, IsLeastUnlisted, LeavesOthers, IsStamped, KeepsSound, ReportsAmong};
-ghost use Rattle.st_core.specs.Laws.{ClocksNeverFall, GoesOnFrom, LiftsClock, NoReset, Reports, ReportsEverything};
+ghost use Rattle.st_core.specs.Laws.{AreAllListed, IsLeastUnlisted, LeavesOthers, IsStamped};
+ghost use Rattle.st_core.specs.Laws.{KeepsSound, ReportsAmong, ClocksNeverFall, GoesOnFrom};
+ghost use Rattle.st_core.specs.Laws.{LiftsClock, NoReset, Reports, ReportsEverything};
 ghost use Rattle.st_core.specs.Laws.{HasQueuesApart, HasStampsOnce, ReportsEvent, StampsToken};
 ghost use Rattle.st_core.specs.Pid.{IsRising};
 ghost use Rattle.st_core.specs.Streams.{unlisted};
@@ -23,10 +24,12 @@ ghost use Rattle.st_core.specs.Verdict.{Verdict, IsVerdict};
 
 /// An act changes only the processes that it touches, and none comes or goes.
 pub fn untouched_stay()
-    ensures { (top : ℕ) (s : State) (a : Act) (o : Outcome) → step top s a ≡ Some o → LeavesOthers a s o.after }
+    ensures { (top : ℕ) (s : State) (a : Act) (o : Outcome) → step top s a ≡ Some o
+        → LeavesOthers a s o.after }
 {}
 
-/// A stamped token is from its process, its serial rises, and its count is one that a clock can have.
+/// A stamped token is from its process, its serial rises, and its count is one that a clock can
+/// have.
 pub fn stamp_rises()
     ensures { (top : ℕ) (p : Pid) (l m : LocalState) (t : Token)
         → l.last ≤ l.clock → stamp top p l ≡ Some m → m.token ≡ Some t → IsStamped top p t }
@@ -39,13 +42,15 @@ pub fn runs_stay_sound()
         → run top pids acts ≡ Some os → All (KeepsSound top) os }
 {}
 
-/// In every run each report is an event that its actor may report, and names only processes of the run.
+/// In every run each report is an event that its actor may report, and names only processes of the
+/// run.
 pub fn reports_are_own()
     ensures { (top : ℕ) (pids : List Pid) (acts : List Act) (os : List Outcome)
         → run top pids acts ≡ Some os → AllZip (ReportsAmong pids) acts os }
 {}
 
-/// In every run each reported receive follows the send whose message it took, and no send stands twice.
+/// In every run each reported receive follows the send whose message it took, and no send stands
+/// twice.
 pub fn receives_follow()
     ensures { (top : ℕ) (pids : List Pid) (acts : List Act) (os : List Outcome)
         → run top pids acts ≡ Some os → Follows acts os (pairs acts os) }
@@ -74,7 +79,8 @@ pub fn events_are_reports()
 
 /// Each report of an act stands in its process's stream, behind those of the acts before.
 pub fn reports_are_events()
-    ensures { (acts : List Act) (os : List Outcome) (p : Pid) (n : ℕ) (e : Event) → Reports acts os p n e
+    ensures { (acts : List Act) (os : List Outcome) (p : Pid) (n : ℕ) (e : Event)
+        → Reports acts os p n e
         → slice_get (stream acts os p) (length (stream (take n acts) (take n os) p)) ≡ Some e }
 {}
 
@@ -92,8 +98,8 @@ pub fn reported_stamps_lift_clocks()
         → Reports acts os p n e → e.kind ≢ kind.Receive → LiftsClock os p e.serial.this n }
 {}
 
-/// In a run without a reset every stamp, reported or not, lifts its process's clock to its count: so
-/// the counts of a process's stamps rise.
+/// In a run without a reset every stamp, reported or not, lifts its process's clock to its count:
+/// so the counts of a process's stamps rise.
 pub fn stamps_lift_clocks()
     ensures { (top : ℕ) (pids : List Pid) (acts : List Act) (os : List Outcome)
         → run top pids acts ≡ Some os → NoReset acts → (p : Pid) (n : ℕ) (t : Token)
@@ -107,15 +113,16 @@ pub fn queues_have_stamps_once()
         → run top pids acts ≡ Some os → NoReset acts → All (λ o. HasStampsOnce o.after) os }
 {}
 
-/// Nor do two queues: in a run without a reset no two tokens that wait anywhere, and that one process
-/// stamped, have the same count.
+/// Nor do two queues: in a run without a reset no two tokens that wait anywhere, and that one
+/// process stamped, have the same count.
 pub fn queues_share_no_stamp()
     ensures { (top : ℕ) (pids : List Pid) (acts : List Act) (os : List Outcome)
         → run top pids acts ≡ Some os → NoReset acts → All (λ o. HasQueuesApart o.after) os }
 {}
 
-/// In a run without a reset each send that a reported receive follows, itself reported or not, lifts
-/// its process's clock to the receive's count: so a process sends no two messages with one count.
+/// In a run without a reset each send that a reported receive follows, itself reported or not,
+/// lifts its process's clock to the receive's count: so a process sends no two messages with one
+/// count.
 pub fn followed_sends_lift_clocks()
     ensures { (top : ℕ) (pids : List Pid) (acts : List Act) (os : List Outcome)
         → run top pids acts ≡ Some os → NoReset acts → (r s : ℕ) (follows : IsFollowing acts os r s)
@@ -127,7 +134,8 @@ pub fn followed_sends_lift_clocks()
 pub fn full_reports_tell_counts()
     ensures { (top : ℕ) (pids : List Pid) (acts : List Act) (os : List Outcome)
         → run top pids acts ≡ Some os → NoReset acts → ReportsEverything (zero_state pids) acts os
-        → (p : Pid) (i : ℕ) (e : Event) → slice_get (stream acts os p) i ≡ Some e → e.kind ≢ kind.Receive
+        → (p : Pid) (i : ℕ) (e : Event) → slice_get (stream acts os p) i ≡ Some e
+        → e.kind ≢ kind.Receive
         → GoesOnFrom (take i (stream acts os p)) e }
 {}
 
@@ -135,18 +143,21 @@ pub fn full_reports_tell_counts()
 pub fn full_reports_have_sends()
     ensures { (top : ℕ) (pids : List Pid) (acts : List Act) (os : List Outcome)
         → run top pids acts ≡ Some os → ReportsEverything (zero_state pids) acts os
-        → (r s : ℕ) → IsFollowing acts os r s → IsSome (option_and_then (λ o. o.report) (slice_get os s)) }
+        → (r s : ℕ) → IsFollowing acts os r s
+        → IsSome (option_and_then (λ o. o.report) (slice_get os s)) }
 {}
 
 /// Streams and acts have a verdict.
 pub fn a_verdict()
-    ensures { (top : ℕ) (streams : List Stream) (acts : List Act) → (v : Verdict) × IsVerdict top streams acts v }
+    ensures { (top : ℕ) (streams : List Stream) (acts : List Act)
+        → (v : Verdict) × IsVerdict top streams acts v }
 {}
 
 /// The verdict is Yes exactly if the acts show the streams.
 pub fn yes_shows()
     ensures { (top : ℕ) (streams : List Stream) (acts : List Act)
-        → ((ps : List (ℕ × ℕ)) × IsVerdict top streams acts (Verdict.Yes ps)) ↔ Shows top streams acts }
+        → ((ps : List (ℕ × ℕ)) × IsVerdict top streams acts (Verdict.Yes ps))
+        ↔ Shows top streams acts }
 {}
 
 /// Streams and acts have one verdict at most.

@@ -34,9 +34,19 @@ impl<const TOP: u64> Model for Local<TOP> {
 
     ghost Value = { LocalState };
 
-    ghost view = { λ a. record { token = a.token; clock = a.clock; last = a.last; traced = a.traced } };
+    ghost view = { λ a. record {
+      token = a.token;
+      clock = a.clock;
+      last = a.last;
+      traced = a.traced;
+    } };
 
-    ghost inverse = { λ l. record { token = l.token; clock = l.clock; last = l.last; traced = l.traced } };
+    ghost inverse = { λ l. record {
+      token = l.token;
+      clock = l.clock;
+      last = l.last;
+      traced = l.traced;
+    } };
 
     ghost invariant = { λ a. (a.last ≤ a.clock) × (a.clock ≤ TOP) };
 }
@@ -88,7 +98,8 @@ impl<const TOP: u64> Local<TOP> {
     /// the serial {last, clock} (manual) and `me` as its from. At clock TOP all stays.
     pub fn advance(&mut self, me: Pid) -> Result<Token, ClockFull>
         requires { IsSome self.old.token }
-        ensures stamped { IfOk result (λ t. (stamp TOP me self.old ≡ Some self.new) × (self.new.token ≡ Some t)) }
+        ensures stamped { IfOk result
+            (λ t. (stamp TOP me self.old ≡ Some self.new) × (self.new.token ≡ Some t)) }
         ensures full { OnErr result ((stamp TOP me self.old ≡ None) × (self.new ≡ self.old)) }
     {
         if self.clock == TOP {

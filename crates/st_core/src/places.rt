@@ -10,8 +10,8 @@ ghost use Rattle.st_core.specs.Pid.{pid_eq, IsRising};
 
 use crate::types::Pid;
 
-/// How many guesses there are. As many pids whose numbers follow one another don't meet; it is twice
-/// the most processes of a text.
+/// How many guesses there are. As many pids whose numbers follow one another don't meet; it is
+/// twice the most processes of a text.
 pub(crate) const SLOTS: usize = 2_048;
 
 /// For each slot, where the last pid of that slot stands.
@@ -40,8 +40,8 @@ impl Places {
         }
     }
 
-    /// Guesses from now on that the pid stands at this place. One past what a guess can hold is found
-    /// by the search.
+    /// Guesses from now on that the pid stands at this place. One past what a guess can hold is
+    /// found by the search.
     pub(crate) fn expect(&mut self, pid: Pid, place: usize) {
         self.guesses[slot_of(pid)] = place.min(usize::from(u16::MAX)) as u16;
     }

@@ -3,14 +3,15 @@
 //! Both keep the rules of `specs/Streams.antt` in their types, so whoever has `Streams` needn't
 //! check them again. Nothing here steps the machine.
 
-ghost use Rattle.std.specs.Prelude.{◌≡◌, ◌<◌, ◌↔◌, [], ◌∷◌, ◌++◌, length, not, position, true, false, Some, None};
-ghost use Rattle.std.specs.Prelude.{IsTrue, IfOk, IfSome, IfNone, IfErr, OnOk, OnErr, slice_get, slice_set};
-ghost use Rattle.std.specs.Prelude.{slice_index_or};
+ghost use Rattle.std.specs.Prelude.{◌≡◌, ◌<◌, ◌↔◌, [], ◌∷◌, ◌++◌, length, not, position, true};
+ghost use Rattle.std.specs.Prelude.{false, Some, None, IsTrue, IfOk, IfSome, IfNone, IfErr, OnOk};
+ghost use Rattle.std.specs.Prelude.{OnErr, slice_get, slice_set, slice_index_or};
 ghost use Rattle.std.specs.List.{AllByRecursion};
 ghost use Rattle.st_core.specs.Pid.{pid_eq, IsBelow, IsRising};
 ghost use Rattle.st_core.specs.Run.{pids_of};
-ghost use Rattle.st_core.specs.Streams.{lists, events_of, total_of, unlisted, is_own, added, ComesLast, IsOpenFault, is_among, names_among};
-ghost use Rattle.st_core.specs.Streams.{IsAddFault, IsDraft, IsStreams};
+ghost use Rattle.st_core.specs.Streams.{lists, events_of, total_of, unlisted, is_own, added};
+ghost use Rattle.st_core.specs.Streams.{ComesLast, IsOpenFault, is_among, names_among, IsAddFault};
+ghost use Rattle.st_core.specs.Streams.{IsDraft, IsStreams};
 ghost use Rattle.st_core.specs.Collected.{first_failing};
 
 use crate::places::Places;
@@ -175,7 +176,8 @@ impl Draft {
     /// Where the pid stands among the processes so far.
     fn place_of(&self, pid: Pid) -> Option<usize>
         ensures found { IfSome result (λ i. slice_get (pids_of self.now) i ≡ Some pid) }
-        ensures missing { IfNone result (AllByRecursion (λ p. pid_eq p pid ≡ false) (pids_of self.now)) }
+        ensures missing { IfNone result
+            (AllByRecursion (λ p. pid_eq p pid ≡ false) (pids_of self.now)) }
     {
         self.places.place_of(&self.pids, pid)
     }
@@ -232,7 +234,8 @@ impl Streams {
     /// and at worst that of a binary search.
     pub fn place_of(&self, pid: Pid) -> Option<usize>
         ensures found { IfSome result (λ i. slice_get (pids_of self.now) i ≡ Some pid) }
-        ensures missing { IfNone result (AllByRecursion (λ p. pid_eq p pid ≡ false) (pids_of self.now)) }
+        ensures missing { IfNone result
+            (AllByRecursion (λ p. pid_eq p pid ≡ false) (pids_of self.now)) }
     {
         self.draft.place_of(pid)
     }
@@ -283,7 +286,8 @@ fn comes_last(pids: &[Pid], pid: Pid) -> bool
 fn push_at(events: &mut [Sequence<Event>], place: usize, event: Event) -> Result<(), AllocError>
     requires { place < length events.old }
     ensures ok { OnOk result
-        (events.new ≡ slice_set events.old place (slice_index_or events.old place [] ++ event ∷ [])) }
+        (events.new ≡ slice_set events.old place
+        (slice_index_or events.old place [] ++ event ∷ [])) }
     ensures err { OnErr result (events.new ≡ events.old) }
 {
     let list = &mut events[place];

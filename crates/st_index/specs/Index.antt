@@ -1,5 +1,6 @@
 -- What it means that an index is one of a queue.
-use Rattle.std.specs.Prelude.{◌≡◌, ◌==◌, ◌&&◌, ◌-◌, ℕ, Bool, false, List, Option, Some, None, length}
+use Rattle.std.specs.Prelude.{◌≡◌, ◌==◌, ◌&&◌, ◌-◌, ℕ, Bool, false, List, Option, Some, None}
+use Rattle.std.specs.Prelude.{length}
 use Rattle.std.specs.declared.cmp.Ordering.{Ordering}
 use Rattle.std.specs.Ordering.{nat_cmp, ordering_then}
 use Rattle.st_core.specs.declared.types.Message.{Message}
@@ -38,7 +39,8 @@ pid_count_cmp a b = ordering_then (pid_cmp a.0 b.0) (nat_cmp a.1 b.1)
 -- a slot has a key exactly if a message is there that passes the key's test
 abbrev pub IsKeyedBy : {K : Type 0} → (K → K → Ordering) → (K → Message → Bool) → Keyed K → List
     (Option Message) → Type 0
-IsKeyedBy {K} cmp test keyed slots = (k : K) (s : ℕ) → has_key cmp keyed k s ≡ passes (test k) (item_at slots s)
+IsKeyedBy {K} cmp test keyed slots =
+    (k : K) (s : ℕ) → has_key cmp keyed k s ≡ passes (test k) (item_at slots s)
 
 -- how many slots are left for messages that come
 abbrev pub room : Index → ℕ

@@ -1,7 +1,8 @@
 //! The index of one queue.
 
-ghost use Rattle.std.specs.Prelude.{◌≡◌, ◌+◌, ◌-◌, ◌<◌, ◌≤◌, ◌==◌, ◌&&◌, ◌++◌, [], ◌∷◌, List, ℕ, length, drop, remove};
-ghost use Rattle.std.specs.Prelude.{Some, IfOk, OnOk, option_map, position, slice_get};
+ghost use Rattle.std.specs.Prelude.{◌≡◌, ◌+◌, ◌-◌, ◌<◌, ◌≤◌, ◌==◌, ◌&&◌, ◌++◌, [], ◌∷◌, List, ℕ};
+ghost use Rattle.std.specs.Prelude.{length, drop, remove, Some, IfOk, OnOk, option_map, position};
+ghost use Rattle.std.specs.Prelude.{slice_get};
 ghost use Rattle.st_core.specs.declared.types.Message.{Message};
 ghost use Rattle.st_core.specs.Pid.{pid_eq};
 
@@ -14,8 +15,8 @@ use std::alloc::{AllocError, Global};
 /// as a list of messages from the oldest on.
 #[derive(Drop)]
 pub struct Index {
-    // A message gets the next slot when it comes, which is live until it leaves: so its place is its
-    // slot's rank.
+    // A message gets the next slot when it comes, which is live until it leaves: so its place is
+    // its slot's rank.
     ranks: Ranks,
     // How many slots were given out.
     used: usize,
@@ -55,8 +56,8 @@ impl Index {
         self.ranks.len() - self.used
     }
 
-    /// Follows a queue that this message joins at its end. Fails if memory runs out, and the index is
-    /// of no use from then on.
+    /// Follows a queue that this message joins at its end. Fails if memory runs out, and the index
+    /// is of no use from then on.
     pub fn push(&mut self, message: &Message) -> Result<(), AllocError>
         requires index { IsIndex self.old }
         requires room { 0 < room self.old }
@@ -69,8 +70,8 @@ impl Index {
         self.senders.insert(message.from, slot)?;
         self.pairs.insert((message.from, message.value), slot)?;
         insert_stamp(&mut self.stamps, &message.token, slot)?;
-        // That the number of slots is a `usize` is known where it is read, and so that of used ones stays
-        // within its type.
+        // That the number of slots is a `usize` is known where it is read, and so that of used ones
+        // stays within its type.
         let _slot_count = self.ranks.len();
         self.ranks.mark_live(slot);
         self.used += 1;
@@ -124,8 +125,8 @@ impl Index {
         Some(self.ranks.rank(slot))
     }
 
-    /// The least place from `start` on whose message has a token with this from, and this as its own
-    /// count.
+    /// The least place from `start` on whose message has a token with this from, and this as its
+    /// own count.
     pub fn find_stamp(&self, from: Pid, this: u64, start: u64) -> Option<u64>
         requires { IsIndex self.now }
         ensures { (queue : List Message) → IsIndexOf self.now queue →
@@ -148,8 +149,10 @@ fn insert_stamp(
     token: &Option<Token>,
     slot: usize,
 ) -> Result<(), AllocError>
-    ensures { OnOk result ((from : Pid) (this s : ℕ) → has_key pid_count_cmp stamps.new (from, this) s
-        ≡ (bears_stamp from this token.now && slot == s || has_key pid_count_cmp stamps.old (from, this) s)) }
+    ensures { OnOk result ((from : Pid) (this s : ℕ)
+        → has_key pid_count_cmp stamps.new (from, this) s
+        ≡ (bears_stamp from this token.now && slot == s
+        || has_key pid_count_cmp stamps.old (from, this) s)) }
 {
     if let Some(token) = token {
         stamps.insert((token.from, token.serial.this), slot)?;
@@ -160,7 +163,8 @@ fn insert_stamp(
 // Takes the stamp of the token from the slot, if there is one.
 fn remove_stamp(stamps: &mut Keyed<(Pid, u64)>, token: &Option<Token>, slot: usize)
     ensures { (from : Pid) (this s : ℕ) → has_key pid_count_cmp stamps.new (from, this) s
-        ≡ (not (bears_stamp from this token.now && slot == s) && has_key pid_count_cmp stamps.old (from, this) s) }
+        ≡ (not (bears_stamp from this token.now && slot == s)
+        && has_key pid_count_cmp stamps.old (from, this) s) }
 {
     if let Some(token) = token {
         stamps.remove((token.from, token.serial.this), slot);

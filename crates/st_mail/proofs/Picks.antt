@@ -1,5 +1,5 @@
 -- If a pattern doesn't ask for a place, the message that pick gives stands at the first position that passes a
--- test, and where it does, at that place: so a search by the test finds the place, and what stands there is what pick
+-- test, and if it does, at that place: so a search by the test finds the place, and what stands there is what pick
 -- gives.
 use Rattle.std.proofs.Common.{◌≡◌, ℕ, ◌+◌, ◌<◌, ◌≤◌, suc, ◌==◌, Bool, true, false, cond, nat_lt, List, [], ◌∷◌}
 use Rattle.std.proofs.Common.{length, Option, Some, None, option_map, position, slice_get, refl, sym, ◌∙◌, ap, arith}

@@ -13,7 +13,8 @@ pub record Mail : Type 0 where
 abbrev pub queue_in : List (List Message) → ℕ → List Message
 queue_in boxes i = slice_index_or boxes i []
 
--- a queue after a receive of what pick gave: the message leaves its place, and without one nothing changes
+-- a queue after a receive of what pick gave: the message leaves its place, and without one nothing
+-- changes
 abbrev pub left_by : Option (ℕ × Message) → List Message → List Message
 left_by None queue = queue
 left_by (Some found) queue = remove queue found.0

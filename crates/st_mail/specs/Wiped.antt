@@ -1,5 +1,5 @@
--- How the mailboxes keep their queues: a wipe only counts the messages that lie there, so what is stored may have
--- tokens that are gone. No public clause cites this module.
+-- How the mailboxes keep their queues: a wipe only counts the messages that lie there, so what is
+-- stored may have tokens that are gone. No public clause cites this module.
 use Rattle.std.specs.Prelude.{ℕ, ◌≤◌, List, [], ◌∷◌, ◌++◌, length, map, take, drop}
 use Rattle.std.specs.List.{AllZip}
 use Rattle.st_core.specs.declared.types.Message.{Message}
@@ -13,7 +13,8 @@ front_wiped count stored = map untraced (take count stored) ++ drop count stored
 abbrev pub fronts_wiped : List ℕ → List (List Message) → List (List Message)
 fronts_wiped [] stored = []
 fronts_wiped (count ∷ counts) [] = []
-fronts_wiped (count ∷ counts) (queue ∷ stored) = front_wiped count queue ∷ fronts_wiped counts stored
+fronts_wiped (count ∷ counts) (queue ∷ stored) =
+    front_wiped count queue ∷ fronts_wiped counts stored
 
 -- there is a count for each box, and it counts messages that lie there
 abbrev pub AreFronts : List ℕ → List (List Message) → Type 0

@@ -8,7 +8,8 @@ ghost use Rattle.st_core.specs.Local.{IsMeetable};
 ghost use Rattle.st_core.specs.Report.{report};
 ghost use Rattle.st_core.specs.Stamp.{stamp_any};
 ghost use Rattle.st_core.specs.Step.{acted, actor};
-ghost use Rattle.st_mail.specs.Actor.{process_of, part_of, is_inner, QueueFits, ActsOutside, HasNoPart};
+ghost use Rattle.st_mail.specs.Actor.{process_of, part_of, is_inner, QueueFits, ActsOutside};
+ghost use Rattle.st_mail.specs.Actor.{HasNoPart};
 ghost use Rattle.st_mail.specs.Mail.{queue_in};
 
 use crate::{Mailboxes, Outcome};
@@ -58,7 +59,7 @@ pub fn event(
 
 /// What a process keeps after a send or a print: stamped if it has a token. Fails if the clock is
 /// at `TOP`.
-pub fn stamped<const TOP: u64>(me: Pid, local: &Local<TOP>) -> Result<Local<TOP>, ClockFull>
+pub fn stamp<const TOP: u64>(me: Pid, local: &Local<TOP>) -> Result<Local<TOP>, ClockFull>
     ensures stamp { result_ok result ≡ stamp_any TOP me local.now }
     ensures fit { IfOk result (λ l. IsMeetable TOP l.token) }
     ensures traced { IfOk result (λ l. l.traced ≡ local.now.traced) }
@@ -130,8 +131,8 @@ pub fn inner<const TOP: u64>(
     }
 }
 
-/// A receive from the mailbox of this number. Each token that lies in it is one that the process can
-/// meet.
+/// A receive from the mailbox of this number. Each token that lies in it is one that the process
+/// can meet.
 pub fn receive<const TOP: u64>(
     me: Pid,
     local: &mut Local<TOP>,
@@ -141,9 +142,11 @@ pub fn receive<const TOP: u64>(
 ) -> Outcome
     requires mailbox { mailbox < length queues.old.boxes }
     requires fit { QueueFits TOP (queue_in queues.old.boxes mailbox) }
-    ensures acted { acted TOP (process_of me local.old (queue_in queues.old.boxes mailbox)) (Act.Receive me want.now)
+    ensures acted { acted TOP (process_of me local.old (queue_in queues.old.boxes mailbox))
+        (Act.Receive me want.now)
         ≡ Some (part_of result local.new (queue_in queues.new.boxes mailbox)) }
-    ensures others { queues.new.boxes ≡ set queues.old.boxes mailbox (queue_in queues.new.boxes mailbox) }
+    ensures others { queues.new.boxes
+        ≡ set queues.old.boxes mailbox (queue_in queues.new.boxes mailbox) }
     ensures fit { QueueFits TOP (queue_in queues.new.boxes mailbox) }
 {
     let traced = local.traced();

@@ -1,6 +1,7 @@
 //! How the messages of one queue are found: by a walk, or by an index once walks have been long.
 
-ghost use Rattle.std.specs.Prelude.{◌≡◌, ◌++◌, [], ◌∷◌, List, ℕ, Some, IfOk, length, remove, slice_get};
+ghost use Rattle.std.specs.Prelude.{◌≡◌, ◌++◌, [], ◌∷◌, List, ℕ, Some, IfOk, length, remove};
+ghost use Rattle.std.specs.Prelude.{slice_get};
 ghost use Rattle.st_arena.specs.Arena.{list_at};
 ghost use Rattle.st_core.specs.declared.types.Message.{Message};
 
@@ -9,8 +10,8 @@ use st_core::Message;
 use st_index::Index;
 use std::alloc::{AllocError, Global};
 
-/// A walk past fewer messages isn't counted: it takes no longer than what an index costs each message
-/// that joins and leaves the queue.
+/// A walk past fewer messages isn't counted: it takes no longer than what an index costs each
+/// message that joins and leaves the queue.
 const SHORT_WALK: u64 = 256;
 
 /// An index is made once walks have passed so many messages for each one of the queue: to make it
@@ -27,9 +28,9 @@ pub(crate) enum Search {
 }
 
 impl Search {
-    // How many messages a walk passes that searches for the message that lay at this place, before so
-    // many others.
-    fn passed(self, place: u64, others: u64, message: &Message) -> u64 {
+    // How many messages a walk passes that searches for the message that lay at this place, before
+    // so many others.
+    fn walk_length(self, place: u64, others: u64, message: &Message) -> u64 {
         match self {
             Search::Front => place,
             Search::Stamp if message.token.is_none() => 0,
@@ -70,8 +71,8 @@ impl Finder {
         }
     }
 
-    /// Follows a list that the message has joined at its end. An index that runs out of memory is given
-    /// up, and one that is full is made anew.
+    /// Follows a list that the message has joined at its end. An index that runs out of memory is
+    /// given up, and one that is full is made anew.
     pub(crate) fn push(
         &mut self,
         alloc: Global,
@@ -82,7 +83,8 @@ impl Finder {
         requires within { list < length lists.now.lists }
         requires finder { IsFinder self.old }
         ensures { (queue : List Message) → Finds self.old queue →
-            list_at lists.now list ≡ queue ++ message.now ∷ [] → Finds self.new (list_at lists.now list) }
+            list_at lists.now list ≡ queue ++ message.now ∷ []
+            → Finds self.new (list_at lists.now list) }
     {
         if let Finder::Index(index) = self {
             if index.room() == 0 {
@@ -115,12 +117,13 @@ impl Finder {
         } else if let Finder::Index(index) = self {
             index.remove(place, message);
         } else {
-            let passed = search.passed(place, lists.len(list), message);
+            let passed = search.walk_length(place, lists.len(list), message);
             self.count_walk(alloc, lists, list, passed);
         }
     }
 
-    /// Counts a walk past so many messages of the list, if there is no index, and makes one if it is due.
+    /// Counts a walk past so many messages of the list, if there is no index, and makes one if it
+    /// is due.
     pub(crate) fn count_walk(
         &mut self,
         alloc: Global,
@@ -129,7 +132,8 @@ impl Finder {
         passed: u64,
     )
         requires { list < length lists.now.lists }
-        ensures { Finds self.old (list_at lists.now list) → Finds self.new (list_at lists.now list) }
+        ensures { Finds self.old (list_at lists.now list)
+            → Finds self.new (list_at lists.now list) }
     {
         let Finder::Walk(walked) = self else {
             return;

@@ -1,8 +1,8 @@
 //! The mailboxes. Each call is on one of them by its number, and leaves all others as they are.
 
 ghost use Rattle.std.specs.Prelude.{◌≡◌, ◌<◌, ◌≤◌, ◌+◌, ◌==◌, ◌&&◌, if◌then◌else◌, is_some, nat_lt};
-ghost use Rattle.std.specs.Prelude.{[], ◌∷◌, ◌++◌, length, map, option_map, position, replicate, set};
-ghost use Rattle.std.specs.Prelude.{slice_get, IfOk, IsOk, OnOk, OnErr};
+ghost use Rattle.std.specs.Prelude.{[], ◌∷◌, ◌++◌, length, map, option_map, position, replicate};
+ghost use Rattle.std.specs.Prelude.{set, slice_get, IfOk, IsOk, OnOk, OnErr};
 ghost use Rattle.st_core.specs.Pick.{pick};
 ghost use Rattle.st_core.specs.Pid.{pid_eq};
 ghost use Rattle.st_core.specs.Step.{untraced};
@@ -20,8 +20,9 @@ use std::marker::Model;
 pub struct Mailboxes {
     queues: Queues,
 
-    // How many messages at the front of each mailbox were wiped: what is stored of them may still have
-    // its token, which counts for nothing. A wipe is of all that lie there, so it leaves no gap.
+    // How many messages at the front of each mailbox were wiped: what is stored of them may still
+    // have its token, which counts for nothing. A wipe is of all that lie there, so it leaves no
+    // gap.
     wiped: Vec<u64>,
 
     // Whether messages of any mailbox were wiped.
@@ -34,13 +35,16 @@ impl Model for Mailboxes {
 
     ghost Value = { Mail };
 
-    ghost view = { λ a. record { boxes = fronts_wiped a.wiped.items a.queues.lists; spare = a.queues.spare } };
+    ghost view = { λ a. record {
+      boxes = fronts_wiped a.wiped.items a.queues.lists;
+      spare = a.queues.spare;
+    } };
 
     ghost invariant = { λ a. AreFronts a.wiped.items a.queues.lists };
 }
 
 /// The message without its token.
-fn untraced(message: Message) -> Message
+fn without_token(message: Message) -> Message
     ensures { result ≡ untraced message }
 {
     Message {
@@ -49,8 +53,8 @@ fn untraced(message: Message) -> Message
     }
 }
 
-/// How the message of a receive with this pattern is searched for. One that is taken by its place may
-/// have been asked for by its stamp (`place_of_one`), once messages were wiped from the front
+/// How the message of a receive with this pattern is searched for. One that is taken by its place
+/// may have been asked for by its stamp (`place_of_one`), once messages were wiped from the front
 /// (`place_of`).
 fn search_for(want: &Want, was_wiped: bool) -> Search {
     match want {
@@ -102,17 +106,19 @@ impl Mailboxes {
     {
         let message = *self.queues.get(mailbox, place)?;
         if place < self.wiped[mailbox] {
-            Some(untraced(message))
+            Some(without_token(message))
         } else {
             Some(message)
         }
     }
 
-    /// Puts a message at the end of the mailbox. Fails only if there is no room and memory runs out.
+    /// Puts a message at the end of the mailbox. Fails only if there is no room and memory runs
+    /// out.
     pub fn put(&mut self, mailbox: usize, message: Message) -> Result<(), AllocError>
         requires { mailbox < length self.old.boxes }
         ensures ok { OnOk result (
-            self.new.boxes ≡ set self.old.boxes mailbox (queue_in self.old.boxes mailbox ++ message ∷ [])) }
+            self.new.boxes ≡ set self.old.boxes mailbox
+            (queue_in self.old.boxes mailbox ++ message ∷ [])) }
         ensures err { OnErr result (self.new.boxes ≡ self.old.boxes) }
         ensures succeeds { 0 < self.old.spare → IsOk result }
         ensures had_room { 0 < self.old.spare → self.old.spare ≡ self.new.spare + 1 }
@@ -125,7 +131,8 @@ impl Mailboxes {
     pub fn put_reserved(&mut self, mailbox: usize, message: Message)
         requires within { mailbox < length self.old.boxes }
         requires room { 0 < self.old.spare }
-        ensures boxes { self.new.boxes ≡ set self.old.boxes mailbox (queue_in self.old.boxes mailbox ++ message ∷ []) }
+        ensures boxes { self.new.boxes
+            ≡ set self.old.boxes mailbox (queue_in self.old.boxes mailbox ++ message ∷ []) }
         ensures spare { self.old.spare ≡ self.new.spare + 1 }
     {
         self.queues.push_reserved(mailbox, message);
@@ -135,7 +142,8 @@ impl Mailboxes {
     /// for the first, are tested without a walk.
     pub fn find(&self, mailbox: usize, want: &Want) -> Option<u64>
         requires { mailbox < length self.now.boxes }
-        ensures { result ≡ option_map (λ found. found.0) (pick want.now (queue_in self.now.boxes mailbox)) }
+        ensures { result ≡ option_map (λ found. found.0)
+            (pick want.now (queue_in self.now.boxes mailbox)) }
     {
         match *want {
             Want::First => self.within(mailbox, 0),
@@ -149,7 +157,8 @@ impl Mailboxes {
     /// This place, if a message lies there.
     fn within(&self, mailbox: usize, place: u64) -> Option<u64>
         requires { mailbox < length self.now.boxes }
-        ensures { result ≡ (if nat_lt place (length (queue_in self.now.boxes mailbox)) then Some place else None) }
+        ensures { result ≡ (if nat_lt place (length (queue_in self.now.boxes mailbox))
+            then Some place else None) }
     {
         if place < self.len(mailbox) {
             Some(place)
@@ -177,7 +186,8 @@ impl Mailboxes {
     /// The least place with a message from this process and of this value.
     fn find_both(&self, mailbox: usize, from: Pid, value: u64) -> Option<u64>
         requires { mailbox < length self.now.boxes }
-        ensures { result ≡ position (λ m. pid_eq m.from from && m.value == value) (queue_in self.now.boxes mailbox) }
+        ensures { result ≡ position (λ m. pid_eq m.from from && m.value == value)
+            (queue_in self.now.boxes mailbox) }
     {
         self.queues.find_both(mailbox, from, value)
     }
@@ -202,25 +212,29 @@ impl Mailboxes {
             return Some((place, message));
         }
         self.wiped[mailbox] = wiped - 1;
-        Some((place, untraced(message)))
+        Some((place, without_token(message)))
     }
 
     /// The least place of the mailbox whose message has a token with this from, and this as its own
     /// count.
     pub fn place_of(&self, mailbox: usize, from: Pid, this: u64) -> Option<u64>
         requires { mailbox < length self.now.boxes }
-        ensures { result ≡ position (λ m. bears_stamp from this m.token) (queue_in self.now.boxes mailbox) }
+        ensures { result ≡ position (λ m. bears_stamp from this m.token)
+            (queue_in self.now.boxes mailbox) }
     {
         self.queues
             .find_stamp(mailbox, from, this, self.wiped[mailbox])
     }
 
-    /// The same if no two messages of the mailbox have such a token. It is looked for from both ends at
-    /// once, so that a reply at the end of a long queue is found as soon as the oldest message.
+    /// The same if no two messages of the mailbox have such a token. It is looked for from both
+    /// ends at once, so that a reply at the end of a long queue is found as soon as the oldest
+    /// message.
     pub fn place_of_one(&self, mailbox: usize, from: Pid, this: u64) -> Option<u64>
         requires within { mailbox < length self.now.boxes }
-        requires one { PassesOnce (λ m. bears_stamp from this m.token) (queue_in self.now.boxes mailbox) }
-        ensures { result ≡ position (λ m. bears_stamp from this m.token) (queue_in self.now.boxes mailbox) }
+        requires one { PassesOnce (λ m. bears_stamp from this m.token)
+            (queue_in self.now.boxes mailbox) }
+        ensures { result ≡ position (λ m. bears_stamp from this m.token)
+            (queue_in self.now.boxes mailbox) }
     {
         if self.wiped[mailbox] > 0 {
             return self.place_of(mailbox, from, this);
@@ -228,11 +242,12 @@ impl Mailboxes {
         self.queues.find_one_stamp(mailbox, from, this)
     }
 
-    /// Takes the tokens of the messages in the mailbox away. The messages stay. It takes no longer for
-    /// many than for none.
+    /// Takes the tokens of the messages in the mailbox away. The messages stay. It takes no longer
+    /// for many than for none.
     pub fn wipe_tokens(&mut self, mailbox: usize)
         requires { mailbox < length self.old.boxes }
-        ensures boxes { self.new.boxes ≡ set self.old.boxes mailbox (map untraced (queue_in self.old.boxes mailbox)) }
+        ensures boxes { self.new.boxes
+            ≡ set self.old.boxes mailbox (map untraced (queue_in self.old.boxes mailbox)) }
         ensures spare { self.new.spare ≡ self.old.spare }
     {
         self.wiped[mailbox] = self.len(mailbox);

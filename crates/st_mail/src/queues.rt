@@ -1,9 +1,8 @@
 //! The stored queues. One in which calls have walked far has an index.
 
-ghost use Rattle.std.specs.Prelude.{◌≡◌, ◌+◌, ◌<◌, ◌≤◌, ◌==◌, ◌&&◌, ◌++◌, [], ◌∷◌, IfNone, IfOk, IsOk, OnOk};
-ghost use Rattle.std.specs.Prelude.{OnErr, OnSome};
-ghost use Rattle.std.specs.Prelude.{drop, length, option_map, position, remove, replicate, slice_get, slice_set};
-ghost use Rattle.std.specs.Prelude.{option_copied};
+ghost use Rattle.std.specs.Prelude.{◌≡◌, ◌+◌, ◌<◌, ◌≤◌, ◌==◌, ◌&&◌, ◌++◌, [], ◌∷◌, IfNone, IfOk};
+ghost use Rattle.std.specs.Prelude.{IsOk, OnOk, OnErr, OnSome, drop, length, option_map, position};
+ghost use Rattle.std.specs.Prelude.{remove, replicate, slice_get, slice_set, option_copied};
 ghost use Rattle.st_core.specs.Pid.{pid_eq};
 ghost use Rattle.st_arena.specs.Arena.{list_at};
 ghost use Rattle.st_arena.specs.Calls.{PassesOnce};
@@ -15,8 +14,8 @@ use st_core::{Message, Pid, Token};
 use std::alloc::{AllocError, Global};
 use std::marker::Model;
 
-/// The lists of messages of all queues. A contract sees them as those of `st_arena`: what finds their
-/// messages isn't seen.
+/// The lists of messages of all queues. A contract sees them as those of `st_arena`: what finds
+/// their messages isn't seen.
 #[derive(Drop)]
 pub(crate) struct Queues {
     alloc: Global,
@@ -65,8 +64,8 @@ impl Queues {
         })
     }
 
-    /// Makes room for `count` more messages, in any queues. If there is room already, nothing changes.
-    /// Fails if memory runs out.
+    /// Makes room for `count` more messages, in any queues. If there is room already, nothing
+    /// changes. Fails if memory runs out.
     pub(crate) fn reserve(&mut self, count: usize) -> Result<(), AllocError>
         ensures room { OnOk result (count ≤ self.new.spare) }
         ensures succeeds { count ≤ self.old.spare → IsOk result }
@@ -93,11 +92,13 @@ impl Queues {
         self.lists.get(queue, place)
     }
 
-    /// Adds the message at the end of the queue. Fails only if there is no room and memory runs out.
+    /// Adds the message at the end of the queue. Fails only if there is no room and memory runs
+    /// out.
     pub(crate) fn push_back(&mut self, queue: usize, message: Message) -> Result<(), AllocError>
         requires { queue < length self.old.lists }
         ensures pushed { OnOk result (
-            self.new.lists ≡ slice_set self.old.lists queue (list_at self.old queue ++ message ∷ [])) }
+            self.new.lists ≡ slice_set self.old.lists queue
+            (list_at self.old queue ++ message ∷ [])) }
         ensures succeeds { 0 < self.old.spare → IsOk result }
         ensures had_room { 0 < self.old.spare → self.old.spare ≡ self.new.spare + 1 }
         ensures lists_stay { OnErr result (self.new.lists ≡ self.old.lists) }
@@ -119,13 +120,14 @@ impl Queues {
         self.finders[queue].push(self.alloc, &self.lists, queue, &message);
     }
 
-    /// Takes the message at this place, which was searched for, out of the queue, if it is that long. Its
-    /// room is there for the next one, in any queue.
+    /// Takes the message at this place, which was searched for, out of the queue, if it is that
+    /// long. Its room is there for the next one, in any queue.
     pub(crate) fn take_at(&mut self, queue: usize, place: u64, search: Search) -> Option<Message>
         requires { queue < length self.old.lists }
         ensures value { result ≡ slice_get (list_at self.old queue) place }
         ensures taken { OnSome result (
-            self.new.lists ≡ slice_set self.old.lists queue (remove (list_at self.old queue) place)) }
+            self.new.lists ≡ slice_set self.old.lists queue
+            (remove (list_at self.old queue) place)) }
         ensures spare { OnSome result (self.new.spare ≡ self.old.spare + 1) }
         ensures nothing_there { IfNone result (self.new ≡ self.old) }
     {
@@ -134,8 +136,8 @@ impl Queues {
         Some(message)
     }
 
-    /// Counts a walk through the whole queue that found nothing, after enough of which the queue gets an
-    /// index.
+    /// Counts a walk through the whole queue that found nothing, after enough of which the queue
+    /// gets an index.
     pub(crate) fn count_walk(&mut self, queue: usize)
         requires { queue < length self.old.lists }
         ensures { self.new ≡ self.old }
@@ -175,7 +177,8 @@ impl Queues {
     /// The least place with a message from this process and of this value.
     pub(crate) fn find_both(&self, queue: usize, from: Pid, value: u64) -> Option<u64>
         requires { queue < length self.now.lists }
-        ensures { result ≡ position (λ m. pid_eq m.from from && m.value == value) (list_at self.now queue) }
+        ensures { result ≡ position (λ m. pid_eq m.from from && m.value == value)
+            (list_at self.now queue) }
     {
         if let Finder::Index(index) = &self.finders[queue] {
             return index.find_both(from, value);
@@ -186,8 +189,8 @@ impl Queues {
         self.lists.find_first(queue, &matches)
     }
 
-    /// The least place from `start` on whose message has a token with this from, and this as its own
-    /// count.
+    /// The least place from `start` on whose message has a token with this from, and this as its
+    /// own count.
     pub(crate) fn find_stamp(&self, queue: usize, from: Pid, this: u64, start: u64) -> Option<u64>
         requires { queue < length self.now.lists }
         ensures { result ≡ option_map (λ k. start + k)

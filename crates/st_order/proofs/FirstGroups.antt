@@ -55,10 +55,12 @@ grouped_cut x rest n is =
     ap (λ (b : Bool). cond b (leading_with x.label rest + 1) 0) (eq-eqb x.label.0 x.label.0 refl) in
     let long : suc (leading_with x.label rest) ≡ n = omega (arith, is, leads) in
     grouped_after x rest
-    ∙ ap (λ (m : ℕ). (let g : Group = (x.label, items_in (take m (x ∷ rest))) in g) ∷ groups_of (drop m (x ∷ rest))) long
+    ∙ ap (λ (m : ℕ). (let g : Group = (x.label, items_in (take m (x ∷ rest))) in g)
+    ∷ groups_of (drop m (x ∷ rest))) long
 
 -- one group goes from the rest to the groups so far
-pub group_passed : (all rest : List LabelledItem) (x : LabelledItem) (n : ℕ) (before after : List Group) (its : List Item)
+pub group_passed : (all rest : List LabelledItem) (x : LabelledItem) (n : ℕ)
+    (before after : List Group) (its : List Item)
     (front others : List LabelledItem) → Some x ≡ slice_get rest 0 → n ≡ leading_with x.label rest
     → front ≡ take n rest → others ≡ drop n rest → its ≡ items_in front
     → before ++ groups_of rest ≡ groups_of all → after ≡ before ++ (x.label, its) ∷ []

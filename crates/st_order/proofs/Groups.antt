@@ -201,7 +201,8 @@ kept_filter : (xs ys : List LabelledItem) (label : Label) → IsStableByKey numb
 kept_filter xs ys label stable =
     let x : LabelledItem = record { label = label; item = item.Reported (record { node = 0; number = 0 }) 0 } in
     let test : ties (λ a b. is_lt (nat_cmp (number_of a) (number_of b))) x ≡ is_with label = λ i y. ties_are x y i in
-    ap (λ (p : LabelledItem → Bool). filter p ys) (sym test) ∙ stable x ∙ ap (λ (p : LabelledItem → Bool). filter p xs) test
+    ap (λ (p : LabelledItem → Bool). filter p ys) (sym test) ∙ stable x
+    ∙ ap (λ (p : LabelledItem → Bool). filter p xs) test
 
 any_filtered : {A : Type 0} (p : A → Bool) (xs : List A) → list_any p xs ≡ list_any (λ x. true) (filter p xs)
 any_filtered p [] = refl
@@ -225,7 +226,8 @@ module _ (streams : List Stream) (label : Label) where
       ≡ cond (has_by o) (x ∷ items_in (filter (is_with label) rest)) (items_in (filter (is_with label) rest))
   filtered_by x None rest = refl
   filtered_by x (Some l) rest = elim (l.0 == label.0) as
-      (λ b. items_in (cond b ((let y : LabelledItem = record { label = l; item = x } in y) ∷ filter (is_with label) rest)
+      (λ b. items_in (cond b ((let y : LabelledItem = record { label = l; item = x } in y)
+      ∷ filter (is_with label) rest)
       (filter (is_with label) rest))
       ≡ cond b (x ∷ items_in (filter (is_with label) rest)) (items_in (filter (is_with label) rest))) [
         | true ↦ refl

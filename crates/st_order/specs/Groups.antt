@@ -15,7 +15,8 @@ abbrev pub leading_with : Label → List LabelledItem → ℕ
 leading_with label [] = 0
 leading_with label (x ∷ xs) = if x.label.0 == label.0 then leading_with label xs + 1 else 0
 
--- an item before the groups: at the front of the first if that has its label, else a group of its own
+-- an item before the groups: at the front of the first if that has its label, else a group of its
+-- own
 abbrev pub put_before : LabelledItem → List (Label × List Item) → List (Label × List Item)
 put_before x [] = (x.label, x.item ∷ []) ∷ []
 put_before x (g ∷ gs) =

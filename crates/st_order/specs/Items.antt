@@ -1,5 +1,7 @@
--- The items of streams: each event, and for each receive whose send nobody reported that hidden send (own profile).
-use Rattle.std.specs.Prelude.{ℕ, ◌+◌, max, Bool, true, false, List, [], ◌∷◌, ◌++◌, map, take, Option, if◌then◌else◌}
+-- The items of streams: each event, and for each receive whose send nobody reported that hidden
+-- send (own profile).
+use Rattle.std.specs.Prelude.{ℕ, ◌+◌, max, Bool, true, false, List, [], ◌∷◌, ◌++◌, map, take}
+use Rattle.std.specs.Prelude.{Option, if◌then◌else◌}
 use Rattle.st_core.specs.declared.types.Pid.{Pid}
 use Rattle.st_core.specs.declared.types.Event.{Event}
 use Rattle.st_core.specs.Run.{Stream}
@@ -50,7 +52,8 @@ abbrev pub item_place : Item → Pid × ℕ
 item_place (item.Reported p i) = (p, i)
 item_place (item.Hidden p i) = (p, i)
 
--- the event that an item is about: of a hidden send its receive; none if nothing stands at the item's place
+-- the event that an item is about: of a hidden send its receive; none if nothing stands at the
+-- item's place
 abbrev pub event_of : List Stream → Item → Option Event
 event_of streams (item.Reported p i) = event_at streams p i
 event_of streams (item.Hidden p i) = event_at streams p i

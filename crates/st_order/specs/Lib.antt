@@ -1,4 +1,5 @@
--- What happened by streams, in one order, by label, and in each process. Public contracts cite these four.
+-- What happened by streams, in one order, by label, and in each process. Public contracts cite
+-- these four.
 pub mod Items
 pub mod Order
 pub mod Labels

@@ -1,4 +1,5 @@
--- Words for the law of turns: a process's events as items, one after another, and when the order keeps them so.
+-- Words for the law of turns: a process's events as items, one after another, and when the order
+-- keeps them so.
 use Rattle.std.specs.Prelude.{◌≡◌, ℕ, ◌<◌, Bool, true, false, List, map, Some}
 use Rattle.std.specs.List.{range_with_len}
 use Rattle.st_core.specs.declared.types.Pid.{Pid}
@@ -20,5 +21,6 @@ in_turn p i n = map (λ k. item.Reported p k) (range_with_len i n)
 
 -- each send and print of p counts more than every event of p before it
 abbrev pub StampsLead : List Stream → Pid → Type 0
-StampsLead streams p = (j i : ℕ) (d e : Event) → j < i → event_at streams p j ≡ Some d → event_at streams p i ≡ Some e
+StampsLead streams p = (j i : ℕ) (d e : Event) → j < i → event_at streams p j ≡ Some d
+    → event_at streams p i ≡ Some e
     → is_stamp e ≡ true → d.serial.this < e.serial.this

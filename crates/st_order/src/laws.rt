@@ -21,7 +21,8 @@ pub fn one_order()
 /// If no two receives have one sender and one count there is an order, the computed one. Else two
 /// hidden sends could share a key.
 pub fn an_order()
-    ensures { (streams : List Stream) → IsRising (pids_of streams) → first (repeated streams) streams ≡ None
+    ensures { (streams : List Stream) → IsRising (pids_of streams)
+        → first (repeated streams) streams ≡ None
         → IsOrder streams (order streams) }
 {}
 

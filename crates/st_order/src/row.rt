@@ -125,7 +125,8 @@ fn put_rows(
 ) -> Result<(), AllocError>
     requires pairing { IsPairing streams.now pairing.now }
     requires events { events.now ≡ events_of streams.now pid }
-    ensures { OnOk result (rows.new.items ≡ rows.old.items ++ rows_from streams.now pid 0 0 events.now) }
+    ensures { OnOk result (rows.new.items
+        ≡ rows.old.items ++ rows_from streams.now pid 0 0 events.now) }
 {
     let mut height = 0;
     for (i, event) in events.iter().enumerate() {

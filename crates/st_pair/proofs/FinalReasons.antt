@@ -319,7 +319,7 @@ prev_never_shown streams f h prev top acts shows =
           absurd (subst IsPrevNotBefore (sym is) prev)
     ]
 
--- WHAT PAIRING ANSWERS
+-- WHAT PAIRING RETURNS
 
 -- what a reason rules out
 pub refusal_rules_out : (streams : List Stream) (f : PairFault) → refusal streams ≡ Some f → RulesOut streams f

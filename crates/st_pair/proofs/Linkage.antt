@@ -155,7 +155,8 @@ receiver_link streams p e = elim e.kind
       | kind.Print ↦ refl
     ]
 
-module _ (streams : List Stream) (pairing : List ProcessLinks) (p : Pid) (i : ℕ) (made : IsPairing streams pairing) where
+module _ (streams : List Stream) (pairing : List ProcessLinks) (p : Pid) (i : ℕ)
+    (made : IsPairing streams pairing) where
   read_link : link_at pairing p i ≡ option_map (link_of streams p) (event_at streams p i)
   read_link = ap (λ (x : List ProcessLinks). link_at x p i) made.links ∙ link_at_linked streams streams p i
 

@@ -14,7 +14,8 @@ NeverShown streams = (top : ℕ) (acts : List Act) → ¬ Shows top streams acts
 abbrev pub NeverShownInOneTrace : List Stream → Type 0
 NeverShownInOneTrace streams = (top : ℕ) (acts : List Act) → NoReset acts → ¬ Shows top streams acts
 
--- which acts a reason rules out: a serial that doesn't rise all of them, and the other reasons those without a reset
+-- which acts a reason rules out: a serial that doesn't rise all of them, and the other reasons
+-- those without a reset
 abbrev pub RulesOut : List Stream → PairFault → Type 0
 RulesOut streams fault.Memory = Unit {0}
 RulesOut streams (fault.PrevNotBefore p i) = NeverShown streams

@@ -11,11 +11,13 @@ abbrev pub IsEarlier : Pid → ℕ → Pid → ℕ → Type 0
 IsEarlier q j p i = IsBelow q p ⊎ ((q ≡ p) × (j < i))
 
 -- the rule gives this at a place, and nothing at any earlier one
-pub record IsLeast {X : Type 0} (rule : Pid → ℕ → Event → Option X) (streams : List Stream) (x : X) : Type 0 where
+pub record IsLeast {X : Type 0} (rule : Pid → ℕ → Event → Option X) (streams : List Stream)
+    (x : X) : Type 0 where
   pub pid : Pid
   pub index : ℕ
   pub event : Event
   pub at : event_at streams pid index ≡ Some event
   pub gives : rule pid index event ≡ Some x
-  pub least : (q : Pid) (j : ℕ) (f : Event) → event_at streams q j ≡ Some f → IsEarlier q j pid index
+  pub least : (q : Pid) (j : ℕ) (f : Event) → event_at streams q j ≡ Some f
+      → IsEarlier q j pid index
       → rule q j f ≡ None

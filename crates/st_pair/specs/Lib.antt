@@ -1,4 +1,5 @@
--- Which send each reported receive took, and why streams cannot hang together. Public contracts cite these five.
+-- Which send each reported receive took, and why streams cannot hang together. Public contracts
+-- cite these five.
 pub mod Places
 pub mod Pairing
 pub mod Final

@@ -1,5 +1,6 @@
 -- How a pairing is kept: for each event what it is paired with.
-use Rattle.std.specs.Prelude.{◌≡◌, ℕ, List, [], ◌∷◌, map, length, find, Option, Some, None, slice_get}
+use Rattle.std.specs.Prelude.{◌≡◌, ℕ, List, [], ◌∷◌, map, length, find, Option, Some, None}
+use Rattle.std.specs.Prelude.{slice_get}
 use Rattle.st_core.specs.declared.types.Pid.{Pid}
 use Rattle.st_core.specs.declared.types.Kind.TheVariants as kind
 use Rattle.st_core.specs.declared.types.Event.{Event}
@@ -60,7 +61,8 @@ pub record AreLinkLists (pids : List Pid) (lists : List (List Link)) : Type 0 wh
 
 -- the link at a place
 abbrev pub link_at : List ProcessLinks → Pid → ℕ → Option Link
-link_at pairing p i = slice_get (elim (find (λ x. pid_eq x.pid p) pairing) [ None ↦ [] | Some x ↦ x.links ]) i
+link_at pairing p i =
+    slice_get (elim (find (λ x. pid_eq x.pid p) pairing) [ None ↦ [] | Some x ↦ x.links ]) i
 
 -- of a receive, where its message came from
 abbrev pub source_in : Link → Option Source

@@ -1,6 +1,8 @@
--- Which send each reported receive follows, and the four reasons why streams are refused before any act is sought.
-use Rattle.std.specs.Prelude.{◌≡◌, ℕ, ◌==◌, ◌&&◌, ◌||◌, zero, suc, nat_lt, Bool, true, false, not, List, [], ◌∷◌}
-use Rattle.std.specs.Prelude.{Option, Some, None, if◌then◌else◌, slice_get, option_and_then}
+-- Which send each reported receive follows, and the four reasons why streams are refused before any
+-- act is sought.
+use Rattle.std.specs.Prelude.{◌≡◌, ℕ, ◌==◌, ◌&&◌, ◌||◌, zero, suc, nat_lt, Bool, true, false, not}
+use Rattle.std.specs.Prelude.{List, [], ◌∷◌, Option, Some, None, if◌then◌else◌, slice_get}
+use Rattle.std.specs.Prelude.{option_and_then}
 use Rattle.st_core.specs.declared.types.Pid.{Pid}
 use Rattle.st_core.specs.declared.types.Kind.TheVariants as kind
 use Rattle.st_core.specs.declared.types.Event.{Event}
@@ -24,12 +26,14 @@ stamp_before es (suc i) = elim (slice_get es i) [
 -- the first send or print of q with this count, with its index
 abbrev pub stamp_of : List Stream → Pid → ℕ → Option (ℕ × Event)
 stamp_of streams q this =
-    first_from (λ p j f. if is_stamp f && f.serial.this == this then Some (j, f) else None) q 0 (events_of streams q)
+    first_from (λ p j f. if is_stamp f && f.serial.this == this then Some (j, f) else None) q 0
+    (events_of streams q)
 
 -- the place of the first receive from q with this count
 abbrev pub receive_of : List Stream → Pid → ℕ → Option (Pid × ℕ)
 receive_of streams q this = first (λ p i e.
-    if is_stamp e then None else if pid_eq e.from q && e.serial.this == this then Some (p, i) else None) streams
+    if is_stamp e then None else if pid_eq e.from q
+    && e.serial.this == this then Some (p, i) else None) streams
 
 -- p and q are one process, or neither is there
 abbrev pub to_eq : Option Pid → Option Pid → Bool
@@ -44,26 +48,31 @@ is_send e = elim e.kind [ kind.Send ↦ true | kind.Receive ↦ false | kind.Pri
 -- f is a send with the label, the prev, the receiver and the value of the receive e
 abbrev pub agrees : Event → Event → Bool
 agrees f e = is_send f &&
-    (f.label.0 == e.label.0 && (f.serial.prev == e.serial.prev && (to_eq f.to e.to && f.value == e.value)))
+    (f.label.0 == e.label.0 &&
+    (f.serial.prev == e.serial.prev && (to_eq f.to e.to && f.value == e.value)))
 
--- A rule is a test on one event and its place, and gives the fault if it refuses the streams there. They
--- are tried in the order in which they stand here, each over all places.
+-- A rule is a test on one event and its place, and gives the fault if it refuses the streams there.
+-- They are tried in the order in which they stand here, each over all places.
 
 -- prev isn't less than this
 abbrev pub prev_not_before : Pid → ℕ → Event → Option PairFault
-prev_not_before p i e = if nat_lt e.serial.prev e.serial.this then None else Some (fault.PrevNotBefore p i)
+prev_not_before p i e =
+    if nat_lt e.serial.prev e.serial.this then None else Some (fault.PrevNotBefore p i)
 
--- a send or print, and the last one of its process before it has a count that isn't less. At the least such place
--- the counts before it rise, so that no earlier one is greater than that of the last
+-- a send or print, and the last one of its process before it has a count that isn't less. At the
+-- least such place the counts before it rise, so that no earlier one is greater than that of the
+-- last
 abbrev pub not_rising : List Stream → Pid → ℕ → Event → Option PairFault
 not_rising streams p i e = option_and_then (λ f.
-    if not (is_stamp e) || nat_lt f.1.serial.this e.serial.this then None else Some (fault.NotRising p i f.0))
+    if not (is_stamp e) || nat_lt f.1.serial.this e.serial.this then None
+    else Some (fault.NotRising p i f.0))
     (stamp_before (events_of streams p) i)
 
 -- a receive, and the first one with its from and this is another, which is then the earlier
 abbrev pub repeated : List Stream → Pid → ℕ → Event → Option PairFault
 repeated streams p i e = option_and_then (λ at.
-    if is_stamp e || (pid_eq at.0 p && at.1 == i) then None else Some (fault.Repeated p i at.0 at.1))
+    if is_stamp e || (pid_eq at.0 p && at.1 == i) then None
+    else Some (fault.Repeated p i at.0 at.1))
     (receive_of streams e.from e.serial.this)
 
 -- a receive whose sender has a send or print with its this that isn't its send
@@ -75,13 +84,16 @@ mismatch streams p i e = option_and_then (λ f.
 -- the first rule that gives something somewhere decides, at its least place
 abbrev pub first_rule : List Stream → List (Pid → ℕ → Event → Option PairFault) → Option PairFault
 first_rule streams [] = None
-first_rule streams (rule ∷ rules) = elim (first rule streams) [ None ↦ first_rule streams rules | Some f ↦ Some f ]
+first_rule streams (rule ∷ rules) =
+    elim (first rule streams) [ None ↦ first_rule streams rules | Some f ↦ Some f ]
 
 -- why streams are refused, if they are
 abbrev pub refusal : List Stream → Option PairFault
-refusal streams = first_rule streams (prev_not_before ∷ not_rising streams ∷ repeated streams ∷ mismatch streams ∷ [])
+refusal streams = first_rule streams
+    (prev_not_before ∷ not_rising streams ∷ repeated streams ∷ mismatch streams ∷ [])
 
--- where the message of a receive came from: from the sender's send with its count, or from a hidden one
+-- where the message of a receive came from: from the sender's send with its count, or from a hidden
+-- one
 abbrev pub source_of : List Stream → Event → Source
 source_of streams e = elim (stamp_of streams e.from e.serial.this) [
   | None ↦ source.Hidden
@@ -91,12 +103,15 @@ source_of streams e = elim (stamp_of streams e.from e.serial.this) [
 -- the source of the receive at (p, i); none if there is no receive
 abbrev pub source_at : List Stream → Pid → ℕ → Option Source
 source_at streams p i =
-    option_and_then (λ e. if is_stamp e then None else Some (source_of streams e)) (event_at streams p i)
+    option_and_then (λ e. if is_stamp e then None else Some (source_of streams e))
+    (event_at streams p i)
 
--- the place of the receive that is paired with the send at (q, j); none if there is no send or none is paired
+-- the place of the receive that is paired with the send at (q, j); none if there is no send or none
+-- is paired
 abbrev pub receiver_at : List Stream → Pid → ℕ → Option (Pid × ℕ)
 receiver_at streams q j =
-    option_and_then (λ f. if is_send f then receive_of streams q f.serial.this else None) (event_at streams q j)
+    option_and_then (λ f. if is_send f then receive_of streams q f.serial.this else None)
+    (event_at streams q j)
 
 -- when streams aren't paired: because memory ran out, or for the reason
 abbrev pub IsPairFault : List Stream → PairFault → Type 0

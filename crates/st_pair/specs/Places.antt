@@ -1,5 +1,7 @@
--- Places of events: a process and an index, ordered by pid, then index, which is the order of the streams.
-use Rattle.std.specs.Prelude.{ℕ, ◌+◌, Bool, true, false, List, [], ◌∷◌, Option, Some, None, slice_get}
+-- Places of events: a process and an index, ordered by pid, then index, which is the order of the
+-- streams.
+use Rattle.std.specs.Prelude.{ℕ, ◌+◌, Bool, true, false, List, [], ◌∷◌, Option, Some, None}
+use Rattle.std.specs.Prelude.{slice_get}
 use Rattle.st_core.specs.declared.types.Pid.{Pid}
 use Rattle.st_core.specs.declared.types.Kind.TheVariants as kind
 use Rattle.st_core.specs.declared.types.Event.{Event}
@@ -19,11 +21,14 @@ abbrev pub or_else : {X : Type 0} → Option X → Option X → Option X
 or_else o rest = elim o [ None ↦ rest | Some x ↦ Some x ]
 
 -- what the rule gives first for these events of p, which stand from index i on
-abbrev pub first_from : {X : Type 0} → (Pid → ℕ → Event → Option X) → Pid → ℕ → List Event → Option X
+abbrev pub first_from : {X : Type 0} → (Pid → ℕ → Event → Option X) → Pid → ℕ → List Event
+    → Option X
 first_from rule p i [] = None
-first_from rule p i (e ∷ es) = elim (rule p i e) [ None ↦ first_from rule p (i + 1) es | Some x ↦ Some x ]
+first_from rule p i (e ∷ es) =
+    elim (rule p i e) [ None ↦ first_from rule p (i + 1) es | Some x ↦ Some x ]
 
 -- what the rule gives at the least place at which it gives something
 abbrev pub first : {X : Type 0} → (Pid → ℕ → Event → Option X) → List Stream → Option X
 first rule [] = None
-first rule (s ∷ rest) = elim (first_from rule s.pid 0 s.events) [ None ↦ first rule rest | Some x ↦ Some x ]
+first rule (s ∷ rest) =
+    elim (first_from rule s.pid 0 s.events) [ None ↦ first rule rest | Some x ↦ Some x ]

@@ -1,6 +1,6 @@
 -- Tables from a sender and a count to the first event that has them.
-use Rattle.std.specs.Prelude.{◌≡◌, ℕ, ◌==◌, ◌&&◌, ◌||◌, not, nat_lt, Bool, List, Option, Some, None, if◌then◌else◌}
-use Rattle.std.specs.Prelude.{true, false, length, option_map, find, option_and_then}
+use Rattle.std.specs.Prelude.{◌≡◌, ℕ, ◌==◌, ◌&&◌, ◌||◌, not, nat_lt, Bool, List, Option, Some, None}
+use Rattle.std.specs.Prelude.{if◌then◌else◌, true, false, length, option_map, find, option_and_then}
 use Rattle.std.specs.List.{AllWithin}
 use Rattle.st_core.specs.declared.types.Pid.{Pid}
 use Rattle.st_core.specs.declared.types.Event.{Event}
@@ -53,7 +53,8 @@ here key place k = if key_eq key k then Some place else None
 
 -- the place of a receive from this sender with this count
 abbrev pub receive_rule : Key → Pid → ℕ → Event → Option (Pid × ℕ)
-receive_rule k p i e = if is_stamp e then None else if pid_eq e.from k.from && e.serial.this == k.this then Some
+receive_rule k p i e = if is_stamp e then None else if pid_eq e.from k.from
+    && e.serial.this == k.this then Some
     (p, i) else None
 
 -- the place of a send or print of this process with this count
@@ -67,10 +68,12 @@ HasReceives streams table = (k : Key) → table k ≡ receive_of streams k.from 
 
 -- a table gives the place of the first send or print of each process with each count
 abbrev pub HasStamps : List Stream → (Key → Option (Pid × ℕ)) → Type 0
-HasStamps streams table = (k : Key) → table k ≡ option_map (λ f. (k.from, f.0)) (stamp_of streams k.from k.this)
+HasStamps streams table =
+    (k : Key) → table k ≡ option_map (λ f. (k.from, f.0)) (stamp_of streams k.from k.this)
 
 -- the rule `not_rising` in a stream of these events
 abbrev pub not_rising_in : List Event → Pid → ℕ → Event → Option PairFault
 not_rising_in es p i e = option_and_then
-    (λ f. if not (is_stamp e) || nat_lt f.1.serial.this e.serial.this then None else Some (fault.NotRising p i f.0))
+    (λ f. if not (is_stamp e)
+    || nat_lt f.1.serial.this e.serial.this then None else Some (fault.NotRising p i f.0))
     (stamp_before es i)

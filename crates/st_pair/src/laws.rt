@@ -19,7 +19,8 @@ ghost use Rattle.st_pair.specs.Places.{event_at, first, is_stamp};
 
 /// What a rule gives first it gives at the least place, by pid and then index.
 pub fn first_is_least()
-    ensures { (rule : Pid → ℕ → Event → Option PairFault) (streams : List Stream) (fault : PairFault) →
+    ensures { (rule : Pid → ℕ → Event → Option PairFault) (streams : List Stream)
+        (fault : PairFault) →
         IsStreams streams → first rule streams ≡ Some fault → IsLeast rule streams fault }
 {}
 
@@ -27,13 +28,15 @@ pub fn first_is_least()
 pub fn sources_and_receivers_agree()
     ensures { (streams : List Stream) → IsStreams streams → refusal streams ≡ None →
         (p : Pid) (i : ℕ) (q : Pid) (j : ℕ) →
-        (receiver_at streams q j ≡ Some (p, i)) ↔ (source_at streams p i ≡ Some (source.Event q j)) }
+        (receiver_at streams q j ≡ Some (p, i))
+        ↔ (source_at streams p i ≡ Some (source.Event q j)) }
 {}
 
 /// If pairing accepts, the counts of a process's sends and prints rise, so that each has its own.
 pub fn stamp_counts_rise()
     ensures { (streams : List Stream) → refusal streams ≡ None →
-        (p : Pid) (j i : ℕ) (d e : Event) → j < i → event_at streams p j ≡ Some d → event_at streams p i ≡ Some e →
+        (p : Pid) (j i : ℕ) (d e : Event) → j < i → event_at streams p j ≡ Some d
+        → event_at streams p i ≡ Some e →
         is_stamp d ≡ true → is_stamp e ≡ true → d.serial.this < e.serial.this }
 {}
 

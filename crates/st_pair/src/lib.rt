@@ -2,8 +2,8 @@
 //!
 //! A send stamps a serial, and a receive reports the serial that it took: so a receive's message is
 //! from the send of its sender that has its count. `pair` says so of all receives at once, and
-//! refuses streams that no acts explain without a reset. It looks at the streams of `st_core` alone;
-//! that its refusals are final is proved over the machine's laws.
+//! refuses streams that no acts explain without a reset. It looks at the streams of `st_core`
+//! alone; that its refusals are final is proved over the machine's laws.
 #![tactic(auto)]
 
 mod answer;

@@ -7,7 +7,8 @@ ghost use Rattle.st_core.specs.Pid.{pid_eq, IsRising};
 ghost use Rattle.st_core.specs.Run.{Stream};
 ghost use Rattle.st_pair.specs.Pairing.{source_at, receiver_at, refusal, IsPairFault};
 ghost use Rattle.st_pair.specs.Final.{RulesOut};
-ghost use Rattle.st_pair.specs.Links.{IsPairing, link_at, link_of, pairing_of, links_in, receiver_in, source_in};
+ghost use Rattle.st_pair.specs.Links.{IsPairing, link_at, link_of, pairing_of, links_in};
+ghost use Rattle.st_pair.specs.Links.{receiver_in, source_in};
 ghost use Rattle.st_pair.specs.Tables.{place_at_key, HasReceives, HasStamps};
 
 use crate::answer::{PairFault, Source};
@@ -33,7 +34,7 @@ pub enum Link {
 }
 
 impl Link {
-    /// Of a receive, what its message came from.
+    /// What the message came from, if this is a receive.
     fn source(self) -> Option<Source>
         ensures { result ≡ source_in self }
     {
@@ -44,7 +45,7 @@ impl Link {
         }
     }
 
-    /// Of a send, the place of its receive.
+    /// The place of the receive, if this is a send that has one.
     fn receiver(self) -> Option<(Pid, u64)>
         ensures { result ≡ receiver_in self }
     {
@@ -87,7 +88,8 @@ impl Pairing {
 
     /// What the message of the receive at this place came from; none if there is no receive.
     pub fn source(&self, pid: Pid, index: u64) -> Option<Source>
-        ensures { (streams : List Stream) → IsPairing streams self.now → result ≡ source_at streams pid index }
+        ensures { (streams : List Stream) → IsPairing streams self.now
+            → result ≡ source_at streams pid index }
     {
         match self.link(pid, index) {
             None => None,
@@ -97,7 +99,8 @@ impl Pairing {
 
     /// The receive that is paired with the send at this place; none if there is no such send.
     pub fn receiver(&self, pid: Pid, index: u64) -> Option<(Pid, u64)>
-        ensures { (streams : List Stream) → IsPairing streams self.now → result ≡ receiver_at streams pid index }
+        ensures { (streams : List Stream) → IsPairing streams self.now
+            → result ≡ receiver_at streams pid index }
     {
         match self.link(pid, index) {
             None => None,

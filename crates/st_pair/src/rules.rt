@@ -4,7 +4,8 @@ ghost use Rattle.std.specs.Prelude.{◌≡◌, ◌==◌, ◌&&◌, ℕ, Some, op
 ghost use Rattle.st_core.specs.Pid.{pid_eq};
 ghost use Rattle.st_core.specs.Streams.{events_of};
 ghost use Rattle.st_pair.specs.declared.tables.Key.{Key as KeyValue};
-ghost use Rattle.st_pair.specs.Pairing.{agrees, mismatch, not_rising, prev_not_before, repeated, to_eq};
+ghost use Rattle.st_pair.specs.Pairing.{agrees, mismatch, not_rising, prev_not_before, repeated};
+ghost use Rattle.st_pair.specs.Pairing.{to_eq};
 ghost use Rattle.st_pair.specs.Places.{first, first_from};
 ghost use Rattle.st_pair.specs.Tables.{place_at_key, HasReceives, HasStamps, not_rising_in};
 

@@ -4,14 +4,15 @@
 //! guesses at where a key is in it, at most 8 bytes a row. A hash table of the same keys takes
 //! more.
 
-ghost use Rattle.std.specs.Prelude.{◌≡◌, ◌≤◌, IfOk, IsTrue, OnOk, length, option_and_then, slice_get};
+ghost use Rattle.std.specs.Prelude.{◌≡◌, ◌≤◌, IfOk, IsTrue, OnOk, length, option_and_then};
+ghost use Rattle.std.specs.Prelude.{slice_get};
 ghost use Rattle.std.specs.List.Sorted.{IsSortedByKey};
 ghost use Rattle.st_core.specs.Run.{Stream};
 ghost use Rattle.st_pair.specs.declared.tables.Key.{Key as KeyValue};
 ghost use Rattle.st_pair.specs.Places.{first_from, or_else};
-ghost use Rattle.st_pair.specs.Tables.{AreBelow, AreNotBelow, HasReceives, HasStamps, here, is_below, row_key_cmp};
-ghost use Rattle.st_pair.specs.Tables.{key_of};
-ghost use Rattle.st_pair.specs.Tables.{place_at_key, place_under, receive_rule, stamp_rule};
+ghost use Rattle.st_pair.specs.Tables.{AreBelow, AreNotBelow, HasReceives, HasStamps, here};
+ghost use Rattle.st_pair.specs.Tables.{is_below, row_key_cmp, key_of, place_at_key, place_under};
+ghost use Rattle.st_pair.specs.Tables.{receive_rule, stamp_rule};
 
 use crate::guesses::Guesses;
 use st_core::{Event, Kind, Pid, Streams};
@@ -94,7 +95,8 @@ impl Model for Table {
 impl Table {
     /// The rows in the order of their keys; those of one key stay as they stand.
     fn from_rows(mut rows: Vec<Row>) -> Result<Table, AllocError>
-        ensures { IfOk result (λ table. (k : KeyValue) → place_at_key table k ≡ place_at_key rows.items k) }
+        ensures { IfOk result (λ table. (k : KeyValue)
+            → place_at_key table k ≡ place_at_key rows.items k) }
     {
         rows.sort_by_key(|row| row.key())?;
         let guesses = Guesses::new(*rows.allocator(), &rows)?;
@@ -120,7 +122,8 @@ const TRIES: usize = 4;
 /// The place at which the rows with this key begin, or would: by a guess, else a binary search.
 fn start_of(rows: &[Row], guesses: &Guesses, key: Key) -> usize
     requires { IsSortedByKey key_of row_key_cmp rows.now }
-    ensures { place_at_key rows.now key ≡ option_and_then (place_under key) (slice_get rows.now result) }
+    ensures { place_at_key rows.now key
+        ≡ option_and_then (place_under key) (slice_get rows.now result) }
 {
     let guess = guesses.start_of(key).min(rows.len());
     for start in guess..guess.saturating_add(TRIES) {
@@ -167,7 +170,8 @@ fn row_at(rows: &[Row], index: usize) -> Option<Row>
 /// Notes the place of an event under its key.
 fn note(rows: &mut Vec<Row>, key: Key, place: (Pid, u64)) -> Result<(), AllocError>
     ensures { OnOk result ((k : KeyValue) →
-        place_at_key rows.new.items k ≡ or_else (place_at_key rows.old.items k) (here key place k)) }
+        place_at_key rows.new.items k
+        ≡ or_else (place_at_key rows.old.items k) (here key place k)) }
 {
     let (pid, index) = place;
     rows.push(Row {

@@ -1,7 +1,7 @@
 -- The acts that are built for an item, from what the process whose it is has before.
-use Rattle.std.specs.Prelude.{◌≡◌, ℕ, ◌-◌, ◌==◌, ◌&&◌, zero, suc, max, nat_lt, Bool, true, false, not, List, []}
-use Rattle.std.specs.Prelude.{◌∷◌, ◌++◌, Option, Some, None, if◌then◌else◌, option_map, option_and_then}
-use Rattle.std.specs.Prelude.{position}
+use Rattle.std.specs.Prelude.{◌≡◌, ℕ, ◌-◌, ◌==◌, ◌&&◌, zero, suc, max, nat_lt, Bool, true, false}
+use Rattle.std.specs.Prelude.{not, List, [], ◌∷◌, ◌++◌, Option, Some, None, if◌then◌else◌}
+use Rattle.std.specs.Prelude.{option_map, option_and_then, position}
 use Rattle.std.specs.Option.{option_map_or}
 use Rattle.st_core.specs.declared.types.Pid.{Pid}
 use Rattle.st_core.specs.declared.types.Label.{Label}
@@ -44,7 +44,12 @@ is_dressed n f (Some t) = t.label.0 == n.0 && flags_eq t.flags f
 
 -- a token of this label and these flags, as it is restored
 abbrev pub unstamped_token : Pid → Label → Flags → Token
-unstamped_token p n f = record { label = n; flags = f; serial = record { prev = 0; this = 0 }; from = p }
+unstamped_token p n f = record {
+  label = n;
+  flags = f;
+  serial = record { prev = 0; this = 0 };
+  from = p;
+}
 
 -- gives p a token of this label and these flags, if it has none such
 abbrev pub dress : Pid → Option Token → Label → Flags → List Act
@@ -64,7 +69,8 @@ renew p x n prev =
 -- the clock is brought up to that count, then the flags are put on
 abbrev pub raise : Pid → Start → Label → ℕ → Flags → List Act
 raise p x n count f = if nat_lt x.clock count
-    then dress p x.token n quiet ++ (silent p (count - x.clock) ++ dress p (Some (unstamped_token p n quiet)) n f)
+    then dress p x.token n quiet
+    ++ (silent p (count - x.clock) ++ dress p (Some (unstamped_token p n quiet)) n f)
     else dress p x.token n f
 
 -- what p has after a new trace began at prev
@@ -78,8 +84,8 @@ ready p x n s f = if s.prev == x.last
     then raise p x n (s.this - 1) f
     else renew p x n s.prev ++ raise p (renewed_start p x n s.prev) n (s.this - 1) f
 
--- the flags under which an item stamps: an event is told under its own flag, and a send's message is received under a
--- flag exactly if a receive that is told is paired with it
+-- the flags under which an item stamps: an event is told under its own flag, and a send's message
+-- is received under a flag exactly if a receive that is told is paired with it
 abbrev pub flags_of : List Stream → Marks → Move → Flags
 flags_of streams marks m = elim m.item [
   | item.Hidden p i ↦ record { send = false; receive = marks p i; print = false }
@@ -109,7 +115,8 @@ act_of r m = elim m.item [
 -- the acts of an item, from the record of the process whose it is
 abbrev pub acts_of : List Stream → Marks → Process → Move → Option (List Act)
 acts_of streams marks r m = option_map (λ a. (if is_taking m then []
-    else ready m.who (start_of r.local) m.event.label m.event.serial (flags_of streams marks m)) ++ a ∷ []) (act_of r m)
+    else ready m.who (start_of r.local) m.event.label m.event.serial (flags_of streams marks m))
+    ++ a ∷ []) (act_of r m)
 
 -- the state after these outcomes, which begin at s
 abbrev pub state_after : State → List Outcome → State
@@ -117,7 +124,8 @@ state_after s [] = s
 state_after s (o ∷ os) = state_after o.after os
 
 -- the acts of a move run from s, and report what its process tells of it
-pub record GoesOn (top : ℕ) (streams : List Stream) (marks : Marks) (s : State) (m : Move) : Type 0 where
+pub record GoesOn (top : ℕ) (streams : List Stream) (marks : Marks) (s : State)
+    (m : Move) : Type 0 where
   pub before : Process
   pub is_before : process s m.who ≡ Some before
   pub acts : List Act
@@ -137,7 +145,8 @@ build top streams marks s (m ∷ ms) =
 -- a tracer for each node but this one, by its least pid
 abbrev pub tracers_after : Option ℕ → List Pid → List Act
 tracers_after seen [] = []
-tracers_after seen (p ∷ ps) = if option_map_or (λ n. n == p.node) seen false then tracers_after seen ps
+tracers_after seen (p ∷ ps) = if option_map_or (λ n. n == p.node) seen false
+    then tracers_after seen ps
     else act.Tracer p true ∷ tracers_after (Some p.node) ps
 
 -- the first acts: none if nothing happened
@@ -150,5 +159,6 @@ abbrev pub construction : ℕ → List Stream → Marks → List Move → Option
 construction top streams marks ms =
     let first = opening streams ms in
     let zero = zero_state (pids_of streams) in
-    option_and_then (λ os. option_map (λ rest. first ++ rest) (build top streams marks (state_after zero os) ms))
+    option_and_then (λ os. option_map (λ rest. first ++ rest)
+    (build top streams marks (state_after zero os) ms))
     (run_from top zero first)

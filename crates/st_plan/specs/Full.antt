@@ -1,5 +1,5 @@
--- Streams that tell all: what a run without a reset that reports everything makes of its streams, said of them alone;
--- and such a run.
+-- Streams that tell all: what a run without a reset that reports everything makes of its streams,
+-- said of them alone; and such a run.
 use Rattle.std.specs.Prelude.{◌≡◌, ℕ, ◌≤◌, true, false, List, take, None, Some}
 use Rattle.st_core.specs.declared.types.Pid.{Pid}
 use Rattle.st_core.specs.declared.types.Act.{Act}
@@ -12,16 +12,18 @@ use Rattle.st_pair.specs.Pairing.{refusal}
 use Rattle.st_pair.specs.Places.{event_at, is_stamp}
 use Rattle.st_order.specs.Items.{is_hidden}
 
--- Pairing accepts the streams, each send and print goes on from the events of its process before it, no receive's send
--- is hidden, and a clock can have each count.
+-- Pairing accepts the streams, each send and print goes on from the events of its process before
+-- it, no receive's send is hidden, and a clock can have each count.
 pub record IsFull (top : ℕ) (streams : List Stream) : Type 0 where
   pub accepted : refusal streams ≡ None
   pub goes_on : (p : Pid) (i : ℕ) (e : Event) → event_at streams p i ≡ Some e → is_stamp e ≡ true
       → GoesOnFrom (take i (events_of streams p)) e
-  pub reported : (p : Pid) (i : ℕ) (e : Event) → event_at streams p i ≡ Some e → is_hidden streams e ≡ false
+  pub reported : (p : Pid) (i : ℕ) (e : Event) → event_at streams p i ≡ Some e
+      → is_hidden streams e ≡ false
   pub within : (p : Pid) (i : ℕ) (e : Event) → event_at streams p i ≡ Some e → e.serial.this ≤ top
 
--- acts without a reset show the streams, and in their run every stamp and every receive of a token is reported
+-- acts without a reset show the streams, and in their run every stamp and every receive of a token
+-- is reported
 pub record IsFullyShown (top : ℕ) (streams : List Stream) : Type 0 where
   pub acts : List Act
   pub shows : Shows top streams acts

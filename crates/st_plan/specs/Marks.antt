@@ -1,5 +1,7 @@
--- Streams of which some events are told: all that each process did, and which of it was reported (own profile).
-use Rattle.std.specs.Prelude.{ℕ, ◌+◌, Bool, true, false, List, [], ◌∷◌, map, find, slice_get, Some, None, if◌then◌else◌}
+-- Streams of which some events are told: all that each process did, and which of it was reported
+-- (own profile).
+use Rattle.std.specs.Prelude.{ℕ, ◌+◌, Bool, true, false, List, [], ◌∷◌, map, find, slice_get, Some}
+use Rattle.std.specs.Prelude.{None, if◌then◌else◌}
 use Rattle.std.specs.Option.{option_map_or}
 use Rattle.st_core.specs.declared.types.Pid.{Pid}
 use Rattle.st_core.specs.declared.types.Event.{Event}
@@ -47,8 +49,10 @@ marks_of wholes p i = elim (find (λ w. pid_eq w.pid p) wholes) [
 -- the told ones of these events, which stand from index i on
 abbrev pub told_from : (ℕ → Bool) → ℕ → List Event → List Event
 told_from told i [] = []
-told_from told i (e ∷ es) = if told i then e ∷ told_from told (i + 1) es else told_from told (i + 1) es
+told_from told i (e ∷ es) =
+    if told i then e ∷ told_from told (i + 1) es else told_from told (i + 1) es
 
 -- the told events of each stream
 abbrev pub told_only : Marks → List Stream → List Stream
-told_only marks streams = map (λ s. record { pid = s.pid; events = told_from (marks s.pid) 0 s.events }) streams
+told_only marks streams =
+    map (λ s. record { pid = s.pid; events = told_from (marks s.pid) 0 s.events }) streams

@@ -1,6 +1,8 @@
--- The items of an order as moves of counts: what the clock and the last count of each process are between them (own
--- profile). `earlier` is always the list of the moves before one, the nearest first.
-use Rattle.std.specs.Prelude.{ℕ, ◌+◌, ◌-◌, max, Bool, false, not, List, [], ◌∷◌, reverse, None, Some, if◌then◌else◌}
+-- The items of an order as moves of counts: what the clock and the last count of each process are
+-- between them (own profile). `earlier` is always the list of the moves before one, the nearest
+-- first.
+use Rattle.std.specs.Prelude.{ℕ, ◌+◌, ◌-◌, max, Bool, false, not, List, [], ◌∷◌, reverse, None}
+use Rattle.std.specs.Prelude.{Some, if◌then◌else◌}
 use Rattle.st_core.specs.declared.types.Pid.{Pid}
 use Rattle.st_core.specs.declared.types.Event.{Event}
 use Rattle.st_core.specs.Pid.{pid_eq}
@@ -10,7 +12,8 @@ use Rattle.st_order.specs.declared.item.Item.{Item}
 use Rattle.st_order.specs.declared.item.Item.TheVariants as item
 use Rattle.st_order.specs.Items.{event_of}
 
--- an item, whose it is, and its event: a hidden send is its sender's, and has the label and serial of its receive
+-- an item, whose it is, and its event: a hidden send is its sender's, and has the label and serial
+-- of its receive
 pub record Move : Type 0 where
   pub item : Item
   pub who : Pid
@@ -46,7 +49,8 @@ clock q (m ∷ earlier) =
 abbrev pub last : Pid → List Move → ℕ
 last q [] = 0
 last q (m ∷ earlier) =
-    if pid_eq m.who q then (if is_taking m then m.event.serial.this else m.event.serial.prev) else last q earlier
+    if pid_eq m.who q then (if is_taking m then m.event.serial.this else m.event.serial.prev)
+    else last q earlier
 
 -- how many counts are missing before the move's own
 abbrev pub skip : List Move → Move → ℕ

@@ -1,5 +1,7 @@
--- The streams that the auditor explains: pairing accepts them, and no item of their order is refused.
-use Rattle.std.specs.Prelude.{◌≡◌, ℕ, ◌+◌, ◌≤◌, ◌==◌, Bool, false, not, List, [], ◌∷◌, ◌++◌, None, Some, if◌then◌else◌}
+-- The streams that the auditor explains: pairing accepts them, and no item of their order is
+-- refused.
+use Rattle.std.specs.Prelude.{◌≡◌, ℕ, ◌+◌, ◌≤◌, ◌==◌, Bool, false, not, List, [], ◌∷◌, ◌++◌, None}
+use Rattle.std.specs.Prelude.{Some, if◌then◌else◌}
 use Rattle.st_core.specs.declared.types.Pid.{Pid}
 use Rattle.st_core.specs.declared.types.Event.{Event}
 use Rattle.st_core.specs.Pid.{pid_eq}
@@ -42,8 +44,8 @@ out_of_turn earlier m = elim m.item [
 abbrev pub HoldsNowhere : (List Move → Move → Bool) → List Stream → Type 0
 HoldsNowhere test streams = (p : Pid) (i : ℕ) → ¬ HoldsAt test streams p i
 
--- Pairing accepts the streams, the order lists each process's reported items by rising index, nothing is uncaused, and
--- a clock can have each count.
+-- Pairing accepts the streams, the order lists each process's reported items by rising index,
+-- nothing is uncaused, and a clock can have each count.
 pub record IsSettled (top : ℕ) (streams : List Stream) : Type 0 where
   pub accepted : refusal streams ≡ None
   pub in_turn : HoldsNowhere out_of_turn streams

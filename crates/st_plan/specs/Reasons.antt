@@ -1,6 +1,7 @@
--- The auditor's own reasons against an item of the order: what it would have to explain by unreported receives, and
--- what by too many unreported stamps (own profile).
-use Rattle.std.specs.Prelude.{◌≡◌, ℕ, ◌==◌, ◌&&◌, ◌||◌, nat_lt, Bool, true, not, List, ◌∷◌, ◌++◌, reverse}
+-- The auditor's own reasons against an item of the order: what it would have to explain by
+-- unreported receives, and what by too many unreported stamps (own profile).
+use Rattle.std.specs.Prelude.{◌≡◌, ℕ, ◌==◌, ◌&&◌, ◌||◌, nat_lt, Bool, true, not, List, ◌∷◌, ◌++◌}
+use Rattle.std.specs.Prelude.{reverse}
 use Rattle.st_core.specs.declared.types.Pid.{Pid}
 use Rattle.st_core.specs.Run.{Stream}
 use Rattle.st_order.specs.declared.item.Item.{Item}
@@ -18,7 +19,8 @@ most_skipped_in_all = 1000000
 -- a stamp whose prev is below the clock, and isn't the last count
 abbrev pub uncaused : List Move → Move → Bool
 uncaused earlier m = not (is_taking m) &&
-    (not (m.event.serial.prev == last m.who earlier) && nat_lt m.event.serial.prev (clock m.who earlier))
+    (not (m.event.serial.prev == last m.who earlier)
+    && nat_lt m.event.serial.prev (clock m.who earlier))
 
 -- a stamp before which too many counts are missing, or too many with those before
 abbrev pub too_wide : List Move → Move → Bool
@@ -26,7 +28,8 @@ too_wide earlier m = not (is_taking m) &&
     (nat_lt most_skipped (skip earlier m) || nat_lt most_skipped_in_all (skips (m ∷ earlier)))
 
 -- in the order there is a move at place (p, i) of which the test holds
-pub record HoldsAt (test : List Move → Move → Bool) (streams : List Stream) (p : Pid) (i : ℕ) : Type 0 where
+pub record HoldsAt (test : List Move → Move → Bool) (streams : List Stream) (p : Pid)
+    (i : ℕ) : Type 0 where
   pub order : List Item
   pub earlier : List Move
   pub move : Move

@@ -11,23 +11,27 @@ ghost use Rattle.st_core.specs.Streams.{IsStreams};
 ghost use Rattle.st_order.specs.Order.{order};
 ghost use Rattle.st_plan.specs.Build.{construction};
 ghost use Rattle.st_plan.specs.Full.{IsFull};
-ghost use Rattle.st_plan.specs.Marks.{all_streams, all_told, marks_of, told_only, told_streams, Marks, Whole};
+ghost use Rattle.st_plan.specs.Marks.{all_streams, all_told, marks_of, told_only, told_streams};
+ghost use Rattle.st_plan.specs.Marks.{Marks, Whole};
 ghost use Rattle.st_plan.specs.Moves.{moves, Move};
 ghost use Rattle.st_plan.specs.Plain.{IsPlain, IsSettled};
 
-/// Of streams that pairing accepts, whose order lists each process's events by rising index and has
-/// nothing uncaused, the acts that are built, item by item, run and show those events that are told,
-/// whichever these are. None of them is a reset.
+/// If pairing accepts streams, and their order lists each process's events by rising index and has
+/// nothing uncaused, then the acts that are built, item by item, run and show those events that are
+/// told, whichever these are. None of them is a reset.
 pub fn settled_streams_are_shown()
-    ensures { (top : ℕ) (streams : List Stream) (marks : Marks) → IsStreams streams → IsSettled top streams →
-        (acts : List Act) × (construction top streams marks (moves streams (order streams)) ≡ Some acts)
+    ensures { (top : ℕ) (streams : List Stream) (marks : Marks) → IsStreams streams
+        → IsSettled top streams →
+        (acts : List Act) × (construction top streams marks (moves streams (order streams))
+        ≡ Some acts)
         × Shows top (told_only marks streams) acts × NoReset acts }
 {}
 
-/// So if the streams of a trace are all that is told of such whole streams, acts without a reset show
-/// them.
+/// So if the streams of a trace are all that is told of such whole streams, acts without a reset
+/// show them.
 pub fn completions_are_shown()
-    ensures { (top : ℕ) (wholes : List Whole) → IsStreams (all_streams wholes) → IsSettled top (all_streams wholes) →
+    ensures { (top : ℕ) (wholes : List Whole) → IsStreams (all_streams wholes)
+        → IsSettled top (all_streams wholes) →
         (acts : List Act) × (construction top (all_streams wholes) (marks_of wholes)
         (moves (all_streams wholes) (order (all_streams wholes))) ≡ Some acts)
         × Shows top (told_streams wholes) acts × NoReset acts }
@@ -36,7 +40,8 @@ pub fn completions_are_shown()
 /// If all is told and nothing is too wide, they show the streams.
 pub fn plain_streams_are_shown()
     ensures { (top : ℕ) (streams : List Stream) → IsStreams streams → IsPlain top streams →
-        (acts : List Act) × (construction top streams all_told (moves streams (order streams)) ≡ Some acts)
+        (acts : List Act) × (construction top streams all_told (moves streams (order streams))
+        ≡ Some acts)
         × Shows top streams acts }
 {}
 
@@ -56,7 +61,8 @@ pub fn full_streams_are_plain()
 /// streams tell all.
 pub fn full_runs_have_full_streams()
     ensures { (top : ℕ) (streams : List Stream) (acts : List Act) (shows : Shows top streams acts)
-        → NoReset acts → ReportsEverything (zero_state (pids_of streams)) acts shows.0 → IsFull top streams }
+        → NoReset acts → ReportsEverything (zero_state (pids_of streams)) acts shows.0
+        → IsFull top streams }
 {}
 
 /// If acts without a reset show streams and report every stamp and every receive of a token, the

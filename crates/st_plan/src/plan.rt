@@ -2,7 +2,8 @@
 //! nothing here steps a world.
 
 ghost use Rattle.std.specs.Prelude.{◌≡◌, ◌++◌, OnOk};
-ghost use Rattle.st_plan.specs.Build.{dress, flags_eq, is_dressed, raise, ready, renew, silent, unstamped_token};
+ghost use Rattle.st_plan.specs.Build.{dress, flags_eq, is_dressed, raise, ready, renew, silent};
+ghost use Rattle.st_plan.specs.Build.{unstamped_token};
 
 use st_core::{Act, Component, Flags, Label, Pid, Serial, Token};
 use std::alloc::AllocError;
@@ -110,7 +111,8 @@ fn raise(
     count: u64,
     flags: Flags,
 ) -> Result<(), AllocError>
-    ensures { OnOk result (plan.new.items ≡ plan.old.items ++ raise pid start.now label count flags) }
+    ensures { OnOk result (plan.new.items
+        ≡ plan.old.items ++ raise pid start.now label count flags) }
 {
     if start.clock < count {
         dress(plan, pid, start.token, label, QUIET)?;
@@ -131,7 +133,8 @@ pub fn ready(
     serial: Serial,
     flags: Flags,
 ) -> Result<(), AllocError>
-    ensures { OnOk result (plan.new.items ≡ plan.old.items ++ ready pid start.now label serial flags) }
+    ensures { OnOk result (plan.new.items
+        ≡ plan.old.items ++ ready pid start.now label serial flags) }
 {
     let count = serial.this.saturating_sub(1);
     if serial.prev == start.last {

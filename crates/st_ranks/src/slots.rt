@@ -10,8 +10,8 @@ const MOST_SLOTS: usize = 1 << 58;
 
 /// A fixed number of slots, each live or dead.
 ///
-/// A contract sees the list of them: 1 for a live slot, 0 for a dead one. So the rank of a slot is a
-/// sum: that of the slots before it.
+/// A contract sees the list of them: 1 for a live slot, 0 for a dead one. So the rank of a slot is
+/// a sum: that of the slots before it.
 #[derive(Drop)]
 pub struct Ranks {
     counts: Vec<u64>,
@@ -32,7 +32,8 @@ impl Model for Ranks {
 
 impl Ranks {
     ghost use Rattle.std.specs.Prelude.{◌≡◌, ◌-◌, ◌<◌, ◌≤◌, ◌++◌, length, take, replicate};
-    ghost use Rattle.std.specs.Prelude.{slice_set, slice_index_or, true, false, IfOk, IfSome, IfNone};
+    ghost use Rattle.std.specs.Prelude.{slice_set, slice_index_or, true, false, IfOk, IfSome};
+    ghost use Rattle.std.specs.Prelude.{IfNone};
     ghost use Rattle.std.specs.List.{sum};
 
     /// At least so many slots, the first `live` of them live and all others dead. There are as many

@@ -1,6 +1,8 @@
-//! The tree: the root is node 1, and node k has the children 2k and 2k + 1; the leaves are the slots.
+//! The tree: the root is node 1, and node k has the children 2k and 2k + 1; the leaves are the
+//! slots.
 
-ghost use Rattle.std.specs.Prelude.{◌≡◌, ◌≢◌, ◌+◌, ◌<◌, ◌≤◌, ◌^◌, ℕ, suc, length, drop, true, false};
+ghost use Rattle.std.specs.Prelude.{◌≡◌, ◌≢◌, ◌+◌, ◌<◌, ◌≤◌, ◌^◌, ℕ, suc, length, drop, true};
+ghost use Rattle.std.specs.Prelude.{false};
 ghost use Rattle.st_ranks.specs.Tree.{count_at, sums, wide, IsTree, IsDead, IsLive};
 
 /// How many slots are live.
@@ -19,7 +21,8 @@ pub(crate) fn is_live_in(counts: &[u64], size: usize, height: usize, slot: usize
     ensures live { result ≡ true → count_at counts.now (size + slot) ≡ 1 }
     ensures dead { result ≡ false → count_at counts.now (size + slot) ≡ 0 }
 {
-    // That the number of nodes is a `usize` is known where it is read, and so the sum stays in range.
+    // That the number of nodes is a `usize` is known where it is read, and so the sum stays in
+    // range.
     let _node_count = counts.len();
     counts[size + slot] == 1
 }
@@ -32,7 +35,8 @@ pub(crate) fn rank_in(counts: &[u64], size: usize, height: usize, slot: usize) -
     requires in_range { slot < size }
     ensures { result ≡ sums (count_at counts.now) size slot }
 {
-    // That the number of nodes is a `usize` is known where it is read, and so the sums below stay in range.
+    // That the number of nodes is a `usize` is known where it is read, and so the sums below stay
+    // in range.
     let _node_count = counts.len();
     let mut sum = 0;
     let mut start = size;

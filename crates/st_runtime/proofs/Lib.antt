@@ -1,5 +1,7 @@
 -- What the step calls and the calls of a system need.
+pub mod CallLemmas
 pub mod RowLemmas
+pub mod LentLemmas
 pub mod LogLemmas
 pub mod PartLemmas
 pub mod SendLemmas

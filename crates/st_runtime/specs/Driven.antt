@@ -1,6 +1,6 @@
 -- Scripts that are driven: what a record of them says, and what each refusal says of them.
-use Rattle.std.specs.Prelude.{◌≡◌, ◌≢◌, ◌↔◌, ℕ, ◌<◌, true, false, List, map, filter, length, sum_by, count_by}
-use Rattle.std.specs.Prelude.{All, zip, take, slice_get, Some}
+use Rattle.std.specs.Prelude.{◌≡◌, ◌≢◌, ◌↔◌, ℕ, ◌<◌, true, false, List, map, filter, length, sum_by}
+use Rattle.std.specs.Prelude.{count_by, All, zip, take, slice_get, Some}
 use Rattle.st_core.specs.declared.types.Pid.{Pid}
 use Rattle.st_core.specs.declared.types.Act.{Act}
 use Rattle.st_core.specs.Pid.{pid_eq, IsRising}
@@ -23,9 +23,11 @@ use Rattle.st_runtime.specs.System.{knows, is_stamping}
 abbrev pub acts_by : Pid → List Act → List Act
 acts_by p acts = filter (λ a. pid_eq (actor a) p) acts
 
--- There are logs of exactly these processes, each such as a lock keeps it, whose distinct entries by rising rank and
--- actor are the record's acts. The record is one run of the machine, and each process's acts in it are its script.
-pub record IsDriven (top ranks : ℕ) (pids : List Pid) (scripts : List (List Act)) (r : Record) : Type 0 where
+-- There are logs of exactly these processes, each such as a lock keeps it, whose distinct entries
+-- by rising rank and actor are the record's acts. The record is one run of the machine, and each
+-- process's acts in it are its script.
+pub record IsDriven (top ranks : ℕ) (pids : List Pid) (scripts : List (List Act))
+    (r : Record) : Type 0 where
   pub logs : List Control
   pub logged : pids_in logs ≡ pids
   pub kept : All (λ x. IsKept top ranks x.process x.log) logs
@@ -54,9 +56,10 @@ pub record IsOwn (pids : List Pid) (p : Pid) (a : Act) : Type 0 where
   pub mine : actor a ≡ p
   pub known : knows pids a ≡ true
 
--- Act n of p's script is refused so in a system of these pids: NotYours and Unknown exactly if they hold, and for no
--- act before it.
-pub record IsRefused (pids : List Pid) (p : Pid) (script : List Act) (n : ℕ) (f : ActFault) : Type 0 where
+-- Act n of p's script is refused so in a system of these pids: NotYours and Unknown exactly if they
+-- hold, and for no act before it.
+pub record IsRefused (pids : List Pid) (p : Pid) (script : List Act) (n : ℕ)
+    (f : ActFault) : Type 0 where
   pub asked : Act
   pub place : slice_get script n ≡ Some asked
   pub not_yours : (f ≡ act.NotYours) ↔ (actor asked ≢ p)
@@ -64,7 +67,8 @@ pub record IsRefused (pids : List Pid) (p : Pid) (script : List Act) (n : ℕ) (
   pub clock : f ≡ act.ClockFull → is_stamping asked ≡ true
   pub before : All (IsOwn pids p) (take n script)
 
--- A full clock or rank takes more acts than it counts to. Memory that runs out is a fault of its own.
+-- A full clock or rank takes more acts than it counts to. Memory that runs out is a fault of its
+-- own.
 abbrev pub IsPossible : ℕ → ℕ → List (List Act) → ActFault → Type 0
 IsPossible top ranks scripts act.NotYours = Unit {0}
 IsPossible top ranks scripts act.Unknown = Unit {0}
@@ -73,8 +77,10 @@ IsPossible top ranks scripts act.ClockFull = top < stamps_in scripts
 IsPossible top ranks scripts act.RankFull = ranks < acts_in scripts
 IsPossible top ranks scripts act.Memory = ⊥
 
--- Act n of p's script was refused. p is the least whose script was: a process before it may make each act of its own.
-pub record IsWorkerFault (top ranks : ℕ) (pids : List Pid) (scripts : List (List Act)) (p : Pid) (n : ℕ) (f : ActFault)
+-- Act n of p's script was refused. p is the least whose script was: a process before it may make
+-- each act of its own.
+pub record IsWorkerFault (top ranks : ℕ) (pids : List Pid) (scripts : List (List Act)) (p : Pid)
+    (n : ℕ) (f : ActFault)
     : Type 0 where
   pub number : ℕ
   pub script : List Act
@@ -86,7 +92,8 @@ pub record IsWorkerFault (top ranks : ℕ) (pids : List Pid) (scripts : List (Li
 -- when scripts aren't driven: NotRising exactly if the pids don't rise
 abbrev pub IsDriveFault : ℕ → ℕ → List Pid → List (List Act) → DriveFault → Type 0
 IsDriveFault top ranks pids scripts fault.Memory = IsRising pids
-IsDriveFault top ranks pids scripts (fault.Act p n f) = IsRising pids × IsWorkerFault top ranks pids scripts p n f
+IsDriveFault top ranks pids scripts (fault.Act p n f) =
+    IsRising pids × IsWorkerFault top ranks pids scripts p n f
 IsDriveFault top ranks pids scripts (fault.Join f) = IsRising pids × (f ≢ joining.Memory)
 IsDriveFault top ranks pids scripts fault.Thread = IsRising pids
 IsDriveFault top ranks pids scripts fault.NotRising = ¬ IsRising pids

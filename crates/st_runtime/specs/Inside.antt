@@ -12,7 +12,8 @@ use Rattle.st_runtime.specs.Logs.{IsOwnPart, last_rank}
 use Rattle.st_runtime.specs.Pcb.{Control, IsKept}
 
 -- the queue is the one box, each token in it can be met, and the process is what the log gives
-pub record IsInside (top ranks : ℕ) (p : Pid) (l : LocalState) (boxes : List (List Message)) (log : List Entry)
+pub record IsInside (top ranks : ℕ) (p : Pid) (l : LocalState) (boxes : List (List Message))
+    (log : List Entry)
     : Type 0 where
   pub one_box : length boxes ≡ 1
   pub fit : QueueFits top (queue_in boxes 0)

@@ -1,6 +1,7 @@
--- What the threads did is one run: the entries of pieces that fit, merged by rank, are a run of the machine.
-use Rattle.std.specs.Prelude.{◌≡◌, ℕ, ◌<◌, ◌⊎◌, List, [], ◌∷◌, ◌++◌, map, if◌then◌else◌, option_to_list, All, AllPairs}
-use Rattle.std.specs.Prelude.{Contains, Some}
+-- What the threads did is one run: the entries of pieces that fit, merged by rank, are a run of the
+-- machine.
+use Rattle.std.specs.Prelude.{◌≡◌, ℕ, ◌<◌, ◌⊎◌, List, [], ◌∷◌, ◌++◌, map, if◌then◌else◌}
+use Rattle.std.specs.Prelude.{option_to_list, All, AllPairs, Contains, Some}
 use Rattle.st_core.specs.declared.types.Pid.{Pid}
 use Rattle.st_core.specs.declared.types.Event.{Event}
 use Rattle.st_core.specs.Pid.{pid_eq, IsBelow, IsRising}
@@ -29,14 +30,17 @@ pub record IsMerged (xs : List Control) (es : List Entry) : Type 0 where
 -- the reports of p in entries
 abbrev pub reports_of : Pid → List Entry → List Event
 reports_of p [] = []
-reports_of p (e ∷ es) = (if pid_eq (actor e.act) p then option_to_list e.report else []) ++ reports_of p es
+reports_of p (e ∷ es) =
+    (if pid_eq (actor e.act) p then option_to_list e.report else []) ++ reports_of p es
 
 -- the streams that processes' own logs tell of
 abbrev pub streams_of : List Control → List Stream
-streams_of xs = map (λ x. record { pid = x.process.pid; events = reports_of x.process.pid x.log }) xs
+streams_of xs =
+    map (λ x. record { pid = x.process.pid; events = reports_of x.process.pid x.log }) xs
 
--- The entries' acts are a run of the machine from the zero state over these processes, with the logged replies and
--- reports. So they show the streams that the logs tell of, and each process's calls in it are those of its log.
+-- The entries' acts are a run of the machine from the zero state over these processes, with the
+-- logged replies and reports. So they show the streams that the logs tell of, and each process's
+-- calls in it are those of its log.
 pub record IsOneRun (top : ℕ) (xs : List Control) (es : List Entry) : Type 0 where
   pub outcomes : List Outcome
   pub runs : run top (pids_in xs) (map (λ e. e.act) es) ≡ Some outcomes
@@ -48,15 +52,16 @@ pub record IsOneRun (top : ℕ) (xs : List Control) (es : List Entry) : Type 0 w
 -- whole entries of processes that their locks kept, merged, are one run
 abbrev pub OneRun : Type 0
 OneRun = (top ranks : ℕ) (xs : List Control) (es : List Entry)
-    → All (λ x. IsKept top ranks x.process x.log) xs → AreWhole xs → IsMerged xs es → IsOneRun top xs es
+    → All (λ x. IsKept top ranks x.process x.log) xs → AreWhole xs → IsMerged xs es
+    → IsOneRun top xs es
 
 -- the streams of one run are streams as they are collected
 abbrev pub ShownStreams : Type 0
 ShownStreams = (top : ℕ) (xs : List Control) (es : List Entry)
     → IsRising (pids_in xs) → IsOneRun top xs es → IsStreams (streams_of xs)
 
--- The pieces fit, and the record is that of their merged entries, which are one run. Each seat's calls stand in it
--- once, in order.
+-- The pieces fit, and the record is that of their merged entries, which are one run. Each seat's
+-- calls stand in it once, in order.
 pub record IsJoined (top : ℕ) (pieces : Parts) (r : Record) : Type 0 where
   pub fit : IsFit pieces
   pub entries : List Entry

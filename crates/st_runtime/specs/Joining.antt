@@ -1,8 +1,7 @@
--- The steps of joining: where an entry stands, the least pid that isn't seated, each process's own entries, and streams
--- to which one report after the other is added.
-use Rattle.std.specs.Prelude.{◌≡◌, ℕ, ◌<◌, List, length, map, filter, Option, Some, None, if◌then◌else◌, All}
-use Rattle.std.specs.Prelude.{Contains, IfSome}
-use Rattle.std.specs.Prelude.{slice_get}
+-- The steps of joining: where an entry stands, the least pid that isn't seated, each process's own
+-- entries, and streams to which one report after the other is added.
+use Rattle.std.specs.Prelude.{◌≡◌, ℕ, ◌<◌, List, length, map, filter, Option, Some, None}
+use Rattle.std.specs.Prelude.{if◌then◌else◌, All, Contains, IfSome, slice_get}
 use Rattle.std.specs.Borrow.{Bor}
 use Rattle.std.specs.Ordering.{is_lt}
 use Rattle.std.specs.List.{flat_map}
@@ -40,7 +39,8 @@ FitsAt pieces k = (x : Control) → slice_get pieces.processes k ≡ Some x
     → All (IsSettled pieces.processes x.process.pid) x.log × IsSeated pieces x.process.pid
 
 -- the least, if there is one, isn't seated, and each of these pids that is below it is
-pub record IsLeastUnseated {X : Type 0} (pid_of : X → Pid) (pieces : Parts) (xs : List X) (least : Option Pid)
+pub record IsLeastUnseated {X : Type 0} (pid_of : X → Pid) (pieces : Parts) (xs : List X)
+    (least : Option Pid)
     : Type 0 where
   pub unseated : IfSome least (λ p. ¬ IsSeated pieces p)
   pub before : All (λ x. IfSome least (IsBelow (pid_of x)) → IsSeated pieces (pid_of x)) xs
@@ -69,7 +69,8 @@ IsThere r = r.1 < length r.0.now.entries
 
 -- the acts of entries that are referred to, and what they answered
 abbrev pub IsReadOut : List (Bor Logged × ℕ) → List Act → List Reply → Type 0
-IsReadOut refs acts replies = (acts ≡ map (λ r. (referred r).act) refs) × (replies ≡ map (λ r. (referred r).reply) refs)
+IsReadOut refs acts replies =
+    (acts ≡ map (λ r. (referred r).act) refs) × (replies ≡ map (λ r. (referred r).reply) refs)
 
 -- a process's own entries
 abbrev pub own_of : Pid → List Entry → List Entry

@@ -1,8 +1,11 @@
--- What the public contracts cite: what an entry does to a process and what a log gives it; what contracts see of a
--- process under its lock and of a seat, and what the calls on them do; what an act in a system asks for; and what comes
--- of a system that ran: pieces that fit, the one run that they tell of, and scripts that are driven.
+-- What the public contracts cite: what an entry does to a process and what a log gives it; what
+-- contracts see of a process under its lock, of calls and of a seat, and what is done with them;
+-- what an act in a system asks for; and what comes of a system that ran: pieces that fit, the one
+-- run that they tell of, and scripts that are driven.
 pub mod Logs
 pub mod Pcb
+pub mod Lent
+pub mod CallList
 pub mod Seat
 pub mod System
 pub mod Pieces
@@ -10,6 +13,8 @@ pub mod Joined
 pub mod Driven
 -- For the parts alone.
 pub mod Inside
+pub mod Briefs
+pub mod Traced
 pub mod Rows
 pub mod Locked
 pub mod Joining

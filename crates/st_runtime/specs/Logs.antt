@@ -1,4 +1,5 @@
--- Logs: what an entry does to one process, and the record that a log gives its process. The parts are the step's.
+-- Logs: what an entry does to one process, and the record that a log gives its process. The parts
+-- are the step's.
 use Rattle.std.specs.Prelude.{◌≡◌, ℕ, ◌<◌, true, List, [], ◌∷◌, Option, Some, None, MatchBool}
 use Rattle.std.specs.Option.{ForSome}
 use Rattle.st_core.specs.declared.types.Pid.{Pid}
@@ -11,7 +12,8 @@ use Rattle.st_core.specs.Step.{Acted, acted, actor, touches, reached, changed}
 use Rattle.st_core.specs.Laws.{IsStamped}
 use Rattle.st_runtime.specs.declared.pcb.entry.Entry.{Entry}
 
--- what an act's message carries, where its actor's token is now this: no act but a send carries a token
+-- what an act's message carries, if its actor's token is now this: no act but a send carries a
+-- token
 abbrev pub carried_by : Act → Option Token → Option Token
 carried_by (act.Send p q v) token = token
 carried_by a token = None
@@ -30,7 +32,8 @@ pub record IsOwnPart (top : ℕ) (r : Process) (e : Entry) (s : Process) : Type 
   pub carried : carried_by e.act done.local.token ≡ e.carried
   pub after : changed e.act done r ≡ s
 
--- the part of another process that the act touches: a send's receiver, or a process of the actor's node
+-- the part of another process that the act touches: a send's receiver, or a process of the actor's
+-- node
 pub record IsOtherPart (top : ℕ) (r : Process) (e : Entry) (s : Process) : Type 0 where
   pub carried : IsCarried top e.act e.carried
   pub after : reached e.act e.carried r ≡ s

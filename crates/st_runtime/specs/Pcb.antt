@@ -1,6 +1,6 @@
 -- What contracts see of a process under its lock, and what the calls on lent ones do.
-use Rattle.std.specs.Prelude.{◌≡◌, ◌≢◌, ℕ, ◌+◌, ◌≤◌, Bool, true, false, List, [], ◌∷◌, ◌++◌, map, max, Option}
-use Rattle.std.specs.Prelude.{Some}
+use Rattle.std.specs.Prelude.{◌≡◌, ◌≢◌, ℕ, ◌+◌, ◌≤◌, Bool, true, false, List, [], ◌∷◌, ◌++◌, map}
+use Rattle.std.specs.Prelude.{max, Option, Some}
 use Rattle.st_core.specs.declared.types.Pid.{Pid}
 use Rattle.st_core.specs.declared.types.Act.{Act}
 use Rattle.st_core.specs.declared.types.Act.TheVariants as act
@@ -39,9 +39,11 @@ greatest_rank (x ∷ xs) = max (last_rank 0 x.log) (greatest_rank xs)
 
 -- what comes of a step that leaves this entry and these processes
 abbrev pub entry_outcome : Entry → Option ℕ → List Control → Outcome
-entry_outcome e place after = record { reply = e.reply; report = e.report; place = place; after = lent_state after }
+entry_outcome e place after =
+    record { reply = e.reply; report = e.report; place = place; after = lent_state after }
 
--- the machine's step on the lent processes alone, and the same entry at the end of each of their logs
+-- the machine's step on the lent processes alone, and the same entry at the end of each of their
+-- logs
 pub record IsStepped (top : ℕ) (a : Act) (y : Reply) (before after : List Control) : Type 0 where
   pub entry : Entry
   pub place : Option ℕ

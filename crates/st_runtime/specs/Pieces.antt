@@ -1,7 +1,7 @@
--- The pieces of a system that ran: its processes with their logs, and the seats. When they fit, and what does not fit
--- first.
-use Rattle.std.specs.Prelude.{◌≡◌, ℕ, true, List, [], ◌∷◌, ◌++◌, map, filter, Some, if◌then◌else◌, All, Contains, take}
-use Rattle.std.specs.Prelude.{slice_get}
+-- The pieces of a system that ran: its processes with their logs, and the seats. When they fit, and
+-- what does not fit first.
+use Rattle.std.specs.Prelude.{◌≡◌, ℕ, true, List, [], ◌∷◌, ◌++◌, map, filter, Some, if◌then◌else◌}
+use Rattle.std.specs.Prelude.{All, Contains, take, slice_get}
 use Rattle.st_core.specs.declared.types.Pid.{Pid}
 use Rattle.st_core.specs.declared.types.Act.{Act}
 use Rattle.st_core.specs.declared.types.Reply.{Reply}
@@ -56,7 +56,8 @@ pub record IsFirstMissing (xs : List Control) (p : Pid) (i : ℕ) : Type 0 where
 -- the calls of p in entries: the acts of its own ones with their replies
 abbrev pub calls_of : Pid → List Entry → List (Act × Reply)
 calls_of p [] = []
-calls_of p (e ∷ es) = (if pid_eq (actor e.act) p then (e.act, e.reply) ∷ [] else []) ++ calls_of p es
+calls_of p (e ∷ es) =
+    (if pid_eq (actor e.act) p then (e.act, e.reply) ∷ [] else []) ++ calls_of p es
 
 -- the seat that a process's log tells of
 abbrev pub seat_of : Control → Calls

@@ -1,6 +1,6 @@
 -- What a worker thread is given, and what it leaves.
-use Rattle.std.specs.Prelude.{◌≡◌, ℕ, List, map, length, Option, Some, None, MatchOption, IfSome, All, take}
-use Rattle.std.specs.Prelude.{slice_get}
+use Rattle.std.specs.Prelude.{◌≡◌, ℕ, List, map, length, Option, Some, None, MatchOption, IfSome}
+use Rattle.std.specs.Prelude.{All, take, slice_get}
 use Rattle.std.specs.List.{AllZip}
 use Rattle.st_core.specs.declared.types.Pid.{Pid}
 use Rattle.st_core.specs.declared.types.Act.{Act}
@@ -20,11 +20,13 @@ abbrev pub called_acts : List (Act × Reply) → List Act
 called_acts calls = map (λ c. c.0) calls
 
 -- the accepted acts are the script, each of which is the process's own
-pub record IsDone (pids : List Pid) (task : Pid × List Act) (calls : List (Act × Reply)) : Type 0 where
+pub record IsDone (pids : List Pid) (task : Pid × List Act)
+    (calls : List (Act × Reply)) : Type 0 where
   pub acts : called_acts calls ≡ task.1
   pub own : All (IsOwn pids task.0) task.1
 
--- what became of a process's script in a system of these pids: it is done, or it was refused the act that comes next
+-- what became of a process's script in a system of these pids: it is done, or it was refused the
+-- act that comes next
 pub record IsWorked (pids : List Pid) (task : Pid × List Act) (end : Ending) : Type 0 where
   pub pid : end.seat.pid ≡ task.0
   pub acts : MatchOption end.fault

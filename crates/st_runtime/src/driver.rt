@@ -1,7 +1,7 @@
 //! Scripts that are driven: one worker thread for each process, and the run that they made.
 
-ghost use Rattle.std.specs.Prelude.{◌≡◌, ◌≢◌, ◌<◌, ◌≤◌, length, map, count_by, vec_len, All, IfOk, IfErr};
-ghost use Rattle.std.specs.Prelude.{IsFalse, Some, None, MatchOption};
+ghost use Rattle.std.specs.Prelude.{◌≡◌, ◌≢◌, ◌<◌, ◌≤◌, length, map, count_by, vec_len, All, IfOk};
+ghost use Rattle.std.specs.Prelude.{IfErr, IsFalse, Some, None, MatchOption};
 ghost use Rattle.st_runtime.specs.Driven.{IsDriven, IsDriveFault, IsRefused, acts_in, stamps_in};
 ghost use Rattle.st_runtime.specs.System.{is_stamping};
 ghost use Rattle.st_runtime.specs.Working.{IsFirstRefusal};
@@ -21,8 +21,8 @@ use std::alloc::{AllocError, Global};
 use std::sync::Wait;
 use std::thread::Threads;
 
-/// Makes the acts of script k in the process of pid k, in order, each process in a thread of its own,
-/// and returns the one run that they made. It waits for locks and for the threads.
+/// Makes the acts of script k in the process of pid k, in order, each process in a thread of its
+/// own, and returns the one run that they made. It waits for locks and for the threads.
 ///
 /// `DriveFault` says when it fails.
 pub fn drive<const TOP: u64, const RANKS: u64, R: Threads + Wait + Sync, G: Gate + Sync>(
@@ -39,8 +39,9 @@ pub fn drive<const TOP: u64, const RANKS: u64, R: Threads + Wait + Sync, G: Gate
     drive_on::<TOP, RANKS, R, G>(rt, alloc, pids, scripts, gate, WORKER_STACK)
 }
 
-/// The same, each thread with a stack of so many bytes. An act of a whole node takes up to two kilobytes of it
-/// for each process of the node (`System::act`), and a thread whose stack is too small ends the program.
+/// The same, each thread with a stack of so many bytes. An act of a whole node takes up to two
+/// kilobytes of it for each process of the node (`System::act`), and a thread whose stack is too
+/// small ends the program.
 pub fn drive_on<const TOP: u64, const RANKS: u64, R: Threads + Wait + Sync, G: Gate + Sync>(
     rt: &R,
     alloc: Global,

@@ -56,15 +56,15 @@ pub enum JoinFault {
     SeatDiffers(Pid),
 }
 
-/// Why scripts aren't driven. The faults come in this order: `NotRising`, `Thread`, `Memory`, `Act`,
-/// `Join`; but if memory runs out before the threads start, it is `Memory` at once.
+/// Why scripts aren't driven. The faults come in this order: `NotRising`, `Thread`, `Memory`,
+/// `Act`, `Join`; but if memory runs out before the threads start, it is `Memory` at once.
 #[derive(Clone, Copy, Debug, PartialEq, Eq)]
 pub enum DriveFault {
     /// Memory ran out, in a worker's act or in the join too.
     Memory,
     /// This act of this process's script was refused, and its worker stopped there. The
-    /// least such process. `Stray` stands here also for a `ClockFull` or a `RankFull` that so few acts
-    /// can't lead to.
+    /// least such process. `Stray` stands here also for a `ClockFull` or a `RankFull` that so few
+    /// acts can't lead to.
     Act(Pid, u64, ActFault),
     /// The pieces don't fit, which no call leaves.
     Join(JoinFault),

@@ -13,7 +13,6 @@ pub mod collect;
 pub mod fitting;
 pub mod merge;
 pub mod record;
-pub mod same;
 pub mod seating;
 pub mod settled;
 pub mod whole;
@@ -32,8 +31,8 @@ use std::alloc::{AllocError, Global};
 use std::thread::{Threads, join};
 
 /// The record of what the threads did, exactly if the pieces fit: each entry stands in the log of
-/// each process that its act touches, and each seat's calls are those of its process's log. The acts
-/// are not replayed. That they are a run of the machine follows from what the locks kept.
+/// each process that its act touches, and each seat's calls are those of its process's log. The
+/// acts are not replayed. That they are a run of the machine follows from what the locks kept.
 ///
 /// It fails with `Missing`, else with `SeatDiffers`, else with `Memory`.
 pub fn join_pieces<const TOP: u64, const RANKS: u64>(
@@ -47,15 +46,16 @@ pub fn join_pieces<const TOP: u64, const RANKS: u64>(
     Ok(run_of_logs(alloc, pieces.processes.as_slice())?)
 }
 
-/// The same of pieces that are given away, by several threads. Their seats, which hold each act once
-/// more, are let go before the logs are merged.
+/// The same of pieces that are given away, by several threads. Their seats, which hold each act
+/// once more, are let go before the logs are merged.
 pub(crate) fn join_given<const TOP: u64, const RANKS: u64, R: Threads + Sync>(
     rt: &R,
     alloc: Global,
     pieces: Pieces<TOP, RANKS>,
 ) -> Result<Record, JoinFault>
     ensures ok { IfOk result (IsJoined TOP pieces.entry) }
-    ensures kept { OnOk result (All (λ x. IsKept TOP RANKS x.process x.log) pieces.entry.processes) }
+    ensures kept { OnOk result
+        (All (λ x. IsKept TOP RANKS x.process x.log) pieces.entry.processes) }
     ensures err { IfErr result (IsJoinFault pieces.entry) }
 {
     see_fit(rt, alloc, &pieces)?;

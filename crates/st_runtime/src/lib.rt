@@ -21,6 +21,7 @@ pub use fault::{ActFault, DriveFault, JoinFault, OpenFault, PcbFault};
 pub use join::join_pieces;
 pub use join::record::Record;
 pub use pcb::Pcb;
+pub use pcb::calls::CallLog;
 pub use pcb::entry::Entry;
 pub use pcb::log::Log;
 pub use system::System;

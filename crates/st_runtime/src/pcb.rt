@@ -1,21 +1,22 @@
 //! One process under its lock: what it keeps for tracing, its queue, and the log of the acts that
 //! touched it. The step calls are on processes that are lent; no lock is taken here.
 
-ghost use Rattle.std.specs.Prelude.{◌≡◌, ◌≢◌, ◌+◌, ◌<◌, ◌≤◌, ◌↔◌, true, false, [], ◌∷◌, ◌++◌, option_map, Some};
-ghost use Rattle.std.specs.Prelude.{None, Err, IfOk, OnErr, OnOk, IsOk, IsSome};
-ghost use Rattle.st_core.specs.Pid.{node_eq};
-ghost use Rattle.st_core.specs.Step.{acted, actor, reached, step};
+ghost use Rattle.std.specs.Prelude.{◌≡◌, ◌≢◌, ◌<◌, ◌≤◌, false, true, [], ◌∷◌, Err, IfOk, OnOk};
+ghost use Rattle.std.specs.Prelude.{IsOk};
+ghost use Rattle.st_core.specs.Step.{actor};
 ghost use Rattle.st_mail.specs.Actor.{is_inner, is_send_act};
-ghost use Rattle.st_runtime.specs.Inside.{IsAppended};
+ghost use Rattle.st_runtime.specs.Lent.{IsLentStep, IsNodeEntry, with_node_entry};
 ghost use Rattle.st_runtime.specs.Logs.{zero_process, last_rank};
-ghost use Rattle.st_runtime.specs.Pcb.{IsKept, IsSame, IsStepped, IsBetween, lent_state, is_alone};
-ghost use Rattle.st_runtime.specs.Pcb.{is_wide, greatest_rank};
+ghost use Rattle.st_runtime.specs.Pcb.{IsKept, IsSame, IsBetween, is_alone};
 
 pub mod acts;
+pub mod calls;
 pub mod entry;
 pub mod log;
 pub mod parts;
 pub mod row;
+pub mod same;
+pub mod traced;
 
 use crate::fault::PcbFault;
 use crate::pcb::entry::Entry;
@@ -27,8 +28,8 @@ use st_mail::actor::inner;
 use std::alloc::{AllocError, Global};
 use std::marker::Model;
 
-/// The words of a cache line, 64 bytes. So much stands between a lock and what it keeps, so that threads
-/// that try the lock don't take a line away from the thread that holds it.
+/// The words of a cache line, 64 bytes. So much stands between a lock and what it keeps, so that
+/// threads that try the lock don't take a line away from the thread that holds it.
 const CACHE_LINE: usize = 8;
 
 /// A process control block: one process, with the log that gives its state. `TOP` is the greatest
@@ -92,7 +93,8 @@ impl<const TOP: u64, const RANKS: u64> Pcb<TOP, RANKS> {
         self.pid
     }
 
-    /// The entries of the acts that touched it, in order. Their ranks rise, and they give its state.
+    /// The entries of the acts that touched it, in order. Their ranks rise, and they give its
+    /// state.
     pub fn log(&self) -> &Log
         ensures value { result.now.entries ≡ self.now.log }
         ensures kept { IsKept TOP RANKS self.now.process self.now.log }
@@ -124,18 +126,27 @@ impl<const TOP: u64, const RANKS: u64> Pcb<TOP, RANKS> {
         self.log.reserve()
     }
 
+    /// Lets go of the memory of its queue, if no message waits there.
+    pub(crate) fn release_queue(&mut self, alloc: Global)
+        ensures { self.new ≡ self.old }
+    {
+        if self.queue.len(0) > 0 {
+            return;
+        }
+        if let Ok(empty) = Mailboxes::new(alloc, 1) {
+            self.queue = empty;
+        }
+    }
+
     /// An act that touches this process alone, which is its actor. It fails with the first of
     /// `ClockFull`, `RankFull` and `Memory` that holds.
     pub fn alone(&mut self, act: &Act) -> Result<Reply, PcbFault>
         requires alone { is_alone act.now ≡ true }
         requires me { actor act.now ≡ self.old.process.pid }
-        ensures ok { IfOk result (λ y. IsStepped TOP act.now y (self.old ∷ []) (self.new ∷ [])) }
+        ensures step { IsLentStep TOP RANKS act.now (self.old ∷ []) (self.new ∷ []) result }
         ensures pid { self.new.process.pid ≡ self.old.process.pid }
-        ensures clock { (result ≡ Err PcbFault.ClockFull) ↔ (step TOP (lent_state (self.old ∷ [])) act.now ≡ None) }
-        ensures rank { (result ≡ Err PcbFault.RankFull)
-            ↔ (IsSome (step TOP (lent_state (self.old ∷ [])) act.now) × (greatest_rank (self.old ∷ []) ≡ RANKS)) }
-        ensures memory { 0 < self.old.spare → is_send_act act.now ≡ false → result ≢ Err PcbFault.Memory }
-        ensures err { OnErr result (IsSame self.old self.new) }
+        ensures memory { 0 < self.old.spare → is_send_act act.now ≡ false
+            → result ≢ Err PcbFault.Memory }
     {
         match *act {
             Act::Send(_, _, value) => self.send_to_itself(value),
@@ -154,15 +165,10 @@ impl<const TOP: u64, const RANKS: u64> Pcb<TOP, RANKS> {
     /// `RankFull` and `Memory` that holds.
     pub fn between(from: &mut Self, to: &mut Self, act: &Act) -> Result<Reply, PcbFault>
         requires { IsBetween act.now from.old.process.pid to.old.process.pid }
-        ensures ok { IfOk result (λ y. IsStepped TOP act.now y (from.old ∷ to.old ∷ []) (from.new ∷ to.new ∷ [])) }
+        ensures step { IsLentStep TOP RANKS act.now
+            (from.old ∷ to.old ∷ []) (from.new ∷ to.new ∷ []) result }
         ensures from_pid { from.new.process.pid ≡ from.old.process.pid }
         ensures to_pid { to.new.process.pid ≡ to.old.process.pid }
-        ensures clock { (result ≡ Err PcbFault.ClockFull)
-            ↔ (step TOP (lent_state (from.old ∷ to.old ∷ [])) act.now ≡ None) }
-        ensures rank { (result ≡ Err PcbFault.RankFull)
-            ↔ (IsSome (step TOP (lent_state (from.old ∷ to.old ∷ [])) act.now)
-            × (greatest_rank (from.old ∷ to.old ∷ []) ≡ RANKS)) }
-        ensures err { OnErr result (IsSame from.old from.new × IsSame to.old to.new) }
     {
         let Act::Send(_, _, value) = *act else {
             unreachable!()
@@ -174,19 +180,8 @@ impl<const TOP: u64, const RANKS: u64> Pcb<TOP, RANKS> {
     /// made under the locks of all of them.
     pub fn commit(&mut self, entry: &Entry)
         requires room { 0 < self.old.spare }
-        requires wide { is_wide entry.now.act ≡ true }
-        requires node { node_eq self.old.process.pid (actor entry.now.act) ≡ true }
-        requires above { last_rank 0 self.old.log < entry.now.rank }
-        requires within { entry.now.rank ≤ RANKS }
-        requires reply { actor entry.now.act ≡ self.old.process.pid
-            → option_map (λ done. done.reply) (acted TOP self.old.process entry.now.act)
-            ≡ Some entry.now.reply }
-        requires report { entry.now.report ≡ None }
-        requires carried { entry.now.carried ≡ None }
-        ensures process { self.new.process ≡ reached entry.now.act None self.old.process }
-        ensures pid { self.new.process.pid ≡ self.old.process.pid }
-        ensures log { self.new.log ≡ self.old.log ++ entry.now ∷ [] }
-        ensures spare { self.old.spare ≡ self.new.spare + 1 }
+        requires entry { IsNodeEntry TOP RANKS self.old entry.now }
+        ensures { self.new ≡ with_node_entry entry.now self.old }
     {
         reach(self.pid, &mut self.local, &mut self.queue, &entry.act);
         self.log.push_reserved(entry);
@@ -196,13 +191,9 @@ impl<const TOP: u64, const RANKS: u64> Pcb<TOP, RANKS> {
     fn inner(&mut self, act: &Act) -> Result<Reply, PcbFault>
         requires inner { is_inner act.now ≡ true }
         requires me { actor act.now ≡ self.old.process.pid }
-        ensures ok { IfOk result (λ y. IsAppended TOP act.now y self.old self.new) }
+        ensures step { IsLentStep TOP RANKS act.now (self.old ∷ []) (self.new ∷ []) result }
         ensures pid { self.new.process.pid ≡ self.old.process.pid }
-        ensures clock { (result ≡ Err PcbFault.ClockFull) ↔ (acted TOP self.old.process act.now ≡ None) }
-        ensures rank { (result ≡ Err PcbFault.RankFull)
-            ↔ (IsSome (acted TOP self.old.process act.now) × (last_rank 0 self.old.log ≡ RANKS)) }
         ensures memory { 0 < self.old.spare → result ≢ Err PcbFault.Memory }
-        ensures err { OnErr result (IsSame self.old self.new) }
     {
         let mut local = self.local;
         let Ok(told) = inner(self.pid, &mut local, act) else {
@@ -222,13 +213,10 @@ impl<const TOP: u64, const RANKS: u64> Pcb<TOP, RANKS> {
 
     /// A receive.
     fn receive(&mut self, want: &Want) -> Result<Reply, PcbFault>
-        ensures ok { IfOk result (λ reply.
-            IsAppended TOP (Act.Receive self.old.process.pid want.now) reply self.old self.new) }
+        ensures step { IsLentStep TOP RANKS (Act.Receive self.old.process.pid want.now)
+            (self.old ∷ []) (self.new ∷ []) result }
         ensures pid { self.new.process.pid ≡ self.old.process.pid }
-        ensures clock { result ≢ Err PcbFault.ClockFull }
-        ensures rank { (result ≡ Err PcbFault.RankFull) ↔ (last_rank 0 self.old.log ≡ RANKS) }
         ensures memory { 0 < self.old.spare → result ≢ Err PcbFault.Memory }
-        ensures err { OnErr result (IsSame self.old self.new) }
     {
         let rank = room(&mut self.log, RANKS)?;
         let told = receive_one(self.pid, &mut self.local, &mut self.queue, want);
@@ -244,15 +232,9 @@ impl<const TOP: u64, const RANKS: u64> Pcb<TOP, RANKS> {
 
     /// A send to itself.
     fn send_to_itself(&mut self, value: u64) -> Result<Reply, PcbFault>
-        ensures ok { IfOk result (λ y.
-            IsAppended TOP (Act.Send self.old.process.pid self.old.process.pid value) y self.old self.new) }
+        ensures step { let me = self.old.process.pid in
+            IsLentStep TOP RANKS (Act.Send me me value) (self.old ∷ []) (self.new ∷ []) result }
         ensures pid { self.new.process.pid ≡ self.old.process.pid }
-        ensures clock { (result ≡ Err PcbFault.ClockFull)
-            ↔ (acted TOP self.old.process (Act.Send self.old.process.pid self.old.process.pid value) ≡ None) }
-        ensures rank { (result ≡ Err PcbFault.RankFull)
-            ↔ (IsSome (acted TOP self.old.process (Act.Send self.old.process.pid self.old.process.pid value))
-            × (last_rank 0 self.old.log ≡ RANKS)) }
-        ensures err { OnErr result (IsSame self.old self.new) }
     {
         let me = self.pid;
         let mut local = self.local;
@@ -283,16 +265,11 @@ impl<const TOP: u64, const RANKS: u64> Pcb<TOP, RANKS> {
     /// A send to another.
     fn send(from: &mut Self, to: &mut Self, value: u64) -> Result<Reply, PcbFault>
         requires { from.old.process.pid ≢ to.old.process.pid }
-        ensures ok { IfOk result (λ y. IsStepped TOP (Act.Send from.old.process.pid to.old.process.pid value) y
-            (from.old ∷ to.old ∷ []) (from.new ∷ to.new ∷ [])) }
+        ensures step { IsLentStep TOP RANKS
+            (Act.Send from.old.process.pid to.old.process.pid value)
+            (from.old ∷ to.old ∷ []) (from.new ∷ to.new ∷ []) result }
         ensures from_pid { from.new.process.pid ≡ from.old.process.pid }
         ensures to_pid { to.new.process.pid ≡ to.old.process.pid }
-        ensures clock { (result ≡ Err PcbFault.ClockFull)
-            ↔ (acted TOP from.old.process (Act.Send from.old.process.pid to.old.process.pid value) ≡ None) }
-        ensures rank { (result ≡ Err PcbFault.RankFull)
-            ↔ (IsSome (acted TOP from.old.process (Act.Send from.old.process.pid to.old.process.pid value))
-            × (greatest_rank (from.old ∷ to.old ∷ []) ≡ RANKS)) }
-        ensures err { OnErr result (IsSame from.old from.new × IsSame to.old to.new) }
     {
         let mut local = from.local;
         let Ok(told) = send(from.pid, &mut local, to.pid, value) else {

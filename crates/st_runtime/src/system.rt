@@ -1,13 +1,13 @@
 //! Processes under their locks, and the acts that threads make of them. Locks are taken in rising
 //! order of their pids, and nothing is known of what a lock holds but what its type keeps.
 
-ghost use Rattle.std.specs.Prelude.{◌≡◌, ◌≢◌, ◌<◌, ◌≤◌, ◌↔◌, ◌⊎◌, false, true, [], ◌∷◌, ◌++◌, length, map, is_some};
-ghost use Rattle.std.specs.Prelude.{◌+◌, drop, slice_get, Some, None, Err, Ok, IfOk, IfErr, IfSome, OnOk};
-ghost use Rattle.std.specs.Prelude.{OnErr, vec_len};
+ghost use Rattle.std.specs.Prelude.{◌≡◌, ◌≢◌, ◌<◌, ◌≤◌, ◌↔◌, ◌⊎◌, false, true, [], ◌∷◌, ◌++◌};
+ghost use Rattle.std.specs.Prelude.{length, map, is_some, ◌+◌, drop, slice_get, Some, None, Err};
+ghost use Rattle.std.specs.Prelude.{Ok, IfOk, IfErr, IfSome, OnOk, OnErr, vec_len};
 ghost use Rattle.st_core.specs.Pid.{IsRising};
 ghost use Rattle.st_core.specs.Step.{actor, receiver};
-ghost use Rattle.st_runtime.specs.Locked.{wide_reply, on_node, AreFor, FindsClockFull, FindsRankFull, HasRank};
-ghost use Rattle.st_runtime.specs.Locked.{IsLockFault};
+ghost use Rattle.st_runtime.specs.Lent.{FindsClockFull, FindsRankFull};
+ghost use Rattle.st_runtime.specs.Locked.{wide_reply, on_node, AreFor, HasRank, IsLockFault};
 ghost use Rattle.st_runtime.specs.declared.fault.PcbFault.{PcbFault};
 ghost use Rattle.st_runtime.specs.Pcb.{is_wide, IsSame, IsStepped};
 ghost use Rattle.st_runtime.specs.Pieces.{pids_in};
@@ -58,8 +58,8 @@ impl<const TOP: u64, const RANKS: u64> Model for System<TOP, RANKS> {
 }
 
 impl<const TOP: u64, const RANKS: u64> System<TOP, RANKS> {
-    /// A system of these processes, each at its start, and a seat for each, in order. `NotRising` comes
-    /// before memory is asked for, then `Memory`.
+    /// A system of these processes, each at its start, and a seat for each, in order. `NotRising`
+    /// comes before memory is asked for, then `Memory`.
     pub fn open(alloc: Global, pids: &[Pid]) -> Result<(System<TOP, RANKS>, Vec<Seat>), OpenFault>
         ensures system { IfOk result (λ r. r.0 ≡ pids.now) }
         ensures seats { IfOk result (λ r. r.1.items ≡ map no_calls pids.now) }
@@ -107,18 +107,18 @@ impl<const TOP: u64, const RANKS: u64> System<TOP, RANKS> {
             return Err((self, seats));
         };
         let System { pids: _, locks } = self;
-        Ok(Pieces::new(take_processes(fresh, locks), seats))
+        Ok(Pieces::new(take_processes(alloc, fresh, locks), seats))
     }
 
-    /// Makes the act under the locks of all processes that it touches, and keeps it in the seat with
-    /// its reply. It waits for the locks.
+    /// Makes the act under the locks of all processes that it touches, and keeps it in the seat
+    /// with its reply. It waits for the locks.
     ///
     /// An act of a whole node takes up to two kilobytes of stack for each process of the node.
     ///
-    /// If several reasons hold, the first of these comes: `NotYours`, `Unknown`, `Stray`, `ClockFull`,
-    /// `RankFull`, `Memory`. But room in the seat, and in the logs for an act of a whole node, is made
-    /// early, so `Memory` can come in place of `Stray`, `ClockFull` and `RankFull`. If it fails, no log
-    /// has changed.
+    /// If several reasons hold, the first of these comes: `NotYours`, `Unknown`, `Stray`,
+    /// `ClockFull`, `RankFull`, `Memory`. But room in the seat, and in the logs for an act of a
+    /// whole node, is made early, so `Memory` can come in place of `Stray`, `ClockFull` and
+    /// `RankFull`. If it fails, no log has changed.
     pub fn act<R: Wait, G: Gate>(
         &self,
         rt: &R,
@@ -140,12 +140,12 @@ impl<const TOP: u64, const RANKS: u64> System<TOP, RANKS> {
         let Some((me, them)) = self.places(act) else {
             return Err(ActFault::Unknown);
         };
-        let Ok(()) = seat.mine.reserve(1) else {
+        let Ok(()) = seat.mine.reserve() else {
             return Err(ActFault::Memory);
         };
         let n = seat.mine.len() as u64;
         let reply = self.act_under_locks(rt, gate, me, them, act, n)?;
-        seat.mine.push_reserved((*act, reply));
+        let _place = seat.mine.push_reserved(act, &reply);
         Ok(reply)
     }
 
@@ -240,8 +240,8 @@ impl<const TOP: u64, const RANKS: u64> System<TOP, RANKS> {
         result
     }
 
-    /// An act under all locks of the actor's node. If there is no room in a log, not all locks come to be
-    /// held, and the gate isn't told.
+    /// An act under all locks of the actor's node. If there is no room in a log, not all locks come
+    /// to be held, and the gate isn't told.
     fn whole_node<R: Wait, G: Gate>(
         &self,
         rt: &R,
@@ -271,8 +271,8 @@ impl<const TOP: u64, const RANKS: u64> System<TOP, RANKS> {
     }
 
     /// Takes the locks of the node from this place on, and writes the entry under each as it gives
-    /// them back. Each call holds one lock while the next ones are taken, so the locks of a node need
-    /// as many frames on the stack.
+    /// them back. Each call holds one lock while the next ones are taken, so the locks of a node
+    /// need as many frames on the stack.
     fn from_place<R: Wait, G: Gate>(
         &self,
         rt: &R,
@@ -289,12 +289,14 @@ impl<const TOP: u64, const RANKS: u64> System<TOP, RANKS> {
         ensures act { IfOk result (λ e. e.act ≡ act.now) }
         ensures bare { IfOk result (λ e. (e.report ≡ None) × (e.carried ≡ None)) }
         ensures above { IfOk result (λ e. (found.last < e.rank) × (e.rank ≤ RANKS)) }
-        ensures rank { IfOk result (λ e. HasRank (on_node found.actor (drop place self.now)) found.last e.rank) }
+        ensures rank { IfOk result
+            (λ e. HasRank (on_node found.actor (drop place self.now)) found.last e.rank) }
         ensures full { result ≡ Err ActFault.RankFull
             → HasRank (on_node found.actor (drop place self.now)) found.last (RANKS + 1) }
         ensures stray { OnOk result (found.stray ≡ false) }
         ensures full_stray { result ≡ Err ActFault.RankFull → found.stray ≡ false }
-        ensures reply { IfOk result (λ e. IfSome found.was (λ was. e.reply ≡ wide_reply act.now was)) }
+        ensures reply { IfOk result
+            (λ e. IfSome found.was (λ was. e.reply ≡ wide_reply act.now was)) }
         ensures known { IsLockFault result }
         ensures clock { result ≢ Err ActFault.ClockFull }
     {
@@ -361,14 +363,16 @@ fn act_between<const TOP: u64, const RANKS: u64>(
 ) -> Result<Reply, ActFault>
     requires wide { is_wide act.now ≡ false }
     requires apart { receiver act.now ≢ actor act.now }
-    ensures ok { IfOk result (λ y. IsStepped TOP act.now y (from.old ∷ to.old ∷ []) (from.new ∷ to.new ∷ [])) }
+    ensures ok { IfOk result (λ y. IsStepped TOP act.now y (from.old ∷ to.old ∷ [])
+        (from.new ∷ to.new ∷ [])) }
     ensures err { OnErr result (IsSame from.old from.new × IsSame to.old to.new) }
     ensures stray { (result ≡ Err ActFault.Stray)
         ↔ ((from.old.process.pid ≢ actor act.now) ⊎ (to.old.process.pid ≢ receiver act.now)) }
     ensures clock { (result ≡ Err ActFault.ClockFull)
         ↔ (AreFor act.now from.old to.old × FindsClockFull TOP act.now (from.old ∷ to.old ∷ [])) }
     ensures rank { (result ≡ Err ActFault.RankFull)
-        ↔ (AreFor act.now from.old to.old × FindsRankFull TOP RANKS act.now (from.old ∷ to.old ∷ [])) }
+        ↔ (AreFor act.now from.old to.old
+        × FindsRankFull TOP RANKS act.now (from.old ∷ to.old ∷ [])) }
     ensures known { IsLockFault result }
 {
     if from.pid() != act.actor() {
@@ -424,8 +428,10 @@ fn fresh_processes<const TOP: u64, const RANKS: u64>(
     Ok(all)
 }
 
-/// Puts each process that is its lock's own in place of the fresh one.
+/// Puts each process that is its lock's own in place of the fresh one. Queues in which no message
+/// waits are let go, since the logs are all that is read of the processes from now on.
 fn take_processes<const TOP: u64, const RANKS: u64>(
+    alloc: Global,
     mut all: Vec<Pcb<TOP, RANKS>>,
     locks: Vec<Mutex<Pcb<TOP, RANKS>>>,
 ) -> Vec<Pcb<TOP, RANKS>>
@@ -433,7 +439,8 @@ fn take_processes<const TOP: u64, const RANKS: u64>(
     ensures { pids_in result.items ≡ pids_in all.entry.items }
 {
     for (i, lock) in locks.into_iter().enumerate() {
-        let process = lock.into_inner();
+        let mut process = lock.into_inner();
+        process.release_queue(alloc);
         if i < all.len() && process.pid() == all[i].pid() {
             all[i] = process;
         }

@@ -61,7 +61,7 @@ fn certificate_acts(alloc: Global) -> Option<Sequence<Act>> {
 
 /// If memory runs out the result is Memory, and the same call succeeds afterwards.
 #[test]
-fn a_refused_growth_is_memory(rt: HostRuntime) {
+fn an_audit_without_memory_may_be_asked_again(rt: HostRuntime) {
     let alloc = rt.alloc();
     let streams = streams_at_last(&rt, alloc, CERTIFICATE);
     let acts = match certificate_acts(alloc) {

@@ -184,7 +184,7 @@ fn a_receive_is_caused_by_its_send(rt: HostRuntime) {
 
 /// If memory runs out nothing is told, and the same calls tell it right afterwards.
 #[test]
-fn a_refused_growth_is_answered(rt: HostRuntime) {
+fn a_chain_without_memory_may_be_asked_again(rt: HostRuntime) {
     let alloc = rt.alloc();
     let streams = streams_at_last(&rt, alloc, ONE_MESSAGE);
     let told = match chain_answers(alloc, &streams, p31(), 17, 0) {

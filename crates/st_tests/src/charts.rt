@@ -1,5 +1,5 @@
-//! Worked reports and charts, byte for byte, what a sink that fails has by then, and what is left if
-//! memory runs out.
+//! Worked reports and charts, byte for byte, what a sink that fails has by then, and what is left
+//! if memory runs out.
 
 mod refused;
 mod reports;

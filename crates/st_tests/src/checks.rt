@@ -1,5 +1,5 @@
-//! Worked certificates and replays, each with the result that the rules of the machine give by hand,
-//! and what is left if memory runs out.
+//! Worked certificates and replays, each with the result that the rules of the machine give by
+//! hand, and what is left if memory runs out.
 
 use crate::collected::{p30, p31, p32, same, streams, streams_at_last};
 use st_check::{CheckFault, ReplayFault, Replayed, Verdict, check, replay};
@@ -190,8 +190,8 @@ fn run_of(alloc: Global, pids: &[Pid], acts: &[Act]) -> Result<(Streams, Sequenc
     }
 }
 
-/// Four prints, and a send of one process, then one of another with a lower serial; a third receives
-/// both and sends on.
+/// Four prints, and a send of one process, then one of another with a lower serial; a third
+/// receives both and sends on.
 fn low_serial() -> [Act; 14] {
     [
         Act::Tracer(p30(), true),
@@ -277,8 +277,8 @@ fn send_one() -> [Act; 5] {
     ]
 }
 
-// If memory runs out the result is Memory, and the same call succeeds afterwards. That is seen if these
-// two tests run with an allocation that fails.
+// If memory runs out the result is Memory, and the same call succeeds afterwards. That is seen if
+// these two tests run with an allocation that fails.
 #[test]
 fn a_check_without_memory_may_be_asked_again(rt: HostRuntime) {
     let alloc = rt.alloc();

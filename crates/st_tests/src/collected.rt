@@ -7,8 +7,8 @@ use std::fmt::Debug;
 use std::process::Abort;
 use std::test::Fail;
 
-/// Asserts that a value is the wanted one. A test that calls this is proved in a fourth of the time that it takes if it
-/// writes `assert_eq!` itself.
+/// Asserts that a value is the wanted one. A test that calls this is proved in a fourth of the time
+/// that it takes if it writes `assert_eq!` itself.
 pub(crate) fn same<T: PartialEq + Debug>(rt: &impl Abort, found: &T, wanted: &T) {
     assert_eq!(rt; found, wanted);
 }
@@ -43,8 +43,8 @@ fn streams_of(alloc: Global, text: &str) -> Option<Streams> {
     Some(bundle.streams)
 }
 
-/// The streams of a text. If memory runs out it is asked for again, so that a test in which that happens once gets to
-/// what it tests.
+/// The streams of a text. If memory runs out it is asked for again, so that a test in which that
+/// happens once gets to what it tests.
 pub(crate) fn streams_at_last(rt: &impl Abort, alloc: Global, text: &str) -> Streams {
     match streams_of(alloc, text) {
         Some(streams) => streams,

@@ -145,17 +145,38 @@ fn a_count_above_the_clocks_is_too_high(rt: HostRuntime) -> Result<(), Fail> {
     Ok(())
 }
 
-/// If memory runs out the call says so, and the same call succeeds afterwards.
-#[test]
-fn after_memory_ran_out_the_same_call_completes(rt: HostRuntime) {
-    let alloc = rt.alloc();
-    let streams = streams_at_last(&rt, alloc, NEEDING);
-    let answer = match complete::<MOST>(alloc, &streams) {
-        Err(CompleteFault::Memory) => complete::<MOST>(alloc, &streams),
+/// The completion of these streams, at the second try if memory runs out.
+fn completion_at_last(rt: &impl Abort, alloc: Global, streams: &Streams) -> Completion {
+    let answer = match complete::<MOST>(alloc, streams) {
+        Err(CompleteFault::Memory) => complete::<MOST>(alloc, streams),
         answer => answer,
     };
     match answer {
-        Ok(Answer::Whole(completion)) => same(&rt, &completion.added(), &3),
-        _ => panic!(rt; "another answer"),
+        Ok(Answer::Whole(completion)) => completion,
+        _ => panic!(rt; "no completion at the second try"),
     }
+}
+
+/// If memory runs out the call says so, and the same call succeeds afterwards.
+#[test]
+fn a_completion_without_memory_may_be_asked_again(rt: HostRuntime) {
+    let alloc = rt.alloc();
+    let streams = streams_at_last(&rt, alloc, NEEDING);
+    let completion = completion_at_last(&rt, alloc, &streams);
+    same(&rt, &completion.added(), &3);
+}
+
+/// The same of its acts.
+#[test]
+fn a_certificate_without_memory_may_be_asked_again(rt: HostRuntime) {
+    let alloc = rt.alloc();
+    let streams = streams_at_last(&rt, alloc, NEEDING);
+    let completion = completion_at_last(&rt, alloc, &streams);
+    let found = match certificate::<MOST>(&rt, alloc, &streams, &completion, 100) {
+        Err(CertificateFault::Memory) => {
+            certificate::<MOST>(&rt, alloc, &streams, &completion, 100)
+        }
+        found => found,
+    };
+    assert!(rt; matches!(found, Ok(_)));
 }

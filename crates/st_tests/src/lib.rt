@@ -1,6 +1,7 @@
 //! Tests of all crates that stand below the programs.
 //!
-//! They stand in a crate of their own: a crate that has tests is proved twice, with and without them.
+//! They stand in a crate of their own: a crate that has tests is proved twice, with and without
+//! them.
 //!
 //! | Module | Tests |
 //! |---|---|
@@ -17,7 +18,9 @@
 //! | `checks` | `st_check`: checks and replays |
 //! | `plans` | `st_plan` |
 //! | `audits` | `st_audit` |
+//! | `needs` | `st_needs`, `st_hidden`: completions without the search, reasons |
 //! | `completes` | `st_complete` |
+//! | `acts` | `st_complete`: how many acts completions take |
 //! | `charts` | `st_chart`: charts and reports |
 //! | `runtime` | `st_runtime`: its calls; refusals, and if memory runs out |
 //! | `runs` | `st_runtime`: threads that meet, and records of driven scripts |
@@ -28,6 +31,8 @@
 //! | `collected` | none: texts of streams, and pids, that the others share |
 #![tactic(auto)]
 
+#[cfg(test)]
+mod acts;
 #[cfg(test)]
 mod audits;
 #[cfg(test)]
@@ -54,6 +59,8 @@ mod long_lists;
 mod machine;
 #[cfg(test)]
 mod mailboxes;
+#[cfg(test)]
+mod needs;
 #[cfg(test)]
 mod orders;
 #[cfg(test)]

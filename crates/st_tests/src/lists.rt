@@ -1,5 +1,6 @@
-//! What no clause can show: that the calls succeed, and that the contracts mean what one expects, by
-//! worked runs. Expected values come from the rules of a list, worked by hand or by a vector beside it.
+//! What no clause can show: that the calls succeed, and that the contracts mean what one expects,
+//! by worked runs. Expected values come from the rules of a list, worked by hand or by a vector
+//! beside it.
 
 ghost use Rattle.std.specs.Prelude.{◌≡◌, ◌<◌, length, IfOk, map};
 ghost use Rattle.st_arena.specs.Arena.{list_at};
@@ -227,7 +228,7 @@ fn assert_counts_up<R: Abort>(rt: &R, lists: &Lists<u64>, list: usize, count: u6
 // No machine has this much room. What a push that fails leaves is seen if this test runs with an
 // allocation that fails.
 #[test]
-fn a_refused_growth_leaves_all_lists(rt: HostRuntime) -> Result<(), Fail> {
+fn a_push_without_memory_leaves_all_lists(rt: HostRuntime) -> Result<(), Fail> {
     let mut lists = two_at_last(rt.alloc())?;
     assert!(rt; lists.reserve(usize::MAX).is_err());
     for item in 0..100 {

@@ -1,5 +1,5 @@
-//! Long lists, whose nodes a ladder finds: pushes and takes at random places agree with a vector, and none of them
-//! takes as many steps as the list has items.
+//! Long lists, whose nodes a ladder finds: pushes and takes at random places agree with a vector,
+//! and none of them takes as many steps as the list has items.
 
 ghost use Rattle.std.specs.Prelude.{◌≡◌, ◌<◌, length, IfOk};
 
@@ -110,8 +110,8 @@ fn takes_from_a_hundred_thousand_items_agree_with_a_vector(rt: HostRuntime) -> R
     Ok(())
 }
 
-// The list empties and fills several times, and so gets ladders that are full, that are nearly empty,
-// and none.
+// The list empties and fills several times, and so gets ladders that are full, that are nearly
+// empty, and none.
 #[test]
 fn a_list_that_shrinks_and_grows_agrees_with_a_vector(rt: HostRuntime) -> Result<(), Fail> {
     let mut lists = one_long(&rt, rt.alloc(), 3000)?;

@@ -1,5 +1,5 @@
-//! Tests of what no clause says: worked values, and that each call succeeds with ample memory. A call
-//! that fails fails its test; what comes back if memory runs out is `machine/refused`'s.
+//! Tests of what no clause says: worked values, and that each call succeeds with ample memory. A
+//! call that fails fails its test; what comes back if memory runs out is `machine/refused`'s.
 
 mod devices;
 mod refused;

@@ -1,5 +1,5 @@
-//! Worked values: mails between processes 30 and 31 over two mailboxes. Each look is a call of a small
-//! function, so that the tests themselves are short to prove.
+//! Worked values: mails between processes 30 and 31 over two mailboxes. Each look is a call of a
+//! small function, so that the tests themselves are short to prove.
 
 ghost use Rattle.std.specs.Prelude.{◌≡◌, ◌<◌, ◌+◌, length, IfOk};
 
@@ -206,7 +206,8 @@ fn a_wipe_is_of_what_lies_there_then(rt: HostRuntime) -> Result<(), Fail> {
     Ok(())
 }
 
-/// Takes a message of this value from mailbox 0, and asserts the own count of its token, if it has one.
+/// Takes a message of this value from mailbox 0, and asserts the own count of its token, if it has
+/// one.
 fn assert_taken(rt: &impl Abort, mail: &mut Mailboxes, value: u64, this: Option<u64>)
     requires { 0 < length mail.old.boxes }
     ensures { length mail.new.boxes ≡ length mail.old.boxes }
@@ -250,8 +251,8 @@ fn two_at_last(alloc: Global) -> Result<Mailboxes, AllocError>
     }
 }
 
-/// Puts a message into mailbox 1, which has so many. If memory runs out, nothing has changed, and the
-/// second try succeeds.
+/// Puts a message into mailbox 1, which has so many. If memory runs out, nothing has changed, and
+/// the second try succeeds.
 fn put_at_last(rt: &impl Abort, mail: &mut Mailboxes, count: u64)
     requires { 1 < length mail.old.boxes }
     ensures { length mail.new.boxes ≡ length mail.old.boxes }
@@ -277,7 +278,7 @@ fn assert_values(rt: &impl Abort, mail: &Mailboxes, count: u64)
 // No machine has this much room. What a put that fails leaves is seen if this test runs with an
 // allocation that fails.
 #[test]
-fn a_refused_growth_leaves_all_mailboxes(rt: HostRuntime) -> Result<(), Fail> {
+fn a_put_without_memory_leaves_all_mailboxes(rt: HostRuntime) -> Result<(), Fail> {
     let mut mail = two_at_last(rt.alloc())?;
     assert!(rt; mail.reserve(usize::MAX).is_err());
     for count in 0..20 {

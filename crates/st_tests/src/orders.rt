@@ -55,7 +55,7 @@ fn hidden_sends_stand_before_their_receives(rt: HostRuntime) -> Result<(), Fail>
 
 /// If memory runs out the call says so, and the same calls succeed afterwards.
 #[test]
-fn a_refused_growth_is_answered(rt: HostRuntime) {
+fn an_order_without_memory_may_be_asked_again(rt: HostRuntime) {
     let alloc = rt.alloc();
     let streams = streams_at_last(&rt, alloc, CERTIFICATE);
     if assert_certificate(&rt, alloc, &streams).is_err() {
@@ -120,8 +120,8 @@ fn an_item_of_no_place_has_no_label(rt: HostRuntime) -> Result<(), Fail> {
     Ok(())
 }
 
-// A large case: in each process every fourth event is a send to the next process, and what follows it a
-// receive from the process before; half of these sends aren't reported.
+// A large case: in each process every fourth event is a send to the next process, and what follows
+// it a receive from the process before; half of these sends aren't reported.
 const PROCESSES: u16 = 50;
 
 const EVENTS: u32 = 200;

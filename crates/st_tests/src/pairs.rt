@@ -60,7 +60,7 @@ fn a_send_and_its_receive_are_paired(rt: HostRuntime) {
 
 /// If memory runs out the result is Memory, and the same call succeeds afterwards.
 #[test]
-fn a_refused_growth_is_memory(rt: HostRuntime) {
+fn a_pairing_without_memory_may_be_asked_again(rt: HostRuntime) {
     let alloc = rt.alloc();
     let streams = streams_at_last(&rt, alloc, ONE_MESSAGE);
     match pair(alloc, &streams) {

@@ -81,7 +81,7 @@ fn nothing_is_planned_for_a_process_that_stands_ready(rt: HostRuntime) -> Result
 
 /// If memory runs out the call says so, and the same call succeeds afterwards.
 #[test]
-fn a_refused_growth_is_answered(rt: HostRuntime) -> Result<(), Fail> {
+fn a_plan_without_memory_may_be_asked_again(rt: HostRuntime) -> Result<(), Fail> {
     let alloc = rt.alloc();
     let plan = match plan_of(alloc, &WITHOUT_TOKEN, 1, 6) {
         Ok(plan) => plan,

@@ -1,5 +1,5 @@
-//! What a read returns if memory runs out, and that the same read succeeds afterwards. That is seen if
-//! `rt try --test --fail-alloc N` fails the N-th allocation.
+//! What a read returns if memory runs out, and that the same read succeeds afterwards. That is seen
+//! if `rt try --test --fail-alloc N` fails the N-th allocation.
 
 use crate::collected::{same, sink_at_last};
 use crate::text::CERTIFICATE;
@@ -22,7 +22,7 @@ fn read_whole(alloc: Global) -> Result<Bundle, ReadFault> {
 }
 
 #[test]
-fn a_refused_read_is_right_afterwards(rt: HostRuntime) {
+fn a_read_without_memory_may_be_asked_again(rt: HostRuntime) {
     let alloc = rt.alloc();
     let sink = sink_at_last(&rt, alloc, 1000);
     let answer = match read_whole(alloc) {

@@ -1,5 +1,6 @@
-//! What threads did, seen from outside: the record of scripts that busy one another is compared with the
-//! scripts, with the order of the ranks, with what the machine replies and reports, and with `check`.
+//! What threads did, seen from outside: the record of scripts that busy one another is compared
+//! with the scripts, with the order of the ranks, with what the machine replies and reports, and
+//! with `check`.
 
 mod meetings;
 mod ranks;
@@ -74,7 +75,8 @@ fn assert_same_streams<R: Abort>(rt: &R, pids: &[Pid], told: &Streams, wanted: &
     }
 }
 
-/// Asserts that the record's acts have a run with its replies and streams, and that `check` says so.
+/// Asserts that the record's acts have a run with its replies and streams, and that `check` says
+/// so.
 fn assert_one_run<R: Abort>(
     rt: &R,
     alloc: Global,

@@ -1,5 +1,6 @@
-//! Calls of `st_runtime`: refusals, and what is left if memory runs out. Each call is made once more if memory ran
-//! out: in a run of which one request for memory fails, the second result is the right one.
+//! Calls of `st_runtime`: refusals, and what is left if memory runs out. Each call is made once
+//! more if memory ran out: in a run of which one request for memory fails, the second result is the
+//! right one.
 
 ghost use Rattle.std.specs.Prelude.{◌≡◌, [], IfOk};
 

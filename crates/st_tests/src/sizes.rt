@@ -1,6 +1,6 @@
-//! Each call that can run out of memory, with 100,000 of what it takes. No clause can say that memory is left, so the
-//! prover accepts a body that gives up at some size; these tests don't. `text::limits` and `checks` have the reader,
-//! the check and the replay.
+//! Each call that can run out of memory, with 100,000 of what it takes. No clause can say that
+//! memory is left, so the prover accepts a body that gives up at some size; these tests don't.
+//! `text::limits` and `checks` have the reader, the check and the replay.
 
 ghost use Rattle.std.specs.Prelude.{◌≡◌, ◌<◌, length, IfOk};
 

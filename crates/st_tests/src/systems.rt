@@ -1,5 +1,6 @@
-//! Systems of 100,000 processes, and of as many acts of each kind of call, by one thread. No clause says that these
-//! calls have enough memory, so the prover accepts a body that gives up at some size; these tests don't.
+//! Systems of 100,000 processes, and of as many acts of each kind of call, by one thread. No clause
+//! says that these calls have enough memory, so the prover accepts a body that gives up at some
+//! size; these tests don't.
 
 use crate::collected::{p30, p31, same};
 use st_core::{Act, Pid, Reply, Want};

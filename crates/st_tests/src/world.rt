@@ -1,5 +1,5 @@
-//! Worked runs, act by act. Each step and each look is a call of a small function, so that the tests
-//! themselves are short to prove.
+//! Worked runs, act by act. Each step and each look is a call of a small function, so that the
+//! tests themselves are short to prove.
 
 mod random;
 mod slow;
@@ -321,8 +321,8 @@ fn two_at_last(rt: &impl Abort, alloc: Global) -> Result<World<9>, Fail> {
     Ok(world)
 }
 
-/// A send by which the clock of 30 grows from `clock`. If memory runs out nothing has changed, and the
-/// second try succeeds.
+/// A send by which the clock of 30 grows from `clock`. If memory runs out nothing has changed, and
+/// the second try succeeds.
 fn send_at_last(rt: &impl Abort, world: &mut World<9>, clock: u64) {
     let act = Act::Send(p30(), p31(), 7);
     let mut told = world.step(&act);
@@ -340,7 +340,7 @@ fn send_at_last(rt: &impl Abort, world: &mut World<9>, clock: u64) {
 
 // What is left if memory runs out is seen if this test runs with an allocation that fails.
 #[test]
-fn a_refused_growth_leaves_the_world(rt: HostRuntime) -> Result<(), Fail> {
+fn a_step_without_memory_leaves_the_world(rt: HostRuntime) -> Result<(), Fail> {
     let mut world = two_at_last(&rt, rt.alloc())?;
     for clock in 0..9 {
         send_at_last(&rt, &mut world, clock);

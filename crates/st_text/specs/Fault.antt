@@ -1,8 +1,9 @@
 -- The refusal of bytes that are no text of a bundle, told from all the bytes and their lines.
--- In order: too many bytes; the first faulty line; bytes behind the last newline, or none at all; a needless header 2;
--- the first line that names an unlisted pid.
-use Rattle.std.specs.Prelude.{ℕ, ◌+◌, ◌-◌, Bool, true, false, not, ◌&&◌, ◌||◌, List, [], ◌∷◌, ◌++◌, length, map}
-use Rattle.std.specs.Prelude.{Option, Some, None, nat_lt, nat_le, ◌==◌, if◌then◌else◌, option_to_list}
+-- In order: too many bytes; the first faulty line; bytes behind the last newline, or none at all; a
+-- needless header 2; the first line that names an unlisted pid.
+use Rattle.std.specs.Prelude.{ℕ, ◌+◌, ◌-◌, Bool, true, false, not, ◌&&◌, ◌||◌, List, [], ◌∷◌, ◌++◌}
+use Rattle.std.specs.Prelude.{length, map, Option, Some, None, nat_lt, nat_le, ◌==◌, if◌then◌else◌}
+use Rattle.std.specs.Prelude.{option_to_list}
 use Rattle.std.specs.List.{flat_map, count_by, list_any, list_all, slice_get}
 use Rattle.std.specs.Ordering.{is_lt}
 use Rattle.st_core.specs.declared.types.Pid.{Pid}
@@ -27,7 +28,8 @@ onto_first b (l ∷ ls) tail = ((b ∷ l) ∷ ls, tail)
 
 abbrev pub cut : List ℕ → List (List ℕ) × List ℕ
 cut [] = ([], [])
-cut (b ∷ bytes) = if b == 10 then ([] ∷ (cut bytes).0, (cut bytes).1) else onto_first b (cut bytes).0 (cut bytes).1
+cut (b ∷ bytes) = if b == 10 then ([] ∷ (cut bytes).0, (cut bytes).1)
+    else onto_first b (cut bytes).0 (cut bytes).1
 
 -- what each line says, if it says anything
 abbrev pub sayings : List ℕ → List (Option Line)
@@ -88,7 +90,8 @@ is_header l = false
 abbrev pub may_stand : List Line → Line → Bool
 may_stand [] l = is_header l
 may_stand (first ∷ ls) l =
-    may_follow (has_acts (first ∷ ls)) (last_of (pids (first ∷ ls))) l && (is_wide_header first || not (is_remote l))
+    may_follow (has_acts (first ∷ ls)) (last_of (pids (first ∷ ls))) l
+    && (is_wide_header first || not (is_remote l))
 
 -- a process whose pid isn't greater than the last one
 abbrev pub is_out_of_order : Option Pid → Line → Bool
@@ -142,11 +145,13 @@ said (Some l ∷ more) = l ∷ said more
 
 -- bytes behind the last newline, or no bytes at all
 abbrev pub truncated : List ℕ → Option ReadFault
-truncated bytes = if length (cut bytes).1 == 0 && not (length (cut bytes).0 == 0) then None else Some faults.Truncated
+truncated bytes = if length (cut bytes).1 == 0
+    && not (length (cut bytes).0 == 0) then None else Some faults.Truncated
 
 -- header 2 though no line names a pid of another node
 abbrev pub needless : List Line → Option ReadFault
-needless ls = if list_any is_wide_header ls && not (list_any is_remote ls) then Some (faults.Line 1) else None
+needless ls =
+    if list_any is_wide_header ls && not (list_any is_remote ls) then Some (faults.Line 1) else None
 
 -- the pids that have to be listed: an event's ends, an actor, a send's receiver
 abbrev pub must_be_listed : Line → List Pid
@@ -160,7 +165,8 @@ is_unknown ps l = not (list_all (is_among ps) (must_be_listed l))
 -- the first line, counted from n, that names an unlisted pid
 unfoldable pub unknown_from : List Pid → ℕ → List Line → Option ReadFault
 unknown_from ps n [] = None
-unknown_from ps n (l ∷ ls) = if is_unknown ps l then Some (faults.Unknown n) else unknown_from ps (n + 1) ls
+unknown_from ps n (l ∷ ls) =
+    if is_unknown ps l then Some (faults.Unknown n) else unknown_from ps (n + 1) ls
 
 -- the fault of lines that are each good: a needless header, else the first unlisted pid
 abbrev pub closing_fault : List Line → Option ReadFault

@@ -1,5 +1,6 @@
 -- What a feed knows of the bytes that it was fed, however they were cut into pieces.
-use Rattle.std.specs.Prelude.{◌≡◌, ℕ, ◌<◌, ◌≤◌, Bool, true, false, List, length, Option, Some, None, Result, Ok, Err}
+use Rattle.std.specs.Prelude.{◌≡◌, ℕ, ◌<◌, ◌≤◌, Bool, true, false, List, length, Option, Some, None}
+use Rattle.std.specs.Prelude.{Result, Ok, Err}
 use Rattle.st_text.specs.declared.fault.ReadFault.{ReadFault}
 use Rattle.st_text.specs.declared.fault.ReadFault.TheVariants as faults
 use Rattle.st_text.specs.declared.cutter.Cutter.{Cutter}
@@ -18,7 +19,8 @@ abbrev pub fed_refusal : Feed → Option ReadFault
 fed_refusal f = refusal_by f.large f.cutter.out
 
 -- all bytes are counted, and their lines taken
-pub record AreBytesCounted (limits : Limits) (bytes : List ℕ) (count : ℕ) (cutter : Cutter) : Type 0 where
+pub record AreBytesCounted (limits : Limits) (bytes : List ℕ) (count : ℕ)
+    (cutter : Cutter) : Type 0 where
   pub count_is : count ≡ length bytes
   pub small : length bytes ≤ limits.bytes
   pub holds : HasTaken limits bytes cutter

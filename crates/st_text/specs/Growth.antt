@@ -1,6 +1,7 @@
--- Where the reading of a piece has to keep something, so that memory may run out: a whole line that a bundle holds, or
--- bytes of a line that the piece doesn't hold whole.
-use Rattle.std.specs.Prelude.{◌≡◌, ℕ, ◌<◌, Bool, true, false, List, [], ◌∷◌, ◌++◌, length, map, Some, None}
+-- Where the reading of a piece has to keep something, so that memory may run out: a whole line that
+-- a bundle holds, or bytes of a line that the piece doesn't hold whole.
+use Rattle.std.specs.Prelude.{◌≡◌, ℕ, ◌<◌, Bool, true, false, List, [], ◌∷◌, ◌++◌, length, map}
+use Rattle.std.specs.Prelude.{Some, None}
 use Rattle.st_text.specs.declared.line.Line.{Line}
 use Rattle.st_text.specs.declared.line.Line.TheVariants as lines
 use Rattle.st_text.specs.declared.limits.Limits.{Limits}
@@ -27,8 +28,8 @@ pub record EndsWithin (limits : Limits) (bytes : List ℕ) : Type 0 where
   pub good : first_fault limits [] (sayings bytes) ≡ None
   pub some : 0 < length (cut bytes).1
 
--- Behind these bytes, the piece has something to keep: a line that ends in it, the bytes that it adds to an unfinished
--- line, or those of its own unfinished line.
+-- Behind these bytes, the piece has something to keep: a line that ends in it, the bytes that it
+-- adds to an unfinished line, or those of its own unfinished line.
 pub data Grows (limits : Limits) (bytes piece : List ℕ) : Type 0 where
   KeepsLine : (front back : List ℕ) → piece ≡ front ++ back → EndsKept limits (bytes ++ front)
       → Grows limits bytes piece

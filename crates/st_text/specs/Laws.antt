@@ -1,6 +1,6 @@
 -- Laws of the text form, each the contract of a function of `laws`.
-use Rattle.std.specs.Prelude.{◌≡◌, ℕ, ◌+◌, true, false, List, [], ◌∷◌, ◌++◌, length, map, Option, Some, None}
-use Rattle.std.specs.Prelude.{Result, Ok, Err}
+use Rattle.std.specs.Prelude.{◌≡◌, ℕ, ◌+◌, true, false, List, [], ◌∷◌, ◌++◌, length, map, Option}
+use Rattle.std.specs.Prelude.{Some, None, Result, Ok, Err}
 use Rattle.std.specs.List.{list_any}
 use Rattle.st_core.specs.declared.types.Pid.{Pid}
 use Rattle.st_text.specs.declared.line.Line.{Line}
@@ -49,7 +49,8 @@ pub record FailsFirst (limits : Limits) (rs : List (Option Line)) (f : ReadFault
 
 -- the fault of lines is that of the first faulty one
 abbrev pub FaultIsFirst : Type 0
-FaultIsFirst = (limits : Limits) (rs : List (Option Line)) (f : ReadFault) → first_fault limits [] rs ≡ Some f
+FaultIsFirst = (limits : Limits) (rs : List (Option Line)) (f : ReadFault)
+    → first_fault limits [] rs ≡ Some f
     → FailsFirst limits rs f
 
 -- the first line that names an unlisted pid, of these from number n on
@@ -75,5 +76,6 @@ IsReadBack c (Err f) = ⊥
 
 -- of the text of a bundle within any limits that bundle is answered
 abbrev pub WrittenIsRead : Type 0
-WrittenIsRead = (limits : Limits) (c : Contents) (r : Result Bundle ReadFault) → IsBundle c → IsWithinLimits limits c
+WrittenIsRead = (limits : Limits) (c : Contents) (r : Result Bundle ReadFault) → IsBundle c
+    → IsWithinLimits limits c
     → Answers limits (spelling c) r → IsReadBack c r

@@ -1,4 +1,5 @@
--- How much the reader takes (own profile). The limits on counts are the reader's alone: a longer bundle has a text too.
+-- How much the reader takes (own profile). The limits on counts are the reader's alone: a longer
+-- bundle has a text too.
 use Rattle.std.specs.Prelude.{ℕ}
 use Rattle.st_text.specs.declared.limits.Limits.{Limits}
 
@@ -16,8 +17,14 @@ most_acts = 4000000
 
 -- those of `read`
 abbrev pub standard : Limits
-standard = record { bytes = most_bytes; processes = most_processes; events = most_events; acts = most_acts }
+standard = record {
+  bytes = most_bytes;
+  processes = most_processes;
+  events = most_events;
+  acts = most_acts;
+}
 
--- some 16 times as much, for certificates of texts within the standard ones, which can be longer than those allow
+-- some 16 times as much, for certificates of texts within the standard ones, which can be longer
+-- than those allow
 abbrev pub greater : Limits
 greater = record { bytes = 1073741824; processes = 16000; events = 16000000; acts = 64000000 }

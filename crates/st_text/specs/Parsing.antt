@@ -1,7 +1,9 @@
--- What the bytes of one line say, computed from the front. That this is the spelling read backwards, and nothing more,
--- is proved: what is read is spelled so, and what is spelled so is read.
-use Rattle.std.specs.Prelude.{ℕ, Bool, true, false, ◌&&◌, List, [], ◌∷◌, length, take, drop, Option, Some, None}
-use Rattle.std.specs.Prelude.{option_and_then, nat_le, ◌==◌, if◌then◌else◌, codes, decimal}
+-- What the bytes of one line say, computed from the front. That this is the spelling read
+-- backwards, and nothing more, is proved: what is read is spelled so, and what is spelled so is
+-- read.
+use Rattle.std.specs.Prelude.{ℕ, Bool, true, false, ◌&&◌, List, [], ◌∷◌, length, take, drop, Option}
+use Rattle.std.specs.Prelude.{Some, None, option_and_then, nat_le, ◌==◌, if◌then◌else◌, codes}
+use Rattle.std.specs.Prelude.{decimal}
 use Rattle.std.specs.Char.{is_ascii_digit}
 use Rattle.std.specs.List.{prefix_len}
 use Rattle.std.specs.Str.{bytes_eq}
@@ -46,12 +48,14 @@ begins word bytes f other = on_some (after word bytes) f other
 -- the number of at most `most` whose one spelling the bytes begin with, and the bytes after it
 abbrev pub number_from : ℕ → List ℕ → List ℕ → Option (ℕ × List ℕ)
 number_from most digits rest =
-    if bytes_eq (decimal (digits_value 10 digits)) digits && nat_le (digits_value 10 digits) most then Some
+    if bytes_eq (decimal (digits_value 10 digits)) digits
+    && nat_le (digits_value 10 digits) most then Some
     (digits_value 10 digits, rest) else None
 
 unfoldable pub number : ℕ → List ℕ → Option (ℕ × List ℕ)
 number most bytes =
-    number_from most (take (prefix_len is_ascii_digit bytes) bytes) (drop (prefix_len is_ascii_digit bytes) bytes)
+    number_from most (take (prefix_len is_ascii_digit bytes) bytes)
+    (drop (prefix_len is_ascii_digit bytes) bytes)
 
 unfoldable pub bool_at : List ℕ → Option (Bool × List ℕ)
 bool_at bytes =
@@ -124,7 +128,17 @@ event_at bytes = do
   b ← after (codes ",") x.1
   v ← number most_number b
   c ← after (codes "}}") v.1
-  Some (record { label = h.0.0; kind = h.0.1; serial = s.0; from = x.0.0; to = x.0.1; value = v.0 }, c)
+  Some (
+    record {
+      label = h.0.0;
+      kind = h.0.1;
+      serial = s.0;
+      from = x.0.0;
+      to = x.0.1;
+      value = v.0;
+    },
+    c,
+  )
 
 -- ---- acts
 
@@ -139,8 +153,10 @@ unfoldable pub component_at : List ℕ → Option (Component × List ℕ)
 component_at bytes =
     begins (codes "label ") bytes (λ rest. label_at rest >>= λ l. Some (components.Label l.0, l.1))
     (begins (codes "send ") bytes (λ rest. bool_at rest >>= λ b. Some (components.Send b.0, b.1))
-    (begins (codes "receive ") bytes (λ rest. bool_at rest >>= λ b. Some (components.Receive b.0, b.1))
-    (begins (codes "print ") bytes (λ rest. bool_at rest >>= λ b. Some (components.Print b.0, b.1)) None)))
+    (begins (codes "receive ") bytes
+    (λ rest. bool_at rest >>= λ b. Some (components.Receive b.0, b.1))
+    (begins (codes "print ") bytes
+    (λ rest. bool_at rest >>= λ b. Some (components.Print b.0, b.1)) None)))
 
 unfoldable pub both_at : List ℕ → Option (Want × List ℕ)
 both_at bytes = do
@@ -152,9 +168,11 @@ unfoldable pub want_at : List ℕ → Option (Want × List ℕ)
 want_at bytes =
     begins (codes "first") bytes (λ rest. Some (wants.First, rest))
     (begins (codes "from ") bytes (λ rest. pid_at rest >>= λ p. Some (wants.From p.0, p.1))
-    (begins (codes "value ") bytes (λ rest. number most_number rest >>= λ v. Some (wants.Value v.0, v.1))
+    (begins (codes "value ") bytes
+    (λ rest. number most_number rest >>= λ v. Some (wants.Value v.0, v.1))
     (begins (codes "both ") bytes both_at
-    (begins (codes "place ") bytes (λ rest. number most_number rest >>= λ k. Some (wants.Place k.0, k.1)) None))))
+    (begins (codes "place ") bytes
+    (λ rest. number most_number rest >>= λ k. Some (wants.Place k.0, k.1)) None))))
 
 unfoldable pub flags_at : List ℕ → Option (Flags × List ℕ)
 flags_at bytes = do
@@ -176,7 +194,15 @@ token_at bytes = do
   this ← number most_number c
   d ← after (codes " ") this.1
   p ← pid_at d
-  Some (record { label = l.0; flags = f.0; serial = record { prev = prev.0; this = this.0 }; from = p.0 }, p.1)
+  Some (
+    record {
+      label = l.0;
+      flags = f.0;
+      serial = record { prev = prev.0; this = this.0 };
+      from = p.0;
+    },
+    p.1,
+  )
 
 unfoldable pub send_at : List ℕ → Option (Act × List ℕ)
 send_at bytes = do

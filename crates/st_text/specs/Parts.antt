@@ -1,5 +1,6 @@
--- What the parts of the reader keep and hand on. No promise of a public contract rests on it: `IsFed` alone names what
--- a feed keeps, and who uses a feed needn't know what that is. A module for each file of the code that needs words.
+-- What the parts of the reader keep and hand on. No promise of a public contract rests on it:
+-- `IsFed` alone names what a feed keeps, and who uses a feed needn't know what that is. A module
+-- for each file of the code that needs words.
 pub mod Words
 pub mod Remote
 pub mod Counts

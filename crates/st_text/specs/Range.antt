@@ -1,5 +1,5 @@
--- Which values have a spelling that is a line: numbers within the range of their place, and an event's receiver there
--- exactly if its kind has one.
+-- Which values have a spelling that is a line: numbers within the range of their place, and an
+-- event's receiver there exactly if its kind has one.
 use Rattle.std.specs.Prelude.{ℕ, ◌≤◌, Option, Some, None}
 use Rattle.st_core.specs.declared.types.Pid.{Pid}
 use Rattle.st_core.specs.declared.types.Serial.{Serial}

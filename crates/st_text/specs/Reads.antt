@@ -1,5 +1,5 @@
--- What the reader returns of a source: it depends on the bytes that its calls gave in a row, whatever else the source
--- tells.
+-- What the reader returns of a source: it depends on the bytes that its calls gave in a row,
+-- whatever else the source tells.
 use Rattle.std.specs.Prelude.{◌≡◌, ℕ, ◌+◌, ◌≤◌, Bool, true, false, List, ◌++◌, length, Result, Err}
 use Rattle.st_core.specs.Device.{InARow}
 use Rattle.st_text.specs.declared.bundle.Bundle.{Bundle}
@@ -11,18 +11,21 @@ use Rattle.st_text.specs.Answer.{Answers}
 use Rattle.st_text.specs.Growth.{Grows}
 
 -- a call failed, and there weren't too many bytes before it
-pub record Fails (limits : Limits) {S : Type 0} (failed : S → Bool) (bytes : List ℕ) (new : S) : Type 0 where
+pub record Fails (limits : Limits) {S : Type 0} (failed : S → Bool) (bytes : List ℕ)
+    (new : S) : Type 0 where
   pub mark : failed new ≡ true
   pub small : length bytes ≤ limits.bytes
 
 -- one byte too many came, and none after it was taken
-pub record Overflows (limits : Limits) {S : Type 0} (failed : S → Bool) (bytes : List ℕ) (old new : S) : Type 0 where
+pub record Overflows (limits : Limits) {S : Type 0} (failed : S → Bool) (bytes : List ℕ)
+    (old new : S) : Type 0 where
   pub count : length bytes ≡ limits.bytes + 1
   pub before : failed old ≡ false
   pub after : failed new ≡ false
 
 -- the source ended, and the bytes have this answer
-pub record Ends (limits : Limits) {S : Type 0} (ended : S → Type 0) (failed : S → Bool) (bytes : List ℕ) (old new : S)
+pub record Ends (limits : Limits) {S : Type 0} (ended : S → Type 0) (failed : S → Bool)
+    (bytes : List ℕ) (old new : S)
     (r : Result Bundle ReadFault) : Type 0 where
   pub end : ended new
   pub small : length bytes ≤ limits.bytes
@@ -30,14 +33,17 @@ pub record Ends (limits : Limits) {S : Type 0} (ended : S → Type 0) (failed : 
   pub after : failed new ≡ false
   pub answer : Answers limits bytes r
 
-abbrev pub ReadsAs : Limits → {S : Type 0} → (S → Type 0) → (S → Bool) → List ℕ → S → S → Result Bundle ReadFault
+abbrev pub ReadsAs : Limits → {S : Type 0} → (S → Type 0) → (S → Bool) → List ℕ → S → S
+    → Result Bundle ReadFault
     → Type 0
 ReadsAs limits ended failed bytes old new (Err faults.Device) = Fails limits failed bytes new
-ReadsAs limits ended failed bytes old new (Err faults.TooLarge) = Overflows limits failed bytes old new
+ReadsAs limits ended failed bytes old new
+    (Err faults.TooLarge) = Overflows limits failed bytes old new
 ReadsAs limits ended failed bytes old new r = Ends limits ended failed bytes old new r
 
 -- one of the calls gave a piece of these bytes in whose reading something had to be kept
-pub record HadGrowth (limits : Limits) {S : Type 0} (gives : S → List ℕ → S → Type 0) (bytes : List ℕ)
+pub record HadGrowth (limits : Limits) {S : Type 0} (gives : S → List ℕ → S → Type 0)
+    (bytes : List ℕ)
     (old : S) : Type 0 where
   pub before : List ℕ
   pub piece : List ℕ
@@ -49,8 +55,10 @@ pub record HadGrowth (limits : Limits) {S : Type 0} (gives : S → List ℕ → 
   pub call : gives from piece to
   pub growth : Grows limits before piece
 
--- The reader's calls gave some bytes in a row, and the result is theirs; Memory only if a call gave bytes to keep.
-pub record ReadsSourceWithin (limits : Limits) {S : Type 0} (gives : S → List ℕ → S → Type 0) (ended : S → Type 0)
+-- The reader's calls gave some bytes in a row, and the result is theirs; Memory only if a call gave
+-- bytes to keep.
+pub record ReadsSourceWithin (limits : Limits) {S : Type 0} (gives : S → List ℕ → S → Type 0)
+    (ended : S → Type 0)
     (failed : S → Bool)
     (old new : S) (r : Result Bundle ReadFault) : Type 0 where
   pub bytes : List ℕ
@@ -59,6 +67,7 @@ pub record ReadsSourceWithin (limits : Limits) {S : Type 0} (gives : S → List 
   pub memory : r ≡ Err faults.Memory → HadGrowth limits gives bytes old
 
 -- The same within the limits of `read`.
-abbrev pub ReadsSource : {S : Type 0} → (S → List ℕ → S → Type 0) → (S → Type 0) → (S → Bool) → S → S
+abbrev pub ReadsSource : {S : Type 0} → (S → List ℕ → S → Type 0) → (S → Type 0) → (S → Bool)
+    → S → S
     → Result Bundle ReadFault → Type 0
 ReadsSource gives ended failed old new r = ReadsSourceWithin standard gives ended failed old new r

@@ -1,5 +1,5 @@
--- How much room a spelling takes in a buffer at most. Each number is given the room of the longest, labels and the
--- parts of pids too, since one function writes them all.
+-- How much room a spelling takes in a buffer at most. Each number is given the room of the longest,
+-- labels and the parts of pids too, since one function writes them all.
 use Rattle.std.specs.Prelude.{ℕ, ◌+◌}
 
 -- a buffer: 32 lines of the greatest room, so that a sink is called once for some kilobytes

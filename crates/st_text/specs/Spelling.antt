@@ -1,4 +1,5 @@
--- The one spelling of each value, as bytes. These are the words of the grammar; nothing here says how they are read.
+-- The one spelling of each value, as bytes. These are the words of the grammar; nothing here says
+-- how they are read.
 use Rattle.std.specs.Prelude.{ℕ, Bool, true, false, List, ◌++◌, Option, Some, None, codes, decimal}
 use Rattle.st_core.specs.declared.types.Pid.{Pid}
 use Rattle.st_core.specs.declared.types.Label.{Label}
@@ -53,7 +54,8 @@ ends e = pid e.from ++ codes "," ++ place e.to
 
 abbrev pub event : Event → List ℕ
 event e =
-    codes "{seq_trace," ++ head e ++ serial e.serial ++ codes "," ++ ends e ++ codes "," ++ decimal e.value
+    codes "{seq_trace," ++ head e ++ serial e.serial ++ codes "," ++ ends e ++ codes ","
+    ++ decimal e.value
     ++ codes "}}"
 
 -- ---- acts
@@ -83,7 +85,8 @@ abbrev pub act : Act → List ℕ
 act (acts.Send p q v) = codes "send " ++ pid p ++ codes " " ++ pid q ++ codes " " ++ decimal v
 act (acts.Receive p w) = codes "receive " ++ pid p ++ codes " " ++ want w
 act (acts.Print p v) = codes "print " ++ pid p ++ codes " " ++ decimal v
-act (acts.PrintAt p l v) = codes "printat " ++ pid p ++ codes " " ++ label l ++ codes " " ++ decimal v
+act (acts.PrintAt p l v) =
+    codes "printat " ++ pid p ++ codes " " ++ label l ++ codes " " ++ decimal v
 act (acts.Set p c) = codes "set " ++ pid p ++ codes " " ++ component c
 act (acts.Clear p) = codes "clear " ++ pid p
 act (acts.Restore p t) = codes "restore " ++ pid p ++ codes " " ++ token t

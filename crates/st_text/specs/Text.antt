@@ -1,7 +1,7 @@
--- Which bytes are the text of which bundle: the bundle's lines in order, each in its one spelling and ended by a
--- newline.
-use Rattle.std.specs.Prelude.{◌≡◌, ℕ, ◌≤◌, Bool, true, not, ◌&&◌, List, [], ◌∷◌, ◌++◌, length, map, Option, Some, None}
-use Rattle.std.specs.Prelude.{◌==◌, option_to_list, option_map, position}
+-- Which bytes are the text of which bundle: the bundle's lines in order, each in its one spelling
+-- and ended by a newline.
+use Rattle.std.specs.Prelude.{◌≡◌, ℕ, ◌≤◌, Bool, true, not, ◌&&◌, List, [], ◌∷◌, ◌++◌, length, map}
+use Rattle.std.specs.Prelude.{Option, Some, None, ◌==◌, option_to_list, option_map, position}
 use Rattle.std.specs.List.{flat_map, list_any, list_all, AllByRecursion}
 use Rattle.std.specs.Borrow.{Bor}
 use Rattle.st_core.specs.declared.types.Pid.{Pid}
@@ -66,7 +66,7 @@ is_remote l = list_any is_away (names l)
 abbrev pub process_lines : Stream → List Line
 process_lines s = lines.Process s.pid ∷ map lines.Event s.events
 
--- where there are acts, the word and the acts
+-- the word and the acts, if there are any
 abbrev pub act_lines : Option (List Act) → List Line
 act_lines None = []
 act_lines (Some list) = lines.Acts ∷ map lines.Act list

@@ -1,8 +1,9 @@
 //! Acts, from the front of some bytes. Each act is a word and its fields, with one space between.
 
 ghost use Rattle.st_text.specs.Parts.Words.{Gives};
-ghost use Rattle.st_text.specs.Parsing.{component_at, both_at, want_at, flags_at, token_at, send_at, receive_at};
-ghost use Rattle.st_text.specs.Parsing.{print_at, printat_at, set_at, restore_at, tracer_at, alone_at, act_at};
+ghost use Rattle.st_text.specs.Parsing.{component_at, both_at, want_at, flags_at, token_at};
+ghost use Rattle.st_text.specs.Parsing.{send_at, receive_at, print_at, printat_at, set_at};
+ghost use Rattle.st_text.specs.Parsing.{restore_at, tracer_at, alone_at, act_at};
 
 use crate::number::number;
 use crate::words::{actor_at, after, bool_at, label_at, pid_at};

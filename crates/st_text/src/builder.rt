@@ -1,5 +1,6 @@
-//! A text under way: what its good lines came to, from the header on, and the fault of a next line. It knows lines, and
-//! nothing of bytes. Events go straight into the draft and acts into their list.
+//! A text under way: what its good lines came to, from the header on, and the fault of a next line.
+//! It knows lines, and nothing of bytes. Events go straight into the draft and acts into their
+//! list.
 
 ghost use Rattle.std.specs.Prelude.{◌≡◌, ◌≤◌, ◌+◌, ◌&&◌, ◌||◌, not, List, ◌∷◌, [], Some};
 ghost use Rattle.std.specs.Ordering.{is_lt};
@@ -18,7 +19,8 @@ use crate::step::Step;
 use st_core::{Act, Draft, Event, Pid, Sequence};
 use std::alloc::Global;
 
-/// What the lines so far came to. Its counts are within the limits of its calls, and each limit is a `u32`.
+/// What the lines so far came to. Its counts are within the limits of its calls, and each limit is
+/// a `u32`.
 #[derive(Debug, Drop)]
 pub(crate) struct BundleBuilder {
     pub(crate) alloc: Global,
@@ -39,8 +41,9 @@ pub(crate) struct BundleBuilder {
     ghost counted: { lines ≡ 1 + processes + events + acts_lines acts },
 }
 
-/// Whether a line that names a pid of another node may not stand: under header 1. A call of its own, as those of
-/// `is_either`, so that a line takes one path and not two through its function's proof.
+/// Whether a line that names a pid of another node may not stand: under header 1. A call of its
+/// own, as those of `is_either`, so that a line takes one path and not two through its function's
+/// proof.
 fn keeps_out(wide: bool, away: bool) -> bool
     ensures { result ≡ (away && not wide) }
 {
@@ -86,7 +89,8 @@ impl BundleBuilder {
 
     /// Takes a process line.
     fn open(&mut self, limits: Limits, pid: Pid) -> Step
-        ensures { (ls : List Line) → IsBuilt self.old ls → Takes limits ls (lines.Process pid) self.new result }
+        ensures { (ls : List Line) → IsBuilt self.old ls
+            → Takes limits ls (lines.Process pid) self.new result }
     {
         let n = self.lines + 1;
         let away = is_away(pid);
@@ -102,8 +106,8 @@ impl BundleBuilder {
         if self.processes >= limits.processes as u64 {
             return Step::Stops(ReadFault::TooMany(n));
         }
-        // The draft tests the order again, as it does for each caller; the test above gives the fault its place before
-        // `TooMany`. So memory ran out.
+        // The draft tests the order again, as it does for each caller; the test above gives the
+        // fault its place before `TooMany`. So memory ran out.
         let Ok(()) = self.draft.open(pid) else {
             return Step::Halts;
         };
@@ -117,7 +121,8 @@ impl BundleBuilder {
     /// Takes an event line.
     #[inline(always)]
     fn report(&mut self, limits: Limits, event: &Event) -> Step
-        ensures { (ls : List Line) → IsBuilt self.old ls → Takes limits ls (lines.Event event.now) self.new result }
+        ensures { (ls : List Line) → IsBuilt self.old ls
+            → Takes limits ls (lines.Event event.now) self.new result }
     {
         let n = self.lines + 1;
         let away = is_event_remote(event);
@@ -136,8 +141,8 @@ impl BundleBuilder {
         if self.events >= limits.events as u64 {
             return Step::Stops(ReadFault::TooMany(n));
         }
-        // The draft tests this again, as it does for each caller; the test above gives the fault its place before
-        // `TooMany`. So memory ran out.
+        // The draft tests this again, as it does for each caller; the test above gives the fault
+        // its place before `TooMany`. So memory ran out.
         let Ok(()) = self.draft.add(last, *event) else {
             return Step::Halts;
         };
@@ -163,7 +168,8 @@ impl BundleBuilder {
     /// Takes an act line.
     #[inline(always)]
     fn act(&mut self, limits: Limits, act: &Act) -> Step
-        ensures { (ls : List Line) → IsBuilt self.old ls → Takes limits ls (lines.Act act.now) self.new result }
+        ensures { (ls : List Line) → IsBuilt self.old ls
+            → Takes limits ls (lines.Act act.now) self.new result }
     {
         let n = self.lines + 1;
         let away = is_act_remote(act);
@@ -189,7 +195,8 @@ impl BundleBuilder {
     /// Accepts a line.
     #[inline(always)]
     fn accept_line(&mut self, limits: Limits, line: &Line) -> Step
-        ensures { (ls : List Line) → IsBuilt self.old ls → Takes limits ls line.now self.new result }
+        ensures { (ls : List Line) → IsBuilt self.old ls
+            → Takes limits ls line.now self.new result }
     {
         match line {
             Line::Process(pid) => self.open(limits, *pid),
@@ -203,7 +210,8 @@ impl BundleBuilder {
     /// Accepts the next line, or bytes that say none.
     #[inline(always)]
     pub(crate) fn accept(&mut self, limits: Limits, said: &Option<Line>) -> Step
-        ensures { (ls : List Line) → IsBuilt self.old ls → TakesLine limits ls said.now self.new result }
+        ensures { (ls : List Line) → IsBuilt self.old ls
+            → TakesLine limits ls said.now self.new result }
     {
         match said {
             Some(line) => self.accept_line(limits, line),

@@ -1,6 +1,7 @@
 //! A bundle: collected streams, and the acts that are said to have made them, or none.
 
-ghost use Rattle.std.specs.Prelude.{◌≡◌, IsTrue, IfOk, IfErr, OnOk, Some, None, false, not, position};
+ghost use Rattle.std.specs.Prelude.{◌≡◌, IsTrue, IfOk, IfErr, OnOk, Some, None, false, not};
+ghost use Rattle.std.specs.Prelude.{position};
 ghost use Rattle.std.specs.List.{list_all};
 ghost use Rattle.st_core.specs.Run.{pids_of};
 ghost use Rattle.st_core.specs.Step.{receiver};
@@ -75,7 +76,8 @@ fn unlisted_act(streams: &Streams, acts: &Option<Sequence<Act>>) -> Option<usize
 }
 
 impl Bundle {
-    /// A bundle of these parts, which come back if an act's actor or receiver isn't listed. Takes no memory.
+    /// A bundle of these parts, which come back if an act's actor or receiver isn't listed. Takes
+    /// no memory.
     pub fn new(streams: Streams, acts: Option<Sequence<Act>>) -> Result<Bundle, UnknownAct>
         ensures parts { IfOk result (λ b. (b.streams ≡ streams) × (b.acts ≡ acts)) }
         ensures listed { OnOk result (unlisted_act streams acts ≡ None) }

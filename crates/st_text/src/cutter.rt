@@ -1,8 +1,8 @@
-//! Bytes in pieces, cut at their newlines. Whole lines are read in the piece itself; of the unfinished line no more is
-//! kept than a line can have. It counts no bytes.
+//! Bytes in pieces, cut at their newlines. Whole lines are read in the piece itself; of the
+//! unfinished line no more is kept than a line can have. It counts no bytes.
 
-ghost use Rattle.std.specs.Prelude.{◌≡◌, ◌<◌, ◌≤◌, ◌++◌, ◌∷◌, ◌||◌, [], List, ℕ, Bool, is_some, None, Some, false};
-ghost use Rattle.std.specs.Prelude.{IfOk, OnOk, OnErr, vec_len, length};
+ghost use Rattle.std.specs.Prelude.{◌≡◌, ◌<◌, ◌≤◌, ◌++◌, ◌∷◌, ◌||◌, [], List, ℕ, Bool, is_some};
+ghost use Rattle.std.specs.Prelude.{None, Some, false, IfOk, OnOk, OnErr, vec_len, length};
 ghost use Rattle.st_text.specs.declared.line.Line.{Line};
 ghost use Rattle.st_text.specs.Parts.Cutter.{IsStateAfter, TakesSaid, header_of};
 ghost use Rattle.st_text.specs.Fault.{cut};
@@ -59,7 +59,8 @@ fn pass_on(
     builder: &mut Option<BundleBuilder>,
     said: &Option<Line>,
 ) -> Step
-    ensures { (ls : List Line) → IsStateAfter builder.old ls → TakesSaid limits ls said.now builder.new result }
+    ensures { (ls : List Line) → IsStateAfter builder.old ls
+        → TakesSaid limits ls said.now builder.new result }
 {
     match builder {
         Some(builder) => builder.accept(limits, said),
@@ -73,11 +74,12 @@ fn pass_on(
     }
 }
 
-/// What a line that began in an earlier piece says once the rest of it is there, and the place for the next one. No
-/// line is longer than the longest, so a longer one says nothing.
+/// What a line that began in an earlier piece says once the rest of it is there, and the place for
+/// the next one. No line is longer than the longest, so a longer one says nothing.
 fn whole_line(long: bool, tail: &mut Vec<u8>, rest: &[u8]) -> Result<Option<Line>, AllocError>
     requires { vec_len tail.old ≤ longest }
-    ensures said { (t : List ℕ) → IsTail long tail.old.items t → IfOk result (λ s. s ≡ line_of (t ++ rest.now)) }
+    ensures said { (t : List ℕ) → IsTail long tail.old.items t
+        → IfOk result (λ s. s ≡ line_of (t ++ rest.now)) }
     ensures short { vec_len tail.new ≤ longest }
     ensures empty { OnOk result (tail.new.items ≡ []) }
     ensures err { OnErr result (long ≡ false) }
@@ -97,7 +99,8 @@ fn whole_line(long: bool, tail: &mut Vec<u8>, rest: &[u8]) -> Result<Option<Line
 }
 
 impl Cutter {
-    ghost use Rattle.st_text.specs.Parts.CutterState.{HasTaken, HasTakenAs, Comes, AddsBytes, EndsOne};
+    ghost use Rattle.st_text.specs.Parts.CutterState.{HasTaken, HasTakenAs, Comes, AddsBytes};
+    ghost use Rattle.st_text.specs.Parts.CutterState.{EndsOne};
     ghost use Rattle.st_text.specs.Answer.{IsAnswer};
 
     /// No bytes so far. Takes no memory.
@@ -120,7 +123,8 @@ impl Cutter {
         requires going { self.old.out ≡ false }
         requires good { self.old.fault ≡ None }
         ensures fault { self.new.fault ≡ None }
-        ensures holds { (limits : Limits) (bytes : List ℕ) → HasNoNewline rest.now → HasTaken limits bytes self.old
+        ensures holds { (limits : Limits) (bytes : List ℕ) → HasNoNewline rest.now
+            → HasTaken limits bytes self.old
             → Comes limits (bytes ++ rest.now) self.new (AddsBytes limits bytes rest.now) }
     {
         if self.long {
@@ -146,7 +150,8 @@ impl Cutter {
         ensures { (bytes rest : List ℕ) (long : Bool) (kept : List ℕ) → HasNoNewline rest
             → (IsTail long kept (cut bytes).1 → said.now ≡ line_of ((cut bytes).1 ++ rest))
             → HasTakenAs limits self.old.out self.old.fault bytes long kept self.old.builder
-            → Comes limits (bytes ++ (rest ++ 10 ∷ [])) self.new (EndsKept limits (bytes ++ (rest ++ 10 ∷ []))) }
+            → Comes limits (bytes ++ (rest ++ 10 ∷ [])) self.new
+            (EndsKept limits (bytes ++ (rest ++ 10 ∷ []))) }
     {
         match pass_on(self.alloc, limits, &mut self.builder, said) {
             Step::Goes => {}
@@ -161,7 +166,8 @@ impl Cutter {
         requires good { self.old.fault ≡ None }
         requires begun { self.old.long ≡ false → 0 < length self.old.tail.items }
         ensures { (bytes : List ℕ) → HasNoNewline rest.now → HasTaken limits bytes self.old
-            → Comes limits (bytes ++ (rest.now ++ 10 ∷ [])) self.new (EndsOne limits bytes rest.now) }
+            → Comes limits (bytes ++ (rest.now ++ 10 ∷ [])) self.new
+            (EndsOne limits bytes rest.now) }
     {
         let Ok(said) = whole_line(self.long, &mut self.tail, rest) else {
             self.out = true;
@@ -171,13 +177,15 @@ impl Cutter {
         self.pass_line(limits, &said);
     }
 
-    /// Takes the rest of the unfinished line, and its newline. Most lines are whole in their piece, and are read there.
+    /// Takes the rest of the unfinished line, and its newline. Most lines are whole in their piece,
+    /// and are read there.
     #[inline(always)]
     fn end_line(&mut self, limits: Limits, rest: &[u8])
         requires going { self.old.out ≡ false }
         requires good { self.old.fault ≡ None }
         ensures { (bytes : List ℕ) → HasNoNewline rest.now → HasTaken limits bytes self.old
-            → Comes limits (bytes ++ (rest.now ++ 10 ∷ [])) self.new (EndsOne limits bytes rest.now) }
+            → Comes limits (bytes ++ (rest.now ++ 10 ∷ [])) self.new
+            (EndsOne limits bytes rest.now) }
     {
         if self.long || !self.tail.is_empty() {
             self.end_begun_line(limits, rest);
@@ -196,7 +204,8 @@ impl Cutter {
     /// Passes on the lines that end in a piece, and keeps the rest.
     pub(crate) fn pass_piece(&mut self, limits: Limits, piece: &[u8])
         ensures { (bytes : List ℕ) → HasTaken limits bytes self.old
-            → Comes limits (bytes ++ piece.now) self.new (self.old.out ≡ false → Grows limits bytes piece.now) }
+            → Comes limits (bytes ++ piece.now) self.new
+            (self.old.out ≡ false → Grows limits bytes piece.now) }
     {
         let mut rest = piece;
         while !self.is_over() {
@@ -213,7 +222,8 @@ impl Cutter {
     /// The bundle whose text the pieces were, or why there is none.
     pub(crate) fn end(self) -> Result<Bundle, ReadFault>
         requires { self.out ≡ false }
-        ensures { (limits : Limits) (bytes : List ℕ) → length bytes ≤ limits.bytes → HasTaken limits bytes self
+        ensures { (limits : Limits) (bytes : List ℕ) → length bytes ≤ limits.bytes
+            → HasTaken limits bytes self
             → IsAnswer limits bytes result }
     {
         let Cutter {

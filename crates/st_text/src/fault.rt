@@ -2,11 +2,13 @@
 
 use thiserror::Error;
 
-/// Why bytes are no bundle's text within the limits, or couldn't be read. Lines count from 1. `read_within` tells which
-/// comes if several hold: the first line's, and of one line's `Line`, `Order`, `Foreign`, `TooMany` in this order.
+/// Why bytes are no bundle's text within the limits, or couldn't be read. Lines count from 1.
+/// `read_within` tells which comes if several hold: the first line's, and of one line's `Line`,
+/// `Order`, `Foreign`, `TooMany` in this order.
 #[derive(Clone, Copy, Debug, PartialEq, Eq, Error)]
 pub enum ReadFault {
-    /// Memory ran out, which can hide a bundle or any fault of a line. Only the reading of lines takes memory.
+    /// Memory ran out, which can hide a bundle or any fault of a line. Only the reading of lines
+    /// takes memory.
     #[error("no memory")]
     Memory,
     /// The source failed before its end and before a byte too many.
@@ -15,8 +17,8 @@ pub enum ReadFault {
     /// More bytes than the limits allow.
     #[error("the text is too large")]
     TooLarge,
-    /// The line isn't one of the grammar's, or may not stand there; at line 1 also, at last, a needless
-    /// `seqtrace 2`.
+    /// The line isn't one of the grammar's, or may not stand there; at line 1 also, at last, a
+    /// needless `seqtrace 2`.
     #[error("line {0} is no line of a bundle that may stand there")]
     Line(u64),
     /// A process line whose pid isn't greater than the one before.

@@ -1,5 +1,5 @@
-//! A reader of a bundle's text that takes it in pieces, however it is cut. It counts the bytes; the lines are the
-//! cutter's.
+//! A reader of a bundle's text that takes it in pieces, however it is cut. It counts the bytes; the
+//! lines are the cutter's.
 
 ghost use Rattle.std.specs.Prelude.{◌≡◌, ◌≤◌, ◌++◌, [], List, ℕ, Some, None, Err};
 ghost use Rattle.st_text.specs.Growth.{Grows};
@@ -11,8 +11,8 @@ use crate::fault::ReadFault;
 use crate::limits::Limits;
 use std::alloc::Global;
 
-/// Takes a bundle's text in pieces. It keeps what the lines so far came to and the unfinished line, as far as a line
-/// can be long.
+/// Takes a bundle's text in pieces. It keeps what the lines so far came to and the unfinished line,
+/// as far as a line can be long.
 #[derive(Debug, Drop)]
 pub struct Feed {
     limits: Limits,
@@ -52,14 +52,16 @@ impl Feed {
         }
     }
 
-    /// Takes the next piece of the text. It returns `TooLarge` at the first byte too many and `Memory` if memory runs
-    /// out, and either again from then on; other faults come at the end.
+    /// Takes the next piece of the text. It returns `TooLarge` at the first byte too many and
+    /// `Memory` if memory runs out, and either again from then on; other faults come at the end.
     pub fn piece(&mut self, piece: &[u8]) -> Result<(), ReadFault>
         ensures limits { self.new.limits ≡ self.old.limits }
         // However the text is cut into pieces.
-        ensures fed { (bytes : List ℕ) → IsFed bytes self.old → IsFed (bytes ++ piece.now) self.new }
+        ensures fed { (bytes : List ℕ) → IsFed bytes self.old
+            → IsFed (bytes ++ piece.now) self.new }
         ensures answer { result ≡ answer_of (fed_refusal self.new) }
-        ensures again { (f : ReadFault) → fed_refusal self.old ≡ Some f → fed_refusal self.new ≡ Some f }
+        ensures again { (f : ReadFault) → fed_refusal self.old ≡ Some f
+            → fed_refusal self.new ≡ Some f }
         ensures memory { (bytes : List ℕ) → IsFed bytes self.old → fed_refusal self.old ≡ None
             → fed_refusal self.new ≡ Some faults.Memory → Grows self.old.limits bytes piece.now }
     {

@@ -12,7 +12,8 @@ use st_core::{Draft, Pid};
 
 /// The line of an event, if it is one that a text can have.
 fn event_line(draft: &Draft, pid: Pid, index: u64) -> u64
-    ensures { event_line_number draft.now pid index < 2 ^ 64 → result ≡ event_line_number draft.now pid index }
+    ensures { event_line_number draft.now pid index < 2 ^ 64
+        → result ≡ event_line_number draft.now pid index }
 {
     let mut n: u64 = 2;
     for p in draft.pids() {
@@ -26,7 +27,8 @@ fn event_line(draft: &Draft, pid: Pid, index: u64) -> u64
     n
 }
 
-/// Whether the header is 2 though no line names a pid of another node. A call of its own, for one path in the proof.
+/// Whether the header is 2 though no line names a pid of another node. A call of its own, for one
+/// path in the proof.
 fn is_needless(wide: bool, remote: bool) -> bool
     ensures { result ≡ (wide && not remote) }
 {
@@ -35,7 +37,8 @@ fn is_needless(wide: bool, remote: bool) -> bool
 
 /// The bundle that the lines made.
 pub(crate) fn finish(builder: BundleBuilder) -> Result<Bundle, ReadFault>
-    ensures { (ls : List Line) → IsBuilt builder ls → length ls < 2 ^ 64 → Finishes ls builder result }
+    ensures { (ls : List Line) → IsBuilt builder ls → length ls < 2 ^ 64
+        → Finishes ls builder result }
 {
     let BundleBuilder {
         alloc: _,

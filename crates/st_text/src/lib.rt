@@ -1,5 +1,6 @@
-//! The text of a bundle: collected streams and acts, one to a line, read exactly and written in its one spelling.
-//! The grammar and the refusals are definitions in specs/; the files here read and write, and are proved to meet them.
+//! The text of a bundle: collected streams and acts, one to a line, read exactly and written in its
+//! one spelling. The grammar and the refusals are definitions in specs/; the files here read and
+//! write, and are proved to meet them.
 #![tactic(auto)]
 
 mod acts;

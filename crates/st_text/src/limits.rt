@@ -1,7 +1,7 @@
 //! How much of a text the reader takes.
 
-/// The most bytes, processes, events and acts that a text may have. Each is a `u32`, so that no count of lines
-/// overflows.
+/// The most bytes, processes, events and acts that a text may have. Each is a `u32`, so that no
+/// count of lines overflows.
 #[derive(Clone, Copy, Debug, PartialEq, Eq)]
 pub struct Limits {
     pub bytes: u32,
@@ -11,7 +11,8 @@ pub struct Limits {
 }
 
 impl Limits {
-    /// The limits of `read`: what a trace that people look at has, in memory of a few hundred megabytes.
+    /// The limits of `read`: what a trace that people look at has, in memory of a few hundred
+    /// megabytes.
     pub const STANDARD: Limits = Limits {
         bytes: 67_108_864,
         processes: 1_024,
@@ -19,8 +20,8 @@ impl Limits {
         acts: 4_000_000,
     };
 
-    /// Some 16 times as much, for certificates: that of a text within the standard limits has the same events and some
-    /// acts for each, and can be longer than those limits allow.
+    /// Some 16 times as much, for certificates: that of a text within the standard limits has the
+    /// same events and some acts for each, and can be longer than those limits allow.
     pub const GREATER: Limits = Limits {
         bytes: 1_073_741_824,
         processes: 16_000,

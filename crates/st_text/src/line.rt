@@ -1,4 +1,5 @@
-//! One line of a text: what it may say, and the reader of a whole line. It knows nothing of the lines around it.
+//! One line of a text: what it may say, and the reader of a whole line. It knows nothing of the
+//! lines around it.
 
 ghost use Rattle.std.specs.Prelude.{◌≡◌};
 ghost use Rattle.st_text.specs.Parts.Words.{Gives};

@@ -1,4 +1,5 @@
-//! Decimal numbers: digits without a leading zero, up to the limit of their place. Every number of a text is read here.
+//! Decimal numbers: digits without a leading zero, up to the limit of their place. Every number of
+//! a text is read here.
 
 ghost use Rattle.std.specs.Prelude.{◌≤◌, ◌<◌, ◌+◌, ◌*◌, ◌^◌, take, IfSome};
 ghost use Rattle.std.specs.Option.{SomeIff};

@@ -12,7 +12,8 @@ use std::alloc::Global;
 /// The most bytes that are asked for at once.
 const PIECE: u64 = 8_192;
 
-/// The bundle whose text the source gives, in pieces, within the standard limits: see `read_within`.
+/// The bundle whose text the source gives, in pieces, within the standard limits: see
+/// `read_within`.
 pub fn read<S: ByteSource>(alloc: Global, source: &mut S) -> Result<Bundle, ReadFault>
     ensures { ReadsSource S.gives S.ended S.failed source.old source.new result }
 {
@@ -21,11 +22,12 @@ pub fn read<S: ByteSource>(alloc: Global, source: &mut S) -> Result<Bundle, Read
 
 /// The bundle whose text the source gives, in pieces, within these limits.
 ///
-/// It reads on to the end of the source, a failure (`Device`) or one byte too many (`TooLarge`), and takes no byte
-/// after that one; so these two come first. Then comes the first faulty line; on one line the order is `Line`, `Order`,
-/// `Foreign`, `TooMany`. Then `Truncated`; then `Line(1)` for a header 2 that no line needs; then `Unknown` for the
-/// first line that names an unlisted pid. `Memory` can replace a bundle and any of these but the first two, if the
-/// reading had something to keep.
+/// It reads on to the end of the source, a failure (`Device`) or one byte too many (`TooLarge`),
+/// and takes no byte after that one; so these two come first. Then comes the first faulty line; on
+/// one line the order is `Line`, `Order`, `Foreign`, `TooMany`. Then `Truncated`; then `Line(1)`
+/// for a header 2 that no line needs; then `Unknown` for the first line that names an unlisted pid.
+/// `Memory` can replace a bundle and any of these but the first two, if the reading had something
+/// to keep.
 pub fn read_within<S: ByteSource>(
     alloc: Global,
     source: &mut S,
@@ -35,8 +37,8 @@ pub fn read_within<S: ByteSource>(
 {
     let most = u64::from(limits.bytes);
     let mut feed = Feed::within(alloc, limits);
-    // The feed stops counting once it fails: the source is still read to its end then, for `Device` and `TooLarge` come
-    // before `Memory`.
+    // The feed stops counting once it fails: the source is still read to its end then, for `Device`
+    // and `TooLarge` come before `Memory`.
     let mut count: u64 = 0;
     let mut buffer = [0u8; 8_192];
     while count <= most {

@@ -1,4 +1,5 @@
-//! Bytes on their way to a sink: all of a piece, and through a buffer on the stack. Nothing here knows of lines.
+//! Bytes on their way to a sink: all of a piece, and through a buffer on the stack. Nothing here
+//! knows of lines.
 
 ghost use Rattle.std.specs.Prelude.{◌≡◌, ◌≤◌, ◌+◌, [], OnOk, OnErr};
 ghost use Rattle.arrayvec.specs.ArrayVec.{array_vec_len};
@@ -9,7 +10,8 @@ use crate::spell::Buffer;
 use st_core::ByteSink;
 use thiserror::Error;
 
-/// The sink failed: the only reason for which a call that writes fails. A prefix of the text was written.
+/// The sink failed: the only reason for which a call that writes fails. A prefix of the text was
+/// written.
 #[derive(Clone, Copy, Debug, PartialEq, Eq, Error)]
 #[error("the device failed")]
 pub struct Device;
@@ -33,7 +35,8 @@ pub(crate) fn put_all<S: ByteSink>(sink: &mut S, bytes: &[u8]) -> Result<(), Dev
 
 /// Writes what waits. After a failure it waits still, though the sink may have taken a part of it.
 pub fn flush<S: ByteSink>(sink: &mut S, buffer: &mut Buffer) -> Result<(), Device>
-    ensures goes { WritesOn S.puts S.failed [] sink.old sink.new buffer.old.items buffer.new.items result }
+    ensures goes { WritesOn S.puts S.failed [] sink.old sink.new
+        buffer.old.items buffer.new.items result }
     ensures empty { OnOk result (buffer.new.items ≡ []) }
     ensures len { OnOk result (array_vec_len buffer.new ≡ 0) }
     ensures err { OnErr result (buffer.new.items ≡ buffer.old.items) }
@@ -45,7 +48,8 @@ pub fn flush<S: ByteSink>(sink: &mut S, buffer: &mut Buffer) -> Result<(), Devic
 
 /// Makes room for a line: if less is left, what waits is written.
 pub fn make_room<S: ByteSink>(sink: &mut S, buffer: &mut Buffer) -> Result<(), Device>
-    ensures goes { WritesOn S.puts S.failed [] sink.old sink.new buffer.old.items buffer.new.items result }
+    ensures goes { WritesOn S.puts S.failed [] sink.old sink.new
+        buffer.old.items buffer.new.items result }
     ensures room { OnOk result (array_vec_len buffer.new + line_room ≤ buffer_room) }
     ensures err { OnErr result (buffer.new.items ≡ buffer.old.items) }
 {

@@ -1,19 +1,21 @@
-//! Values spelled into a buffer on the stack, which never takes memory. Each function appends the one spelling of its
-//! value; that there is room is its caller's to know. Nothing here knows of a device.
+//! Values spelled into a buffer on the stack, which never takes memory. Each function appends the
+//! one spelling of its value; that there is room is its caller's to know. Nothing here knows of a
+//! device.
 
 ghost use Rattle.std.specs.Prelude.{◌≡◌, ◌+◌, ◌≤◌, ◌++◌, length, decimal};
 ghost use Rattle.arrayvec.specs.ArrayVec.{array_vec_len};
 ghost use Rattle.st_text.specs.Spelling as spelled;
 ghost use Rattle.st_text.specs.Text.{ended};
-ghost use Rattle.st_text.specs.Room.{buffer_room, line_room, number_room, bool_room, pid_room, serial_room, kind_room};
-ghost use Rattle.st_text.specs.Room.{head_room, ends_room, event_room, component_room, want_room, flags_room};
-ghost use Rattle.st_text.specs.Room.{token_room, act_room};
+ghost use Rattle.st_text.specs.Room.{buffer_room, line_room, number_room, bool_room, pid_room};
+ghost use Rattle.st_text.specs.Room.{serial_room, kind_room, head_room, ends_room, event_room};
+ghost use Rattle.st_text.specs.Room.{component_room, want_room, flags_room, token_room, act_room};
 
 use crate::line::Line;
 use arrayvec::ArrayVec;
 use st_core::{Act, Component, Event, Flags, Kind, Label, Pid, Serial, Token, Want};
 
-/// The most bytes that wait to be written: 32 lines, so that a sink is called once for some kilobytes.
+/// The most bytes that wait to be written: 32 lines, so that a sink is called once for some
+/// kilobytes.
 const BUFFER: usize = 8192;
 
 /// Bytes that wait to be written.
@@ -229,9 +231,12 @@ fn put_token(buffer: &mut Buffer, token: &Token)
 
 /// A word, a space, a pid and, if more follows, another space.
 fn put_actor(buffer: &mut Buffer, word: &[u8], pid: Pid, space: &[u8])
-    requires { array_vec_len buffer.old + length word.now + length space.now + pid_room ≤ buffer_room }
-    ensures items { buffer.new.items ≡ buffer.old.items ++ (word.now ++ spelled.pid pid ++ space.now) }
-    ensures len { array_vec_len buffer.new ≤ array_vec_len buffer.old + length word.now + length space.now + pid_room }
+    requires { array_vec_len buffer.old + length word.now + length space.now + pid_room
+        ≤ buffer_room }
+    ensures items { buffer.new.items
+        ≡ buffer.old.items ++ (word.now ++ spelled.pid pid ++ space.now) }
+    ensures len { array_vec_len buffer.new
+        ≤ array_vec_len buffer.old + length word.now + length space.now + pid_room }
 {
     put_bytes(buffer, word);
     put_pid(buffer, pid);
@@ -240,7 +245,8 @@ fn put_actor(buffer: &mut Buffer, word: &[u8], pid: Pid, space: &[u8])
 
 fn put_send(buffer: &mut Buffer, sender: Pid, receiver: Pid, value: u64)
     requires { array_vec_len buffer.old + act_room ≤ buffer_room }
-    ensures items { buffer.new.items ≡ buffer.old.items ++ spelled.act (Act.Send sender receiver value) }
+    ensures items { buffer.new.items
+        ≡ buffer.old.items ++ spelled.act (Act.Send sender receiver value) }
     ensures len { array_vec_len buffer.new ≤ array_vec_len buffer.old + act_room }
 {
     put_actor(buffer, b"send ", sender, b" ");
@@ -251,7 +257,8 @@ fn put_send(buffer: &mut Buffer, sender: Pid, receiver: Pid, value: u64)
 
 fn put_print_at(buffer: &mut Buffer, pid: Pid, label: Label, value: u64)
     requires { array_vec_len buffer.old + act_room ≤ buffer_room }
-    ensures items { buffer.new.items ≡ buffer.old.items ++ spelled.act (Act.PrintAt pid label value) }
+    ensures items { buffer.new.items
+        ≡ buffer.old.items ++ spelled.act (Act.PrintAt pid label value) }
     ensures len { array_vec_len buffer.new ≤ array_vec_len buffer.old + act_room }
 {
     put_actor(buffer, b"printat ", pid, b" ");

@@ -1,4 +1,5 @@
-//! The words and small values at the front of some bytes: each function returns the value and the bytes after it.
+//! The words and small values at the front of some bytes: each function returns the value and the
+//! bytes after it.
 
 ghost use Rattle.st_text.specs.Parts.Words.{Gives};
 ghost use Rattle.st_text.specs.Parsing.{after, bool_at, pid_at, label_at, serial_at, actor_at};

@@ -1,4 +1,5 @@
-//! Writing a bundle: its one text, to any sink, through a buffer on the stack. Writing takes no memory.
+//! Writing a bundle: its one text, to any sink, through a buffer on the stack. Writing takes no
+//! memory.
 
 ghost use Rattle.std.specs.Prelude.{◌∷◌, map};
 ghost use Rattle.std.specs.List.{flat_map};
@@ -18,7 +19,8 @@ use st_core::{Act, ByteSink, Event, Pid, Streams};
 
 /// Writes a line and its newline.
 fn write_line<S: ByteSink>(sink: &mut S, buffer: &mut Buffer, line: &Line) -> Result<(), Device>
-    ensures { WritesOn S.puts S.failed (ended line.now) sink.old sink.new buffer.old.items buffer.new.items result }
+    ensures { WritesOn S.puts S.failed
+        (ended line.now) sink.old sink.new buffer.old.items buffer.new.items result }
 {
     make_room(sink, buffer)?;
     put_line(buffer, line);
@@ -122,13 +124,15 @@ fn write_lines<S: ByteSink>(
     write_body(sink, buffer, streams, acts)
 }
 
-/// Writes the text of a bundle with these parts: header, streams, and the acts if there are any. Takes no memory.
+/// Writes the text of a bundle with these parts: header, streams, and the acts if there are any.
+/// Takes no memory.
 pub fn write_parts<S: ByteSink>(
     sink: &mut S,
     streams: &Streams,
     acts: Option<&[Act]>,
 ) -> Result<(), Device>
-    ensures { WritesText S.puts S.failed (spelling (parts streams.now acts.entry)) sink.old sink.new result }
+    ensures { WritesText S.puts S.failed
+        (spelling (parts streams.now acts.entry)) sink.old sink.new result }
 {
     let mut buffer = Buffer::new();
     write_lines(sink, &mut buffer, streams, acts)?;

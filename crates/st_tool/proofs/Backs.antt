@@ -20,7 +20,7 @@ use Rattle.st_commands.specs.Audited.{report_output}
 use Rattle.st_tool.specs.Why.{step_line, step_words}
 use Rattle.st_tool.specs.Parts.{TracesTo, OfReason}
 
--- a reason that isn't that a growth was refused is told as a finding
+-- a reason, unless it is that memory ran out, is written as a finding
 pub unpaired : (streams : List Stream) (p : Pid) (i : ℕ) (f : PairFault) (found : Finding) → IsPairFault streams f
     → unfit_by f ≡ Some found → TracesTo streams p i (report_output streams found)
 unpaired streams p i fault.Memory found is by = absurd (cc)

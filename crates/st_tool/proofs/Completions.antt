@@ -6,9 +6,9 @@ use Rattle.st_core.specs.declared.types.Pid.{Pid}
 use Rattle.st_core.specs.Run.{Stream, pids_of}
 use Rattle.st_pair.specs.Places.{event_at}
 use Rattle.st_plan.specs.Marks.{all_streams, Whole}
-use Rattle.st_full.specs.Needs.{marked_of}
-use Rattle.st_complete.specs.declared.answer.Never.{Never}
-use Rattle.st_complete.specs.Completions.{added_in}
+use Rattle.st_completions.specs.Needs.{marked_of}
+use Rattle.st_hidden.specs.declared.answer.Never.{Never}
+use Rattle.st_needs.specs.Completions.{added_in}
 use Rattle.st_text.proofs.ForCallers.{front_some}
 use Rattle.st_chart.proofs.ForCallers.{line_some}
 use Rattle.st_chart.specs.Words.{place_words}

@@ -1,4 +1,5 @@
--- Whether a process began the trace of a send or print itself, if it reported no receive of its prev.
+-- Whether a process began the trace of a send or print itself, if it reported no receive of its
+-- prev.
 use Rattle.std.specs.Prelude.{ℕ, ◌-◌, ◌==◌, ◌&&◌, ◌||◌, Bool, List, length, take, reverse, max}
 use Rattle.std.specs.List.{fold, prefix_len}
 use Rattle.st_core.specs.declared.types.Event.{Event}
@@ -12,7 +13,8 @@ row_of prev before = prefix_len (λ e. is_stamp e && e.serial.prev == prev) (rev
 abbrev pub greatest_count : List Event → ℕ
 greatest_count es = fold (λ most e. max e.serial.this most) 0 es
 
--- The prev is 0, or it was the process's own clock when the row of sends and prints with it began, which goes up to the
--- end of these events.
+-- The prev is 0, or it was the process's own clock when the row of sends and prints with it began,
+-- which goes up to the end of these events.
 abbrev pub is_begun : ℕ → List Event → Bool
-is_begun prev before = prev == 0 || greatest_count (take (length before - row_of prev before) before) == prev
+is_begun prev before =
+    prev == 0 || greatest_count (take (length before - row_of prev before) before) == prev

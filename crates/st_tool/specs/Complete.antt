@@ -1,7 +1,8 @@
--- What `complete` makes of bytes: what the streams that they spell lack, or why no run without a reset has them. The
--- acts in the input are ignored.
-use Rattle.std.specs.Prelude.{◌≡◌, ℕ, ◌+◌, zero, suc, Bool, true, false, List, [], ◌++◌, Option, Some, None, IsSome}
-use Rattle.std.specs.Prelude.{codes, decimal, length, map, option_map, slice_get}
+-- What `complete` makes of bytes: what the streams that they spell lack, or why no run without a
+-- reset has them. The acts in the input are ignored.
+use Rattle.std.specs.Prelude.{◌≡◌, ℕ, ◌+◌, zero, suc, Bool, true, false, List, [], ◌++◌, Option}
+use Rattle.std.specs.Prelude.{Some, None, IsSome, codes, decimal, length, map, option_map}
+use Rattle.std.specs.Prelude.{slice_get}
 use Rattle.std.specs.List.{flat_map}
 use Rattle.st_core.specs.declared.types.Pid.{Pid}
 use Rattle.st_core.specs.declared.types.Act.{Act}
@@ -13,13 +14,13 @@ use Rattle.st_text.specs.declared.fault.ReadFault.{ReadFault}
 use Rattle.st_text.specs.Fault.{fault}
 use Rattle.st_pair.specs.Places.{event_at}
 use Rattle.st_plan.specs.Marks.{all_streams, Whole}
-use Rattle.st_full.specs.Needs.{marked_of}
-use Rattle.st_complete.specs.declared.answer.Never.{Never}
-use Rattle.st_complete.specs.declared.answer.Never.TheVariants as never
-use Rattle.st_complete.specs.declared.answer.Answer.{Answer}
-use Rattle.st_complete.specs.declared.answer.Answer.TheVariants as answer
-use Rattle.st_complete.specs.Answers.{IsAnswer, IsNeverFinal}
-use Rattle.st_complete.specs.Completions.{added_in}
+use Rattle.st_completions.specs.Needs.{marked_of}
+use Rattle.st_hidden.specs.declared.answer.Never.{Never}
+use Rattle.st_hidden.specs.declared.answer.Never.TheVariants as never
+use Rattle.st_hidden.specs.declared.answer.Answer.{Answer}
+use Rattle.st_hidden.specs.declared.answer.Answer.TheVariants as answer
+use Rattle.st_hidden.specs.Answers.{IsAnswer, IsNeverFinal}
+use Rattle.st_needs.specs.Completions.{added_in}
 use Rattle.st_chart.specs.Words.{ended_line, place_words}
 use Rattle.st_chart.specs.Report.{event_line, event_words}
 use Rattle.st_commands.specs.Output.{Output, refused, bundled}
@@ -108,18 +109,21 @@ text_of_status text status = record { text = text; status = status }
 abbrev pub long : Output
 long = text_of_status (ended_line (codes "long")) 5
 
--- the output of an answer in a form; acts that are written show the streams, and none of them is a reset
+-- the output of an answer in a form; acts that are written show the streams, and none of them is a
+-- reset
 pub data Answers (f : Form) (streams : List Stream) : Answer → Output → Type 0 where
   Adds : (wholes : List Whole) → f ≡ form.Added → Answers f streams (answer.Whole wholes)
       (text_of_status (added_text wholes) 0)
   Completes : (wholes : List Whole) → f ≡ form.Streams → Answers f streams (answer.Whole wholes)
       (streams_output (all_streams wholes))
-  Certifies : (wholes : List Whole) (acts : List Act) → f ≡ form.Acts → Shows top streams acts → NoReset acts
+  Certifies : (wholes : List Whole) (acts : List Act) → f ≡ form.Acts → Shows top streams acts
+      → NoReset acts
       → Answers f streams (answer.Whole wholes) (bundled streams acts)
   IsLong : (wholes : List Whole) → f ≡ form.Acts → Answers f streams (answer.Whole wholes) long
   IsNever : (p : Pid) (i : ℕ) (r : Never) → Answers f streams (answer.Never p i r)
       (text_of_status (never_text streams p i r) 1)
-  IsOpen : (p : Pid) (i : ℕ) → Answers f streams (answer.Open p i) (text_of_status (open_text streams p i) 1)
+  IsOpen : (p : Pid) (i : ℕ)
+      → Answers f streams (answer.Open p i) (text_of_status (open_text streams p i) 1)
 
 -- ---- the output of bytes
 
@@ -131,6 +135,7 @@ pub record HasAnswer (bytes : List ℕ) (streams : List Stream) (found : Answer)
   pub ruled_out : IsNeverFinal top streams found
 
 pub data IsCompleted (f : Form) : List ℕ → Output → Type 0 where
-  Answered : (bytes : List ℕ) (streams : List Stream) (found : Answer) (out : Output) → HasAnswer bytes streams found
+  Answered : (bytes : List ℕ) (streams : List Stream) (found : Answer) (out : Output)
+      → HasAnswer bytes streams found
       → Answers f streams found out → IsCompleted f bytes out
   Faulty : (bytes : List ℕ) (x : ReadFault) → fault bytes ≡ Some x → IsCompleted f bytes (refused x)

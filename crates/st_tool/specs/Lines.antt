@@ -2,14 +2,12 @@
 use Rattle.std.specs.Prelude.{ℕ, ◌+◌, List, ◌++◌, codes, decimal}
 use Rattle.st_chart.specs.Room.{place_room}
 use Rattle.st_chart.specs.Words.{ended_line, place_words}
-use Rattle.st_commands.specs.Output.{fault_words}
 use Rattle.st_tool.specs.declared.lines.OutputLine.{OutputLine}
 use Rattle.st_tool.specs.declared.lines.OutputLine.TheVariants as lines
 use Rattle.st_tool.specs.Complete.{never_words}
 
 abbrev pub words : OutputLine → List ℕ
 words (lines.NoEvent p i) = codes "no event " ++ place_words p i
-words (lines.Fault f) = fault_words f
 words lines.NoActs = codes "fault no acts"
 words lines.Long = codes "long"
 words (lines.Added n) = codes "added " ++ decimal n

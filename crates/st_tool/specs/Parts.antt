@@ -1,4 +1,5 @@
--- The outputs of streams that were read, for the contracts of the functions that a command is made of.
+-- The outputs of streams that were read, for the contracts of the functions that a command is made
+-- of.
 use Rattle.std.specs.Prelude.{◌≡◌, ℕ, ◌+◌, List, Some, None}
 use Rattle.st_core.specs.declared.types.Pid.{Pid}
 use Rattle.st_text.specs.Room.{number_room, serial_room}
@@ -10,29 +11,31 @@ use Rattle.st_pair.specs.Places.{event_at}
 use Rattle.st_chain.specs.Causes.{IsBackFrom}
 use Rattle.st_audit.specs.declared.finding.Finding.{Finding}
 use Rattle.st_audit.specs.Findings.{unfit_by}
-use Rattle.st_full.specs.Renumbering.{renumbered_streams}
+use Rattle.st_completions.specs.Renumbering.{renumbered_streams}
 use Rattle.st_commands.specs.Output.{Output, no_memory}
 use Rattle.st_commands.specs.Audited.{report_output}
 use Rattle.st_tool.specs.Why.{traced, no_event}
 use Rattle.st_tool.specs.Renumber.{streams_output}
 use Rattle.st_tool.specs.declared.complete.Form.{Form}
 use Rattle.st_tool.specs.Complete.{Answers}
-use Rattle.st_complete.specs.declared.answer.Answer.{Answer}
-use Rattle.st_complete.specs.Answers.{IsAnswer, IsNeverFinal}
+use Rattle.st_hidden.specs.declared.answer.Answer.{Answer}
+use Rattle.st_hidden.specs.Answers.{IsAnswer, IsNeverFinal}
 use Rattle.st_commands.specs.Checked.{top}
 
 -- the way back from an event of streams
 pub data TracesTo (streams : List Stream) (p : Pid) (i : ℕ) : Output → Type 0 where
   OfBack : (back : List (Pid × ℕ)) → refusal streams ≡ None → IsBackFrom streams (Some (p, i)) back
       → TracesTo streams p i (traced streams back)
-  OfNoEvent : refusal streams ≡ None → event_at streams p i ≡ None → TracesTo streams p i (no_event p i)
+  OfNoEvent : refusal streams ≡ None → event_at streams p i ≡ None
+      → TracesTo streams p i (no_event p i)
   OfReason : (f : PairFault) (found : Finding) → refusal streams ≡ Some f → unfit_by f ≡ Some found
       → TracesTo streams p i (report_output streams found)
   NoRoomToTrace : TracesTo streams p i no_memory
 
 -- what streams lack, in a form
 pub data CompletesTo (f : Form) (streams : List Stream) : Output → Type 0 where
-  Finds : (found : Answer) (out : Output) → IsAnswer top streams found → IsNeverFinal top streams found
+  Finds : (found : Answer) (out : Output) → IsAnswer top streams found
+      → IsNeverFinal top streams found
       → Answers f streams found out → CompletesTo f streams out
   NoRoomToComplete : CompletesTo f streams no_memory
 

@@ -1,6 +1,7 @@
--- What `why` makes of bytes: the way back from an event of the streams that they spell, a line for each event, or why
--- there is none. The acts in the input are ignored.
-use Rattle.std.specs.Prelude.{◌≡◌, ℕ, List, [], ◌++◌, Option, Some, None, codes, decimal, take, if◌then◌else◌}
+-- What `why` makes of bytes: the way back from an event of the streams that they spell, a line for
+-- each event, or why there is none. The acts in the input are ignored.
+use Rattle.std.specs.Prelude.{◌≡◌, ℕ, List, [], ◌++◌, Option, Some, None, codes, decimal, take}
+use Rattle.std.specs.Prelude.{if◌then◌else◌}
 use Rattle.std.specs.List.{flat_map}
 use Rattle.st_core.specs.declared.types.Pid.{Pid}
 use Rattle.st_core.specs.declared.types.Act.{Act}
@@ -30,7 +31,8 @@ use Rattle.st_tool.specs.Begun.{is_begun}
 -- by what an event follows its cause, which comes after these events of its process
 abbrev pub by_words : List Event → Event → Option Cause → List ℕ
 by_words before e None = []
-by_words before e (Some (cause.Event p i)) = if is_stamp e then codes ", by its prev" else codes ", by its message"
+by_words before e (Some (cause.Event p i)) =
+    if is_stamp e then codes ", by its prev" else codes ", by its message"
 by_words before e (Some cause.Hidden) = codes ", a send that was not reported"
 by_words before e (Some cause.Start) =
     if is_begun e.serial.prev before then codes ", the process began the trace"
@@ -38,7 +40,8 @@ by_words before e (Some cause.Start) =
 
 -- what an event is, its serial and its value, as in a chart
 abbrev pub what_words : Event → List ℕ
-what_words e = item_word (item.Reported e.from 0) e.kind ++ codes " " ++ spelled.serial e.serial ++ codes " "
+what_words e = item_word (item.Reported e.from 0) e.kind ++ codes " " ++ spelled.serial e.serial
+    ++ codes " "
     ++ decimal e.value
 
 -- what an event follows, as in a chart, and by what
@@ -75,10 +78,13 @@ pub record ArePaired (bytes : List ℕ) (streams : List Stream) : Type 0 where
   pub accepted : refusal streams ≡ None
 
 pub data IsWhy (p : Pid) (i : ℕ) : List ℕ → Output → Type 0 where
-  Traced : (bytes : List ℕ) (streams : List Stream) (back : List (Pid × ℕ)) → ArePaired bytes streams
+  Traced : (bytes : List ℕ) (streams : List Stream) (back : List (Pid × ℕ))
+      → ArePaired bytes streams
       → IsBackFrom streams (Some (p, i)) back → IsWhy p i bytes (traced streams back)
-  Lacking : (bytes : List ℕ) (streams : List Stream) → ArePaired bytes streams → event_at streams p i ≡ None
+  Lacking : (bytes : List ℕ) (streams : List Stream) → ArePaired bytes streams
+      → event_at streams p i ≡ None
       → IsWhy p i bytes (no_event p i)
-  Unpaired : (bytes : List ℕ) (streams : List Stream) (found : Finding) → HasReason bytes streams found
+  Unpaired : (bytes : List ℕ) (streams : List Stream) (found : Finding)
+      → HasReason bytes streams found
       → IsWhy p i bytes (report_output streams found)
   Faulty : (bytes : List ℕ) (f : ReadFault) → fault bytes ≡ Some f → IsWhy p i bytes (refused f)

@@ -1,14 +1,15 @@
-//! The command `complete`: what the streams whose text the input is lack, or why no run without a reset has them. The
-//! acts in the input are ignored.
+//! The command `complete`: what the streams whose text the input is lack, or why no run without a
+//! reset has them. The acts in the input are ignored.
 
-ghost use Rattle.st_commands.specs.Command.{Owes, Tells};
-ghost use Rattle.st_complete.specs.Answers.{IsAnswer, IsNeverFinal};
+ghost use Rattle.st_commands.specs.Command.{Owes, Tells, call};
+ghost use Rattle.st_hidden.specs.Answers.{IsAnswer, IsNeverFinal};
 ghost use Rattle.st_tool.specs.Complete.{IsCompleted};
 ghost use Rattle.st_tool.specs.Parts.{CompletesTo};
 
-use crate::answer::{status_of, tell_bundle, tell_fault, tell_line, tell_streams};
+use crate::answer::{tell_line, tell_streams};
 use crate::completion_lines::{send_added, send_never, send_open};
 use crate::lines::OutputLine;
+use st_commands::{status_of, tell_bundle, tell_fault};
 use st_complete::{Answer, CertificateFault, CompleteFault, Completion, certificate, complete};
 use st_core::{ByteSink, ByteSource, Streams};
 use st_text::{ReadFault, read};
@@ -41,7 +42,8 @@ fn tell_acts<H: Threads + Sync, W: ByteSink>(
     writer: &mut W,
 ) -> u8
     requires { IsAnswer TOP streams.now (Answer.Whole completion.now) }
-    ensures { Tells W.puts W.failed writer.old writer.new (CompletesTo Form.Acts streams.now) result }
+    ensures { Tells (call W.ByteSink writer.old writer.new)
+        (CompletesTo Form.Acts streams.now) result }
 {
     match certificate::<TOP>(rt, alloc, streams, completion, MOST_ACTS) {
         Ok(found) => tell_bundle(writer, streams, found.acts.as_slice()),
@@ -60,7 +62,7 @@ fn tell_completion<H: Threads + Sync, W: ByteSink>(
     writer: &mut W,
 ) -> u8
     requires { IsAnswer TOP streams.now (Answer.Whole completion.now) }
-    ensures { Tells W.puts W.failed writer.old writer.new (CompletesTo form streams.now) result }
+    ensures { Tells (call W.ByteSink writer.old writer.new) (CompletesTo form streams.now) result }
 {
     match form {
         Form::Acts => tell_acts(rt, alloc, streams, completion, writer),
@@ -83,7 +85,7 @@ fn tell_answer<H: Threads + Sync, W: ByteSink>(
 ) -> u8
     requires is { IsAnswer TOP streams.now answer.now }
     requires ruled_out { IsNeverFinal TOP streams.now answer.now }
-    ensures { Tells W.puts W.failed writer.old writer.new (CompletesTo form streams.now) result }
+    ensures { Tells (call W.ByteSink writer.old writer.new) (CompletesTo form streams.now) result }
 {
     match answer {
         Answer::Whole(completion) => tell_completion(rt, alloc, streams, completion, form, writer),
@@ -106,7 +108,7 @@ fn complete_streams<H: Threads + Sync, W: ByteSink>(
     form: Form,
     writer: &mut W,
 ) -> u8
-    ensures { Tells W.puts W.failed writer.old writer.new (CompletesTo form streams.now) result }
+    ensures { Tells (call W.ByteSink writer.old writer.new) (CompletesTo form streams.now) result }
 {
     match complete::<TOP>(alloc, streams) {
         Ok(answer) => tell_answer(rt, alloc, streams, &answer, form, writer),
@@ -114,10 +116,11 @@ fn complete_streams<H: Threads + Sync, W: ByteSink>(
     }
 }
 
-/// Reads a bundle and writes what its streams lack, in this form, with status 0. If no run without a reset has them, it
-/// writes an event and the reason, and if it doesn't know, `open` and an event, both with status 1. If acts are asked
-/// for and there are more than the reader takes, it writes `long` with status 5. Faulty input is 2; running out of
-/// memory, and a reader or a writer that fails, are 4. It sorts on several threads.
+/// Reads a bundle and writes what its streams lack, in this form, with status 0. If no run without
+/// a reset has them, it writes an event and the reason, and if it doesn't know, `open` and an
+/// event, both with status 1. If acts are asked for and there are more than the reader takes, it
+/// writes `long` with status 5. Faulty input is 2; running out of memory, and a reader or a writer
+/// that fails, are 4. It sorts on several threads.
 pub fn run_complete<H: Threads + Sync, R: ByteSource, W: ByteSink>(
     rt: &H,
     alloc: Global,
@@ -125,8 +128,8 @@ pub fn run_complete<H: Threads + Sync, R: ByteSource, W: ByteSink>(
     writer: &mut W,
     form: Form,
 ) -> u8
-    ensures { Tells W.puts W.failed writer.old writer.new
-        (Owes R.gives R.ended R.failed reader.old reader.new (IsCompleted form)) result }
+    ensures { Tells (call W.ByteSink writer.old writer.new)
+        (Owes (call R.ByteSource reader.old reader.new) (IsCompleted form)) result }
 {
     match read(alloc, reader) {
         Ok(bundle) => complete_streams(rt, alloc, &bundle.streams, form, writer),

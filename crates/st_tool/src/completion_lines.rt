@@ -1,5 +1,5 @@
-//! The lines of the command `complete`: the events that were added, or an event with the reason why there is no
-//! completion.
+//! The lines of the command `complete`: the events that were added, or an event with the reason why
+//! there is no completion.
 
 ghost use Rattle.std.specs.Prelude.{◌≡◌, ◌≤◌, ◌+◌, ◌++◌, codes, length};
 ghost use Rattle.std.specs.List.{flat_map};
@@ -10,8 +10,8 @@ ghost use Rattle.st_text.specs.Room.{buffer_room, line_room};
 ghost use Rattle.st_text.specs.Writing.{WritesOn, WritesText};
 ghost use Rattle.st_chart.specs.Words.{ended_line, place_words};
 ghost use Rattle.st_chart.specs.Report.{event_line, event_words};
-ghost use Rattle.st_tool.specs.Complete.{added_at, added_of, added_text, never_text, open_text, other_line};
-ghost use Rattle.st_tool.specs.Complete.{place_line};
+ghost use Rattle.st_tool.specs.Complete.{added_at, added_of, added_text, never_text, open_text};
+ghost use Rattle.st_tool.specs.Complete.{other_line, place_line};
 
 use crate::lines::{OutputLine, put_place, write_line};
 use st_complete::{Completion, Never};
@@ -22,7 +22,8 @@ use st_text::{Buffer, Device, flush, make_room, put_bytes, put_event};
 fn put_front(buffer: &mut Buffer, word: &[u8], pid: Pid, index: u64)
     requires room { array_vec_len buffer.old + line_room ≤ buffer_room }
     requires short { length word.now ≤ 6 }
-    ensures { buffer.new.items ≡ buffer.old.items ++ (word.now ++ place_words pid index ++ codes " ") }
+    ensures { buffer.new.items
+        ≡ buffer.old.items ++ (word.now ++ place_words pid index ++ codes " ") }
 {
     put_bytes(buffer, word);
     put_place(buffer, pid, index);
@@ -40,7 +41,8 @@ fn put_end(buffer: &mut Buffer, event: Option<Event>)
     put_bytes(buffer, b"\n");
 }
 
-/// Writes a word, a place, and the event there, in two parts: together they may take more than a line's room.
+/// Writes a word, a place, and the event there, in two parts: together they may take more than a
+/// line's room.
 fn write_place_line<W: ByteSink>(
     writer: &mut W,
     buffer: &mut Buffer,
@@ -151,7 +153,8 @@ pub(crate) fn send_added<W: ByteSink>(writer: &mut W, completion: &Completion) -
     flush(writer, &mut buffer)
 }
 
-/// Writes the event at the other place that a reason against an event of this process names, if it names one.
+/// Writes the event at the other place that a reason against an event of this process names, if it
+/// names one.
 fn write_other<W: ByteSink>(
     writer: &mut W,
     buffer: &mut Buffer,
@@ -199,7 +202,8 @@ pub(crate) fn send_never<W: ByteSink>(
     index: u64,
     never: Never,
 ) -> Result<(), Device>
-    ensures { WritesText W.puts W.failed (never_text streams.now pid index never) writer.old writer.new result }
+    ensures { WritesText W.puts W.failed
+        (never_text streams.now pid index never) writer.old writer.new result }
 {
     let mut buffer = Buffer::new();
     write_never(writer, &mut buffer, streams, pid, index, never)?;
@@ -228,7 +232,8 @@ pub(crate) fn send_open<W: ByteSink>(
     pid: Pid,
     index: u64,
 ) -> Result<(), Device>
-    ensures { WritesText W.puts W.failed (open_text streams.now pid index) writer.old writer.new result }
+    ensures { WritesText W.puts W.failed
+        (open_text streams.now pid index) writer.old writer.new result }
 {
     let mut buffer = Buffer::new();
     write_open(writer, &mut buffer, streams, pid, index)?;

@@ -1,6 +1,8 @@
-//! What is wrong with a text that the reader refuses: where, what could stand there, and what to do about it.
+//! What is wrong with a text that the reader refuses: where, what could stand there, and what to do
+//! about it.
 //!
-//! The reader says which line and which of its refusals; the scan says the column. Lines and columns count from 1.
+//! The reader says which line and which of its refusals; the scan says the column. Lines and
+//! columns count from 1.
 
 use crate::scan::{Expected, Place, Scan, Sort, begins_act, common, rising_bytes};
 use st_column::{Above, column_below};
@@ -187,8 +189,9 @@ fn remedy_of_line(line: &[u8], above: Above) -> &'static str {
     }
 }
 
-/// What is wrong with a line that none of the grammar's lines is, or that may not stand where it does. If more of it is
-/// right by its form alone, it names a pid of a node that the header doesn't let in.
+/// What is wrong with a line that none of the grammar's lines is, or that may not stand where it
+/// does. If more of it is right by its form alone, it names a pid of a node that the header doesn't
+/// let in.
 fn wrong_line(bytes: &[u8], number: u64) -> Diagnosis<'_> {
     let (line, context) = line_at(bytes, number);
     let mut scan = Scan::new(line);
@@ -254,7 +257,8 @@ fn wrong_process(bytes: &[u8], number: u64) -> Diagnosis<'_> {
         line,
         column: start.saturating_add(common(pid, context.last)),
         wanted: Wanted::EventOf(context.last, pid),
-        remedy: "an event stands below the process that reports it: a receive below its to, others below their from",
+        remedy: "an event stands below the process that reports it: a receive below its to, \
+            others below their from",
     }
 }
 

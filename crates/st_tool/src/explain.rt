@@ -1,11 +1,12 @@
-//! The command `explain`: why `check` refuses a bundle. It makes the acts again up to the first that reports something
-//! else than the streams have, and shows that act, the event that was due, the report that came, and the actor's state
-//! before it.
+//! The command `explain`: why `check` refuses a bundle. It makes the acts again up to the first
+//! that reports something else than the streams have, and shows that act, the event that was due,
+//! the report that came, and the actor's state before it.
 
-use crate::answer::{status_of, tell_fault, tell_line};
+use crate::answer::tell_line;
 use crate::lines::OutputLine;
 use crate::say::{say, say_act, say_event, say_number, say_pid, say_serial};
 use st_check::{CheckFault, Verdict, check};
+use st_commands::{status_of, tell_fault};
 use st_core::{Act, ByteSink, ByteSource, Event, Pid, Streams, Token};
 use st_text::{Buffer, Bundle, Device, Limits, ReadFault, flush, read_within};
 use st_world::{NewFault, StepFault, World};
@@ -14,8 +15,8 @@ use std::alloc::{AllocError, Global};
 /// The greatest count that a clock of the program can have.
 const TOP: u64 = u64::MAX;
 
-/// A run under way: the world, and by each process's place among the streams how many events it has reported and how
-/// many messages wait for it.
+/// A run under way: the world, and by each process's place among the streams how many events it has
+/// reported and how many messages wait for it.
 #[derive(Drop)]
 struct Rerun {
     world: World<TOP>,
@@ -231,8 +232,9 @@ fn say_came<W: ByteSink>(writer: &mut W, buffer: &mut Buffer, came: &Came) -> Re
     }
 }
 
-/// Sends the first act that reports something else than the streams have; the run stands right before it.
-fn send_parting<W: ByteSink>(
+/// Sends the first act that reports something else than the streams have; the run stands right
+/// before it.
+fn send_difference<W: ByteSink>(
     writer: &mut W,
     streams: &Streams,
     rerun: &Rerun,
@@ -280,7 +282,7 @@ fn send_accepted<W: ByteSink>(writer: &mut W) -> Result<(), Device> {
 }
 
 /// The run right before the act with this number, and what comes of that act.
-fn parting(
+fn rerun_before(
     alloc: Global,
     streams: &Streams,
     acts: &[Act],
@@ -296,8 +298,9 @@ fn parting(
     Ok((rerun, came))
 }
 
-/// Writes about the act with this number, the first that reports something else than the streams have.
-fn tell_parting<W: ByteSink>(
+/// Writes about the act with this number, the first that reports something else than the streams
+/// have.
+fn tell_difference<W: ByteSink>(
     alloc: Global,
     streams: &Streams,
     acts: &[Act],
@@ -307,9 +310,9 @@ fn tell_parting<W: ByteSink>(
     let Some(act) = acts.get(number as usize) else {
         return status_of(send_accepted(writer), 0);
     };
-    match parting(alloc, streams, acts, number as usize, act) {
+    match rerun_before(alloc, streams, acts, number as usize, act) {
         Ok((rerun, came)) => {
-            let sent = send_parting(writer, streams, &rerun, number, act, &came);
+            let sent = send_difference(writer, streams, &rerun, number, act, &came);
             status_of(sent, 1)
         }
         Err(AllocError) => tell_fault(writer, ReadFault::Memory),
@@ -341,7 +344,7 @@ fn explain_acts<W: ByteSink>(alloc: Global, streams: &Streams, acts: &[Act], wri
     match check::<TOP>(alloc, streams, acts) {
         Ok(Verdict::Yes(_)) => status_of(send_accepted(writer), 0),
         Ok(Verdict::Stuck(number) | Verdict::Differs(number)) => {
-            tell_parting(alloc, streams, acts, number, writer)
+            tell_difference(alloc, streams, acts, number, writer)
         }
         Ok(Verdict::Left(pid)) => tell_left(alloc, streams, acts, pid, writer),
         Err(CheckFault::Memory) => tell_fault(writer, ReadFault::Memory),
@@ -356,8 +359,8 @@ fn explain_bundle<W: ByteSink>(alloc: Global, bundle: &Bundle, writer: &mut W) -
     }
 }
 
-/// Reads a bundle and writes why `check` refuses it, with status 1, or that it doesn't, with status 0. Faulty input is
-/// 2; running out of memory, and a reader or a writer that fails, are 4.
+/// Reads a bundle and writes why `check` refuses it, with status 1, or that it doesn't, with status
+/// 0. Faulty input is 2; running out of memory, and a reader or a writer that fails, are 4.
 pub fn run_explain<R: ByteSource, W: ByteSink>(
     alloc: Global,
     reader: &mut R,

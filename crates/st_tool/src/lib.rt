@@ -1,8 +1,8 @@
-//! The commands of `seqtool` on any reader and writer: each reads all bytes, writes its output and returns the exit
-//! status.
+//! The commands of `seqtool` on any reader and writer: each reads all bytes, writes its output and
+//! returns the exit status.
 //!
-//! `specs/` defines what `complete`, `renumber` and `why` write. `st_words` reads the command line, and runs the
-//! command that it asks for.
+//! `specs/` defines what `complete`, `renumber` and `why` write. `st_words` reads the command line,
+//! and runs the command that it asks for.
 #![tactic(auto)]
 
 mod answer;

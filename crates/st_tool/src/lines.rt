@@ -1,4 +1,5 @@
-//! The lines that stand alone. They are written through a buffer on the stack, so that writing takes no memory.
+//! The lines that stand alone. They are written through a buffer on the stack, so that writing
+//! takes no memory.
 
 ghost use Rattle.std.specs.Prelude.{◌≡◌, ◌≤◌, ◌+◌, ◌++◌, codes, length, decimal};
 ghost use Rattle.arrayvec.specs.ArrayVec.{array_vec_len};
@@ -6,21 +7,18 @@ ghost use Rattle.st_text.specs.Room.{buffer_room, line_room, number_room};
 ghost use Rattle.st_text.specs.Writing.{WritesOn, WritesText};
 ghost use Rattle.st_chart.specs.Words.{place_words};
 ghost use Rattle.st_chart.specs.Room.{place_room};
-ghost use Rattle.st_commands.specs.Output.{fault_words};
 ghost use Rattle.st_tool.specs.Complete.{never_words};
 ghost use Rattle.st_tool.specs.Lines.{words, text_of, words_room};
 
 use st_complete::Never;
 use st_core::{ByteSink, Pid};
-use st_text::{Buffer, Device, ReadFault, flush, make_room, put_bytes, put_number, put_pid};
+use st_text::{Buffer, Device, flush, make_room, put_bytes, put_number, put_pid};
 
 /// A line that stands alone.
 #[derive(Clone, Copy, Debug)]
 pub(crate) enum OutputLine {
     /// There is no event at this place.
     NoEvent(Pid, u64),
-    /// The input is faulty, memory ran out, or the input can't be read.
-    Fault(ReadFault),
     /// The input has no acts.
     NoActs,
     /// The acts are more than the reader takes.
@@ -48,36 +46,19 @@ pub(crate) fn put_place(buffer: &mut Buffer, pid: Pid, index: u64)
 fn put_numbered(buffer: &mut Buffer, words: &[u8], number: u64)
     requires { array_vec_len buffer.old + (length words.now + number_room) ≤ buffer_room }
     ensures items { buffer.new.items ≡ buffer.old.items ++ (words.now ++ decimal number) }
-    ensures len { array_vec_len buffer.new ≤ array_vec_len buffer.old + (length words.now + number_room) }
+    ensures len { array_vec_len buffer.new
+        ≤ array_vec_len buffer.old + (length words.now + number_room) }
 {
     put_bytes(buffer, words);
     put_number(buffer, number);
-}
-
-/// Appends the words of a fault.
-fn put_fault(buffer: &mut Buffer, fault: ReadFault)
-    requires { array_vec_len buffer.old + words_room ≤ buffer_room }
-    ensures items { buffer.new.items ≡ buffer.old.items ++ fault_words fault }
-    ensures len { array_vec_len buffer.new ≤ array_vec_len buffer.old + words_room }
-{
-    match fault {
-        ReadFault::Memory => put_bytes(buffer, b"fault memory"),
-        ReadFault::Device => put_bytes(buffer, b"fault device"),
-        ReadFault::TooLarge => put_bytes(buffer, b"fault too large"),
-        ReadFault::Line(n) => put_numbered(buffer, b"fault line ", n),
-        ReadFault::Order(n) => put_numbered(buffer, b"fault order ", n),
-        ReadFault::Foreign(n) => put_numbered(buffer, b"fault foreign ", n),
-        ReadFault::Unknown(n) => put_numbered(buffer, b"fault unknown ", n),
-        ReadFault::TooMany(n) => put_numbered(buffer, b"fault too many ", n),
-        ReadFault::Truncated => put_bytes(buffer, b"fault truncated"),
-    }
 }
 
 /// Appends a word and a place.
 fn put_other(buffer: &mut Buffer, word: &[u8], pid: Pid, index: u64)
     requires { array_vec_len buffer.old + (length word.now + place_room) ≤ buffer_room }
     ensures items { buffer.new.items ≡ buffer.old.items ++ (word.now ++ place_words pid index) }
-    ensures len { array_vec_len buffer.new ≤ array_vec_len buffer.old + (length word.now + place_room) }
+    ensures len { array_vec_len buffer.new
+        ≤ array_vec_len buffer.old + (length word.now + place_room) }
 {
     put_bytes(buffer, word);
     put_place(buffer, pid, index);
@@ -105,7 +86,8 @@ fn put_never_words(buffer: &mut Buffer, pid: Pid, never: Never)
 fn put_never(buffer: &mut Buffer, pid: Pid, index: u64, never: Never)
     requires { array_vec_len buffer.old + words_room ≤ buffer_room }
     ensures items { buffer.new.items
-        ≡ buffer.old.items ++ (codes "never " ++ place_words pid index ++ codes " " ++ never_words pid never) }
+        ≡ buffer.old.items ++ (codes "never " ++ place_words pid index ++ codes " "
+        ++ never_words pid never) }
     ensures len { array_vec_len buffer.new ≤ array_vec_len buffer.old + words_room }
 {
     put_bytes(buffer, b"never ");
@@ -122,7 +104,6 @@ fn put_words(buffer: &mut Buffer, line: OutputLine)
 {
     match line {
         OutputLine::NoEvent(pid, index) => put_other(buffer, b"no event ", pid, index),
-        OutputLine::Fault(fault) => put_fault(buffer, fault),
         OutputLine::NoActs => put_bytes(buffer, b"fault no acts"),
         OutputLine::Long => put_bytes(buffer, b"long"),
         OutputLine::Added(count) => put_numbered(buffer, b"added ", count),
@@ -140,7 +121,8 @@ fn put_line(buffer: &mut Buffer, line: OutputLine)
     put_bytes(buffer, b"\n");
 }
 
-/// Appends a line to the buffer. If there is too little room, the writer gets what waits there first.
+/// Appends a line to the buffer. If there is too little room, the writer gets what waits there
+/// first.
 pub(crate) fn write_line<W: ByteSink>(
     writer: &mut W,
     buffer: &mut Buffer,

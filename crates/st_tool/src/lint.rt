@@ -1,9 +1,10 @@
-//! The command `lint`: what is wrong with a text that the reader refuses, or what is in one that it takes.
+//! The command `lint`: what is wrong with a text that the reader refuses, or what is in one that it
+//! takes.
 
-use crate::answer::{status_of, tell_fault};
 use crate::diagnosis::{Diagnosis, Wanted, diagnose};
 use crate::say::{say, say_number};
 use crate::scan::Expected;
+use st_commands::{status_of, tell_fault};
 use st_core::{Act, ByteSink, ByteSource, MemorySource, Pid, Sequence, Streams};
 use st_text::{Buffer, Bundle, Device, ReadFault, flush, read};
 use std::alloc::{AllocError, Global};
@@ -225,8 +226,8 @@ fn tell_wrong<W: ByteSink>(bytes: &[u8], fault: ReadFault, writer: &mut W) -> u8
     }
 }
 
-/// Reads a text and writes `ok` and what is in it, with status 0, or what is wrong with it, with status 2. Running out
-/// of memory, and a reader or a writer that fails, are 4.
+/// Reads a text and writes `ok` and what is in it, with status 0, or what is wrong with it, with
+/// status 2. Running out of memory, and a reader or a writer that fails, are 4.
 pub fn run_lint<R: ByteSource, W: ByteSink>(alloc: Global, reader: &mut R, writer: &mut W) -> u8 {
     let bytes = match gather(alloc, reader) {
         Ok(bytes) => bytes,

@@ -1,11 +1,12 @@
-//! The command `renumber`: the streams whose text the input is, with each count replaced by its rank. The acts in the
-//! input are ignored.
+//! The command `renumber`: the streams whose text the input is, with each count replaced by its
+//! rank. The acts in the input are ignored.
 
-ghost use Rattle.st_commands.specs.Command.{Owes, Tells};
+ghost use Rattle.st_commands.specs.Command.{Owes, Tells, call};
 ghost use Rattle.st_tool.specs.Parts.{RenumbersTo};
 ghost use Rattle.st_tool.specs.Renumber.{IsRenumbered};
 
-use crate::answer::{tell_fault, tell_streams};
+use crate::answer::tell_streams;
+use st_commands::tell_fault;
 use st_complete::renumbered;
 use st_core::{ByteSink, ByteSource, Streams};
 use st_text::{ReadFault, read};
@@ -13,7 +14,7 @@ use std::alloc::Global;
 
 /// Writes the renumbered streams.
 fn renumber_streams<W: ByteSink>(alloc: Global, streams: &Streams, writer: &mut W) -> u8
-    ensures { Tells W.puts W.failed writer.old writer.new (RenumbersTo streams.now) result }
+    ensures { Tells (call W.ByteSink writer.old writer.new) (RenumbersTo streams.now) result }
 {
     match renumbered(alloc, streams) {
         Ok(ranked) => tell_streams(writer, &ranked),
@@ -21,12 +22,13 @@ fn renumber_streams<W: ByteSink>(alloc: Global, streams: &Streams, writer: &mut 
     }
 }
 
-/// Reads a bundle and writes its streams with each count replaced by its rank, with status 0. If these
-/// have a run without a reset at a TOP that fits, so have the given ones (`shown_if_renumbered_is` of
-/// `st_full`). Faulty input is 2; running out of memory, and a reader or a writer that fails, are 4.
+/// Reads a bundle and writes its streams with each count replaced by its rank, with status 0. If
+/// these have a run without a reset at a TOP that fits, so have the given ones
+/// (`shown_if_renumbered_is` of `st_completions`). Faulty input is 2; running out of memory, and a
+/// reader or a writer that fails, are 4.
 pub fn run_renumber<R: ByteSource, W: ByteSink>(alloc: Global, reader: &mut R, writer: &mut W) -> u8
-    ensures { Tells W.puts W.failed writer.old writer.new
-        (Owes R.gives R.ended R.failed reader.old reader.new IsRenumbered) result }
+    ensures { Tells (call W.ByteSink writer.old writer.new)
+        (Owes (call R.ByteSource reader.old reader.new) IsRenumbered) result }
 {
     match read(alloc, reader) {
         Ok(bundle) => renumber_streams(alloc, &bundle.streams, writer),

@@ -1,4 +1,5 @@
-//! Pieces of text on their way to a writer, for the commands whose words are for people: `lint` and `explain`.
+//! Pieces of text on their way to a writer, for the commands whose words are for people: `lint` and
+//! `explain`.
 
 use st_core::{Act, ByteSink, Event, Pid, Serial};
 use st_text::{

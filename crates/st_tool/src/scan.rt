@@ -1,7 +1,7 @@
 //! Where a line stops being one that may stand in a text, and what could stand there.
 //!
-//! A scan follows a line through the grammar as far as some line goes on; `st_text` alone decides what a text is. So
-//! its column is that of the first byte at which no line of the grammar goes on.
+//! A scan follows a line through the grammar as far as some line goes on; `st_text` alone decides
+//! what a text is. So its column is that of the first byte at which no line of the grammar goes on.
 
 use arrayvec::ArrayVec;
 use st_column::Above;
@@ -21,7 +21,7 @@ pub(crate) enum Expected {
     End,
 }
 
-/// A pid of a line, by the columns where it begins and ends, counted from 0.
+/// A pid of a line, by the columns at which it begins and ends, counted from 0.
 #[derive(Clone, Copy, Debug, Default, PartialEq, Eq)]
 pub(crate) struct Place {
     /// Of its `<`.
@@ -122,7 +122,8 @@ impl<'a> Scan<'a> {
         }
     }
 
-    /// Passes the one of these texts that stands here, or what one of them has in common with the line; says which.
+    /// Passes the one of these texts that stands here, or what one of them has in common with the
+    /// line; says which.
     fn choose(&mut self, texts: &[&'static str], thing: &'static str) -> Result<usize, Expected> {
         let mut best: usize = 0;
         for (i, text) in texts.iter().enumerate() {
@@ -393,8 +394,8 @@ fn greatest_from(value: u64) -> u64 {
     value
 }
 
-/// The node and the number that the digits at the front of a pid's text give so far, at most; and whether the node is
-/// all there.
+/// The node and the number that the digits at the front of a pid's text give so far, at most; and
+/// whether the node is all there.
 fn greatest_pid(text: &[u8]) -> (u64, u64) {
     let mut node: Option<u64> = None;
     let mut value: u64 = 0;

@@ -1,4 +1,5 @@
-//! The steps of the way back from an event: a line for each, as in a chart, with how it follows its cause.
+//! The steps of the way back from an event: a line for each, as in a chart, with how it follows its
+//! cause.
 
 ghost use Rattle.std.specs.Prelude.{◌≡◌, ◌≤◌, ◌<◌, ◌+◌, ◌++◌, length, take};
 ghost use Rattle.std.specs.List.{flat_map};
@@ -52,7 +53,8 @@ fn greatest_count(events: &[Event]) -> u64
         .fold(0, |most, event| event.serial.this.max(most))
 }
 
-/// Whether a process whose next send or print has this prev, after these events, began the trace itself.
+/// Whether a process whose next send or print has this prev, after these events, began the trace
+/// itself.
 fn is_begun(prev: u64, before: &[Event]) -> bool
     ensures { result ≡ is_begun prev before.now }
 {
@@ -63,7 +65,8 @@ fn is_begun(prev: u64, before: &[Event]) -> bool
 /// Appends what the event is.
 fn put_kind(buffer: &mut Buffer, event: &Event)
     requires { array_vec_len buffer.old + item_word_room ≤ buffer_room }
-    ensures items { buffer.new.items ≡ buffer.old.items ++ item_word (item.Reported event.now.from 0) event.now.kind }
+    ensures items { buffer.new.items
+        ≡ buffer.old.items ++ item_word (item.Reported event.now.from 0) event.now.kind }
     ensures len { array_vec_len buffer.new ≤ array_vec_len buffer.old + item_word_room }
 {
     match event.kind {
@@ -158,7 +161,8 @@ fn put_step(
 )
     requires same { chains.now ≡ streams.now }
     requires room { array_vec_len buffer.old + line_room ≤ buffer_room }
-    ensures { buffer.new.items ≡ buffer.old.items ++ ended_line (step_words streams.now place.0 place.1 event.now) }
+    ensures { buffer.new.items
+        ≡ buffer.old.items ++ ended_line (step_words streams.now place.0 place.1 event.now) }
 {
     let (pid, index) = place;
     let cause = chains.cause(pid, index);
@@ -181,7 +185,8 @@ fn write_step<W: ByteSink>(
     event: &Event,
 ) -> Result<(), Device>
     requires { chains.now ≡ streams.now }
-    ensures { WritesOn W.puts W.failed (ended_line (step_words streams.now place.0 place.1 event.now))
+    ensures { WritesOn W.puts W.failed
+        (ended_line (step_words streams.now place.0 place.1 event.now))
         writer.old writer.new buffer.old.items buffer.new.items result }
 {
     make_room(writer, buffer)?;
@@ -234,7 +239,8 @@ pub(crate) fn send_steps<W: ByteSink>(
 ) -> Result<(), Device>
     requires same { chains.now ≡ streams.now }
     requires some { 0 < length (flat_map (step_line streams.now) back.now) }
-    ensures { WritesText W.puts W.failed (flat_map (step_line streams.now) back.now) writer.old writer.new result }
+    ensures { WritesText W.puts W.failed
+        (flat_map (step_line streams.now) back.now) writer.old writer.new result }
 {
     let mut buffer = Buffer::new();
     write_steps(writer, &mut buffer, streams, chains, back)?;

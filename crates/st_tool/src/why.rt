@@ -1,18 +1,20 @@
-//! The command `why`: what caused an event of the streams whose text the input is. The acts in the input are ignored.
+//! The command `why`: what caused an event of the streams whose text the input is. The acts in the
+//! input are ignored.
 
 ghost use Rattle.std.specs.Prelude.{◌≡◌, IsSome, None};
-ghost use Rattle.st_commands.specs.Command.{Owes, Tells};
+ghost use Rattle.st_commands.specs.Command.{Owes, Tells, call};
 ghost use Rattle.st_pair.specs.Links.{IsPairing};
 ghost use Rattle.st_pair.specs.Pairing.{IsPairFault, refusal};
 ghost use Rattle.st_pair.specs.Places.{event_at};
 ghost use Rattle.st_tool.specs.Parts.{TracesTo};
 ghost use Rattle.st_tool.specs.Why.{IsWhy};
 
-use crate::answer::{status_of, tell_fault, tell_finding, tell_line};
+use crate::answer::tell_line;
 use crate::lines::OutputLine;
 use crate::steps::send_steps;
 use st_audit::unfit_by;
 use st_chain::Chains;
+use st_commands::{status_of, tell_fault, tell_finding};
 use st_core::{ByteSink, ByteSource, Pid, Streams};
 use st_pair::{PairFault, Pairing, pair};
 use st_text::{ReadFault, read};
@@ -27,7 +29,8 @@ fn tell_unpaired<W: ByteSink>(
     writer: &mut W,
 ) -> u8
     requires { IsPairFault streams.now fault }
-    ensures { Tells W.puts W.failed writer.old writer.new (TracesTo streams.now pid index) result }
+    ensures { Tells (call W.ByteSink writer.old writer.new)
+        (TracesTo streams.now pid index) result }
 {
     match unfit_by(fault) {
         Some(finding) => tell_finding(writer, streams, &finding),
@@ -47,7 +50,8 @@ fn trace_event<W: ByteSink>(
     requires same { chains.now ≡ streams.now }
     requires accepted { refusal streams.now ≡ None }
     requires there { IsSome (event_at streams.now pid index) }
-    ensures { Tells W.puts W.failed writer.old writer.new (TracesTo streams.now pid index) result }
+    ensures { Tells (call W.ByteSink writer.old writer.new)
+        (TracesTo streams.now pid index) result }
 {
     match chains.back(alloc, pid, index) {
         Ok(back) => {
@@ -69,7 +73,8 @@ fn trace_back<W: ByteSink>(
 ) -> u8
     requires same { chains.now ≡ streams.now }
     requires accepted { refusal streams.now ≡ None }
-    ensures { Tells W.puts W.failed writer.old writer.new (TracesTo streams.now pid index) result }
+    ensures { Tells (call W.ByteSink writer.old writer.new)
+        (TracesTo streams.now pid index) result }
 {
     match streams.event(pid, index) {
         Some(_) => trace_event(alloc, streams, chains, pid, index, writer),
@@ -87,7 +92,8 @@ fn trace_paired<W: ByteSink>(
     writer: &mut W,
 ) -> u8
     requires { IsPairing streams.now pairing.now }
-    ensures { Tells W.puts W.failed writer.old writer.new (TracesTo streams.now pid index) result }
+    ensures { Tells (call W.ByteSink writer.old writer.new)
+        (TracesTo streams.now pid index) result }
 {
     match Chains::new(alloc, streams, pairing) {
         Ok(chains) => trace_back(alloc, streams, &chains, pid, index, writer),
@@ -103,7 +109,8 @@ fn trace_streams<W: ByteSink>(
     index: u64,
     writer: &mut W,
 ) -> u8
-    ensures { Tells W.puts W.failed writer.old writer.new (TracesTo streams.now pid index) result }
+    ensures { Tells (call W.ByteSink writer.old writer.new)
+        (TracesTo streams.now pid index) result }
 {
     match pair(alloc, streams) {
         Ok(pairing) => trace_paired(alloc, streams, &pairing, pid, index, writer),
@@ -111,9 +118,10 @@ fn trace_streams<W: ByteSink>(
     }
 }
 
-/// Reads a bundle and writes the event at this place and its causes, back to a hidden send or a start, with status 0.
-/// If there is no such event, or the streams can't be paired, it writes that with status 1. Faulty input is 2; running
-/// out of memory, and a reader or a writer that fails, are 4. Its time grows as the size of the input does.
+/// Reads a bundle and writes the event at this place and its causes, back to a hidden send or a
+/// start, with status 0. If there is no such event, or the streams can't be paired, it writes that
+/// with status 1. Faulty input is 2; running out of memory, and a reader or a writer that fails,
+/// are 4. Its time grows as the size of the input does.
 pub fn run_why<R: ByteSource, W: ByteSink>(
     alloc: Global,
     reader: &mut R,
@@ -121,8 +129,8 @@ pub fn run_why<R: ByteSource, W: ByteSink>(
     pid: Pid,
     index: u64,
 ) -> u8
-    ensures { Tells W.puts W.failed writer.old writer.new
-        (Owes R.gives R.ended R.failed reader.old reader.new (IsWhy pid index)) result }
+    ensures { Tells (call W.ByteSink writer.old writer.new)
+        (Owes (call R.ByteSource reader.old reader.new) (IsWhy pid index)) result }
 {
     match read(alloc, reader) {
         Ok(bundle) => trace_streams(alloc, &bundle.streams, pid, index, writer),

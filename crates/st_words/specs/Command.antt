@@ -1,7 +1,7 @@
 -- What each command does to its reader and its writer.
-use Rattle.std.specs.Prelude.{ℕ, Bool, List}
+use Rattle.std.specs.Prelude.{ℕ, List}
 use Rattle.st_commands.specs.Output.{Output}
-use Rattle.st_commands.specs.Command.{Owes, OwesWithin, Tells}
+use Rattle.st_commands.specs.Command.{ReaderCall, WriterCall, Owes, OwesWithin, Tells}
 use Rattle.st_commands.specs.Checked.{IsCheckedWithin}
 use Rattle.st_commands.specs.Audited.{IsAuditedWithin}
 use Rattle.st_text.specs.Limits.{greater}
@@ -11,17 +11,14 @@ use Rattle.st_tool.specs.Complete.{IsCompleted}
 use Rattle.st_tool.specs.Renumber.{IsRenumbered}
 use Rattle.st_tool.specs.Why.{IsWhy}
 
-module _ {R W : Type 0} (gives : R → List ℕ → R → Type 0) (ended : R → Type 0) (read_failed : R → Bool)
-    (reader read : R) (puts : W → List ℕ → W → Type 0) (write_failed : W → Bool) (writer written : W) where
+module _ {R W : Type 0} (reader : ReaderCall R) (writer : WriterCall W) where
   -- it read all bytes, and wrote the output that it owes of them
   abbrev TellsOf : (List ℕ → Output → Type 0) → ℕ → Type 0
-  TellsOf IsOutput status =
-      Tells puts write_failed writer written (Owes gives ended read_failed reader read IsOutput) status
+  TellsOf IsOutput status = Tells writer (Owes reader IsOutput) status
 
   -- the same within the greater limits
   abbrev TellsOfGreater : (List ℕ → Output → Type 0) → ℕ → Type 0
-  TellsOfGreater IsOutput status =
-      Tells puts write_failed writer written (OwesWithin greater gives ended read_failed reader read IsOutput) status
+  TellsOfGreater IsOutput status = Tells writer (OwesWithin greater reader IsOutput) status
 
   -- what each command does; of the words of `lint` and `explain` nothing is claimed
   abbrev pub Does : Task → ℕ → Type 0

@@ -1,5 +1,6 @@
 //! A run of the program: a command on a reader and a writer.
 
+ghost use Rattle.st_commands.specs.Command.{call};
 ghost use Rattle.st_words.specs.Command.{Does};
 
 use crate::words::Task;
@@ -16,7 +17,8 @@ pub fn run<H: AllocGlobal + Threads + Sync, R: ByteSource, W: ByteSink>(
     reader: &mut R,
     writer: &mut W,
 ) -> u8
-    ensures { Does R.gives R.ended R.failed reader.old reader.new W.puts W.failed writer.old writer.new task result }
+    ensures { Does (call R.ByteSource reader.old reader.new)
+        (call W.ByteSink writer.old writer.new) task result }
 {
     match task {
         Task::Complete(form) => run_complete(rt, rt.alloc(), reader, writer, form),

@@ -1,5 +1,5 @@
-//! The command line: what the words ask for. `clap` reads them, and writes the help and the messages. The input isn't
-//! read here.
+//! The command line: what the words ask for. `clap` reads them, and writes the help and the
+//! messages. The input isn't read here.
 
 use crate::help;
 use clap::error::ErrorKind;
@@ -182,8 +182,8 @@ fn no_pid(alloc: Global) -> Result<Error, AllocError> {
     )
 }
 
-/// What the words ask for. The first word is the program's name. The error is a message for the user, a help text or
-/// the version, as its kind says; or out of memory.
+/// What the words ask for. The first word is the program's name. The error is a message for the
+/// user, a help text or the version, as its kind says; or out of memory.
 pub fn read_words<'a, S: AsStr>(alloc: Global, words: &'a [S]) -> Result<Request<'a>, Error> {
     let matches = command_line(alloc)?.try_get_matches_from(words)?;
     let Some((name, found)) = matches.subcommand() else {

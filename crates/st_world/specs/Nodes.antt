@@ -1,7 +1,7 @@
--- The processes of a world by node, each known by its number: which are on one node, which nodes are traced, and which
--- processes a reset of their node has to look at.
-use Rattle.std.specs.Prelude.{◌≡◌, ℕ, ◌<◌, ◌≤◌, ◌==◌, ◌⊎◌, Bool, false, if◌then◌else◌, List, [], ◌∷◌, length, map}
-use Rattle.std.specs.Prelude.{slice_index_or}
+-- The processes of a world by node, each known by its number: which are on one node, which nodes
+-- are traced, and which processes a reset of their node has to look at.
+use Rattle.std.specs.Prelude.{◌≡◌, ℕ, ◌<◌, ◌≤◌, ◌==◌, ◌⊎◌, Bool, false, if◌then◌else◌, List, []}
+use Rattle.std.specs.Prelude.{◌∷◌, length, map, slice_index_or}
 use Rattle.st_core.specs.declared.types.Pid.{Pid}
 use Rattle.st_core.specs.declared.types.Message.{Message}
 use Rattle.st_core.specs.Local.{wiped}
@@ -10,8 +10,8 @@ use Rattle.st_core.specs.State.{LocalState, zero_local}
 use Rattle.st_core.specs.Step.{untraced}
 use Rattle.st_world.specs.declared.node.Node.{Node}
 
--- the place of each process's node, the nodes, and the lists of processes that were touched: those of a node in the
--- slots from its start on
+-- the place of each process's node, the nodes, and the lists of processes that were touched: those
+-- of a node in the slots from its start on
 pub record Groups : Type 0 where
   pub places : List ℕ
   pub nodes : List Node
@@ -47,7 +47,8 @@ flagged (b ∷ bs) (l ∷ ls) = record l { traced = b } ∷ flagged bs ls
 
 -- LISTS
 
--- the process of a slot of the node's list. If the list is full, each process of the node has the slot of its number
+-- the process of a slot of the node's list. If the list is full, each process of the node has the
+-- slot of its number
 abbrev pub process_in : List ℕ → Node → ℕ → ℕ
 process_in slots n slot = if n.listed == n.end then slot else slice_index_or slots slot 0
 
@@ -87,7 +88,8 @@ pub record IsPlaced (g : Groups) (i : ℕ) : Type 0 where
 -- the slot names a process of its own node
 pub record IsSlot (g : Groups) (slot : ℕ) : Type 0 where
   pub within : slice_index_or g.slots slot 0 < length g.places
-  pub same : slice_index_or g.places (slice_index_or g.slots slot 0) 0 ≡ slice_index_or g.places slot 0
+  pub same : slice_index_or g.places (slice_index_or g.slots slot 0) 0
+      ≡ slice_index_or g.places slot 0
 
 -- each process is on a node, and has a slot
 pub record AreGroups (g : Groups) : Type 0 where
@@ -95,7 +97,8 @@ pub record AreGroups (g : Groups) : Type 0 where
   pub placed : (i : ℕ) → i < length g.places → IsPlaced g i
   pub slots : (slot : ℕ) → slot < length g.places → IsSlot g slot
 
--- these are the places of the nodes of the pids: processes of one node, and no others, have one place
+-- these are the places of the nodes of the pids: processes of one node, and no others, have one
+-- place
 pub record AreByNode (pids : List Pid) (places : List ℕ) : Type 0 where
   pub len : length places ≡ length pids
   pub same : (i j : ℕ) (d : Pid) → i < length pids → j < length pids

@@ -14,20 +14,23 @@ state_of (p ∷ ps) (l ∷ ls) (queue ∷ queues) = process_of p l queue ∷ sta
 state_of ps ls queues = []
 
 -- the pids rise, and for each there is one of what it keeps and one queue
-pub record AreAligned (pids : List Pid) (locals : List LocalState) (queues : List (List Message)) : Type 0 where
+pub record AreAligned (pids : List Pid) (locals : List LocalState)
+    (queues : List (List Message)) : Type 0 where
   pub rising : IsRising pids
   pub locals_len : length locals ≡ length pids
   pub queues_len : length queues ≡ length pids
 
 -- what holds of the rows of each world: beside that, each process is as every run keeps it
-pub record AreRows (top : ℕ) (pids : List Pid) (locals : List LocalState) (queues : List (List Message)) : Type 0 where
+pub record AreRows (top : ℕ) (pids : List Pid) (locals : List LocalState)
+    (queues : List (List Message)) : Type 0 where
   pub aligned : AreAligned pids locals queues
   pub sound : All (IsSound top) (state_of pids locals queues)
 
 -- what a world keeps, of which the mark traced of each process is that of its node: its rows, the
 -- nodes of its pids, and
 -- each process that a reset of its node would change is listed there
-pub record AreKept (top : ℕ) (pids : List Pid) (g : Groups) (locals : List LocalState) (queues : List (List Message))
+pub record AreKept (top : ℕ) (pids : List Pid) (g : Groups) (locals : List LocalState)
+    (queues : List (List Message))
     : Type 0 where
   pub rows : AreRows top pids (flagged (flags g) locals) queues
   pub locals_len : length locals ≡ length pids
@@ -40,4 +43,5 @@ pub record IsNodeRange (node : ℕ) (pids : List Pid) (start end : ℕ) : Type 0
   pub within : end ≤ length pids
   pub before : (i : ℕ) (d : Pid) → i < start → node_of (slice_index_or pids i d) < node
   pub on : (i : ℕ) (d : Pid) → start ≤ i → i < end → node_of (slice_index_or pids i d) ≡ node
-  pub after : (i : ℕ) (d : Pid) → end ≤ i → i < length pids → node < node_of (slice_index_or pids i d)
+  pub after : (i : ℕ) (d : Pid) → end ≤ i → i < length pids
+      → node < node_of (slice_index_or pids i d)

@@ -1,6 +1,7 @@
 -- What the public calls of a world return.
-use Rattle.std.specs.Prelude.{◌≡◌, ℕ, ◌<◌, ◌≤◌, Bool, true, false, ◌⊎◌, List, Option, Some, None, Result, Err}
-use Rattle.std.specs.Prelude.{IsSome, IfSome, IfOk, IfErr, OnErr, All, option_and_then, position}
+use Rattle.std.specs.Prelude.{◌≡◌, ℕ, ◌<◌, ◌≤◌, Bool, true, false, ◌⊎◌, List, Option, Some, None}
+use Rattle.std.specs.Prelude.{Result, Err, IsSome, IfSome, IfOk, IfErr, OnErr, All, option_and_then}
+use Rattle.std.specs.Prelude.{position}
 use Rattle.std.specs.Option.{ForSome}
 use Rattle.st_core.specs.declared.types.Pid.{Pid}
 use Rattle.st_core.specs.declared.types.Token.{Token}
@@ -21,15 +22,20 @@ use Rattle.st_world.specs.declared.outcome.StepFault.TheVariants as fault
 
 -- what comes of a step that tells this and leaves the state so
 abbrev pub outcome_to : Told → State → Outcome
-outcome_to told new = record { reply = told.reply; report = told.report; place = told.place; after = new }
+outcome_to told new = record {
+  reply = told.reply;
+  report = told.report;
+  place = told.place;
+  after = new;
+}
 
 -- when a new world is refused: for its pids if these don't rise, else because memory ran out
 abbrev pub IsNewFault : List Pid → NewFault → Type 0
 IsNewFault pids new_fault.Memory = IsRising pids
 IsNewFault pids new_fault.NotRising = ¬ IsRising pids
 
--- when a step is refused. The cases exclude each other, and the last two exclude an outcome: so each
--- comes exactly where it is said
+-- when a step is refused. The cases exclude each other, and the last two exclude an outcome: so
+-- each comes exactly if its case holds
 abbrev pub IsFault : ℕ → State → Act → StepFault → Type 0
 IsFault top s a fault.Memory = IsSome (step top s a)
 IsFault top s a fault.Unknown = (process s (actor a) ≡ None) ⊎ (process s (receiver a) ≡ None)
@@ -58,9 +64,10 @@ AreStamped top queue = All (λ m. ForSome m.token (IsStamped top m.from)) queue
 abbrev pub Rises : Event → Type 0
 Rises e = e.serial.prev < e.serial.this
 
--- what a step of the act returns and leaves, from the old state to the new: the clauses of `step` in
--- one word, for the parts that it is made of
-pub record IsStep (top : ℕ) (old : State) (a : Act) (r : Result Told StepFault) (new : State) : Type 0 where
+-- what a step of the act returns and leaves, from the old state to the new: the clauses of `step`
+-- in one word, for the parts that it is made of
+pub record IsStep (top : ℕ) (old : State) (a : Act) (r : Result Told StepFault)
+    (new : State) : Type 0 where
   pub steps : IfOk r (λ told. step top old a ≡ Some (outcome_to told new))
   pub rises : IfOk r (λ told. IfSome told.report Rises)
   pub stays : OnErr r (new ≡ old)

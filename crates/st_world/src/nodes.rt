@@ -95,7 +95,7 @@ impl Nodes {
     }
 
     /// Whether the node of the process is traced.
-    pub fn traced(&self, number: usize) -> bool
+    pub fn is_traced(&self, number: usize) -> bool
         requires { number < length self.now.places }
         ensures { result ≡ traced_at self.now number }
     {
@@ -137,8 +137,8 @@ impl Nodes {
         }
     }
 
-    /// Readies a process for its act: it is listed as touched, and what it keeps says whether its node
-    /// is traced.
+    /// Readies a process for its act: it is listed as touched, and what it keeps says whether its
+    /// node is traced.
     pub fn ready<const TOP: u64>(&mut self, number: usize, local: &mut Local<TOP>)
         requires { number < length self.old.places }
         ensures local { local.new ≡ record local.old { traced = traced_at self.old number } }
@@ -148,12 +148,12 @@ impl Nodes {
         ensures others { (i : ℕ) → i < length self.old.places
             → IsListed self.old i → IsListed self.new i }
     {
-        let _was = local.trace(self.traced(number));
+        let _was = local.trace(self.is_traced(number));
         self.touch(number);
     }
 
-    /// Wipes the listed processes of this one's node, and the tokens in their queues. If each of its
-    /// processes is clean or listed, that resets the node.
+    /// Wipes the listed processes of this one's node, and the tokens in their queues. If each of
+    /// its processes is clean or listed, that resets the node.
     pub fn wipe<const TOP: u64>(
         &self,
         number: usize,

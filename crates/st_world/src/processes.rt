@@ -1,5 +1,5 @@
-//! The processes of a world, and one step of them. Each call looks its processes up by pid, and leaves
-//! the rest to the functions on one process or on one node.
+//! The processes of a world, and one step of them. Each call looks its processes up by pid, and
+//! leaves the rest to the functions on one process or on one node.
 
 ghost use Rattle.std.specs.Prelude.{◌≡◌, true, option_map, IfErr, IfOk, IfSome, OnOk};
 ghost use Rattle.st_core.specs.Pid.{IsRising};
@@ -8,14 +8,15 @@ ghost use Rattle.st_core.specs.Step.{actor};
 ghost use Rattle.st_arena.specs.Calls.{PassesOnce};
 ghost use Rattle.st_mail.specs.Actor.{is_inner};
 ghost use Rattle.st_mail.specs.Mail.{bears_stamp};
-ghost use Rattle.st_world.specs.World.{place_in, token_of, AreOrdered, AreStamped, IsNewFault, IsStep};
+ghost use Rattle.st_world.specs.World.{place_in, token_of, AreOrdered, AreStamped, IsNewFault};
+ghost use Rattle.st_world.specs.World.{IsStep};
 
 use crate::nodes::Nodes;
 use crate::outcome::{NewFault, StepFault};
 use crate::rows::{number_of, pid_set, zeros};
 use indexmap::IndexSet;
 use st_core::{Act, Kind, Local, Message, Pid, Reply, Token, Want, is_rising};
-use st_mail::actor::{answer, event, inner, receive, stamped};
+use st_mail::actor::{answer, event, inner, receive, stamp};
 use st_mail::{Mailboxes, Outcome};
 use std::alloc::Global;
 use std::marker::Model;
@@ -189,7 +190,7 @@ impl<const TOP: u64> Processes<TOP> {
         };
         self.nodes.ready(from_number, &mut self.locals[from_number]);
         self.nodes.touch(to_number);
-        let Ok(local) = stamped(me, &self.locals[from_number]) else {
+        let Ok(local) = stamp(me, &self.locals[from_number]) else {
             return Err(StepFault::ClockFull);
         };
         let token = local.token();

@@ -17,15 +17,15 @@ use std::marker::Model;
 
 /// All processes of the machine. `TOP` is the greatest value of a clock.
 ///
-/// Tokens and clocks go by the manual page of `seq_trace`. What it is silent on is this project's own
-/// profile: a message arrives with its send, a reset reaches the actor's node, and an act can be
-/// refused.
+/// Tokens and clocks go by the manual page of `seq_trace`. What it is silent on is this project's
+/// own profile: a message arrives with its send, a reset reaches the actor's node, and an act can
+/// be refused.
 #[derive(Drop)]
 pub struct World<const TOP: u64> {
     processes: Processes<TOP>,
 
-    // Whether no reset was asked for yet. Until then no stamp stands twice in a queue, so that a message
-    // may be looked for from either end.
+    // Whether no reset was asked for yet. Until then no stamp stands twice in a queue, so that a
+    // message may be looked for from either end.
     one_trace: bool,
 }
 
@@ -72,8 +72,9 @@ impl<const TOP: u64> World<TOP> {
         self.processes.clock(pid)
     }
 
-    /// The last count of the process: that of the last message with a token that it took, or its clock
-    /// if a new trace began after that. It is never above the clock. None if the process is unknown.
+    /// The last count of the process: that of the last message with a token that it took, or its
+    /// clock if a new trace began after that. It is never above the clock. None if the process is
+    /// unknown.
     pub fn last(&self, pid: Pid) -> Option<u64>
         ensures value { result ≡ option_map (λ r. r.local.last) (process self.now pid) }
         ensures ordered { IfSome (process self.now pid) (λ r. AreOrdered TOP r.local) }
@@ -83,8 +84,8 @@ impl<const TOP: u64> World<TOP> {
 
     /// In the queue of the process the least place whose message has a token with this from and
     /// this own count: that message is from the process that stamped the token. None if there is no
-    /// such message, and if the process is unknown. Until the first reset it takes as many steps as the
-    /// place is from the nearer end of the queue, then as many as it is from the front.
+    /// such message, and if the process is unknown. Until the first reset it takes as many steps as
+    /// the place is from the nearer end of the queue, then as many as it is from the front.
     pub fn place_of(&self, pid: Pid, from: Pid, this: u64) -> Option<u64>
         ensures value { result ≡ place_in self.now pid from this }
         ensures stamped { IfSome (process self.now pid) (λ r. AreStamped TOP r.queue) }
@@ -96,12 +97,13 @@ impl<const TOP: u64> World<TOP> {
         }
     }
 
-    /// One act. An act has a step if its actor is there, with a send's receiver, and if its stamp, if
-    /// it has one, has a value: refusals come in this order. After a refusal the world is as before.
-    /// Only a send takes memory, so only a send can run out of it; what room there is for messages is
-    /// no part of the state that a contract sees.
+    /// One act. An act has a step if its actor is there, with a send's receiver, and if its stamp,
+    /// if it has one, has a value: refusals come in this order. After a refusal the world is as
+    /// before. Only a send takes memory, so only a send can run out of it; what room there is for
+    /// messages is no part of the state that a contract sees.
     pub fn step(&mut self, act: &Act) -> Result<Outcome, StepFault>
-        ensures step { IfOk result (λ told. step TOP self.old act.now ≡ Some (outcome_to told self.new)) }
+        ensures step { IfOk result
+            (λ told. step TOP self.old act.now ≡ Some (outcome_to told self.new)) }
         ensures rises { IfOk result (λ told. IfSome told.report Rises) }
 
         ensures err { OnErr result (self.new ≡ self.old) }

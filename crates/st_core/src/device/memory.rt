@@ -2,12 +2,12 @@
 //!
 //! Their contracts say to the byte what gets through and when a call fails.
 
-ghost use Rattle.std.specs.Prelude.{◌≡◌, ◌≤◌, ◌<◌, ◌-◌, [], min, length, take, true, false, IfOk, IsOk, MatchResult};
-ghost use Rattle.std.specs.Prelude.{Some, None};
+ghost use Rattle.std.specs.Prelude.{◌≡◌, ◌≤◌, ◌<◌, ◌-◌, [], min, length, take, true, false, IfOk};
+ghost use Rattle.std.specs.Prelude.{IsOk, MatchResult, Some, None};
 ghost use Rattle.std.specs.Result.{result_ok};
 ghost use Rattle.std.specs.Io.KnownBytes.{ReadConsumes, WriteAppends};
-ghost use Rattle.st_core.specs.Device.{Marks, PassesEmpty, through, burnt, let_through, taken_count, put_count};
-ghost use Rattle.st_core.specs.Device.{after_take, after_put, AreZeros};
+ghost use Rattle.st_core.specs.Device.{Marks, PassesEmpty, through, burnt, let_through};
+ghost use Rattle.st_core.specs.Device.{taken_count, put_count, after_take, after_put, AreZeros};
 
 use crate::device::sink::ByteSink;
 use crate::device::source::{ByteSource, Failed};
@@ -140,7 +140,12 @@ impl Model for MemorySink {
 
     ghost Value = { MemoryOutput };
 
-    ghost view = { λ a. record { written = a.bytes.items; room = a.room; fuse = a.fuse; failed = a.failed } };
+    ghost view = { λ a. record {
+      written = a.bytes.items;
+      room = a.room;
+      fuse = a.fuse;
+      failed = a.failed;
+    } };
 
     ghost invariant = { λ a. vec_len a.bytes + a.room ≤ vec_capacity a.bytes };
 }
@@ -150,7 +155,8 @@ impl MemorySink {
     /// is the number of bytes after which it fails; `None` never fails before its room is full.
     /// It fails only if memory runs out.
     pub fn new(alloc: Global, room: usize, fuse: Option<u64>) -> Result<MemorySink, AllocError>
-        ensures ok { IfOk result (λ s. s ≡ record { written = []; room = room; fuse = fuse; failed = false }) }
+        ensures ok { IfOk result (λ s. s
+            ≡ record { written = []; room = room; fuse = fuse; failed = false }) }
         ensures no_room { room ≡ 0 → IsOk result }
     {
         let bytes = Vec::with_capacity(alloc, room)?;
@@ -185,7 +191,8 @@ impl ByteSink for MemorySink {
         ensures bound { IfOk result (λ n. n ≤ length piece.now) }
         ensures some { IfOk result (λ n. 0 < length piece.now → 0 < n) }
         ensures empty { PassesEmpty self.old.failed piece.now self.old self.new result }
-        ensures bytes { WriteAppends (Some self.old.written) (Some self.new.written) result piece.now }
+        ensures bytes { WriteAppends (Some self.old.written)
+            (Some self.new.written) result piece.now }
         ensures wrote { MatchResult result
             (λ n. self.new.written ≡ self.old.written ++ take n piece.now)
             (λ _. self.new.written ≡ self.old.written ++ []) }

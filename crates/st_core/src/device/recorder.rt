@@ -40,7 +40,7 @@ impl<D> Recorder<D> {
     }
 
     /// All the bytes that passed, from the first on.
-    pub fn passed(&self) -> &[u8]
+    pub fn bytes(&self) -> &[u8]
         ensures { result.now ≡ self.now.passed }
     {
         self.log.as_slice()
@@ -56,7 +56,8 @@ impl<S: ByteSource> ByteSource for Recorder<S> {
 
     ghost failed = { λ s. s.failed };
 
-    ghost gives = { λ a bytes b. (b.passed ≡ a.passed ++ bytes) × InARow S.gives a.inner bytes b.inner };
+    ghost gives = { λ a bytes b. (b.passed ≡ a.passed ++ bytes)
+        × InARow S.gives a.inner bytes b.inner };
 
     ghost ended = { λ s. S.ended s.inner };
 
@@ -96,7 +97,8 @@ impl<S: ByteSink> ByteSink for Recorder<S> {
 
     ghost failed = { λ s. s.failed };
 
-    ghost puts = { λ a bytes b. (b.passed ≡ a.passed ++ bytes) × InARow S.puts a.inner bytes b.inner };
+    ghost puts = { λ a bytes b. (b.passed ≡ a.passed ++ bytes)
+        × InARow S.puts a.inner bytes b.inner };
 
     ghost puts_appends = { λ a bytes b wrote.
         row_appends S.written S.puts S.puts_appends a.inner b.inner bytes wrote.1 };

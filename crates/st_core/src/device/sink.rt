@@ -1,6 +1,7 @@
 //! What a sink of bytes promises. Only the trait: the sinks stand beside it.
 
-ghost use Rattle.std.specs.Prelude.{◌≤◌, ◌<◌, take, List, [], ℕ, Bool, Option, IfOk, MatchResult, length};
+ghost use Rattle.std.specs.Prelude.{◌≤◌, ◌<◌, take, List, [], ℕ, Bool, Option, IfOk, MatchResult};
+ghost use Rattle.std.specs.Prelude.{length};
 ghost use Rattle.std.specs.Io.KnownBytes.{WriteAppends, Appends};
 ghost use Rattle.st_core.specs.Device.{Marks, PassesEmpty};
 

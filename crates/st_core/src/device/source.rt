@@ -1,6 +1,7 @@
 //! What a source of bytes promises. Only the trait: the sources stand beside it.
 
-ghost use Rattle.std.specs.Prelude.{◌≡◌, ◌≤◌, ◌<◌, take, List, [], ℕ, Bool, Option, IfOk, MatchResult, length};
+ghost use Rattle.std.specs.Prelude.{◌≡◌, ◌≤◌, ◌<◌, take, List, [], ℕ, Bool, Option, IfOk};
+ghost use Rattle.std.specs.Prelude.{MatchResult, length};
 ghost use Rattle.std.specs.Io.KnownBytes.{ReadConsumes, Consumes};
 ghost use Rattle.st_core.specs.Device.{Marks, PassesEmpty};
 
@@ -27,8 +28,8 @@ pub trait ByteSource {
     ghost ended: { Self → Type 0 };
 
     /// Writes the next bytes to the front of the piece, and returns how many. 0, for a piece with
-    /// room, means the end. For a piece without room a source that hasn't failed returns 0 and stays
-    /// as it was. After a failure each call fails.
+    /// room, means the end. For a piece without room a source that hasn't failed returns 0 and
+    /// stays as it was. After a failure each call fails.
     fn take(&mut self, piece: &mut [u8]) -> Result<usize, Failed>
         ensures bound { IfOk result (λ n. n ≤ length piece.new) }
         ensures bytes { ReadConsumes (left self.old) (left self.new) result piece.new }

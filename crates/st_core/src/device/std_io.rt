@@ -43,7 +43,8 @@ impl<R: Read> ByteSource for ReadFrom<R> {
 
     ghost failed = { λ s. s.failed };
 
-    ghost gives = { λ a bytes b. Passed a bytes b × Consumes (R.remaining a.inner) (R.remaining b.inner) bytes };
+    ghost gives = { λ a bytes b. Passed a bytes b
+        × Consumes (R.remaining a.inner) (R.remaining b.inner) bytes };
 
     ghost ended = { λ s. HasEnded s × IsAtEnd (R.remaining s.inner) };
 
@@ -103,7 +104,8 @@ impl<W: Write> ByteSink for WriteTo<W> {
 
     ghost failed = { λ s. s.failed };
 
-    ghost puts = { λ a bytes b. Passed a bytes b × Appends (W.contents a.inner) (W.contents b.inner) bytes };
+    ghost puts = { λ a bytes b. Passed a bytes b
+        × Appends (W.contents a.inner) (W.contents b.inner) bytes };
 
     ghost puts_appends = { λ _ _ _ wrote. wrote.1 };
 

@@ -1,6 +1,6 @@
 //! The workers of a drive: each makes the acts of one script in a thread of its own.
 
-ghost use Rattle.std.specs.Prelude.{◌≡◌, [], length, map, zip, All, IfOk, IfErr, Some};
+ghost use Rattle.std.specs.Prelude.{◌≡◌, [], length, map, reverse, zip, All, IfOk, IfErr, Some};
 ghost use Rattle.st_runtime.specs.Working.{IsLeft, AreWorked, IsOwnFault};
 
 use crate::fault::{ActFault, DriveFault};
@@ -17,8 +17,8 @@ use std::sync::atomic::{AtomicBool, Ordering};
 use std::thread;
 use std::thread::{Promise, Threads};
 
-/// The stack of a worker's thread, in bytes. An act of a whole node takes a frame for each of its processes
-/// (`System::act`), of which an input of the program has up to 1,024.
+/// The stack of a worker's thread, in bytes. An act of a whole node takes a frame for each of its
+/// processes (`System::act`), of which an input of the program has up to 1,024.
 pub const WORKER_STACK: usize = 2_097_152;
 
 /// What a worker is given: a seat through which no act was made yet, and the acts to make.
@@ -76,10 +76,11 @@ impl<const TOP: u64, const RANKS: u64> Promise<Option<Ending>> for Leaves<TOP, R
     ghost kept_by = { λ p left. IsLeft p.system.value p.task.value left };
 }
 
-/// All workers at once, each in a thread of its own with a stack of so many bytes. If a thread can't be started,
-/// those that were started stop at their next act, and are waited for.
+/// All workers at once, each in a thread of its own with a stack of so many bytes. If a thread
+/// can't be started, those that were started stop at their next act, and are waited for.
 ///
-/// Fails with `Thread`, else with `Memory`; but with `Memory` at once if there is no room for the threads.
+/// Fails with `Thread`, else with `Memory`; but with `Memory` at once if there is no room for the
+/// threads.
 pub fn work_all<const TOP: u64, const RANKS: u64, R: Threads + Wait + Sync, G: Gate + Sync>(
     rt: &R,
     alloc: Global,
@@ -155,31 +156,44 @@ fn work<const TOP: u64, const RANKS: u64, R: Wait, G: Gate>(
     ensures { IsLeft system.now task result }
 {
     let Task { seat, script } = task;
-    play_script(rt, system, gate, stop, seat, script.as_slice())
+    let mut acts = script.into_vec();
+    acts.reverse();
+    play_from_end(rt, system, gate, stop, seat, acts)
 }
 
-/// The same, of the task's parts.
-fn play_script<const TOP: u64, const RANKS: u64, R: Wait, G: Gate>(
+/// The same, of a seat and the script's acts, the last of which comes first. Their memory is let go
+/// as they are made, since what they leave takes as much.
+fn play_from_end<const TOP: u64, const RANKS: u64, R: Wait, G: Gate>(
     rt: &R,
     system: &System<TOP, RANKS>,
     gate: &G,
     stop: &AtomicBool,
     mut seat: Seat,
-    script: &[Act],
+    mut acts: Vec<Act>,
 ) -> Option<Ending>
     requires { seat.mine ≡ [] }
-    ensures { IsLeft system.now (seat.pid, script.now) result }
+    ensures { IsLeft system.now (seat.pid, reverse acts.items) result }
 {
-    for act in script {
+    while let Some(act) = acts.pop() {
         if stop.load(Ordering::SeqCst) {
             return None;
         }
-        if let Err(fault) = system.act(rt, gate, &mut seat, act) {
+        if let Err(fault) = system.act(rt, gate, &mut seat, &act) {
             return Some(Ending {
                 seat,
                 fault: Some(fault),
             });
         }
+        shrink_if_half_empty(&mut acts);
     }
     Some(Ending { seat, fault: None })
+}
+
+/// Lets go of the room for acts that were made, once it is half of all.
+fn shrink_if_half_empty(acts: &mut Vec<Act>)
+    ensures { acts.new.items ≡ acts.old.items }
+{
+    if acts.len() <= acts.capacity() / 2 {
+        acts.shrink_to_fit();
+    }
 }

@@ -34,7 +34,8 @@ pub fn is_seen_fit<const TOP: u64, const RANKS: u64>(
         rt,
         |k: usize| -> bool
             requires { IsRising (pids_in processes.now) }
-            ensures { IsTrue result → FitsAt (record { processes = processes.entry.now; seats = seats.entry.now }) k }
+            ensures { IsTrue result → FitsAt
+                (record { processes = processes.entry.now; seats = seats.entry.now }) k }
         { fits_at(alloc, processes, seats, k) },
     )
 }

@@ -1,5 +1,6 @@
-//! The entries of all logs as one list. Each process's own entries are all entries, and each once: so
-//! one stable sort by rank of these merges the logs. They stay in the logs, and are only referred to.
+//! The entries of all logs as one list. Each process's own entries are all entries, and each once:
+//! so one stable sort by rank of these merges the logs. They stay in the logs, and are only
+//! referred to.
 
 ghost use Rattle.std.specs.Prelude.{◌≡◌, ◌<◌, ◌++◌, length, map, All, IfOk, OnOk};
 ghost use Rattle.st_core.specs.Pid.{IsRising};

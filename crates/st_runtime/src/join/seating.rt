@@ -5,11 +5,12 @@ ghost use Rattle.st_core.specs.Pid.{IsRising};
 ghost use Rattle.st_runtime.specs.Joining.{IsLeastUnseated, lesser};
 ghost use Rattle.st_runtime.specs.Pieces.{pids_in, calls_of, seats_at, IsSeated, IsFirstUnseated};
 
-use crate::join::same::{is_same_act, is_same_reply};
 use crate::join::whole::place_in;
 use crate::pcb::Pcb;
+use crate::pcb::calls::CallLog;
 use crate::pcb::entry::Entry;
 use crate::pcb::log::Log;
+use crate::pcb::same::{is_same_act, is_same_reply};
 use crate::system::seat::Seat;
 use st_core::{Act, Pid, Reply};
 
@@ -33,7 +34,8 @@ fn least_of_logs<const TOP: u64, const RANKS: u64>(
     seats: &[Seat],
 ) -> Option<Pid>
     requires { IsRising (pids_in processes.now) }
-    ensures { IsLeastUnseated (λ x. x.process.pid) (record { processes = processes.now; seats = seats.now })
+    ensures { IsLeastUnseated (λ x. x.process.pid)
+        (record { processes = processes.now; seats = seats.now })
         processes.now result }
 {
     let mut least = None;
@@ -52,11 +54,14 @@ fn least_of_seats<const TOP: u64, const RANKS: u64>(
     of_logs: Option<Pid>,
 ) -> Option<Pid>
     requires rising { IsRising (pids_in processes.now) }
-    requires least { IsLeastUnseated (λ x. x.process.pid) (record { processes = processes.now; seats = seats.now })
+    requires least { IsLeastUnseated (λ x. x.process.pid)
+        (record { processes = processes.now; seats = seats.now })
         processes.now of_logs }
-    ensures logs { IsLeastUnseated (λ x. x.process.pid) (record { processes = processes.now; seats = seats.now })
+    ensures logs { IsLeastUnseated (λ x. x.process.pid)
+        (record { processes = processes.now; seats = seats.now })
         processes.now result }
-    ensures seats { IsLeastUnseated (λ s. s.pid) (record { processes = processes.now; seats = seats.now })
+    ensures seats { IsLeastUnseated (λ s. s.pid)
+        (record { processes = processes.now; seats = seats.now })
         seats.now result }
 {
     let mut least = of_logs;
@@ -86,7 +91,8 @@ pub fn is_seated<const TOP: u64, const RANKS: u64>(
     pid: Pid,
 ) -> bool
     requires { IsRising (pids_in processes.now) }
-    ensures { IsTrue result ↔ IsSeated (record { processes = processes.now; seats = seats.now }) pid }
+    ensures { IsTrue result ↔ IsSeated
+        (record { processes = processes.now; seats = seats.now }) pid }
 {
     match place_in(processes, pid) {
         Some(place) => has_only_seat(seats, pid, processes[place].log()),
@@ -97,7 +103,8 @@ pub fn is_seated<const TOP: u64, const RANKS: u64>(
 /// Whether the one seat of the pid is that of this log.
 fn has_only_seat(seats: &[Seat], pid: Pid, log: &Log) -> bool
     ensures { IsTrue result
-        ↔ (seats_at seats.now pid ≡ record { pid = pid; mine = calls_of pid log.now.entries } ∷ []) }
+        ↔ (seats_at seats.now pid
+        ≡ record { pid = pid; mine = calls_of pid log.now.entries } ∷ []) }
 {
     for (place, seat) in seats.iter().enumerate() {
         if seat.pid() == pid {
@@ -120,14 +127,14 @@ fn has_no_seat(seats: &[Seat], pid: Pid) -> bool
 }
 
 /// Whether these are the calls of the pid in the log.
-fn holds_calls(mine: &[(Act, Reply)], pid: Pid, log: &Log) -> bool
-    ensures { IsTrue result ↔ (mine.now ≡ calls_of pid log.now.entries) }
+fn holds_calls(mine: &CallLog, pid: Pid, log: &Log) -> bool
+    ensures { IsTrue result ↔ (mine.now.calls ≡ calls_of pid log.now.entries) }
 {
     let mut next = 0;
     for place in 0..log.len() {
         let entry = log.at(place);
         if entry.act.actor() == pid {
-            if next >= mine.len() || !is_call(&mine[next], &entry) {
+            if next >= mine.len() || !is_call(&mine.at(next), &entry) {
                 return false;
             }
             next += 1;

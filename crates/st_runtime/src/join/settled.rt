@@ -1,7 +1,7 @@
 //! Whether it is seen at once that all entries are whole. If it isn't, nothing is known.
 //!
-//! Ranks rise in each log, so that the entries of one log that another shares stand there in the same
-//! order: each is looked for from where the one before was found.
+//! Ranks rise in each log, so that the entries of one log that another shares stand there in the
+//! same order: each is looked for from where the one before was found.
 
 ghost use Rattle.std.specs.Prelude.{◌≡◌, All, Contains, IsTrue};
 ghost use Rattle.st_core.specs.Pid.{IsRising};
@@ -9,17 +9,17 @@ ghost use Rattle.st_core.specs.Step.{actor};
 ghost use Rattle.st_runtime.specs.Joining.{HasAt, IsSettled};
 ghost use Rattle.st_runtime.specs.Pieces.{pids_in, AreWhole, IsWhole};
 
-use crate::join::same::is_same;
 use crate::join::whole::{is_everywhere, place_in};
 use crate::pcb::Pcb;
 use crate::pcb::acts::{is_wide, receiver_of};
 use crate::pcb::entry::Entry;
 use crate::pcb::log::Log;
+use crate::pcb::same::is_same;
 use st_core::Pid;
 use std::alloc::Global;
 
-/// Whether it is seen that all entries are whole: those that a process made are, and each entry of any
-/// log is in the log of the process that made it.
+/// Whether it is seen that all entries are whole: those that a process made are, and each entry of
+/// any log is in the log of the process that made it.
 pub fn are_seen_whole<const TOP: u64, const RANKS: u64>(
     alloc: Global,
     processes: &[Pcb<TOP, RANKS>],
@@ -35,8 +35,8 @@ pub fn are_seen_whole<const TOP: u64, const RANKS: u64>(
     true
 }
 
-/// Whether it is seen that all entries of this process's log are settled there. It isn't if there is
-/// no room for a place in each log.
+/// Whether it is seen that all entries of this process's log are settled there. It isn't if there
+/// is no room for a place in each log.
 pub fn are_seen_settled<const TOP: u64, const RANKS: u64>(
     alloc: Global,
     processes: &[Pcb<TOP, RANKS>],
@@ -72,8 +72,8 @@ fn are_settled<const TOP: u64, const RANKS: u64>(
     true
 }
 
-/// Whether an entry of this process's log is seen in the log of its actor, and to be whole if that is
-/// this one.
+/// Whether an entry of this process's log is seen in the log of its actor, and to be whole if that
+/// is this one.
 fn is_settled<const TOP: u64, const RANKS: u64>(
     processes: &[Pcb<TOP, RANKS>],
     places: &mut [usize],
@@ -129,8 +129,8 @@ fn sees_at<const TOP: u64, const RANKS: u64>(
     }
 }
 
-/// Whether the log is seen to have the entry, which is looked for from this place on. The place becomes
-/// that at which the search ended.
+/// Whether the log is seen to have the entry, which is looked for from this place on. The place
+/// becomes that at which the search ended.
 fn sees(log: &Log, place: &mut usize, entry: &Entry) -> bool
     ensures { IsTrue result → Contains log.now.entries entry.now }
 {

@@ -1,7 +1,8 @@
 //! Which entries stand in the log of each process that their acts touch.
 
-ghost use Rattle.std.specs.Prelude.{◌≡◌, ◌<◌, length, take, true, All, Contains, slice_get, slice_index_or};
-ghost use Rattle.std.specs.Prelude.{is_some, Some, IfSome, IsTrue, MatchBool, MatchOption};
+ghost use Rattle.std.specs.Prelude.{◌≡◌, ◌<◌, length, take, true, All, Contains, slice_get};
+ghost use Rattle.std.specs.Prelude.{slice_index_or, is_some, Some, IfSome, IsTrue, MatchBool};
+ghost use Rattle.std.specs.Prelude.{MatchOption};
 ghost use Rattle.st_core.specs.Pid.{IsRising};
 ghost use Rattle.st_core.specs.Step.{actor, touches};
 ghost use Rattle.st_core.specs.Streams.{is_among};
@@ -11,12 +12,12 @@ ghost use Rattle.st_runtime.specs.Logs.{RanksRise};
 ghost use Rattle.st_runtime.specs.Pcb.{is_wide};
 ghost use Rattle.st_runtime.specs.Pieces.{pids_in, AreWhole, HasIfTouched, IsWhole, IsFirstMissing};
 
-use crate::join::same::is_same;
 use crate::join::settled::are_seen_whole;
 use crate::pcb::Pcb;
 use crate::pcb::acts::{is_wide, receiver_of};
 use crate::pcb::entry::Entry;
 use crate::pcb::log::Log;
+use crate::pcb::same::is_same;
 use st_core::{Act, Pid};
 use std::alloc::Global;
 
@@ -27,7 +28,8 @@ pub fn first_missing<const TOP: u64, const RANKS: u64>(
     processes: &[Pcb<TOP, RANKS>],
 ) -> Option<(Pid, usize)>
     requires { IsRising (pids_in processes.now) }
-    ensures { MatchOption result (AreWhole processes.now) (λ r. IsFirstMissing processes.now r.0 r.1) }
+    ensures { MatchOption result (AreWhole processes.now)
+        (λ r. IsFirstMissing processes.now r.0 r.1) }
 {
     if are_seen_whole(alloc, processes) {
         return None;
@@ -40,7 +42,8 @@ fn least_missing<const TOP: u64, const RANKS: u64>(
     processes: &[Pcb<TOP, RANKS>],
 ) -> Option<(Pid, usize)>
     requires { IsRising (pids_in processes.now) }
-    ensures { MatchOption result (AreWhole processes.now) (λ r. IsFirstMissing processes.now r.0 r.1) }
+    ensures { MatchOption result (AreWhole processes.now)
+        (λ r. IsFirstMissing processes.now r.0 r.1) }
 {
     for (k, process) in processes.iter().enumerate() {
         if let Some(i) = missing_in(processes, process.pid(), process.log()) {
@@ -79,7 +82,8 @@ fn is_whole<const TOP: u64, const RANKS: u64>(
 ) -> bool
     requires rising { IsRising (pids_in processes.now) }
     requires here { HasAt processes.now here entry.now }
-    ensures { MatchBool result (IsWhole processes.now entry.now) (¬ IsWhole processes.now entry.now) }
+    ensures { MatchBool result (IsWhole processes.now entry.now)
+        (¬ IsWhole processes.now entry.now) }
 {
     is_made(processes, here, entry) && is_shared(processes, here, entry)
 }
@@ -108,7 +112,8 @@ fn is_shared<const TOP: u64, const RANKS: u64>(
     requires rising { IsRising (pids_in processes.now) }
     requires here { HasAt processes.now here entry.now }
     requires made { HasAt processes.now (actor entry.now.act) entry.now }
-    ensures { MatchBool result (IsWhole processes.now entry.now) (¬ IsWhole processes.now entry.now) }
+    ensures { MatchBool result (IsWhole processes.now entry.now)
+        (¬ IsWhole processes.now entry.now) }
 {
     if is_wide(&entry.act) {
         return is_everywhere(processes, here, entry);
@@ -137,7 +142,8 @@ pub fn is_everywhere<const TOP: u64, const RANKS: u64>(
     true
 }
 
-/// Whether a process has an entry of a whole node, if it is of this node. The process of this pid has it.
+/// Whether a process has an entry of a whole node, if it is of this node. The process of this pid
+/// has it.
 fn has_if_touched<const TOP: u64, const RANKS: u64>(
     process: &Pcb<TOP, RANKS>,
     here: Pid,
@@ -145,7 +151,8 @@ fn has_if_touched<const TOP: u64, const RANKS: u64>(
 ) -> bool
     requires wide { is_wide entry.now.act ≡ true }
     requires here { process.now.process.pid ≡ here → Contains process.now.log entry.now }
-    ensures { MatchBool result (HasIfTouched entry.now process.now) (¬ HasIfTouched entry.now process.now) }
+    ensures { MatchBool result (HasIfTouched entry.now process.now)
+        (¬ HasIfTouched entry.now process.now) }
 {
     process.pid() == here
         || !is_of_node(&entry.act, process.pid())
@@ -167,7 +174,8 @@ fn has_at<const TOP: u64, const RANKS: u64>(
     entry: &Entry,
 ) -> bool
     requires { IsRising (pids_in processes.now) }
-    ensures { MatchBool result (HasAt processes.now pid entry.now) (¬ HasAt processes.now pid entry.now) }
+    ensures { MatchBool result (HasAt processes.now pid entry.now)
+        (¬ HasAt processes.now pid entry.now) }
 {
     match place_in(processes, pid) {
         Some(place) => has_entry(processes[place].log(), entry),
@@ -197,7 +205,8 @@ pub fn place_in<const TOP: u64, const RANKS: u64>(
 /// Whether the log has the entry. Its ranks rise, so that there is one place for it.
 fn has_entry(log: &Log, entry: &Entry) -> bool
     requires { RanksRise 0 log.now.entries }
-    ensures { MatchBool result (Contains log.now.entries entry.now) (¬ Contains log.now.entries entry.now) }
+    ensures { MatchBool result (Contains log.now.entries entry.now)
+        (¬ Contains log.now.entries entry.now) }
 {
     match log.search(entry.rank) {
         Ok(place) => is_same(&log.at(place), entry),

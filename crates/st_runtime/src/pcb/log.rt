@@ -1,16 +1,20 @@
 //! The log of one process, and room in logs for one entry more.
 
-ghost use Rattle.std.specs.Prelude.{◌≡◌, ◌≢◌, ◌+◌, ◌<◌, ◌≤◌, ◌↔◌, ◌⊎◌, [], ◌∷◌, ◌++◌, length, max};
-ghost use Rattle.std.specs.Prelude.{slice_get, slice_index_or, Err, IfOk, OnOk, IsOk, IsTrue, vec_len};
+ghost use Rattle.std.specs.Prelude.{◌≡◌, ◌≢◌, ◌+◌, ◌<◌, ◌≤◌, ◌↔◌, [], ◌∷◌, ◌++◌, length, max};
+ghost use Rattle.std.specs.Prelude.{slice_get, slice_index_or, Err, IfOk, OnOk, IsOk, IsTrue};
+ghost use Rattle.std.specs.Prelude.{vec_len};
 ghost use Rattle.std.specs.List.Sorted.{IsBinarySearchResult, IsSearchInRange};
 ghost use Rattle.std.specs.Ordering.{nat_cmp};
 ghost use Rattle.std.specs.Vec.{vec_capacity};
 ghost use Rattle.st_runtime.specs.Logs.{last_rank};
-ghost use Rattle.st_runtime.specs.Rows.{unranked, unranked_in, IsPlaced};
+ghost use Rattle.st_runtime.specs.Rows.{without_rank_in, HasGrown, IsPlaced};
+ghost use Rattle.st_runtime.specs.Traced.{without_rank};
 
 use crate::fault::PcbFault;
+use crate::pcb::calls::CallLog;
 use crate::pcb::entry::Entry;
 use crate::pcb::row::{Content, Row, Unranked, content_of};
+use crate::pcb::traced::{Traced, traced_of};
 use std::alloc::{AllocError, Global};
 use std::marker::Model;
 
@@ -18,16 +22,20 @@ use std::marker::Model;
 /// ahead; only past them by halves.
 const NEAR: usize = 64;
 
-/// So many entries can stand apart, since a row has 32 bits for the place of one.
-const MOST_APART: usize = 4_294_967_295;
+/// So many entries can be kept in one form, since a row has 32 bits for the place of one.
+const MOST_PLACES: usize = 4_294_967_295;
 
-/// The entries of the acts that touched one process, in order. An entry of a reset or a tracer change
-/// takes 16 bytes and at most as many again as room to grow; any other takes 192.
+/// The entries of the acts that touched one process, in order. One of a reset or a tracer change
+/// takes 16 bytes and at most as many again as room to grow. One of another act takes 40 if it
+/// wasn't reported and carried no token, else 56, if the act is of a frequent form (`pcb::calls`,
+/// `pcb::traced`); any other takes 192 at most.
 #[derive(Drop)]
 pub struct Log {
     rows: Vec<Row>,
+    calls: CallLog,
+    traced: Vec<Traced>,
     apart: Vec<Unranked>,
-    // For so many more entries there is room in both, whatever is logged.
+    // For so many more entries there is room in all, whatever is logged.
     reserved: usize,
 }
 
@@ -40,26 +48,29 @@ impl Model for Log {
     ghost use Rattle.st_runtime.specs.Rows.{entries_of, IsLog};
 
     ghost view = { λ l. record {
-      entries = entries_of l.rows.items l.apart.items;
+      entries = entries_of l.calls.calls l.traced.items l.apart.items l.rows.items;
       spare = l.reserved;
     } };
 
     ghost invariant = { λ l.
-        IsLog l.rows.items l.apart.items (vec_capacity l.rows) (vec_capacity l.apart) l.reserved };
+        IsLog l.rows.items l.calls l.traced.items l.apart.items
+        (vec_capacity l.rows) (vec_capacity l.traced) (vec_capacity l.apart) l.reserved };
 }
 
 impl Log {
-    /// An empty log with room for so many entries. Fails if memory runs out, or if there are more than
-    /// can stand apart.
+    /// An empty log with room for so many entries. Fails if memory runs out, or if there are more
+    /// than can stand apart.
     pub(crate) fn with_capacity(alloc: Global, capacity: usize) -> Result<Log, AllocError>
         ensures entries { IfOk result (λ log. log.entries ≡ []) }
         ensures room { IfOk result (λ log. log.spare ≡ capacity) }
     {
-        if capacity > MOST_APART {
+        if capacity > MOST_PLACES {
             return Err(AllocError);
         }
         Ok(Log {
             rows: Vec::with_capacity(alloc, capacity)?,
+            calls: CallLog::with_capacity(alloc, capacity)?,
+            traced: Vec::with_capacity(alloc, capacity)?,
             apart: Vec::with_capacity(alloc, capacity)?,
             reserved: capacity,
         })
@@ -97,7 +108,7 @@ impl Log {
     {
         let row = self.rows[place];
         row.content
-            .unranked(self.apart.as_slice())
+            .without_rank(&self.calls, self.traced.as_slice(), self.apart.as_slice())
             .with_rank(row.rank)
     }
 
@@ -119,8 +130,8 @@ impl Log {
         self.rows.binary_search_by_key(&rank, |row| row.rank)
     }
 
-    /// The place of the rank, if ranks rise and it is there from this place on. A guess, on which no
-    /// promise rests.
+    /// The place of the rank, if ranks rise and it is there from this place on. A guess, on which
+    /// no promise rests.
     pub(crate) fn place_from(&self, from: usize, rank: u64) -> usize {
         let Some(rest) = self.rows.get(from..) else {
             return from;
@@ -143,10 +154,12 @@ impl Log {
         if self.reserved > 0 {
             return Ok(());
         }
-        if self.apart.len() >= MOST_APART {
+        if self.traced.len() >= MOST_PLACES || self.apart.len() >= MOST_PLACES {
             return Err(AllocError);
         }
         self.rows.reserve(1)?;
+        self.calls.reserve()?;
+        self.traced.reserve(1)?;
         self.apart.reserve(1)?;
         self.reserved = 1;
         Ok(())
@@ -158,7 +171,7 @@ impl Log {
         ensures entries { self.new.entries ≡ self.old.entries ++ entry.now ∷ [] }
         ensures spare { self.old.spare ≡ self.new.spare + 1 }
     {
-        let content = keep_content(&mut self.apart, entry);
+        let content = keep_content(&mut self.calls, &mut self.traced, &mut self.apart, entry);
         self.rows.push_reserved(Row {
             rank: entry.rank,
             content,
@@ -167,18 +180,40 @@ impl Log {
     }
 }
 
-/// What a row says of the entry, which is put apart if a row can't say all of it.
-fn keep_content(apart: &mut Vec<Unranked>, entry: &Entry) -> Content
+/// What a row says of the entry. If that isn't all of it, the rest is kept in the smallest form
+/// that says it.
+fn keep_content(
+    calls: &mut CallLog,
+    traced: &mut Vec<Traced>,
+    apart: &mut Vec<Unranked>,
+    entry: &Entry,
+) -> Content
+    requires call_room { 0 < calls.old.spare }
+    requires traced_room { vec_len traced.old < vec_capacity traced.old }
+    requires traced_places { vec_len traced.old < 4294967295 }
     requires room { vec_len apart.old < vec_capacity apart.old }
     requires places { vec_len apart.old < 4294967295 }
-    ensures says { unranked_in apart.new.items result ≡ unranked entry.now }
-    ensures placed { IsPlaced (length apart.new.items) result }
-    ensures apart { (apart.new.items ≡ apart.old.items)
-        ⊎ (apart.new.items ≡ apart.old.items ++ unranked entry.now ∷ []) }
+    ensures says { without_rank_in calls.new.calls traced.new.items apart.new.items result
+        ≡ without_rank entry.now }
+    ensures placed { IsPlaced (length calls.new.calls) (length traced.new.items)
+        (length apart.new.items) result }
+    ensures calls { HasGrown calls.old.calls calls.new.calls }
+    ensures spare { calls.old.spare ≤ calls.new.spare + 1 }
+    ensures traced { HasGrown traced.old.items traced.new.items }
+    ensures traced_capacity { vec_capacity traced.new ≡ vec_capacity traced.old }
+    ensures apart { HasGrown apart.old.items apart.new.items }
     ensures capacity { vec_capacity apart.new ≡ vec_capacity apart.old }
 {
     if let Some(content) = content_of(entry) {
         return content;
+    }
+    if let (None, None) = (entry.report, entry.carried) {
+        return Content::Call(calls.push_reserved(&entry.act, &entry.reply));
+    }
+    if let Some(form) = traced_of(entry) {
+        let place = traced.len() as u32;
+        traced.push_reserved(form);
+        return Content::Traced(place);
     }
     let place = apart.len() as u32;
     apart.push_reserved(Unranked::of(entry));

@@ -12,7 +12,7 @@ ghost use Rattle.st_mail.specs.Mail.{queue_in};
 ghost use Rattle.st_runtime.specs.Pcb.{is_wide};
 
 use st_core::{Act, ClockFull, Kind, Local, Pid, Reply, Want};
-use st_mail::actor::{event, receive, stamped};
+use st_mail::actor::{event, receive, stamp};
 use st_mail::{Mailboxes, Outcome};
 
 /// A send's part at its sender. The message carries the token that the sender has afterwards, which
@@ -30,7 +30,7 @@ pub fn send<const TOP: u64>(
 {
     let _clock = local.clock();
     let _last = local.last();
-    *local = stamped(me, local)?;
+    *local = stamp(me, local)?;
     Ok(Outcome {
         reply: Reply::Done,
         report: event(local.traced(), Kind::Send, local.token(), Some(to), value),
@@ -47,7 +47,8 @@ pub fn receive_one<const TOP: u64>(
 ) -> Outcome
     requires one_box { length queue.old.boxes ≡ 1 }
     requires fit { QueueFits TOP (queue_in queue.old.boxes 0) }
-    ensures acted { acted TOP (process_of me local.old (queue_in queue.old.boxes 0)) (Act.Receive me want.now)
+    ensures acted { acted TOP (process_of me local.old (queue_in queue.old.boxes 0))
+        (Act.Receive me want.now)
         ≡ Some (part_of result local.new (queue_in queue.new.boxes 0)) }
     ensures one_box { length queue.new.boxes ≡ 1 }
     ensures fit { QueueFits TOP (queue_in queue.new.boxes 0) }

@@ -1,11 +1,15 @@
-//! The rows of a log. They are small, since a reset or a tracer change puts one into the log of each
-//! process of its node. Such a row says all of its entry. Of any other entry it says the rank and
-//! where the rest is.
+//! The rows of a log. They are small, since a reset or a tracer change puts one into the log of
+//! each process of its node. Such a row says all of its entry. Of any other entry it says the rank
+//! and where the rest is: among the calls, if the act wasn't reported and carried no token; else
+//! mostly among the short forms of acts under a token (`pcb::traced`).
 
 ghost use Rattle.std.specs.Prelude.{◌≡◌, length, IfSome};
-ghost use Rattle.st_runtime.specs.Rows.{by_node, with_rank, unranked, unranked_in, IsAll, IsPlaced};
+ghost use Rattle.st_runtime.specs.Rows.{of_call, without_rank_in, IsAll, IsPlaced};
+ghost use Rattle.st_runtime.specs.Traced.{with_rank, without_rank};
 
+use crate::pcb::calls::CallLog;
 use crate::pcb::entry::Entry;
+use crate::pcb::traced::Traced;
 use st_core::{Act, Event, Pid, Reply, Token};
 
 /// The rank of an entry, and where the rest of it is.
@@ -17,18 +21,23 @@ pub struct Row {
     pub content: Content,
 }
 
-// So many bytes, and at most as many again as room to grow, are what an act of a node takes at each of
-// its processes.
+// So many bytes, and at most as many again as room to grow, are what an act of a node takes at each
+// of its processes.
 const _: () = prove!(size_of::<Row>() == 16);
 
-/// What an entry says beside its rank: of an act of a whole node all of it, of any other where it is.
+/// What an entry says beside its rank: of an act of a whole node all of it, of any other where it
+/// is.
 #[derive(Clone, Copy, Debug, PartialEq, Eq)]
 pub enum Content {
     /// A reset by this process, which returned `Done`.
     Reset(Pid),
-    /// A tracer change by this process, to some tracer or none, which returned whether the process was
-    /// traced before.
+    /// A tracer change by this process, to some tracer or none, which returned whether the process
+    /// was traced before.
     Tracer(Pid, bool, bool),
+    /// The call at this place, which wasn't reported and carried no token.
+    Call(u32),
+    /// What the form at this place says of an act under a token.
+    Traced(u32),
     /// What stands at this place among the entries that are kept apart.
     Apart(u32),
 }
@@ -61,29 +70,32 @@ pub fn content_of(entry: &Entry) -> Option<Content>
 }
 
 impl Content {
-    /// The entry without its rank, if these are the entries that are kept apart.
-    pub fn unranked(self, apart: &[Unranked]) -> Unranked
-        requires { IsPlaced (length apart.now) self }
-        ensures { result ≡ unranked_in apart.now self }
+    /// The entry without its rank, if these are the calls, the acts under a token and the entries
+    /// that are kept apart.
+    pub fn without_rank(self, calls: &CallLog, traced: &[Traced], apart: &[Unranked]) -> Unranked
+        requires { IsPlaced (length calls.now.calls) (length traced.now) (length apart.now) self }
+        ensures { result ≡ without_rank_in calls.now.calls traced.now apart.now self }
     {
         match self {
-            Content::Reset(actor) => Unranked::by_node(Act::Reset(actor), Reply::Done),
+            Content::Reset(actor) => Unranked::of_call((Act::Reset(actor), Reply::Done)),
             Content::Tracer(actor, on, was) => {
-                Unranked::by_node(Act::Tracer(actor, on), Reply::Was(was))
+                Unranked::of_call((Act::Tracer(actor, on), Reply::Was(was)))
             }
+            Content::Call(place) => Unranked::of_call(calls.at(place as usize)),
+            Content::Traced(place) => traced[place as usize].without_rank(),
             Content::Apart(place) => apart[place as usize],
         }
     }
 }
 
 impl Unranked {
-    /// That of an act of a whole node, which isn't reported and carries no token.
-    fn by_node(act: Act, reply: Reply) -> Unranked
-        ensures { result ≡ by_node act reply }
+    /// That of a call which wasn't reported and carried no token.
+    fn of_call(call: (Act, Reply)) -> Unranked
+        ensures { result ≡ of_call call }
     {
         Unranked {
-            act,
-            reply,
+            act: call.0,
+            reply: call.1,
             report: None,
             carried: None,
         }
@@ -91,7 +103,7 @@ impl Unranked {
 
     /// What the entry says beside its rank.
     pub fn of(entry: &Entry) -> Unranked
-        ensures { result ≡ unranked entry.now }
+        ensures { result ≡ without_rank entry.now }
     {
         Unranked {
             act: entry.act,

@@ -9,8 +9,8 @@ use crate::system::pids::place_of;
 use st_core::{Act, Pid, Sequence};
 use std::alloc::{AllocError, Global};
 
-/// For each process, how many entries its log gets of these scripts: its own acts and what is sent to
-/// it. The acts of a whole node that others make aren't counted, since they may be too many.
+/// For each process, how many entries its log gets of these scripts: its own acts and what is sent
+/// to it. The acts of a whole node that others make aren't counted, since they may be too many.
 pub fn expected_entries(
     alloc: Global,
     pids: &[Pid],

@@ -1,7 +1,7 @@
 //! What an act of a whole node finds under the locks that it takes, one after the other.
 
-ghost use Rattle.std.specs.Prelude.{◌≡◌, ◌≢◌, ◌+◌, ◌≤◌, ◌↔◌, ◌⊎◌, true, false, max, Some, None, Err, IfOk};
-ghost use Rattle.std.specs.Prelude.{IfSome, IsSome};
+ghost use Rattle.std.specs.Prelude.{◌≡◌, ◌≢◌, ◌+◌, ◌≤◌, ◌↔◌, ◌⊎◌, true, false, max, Some, None};
+ghost use Rattle.std.specs.Prelude.{Err, IfOk, IfSome, IsSome};
 ghost use Rattle.st_runtime.specs.Locked.{wide_reply, IsLockFault};
 ghost use Rattle.st_runtime.specs.Logs.{last_rank};
 ghost use Rattle.st_runtime.specs.Pcb.{is_wide};
@@ -50,18 +50,21 @@ impl Found {
         }
     }
 
-    /// The entry of the act, once all locks are held. It fails with `Stray`, or else with `RankFull`.
+    /// The entry of the act, once all locks are held. It fails with `Stray`, or else with
+    /// `RankFull`.
     pub fn entry(&self, act: &Act, ranks: u64) -> Result<Entry, ActFault>
         requires wide { is_wide act.now ≡ true }
         requires last { self.now.last ≤ ranks }
         ensures act { IfOk result (λ e. e.act ≡ act.now) }
         ensures bare { IfOk result (λ e. (e.report ≡ None) × (e.carried ≡ None)) }
         ensures rank { IfOk result (λ e. (e.rank ≡ self.now.last + 1) × (e.rank ≤ ranks)) }
-        ensures stray { (result ≡ Err ActFault.Stray) ↔ ((self.now.stray ≡ true) ⊎ (self.now.was ≡ None)) }
+        ensures stray { (result ≡ Err ActFault.Stray)
+            ↔ ((self.now.stray ≡ true) ⊎ (self.now.was ≡ None)) }
         ensures full { (result ≡ Err ActFault.RankFull)
             ↔ ((self.now.stray ≡ false) × IsSome self.now.was × (self.now.last ≡ ranks)) }
         ensures memory { result ≢ Err ActFault.Memory }
-        ensures reply { IfOk result (λ e. IfSome self.now.was (λ was. e.reply ≡ wide_reply act.now was)) }
+        ensures reply { IfOk result
+            (λ e. IfSome self.now.was (λ was. e.reply ≡ wide_reply act.now was)) }
         ensures known { IsLockFault result }
         ensures clock { result ≢ Err ActFault.ClockFull }
     {

@@ -3,7 +3,8 @@
 ghost use Rattle.std.specs.Prelude.{◌≡◌, IfOk};
 ghost use Rattle.st_runtime.specs.Seat.{no_calls};
 
-use st_core::{Act, Pid, Reply};
+use crate::pcb::calls::CallLog;
+use st_core::Pid;
 use std::alloc::{AllocError, Global};
 use std::marker::Model;
 
@@ -11,7 +12,7 @@ use std::marker::Model;
 #[derive(Drop)]
 pub struct Seat {
     pub(crate) pid: Pid,
-    pub(crate) mine: Vec<(Act, Reply)>,
+    pub(crate) mine: CallLog,
 }
 
 impl Model for Seat {
@@ -19,7 +20,7 @@ impl Model for Seat {
 
     ghost Value = { Calls };
 
-    ghost view = { λ s. record { pid = s.pid; mine = s.mine.items } };
+    ghost view = { λ s. record { pid = s.pid; mine = s.mine.calls } };
 }
 
 impl Seat {
@@ -28,7 +29,7 @@ impl Seat {
     pub(crate) fn with_room(alloc: Global, pid: Pid, room: usize) -> Result<Seat, AllocError>
         ensures { IfOk result (λ seat. seat ≡ no_calls pid) }
     {
-        let mine = Vec::with_capacity(alloc, room)?;
+        let mine = CallLog::with_capacity(alloc, room)?;
         Ok(Seat { pid, mine })
     }
 
@@ -40,9 +41,9 @@ impl Seat {
     }
 
     /// The acts that were accepted through it, with what they returned, in order.
-    pub fn mine(&self) -> &[(Act, Reply)]
-        ensures { result.now ≡ self.now.mine }
+    pub fn mine(&self) -> &CallLog
+        ensures { result.now.calls ≡ self.now.mine }
     {
-        self.mine.as_slice()
+        &self.mine
     }
 }

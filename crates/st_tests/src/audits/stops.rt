@@ -1,4 +1,5 @@
-//! Where the construction stops, and why: at a hidden send too, and of a message that isn't there no act is tried.
+//! Where the construction stops, and why: at a hidden send too, and of a message that isn't there
+//! no act is tried.
 
 use super::finding_of;
 use crate::collected::{p30, p31};
@@ -13,7 +14,8 @@ const WIDE_HIDDEN_SEND: &str = "seqtrace 1\n\
     process <0.31.0>\n\
     {seq_trace,1,{'receive',{0,1002},<0.30.0>,<0.31.0>,4}}\n";
 
-/// A receive that stands in the order before its send, which its sender reported after a greater count.
+/// A receive that stands in the order before its send, which its sender reported after a greater
+/// count.
 const LATE_SEND: &str = "seqtrace 1\n\
     process <0.30.0>\n\
     {seq_trace,1,{'receive',{0,9},<0.32.0>,<0.30.0>,4}}\n\

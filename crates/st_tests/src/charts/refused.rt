@@ -8,7 +8,7 @@ use std::test::Fail;
 
 /// If memory runs out nothing is written, and the same call writes the chart afterwards.
 #[test]
-fn a_refused_growth_writes_nothing(rt: HostRuntime) {
+fn a_chart_without_memory_writes_nothing(rt: HostRuntime) {
     let alloc = rt.alloc();
     let streams = streams_at_last(&rt, alloc, HIDDEN_SENDS);
     let mut sink = sink_at_last(&rt, alloc, 1000);

@@ -54,7 +54,8 @@ pub static CASES: [Case; 17] = [
             event <0.31.0> 1 {seq_trace,1,{print,{2,2006},<0.31.0>,[],9}}\n",
         status: 1,
     },
-    // The receive stands before its send, whose process counted more before it: its message isn't there.
+    // The receive stands before its send, whose process counted more before it: its message isn't
+    // there.
     Case {
         name: "audit_message_not_there",
         input: "seqtrace 1\n\

@@ -1,6 +1,6 @@
 //! What bounds the auditor's refusals: streams that acts show, and what `audit` says of them. The
-//! first two need a reset, the third receives that nobody reported in their order; the last reported
-//! everything.
+//! first two need a reset, the third receives that nobody reported in their order; the last
+//! reported everything.
 
 use super::{Case, certificates, nodes};
 

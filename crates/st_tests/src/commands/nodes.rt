@@ -2,7 +2,8 @@
 
 use super::Case;
 
-/// Two sends with one count, since a reset of the sender's node lies between; the receiver is on another.
+/// Two sends with one count, since a reset of the sender's node lies between; the receiver is on
+/// another.
 pub const RESET_LEAVES_OTHER_NODE: &str = "seqtrace 2\n\
     process <1.30.0>\n\
     process <2.31.0>\n\

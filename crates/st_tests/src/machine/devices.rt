@@ -125,7 +125,7 @@ fn a_recorder_keeps_what_passed_over_a_device_that_tells_nothing(rt: HostRuntime
     let mut source = Recorder::new(rt.alloc(), ReadFrom::new(b"yes\nno\n".as_slice()));
     assert!(rt; source.take(&mut piece[..4]) == Ok(4));
     assert!(rt; source.take(&mut piece) == Ok(3));
-    assert!(rt; source.passed() == b"yes\nno\n".as_slice());
+    assert!(rt; source.bytes() == b"yes\nno\n".as_slice());
 }
 
 #[test]
@@ -135,5 +135,5 @@ fn a_recorder_fails_where_its_device_does(rt: HostRuntime) {
     assert!(rt; sink.put(b"\n") == Ok(1));
     assert!(rt; sink.put(b"no\n") == Err(Failed));
     assert!(rt; sink.put(b"no\n") == Err(Failed));
-    assert!(rt; sink.passed() == b"yes\n".as_slice());
+    assert!(rt; sink.bytes() == b"yes\n".as_slice());
 }

@@ -1,5 +1,5 @@
-//! What comes back if memory runs out, and that the next try may succeed. A test shows something only if
-//! an allocation fails: `rt try --test --fail-alloc N` fails the N-th of each.
+//! What comes back if memory runs out, and that the next try may succeed. A test shows something
+//! only if an allocation fails: `rt try --test --fail-alloc N` fails the N-th of each.
 
 use super::{MANY, event};
 use crate::collected::sink_at_last;
@@ -46,6 +46,6 @@ fn a_recorder_lets_nothing_through_unrecorded(rt: HostRuntime) {
     let sink = sink_at_last(&rt, rt.alloc(), 100);
     let mut recorder = Recorder::new(rt.alloc(), sink);
     let passed = recorder.put(b"yes\n").is_ok();
-    assert!(rt; recorder.passed().is_empty() != passed);
+    assert!(rt; recorder.bytes().is_empty() != passed);
     assert!(rt; recorder.put(b"").is_ok() == passed);
 }

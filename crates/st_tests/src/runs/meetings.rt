@@ -1,5 +1,5 @@
-//! Threads that meet at a gate: acts on processes apart are made at once, and no act holds its locks at a gate that
-//! it has left, or lacks one at a gate that it has entered.
+//! Threads that meet at a gate: acts on processes apart are made at once, and no act holds its
+//! locks at a gate that it has left, or lacks one at a gate that it has entered.
 
 use super::MOST;
 use crate::collected::{p30, p31, same};
@@ -93,7 +93,8 @@ fn drive_meetings<R: Threads + Wait + Sync + Abort + Clock>(
     Ok((gate.met.load(Ordering::SeqCst), record))
 }
 
-// One lock round all processes, or one thread for all scripts, would keep the second act from its locks.
+// One lock round all processes, or one thread for all scripts, would keep the second act from its
+// locks.
 #[test]
 fn two_senders_at_once(rt: HostRuntime) -> Result<(), Fail> {
     let (met, record) = drive_meetings(&rt, rt.alloc())?;
@@ -104,8 +105,8 @@ fn two_senders_at_once(rt: HostRuntime) -> Result<(), Fail> {
     Ok(())
 }
 
-/// Holds the act of one process at the gate while another thread asks for a lock that it holds, and lets that
-/// one in only as it leaves.
+/// Holds the act of one process at the gate while another thread asks for a lock that it holds, and
+/// lets that one in only as it leaves.
 #[derive(Drop)]
 struct Turnstile<'a, R: Clock> {
     clock: &'a R,
@@ -139,7 +140,8 @@ impl<R: Clock> Gate for Turnstile<'_, R> {
     }
 }
 
-/// Whether the other's act came in while the holder's was at the gate before, and while it was at the gate after.
+/// Whether the other's act came in while the holder's was at the gate before, and while it was at
+/// the gate after.
 fn came_in<R: Threads + Wait + Sync + Abort + Clock>(
     rt: &R,
     system: &System<99, 99>,
@@ -173,7 +175,8 @@ fn came_in<R: Threads + Wait + Sync + Abort + Clock>(
     )
 }
 
-// Each kind of act holds each of its locks from before the gate's `before` until before its `after`.
+// Each kind of act holds each of its locks from before the gate's `before` until before its
+// `after`.
 #[test]
 fn the_gate_is_told_once_all_locks_are_held_and_once_they_are_given_back(
     rt: HostRuntime,

@@ -38,7 +38,8 @@ pub(super) fn scripts(
     Ok(scripts)
 }
 
-/// Act n of a busy process. The first fifty have two resets and two changes of the tracer among them.
+/// Act n of a busy process. The first fifty have two resets and two changes of the tracer among
+/// them.
 fn busy_act(me: Pid, on_each: u16, n: u64) -> Act {
     match n % 500 {
         7 | 29 => Act::Tracer(me, true),

@@ -9,7 +9,8 @@ use std::sync::Wait;
 use std::test::Fail;
 use std::thread::Threads;
 
-/// Drives these scripts, which are as many as the pids; once more if memory or a thread was refused.
+/// Drives these scripts, which are as many as the pids; once more if memory or a thread was
+/// refused.
 fn drive_at_last<
     const TOP: u64,
     const RANKS: u64,
@@ -170,10 +171,10 @@ fn drive_four_busy<R: Threads + Wait + Sync + Abort>(
     Ok(record.acts.len())
 }
 
-/// If memory runs out or a thread can't be started, the call returns that, or is right; and the same call
-/// is right afterwards.
+/// If memory runs out or a thread can't be started, the call returns that, or is right; and the
+/// same call is right afterwards.
 #[test]
-fn a_refused_growth_is_answered(rt: HostRuntime) -> Result<(), Fail> {
+fn a_drive_without_memory_may_be_asked_again(rt: HostRuntime) -> Result<(), Fail> {
     let acts = match drive_four_busy(&rt, rt.alloc()) {
         Err(DriveFault::Memory | DriveFault::Thread) => drive_four_busy(&rt, rt.alloc())?,
         answer => answer?,

@@ -82,10 +82,11 @@ fn no_seats(rt: HostRuntime) -> Result<(), Fail> {
     Ok(())
 }
 
-// Whichever request for memory fails, as when this test runs with an allocation that fails, the call
-// that meets it returns Memory and leaves no trace: made once more it returns the right result.
+// Whichever request for memory fails, as when this test runs with an allocation that fails, the
+// call that meets it returns Memory and leaves no trace: made once more it returns the right
+// result.
 #[test]
-fn refused_growths_leave_no_trace(rt: HostRuntime) -> Result<(), Fail> {
+fn joins_without_memory_leave_no_trace(rt: HostRuntime) -> Result<(), Fail> {
     let pids = [Pid::new(30), Pid::new(31), Pid::new(32)];
     let (system, seats) = open_at_last::<9, 9>(rt.alloc(), &pids)?;
     let mut used = room_at_last(rt.alloc(), pids.len())?;
@@ -112,8 +113,8 @@ fn refused_growths_leave_no_trace(rt: HostRuntime) -> Result<(), Fail> {
     Ok(())
 }
 
-// A reset of four processes that runs out of memory, as when this test runs with an allocation that fails,
-// is in no log: the processes can go on, and the record has none.
+// A reset of four processes that runs out of memory, as when this test runs with an allocation that
+// fails, is in no log: the processes can go on, and the record has none.
 #[test]
 fn a_refused_reset_leaves_no_trace(rt: HostRuntime) -> Result<(), Fail> {
     let pids = [Pid::new(30), Pid::new(31), Pid::new(32), Pid::new(33)];

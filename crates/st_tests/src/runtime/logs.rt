@@ -17,7 +17,8 @@ type Played = (Act, Reply);
 /// As many processes as are on the node.
 const PROCESSES: u16 = 200;
 
-/// What each process does in turn: it has the node traced, resets it ten times, and has it traced no more.
+/// What each process does in turn: it has the node traced, resets it ten times, and has it traced
+/// no more.
 fn turn_of(me: Pid) -> [Played; 12] {
     let reset = (Act::Reset(me), Reply::Done);
     [
@@ -83,7 +84,8 @@ fn two_thousand_resets_of_two_hundred_processes(rt: HostRuntime) -> Result<(), F
     Ok(())
 }
 
-// Acts of a node between others of one process, in the order in which they were made. The record has them too.
+// Acts of a node between others of one process, in the order in which they were made. The record
+// has them too.
 #[test]
 fn acts_of_a_node_between_others(rt: HostRuntime) -> Result<(), Fail> {
     let me = Pid::on(3, 30);

@@ -128,7 +128,7 @@ fn a_recorder_keeps_a_hundred_thousand_bytes(rt: HostRuntime) -> Result<(), Fail
     let sink = MemorySink::new(rt.alloc(), LENGTH, None)?;
     let mut recorder = Recorder::new(rt.alloc(), sink);
     assert!(rt; recorder.put(text.as_slice()) == Ok(LENGTH));
-    same(&rt, &recorder.passed(), &text.as_slice());
+    same(&rt, &recorder.bytes(), &text.as_slice());
     Ok(())
 }
 
@@ -138,6 +138,6 @@ fn a_recorder_keeps_a_hundred_thousand_bytes_that_were_read(rt: HostRuntime) -> 
     let mut piece = vec![in rt.alloc(); 0; LENGTH]?;
     let mut recorder = Recorder::new(rt.alloc(), MemorySource::new(text.as_slice(), None));
     assert!(rt; recorder.take(piece.as_mut_slice()) == Ok(LENGTH));
-    same(&rt, &recorder.passed(), &text.as_slice());
+    same(&rt, &recorder.bytes(), &text.as_slice());
     Ok(())
 }

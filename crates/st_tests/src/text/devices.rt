@@ -9,7 +9,8 @@ use std::alloc::Global;
 use std::io::{self, Error, ErrorKind, Read, Write};
 use std::process::Abort;
 
-/// A reader of text and a writer that passes three bytes a call at most, and errs at one of its calls.
+/// A reader of text and a writer that passes three bytes a call at most, and errs at one of its
+/// calls.
 #[derive(Drop)]
 struct Unsteady<'a> {
     left: &'a [u8],

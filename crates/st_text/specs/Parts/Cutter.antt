@@ -1,5 +1,6 @@
 -- What the functions of `cutter.rt` tell of the lines so far and of the unfinished line.
-use Rattle.std.specs.Prelude.{◌≡◌, ℕ, ◌<◌, ◌==◌, Bool, true, false, List, [], ◌∷◌, ◌++◌, length, Option, Some, None}
+use Rattle.std.specs.Prelude.{◌≡◌, ℕ, ◌<◌, ◌==◌, Bool, true, false, List, [], ◌∷◌, ◌++◌, length}
+use Rattle.std.specs.Prelude.{Option, Some, None}
 use Rattle.std.specs.List.{AllByRecursion}
 use Rattle.st_text.specs.declared.line.Line.{Line}
 use Rattle.st_text.specs.declared.line.Line.TheVariants as lines
@@ -18,7 +19,8 @@ IsStateAfter None ls = ls ≡ []
 IsStateAfter (Some p) ls = IsBuilt p ls
 
 -- the line says l, which has no fault, and is kept
-pub record Adds (limits : Limits) (ls : List Line) (said : Option Line) (new : Option BundleBuilder) (l : Line) : Type
+pub record Adds (limits : Limits) (ls : List Line) (said : Option Line) (new : Option BundleBuilder)
+    (l : Line) : Type
     0 where
   pub said_is : said ≡ Some l
   pub good : line_fault limits ls (Some l) ≡ None

@@ -1,6 +1,6 @@
 -- What a cutter knows of the bytes that it took, however they were cut into pieces.
-use Rattle.std.specs.Prelude.{◌≡◌, ℕ, ◌<◌, Bool, true, false, List, [], ◌∷◌, ◌++◌, length, map, Option, Some, None}
-use Rattle.std.specs.Prelude.{◌⊎◌}
+use Rattle.std.specs.Prelude.{◌≡◌, ℕ, ◌<◌, Bool, true, false, List, [], ◌∷◌, ◌++◌, length, map}
+use Rattle.std.specs.Prelude.{Option, Some, None, ◌⊎◌}
 use Rattle.st_text.specs.declared.line.Line.{Line}
 use Rattle.st_text.specs.declared.fault.ReadFault.{ReadFault}
 use Rattle.st_text.specs.declared.builder.BundleBuilder.{BundleBuilder}
@@ -12,7 +12,8 @@ use Rattle.st_text.specs.Parts.Cutter.{IsTail}
 use Rattle.st_text.specs.Growth.{EndsKept, EndsWithin}
 
 -- each line so far is good
-pub record IsGood (limits : Limits) (bytes : List ℕ) (long : Bool) (kept : List ℕ) (p : Option BundleBuilder)
+pub record IsGood (limits : Limits) (bytes : List ℕ) (long : Bool) (kept : List ℕ)
+    (p : Option BundleBuilder)
     (ls : List Line) : Type 0 where
   pub tail_is : IsTail long kept (cut bytes).1
   pub held : IsStateAfter p ls
@@ -20,10 +21,12 @@ pub record IsGood (limits : Limits) (bytes : List ℕ) (long : Bool) (kept : Lis
   pub good : first_fault limits [] (sayings bytes) ≡ None
 
 -- by whether memory ran out, and by the first fault
-abbrev pub HasTakenAs : Limits → Bool → Option ReadFault → List ℕ → Bool → List ℕ → Option BundleBuilder → Type 0
+abbrev pub HasTakenAs : Limits → Bool → Option ReadFault → List ℕ → Bool → List ℕ
+    → Option BundleBuilder → Type 0
 HasTakenAs limits true fault bytes long kept p = Unit {0}
 HasTakenAs limits false (Some f) bytes long kept p = first_fault limits [] (sayings bytes) ≡ Some f
-HasTakenAs limits false None bytes long kept p = (ls : List Line) × IsGood limits bytes long kept p ls
+HasTakenAs limits false None bytes long kept p =
+    (ls : List Line) × IsGood limits bytes long kept p ls
 
 abbrev pub HasTaken : Limits → List ℕ → Cutter → Type 0
 HasTaken limits bytes c = HasTakenAs limits c.out c.fault bytes c.long c.tail.items c.builder

@@ -1,5 +1,6 @@
 -- The end of good lines: a bundle, or a fault that only the whole of them shows.
-use Rattle.std.specs.Prelude.{◌≡◌, ℕ, ◌+◌, List, [], ◌∷◌, length, Some, None, Result, Ok, Err, if◌then◌else◌}
+use Rattle.std.specs.Prelude.{◌≡◌, ℕ, ◌+◌, List, [], ◌∷◌, length, Some, None, Result, Ok, Err}
+use Rattle.std.specs.Prelude.{if◌then◌else◌}
 use Rattle.st_core.specs.declared.types.Pid.{Pid}
 use Rattle.st_core.specs.Pid.{pid_eq}
 use Rattle.st_core.specs.Run.{Stream, pids_of}
@@ -11,13 +12,15 @@ use Rattle.st_text.specs.declared.builder.BundleBuilder.{BundleBuilder}
 use Rattle.st_text.specs.Fault.{closing_fault}
 use Rattle.st_text.specs.Parts.Builder.{so_far}
 
--- the line of the event at this index of p, where the first of these processes stands at line n
+-- the line of the event at this index of p, if the first of these processes stands at line n
 abbrev pub line_at_place : (Pid → ℕ) → ℕ → List Pid → Pid → ℕ → ℕ
 line_at_place count n [] p i = n
-line_at_place count n (q ∷ ps) p i = if pid_eq q p then n + 1 + i else line_at_place count (n + 1 + count q) ps p i
+line_at_place count n (q ∷ ps) p i =
+    if pid_eq q p then n + 1 + i else line_at_place count (n + 1 + count q) ps p i
 
 abbrev pub event_line_number : List Stream → Pid → ℕ → ℕ
-event_line_number streams p i = line_at_place (λ q. length (events_of streams q)) 2 (pids_of streams) p i
+event_line_number streams p i =
+    line_at_place (λ q. length (events_of streams q)) 2 (pids_of streams) p i
 
 -- the lines are those of the bundle, and have no fault
 pub record IsFinished (ls : List Line) (p : BundleBuilder) (b : Bundle) : Type 0 where

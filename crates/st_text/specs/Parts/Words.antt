@@ -1,5 +1,5 @@
--- How a function that reads the front of some bytes tells that it does what `Parsing` says: in `words.rt`, `number.rt`,
--- `events.rt`, `acts.rt` and `line.rt`.
+-- How a function that reads the front of some bytes tells that it does what `Parsing` says: in
+-- `words.rt`, `number.rt`, `events.rt`, `acts.rt` and `line.rt`.
 use Rattle.std.specs.Prelude.{◌≡◌, Option, Some, None}
 
 -- what a function returned, seen by view, is what reading gives

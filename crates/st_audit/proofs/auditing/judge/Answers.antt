@@ -1,9 +1,8 @@
--- What shows the streams has the verdict yes, and no other.
+-- The verdict is the checker's, and it is no yes.
 use Rattle.std.proofs.Common.{rules, refl, subst}
 use Rattle.st_check.specs.Answers.{verdict_of}
 use Rattle.st_core.specs.Verdict.{IsVerdict}
 use Rattle.st_audit.specs.Findings.{IsNo}
-use Rattle.st_audit.proofs.Track.{shown_is_yes}
 use Rattle.st_audit.proofs.auditing.judge.Goals as goal
 
 pub returns-in-Ok : goal.returns-in-Ok
@@ -12,9 +11,4 @@ returns-in-Ok g c =
     let verdict : IsVerdict g.row.TOP c.args.streams.now c.args.acts (verdict_of c.in-Ok.verdict) =
     subst (λ acts. IsVerdict g.row.TOP c.args.streams.now acts (verdict_of c.in-Ok.verdict)) c.as_slice.ensures
     c.in-Ok.ensures.verdict in
-    record {
-      found = search rules;
-      exact = (refl, refl, verdict, no);
-      shown = λ shows. absurd (shown_is_yes g.row.TOP c.args.streams.now c.args.acts
-          (verdict_of c.in-Ok.verdict) shows verdict no);
-    }
+    record { exact = (refl, refl, verdict, no) }

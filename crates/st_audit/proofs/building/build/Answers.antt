@@ -1,45 +1,34 @@
--- In plain streams the construction doesn't halt but for memory, and at the end what is told is shown.
-use Rattle.std.proofs.Common.{◌≡◌, ◌++◌, take, get_or, rules, arith, None, IsSome, [], refl, sym, ◌∙◌, ap, subst}
+-- In plain streams the first acts run and each item goes through. So the construction halts only because memory ran
+-- out, and at the end what is told is shown.
+use Rattle.std.proofs.Common.{◌≡◌, [], get_or, rules, arith, sym, subst}
 use Rattle.std.proofs.lemmas.Option.{slice_get-get_or}
-use Rattle.st_core.specs.State.{zero_state}
 use Rattle.st_core.specs.Laws.{NoReset}
-use Rattle.st_core.specs.Run.{pids_of, run_from, Shows}
-use Rattle.st_plan.specs.Build.{tracers_after}
+use Rattle.st_core.specs.Run.{Shows}
 use Rattle.st_plan.specs.Marks.{told_only}
-use Rattle.st_order.specs.Items.{item_place}
-use Rattle.st_plan.specs.Reasons.{too_wide, uncaused}
-use Rattle.st_audit.proofs.Halts.{holds_there, too_wide_halt, uncaused_halt}
 use Rattle.st_audit.specs.declared.construction.Halt.TheVariants as halt
-use Rattle.st_audit.specs.Progress.{AreTold, Ran}
-use Rattle.st_audit.proofs.Track.{goes_next, no_stop, none, on_track, only_memory, track_next, track_shows, tracers_run}
+use Rattle.st_audit.proofs.PlainItems.{goes_memory, goes_track, item_goes}
+use Rattle.st_audit.proofs.Track.{tracers_begin, none, on_track, opening_memory, track_shows, IsOnTrack}
 use Rattle.st_audit.proofs.building.build.Goals as goal
 
 pub returns-in-Err : goal.returns-in-Err
 returns-in-Err g c = λ plain.
-    let runs : IsSome (run_from g.row.TOP c.in-Ok.construction.world (tracers_after None c.args.pids.now)) =
-    subst (λ w. IsSome (run_from g.row.TOP w (tracers_after None c.args.pids.now))) (sym c.in-Ok.ensures.world)
-    (subst (λ ps. IsSome (run_from g.row.TOP (zero_state (pids_of c.args.streams.now)) (tracers_after None ps)))
-    (sym c.requires.pids) (tracers_run g.row.TOP c.args.streams.now)) in
     let same : c.in-Err.field-0 ≡ halt.Memory =
-    only_memory c.in-Err.field-0 c.in-Err.ensures.halt (c.in-Err.ensures.goes runs) in
+    opening_memory c.args.streams.now c.args.pids.now c.requires.pids c.in-Ok.construction c.open.new.self
+    c.in-Ok.ensures.world c.in-Err.field-0 c.in-Err.ensures.exact in
     search rules
 
 pub loop-number-init : goal.loop-number-init
 loop-number-init g c =
     let top = g.row.TOP in
     let streams = c.args.streams.now in
+    let marks = g.M.Tells.marks c.args.marks.now in
     let now = c.open.new.self in
-    let done = c.in-Ok-open.ensures in
-    let begun = c.in-Ok.ensures in
-    let are = c.requires.pids in
+    let b = tracers_begin streams c.args.pids.now c.requires.pids c.in-Ok.construction now c.in-Ok.ensures.world
+    c.in-Ok.ensures.acts c.in-Ok-open.ensures.exact in
     record {
-      so_far = search rules;
-      counts = search rules;
-      told = subst (λ t. AreTold streams [] t.items) (sym done.told) begun.tells;
-      track = λ plain. on_track top streams (g.M.Tells.marks c.args.marks.now) now.world now.acts
-          (subst (λ ps. Ran top (zero_state (pids_of streams)) (tracers_after None ps) now.world) are
-          (subst (λ w. Ran top w (tracers_after None c.args.pids.now) now.world) begun.world done.ran))
-          (done.acts ∙ ap (λ xs. xs ++ tracers_after None c.args.pids.now) begun.acts ∙ ap (tracers_after None) are);
+      so_far = c.in-Ok-open.ensures.so_far streams c.in-Ok.ensures.so_far;
+      track = λ plain. subst (IsOnTrack top streams marks [] now.world) (sym b.put)
+          (on_track top streams marks now.world b.outcomes b.runs b.after);
     }
 
 pub loop-number-preserved : goal.loop-number-preserved
@@ -49,63 +38,69 @@ loop-number-preserved g c =
     let marks = g.M.Tells.marks c.args.marks.now in
     let xs = c.args.items.now in
     let n = c.loop-number.number in
-    let i = c.loop-number.invariant in
     let old = c.loop-number.construction in
-    let now = c.append.new.self in
-    let done = c.in-Ok-append.ensures in
     record {
-      so_far = done.so_far;
-      counts = c.append.ensures.told;
-      told = done.tells i.told;
+      so_far = c.in-Ok-append.ensures.so_far;
       track = λ plain.
-          let track = i.track plain in
+          let track = c.loop-number.invariant.track plain in
           let at = slice_get-get_or xs n none c.loop-number-test.true in
           let x = get_or xs n none in
-          let m = goes_next top streams marks c.requires.streams plain.settled xs c.requires.order n x at old.world
-          old.acts track in
-          let f = done.follows x at c.requires.paired i.told m.serves in
-          track_next top streams marks c.requires.streams plain.settled xs c.requires.order n x at old.world old.acts
-          track m now.world now.acts f.put f.after;
+          let m = item_goes top streams marks c.requires.streams plain xs c.requires.order n x at old.world old.acts
+          track in
+          goes_track top streams marks c.requires.streams plain xs c.requires.order n x at old track c.append.new.self
+          (c.in-Ok-append.ensures.exact x m.event at m.there);
     }
 
 pub returns-in-Err-Uncaused : goal.returns-in-Err-Uncaused
 returns-in-Err-Uncaused g c = λ plain.
-    let streams = c.args.streams.now in
     let xs = c.args.items.now in
     let n = c.loop-number.number in
+    let old = c.loop-number.construction in
+    let marks = g.M.Tells.marks c.args.marks.now in
+    let streams = c.args.streams.now in
+    let at = slice_get-get_or xs n none c.loop-number-test.true in
     let x = get_or xs n none in
-    let within = c.loop-number-test.true in
-    let holds = uncaused_halt streams (take n xs) x c.in-Err-Uncaused.field-0 c.in-Err-Uncaused.field-0-is
-    (c.in-Err-Uncaused.ensures.halt x (slice_get-get_or xs n none within)) in
-    plain.settled.caused (item_place x).0 (item_place x).1
-    (holds_there uncaused streams xs n none (item_place x) c.requires.order within refl holds)
+    let track = c.loop-number.invariant.track plain in
+    let m = item_goes g.row.TOP streams marks c.requires.streams plain xs c.requires.order n x at old.world old.acts
+    track in
+    let same = goes_memory g.row.TOP streams marks c.requires.streams plain xs c.requires.order n x at old track
+    c.in-Err-Uncaused.field-0 c.append.new.self (c.in-Err-Uncaused.ensures.exact x m.event at m.there) in
+    let is = c.in-Err-Uncaused.field-0-is in
+    absurd (cc)
 
 pub returns-in-Err-TooWide : goal.returns-in-Err-TooWide
 returns-in-Err-TooWide g c = λ plain.
-    let streams = c.args.streams.now in
     let xs = c.args.items.now in
     let n = c.loop-number.number in
+    let old = c.loop-number.construction in
+    let marks = g.M.Tells.marks c.args.marks.now in
+    let streams = c.args.streams.now in
+    let at = slice_get-get_or xs n none c.loop-number-test.true in
     let x = get_or xs n none in
-    let within = c.loop-number-test.true in
-    let holds = too_wide_halt streams (take n xs) x c.in-Err-TooWide.field-0 c.in-Err-TooWide.field-0-is
-    (c.in-Err-TooWide.ensures.halt x (slice_get-get_or xs n none within)) in
-    plain.narrow (item_place x).0 (item_place x).1
-    (holds_there too_wide streams xs n none (item_place x) c.requires.order within refl holds)
+    let track = c.loop-number.invariant.track plain in
+    let m = item_goes g.row.TOP streams marks c.requires.streams plain xs c.requires.order n x at old.world old.acts
+    track in
+    let same = goes_memory g.row.TOP streams marks c.requires.streams plain xs c.requires.order n x at old track
+    c.in-Err-TooWide.field-0 c.append.new.self (c.in-Err-TooWide.ensures.exact x m.event at m.there) in
+    let is = c.in-Err-TooWide.field-0-is in
+    absurd (cc)
 
 pub returns-in-Err-Stopped : goal.returns-in-Err-Stopped
 returns-in-Err-Stopped g c = λ plain.
-    let streams = c.args.streams.now in
-    let marks = g.M.Tells.marks c.args.marks.now in
     let xs = c.args.items.now in
     let n = c.loop-number.number in
-    let i = c.loop-number.invariant in
     let old = c.loop-number.construction in
+    let marks = g.M.Tells.marks c.args.marks.now in
+    let streams = c.args.streams.now in
     let at = slice_get-get_or xs n none c.loop-number-test.true in
     let x = get_or xs n none in
-    let m = goes_next g.row.TOP streams marks c.requires.streams plain.settled xs c.requires.order n x at old.world
-    old.acts (i.track plain) in
-    let f = c.in-Err-Stopped.ensures.follows x at c.requires.paired i.told m.serves in
-    absurd (no_stop c.in-Err-Stopped.field-0 c.in-Err-Stopped.field-0-is f.goes)
+    let track = c.loop-number.invariant.track plain in
+    let m = item_goes g.row.TOP streams marks c.requires.streams plain xs c.requires.order n x at old.world old.acts
+    track in
+    let same = goes_memory g.row.TOP streams marks c.requires.streams plain xs c.requires.order n x at old track
+    c.in-Err-Stopped.field-0 c.append.new.self (c.in-Err-Stopped.ensures.exact x m.event at m.there) in
+    let is = c.in-Err-Stopped.field-0-is in
+    absurd (cc)
 
 pub returns : goal.returns
 returns g c = λ plain.

@@ -1,17 +1,15 @@
--- The items so far are those that the construction has the counts of; in plain streams it is on its way.
-use Rattle.std.proofs.Common.{◌≡◌, take, length}
+-- The construction is as the items so far make it; in plain streams it is on its way.
+use Rattle.std.proofs.Common.{take}
 use Rattle.st_plan.specs.Moves.{earlier_of}
 use Rattle.st_plan.specs.Plain.{IsPlain}
-use Rattle.st_audit.specs.Progress.{AreTold, IsSoFar}
+use Rattle.st_audit.specs.Progress.{IsSoFar}
 use Rattle.st_audit.proofs.Track.{IsOnTrack}
 use Rattle.st_audit.proofs.building.build.Given as goal
 
 abbrev pub invariant-loop-number : goal.invariant-loop-number
 invariant-loop-number g l =
     record {
-      so_far : IsSoFar l.streams (take l.number l.items) l.construction.world l.construction.skipped;
-      counts : length l.construction.told.items ≡ length l.streams;
-      told : AreTold l.streams (earlier_of l.streams (take l.number l.items)) l.construction.told.items;
+      so_far : IsSoFar l.streams (earlier_of l.streams (take l.number l.items)) l.construction;
       track : IsPlain g.row.TOP l.streams → IsOnTrack g.row.TOP l.streams (g.M.Tells.marks l.marks)
           (take l.number l.items) l.construction.world l.construction.acts;
     }

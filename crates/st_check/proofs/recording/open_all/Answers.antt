@@ -23,4 +23,5 @@ loop-pid-preserved c =
 pub returns : goal.returns
 returns c =
     c.loop-pid.invariant
-    ∙ ap (λ (ps : List Pid). reported_streams ps [] []) (take_all c.loop-pid.pid-index c.args.pids.now c.loop-pid-test.false)
+    ∙ ap (λ (ps : List Pid). reported_streams ps [] [])
+    (take_all c.loop-pid.pid-index c.args.pids.now c.loop-pid-test.false)

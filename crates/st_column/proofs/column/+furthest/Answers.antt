@@ -15,7 +15,8 @@ returns-in-Some-split_first t c =
     let template = c.in-Some.ensures.cases.0 in
     let line = c.in-Some-split_first.ensures.cases.0 in
     rw (template, line, c.if-byte-piece.true)
-    (same_longest c.args.wide c.in-Some.piece.now c.in-Some.template.now c.in-Some-split_first.line.now c.furthest.result none
+    (same_longest c.args.wide c.in-Some.piece.now c.in-Some.template.now c.in-Some-split_first.line.now
+    c.furthest.result none
     c.furthest.ensures)
 
 pub returns-in_default-split_first : goal.returns-in_default-split_first
@@ -55,7 +56,8 @@ returns t c =
     let template = c.in-Some.ensures.cases.0 in
     let all : c.loop-i.i ≡ c.number_bytes-i-end.result = omega arith in
     let best =
-    subst (λ (i : ℕ). IsBest c.args.wide c.in-Some.template.now c.args.line.now i c.loop-i.best) all c.loop-i.invariant in
+    subst (λ (i : ℕ). IsBest c.args.wide c.in-Some.template.now c.args.line.now i c.loop-i.best)
+    all c.loop-i.invariant in
     rw template
     (number_longest c.args.wide c.in-Some.piece.now c.in-Some-most_at.most c.in-Some.template.now c.args.line.now
     c.number_bytes-i-end.result c.loop-i.best (sym c.most_at.ensures ∙ c.in-Some-most_at.is) (omega arith)

@@ -30,6 +30,8 @@ returns c =
     better c.args.wide print_lines (token_lines ++ flag_lines ++ tracer_lines ++ restore_send_lines ++ restore_lines)
     line c.of_prints.result c.max-tokens.result c.max-prints.result
     c.max-prints.ensures c.of_prints.ensures tokens in
-    better c.args.wide message_lines (print_lines ++ token_lines ++ flag_lines ++ tracer_lines ++ restore_send_lines ++ restore_lines)
+    better c.args.wide message_lines
+    (print_lines ++ token_lines ++ flag_lines ++ tracer_lines ++ restore_send_lines
+    ++ restore_lines)
     line c.of_messages.result c.max-prints.result c.max.result
     c.max.ensures c.of_messages.ensures prints

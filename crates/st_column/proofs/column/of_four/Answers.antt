@@ -8,7 +8,10 @@ use Rattle.st_column.proofs.column.of_four.Goals as goal
 pub returns : goal.returns
 returns c =
     subst
-    (IsLongest (IsAnyOf c.args.wide (c.args.one.now ∷ c.args.two.now ∷ c.args.three.now ∷ c.args.four.now ∷ [])) c.args.line.now)
+    (IsLongest (IsAnyOf c.args.wide
+    (c.args.one.now ∷ c.args.two.now ∷ c.args.three.now ∷ c.args.four.now
+    ∷ [])) c.args.line.now)
     (sym c.max.ensures)
-    (any_both c.args.wide (c.args.one.now ∷ c.args.two.now ∷ []) (c.args.three.now ∷ c.args.four.now ∷ []) c.args.line.now
+    (any_both c.args.wide (c.args.one.now ∷ c.args.two.now ∷ [])
+    (c.args.three.now ∷ c.args.four.now ∷ []) c.args.line.now
     c.of_two-front.result c.of_two-back.result c.of_two-front.ensures c.of_two-back.ensures)

@@ -10,7 +10,8 @@ pub returns-in-Process : goal.returns-in-Process
 returns-in-Process c =
     subst (λ (a : Above). IsLongest (IsAnyOf c.args.wide (lines_below a)) c.args.line.now c.max.result)
     (sym c.in-Process.is)
-    (better c.args.wide event_lines rare_lines c.args.line.now c.of_events.result c.of_rare_lines-in-Process.result c.max.result
+    (better c.args.wide event_lines rare_lines c.args.line.now c.of_events.result
+    c.of_rare_lines-in-Process.result c.max.result
     c.max.ensures c.of_events.ensures c.of_rare_lines-in-Process.ensures)
 
 pub returns-in-Nothing : goal.returns-in-Nothing

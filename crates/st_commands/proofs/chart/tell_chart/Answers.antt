@@ -24,7 +24,7 @@ returns-in-Err-NoLabel g c =
     record {
       output = no_label c.args.label;
       owed = LacksLabel none;
-      delivered = from_there _ _ _ _ _ _ _ same c.tell_line.ensures;
+      delivered = from_there _ _ _ _ _ _ same c.tell_line.ensures;
     }
 
 pub returns-in-Err-Memory : goal.returns-in-Err-Memory
@@ -33,7 +33,7 @@ returns-in-Err-Memory g c =
     record {
       output = no_memory;
       owed = NoRoomToDraw;
-      delivered = from_there _ _ _ _ _ _ _ same c.tell_fault.ensures;
+      delivered = from_there _ _ _ _ _ _ same c.tell_fault.ensures;
     }
 
 pub returns-in-Err-Device : goal.returns-in-Err-Device

@@ -1,4 +1,4 @@
--- What `check` answers is the verdict, and that memory ran out is said by itself.
+-- `check` returns the verdict, and if memory runs out a line of its own says so.
 use Rattle.st_check.specs.Answers.{verdict_of}
 use Rattle.st_commands.specs.Output.{judged, no_memory}
 use Rattle.st_commands.specs.Parts.{Judges, NoRoomToCheck}

@@ -1,4 +1,4 @@
--- What `drive` answers is told, and that memory ran out for the scripts is said by itself.
+-- What `drive` returns is written, and if memory runs out for the scripts a line of its own says so.
 use Rattle.st_commands.specs.Output.{no_memory}
 use Rattle.st_commands.specs.Recorded.{record_output}
 use Rattle.st_commands.specs.Parts.{Records, Refuses, NoRoomToDrive, drive_refused}

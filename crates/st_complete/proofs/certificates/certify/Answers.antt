@@ -1,5 +1,5 @@
--- A yes says that the acts show the streams.
-use Rattle.std.proofs.Common.{subst}
+-- A yes says that the acts show the streams, and no more were let through than are allowed.
+use Rattle.std.proofs.Common.{subst, arith}
 use Rattle.st_core.specs.Laws.{NoReset}
 use Rattle.st_core.specs.Verdict.{IsVerdict, Yes}
 use Rattle.st_complete.proofs.certificates.certify.Goals as goal
@@ -15,4 +15,5 @@ returns-in-Ok-Yes g c =
       verdict = yes;
       shows = (yes.0, yes.1, yes.2);
       one_trace = subst NoReset c.as_slice.ensures (c.has_no_reset.ensures c.if-not-has_no_reset.false);
+      within = let few = c.if-len-most.false in let all = c.len.ensures in omega (arith, few, all);
     }

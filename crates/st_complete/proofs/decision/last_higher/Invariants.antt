@@ -1,5 +1,5 @@
 -- The last of the events so far that counts no lower is known.
-use Rattle.st_complete.specs.Flaws.{LastHigher}
+use Rattle.st_complete.specs.Higher.{LastHigher}
 use Rattle.st_complete.proofs.decision.last_higher.Given as goal
 
 abbrev pub invariant-loop-i : goal.invariant-loop-i

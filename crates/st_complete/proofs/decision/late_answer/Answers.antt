@@ -1,7 +1,6 @@
 -- An event before it counts no lower, and the last such one is a receive.
 use Rattle.std.proofs.Common.{None, refl, sym, ◌∙◌, subst}
-use Rattle.st_complete.specs.Answers.{IsHigher}
-use Rattle.st_complete.specs.Flaws.{LastHigher}
+use Rattle.st_complete.specs.Higher.{IsHigher, LastHigher}
 use Rattle.st_complete.proofs.Answered.{last_higher, some_higher}
 use Rattle.st_complete.proofs.decision.late_answer.Goals as goal
 

@@ -2,10 +2,10 @@
 use Rattle.std.proofs.Common.{ap, sym, ◌∙◌, subst}
 use Rattle.std.proofs.lemmas.Option.{same_Some}
 use Rattle.st_core.specs.Streams.{IsStreams}
-use Rattle.st_full.specs.Local.{IsNeedless}
+use Rattle.st_completions.specs.Local.{IsNeedless}
 use Rattle.st_plan.specs.Marks.{told_streams}
-use Rattle.st_complete.specs.Completions.{wholes_with, Completes}
-use Rattle.st_complete.proofs.Kept.{all_kept}
+use Rattle.st_needs.specs.Completions.{wholes_with, Completes}
+use Rattle.st_needs.proofs.ForCallers.{all_kept}
 use Rattle.st_complete.proofs.judge.judge.Goals as goal
 
 pub completion_of-requires : goal.completion_of-requires

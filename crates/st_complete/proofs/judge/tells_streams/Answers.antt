@@ -2,7 +2,8 @@
 use Rattle.std.proofs.Common.{get_or, length, slice_get, sym, ◌∙◌, ap, arith}
 use Rattle.st_core.specs.declared.types.Pid.{Pid}
 use Rattle.st_pair.proofs.ForCallers.{at_get_or}
-use Rattle.st_complete.proofs.Judged.{all_told, pids_length, told_here, told_next}
+use Rattle.st_needs.proofs.ForCallers.{all_told, pids_length}
+use Rattle.st_complete.proofs.Judged.{told_here, told_next}
 use Rattle.st_complete.proofs.judge.tells_streams.Goals as goal
 
 abbrev none : Pid
@@ -22,7 +23,8 @@ loop-place-preserved c =
     ∙ at_get_or _ k none (omega arith) in
     told_next all c.args.lists.now streams k c.loop-place.invariant
     (told_here all c.args.lists.now streams k p q _ _ _ c.pids-all_pids.ensures.streams.draft.rising
-    c.pids-pids.ensures.streams.draft.rising at_all at (c.is_same_pid.ensures.0 c.if-not-is_same_pid.false) c.events.ensures.value
+    c.pids-pids.ensures.streams.draft.rising at_all at
+    (c.is_same_pid.ensures.0 c.if-not-is_same_pid.false) c.events.ensures.value
     c.events-in-loop-place.ensures.value c.marks_at-marks.ensures (c.tells_events.ensures c.if-not-tells_events.false))
 
 pub returns-clause-told : goal.returns-clause-told

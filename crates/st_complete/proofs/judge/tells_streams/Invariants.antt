@@ -1,6 +1,6 @@
 -- The processes that were taken tell their streams.
 use Rattle.std.proofs.Common.{ℕ, ◌<◌}
-use Rattle.st_complete.proofs.Judged.{IsToldAt}
+use Rattle.st_needs.proofs.ForCallers.{IsToldAt}
 use Rattle.st_complete.proofs.judge.tells_streams.Given as goal
 
 -- at each place so far

@@ -1,4 +1,4 @@
--- What `is_sorted_by` answers is whether each pid is below the next, and so whether they rise.
+-- `is_sorted_by` returns whether each pid is below the next, and so whether they rise.
 use Rattle.std.proofs.Common.{rules}
 use Rattle.std.specs.Ordering.{is_lt}
 use Rattle.std.proofs.lemmas.Fn.{always_returns_same}

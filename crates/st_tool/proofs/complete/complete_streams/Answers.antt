@@ -1,4 +1,4 @@
--- Running out of memory is an answer of its own.
+-- Running out of memory has a line of its own.
 use Rattle.st_commands.specs.Output.{no_memory}
 use Rattle.st_tool.specs.Parts.{NoRoomToComplete}
 use Rattle.st_tool.proofs.complete.complete_streams.Goals as goal

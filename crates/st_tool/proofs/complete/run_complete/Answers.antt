@@ -1,28 +1,17 @@
--- The reader says which bytes it gave, and what was delivered is what they owe.
-use Rattle.st_text.specs.Contents.{contents}
-use Rattle.st_commands.specs.Output.{refused}
+-- The reader tells which bytes it gave, and what was delivered is what they owe.
+use Rattle.st_text.specs.Limits.{standard}
+use Rattle.st_commands.specs.Command.{call}
+use Rattle.st_commands.proofs.ForCallers.{tells_as, tells_fault, was_read}
 use Rattle.st_tool.specs.Complete.{IsCompleted, Faulty}
-use Rattle.st_tool.proofs.Deliveries.{owes_fault, owes_complete, was_read}
+use Rattle.st_tool.proofs.Deliveries.{owes_complete}
 use Rattle.st_tool.proofs.complete.run_complete.Goals as goal
 
 pub returns-in-Ok : goal.returns-in-Ok
 returns-in-Ok g c =
-    let told = c.complete_streams.ensures in
-    let reader = g.R.ByteSource in
-    let read = was_read reader.gives reader.ended reader.failed _ _ c.in-Ok.bundle c.in-Ok.ensures in
-    record {
-      output = told.output;
-      owed = owes_complete reader.gives reader.ended reader.failed _ _ (contents c.in-Ok.bundle) read c.args.form
-          told.output told.owed;
-      delivered = told.delivered;
-    }
+    let read = was_read standard (call g.R.ByteSource _ _) c.in-Ok.bundle c.in-Ok.ensures in
+    tells_as _ _ (owes_complete _ _ read c.args.form) c.complete_streams.ensures
 
 pub returns-in-Err : goal.returns-in-Err
 returns-in-Err g c =
-    let reader = g.R.ByteSource in
-    record {
-      output = refused c.in-Err.fault;
-      owed = owes_fault reader.gives reader.ended reader.failed _ _ (IsCompleted c.args.form) Faulty c.in-Err.fault
-          c.in-Err.ensures;
-      delivered = c.tell_fault.ensures;
-    }
+    tells_fault standard (call g.R.ByteSource _ _) (IsCompleted c.args.form) Faulty _ _ c.in-Err.fault
+    c.in-Err.ensures c.tell_fault.ensures

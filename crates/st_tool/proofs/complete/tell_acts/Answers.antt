@@ -1,7 +1,7 @@
--- The acts show the streams; running out of memory is an answer of its own.
+-- The acts show the streams; running out of memory has a line of its own.
 use Rattle.std.proofs.Common.{refl}
 use Rattle.st_commands.specs.Output.{no_memory, bundled}
-use Rattle.st_complete.specs.declared.answer.Answer.TheVariants as answer
+use Rattle.st_hidden.specs.declared.answer.Answer.TheVariants as answer
 use Rattle.st_tool.specs.Complete.{Certifies, IsLong, long}
 use Rattle.st_tool.specs.Parts.{Finds, NoRoomToComplete}
 use Rattle.st_tool.proofs.complete.tell_acts.Goals as goal

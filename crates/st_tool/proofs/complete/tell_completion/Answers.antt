@@ -1,11 +1,12 @@
 -- Each form has its text.
 use Rattle.std.proofs.Common.{refl, sym, subst}
 use Rattle.st_plan.specs.Marks.{all_streams}
-use Rattle.st_complete.specs.declared.answer.Answer.TheVariants as answer
+use Rattle.st_hidden.specs.declared.answer.Answer.TheVariants as answer
+use Rattle.st_commands.specs.Command.{call}
+use Rattle.st_commands.proofs.ForCallers.{delivers}
 use Rattle.st_tool.specs.Renumber.{streams_output}
 use Rattle.st_tool.specs.Complete.{Adds, Completes, added_text, text_of_status}
 use Rattle.st_tool.specs.Parts.{CompletesTo, Finds}
-use Rattle.st_tool.proofs.Deliveries.{delivers}
 use Rattle.st_tool.proofs.complete.tell_completion.Goals as goal
 
 pub returns-in-Acts : goal.returns-in-Acts
@@ -30,10 +31,9 @@ returns-in-Streams g c =
 pub returns-in-Added : goal.returns-in-Added
 returns-in-Added g c =
     let out = text_of_status (added_text c.args.completion.now) 0 in
-    let writer = g.W.ByteSink in
     record {
       output = out;
       owed = Finds (answer.Whole c.args.completion.now) out c.requires tt (Adds c.args.completion.now c.in-Added.is);
-      delivered = delivers writer.puts writer.failed _ _ out c.send_added-sent.result _ c.send_added-sent.ensures
+      delivered = delivers (call g.W.ByteSink _ _) out c.send_added-sent.result _ c.send_added-sent.ensures
           c.status_of.ensures;
     }

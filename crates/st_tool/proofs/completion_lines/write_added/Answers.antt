@@ -2,7 +2,7 @@
 use Rattle.std.specs.List.{flat_map}
 use Rattle.st_core.specs.Run.{pids_of}
 use Rattle.st_plan.specs.Marks.{all_streams}
-use Rattle.st_complete.specs.Completions.{added_in}
+use Rattle.st_needs.specs.Completions.{added_in}
 use Rattle.st_tool.specs.Complete.{added_of, count_line}
 use Rattle.st_text.proofs.ForCallers.{part_longer, then_on, on_err}
 use Rattle.st_tool.proofs.completion_lines.write_added.Goals as goal

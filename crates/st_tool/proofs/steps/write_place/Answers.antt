@@ -1,4 +1,4 @@
--- Where no event is there is no line.
+-- If there is no event there is no line.
 use Rattle.std.proofs.Common.{◌∙◌, sym, Some, None}
 use Rattle.st_text.proofs.ForCallers.{goes_still}
 use Rattle.st_tool.proofs.Backs.{line_of}

@@ -1,4 +1,4 @@
--- A reason of pairing is reported, and running out of memory is an answer of its own.
+-- A reason of pairing is reported, and running out of memory has a line of its own.
 use Rattle.std.proofs.Common.{sym, ◌∙◌}
 use Rattle.st_commands.specs.Output.{no_memory}
 use Rattle.st_commands.specs.Audited.{report_output}

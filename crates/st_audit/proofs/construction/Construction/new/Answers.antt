@@ -1,13 +1,21 @@
 -- A new world's counts are at zero, and nothing is told.
+use Rattle.std.proofs.Common.{length, refl, ◌∙◌, ap}
+use Rattle.std.proofs.Math.ListN.{length-map}
+use Rattle.std.proofs.lemmas.List.{length-replicate}
+use Rattle.st_core.specs.Run.{Stream}
 use Rattle.st_audit.proofs.FirstCounts.{begins}
 use Rattle.st_audit.proofs.ToldCounts.{none_told}
 use Rattle.st_audit.proofs.construction.Construction.new.Goals as goal
 
 pub returns-clause-so_far : goal.returns-clause-so_far
 returns-clause-so_far g c =
-    begins c.args.streams.now c.pids-pids.result.now c.in-Ok.world c.in-Ok.ensures.zero
-
-pub returns-clause-tells : goal.returns-clause-tells
-returns-clause-tells g c =
-    none_told c.args.streams.now c.pids-pids.result.now c.in_ok-told.told.items
-    (c.in_ok-told.ensures.items_if_clones_equal (λ y same. same)) c.pids-pids.ensures.value
+    let streams = c.args.streams.now in
+    let pids = c.pids-pids.result.now in
+    let zeros = c.in_ok-told.ensures.items_if_clones_equal (λ y same. same) in
+    record {
+      counted = begins pids c.in-Ok.world c.in-Ok.ensures.zero;
+      missed = refl;
+      listed = ap length zeros ∙ length-replicate (length pids) 0 ∙ ap length c.pids-pids.ensures.value
+          ∙ length-map streams (λ (x : Stream). x.pid);
+      told = none_told streams pids c.in_ok-told.told.items zeros c.pids-pids.ensures.value;
+    }

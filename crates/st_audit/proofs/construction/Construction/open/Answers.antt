@@ -1,15 +1,23 @@
 -- If a tracer was put, no count moved, and it is the next one.
-use Rattle.std.proofs.Common.{◌≡◌, ◌+◌, ◌∷◌, arith, drop, get_or, true, List, [], not, rules, Option}
+use Rattle.std.proofs.Common.{◌≡◌, ℕ, ◌+◌, ◌∷◌, [], List, true, not, Option, Some, ◌==◌, drop, get_or, length}
+use Rattle.std.proofs.Common.{arith, sym, ◌∙◌, ap, subst}
 use Rattle.std.specs.Option.{option_eq}
-use Rattle.std.proofs.Common.{ap, ◌==◌, sym, ◌∙◌, subst, Some, ℕ}
+use Rattle.st_core.specs.declared.types.Act.TheVariants as act
 use Rattle.st_core.specs.declared.types.Pid.{Pid}
-use Rattle.st_world.specs.World.{outcome_to}
+use Rattle.st_core.specs.Run.{Stream}
+use Rattle.st_plan.specs.Build.{tracers_after}
 use Rattle.st_audit.specs.declared.construction.Construction.{Construction}
-use Rattle.st_audit.specs.Progress.{AreCounted}
-use Rattle.st_audit.proofs.FirstCounts.{traced}
-use Rattle.st_audit.proofs.Tracers.{all_opened, next_left, one_opened, opens_on, seen_before, was_seen, Opens}
+use Rattle.st_audit.specs.Progress.{acts_turn, AreCounted, AreTold, IsSoFar, Meets, SaysNothing, TellsLast}
+use Rattle.st_audit.proofs.Attempts.{done_by, goes_through, one_step}
+use Rattle.st_audit.proofs.FirstCounts.{tracer_counted}
+use Rattle.st_audit.proofs.MoveOutcomes.{on_err}
+use Rattle.st_audit.proofs.Tracers.{all_opened, next_left, none_opened, one_opened, opening_halts, seen_before}
+use Rattle.st_audit.proofs.Tracers.{was_seen, Opens}
 use Rattle.st_audit.proofs.construction.Construction.open.Goals as goal
 use Rattle.st_audit.proofs.construction.Construction.open.Goals.{then-ne+in_ok-perform, else-ne}
+
+pub loop-pid-init : goal.loop-pid-init
+loop-pid-init g c = record { so_far = λ streams so. so; opens = none_opened c.args.pids.now c.args.self.now }
 
 pub loop-pid-preserved : goal.loop-pid-preserved
 loop-pid-preserved g c =
@@ -23,44 +31,45 @@ loop-pid-preserved g c =
     let none : Pid = record { node = 0; number = 0 } in
     let p = get_or pids n none in
     let rest = drop (n + 1) pids in
-    let opens : Opens top old.world old.acts pids seen (p ∷ rest) now.world now.acts =
-    subst (λ (left : List Pid). Opens top old.world old.acts pids seen left now.world now.acts)
-    (next_left pids n none c.loop-pid-test.true) i.opens in
+    let opens : Opens pids seen (p ∷ rest) old now =
+    subst (λ (left : List Pid). Opens pids seen left old now) (next_left pids n none c.loop-pid-test.true) i.opens in
     let test = was_seen seen p c.ne.result (c.ne.ensures ∙ ap (λ (m : ℕ). not (option_eq (λ x y. x == y) seen (Some m)))
     c.node.ensures) in
     elim c.if-ne.branch [
       | then-ne+in_ok-perform w ↦
           let done = w.in_ok-perform.ensures in
           let after = w.perform.new.self in
-          let o = outcome_to w.in_ok-perform.field-0 after.world in
-          let more = one_opened top old.world old.acts pids seen p rest now.world now.acts opens
-          (test ∙ ap not w.if-ne.true) o after.acts done.step done.acts in
+          let tracer = act.Tracer p true in
+          let made = (done_by TellsLast (tracer ∷ []) now w.in_ok-perform.field-0 after done.exact).made in
+          let one = one_step tracer now after made in
+          let more = one_opened pids old seen p rest now opens (test ∙ ap not w.if-ne.true) after made in
           let node_is : c.if-ne.node ≡ Some p.node = w.node-is ∙ ap (λ (m : ℕ). Some m) w.node-then-ne.ensures in
           record {
-            counted = subst (λ (x : Construction top). AreCounted [] x.world) (sym w.self-is)
-                (traced top now.world p true o done.step i.counted);
-            skipped = ap (λ (x : Construction top). x.skipped) w.self-is ∙ done.skipped ∙ i.skipped;
-            told = ap (λ (x : Construction top). x.told) w.self-is ∙ done.told ∙ i.told;
-            opens = subst (λ (x : Construction top). Opens top old.world old.acts pids c.if-ne.node rest x.world x.acts)
-                (sym w.self-is) (subst (λ (m : Option ℕ). Opens top old.world old.acts pids m rest after.world
-                after.acts)
-                (sym node_is) more);
+            so_far = subst (λ (x : Construction top). (streams : List Stream) → IsSoFar streams [] old
+                → IsSoFar streams [] x) (sym w.self-is) (λ streams was.
+                let so = i.so_far streams was in
+                record {
+                  counted = subst (AreCounted []) (sym one.2)
+                      (tracer_counted top now.world p true one.0 one.1 so.counted);
+                  missed = done.skipped ∙ so.missed;
+                  listed = ap (λ t. length t.items) done.told ∙ so.listed;
+                  told = subst (λ t. AreTold streams [] t.items) (sym done.told) so.told;
+                });
+            opens = subst (λ (x : Construction top). Opens pids c.if-ne.node rest old x) (sym w.self-is)
+                (subst (λ (m : Option ℕ). Opens pids m rest old after) (sym node_is) more);
           }
       | else-ne w ↦
-          let more = seen_before top old.world old.acts pids seen p rest now.world now.acts opens
-          (test ∙ ap not w.if-ne.false) in
+          let more = seen_before pids old seen p rest now opens (test ∙ ap not w.if-ne.false) in
           record {
-            counted = subst (λ (x : Construction top). AreCounted [] x.world) (sym w.self-is) i.counted;
-            skipped = ap (λ (x : Construction top). x.skipped) w.self-is ∙ i.skipped;
-            told = ap (λ (x : Construction top). x.told) w.self-is ∙ i.told;
-            opens = subst (λ (x : Construction top). Opens top old.world old.acts pids c.if-ne.node rest x.world x.acts)
-                (sym w.self-is) (subst (λ (m : Option ℕ). Opens top old.world old.acts pids m rest now.world now.acts)
-                (sym w.node-is) more);
+            so_far = subst (λ (x : Construction top). (streams : List Stream) → IsSoFar streams [] old
+                → IsSoFar streams [] x) (sym w.self-is) i.so_far;
+            opens = subst (λ (x : Construction top). Opens pids c.if-ne.node rest old x) (sym w.self-is)
+                (subst (λ (m : Option ℕ). Opens pids m rest old now) (sym w.node-is) more);
           }
     ]
 
-pub returns-in_err-perform-clause-goes : goal.returns-in_err-perform-clause-goes
-returns-in_err-perform-clause-goes g c = λ runs.
+pub returns-in_err-perform-clause-exact : goal.returns-in_err-perform-clause-exact
+returns-in_err-perform-clause-exact g c =
     let old = c.args.self.now in
     let pids = c.args.pids.now in
     let n = c.loop-pid.pid-index in
@@ -69,21 +78,21 @@ returns-in_err-perform-clause-goes g c = λ runs.
     let none : Pid = record { node = 0; number = 0 } in
     let p = get_or pids n none in
     let rest = drop (n + 1) pids in
-    let opens : Opens g.row.TOP old.world old.acts pids seen (p ∷ rest) now.world now.acts =
-    subst (λ (left : List Pid). Opens g.row.TOP old.world old.acts pids seen left now.world now.acts)
-    (next_left pids n none c.loop-pid-test.true) c.loop-pid.invariant.opens in
+    let opens : Opens pids seen (p ∷ rest) old now =
+    subst (λ (left : List Pid). Opens pids seen left old now) (next_left pids n none c.loop-pid-test.true)
+    c.loop-pid.invariant.opens in
     let test = was_seen seen p c.ne.result (c.ne.ensures ∙ ap (λ (m : ℕ). not (option_eq (λ x y. x == y) seen (Some m)))
     c.node.ensures) in
-    let goes = c.in_err-perform.ensures.goes (opens_on g.row.TOP old.world old.acts pids seen p rest now.world now.acts
-    opens (test ∙ ap not c.if-ne.true) runs) in
-    search rules
+    let h = c.in_err-perform.field-0.0 in
+    let new = c.perform.new.self in
+    on_err c.from_residual.result h
+    (λ r. Meets {T = Unit {0}} SaysNothing (acts_turn g.row.TOP old.world (tracers_after _ pids)) old r new)
+    c.from_residual.ensures.1
+    (opening_halts pids old seen p rest now opens (test ∙ ap not c.if-ne.true) new h c.in_err-perform.ensures.exact)
 
-pub returns-clause-ran : goal.returns-clause-ran
-returns-clause-ran g c =
-    (all_opened g.row.TOP c.args.self.now.world c.args.self.now.acts c.args.pids.now c.loop-pid.node
-    c.loop-pid.self.world c.loop-pid.self.acts c.loop-pid.pid-index (omega arith) c.loop-pid.invariant.opens).0
-
-pub returns-clause-acts : goal.returns-clause-acts
-returns-clause-acts g c =
-    (all_opened g.row.TOP c.args.self.now.world c.args.self.now.acts c.args.pids.now c.loop-pid.node
-    c.loop-pid.self.world c.loop-pid.self.acts c.loop-pid.pid-index (omega arith) c.loop-pid.invariant.opens).1
+pub returns-clause-exact : goal.returns-clause-exact
+returns-clause-exact g c =
+    let pids = c.args.pids.now in
+    goes_through {T = Unit {0}} SaysNothing (tracers_after _ pids) c.args.self.now tt c.loop-pid.self
+    (all_opened pids c.args.self.now c.loop-pid.node c.loop-pid.self c.loop-pid.pid-index (omega arith)
+    c.loop-pid.invariant.opens) tt

@@ -22,7 +22,7 @@ returns-then-place-index c =
     let count =
     read_count _ _ c.self.invariant _ (ap (λ m. m.boxes) c.self.view_is) c.args.mailbox c.requires c.index.result.now
     c.index.ensures in
-    ap (λ m. Some m) c.untraced.ensures
+    ap (λ m. Some m) c.without_token.ensures
     ∙ sym (get_front _ _ c.self.invariant _ (ap (λ m. m.boxes) c.self.view_is) c.args.mailbox c.requires _ count
     c.args.place _ (sym c.get.ensures ∙ ap option_copied (c.in_ok-message.was)) c.if-place-index.true)
 

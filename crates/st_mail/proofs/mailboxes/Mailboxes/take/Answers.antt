@@ -92,10 +92,10 @@ returns-clause-took c =
     c.index-wiped.result.now c.index-wiped.ensures in
     let queue : List Message = queue_in c.args.self.now.boxes c.args.mailbox in
     let found : place_picked c.args.want.now queue ≡ Some c.in-Some.place = sym c.find.ensures ∙ c.in-Some.is in
-    given_at c.args.want.now queue c.in-Some.place c.untraced.result found
+    given_at c.args.want.now queue c.in-Some.place c.without_token.result found
     (get_front _ _ c.self.invariant _ (ap (λ m. m.boxes) c.self.view_is) c.args.mailbox c.requires _ count
     c.in-Some.place _ (sym c.take_at.ensures.value ∙ c.unwrap-message.ensures) c.if-place-wiped.false
-    ∙ ap (λ m. Some m) (sym c.untraced.ensures))
+    ∙ ap (λ m. Some m) (sym c.without_token.ensures))
 
 pub returns-clause-boxes : goal.returns-clause-boxes
 returns-clause-boxes c =

@@ -6,5 +6,6 @@ use Rattle.st_runtime.proofs.join.seating.holds_calls.Given as goal
 -- what is left of the calls and of the log decides
 abbrev pub invariant-loop-place : goal.invariant-loop-place
 invariant-loop-place l =
-    (l.next ≤ length l.mine)
-    × ((l.mine ≡ calls_of l.pid l.log.entries) ↔ (drop l.next l.mine ≡ calls_of l.pid (drop l.place l.log.entries)))
+    (l.next ≤ length l.mine.calls)
+    × ((l.mine.calls ≡ calls_of l.pid l.log.entries)
+    ↔ (drop l.next l.mine.calls ≡ calls_of l.pid (drop l.place l.log.entries)))

@@ -1,16 +1,26 @@
--- A receive by the process itself is the machine's step on it alone.
-use Rattle.std.proofs.Common.{◌≡◌, sym, ap, ◌∙◌}
-use Rattle.st_core.specs.declared.types.Act.TheVariants.{Receive}
-use Rattle.st_core.specs.Step.{actor}
-use Rattle.st_runtime.proofs.StepLemmas.{ok_alone}
+-- A receive and a send to the process itself are calls of their own, whose act is this one.
+use Rattle.std.proofs.Common.{◌≡◌, [], ◌∷◌, sym, subst}
+use Rattle.st_core.specs.declared.types.Act.{Act}
+use Rattle.st_core.specs.declared.types.Act.TheVariants.{Receive, Send}
+use Rattle.st_runtime.specs.Lent.{IsLentStep}
+use Rattle.st_runtime.proofs.ActLemmas.{alone_receive, alone_send}
 use Rattle.st_runtime.proofs.pcb.Pcb.alone.Goals as goal
 
-pub returns-in-Receive-clause-ok : goal.returns-in-Receive-clause-ok
-returns-in-Receive-clause-ok g c =
+pub returns-in-Send-clause-step : goal.returns-in-Send-clause-step
+returns-in-Send-clause-step g c =
     let a = c.args.act.now in
     let x = c.args.self.now in
-    let w = c.in-Receive.want in
-    let mine : c.in-Receive.field-0 ≡ x.process.pid = sym (ap actor c.in-Receive.is) ∙ c.requires.me in
-    let same : a ≡ Receive x.process.pid w = c.in-Receive.is ∙ ap (λ p. Receive p w) mine in
-    ok_alone g.row.TOP a (Receive x.process.pid w) x c.receive.new.self c.receive.result c.requires.alone c.requires.me
-    same c.receive.ensures.ok
+    let me = x.process.pid in
+    let same : a ≡ Send me me c.in-Send.value =
+    alone_send a c.in-Send.field-0 c.in-Send.field-1 me c.in-Send.value c.in-Send.is c.requires.alone c.requires.me in
+    subst (λ (b : Act). IsLentStep g.row.TOP g.row.RANKS b (x ∷ []) (c.send_to_itself.new.self ∷ [])
+    c.send_to_itself.result) (sym same) c.send_to_itself.ensures.step
+
+pub returns-in-Receive-clause-step : goal.returns-in-Receive-clause-step
+returns-in-Receive-clause-step g c =
+    let a = c.args.act.now in
+    let x = c.args.self.now in
+    let same : a ≡ Receive x.process.pid c.in-Receive.want =
+    alone_receive a c.in-Receive.field-0 x.process.pid c.in-Receive.want c.in-Receive.is c.requires.me in
+    subst (λ (b : Act). IsLentStep g.row.TOP g.row.RANKS b (x ∷ []) (c.receive.new.self ∷ []) c.receive.result)
+    (sym same) c.receive.ensures.step

@@ -1,5 +1,5 @@
 -- The entry of a reset or a tracer change is legal for each process of the node by the machine's change of it.
-use Rattle.std.proofs.Common.{◌≡◌, sym, ap, subst}
+use Rattle.std.proofs.Common.{◌≡◌, ◌-◌, sym, ap, subst, arith}
 use Rattle.st_core.specs.State.{Process}
 use Rattle.st_core.specs.Step.{reached}
 use Rattle.st_mail.specs.Actor.{process_of}
@@ -24,24 +24,34 @@ invariant_of-self g c =
     let plain = wide_entry e.rank e.act e.reply in
     let after = reached e.act None r in
     let view = c.self.view_is in
-    let told = wide_part g.row.TOP c.args.self.now.process e.rank e.act e.reply c.requires.wide c.requires.node
-    c.requires.reply in
+    let asked = c.requires.entry in
+    let told = wide_part g.row.TOP c.args.self.now.process e.rank e.act e.reply asked.wide asked.node asked.reply in
     let inside : IsPart g.row.TOP r plain after =
     subst (λ y. IsPart g.row.TOP y plain (reached e.act None y)) (ap (λ (x : Control). x.process) (sym view)) told in
     let bare : plain ≡ e = λ i. record {
       rank = e.rank;
       act = e.act;
       reply = e.reply;
-      report = sym c.requires.report i;
-      carried = sym c.requires.carried i;
+      report = sym c.requires.entry.report i;
+      carried = sym c.requires.entry.carried i;
     } in
     let part : IsPart g.row.TOP r e (process_of p m (queue_in boxes' 0)) =
     subst (λ y. IsPart g.row.TOP r e y) (sym c.reach.ensures.reached)
     (subst (λ d. IsPart g.row.TOP r d after) bare inside) in
     let next : IsNext g.row.RANKS log e.rank = record {
-      above = rw (ap (λ (x : Control). last_rank 0 x.log) view) c.requires.above;
-      within = c.requires.within;
+      above = rw (ap (λ (x : Control). last_rank 0 x.log) view) c.requires.entry.above;
+      within = c.requires.entry.within;
     } in
     rw c.push_reserved.ensures.entries
     (inside_push g.row.TOP g.row.RANKS p l boxes log e m boxes' c.self.invariant c.reach.ensures.one_box
     c.reach.ensures.fit part next)
+
+pub returns : goal.returns
+returns g c =
+    let spare : c.push_reserved.new.self.spare ≡ c.self.inside.log.spare - 1 =
+    omega (arith, c.push_reserved.ensures.spare) in
+    rw (← c.self.view_is) (λ i. record {
+      process = c.reach.ensures.reached i;
+      log = c.push_reserved.ensures.entries i;
+      spare = spare i;
+    })

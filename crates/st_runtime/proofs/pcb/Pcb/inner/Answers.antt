@@ -4,6 +4,7 @@ use Rattle.st_core.specs.Step.{actor}
 use Rattle.st_mail.specs.Actor.{process_of}
 use Rattle.st_mail.specs.Mail.{queue_in}
 use Rattle.st_runtime.specs.Pcb.{Control}
+use Rattle.st_runtime.proofs.LentLemmas.{alone_stepped, inner_alone}
 use Rattle.st_runtime.proofs.LogLemmas.{IsNext, inside_push}
 use Rattle.st_runtime.proofs.PartLemmas.{own_is_part, inner_part, entry_of}
 use Rattle.st_runtime.proofs.pcb.Pcb.inner.Goals as goal
@@ -29,15 +30,17 @@ invariant_of-self-2 g c =
     (inside_push g.row.TOP g.row.RANKS p l boxes log e m boxes c.self.invariant c.self.invariant.one_box
     c.self.invariant.fit part next)
 
-pub returns-clause-ok : goal.returns-clause-ok
-returns-clause-ok g c =
+pub returns-clause-step : goal.returns-clause-step
+returns-clause-step g c =
     let p = c.self.inside.pid in
     let queue = queue_in c.self.inside.queue.boxes 0 in
     let a = c.args.act.now in
     let n = c.in_ok-rank.rank in
     let e = entry_of n a c.in-Ok.told None in
     let mine : actor a ≡ p = c.requires.me ∙ ap (λ (x : Control). x.process.pid) (sym c.self.view_is) in
-    rw (← c.self.view_is) (record {
+    rw (← c.self.view_is) (alone_stepped g.row.TOP g.row.RANKS a c.in-Ok.told.reply _ _ n
+    (inner_alone a c.requires.inner) mine c.in_ok-rank.ensures.rank.0 c.in_ok-rank.ensures.rank.1
+    (record {
       entry = e;
       part = inner_part g.row.TOP a p c.self.inside.local c.inner.new.local queue n c.in-Ok.told c.requires.inner mine
           (c.in-Ok.ensures.acted queue);
@@ -45,4 +48,4 @@ returns-clause-ok g c =
       reply = refl;
       rank = c.in_ok-rank.ensures.rank.0;
       log = c.push_reserved.ensures.entries ∙ ap (λ xs. xs ++ e ∷ []) c.in_ok-rank.ensures.entries;
-    })
+    }))

@@ -1,8 +1,11 @@
 -- The sender's part answered what it stamped, and the message that the receiver got carries that token.
 use Rattle.std.proofs.Common.{◌≡◌, false, ap, sym, ◌∙◌, arith, ◌++◌, ◌∷◌, [], refl}
 use Rattle.st_core.specs.Pid.{pid_eq}
+use Rattle.st_mail.specs.Actor.{process_of}
 use Rattle.st_mail.specs.Mail.{queue_in}
 use Rattle.st_runtime.specs.Pcb.{Control}
+use Rattle.st_core.specs.declared.types.Act.TheVariants.{Send}
+use Rattle.st_runtime.proofs.LentLemmas.{between_rank, between_steps, finds_step}
 use Rattle.st_runtime.proofs.LogLemmas.{IsNext}
 use Rattle.st_runtime.proofs.SendLemmas.{IsSent, IsPut, mail, sent_entry, sender_part, sender_inside}
 use Rattle.st_runtime.proofs.SendLemmas.{receiver_part, receiver_inside}
@@ -67,8 +70,8 @@ invariant_of-to-2 g c =
     (receiver_inside g.row.TOP g.row.RANKS p q v l m c.to.inside.local boxes boxes' log n told t c.to.invariant apart
     sent put next)
 
-pub returns-clause-ok : goal.returns-clause-ok
-returns-clause-ok g c =
+pub returns-clause-step : goal.returns-clause-step
+returns-clause-step g c =
     let p = c.from.inside.pid in
     let q = c.to.inside.pid in
     let v = c.args.value in
@@ -93,12 +96,27 @@ returns-clause-ok g c =
       one_box = c.to.invariant.one_box;
       put = c.in-Ok-put.ensures.ok;
     } in
-    rw (← c.from.view_is, ← c.to.view_is)
-    (stepped_between g.row.TOP v _ _ _ _ e apart refl
-    (sender_part g.row.TOP p q v l m (queue_in c.from.inside.queue.boxes 0) n told t apart sent)
-    (receiver_part g.row.TOP p q v l m c.to.inside.local boxes boxes' n told t sent put)
-    (record {
-      rank = c.in_ok-rank.ensures.rank.0;
-      from = c.push_reserved.ensures.entries ∙ ap (λ xs. xs ++ e ∷ []) c.in_ok-rank.ensures.a_entries;
-      to = c.push_reserved-2.ensures.entries ∙ ap (λ xs. xs ++ e ∷ []) c.in_ok-rank.ensures.b_entries;
-    }))
+    let rank = c.in_ok-rank.ensures.rank in
+    let x : Control = record {
+      process = process_of p l (queue_in c.from.inside.queue.boxes 0);
+      log = c.from.inside.log.entries;
+      spare = c.from.inside.log.spare;
+    } in
+    let y : Control = record {
+      process = process_of q c.to.inside.local (queue_in boxes 0);
+      log = c.to.inside.log.entries;
+      spare = c.to.inside.log.spare;
+    } in
+    rw (← c.from.view_is, ← c.to.view_is) (
+      finds_step g.row.TOP g.row.RANKS (Send p q v) (x ∷ y ∷ []) _ n
+          (between_steps g.row.TOP x y v _ apart (sent.acts (queue_in c.from.inside.queue.boxes 0))) (between_rank x y)
+          rank.0 rank.1,
+      stepped_between g.row.TOP v _ _ _ _ e apart refl
+          (sender_part g.row.TOP p q v l m (queue_in c.from.inside.queue.boxes 0) n told t apart sent)
+          (receiver_part g.row.TOP p q v l m c.to.inside.local boxes boxes' n told t sent put)
+          (record {
+            rank = c.in_ok-rank.ensures.rank.0;
+            from = c.push_reserved.ensures.entries ∙ ap (λ xs. xs ++ e ∷ []) c.in_ok-rank.ensures.a_entries;
+            to = c.push_reserved-2.ensures.entries ∙ ap (λ xs. xs ++ e ∷ []) c.in_ok-rank.ensures.b_entries;
+          }),
+    )

@@ -3,4 +3,6 @@ use Rattle.std.proofs.Common.{length}
 use Rattle.st_runtime.proofs.pcb.log.keep_content.Goals as goal
 
 pub returns-in-Some-clause-placed : goal.returns-in-Some-clause-placed
-returns-in-Some-clause-placed c = c.in-Some.ensures.placed (length c.args.apart.now.items)
+returns-in-Some-clause-placed c =
+    c.in-Some.ensures.placed (length c.args.calls.now.calls) (length c.args.traced.now.items)
+    (length c.args.apart.now.items)

@@ -44,7 +44,8 @@ returns-clause-value g c =
     let place = λ (o : Option Process).
     option_and_then (λ r. position (λ m. bears_stamp c.args.from c.args.this m.token) r.queue) o in
     let own : Process = process_of c.args.pid l (get_or c.self.inside.queues.boxes c.in-Some.number []) in
-    c.place_of_one.ensures ∙ reads place (state_of ps ls bs) c.args.self.now c.args.pid (Some own) c.self.view_is here.found
+    c.place_of_one.ensures ∙ reads place (state_of ps ls bs) c.args.self.now c.args.pid
+    (Some own) c.self.view_is here.found
 
 pub returns-in_default-clause-stamped : goal.returns-in_default-clause-stamped
 returns-in_default-clause-stamped g c =

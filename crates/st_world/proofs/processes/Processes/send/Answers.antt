@@ -83,8 +83,8 @@ invariant_of-self g c =
     from here c.index_mut.result.now l1 c.index_mut.ensures.value own.local)
     (λ n other. refl))
 
-pub returns-in_default-stamped : goal.returns-in_default-stamped
-returns-in_default-stamped g c =
+pub returns-in_default-stamp : goal.returns-in_default-stamp
+returns-in_default-stamp g c =
     let ps = c.self.inside.pids.keys in
     let raw = c.self.inside.locals.items in
     let ls = flagged (flags c.self.inside.nodes) c.self.inside.locals.items in
@@ -119,7 +119,7 @@ returns-in_default-stamped g c =
     let receiver_there = is_there g.row.TOP ps ls bs aligned c.args.to j to in
     let none =
     full_send g.row.TOP ps ls bs aligned c.args.me c.args.to c.args.value i x from el
-    (sym c.in_default-stamped.ensures.stamp) in
+    (sym c.in_default-stamp.ensures.stamp) in
     let after : State = state_of ps (flagged (flags c.touch.new.self) (set raw i l1)) bs in
     let same = ap (λ (y : List LocalState). state_of ps y bs) rows in
     rw (← c.self.view_is)

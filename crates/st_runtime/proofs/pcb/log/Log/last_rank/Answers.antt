@@ -12,5 +12,6 @@ returns-in-Some c =
     let inside = c.self.inside in
     let last = subst (λ (rows : List Row). Some row ≡ slice_get rows (length rows - 1)) c.deref.ensures.value
     c.in-Some.ensures.value in
-    last_rank-rows 0 inside.rows.items inside.apart.items row last
+    last_rank-rows 0 inside.rows.items inside.calls.calls inside.traced.items inside.apart.items row
+    last
     ∙ ap (λ (log : Logged). last_rank 0 log.entries) c.self.view_is

@@ -21,4 +21,5 @@ returns-clause-position c =
     c.deref.ensures.value
     (found.position (λ (x : Row). x.rank) (answers_always _ _ _ (λ f a r h i. search rules))) in
     subst (λ (log : Logged). IsBinarySearchResult (λ (e : Entry). nat_cmp e.rank n) log.entries r) c.self.view_is
-    (search_keys (row_entry c.self.inside.apart.items) (λ (e : Entry). nat_cmp e.rank n) rows r bound position)
+    (search_keys (row_entry c.self.inside.calls.calls c.self.inside.traced.items c.self.inside.apart.items)
+    (λ (e : Entry). nat_cmp e.rank n) rows r bound position)

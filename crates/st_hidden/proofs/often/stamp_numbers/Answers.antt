@@ -1,0 +1,12 @@
+-- Each count stands exactly as often as stamps have it as their prev or count.
+use Rattle.std.proofs.Common.{arith}
+use Rattle.st_hidden.proofs.often.stamp_numbers.Goals as goal
+
+pub returns : goal.returns
+returns c = record {
+  rise = c.sorted.ensures.rise;
+  enough = λ v.
+      let noted = c.in_ok-numbers.ensures v in
+      let same = c.sorted.ensures.same v in
+      omega (arith, noted, same);
+}

@@ -1,0 +1,13 @@
+-- The lemmas; what upper crates may cite is in `ForCallers`.
+pub mod Kept
+pub mod Flawed
+pub mod ToldEvents
+pub mod ToldOfBoth
+pub mod Counted
+pub mod Ranking
+pub mod Supplied
+pub mod ZeroBehind
+pub mod Needed
+pub mod Constructed
+pub mod Reasonless
+pub mod ForCallers

@@ -1,0 +1,36 @@
+-- What may be wrong with an event after those of its process before it.
+use Rattle.std.specs.Prelude.{◌≡◌, ℕ, ◌<◌, ◌≤◌, Bool, true, false, List, Option, Some, None}
+use Rattle.st_core.specs.declared.types.Event.{Event}
+use Rattle.st_core.specs.Laws.{greatest_count, prev_after}
+use Rattle.st_pair.specs.declared.answer.Source.{Source}
+use Rattle.st_pair.specs.declared.answer.Source.TheVariants as source
+use Rattle.st_completions.specs.Needs.{is_late, is_need, is_rootless}
+use Rattle.st_needs.specs.declared.flaws.Flaw.{Flaw}
+use Rattle.st_needs.specs.declared.flaws.Flaw.TheVariants as flaw
+use Rattle.st_needs.specs.declared.flaws.Left.{Left}
+use Rattle.st_needs.specs.Reasons.{is_too_high}
+
+-- what events leave to the next
+abbrev pub left_by : List Event → Left
+left_by es = record { greatest = greatest_count es; prev = prev_after es }
+
+-- the flaw as a test of an event after those before it
+abbrev pub test_of : Flaw → List Event → Event → Bool
+test_of flaw.Late es e = is_late es e
+test_of flaw.Need es e = is_need es e
+test_of flaw.Rootless es e = is_rootless es e
+test_of (flaw.TooHigh top) es e = is_too_high top es e
+
+-- the source of a receive is a hidden send
+abbrev pub is_hidden_in : Option Source → Bool
+is_hidden_in None = false
+is_hidden_in (Some source.Hidden) = true
+is_hidden_in (Some (source.Event q j)) = false
+
+-- after these events the serial of the next one rises, to a count that a clock can have, and it is
+-- neither late nor a need
+pub record GoesOnWithin (top : ℕ) (es : List Event) (e : Event) : Type 0 where
+  pub rises : e.serial.prev < e.serial.this
+  pub within : e.serial.this ≤ top
+  pub timely : is_late es e ≡ false
+  pub caused : is_need es e ≡ false

@@ -1,0 +1,23 @@
+//! What streams need, and what would supply it.
+//!
+//! A send or print is a need if it goes on from a count that the events before it don't leave, so
+//! that a receive is missing. Here are the tests of single events, the counts of the messages that
+//! may feed needs, and completions by their definition, of streams in which no send is hidden.
+#![tactic(auto)]
+
+mod completion;
+mod construction;
+mod definition;
+mod flaws;
+mod ranks;
+mod supplies;
+mod unsent;
+mod zeros;
+
+pub use completion::{Completion, completion_of, is_marked, marks_at};
+pub use construction::{Marked, Whole};
+pub use definition::{complete_by_definition, complete_told};
+pub use flaws::{Flaw, Left, find_flaw, find_hidden, is_hidden_source, is_stamp, prev_left};
+pub use ranks::{counts_of, renumbered};
+pub use unsent::{Told, all_told, find_unsent, is_unsent, need_count, untaken_count, unused_count};
+pub use zeros::find_zero_behind;

@@ -1,0 +1,19 @@
+%% @doc What the errors of several modules have in common.
+-module(seqaudit_errors).
+
+-export([text/2, unread/2, wrong_line/3]).
+
+%% @doc As `io_lib:format/2', in one list of characters.
+-spec text(io:format(), [term()]) -> string().
+text(Format, Values) ->
+    lists:flatten(io_lib:format(Format, Values)).
+
+%% @doc A file of a trace can't be read.
+-spec unread(file:filename(), term()) -> string().
+unread(File, Reason) ->
+    text("~ts: ~ts; `seqaudit-node convert' writes it", [File, file:format_error(Reason)]).
+
+%% @doc A file of a trace has a line that isn't what its lines are.
+-spec wrong_line(file:filename(), pos_integer(), string()) -> string().
+wrong_line(File, Line, What) ->
+    text("~ts, line ~b, isn't ~ts; `seqaudit-node convert' writes it anew", [File, Line, What]).
