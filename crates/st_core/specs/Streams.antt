@@ -97,6 +97,11 @@ with_event p e x = if pid_eq x.pid p then record x { events = x.events ++ e ∷ 
 abbrev pub added : List Stream → Pid → Event → List Stream
 added streams p e = map (with_event p e) streams
 
+-- the streams with what p reports at the end of p's, if it reports an event
+abbrev pub with_report : List Stream → Pid → Option Event → List Stream
+with_report streams p None = streams
+with_report streams p (Some e) = added streams p e
+
 -- when an event isn't added: these exclude each other
 abbrev pub IsAddFault : List Stream → Pid → Event → AddFault → Type 0
 IsAddFault streams p e adding.Memory = (lists streams p ≡ true) × (is_own p e ≡ true)

@@ -15,7 +15,7 @@ use Rattle.st_core.specs.Streams.{stream_of, lists, with_event, added, is_own, C
 use Rattle.st_core.proofs.ForCallers.{pid_eq-same, IsBelow-apart, with_event_pid}
 use Rattle.st_runtime.specs.declared.pcb.entry.Entry.{Entry}
 use Rattle.st_runtime.specs.Joined.{reports_of, streams_of}
-use Rattle.st_runtime.specs.Joining.{report_at, with_report}
+use Rattle.st_runtime.specs.Joining.{report_at}
 use Rattle.st_runtime.specs.Pcb.{Control}
 
 abbrev pub of : Pid → List Event → Stream

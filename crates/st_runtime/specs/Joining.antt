@@ -1,5 +1,5 @@
--- The steps of joining: where an entry stands, the least pid that isn't seated, each process's own
--- entries, and streams to which one report after the other is added.
+-- The steps of joining: where an entry stands, the least pid that isn't seated, and each process's
+-- own entries and reports.
 use Rattle.std.specs.Prelude.{◌≡◌, ℕ, ◌<◌, List, length, map, filter, Option, Some, None}
 use Rattle.std.specs.Prelude.{if◌then◌else◌, All, Contains, IfSome, slice_get}
 use Rattle.std.specs.Borrow.{Bor}
@@ -10,9 +10,7 @@ use Rattle.st_core.specs.declared.types.Act.{Act}
 use Rattle.st_core.specs.declared.types.Event.{Event}
 use Rattle.st_core.specs.declared.types.Reply.{Reply}
 use Rattle.st_core.specs.Pid.{pid_cmp, pid_eq, IsBelow}
-use Rattle.st_core.specs.Run.{Stream}
 use Rattle.st_core.specs.Step.{actor}
-use Rattle.st_core.specs.Streams.{added}
 use Rattle.st_runtime.specs.declared.pcb.entry.Entry.{Entry}
 use Rattle.st_runtime.specs.declared.join.record.Record.{Record}
 use Rattle.st_runtime.specs.Joined.{IsMerged, IsOneRun, streams_of}
@@ -83,8 +81,3 @@ flat_of xs = flat_map (λ x. own_of x.process.pid x.log) xs
 -- the report of p in an entry, if it is p's own and has one
 abbrev pub report_at : Pid → Entry → Option Event
 report_at p e = if pid_eq (actor e.act) p then e.report else None
-
--- streams with this report at the end of p's
-abbrev pub with_report : List Stream → Pid → Option Event → List Stream
-with_report streams p None = streams
-with_report streams p (Some e) = added streams p e

@@ -4,9 +4,9 @@ ghost use Rattle.std.specs.Prelude.{◌≡◌, List, true, [], ◌∷◌, ◌++�
 ghost use Rattle.std.specs.List.{AllByRecursion};
 ghost use Rattle.std.specs.Option.{ForSome};
 ghost use Rattle.st_core.specs.Run.{Stream};
-ghost use Rattle.st_core.specs.Streams.{ComesLast, IsStreams, is_own, lists};
+ghost use Rattle.st_core.specs.Streams.{ComesLast, IsStreams, is_own, lists, with_report};
 ghost use Rattle.st_runtime.specs.Joined.{reports_of, streams_of};
-ghost use Rattle.st_runtime.specs.Joining.{report_at, with_report};
+ghost use Rattle.st_runtime.specs.Joining.{report_at};
 
 use crate::pcb::Pcb;
 use crate::pcb::entry::Entry;
