@@ -7,9 +7,8 @@ from .program import Answer, Check
 SMALL, GREAT = 10_000, 1_000_000
 # The seconds that so many messages may take: a message is found in time that grows as the logarithm of its queue's length.
 BOUND = {SMALL: 1, GREAT: 10}
-# The most memory that each command takes for a message, in bytes; `drive` keeps an entry for each act. Beside that a
-# program takes some megabytes for any input.
-BYTES = {"check": 400, "replay": 450, "audit": 400, "drive": 450, "chart": 400}
+# The most memory that a command takes for a message, in bytes. Beside that a program takes some megabytes for any input.
+BYTES = 400
 LEAST_MEGABYTES = 20
 
 # A server with so many waiting messages makes so many calls, and takes the messages after that.
@@ -61,7 +60,7 @@ BY_OTHERS = ("receives by place from the middle", "receives by value, the last f
 def timed(program, name, words, pieces, is_right, bound, count):
     """The check of one input with so many messages: what the program writes, in time and memory."""
     got, taken, megabytes = program.measure(words, pieces, 6 * bound)
-    most = LEAST_MEGABYTES + BYTES[words[0]] * count // 1_000_000
+    most = LEAST_MEGABYTES + BYTES * count // 1_000_000
     if got.status == -9:
         return Check(name, f"no output in {6 * bound} s")
     if not is_right(got):

@@ -1,6 +1,6 @@
 -- An act's report is its actor's own event, so adding it to the actor's stream keeps the streams those of the run.
 use Rattle.std.proofs.Common.{◌≡◌, ℕ, ◌+◌, ◌<◌, ◌⊎◌, inl, inr, zero, suc, true, false, cond, not, ◌&&◌, ◌||◌}
-use Rattle.std.proofs.Common.{List, [], ◌∷◌, ◌++◌, length, map, take, get_or, Option, Some, None, is_some}
+use Rattle.std.proofs.Common.{Bool, List, [], ◌∷◌, ◌++◌, length, map, take, get_or, Option, Some, None, is_some}
 use Rattle.std.proofs.Common.{option_map, option_to_list, All, refl, sym, ◌∙◌, ap, subst, arith, if◌then◌else◌}
 use Rattle.std.specs.Option.{ForSome, option_map_or}
 use Rattle.std.specs.List.{AllByRecursion, AllZip, slice_get}
@@ -15,7 +15,7 @@ use Rattle.st_core.specs.State.{Process, State, zero_state}
 use Rattle.st_core.specs.Step.{Outcome, actor, step}
 use Rattle.st_core.specs.Run.{Stream, pids_of, run, stream}
 use Rattle.st_core.specs.Streams.{stream_of, lists, names_listed, unlisted_among, unlisted, with_event, added, is_own}
-use Rattle.st_core.specs.Streams.{is_among, names_among}
+use Rattle.st_core.specs.Streams.{is_among, names_among, with_report}
 use Rattle.st_core.specs.Streams.{ComesLast}
 use Rattle.st_core.specs.Laws.{IsReportAmong, ReportsAmong}
 use Rattle.st_core.proofs.ForCallers.{pid_eq-true, pid_eq-swap, all_at, position-none}
@@ -25,7 +25,7 @@ use Rattle.st_check.specs.Answers.{reported_streams, AllRise}
 use Rattle.st_check.proofs.Verdicts.{Rises, stream_rises}
 use Rattle.st_core.proofs.ForCallers.{run_sound}
 use Rattle.std.proofs.lemmas.List.Elements.{All-map}
-use Rattle.st_check.specs.Recorded.{IsReplayedTo, with_reported}
+use Rattle.st_check.specs.Recorded.{kept_replies, IsReplayedTo}
 use Rattle.st_check.proofs.OneMoreAct.{length-run, run-append, state_from-append}
 use Rattle.st_check.proofs.PassedActs.{state_pids, stream_other, stream_silent, stream_own}
 use Rattle.st_core.proofs.ForCallers.{zero_pids}
@@ -84,7 +84,7 @@ module _ (acts : List Act) (a : Act) (os : List Outcome) (o : Outcome) (even : l
       ] refl
 
   recorded_more : (pids : List Pid) (report : Option Event) → o.report ≡ report
-      → with_reported (reported_streams pids acts os) (actor a) report
+      → with_report (reported_streams pids acts os) (actor a) report
       ≡ reported_streams pids (acts ++ a ∷ []) (os ++ o ∷ [])
   recorded_more [] None is = refl
   recorded_more [] (Some e) is = refl
@@ -98,20 +98,15 @@ module _ (acts : List Act) (a : Act) (os : List Outcome) (o : Outcome) (even : l
       ∙ ap (λ xs. let x : Stream = record { pid = q; events = stream (acts ++ a ∷ []) (os ++ o ∷ []) q } in x ∷ xs)
       (recorded_more pids (Some e) is)
 
-replies_more : (os : List Outcome) (o : Outcome)
-    → map (λ (x : Outcome). x.reply) os ++ o.reply ∷ [] ≡ map (λ (x : Outcome). x.reply) (os ++ o ∷ [])
-replies_more [] o = refl
-replies_more (x ∷ os) o = ap (λ ys. x.reply ∷ ys) (replies_more os o)
+replies_more : (keeps : Bool) (os : List Outcome) (o : Outcome)
+    → kept_replies keeps os ++ (if keeps then o.reply ∷ [] else []) ≡ kept_replies keeps (os ++ o ∷ [])
+replies_more false os o = refl
+replies_more true [] o = refl
+replies_more true (x ∷ os) o = ap (λ ys. x.reply ∷ ys) (replies_more true os o)
 
--- the start
-pub recorded_start : (top : ℕ) (pids : List Pid) (s : State) (streams : List Stream) (replies : List Reply)
-    → s ≡ zero_state pids → streams ≡ reported_streams pids [] [] → replies ≡ []
-    → IsReplayedTo top pids [] s streams replies
-recorded_start top pids s streams replies at_zero no_events no_replies =
-    record { outcomes = []; runs = refl; is_state = at_zero; are_streams = no_events; are_replies = no_replies }
-
-module _ (top : ℕ) (pids : List Pid) (acts : List Act) (n : ℕ) (d : Act) (s : State) (streams : List Stream)
-    (replies : List Reply) (within : n < length acts) (p : IsReplayedTo top pids (take n acts) s streams replies) where
+module _ (top : ℕ) (pids : List Pid) (acts : List Act) (n : ℕ) (d : Act) (keeps : Bool) (s : State)
+    (streams : List Stream) (replies : List Reply) (within : n < length acts)
+    (p : IsReplayedTo top pids (take n acts) keeps s streams replies) where
   more : take n acts ++ get_or acts n d ∷ [] ≡ take (n + 1) acts
   more = sym (take_more acts n d within)
 
@@ -151,19 +146,22 @@ module _ (top : ℕ) (pids : List Pid) (acts : List Act) (n : ℕ) (d : Act) (s 
 
     -- the record with it
     pub recorded_at : (me : Pid) (streams' : List Stream) (replies' : List Reply) → me ≡ actor (get_or acts n d)
-        → streams' ≡ with_reported streams me o.report → replies' ≡ replies ++ o.reply ∷ []
-        → IsReplayedTo top pids (take (n + 1) acts) o.after streams' replies'
+        → streams' ≡ with_report streams me o.report
+        → replies' ≡ replies ++ (if keeps then o.reply ∷ [] else [])
+        → IsReplayedTo top pids (take (n + 1) acts) keeps o.after streams' replies'
     recorded_at me streams' replies' who recording replying =
         let a = get_or acts n d in
-        subst (λ xs. IsReplayedTo top pids xs o.after streams' replies') more (record {
+        subst (λ xs. IsReplayedTo top pids xs keeps o.after streams' replies') more (record {
           outcomes = p.outcomes ++ o ∷ [];
           runs = whole;
           is_state = state_from-append (zero_state pids) p.outcomes o;
           are_streams = recording
-              ∙ ap (λ q. with_reported streams q o.report) who
-              ∙ ap (λ xs. with_reported xs (actor a) o.report) p.are_streams
+              ∙ ap (λ q. with_report streams q o.report) who
+              ∙ ap (λ xs. with_report xs (actor a) o.report) p.are_streams
               ∙ recorded_more (take n acts) a p.outcomes o even pids o.report refl;
-          are_replies = replying ∙ ap (λ rs. rs ++ o.reply ∷ []) p.are_replies ∙ replies_more p.outcomes o;
+          are_replies = replying
+              ∙ ap (λ rs. rs ++ (if keeps then o.reply ∷ [] else [])) p.are_replies
+              ∙ replies_more keeps p.outcomes o;
         })
 
 -- THE CLOSE
@@ -248,18 +246,18 @@ no_step_but (inl p) other = absurd (other p)
 no_step_but (inr q) other = q
 
 -- the serials of recorded streams rise
-pub recorded_rises : (top : ℕ) (pids : List Pid) (acts : List Act) (s : State) (streams : List Stream)
-    (replies : List Reply) → IsReplayedTo top pids acts s streams replies → (told : List Stream) → told ≡ streams
-    → AllRise told
-recorded_rises top pids acts s streams replies p told same =
+pub recorded_rises : (top : ℕ) (pids : List Pid) (acts : List Act) (keeps : Bool) (s : State) (streams : List Stream)
+    (replies : List Reply) → IsReplayedTo top pids acts keeps s streams replies → (told : List Stream)
+    → told ≡ streams → AllRise told
+recorded_rises top pids acts keeps s streams replies p told same =
     subst AllRise (sym (same ∙ p.are_streams))
     (All-map (λ (x : Stream). All Rises x.events) (λ q. record { pid = q; events = stream acts p.outcomes q }) pids
     (λ k d within. stream_rises top acts p.outcomes _ (run_sound top pids acts p.outcomes p.runs)))
 
 -- recorded streams list the run's processes
-pub recorded_pids : (top : ℕ) (pids : List Pid) (acts : List Act) (s : State) (streams : List Stream)
-    (replies : List Reply) → IsReplayedTo top pids acts s streams replies → pids ≡ pids_of streams
-recorded_pids top pids acts s streams replies p = reported_pids pids acts p.outcomes ∙ ap pids_of (sym p.are_streams)
+pub recorded_pids : (top : ℕ) (pids : List Pid) (acts : List Act) (keeps : Bool) (s : State) (streams : List Stream)
+    (replies : List Reply) → IsReplayedTo top pids acts keeps s streams replies → pids ≡ pids_of streams
+recorded_pids top pids acts keeps s streams replies p = reported_pids pids acts p.outcomes ∙ ap pids_of (sym p.are_streams)
   where
     reported_pids : (ps : List Pid) (acts : List Act) (os : List Outcome) → ps ≡ pids_of (reported_streams ps acts os)
     reported_pids [] acts os = refl

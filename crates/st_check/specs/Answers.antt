@@ -12,6 +12,8 @@ use Rattle.st_check.specs.declared.verdict.Verdict.{Verdict}
 use Rattle.st_check.specs.declared.verdict.Verdict.TheVariants as told
 use Rattle.st_check.specs.declared.verdict.Replayed.{Replayed}
 use Rattle.st_check.specs.declared.verdict.Replayed.TheVariants as replayed
+use Rattle.st_check.specs.declared.verdict.Reports.{Reports}
+use Rattle.st_check.specs.declared.verdict.Reports.TheVariants as reports
 use Rattle.st_check.specs.declared.verdict.ReplayFault.{ReplayFault}
 use Rattle.st_check.specs.declared.verdict.ReplayFault.TheVariants as fault
 
@@ -55,6 +57,12 @@ pub record RunsWith (top : ℕ) (pids : List Pid) (acts : List Act) (streams : L
   pub are_streams : streams ≡ reported_streams pids acts outcomes
   pub are_replies : replies ≡ map (λ o. o.reply) outcomes
 
+-- the acts have a run over these pids, and these are its streams
+pub record RunReports (top : ℕ) (pids : List Pid) (acts : List Act) (streams : List Stream) : Type 0 where
+  pub outcomes : List Outcome
+  pub runs : run top pids acts ≡ Some outcomes
+  pub are_streams : streams ≡ reported_streams pids acts outcomes
+
 -- act n is the first that has no step
 pub record SticksAt (top : ℕ) (pids : List Pid) (acts : List Act) (n : ℕ) : Type 0 where
   pub within : n < length acts
@@ -66,6 +74,11 @@ abbrev pub IsReplay : ℕ → List Pid → List Act → Replayed → Type 0
 IsReplay top pids acts (replayed.Ran streams replies) = RunsWith top pids acts streams replies
 IsReplay top pids acts (replayed.Stuck n) = SticksAt top pids acts n
 
+-- what acts that are replayed report
+abbrev pub AreReports : ℕ → List Pid → List Act → Reports → Type 0
+AreReports top pids acts (reports.Ran streams) = RunReports top pids acts streams
+AreReports top pids acts (reports.Stuck n) = SticksAt top pids acts n
+
 -- when there is no replay: the pids don't rise; or they do, and memory ran out
 abbrev pub IsReplayFault : List Pid → ReplayFault → Type 0
 IsReplayFault pids fault.Memory = IsRising pids
@@ -75,3 +88,7 @@ IsReplayFault pids fault.NotRising = ¬ IsRising pids
 abbrev pub RisesOnRun : Replayed → Type 0
 RisesOnRun (replayed.Ran streams replies) = AllRise streams
 RisesOnRun (replayed.Stuck n) = Unit {0}
+
+abbrev pub ReportsRise : Reports → Type 0
+ReportsRise (reports.Ran streams) = AllRise streams
+ReportsRise (reports.Stuck n) = Unit {0}

@@ -1,28 +1,41 @@
 -- What a replay records while acts have a run. For the contracts of its parts alone: what it
 -- returns is in `Answers`.
-use Rattle.std.specs.Prelude.{◌≡◌, ℕ, List, map, Option, Some, None}
+use Rattle.std.specs.Prelude.{◌≡◌, ℕ, Bool, List, [], map, Some, if◌then◌else◌}
 use Rattle.st_core.specs.declared.types.Pid.{Pid}
-use Rattle.st_core.specs.declared.types.Event.{Event}
 use Rattle.st_core.specs.declared.types.Act.{Act}
 use Rattle.st_core.specs.declared.types.Reply.{Reply}
 use Rattle.st_core.specs.State.{State, zero_state}
 use Rattle.st_core.specs.Step.{Outcome}
 use Rattle.st_core.specs.Run.{Stream, run}
-use Rattle.st_core.specs.Streams.{added}
+use Rattle.st_check.specs.declared.verdict.Replayed.{Replayed}
+use Rattle.st_check.specs.declared.verdict.Replayed.TheVariants as replayed
 use Rattle.st_check.specs.Progress.{state_from}
-use Rattle.st_check.specs.Answers.{reported_streams}
+use Rattle.st_check.specs.Answers.{reported_streams, SticksAt}
 
--- the streams with what p reported, if it did
-abbrev pub with_reported : List Stream → Pid → Option Event → List Stream
-with_reported streams p None = streams
-with_reported streams p (Some e) = added streams p e
+-- the replies of these outcomes, if they are kept
+abbrev pub kept_replies : Bool → List Outcome → List Reply
+kept_replies keeps os = if keeps then map (λ o. o.reply) os else []
 
--- acts that have a run, the state that it leads to, its streams and its replies
-pub record IsReplayedTo (top : ℕ) (pids : List Pid) (acts : List Act) (s : State)
+-- acts that have a run, the state that it leads to, its streams, and its replies if they are kept
+pub record IsReplayedTo (top : ℕ) (pids : List Pid) (acts : List Act) (keeps : Bool) (s : State)
     (streams : List Stream)
     (replies : List Reply) : Type 0 where
   pub outcomes : List Outcome
   pub runs : run top pids acts ≡ Some outcomes
   pub is_state : s ≡ state_from (zero_state pids) outcomes
   pub are_streams : streams ≡ reported_streams pids acts outcomes
-  pub are_replies : replies ≡ map (λ o. o.reply) outcomes
+  pub are_replies : replies ≡ kept_replies keeps outcomes
+
+-- the acts have a run, and these are its streams, and its replies if they are kept
+pub record IsRun (keeps : Bool) (top : ℕ) (pids : List Pid) (acts : List Act) (streams : List Stream)
+    (replies : List Reply) : Type 0 where
+  pub outcomes : List Outcome
+  pub runs : run top pids acts ≡ Some outcomes
+  pub are_streams : streams ≡ reported_streams pids acts outcomes
+  pub are_replies : replies ≡ kept_replies keeps outcomes
+
+-- what is recorded of acts
+abbrev pub IsRunRecord : Bool → ℕ → List Pid → List Act → Replayed → Type 0
+IsRunRecord keeps top pids acts (replayed.Ran streams replies) =
+    IsRun keeps top pids acts streams replies
+IsRunRecord keeps top pids acts (replayed.Stuck n) = SticksAt top pids acts n

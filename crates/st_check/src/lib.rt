@@ -1,7 +1,7 @@
 //! The exact checker of certificates, and the replay of acts.
 //!
 //! `check` returns the definition's verdict of streams and acts, `replay` what acts report and
-//! reply. Both step a `World`; neither reads nor writes text.
+//! reply, `reports` what they report alone. All step a `World`; none reads or writes text.
 #![tactic(auto)]
 
 mod checking;
@@ -12,5 +12,5 @@ mod tags;
 mod verdict;
 
 pub use checking::check;
-pub use recording::replay;
-pub use verdict::{CheckFault, ReplayFault, Replayed, Verdict};
+pub use recording::{replay, reports};
+pub use verdict::{CheckFault, ReplayFault, Replayed, Reports, Verdict};

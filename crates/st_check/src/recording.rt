@@ -1,15 +1,16 @@
 //! The replay of acts: the world, and what each process reported and each act replied so far.
 
-ghost use Rattle.std.specs.Prelude.{◌≡◌, ◌<◌, ◌+◌, [], length, take, IfOk, IfErr, OnOk, MatchBool};
-ghost use Rattle.std.specs.Prelude.{None, true};
+ghost use Rattle.std.specs.Prelude.{◌≡◌, ◌<◌, ◌+◌, [], ◌∷◌, ◌++◌, length, take, None, true};
+ghost use Rattle.std.specs.Prelude.{IfOk, IfErr, OnOk, MatchBool, if◌then◌else◌};
 ghost use Rattle.std.specs.Option.{ForSome};
-ghost use Rattle.st_check.specs.Answers.{reported_streams, IsReplay, IsReplayFault, RisesOnRun};
-ghost use Rattle.st_check.specs.Recorded.{with_reported, IsReplayedTo};
+ghost use Rattle.st_check.specs.Answers.{reported_streams, AreReports, IsReplay, IsReplayFault};
+ghost use Rattle.st_check.specs.Answers.{ReportsRise, RisesOnRun};
+ghost use Rattle.st_check.specs.Recorded.{IsRunRecord, IsReplayedTo};
 ghost use Rattle.st_core.specs.Pid.{IsRising};
 ghost use Rattle.st_core.specs.Run.{pids_of, run};
-ghost use Rattle.st_core.specs.Streams.{is_own, lists};
+ghost use Rattle.st_core.specs.Streams.{is_own, lists, with_report};
 
-use crate::verdict::{ReplayFault, Replayed};
+use crate::verdict::{ReplayFault, Replayed, Reports};
 use st_core::{Act, AddFault, Draft, Event, OpenFault, Pid, Reply, Sequence};
 use st_world::{NewFault, StepFault, World};
 use std::alloc::{AllocError, Global};
@@ -21,7 +22,7 @@ struct Recording<const TOP: u64> {
     world: World<TOP>,
     /// What each process reported.
     streams: Draft,
-    /// What each act replied.
+    /// What each act replied, if that is kept.
     replies: Sequence<Reply>,
 }
 
@@ -39,9 +40,43 @@ pub fn replay<const TOP: u64>(
     // What every run keeps.
     ensures rises { IfOk result RisesOnRun }
 {
-    let mut recording = Recording::<TOP>::new(alloc, pids)?;
+    record_run::<TOP>(alloc, pids, acts, true)
+}
+
+/// What the acts report in that run: [`replay`] without the replies, which take 40 bytes an act.
+pub fn reports<const TOP: u64>(
+    alloc: Global,
+    pids: &[Pid],
+    acts: &[Act],
+) -> Result<Reports, ReplayFault>
+    ensures reports { IfOk result (AreReports TOP pids.now acts.now) }
+    ensures rising { OnOk result (IsRising pids.now) }
+    ensures fault { IfErr result (IsReplayFault pids.now) }
+
+    // What every run keeps.
+    ensures rises { IfOk result ReportsRise }
+{
+    match record_run::<TOP>(alloc, pids, acts, false)? {
+        Replayed::Ran(streams, _) => Ok(Reports::Ran(streams)),
+        Replayed::Stuck(number) => Ok(Reports::Stuck(number)),
+    }
+}
+
+/// What the acts report in their run, and what they reply if that is kept.
+fn record_run<const TOP: u64>(
+    alloc: Global,
+    pids: &[Pid],
+    acts: &[Act],
+    keeps_replies: bool,
+) -> Result<Replayed, ReplayFault>
+    ensures replay { IfOk result (IsRunRecord keeps_replies TOP pids.now acts.now) }
+    ensures rising { OnOk result (IsRising pids.now) }
+    ensures fault { IfErr result (IsReplayFault pids.now) }
+    ensures rises { IfOk result RisesOnRun }
+{
+    let mut recording = Recording::<TOP>::new(alloc, pids, keeps_replies)?;
     for number in 0..acts.len() {
-        let Ok(has_step) = recording.advance(acts, number) else {
+        let Ok(has_step) = recording.advance(acts, number, keeps_replies) else {
             return Err(ReplayFault::Memory);
         };
         if !has_step {
@@ -62,9 +97,9 @@ pub fn replay<const TOP: u64>(
 
 impl<const TOP: u64> Recording<TOP> {
     /// No acts yet.
-    fn new(alloc: Global, pids: &[Pid]) -> Result<Recording<TOP>, ReplayFault>
+    fn new(alloc: Global, pids: &[Pid], keeps_replies: bool) -> Result<Recording<TOP>, ReplayFault>
         ensures recorded { IfOk result
-            (λ r. IsReplayedTo TOP pids.now [] r.world r.streams r.replies) }
+            (λ r. IsReplayedTo TOP pids.now [] keeps_replies r.world r.streams r.replies) }
         ensures rising { OnOk result (IsRising pids.now) }
         ensures fault { IfErr result (IsReplayFault pids.now) }
     {
@@ -84,13 +119,18 @@ impl<const TOP: u64> Recording<TOP> {
     }
 
     /// Takes the act of this number, and returns whether it has a step.
-    fn advance(&mut self, acts: &[Act], number: usize) -> Result<bool, AllocError>
+    fn advance(
+        &mut self,
+        acts: &[Act],
+        number: usize,
+        keeps_replies: bool,
+    ) -> Result<bool, AllocError>
         requires within { number < length acts.now }
         requires recorded { IsReplayedTo TOP (pids_of self.old.streams) (take number acts.now)
-            self.old.world self.old.streams self.old.replies }
+            keeps_replies self.old.world self.old.streams self.old.replies }
         ensures { IfOk result (λ has_step. MatchBool has_step
             (IsReplayedTo TOP (pids_of self.old.streams) (take (number + 1) acts.now)
-            self.new.world self.new.streams self.new.replies)
+            keeps_replies self.new.world self.new.streams self.new.replies)
             (run TOP (pids_of self.old.streams) (take (number + 1) acts.now) ≡ None)) }
     {
         let act = &acts[number];
@@ -101,16 +141,26 @@ impl<const TOP: u64> Recording<TOP> {
             Err(StepFault::ClockFull) => return Ok(false),
         };
         record(&mut self.streams, act.actor(), told.report)?;
-        self.replies.push(told.reply)?;
+        keep(&mut self.replies, told.reply, keeps_replies)?;
         Ok(true)
     }
+}
+
+/// Adds an act's reply, if replies are kept.
+fn keep(replies: &mut Sequence<Reply>, reply: Reply, keeps_replies: bool) -> Result<(), AllocError>
+    ensures { OnOk result (replies.new ≡ replies.old ++ (if keeps_replies then reply ∷ [] else [])) }
+{
+    if keeps_replies {
+        replies.push(reply)?;
+    }
+    Ok(())
 }
 
 /// Adds the event that a listed process reported, if it did.
 fn record(streams: &mut Draft, pid: Pid, report: Option<Event>) -> Result<(), AllocError>
     requires listed { lists streams.old pid ≡ true }
     requires own { ForSome report (λ e. is_own pid e ≡ true) }
-    ensures { OnOk result (streams.new ≡ with_reported streams.old pid report) }
+    ensures { OnOk result (streams.new ≡ with_report streams.old pid report) }
 {
     let Some(event) = report else {
         return Ok(());

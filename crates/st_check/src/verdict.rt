@@ -36,6 +36,15 @@ pub enum Replayed {
     Stuck(u64),
 }
 
+/// What acts that are replayed report.
+#[derive(Debug, Drop)]
+pub enum Reports {
+    /// The acts have a run: what each process reported in it.
+    Ran(Streams),
+    /// This act is the first that has no step.
+    Stuck(u64),
+}
+
 /// Why acts weren't replayed.
 #[derive(Clone, Copy, Debug, PartialEq, Eq, Error)]
 pub enum ReplayFault {

@@ -8,8 +8,8 @@ use Rattle.st_core.specs.Step.{Outcome}
 use Rattle.st_core.specs.Run.{Stream, pids_of, run}
 use Rattle.st_core.specs.Verdict.{Verdict, IsVerdict}
 use Rattle.st_check.specs.Answers.{FollowsAll, PairsAll, SticksAt}
-use Rattle.st_check.specs.declared.verdict.Replayed.{Replayed}
-use Rattle.st_check.specs.declared.verdict.Replayed.TheVariants as answers
+use Rattle.st_check.specs.declared.verdict.Reports.{Reports}
+use Rattle.st_check.specs.declared.verdict.Reports.TheVariants as reports
 use Rattle.st_audit.specs.declared.finding.Finding.{Finding}
 use Rattle.st_audit.specs.Findings.{IsFinding, HandsOn, unfit_by}
 use Rattle.st_pair.specs.declared.answer.PairFault.{PairFault}
@@ -91,6 +91,6 @@ pub data OfBundle (OfActs : List Stream → List Act → Output → Type 0) (c :
       → OfBundle OfActs c out
   OfNone : c.acts ≡ None → OfBundle OfActs c no_acts
 
-abbrev pub replayed_output : Replayed → List Act → Output
-replayed_output (answers.Ran streams replies) acts = bundled streams acts
-replayed_output (answers.Stuck n) acts = stuck n
+abbrev pub reports_output : Reports → List Act → Output
+reports_output (reports.Ran streams) acts = bundled streams acts
+reports_output (reports.Stuck n) acts = stuck n

@@ -3,25 +3,25 @@
 
 ghost use Rattle.st_text.specs.Contents.{contents};
 ghost use Rattle.st_commands.specs.Command.{Delivers, Owes, Tells, call};
-ghost use Rattle.st_commands.specs.Parts.{OfBundle, ReplaysTo, replayed_output};
+ghost use Rattle.st_commands.specs.Parts.{OfBundle, ReplaysTo, reports_output};
 ghost use Rattle.st_commands.specs.Replayed.{IsReplayed};
 
 use crate::answer::{tell_bundle, tell_fault, tell_line};
 use crate::check::TOP;
 use crate::lines::OutputLine;
-use st_check::{ReplayFault, Replayed, replay};
+use st_check::{ReplayFault, Reports, reports};
 use st_core::{Act, ByteSink, ByteSource, Streams};
 use st_text::{Bundle, ReadFault, read};
 use std::alloc::Global;
 
-/// Writes what acts that were replayed came to, and returns its status.
-fn tell_replayed<W: ByteSink>(writer: &mut W, replayed: &Replayed, acts: &[Act]) -> u8
+/// Writes what acts report, and returns its status.
+fn tell_reports<W: ByteSink>(writer: &mut W, reports: &Reports, acts: &[Act]) -> u8
     ensures { Delivers (call W.ByteSink writer.old writer.new)
-        (replayed_output replayed.now acts.now) result }
+        (reports_output reports.now acts.now) result }
 {
-    match replayed {
-        Replayed::Ran(streams, _) => tell_bundle(writer, streams, acts),
-        Replayed::Stuck(n) => tell_line(writer, OutputLine::Stuck(*n), 1),
+    match reports {
+        Reports::Ran(streams) => tell_bundle(writer, streams, acts),
+        Reports::Stuck(n) => tell_line(writer, OutputLine::Stuck(*n), 1),
     }
 }
 
@@ -30,8 +30,8 @@ fn replay_acts<W: ByteSink>(alloc: Global, streams: &Streams, acts: &[Act], writ
     ensures { Tells (call W.ByteSink writer.old writer.new)
         (ReplaysTo streams.now acts.now) result }
 {
-    match replay::<TOP>(alloc, streams.pids(), acts) {
-        Ok(replayed) => tell_replayed(writer, &replayed, acts),
+    match reports::<TOP>(alloc, streams.pids(), acts) {
+        Ok(reports) => tell_reports(writer, &reports, acts),
         Err(ReplayFault::Memory) => tell_fault(writer, ReadFault::Memory),
         Err(ReplayFault::NotRising) => unreachable!(),
     }

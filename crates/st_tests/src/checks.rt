@@ -2,7 +2,7 @@
 //! hand, and what is left if memory runs out.
 
 use crate::collected::{p30, p31, p32, same, streams, streams_at_last};
-use st_check::{CheckFault, ReplayFault, Replayed, Verdict, check, replay};
+use st_check::{CheckFault, ReplayFault, Replayed, Reports, Verdict, check, replay, reports};
 use st_core::{Act, Component, Label, Pid, Reply, Sequence, Streams, Want};
 use std::alloc::{AllocError, Global};
 use std::test::Fail;
@@ -228,6 +228,28 @@ fn a_replay_answers_what_each_act_reports_and_replies(rt: HostRuntime) -> Result
     Ok(())
 }
 
+/// What acts that have a run report.
+fn reports_of(alloc: Global, pids: &[Pid], acts: &[Act]) -> Result<Streams, Fail> {
+    match reports::<MOST>(alloc, pids, acts)? {
+        Reports::Ran(streams) => Ok(streams),
+        Reports::Stuck(_) => Err("it didn't run".into()),
+    }
+}
+
+#[test]
+fn reports_are_those_of_the_replay(rt: HostRuntime) -> Result<(), Fail> {
+    let reported = reports_of(rt.alloc(), &[p30(), p31(), p32()], &low_serial())?;
+    let wanted = streams(rt.alloc(), LOW_SERIAL)?;
+    for &pid in wanted.pids() {
+        assert!(rt; reported.events(pid) == wanted.events(pid));
+    }
+    let stuck = reports::<3>(rt.alloc(), &[p30()], &four_prints())?;
+    assert!(rt; matches!(stuck, Reports::Stuck(4)));
+    let falling = reports::<3>(rt.alloc(), &[p31(), p30()], &four_prints());
+    assert!(rt; matches!(falling, Err(ReplayFault::NotRising)));
+    Ok(())
+}
+
 /// So many traced sends, each received at once.
 fn exchanges(alloc: Global, count: u64) -> Result<Vec<Act>, AllocError> {
     let mut acts = Vec::new(alloc);
@@ -261,6 +283,8 @@ fn a_hundred_thousand_acts_are_replayed_and_checked(rt: HostRuntime) -> Result<(
     let (streams, replies) = run_of(rt.alloc(), &[p30(), p31()], acts.as_slice())?;
     same(&rt, &streams.len(p31()), &60_000);
     same(&rt, &replies.len(), &120_002);
+    let reported = reports_of(rt.alloc(), &[p30(), p31()], acts.as_slice())?;
+    same(&rt, &reported.len(p31()), &60_000);
     let last = last_pair(rt.alloc(), &streams, acts.as_slice())?;
     assert!(rt; last == Some((60_000, (120_001, 120_000))));
     Ok(())
@@ -278,7 +302,7 @@ fn send_one() -> [Act; 5] {
 }
 
 // If memory runs out the result is Memory, and the same call succeeds afterwards. That is seen if
-// these two tests run with an allocation that fails.
+// these three tests run with an allocation that fails.
 #[test]
 fn a_check_without_memory_may_be_asked_again(rt: HostRuntime) {
     let alloc = rt.alloc();
@@ -307,4 +331,22 @@ fn a_replay_without_memory_may_be_asked_again(rt: HostRuntime) {
         told => told,
     };
     same(&rt, &told, &Ok(5));
+}
+
+/// How many events the send and its receive report.
+fn report_count(alloc: Global) -> Result<u64, ReplayFault> {
+    match reports::<MOST>(alloc, &[p30(), p31()], &send_one())? {
+        Reports::Ran(streams) => Ok(streams.total()),
+        Reports::Stuck(_) => Ok(0),
+    }
+}
+
+#[test]
+fn reports_without_memory_may_be_asked_again(rt: HostRuntime) {
+    let alloc = rt.alloc();
+    let told = match report_count(alloc) {
+        Err(ReplayFault::Memory) => report_count(alloc),
+        told => told,
+    };
+    same(&rt, &told, &Ok(1));
 }

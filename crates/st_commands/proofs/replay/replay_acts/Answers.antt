@@ -3,7 +3,7 @@ use Rattle.std.proofs.Common.{List, subst, sym}
 use Rattle.st_core.specs.declared.types.Pid.{Pid}
 use Rattle.st_core.specs.Pid.{IsRising}
 use Rattle.st_commands.specs.Output.{no_memory}
-use Rattle.st_commands.specs.Parts.{replayed_output, NoRoomToReplay}
+use Rattle.st_commands.specs.Parts.{reports_output, NoRoomToReplay}
 use Rattle.st_commands.proofs.Replays.{replays_to}
 use Rattle.st_commands.proofs.replay.replay_acts.Goals as goal
 
@@ -15,11 +15,11 @@ unreachable-requires g c =
 pub returns-in-Ok : goal.returns-in-Ok
 returns-in-Ok g c =
     record {
-      output = replayed_output c.in-Ok.replayed c.args.acts.now;
+      output = reports_output c.in-Ok.reports c.args.acts.now;
       owed =
-          replays_to c.args.streams.now c.pids.result.now c.args.acts.now c.in-Ok.replayed c.pids.ensures.value
-          c.in-Ok.ensures.replay;
-      delivered = c.tell_replayed.ensures;
+          replays_to c.args.streams.now c.pids.result.now c.args.acts.now c.in-Ok.reports c.pids.ensures.value
+          c.in-Ok.ensures.reports;
+      delivered = c.tell_reports.ensures;
     }
 
 pub returns-in-Err-Memory : goal.returns-in-Err-Memory
