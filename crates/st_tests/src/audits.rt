@@ -6,8 +6,8 @@ mod completions;
 mod reasons;
 mod stops;
 
+use crate::bundles::HIDDEN_SENDS_CERTIFICATE;
 use crate::collected::{same, streams, streams_at_last};
-use crate::text::CERTIFICATE;
 use st_audit::{AuditFault, Finding, audit};
 use st_core::{Act, Flags, Label, MemorySource, Pid, Sequence, Serial, Token};
 use st_text::read;
@@ -55,7 +55,11 @@ fn assert_fits(rt: &impl Abort, finding: &Finding, wanted: &[Act], wanted_pairs:
 
 /// The acts of the worked certificate, if memory suffices.
 fn certificate_acts(alloc: Global) -> Option<Sequence<Act>> {
-    let bundle = read(alloc, &mut MemorySource::new(CERTIFICATE.as_bytes(), None)).ok()?;
+    let bundle = read(
+        alloc,
+        &mut MemorySource::new(HIDDEN_SENDS_CERTIFICATE.as_bytes(), None),
+    )
+    .ok()?;
     bundle.acts
 }
 
@@ -63,7 +67,7 @@ fn certificate_acts(alloc: Global) -> Option<Sequence<Act>> {
 #[test]
 fn an_audit_without_memory_may_be_asked_again(rt: HostRuntime) {
     let alloc = rt.alloc();
-    let streams = streams_at_last(&rt, alloc, CERTIFICATE);
+    let streams = streams_at_last(&rt, alloc, HIDDEN_SENDS_CERTIFICATE);
     let acts = match certificate_acts(alloc) {
         Some(acts) => acts,
         None => certificate_acts(alloc).expect(&rt, "no acts at the second try"),

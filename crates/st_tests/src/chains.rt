@@ -1,8 +1,8 @@
 //! Worked streams, each with the causes and chains that the rules give by hand, and what is left if
 //! memory runs out.
 
-use crate::collected::{ONE_MESSAGE, p30, p31, p32, same, streams_at_last};
-use crate::text::CERTIFICATE;
+use crate::bundles::{HIDDEN_SENDS_CERTIFICATE, ONE_MESSAGE};
+use crate::collected::{p30, p31, p32, same, streams_at_last};
 use st_chain::{Cause, Chain, Chains};
 use st_core::{Draft, Event, Kind, Label, Pid, Serial, Streams};
 use st_pair::pair;
@@ -98,11 +98,18 @@ fn assert_back(
 #[test]
 fn hidden_sends_end_the_way_back(rt: HostRuntime) {
     let alloc = rt.alloc();
-    assert_chain(&rt, alloc, CERTIFICATE, p30(), 17, &[0, 1]);
-    assert_chain(&rt, alloc, CERTIFICATE, p30(), 18, &[]);
-    assert_cause(&rt, alloc, CERTIFICATE, p30(), 1, Some(Cause::Hidden));
+    assert_chain(&rt, alloc, HIDDEN_SENDS_CERTIFICATE, p30(), 17, &[0, 1]);
+    assert_chain(&rt, alloc, HIDDEN_SENDS_CERTIFICATE, p30(), 18, &[]);
+    assert_cause(
+        &rt,
+        alloc,
+        HIDDEN_SENDS_CERTIFICATE,
+        p30(),
+        1,
+        Some(Cause::Hidden),
+    );
     let back = [(p31(), 1), (p31(), 0)];
-    assert_back(&rt, alloc, CERTIFICATE, p31(), 1, &back);
+    assert_back(&rt, alloc, HIDDEN_SENDS_CERTIFICATE, p31(), 1, &back);
 }
 
 #[test]

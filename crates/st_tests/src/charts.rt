@@ -14,7 +14,7 @@ use st_pair::pair;
 use std::alloc::Global;
 
 /// Two processes that report no send, and one that reports nothing.
-const HIDDEN_SENDS: &str = "seqtrace 1\n\
+const THREE_PROCESSES: &str = "seqtrace 1\n\
     process <0.30.0>\n\
     {seq_trace,17,{print,{0,1},<0.30.0>,[],7}}\n\
     {seq_trace,17,{'receive',{2,4},<0.31.0>,<0.30.0>,6}}\n\

@@ -31,13 +31,6 @@ pub(crate) fn p32() -> Pid {
     Pid::new(32)
 }
 
-/// A send of 30 and its receive by 31.
-pub(crate) const ONE_MESSAGE: &str = "seqtrace 1\n\
-    process <0.30.0>\n\
-    {seq_trace,17,{send,{0,1},<0.30.0>,<0.31.0>,5}}\n\
-    process <0.31.0>\n\
-    {seq_trace,17,{'receive',{0,1},<0.30.0>,<0.31.0>,5}}\n";
-
 fn streams_of(alloc: Global, text: &str) -> Option<Streams> {
     let bundle = read(alloc, &mut MemorySource::new(text.as_bytes(), None)).ok()?;
     Some(bundle.streams)

@@ -1,5 +1,6 @@
 //! Traces that lack something: their completions by hand, reasons, and acts.
 
+use crate::bundles::CROSSING;
 use crate::collected::{p30, p31, same, streams, streams_at_last};
 use st_complete::{
     Answer, CertificateFault, CompleteFault, Completion, Never, certificate, complete,
@@ -11,13 +12,6 @@ use std::test::Fail;
 
 /// The greatest clock of the program.
 const MOST: u64 = u64::MAX;
-
-/// Two receives that cross: the send of each came before the other, and neither is reported.
-const CROSSING: &str = "seqtrace 1\n\
-    process <0.30.0>\n\
-    {seq_trace,1,{'receive',{0,1},<0.31.0>,<0.30.0>,4}}\n\
-    process <0.31.0>\n\
-    {seq_trace,1,{'receive',{0,2},<0.30.0>,<0.31.0>,5}}\n";
 
 /// 30 took a message of 3 and then goes on from one of 2, which nobody reported.
 const NEEDING: &str = "seqtrace 1\n\

@@ -28,13 +28,15 @@
 //! | `sizes` | all: calls with 100,000 of what they take |
 //! | `completions` | `st_complete`: as many events |
 //! | `systems` | `st_runtime`: systems with as many, by one thread |
-//! | `collected` | none: texts of streams, and pids, that the others share |
+//! | `bundles`, `collected` | none: texts, streams and pids that the others share |
 #![tactic(auto)]
 
 #[cfg(test)]
 mod acts;
 #[cfg(test)]
 mod audits;
+#[cfg(test)]
+mod bundles;
 #[cfg(test)]
 mod chains;
 #[cfg(test)]

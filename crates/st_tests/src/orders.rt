@@ -1,8 +1,8 @@
 //! Worked orders, each with the result that the rules give by hand, a large one against a plain
 //! sort, and what is left if memory runs out.
 
-use crate::collected::{ONE_MESSAGE, p30, p31, p32, same, streams, streams_at_last};
-use crate::text::CERTIFICATE;
+use crate::bundles::{HIDDEN_SENDS_CERTIFICATE, ONE_MESSAGE};
+use crate::collected::{p30, p31, p32, same, streams, streams_at_last};
 use st_core::{Draft, Event, Kind, Label, Pid, Sequence, Serial, Streams};
 use st_order::{Item, by_label, order};
 use st_pair::pair;
@@ -48,7 +48,7 @@ fn assert_certificate(
 
 #[test]
 fn hidden_sends_stand_before_their_receives(rt: HostRuntime) -> Result<(), Fail> {
-    let streams = streams(rt.alloc(), CERTIFICATE)?;
+    let streams = streams(rt.alloc(), HIDDEN_SENDS_CERTIFICATE)?;
     assert_certificate(&rt, rt.alloc(), &streams)?;
     Ok(())
 }
@@ -57,7 +57,7 @@ fn hidden_sends_stand_before_their_receives(rt: HostRuntime) -> Result<(), Fail>
 #[test]
 fn an_order_without_memory_may_be_asked_again(rt: HostRuntime) {
     let alloc = rt.alloc();
-    let streams = streams_at_last(&rt, alloc, CERTIFICATE);
+    let streams = streams_at_last(&rt, alloc, HIDDEN_SENDS_CERTIFICATE);
     if assert_certificate(&rt, alloc, &streams).is_err() {
         assert!(rt; assert_certificate(&rt, alloc, &streams).is_ok());
     }
@@ -103,7 +103,7 @@ fn labels_rise(rt: HostRuntime) -> Result<(), Fail> {
 /// A hidden send stands at the place of its receive, and is about it.
 #[test]
 fn an_item_is_about_the_event_at_its_place(rt: HostRuntime) -> Result<(), Fail> {
-    let streams = streams(rt.alloc(), CERTIFICATE)?;
+    let streams = streams(rt.alloc(), HIDDEN_SENDS_CERTIFICATE)?;
     for item in [Item::Reported(p30(), 1), Item::Hidden(p30(), 1)] {
         same(&rt, &item.place(), &(p30(), 1));
         same(&rt, &item.event(&streams), &streams.event(p30(), 1));
@@ -114,7 +114,7 @@ fn an_item_is_about_the_event_at_its_place(rt: HostRuntime) -> Result<(), Fail> 
 
 #[test]
 fn an_item_of_no_place_has_no_label(rt: HostRuntime) -> Result<(), Fail> {
-    let streams = streams(rt.alloc(), CERTIFICATE)?;
+    let streams = streams(rt.alloc(), HIDDEN_SENDS_CERTIFICATE)?;
     let items = [Item::Reported(p30(), 2), Item::Hidden(p32(), 0)];
     assert!(rt; by_label(&rt, rt.alloc(), &streams, &items)?.is_empty());
     Ok(())

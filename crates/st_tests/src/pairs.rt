@@ -3,8 +3,8 @@
 
 mod random;
 
-use crate::collected::{ONE_MESSAGE, p30, p31, p32, same, streams_at_last};
-use crate::text::CERTIFICATE;
+use crate::bundles::{HIDDEN_SENDS_CERTIFICATE, ONE_MESSAGE};
+use crate::collected::{p30, p31, p32, same, streams_at_last};
 use st_core::Pid;
 use st_pair::{PairFault, Pairing, Source, pair};
 use std::alloc::Global;
@@ -31,7 +31,7 @@ fn assert_receiver(rt: &impl Abort, pairing: &Pairing, at: (Pid, u64), to: Optio
 
 #[test]
 fn unreported_sends_are_hidden(rt: HostRuntime) {
-    let pairing = pairing_of(&rt, rt.alloc(), CERTIFICATE);
+    let pairing = pairing_of(&rt, rt.alloc(), HIDDEN_SENDS_CERTIFICATE);
     assert_source(&rt, &pairing, (p30(), 1), Some(Source::Hidden));
     assert_source(&rt, &pairing, (p31(), 0), Some(Source::Hidden));
     assert_source(&rt, &pairing, (p31(), 1), None);

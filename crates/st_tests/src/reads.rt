@@ -1,8 +1,8 @@
 //! What a read returns if memory runs out, and that the same read succeeds afterwards. That is seen
 //! if `rt try --test --fail-alloc N` fails the N-th allocation.
 
+use crate::bundles::HIDDEN_SENDS_CERTIFICATE;
 use crate::collected::{same, sink_at_last};
-use crate::text::CERTIFICATE;
 use st_core::{MemorySink, MemorySource};
 use st_text::{Bundle, Feed, ReadFault, read, write};
 use std::alloc::Global;
@@ -14,11 +14,14 @@ fn assert_certificate(rt: &impl Abort, mut sink: MemorySink, answer: Result<Bund
         panic!(rt; "refused again");
     };
     assert!(rt; write(&mut sink, &bundle).is_ok());
-    same(rt, &sink.written(), &CERTIFICATE.as_bytes());
+    same(rt, &sink.written(), &HIDDEN_SENDS_CERTIFICATE.as_bytes());
 }
 
 fn read_whole(alloc: Global) -> Result<Bundle, ReadFault> {
-    read(alloc, &mut MemorySource::new(CERTIFICATE.as_bytes(), None))
+    read(
+        alloc,
+        &mut MemorySource::new(HIDDEN_SENDS_CERTIFICATE.as_bytes(), None),
+    )
 }
 
 #[test]
@@ -35,7 +38,7 @@ fn a_read_without_memory_may_be_asked_again(rt: HostRuntime) {
 /// What comes of the certificate in pieces. A feed that failed fails in the same way again.
 fn read_in_pieces(rt: &impl Abort, alloc: Global) -> Result<Bundle, ReadFault> {
     let mut feed = Feed::new(alloc);
-    for piece in CERTIFICATE.as_bytes().chunks(7) {
+    for piece in HIDDEN_SENDS_CERTIFICATE.as_bytes().chunks(7) {
         if feed.piece(piece).is_err() {
             same(rt, &feed.piece(b"\n"), &Err(ReadFault::Memory));
             return feed.end();

@@ -6,6 +6,7 @@ mod devices;
 mod limits;
 mod texts;
 
+use crate::bundles::{HIDDEN_SENDS_CERTIFICATE, PRINT_ONE, WANT_AWAY};
 use crate::collected::same;
 use st_core::{Act, Draft, Event, Kind, Label, MemorySink, MemorySource, Pid, Sequence, Serial};
 use st_text::{
@@ -14,8 +15,7 @@ use st_text::{
 use std::alloc::Global;
 use std::process::Abort;
 use std::test::Fail;
-pub(crate) use texts::CERTIFICATE;
-use texts::{PRINT_ONE, REFUSED, WANT_AWAY};
+use texts::REFUSED;
 
 fn refusal(rt: &impl Abort, answer: Result<Bundle, ReadFault>) -> ReadFault {
     match answer {
@@ -79,7 +79,7 @@ fn refused_texts(rt: HostRuntime) {
 #[test]
 fn read_texts_are_written_again(rt: HostRuntime) {
     let alloc = rt.alloc();
-    for text in [PRINT_ONE, CERTIFICATE, WANT_AWAY] {
+    for text in [PRINT_ONE, HIDDEN_SENDS_CERTIFICATE, WANT_AWAY] {
         let answer = read(alloc, &mut MemorySource::new(text.as_bytes(), None));
         same(
             &rt,
@@ -102,7 +102,7 @@ fn read_texts_are_written_again(rt: HostRuntime) {
 #[test]
 fn certificate_cut_once_at_each_byte(rt: HostRuntime) {
     let alloc = rt.alloc();
-    let text = CERTIFICATE.as_bytes();
+    let text = HIDDEN_SENDS_CERTIFICATE.as_bytes();
     for i in 0..text.len() {
         let (front, back) = text.split_at(i);
         let mut feed = Feed::new(alloc);

@@ -3,19 +3,13 @@
 ghost use Rattle.std.specs.Prelude.{◌==◌};
 
 use super::{MOST, restore_of};
+use crate::bundles::CROSSING;
 use crate::collected::{p30, p31, same, streams};
 use st_audit::told_acts;
 use st_check::{Verdict, check};
 use st_core::{Act, Pid, Want};
 use st_plan::Tells;
 use std::test::Fail;
-
-/// Two receives that cross: the send of each came before the other.
-const CROSSING: &str = "seqtrace 1\n\
-    process <0.30.0>\n\
-    {seq_trace,1,{'receive',{0,1},<0.31.0>,<0.30.0>,4}}\n\
-    process <0.31.0>\n\
-    {seq_trace,1,{'receive',{0,2},<0.30.0>,<0.31.0>,5}}\n";
 
 /// The same with their sends.
 const CROSSED: &str = "seqtrace 1\n\

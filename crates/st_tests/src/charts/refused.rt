@@ -1,6 +1,6 @@
 //! Memory that runs out, and sinks that fail at each place.
 
-use super::{HIDDEN_CHART, HIDDEN_SENDS, chart_of, hidden_items};
+use super::{HIDDEN_CHART, THREE_PROCESSES, chart_of, hidden_items};
 use crate::collected::{same, sink_at_last, streams, streams_at_last};
 use st_chart::ChartFault;
 use st_core::MemorySink;
@@ -10,7 +10,7 @@ use std::test::Fail;
 #[test]
 fn a_chart_without_memory_writes_nothing(rt: HostRuntime) {
     let alloc = rt.alloc();
-    let streams = streams_at_last(&rt, alloc, HIDDEN_SENDS);
+    let streams = streams_at_last(&rt, alloc, THREE_PROCESSES);
     let mut sink = sink_at_last(&rt, alloc, 1000);
     let items = hidden_items();
     if let Err(fault) = chart_of(alloc, &mut sink, &streams, &items, 17) {
@@ -26,7 +26,7 @@ fn a_chart_without_memory_writes_nothing(rt: HostRuntime) {
 #[test]
 fn a_failing_sink_has_a_prefix(rt: HostRuntime) -> Result<(), Fail> {
     let alloc = rt.alloc();
-    let streams = streams(alloc, HIDDEN_SENDS)?;
+    let streams = streams(alloc, THREE_PROCESSES)?;
     let items = hidden_items();
     for fuse in 0..HIDDEN_CHART.len() {
         let mut sink = MemorySink::new(alloc, 1000, Some(fuse as u64))?;

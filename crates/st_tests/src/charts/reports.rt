@@ -1,6 +1,6 @@
 //! Worked reports.
 
-use super::HIDDEN_SENDS;
+use super::THREE_PROCESSES;
 use crate::collected::{p30, p31, same, streams};
 use st_audit::{Finding, Reason};
 use st_chart::report;
@@ -127,7 +127,7 @@ fn three_reasons_rest_on_the_event_alone(rt: HostRuntime) -> Result<(), Fail> {
 #[test]
 fn tried_acts_are_reported(rt: HostRuntime) -> Result<(), Fail> {
     let alloc = rt.alloc();
-    let streams = streams(alloc, HIDDEN_SENDS)?;
+    let streams = streams(alloc, THREE_PROCESSES)?;
     let acts = vec![in alloc; Act::Tracer(p30(), true), Act::Send(p30(), p31(), 5)]?;
     let reason = Reason::NotReplayed(Sequence::from_vec(acts), Verdict::Left(p30()));
     let finding = Finding::Unfit(p31(), 1, reason);

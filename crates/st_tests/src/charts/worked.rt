@@ -1,6 +1,6 @@
 //! Worked charts.
 
-use super::{HIDDEN_CHART, HIDDEN_SENDS, chart_of, hidden_items};
+use super::{HIDDEN_CHART, THREE_PROCESSES, chart_of, hidden_items};
 use crate::collected::{p30, p32, same, streams};
 use st_chart::ChartFault;
 use st_core::MemorySink;
@@ -37,13 +37,13 @@ fn assert_drawn(
 #[test]
 fn hidden_sends_are_drawn(rt: HostRuntime) -> Result<(), Fail> {
     let items = hidden_items();
-    assert_drawn(&rt, rt.alloc(), HIDDEN_SENDS, &items, HIDDEN_CHART)
+    assert_drawn(&rt, rt.alloc(), THREE_PROCESSES, &items, HIDDEN_CHART)
 }
 
 #[test]
 fn a_label_that_no_item_has_writes_nothing(rt: HostRuntime) -> Result<(), Fail> {
     let alloc = rt.alloc();
-    let streams = streams(alloc, HIDDEN_SENDS)?;
+    let streams = streams(alloc, THREE_PROCESSES)?;
     let mut sink = MemorySink::new(alloc, 1000, None)?;
     let answer = chart_of(alloc, &mut sink, &streams, &hidden_items(), 18);
     same(&rt, &answer, &Err(ChartFault::NoLabel));

@@ -1,36 +1,16 @@
 //! Streams that are audited: `audit` writes a certificate, or an event and a reason.
 
 use super::Case;
+use crate::bundles::{
+    HIDDEN_SENDS, HIDDEN_SENDS_CERTIFICATE, HIDDEN_SENDS_CUT, MISMATCH, MISMATCH_REPORT,
+    ONE_MESSAGE, ONE_MESSAGE_CERTIFICATE, TAMPERED_SERIAL, TWO_NODES_CERTIFICATE,
+};
 
 pub static CASES: [Case; 17] = [
     Case {
         name: "audit_hidden_sends",
-        input: "seqtrace 1\n\
-            process <0.30.0>\n\
-            {seq_trace,17,{print,{0,1},<0.30.0>,[],7}}\n\
-            {seq_trace,17,{'receive',{2,4},<0.31.0>,<0.30.0>,6}}\n\
-            process <0.31.0>\n\
-            {seq_trace,17,{'receive',{0,2},<0.30.0>,<0.31.0>,5}}\n\
-            {seq_trace,17,{print,{2,3},<0.31.0>,[],8}}\n",
-        text: "seqtrace 1\n\
-            process <0.30.0>\n\
-            {seq_trace,17,{print,{0,1},<0.30.0>,[],7}}\n\
-            {seq_trace,17,{'receive',{2,4},<0.31.0>,<0.30.0>,6}}\n\
-            process <0.31.0>\n\
-            {seq_trace,17,{'receive',{0,2},<0.30.0>,<0.31.0>,5}}\n\
-            {seq_trace,17,{print,{2,3},<0.31.0>,[],8}}\n\
-            acts\n\
-            tracer <0.30.0> true\n\
-            restore <0.30.0> 17 false false true 0 0 <0.30.0>\n\
-            print <0.30.0> 7\n\
-            restore <0.30.0> 17 false true false 0 0 <0.30.0>\n\
-            send <0.30.0> <0.31.0> 5\n\
-            receive <0.31.0> place 0\n\
-            restore <0.31.0> 17 false false true 0 0 <0.31.0>\n\
-            print <0.31.0> 8\n\
-            restore <0.31.0> 17 false true false 0 0 <0.31.0>\n\
-            send <0.31.0> <0.30.0> 6\n\
-            receive <0.30.0> place 0\n",
+        input: HIDDEN_SENDS,
+        text: HIDDEN_SENDS_CERTIFICATE,
         status: 0,
     },
     Case {
@@ -72,14 +52,8 @@ pub static CASES: [Case; 17] = [
     },
     Case {
         name: "audit_mismatch",
-        input: "seqtrace 1\n\
-            process <0.30.0>\n\
-            {seq_trace,17,{print,{0,2},<0.30.0>,[],7}}\n\
-            process <0.31.0>\n\
-            {seq_trace,17,{'receive',{0,2},<0.30.0>,<0.31.0>,5}}\n",
-        text: "unfit <0.31.0> 0 mismatch <0.30.0> 0\n\
-            event <0.31.0> 0 {seq_trace,17,{'receive',{0,2},<0.30.0>,<0.31.0>,5}}\n\
-            event <0.30.0> 0 {seq_trace,17,{print,{0,2},<0.30.0>,[],7}}\n",
+        input: MISMATCH,
+        text: MISMATCH_REPORT,
         status: 1,
     },
     Case {
@@ -145,21 +119,8 @@ pub static CASES: [Case; 17] = [
     },
     Case {
         name: "audit_reported_send",
-        input: "seqtrace 1\n\
-            process <0.30.0>\n\
-            {seq_trace,17,{send,{0,1},<0.30.0>,<0.31.0>,5}}\n\
-            process <0.31.0>\n\
-            {seq_trace,17,{'receive',{0,1},<0.30.0>,<0.31.0>,5}}\n",
-        text: "seqtrace 1\n\
-            process <0.30.0>\n\
-            {seq_trace,17,{send,{0,1},<0.30.0>,<0.31.0>,5}}\n\
-            process <0.31.0>\n\
-            {seq_trace,17,{'receive',{0,1},<0.30.0>,<0.31.0>,5}}\n\
-            acts\n\
-            tracer <0.30.0> true\n\
-            restore <0.30.0> 17 true true false 0 0 <0.30.0>\n\
-            send <0.30.0> <0.31.0> 5\n\
-            receive <0.31.0> place 0\n",
+        input: ONE_MESSAGE,
+        text: ONE_MESSAGE_CERTIFICATE,
         status: 0,
     },
     Case {
@@ -195,13 +156,7 @@ pub static CASES: [Case; 17] = [
     },
     Case {
         name: "audit_truncated",
-        input: "seqtrace 1\n\
-            process <0.30.0>\n\
-            {seq_trace,17,{print,{0,1},<0.30.0>,[],7}}\n\
-            {seq_trace,17,{'receive',{2,4},<0.31.0>,<0.30.0>,6}}\n\
-            process <0.31.0>\n\
-            {seq_trace,17,{'receive',{0,2},<0.30.0>,<0.31.0>,5}}\n\
-            {seq_trace,17,{print,{2,3},<0.31.0>,[],8}}",
+        input: HIDDEN_SENDS_CUT,
         text: "fault truncated\n",
         status: 2,
     },
@@ -223,42 +178,12 @@ pub static CASES: [Case; 17] = [
             {seq_trace,17,{print,{0,1},<1.30.0>,[],7}}\n\
             process <2.31.0>\n\
             {seq_trace,17,{'receive',{0,2},<1.30.0>,<2.31.0>,5}}\n",
-        text: "seqtrace 2\n\
-            process <1.30.0>\n\
-            {seq_trace,17,{print,{0,1},<1.30.0>,[],7}}\n\
-            process <2.31.0>\n\
-            {seq_trace,17,{'receive',{0,2},<1.30.0>,<2.31.0>,5}}\n\
-            acts\n\
-            tracer <1.30.0> true\n\
-            tracer <2.31.0> true\n\
-            restore <1.30.0> 17 false false true 0 0 <1.30.0>\n\
-            print <1.30.0> 7\n\
-            restore <1.30.0> 17 false true false 0 0 <1.30.0>\n\
-            send <1.30.0> <2.31.0> 5\n\
-            receive <2.31.0> place 0\n",
+        text: TWO_NODES_CERTIFICATE,
         status: 0,
     },
     Case {
         name: "tampered_serial_audited",
-        input: "seqtrace 1\n\
-            process <0.30.0>\n\
-            {seq_trace,17,{print,{0,1},<0.30.0>,[],7}}\n\
-            {seq_trace,17,{'receive',{2,4},<0.31.0>,<0.30.0>,6}}\n\
-            process <0.31.0>\n\
-            {seq_trace,17,{'receive',{0,3},<0.30.0>,<0.31.0>,5}}\n\
-            {seq_trace,17,{print,{2,3},<0.31.0>,[],8}}\n\
-            acts\n\
-            tracer <0.30.0> true\n\
-            restore <0.30.0> 17 false false true 0 0 <0.30.0>\n\
-            print <0.30.0> 7\n\
-            restore <0.30.0> 17 false true false 0 0 <0.30.0>\n\
-            send <0.30.0> <0.31.0> 5\n\
-            receive <0.31.0> place 0\n\
-            restore <0.31.0> 17 false false true 0 0 <0.31.0>\n\
-            print <0.31.0> 8\n\
-            restore <0.31.0> 17 false true false 0 0 <0.31.0>\n\
-            send <0.31.0> <0.30.0> 6\n\
-            receive <0.30.0> place 0\n",
+        input: TAMPERED_SERIAL,
         text: "unfit <0.31.0> 1 notreplayed left <0.30.0>\n\
             event <0.31.0> 1 {seq_trace,17,{print,{2,3},<0.31.0>,[],8}}\n\
             acts\n\

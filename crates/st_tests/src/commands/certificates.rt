@@ -1,6 +1,10 @@
 //! Certificates that are runs: `check` says yes and the pairs.
 
 use super::Case;
+use crate::bundles::{
+    LOW_SERIAL_RECEIVE, NEW_TRACE_AFTER_CLEAR, ONE_MESSAGE_CERTIFICATE, PRINT_ONE,
+    PRINTAT_OTHER_LABEL, SILENT_PRINT_STAMPS,
+};
 
 /// A print at count 1, and after a reset the same again.
 pub const RESET_REPEATS_SERIAL: &str = "seqtrace 1\n\
@@ -52,14 +56,7 @@ pub const CROSSING_SENDS: &str = "seqtrace 1\n\
 pub static CASES: [Case; 14] = [
     Case {
         name: "print_one",
-        input: "seqtrace 1\n\
-            process <0.30.0>\n\
-            {seq_trace,17,{print,{0,1},<0.30.0>,[],7}}\n\
-            acts\n\
-            tracer <0.30.0> true\n\
-            set <0.30.0> label 17\n\
-            set <0.30.0> print true\n\
-            print <0.30.0> 7\n",
+        input: PRINT_ONE,
         text: "yes\n",
         status: 0,
     },
@@ -72,73 +69,25 @@ pub static CASES: [Case; 14] = [
     },
     Case {
         name: "new_trace_after_clear_checked",
-        input: "seqtrace 1\n\
-            process <0.30.0>\n\
-            {seq_trace,17,{print,{0,1},<0.30.0>,[],7}}\n\
-            {seq_trace,18,{print,{1,2},<0.30.0>,[],8}}\n\
-            acts\n\
-            tracer <0.30.0> true\n\
-            set <0.30.0> label 17\n\
-            set <0.30.0> print true\n\
-            print <0.30.0> 7\n\
-            clear <0.30.0>\n\
-            set <0.30.0> label 18\n\
-            set <0.30.0> print true\n\
-            print <0.30.0> 8\n",
+        input: NEW_TRACE_AFTER_CLEAR,
         text: "yes\n",
         status: 0,
     },
     Case {
         name: "silent_print_stamps_checked",
-        input: "seqtrace 1\n\
-            process <0.30.0>\n\
-            {seq_trace,17,{print,{0,2},<0.30.0>,[],6}}\n\
-            acts\n\
-            tracer <0.30.0> true\n\
-            set <0.30.0> label 17\n\
-            print <0.30.0> 5\n\
-            set <0.30.0> print true\n\
-            print <0.30.0> 6\n",
+        input: SILENT_PRINT_STAMPS,
         text: "yes\n",
         status: 0,
     },
     Case {
         name: "printat_other_label_checked",
-        input: "seqtrace 1\n\
-            process <0.30.0>\n\
-            {seq_trace,17,{print,{0,1},<0.30.0>,[],6}}\n\
-            acts\n\
-            tracer <0.30.0> true\n\
-            set <0.30.0> label 17\n\
-            set <0.30.0> print true\n\
-            printat <0.30.0> 18 5\n\
-            print <0.30.0> 6\n",
+        input: PRINTAT_OTHER_LABEL,
         text: "yes\n",
         status: 0,
     },
     Case {
         name: "low_serial_receive_checked",
-        input: "seqtrace 1\n\
-            process <0.30.0>\n\
-            process <0.31.0>\n\
-            {seq_trace,0,{send,{3,6},<0.31.0>,<0.30.0>,9}}\n\
-            process <0.32.0>\n\
-            {seq_trace,0,{send,{0,3},<0.32.0>,<0.31.0>,3}}\n\
-            acts\n\
-            tracer <0.30.0> true\n\
-            set <0.30.0> label 1\n\
-            print <0.30.0> 0\n\
-            print <0.30.0> 0\n\
-            print <0.30.0> 0\n\
-            print <0.30.0> 0\n\
-            send <0.30.0> <0.31.0> 5\n\
-            set <0.32.0> send true\n\
-            print <0.32.0> 0\n\
-            print <0.32.0> 0\n\
-            send <0.32.0> <0.31.0> 3\n\
-            receive <0.31.0> first\n\
-            receive <0.31.0> first\n\
-            send <0.31.0> <0.30.0> 9\n",
+        input: LOW_SERIAL_RECEIVE,
         text: "yes\n",
         status: 0,
     },
@@ -216,16 +165,7 @@ pub static CASES: [Case; 14] = [
     },
     Case {
         name: "reported_send_checked",
-        input: "seqtrace 1\n\
-            process <0.30.0>\n\
-            {seq_trace,17,{send,{0,1},<0.30.0>,<0.31.0>,5}}\n\
-            process <0.31.0>\n\
-            {seq_trace,17,{'receive',{0,1},<0.30.0>,<0.31.0>,5}}\n\
-            acts\n\
-            tracer <0.30.0> true\n\
-            restore <0.30.0> 17 true true false 0 0 <0.30.0>\n\
-            send <0.30.0> <0.31.0> 5\n\
-            receive <0.31.0> place 0\n",
+        input: ONE_MESSAGE_CERTIFICATE,
         text: "yes\n\
             pair 3 2\n",
         status: 0,

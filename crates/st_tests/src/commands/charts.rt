@@ -1,17 +1,12 @@
 //! Charts of label 17: `chart` draws a picture, or says why the streams aren't paired.
 
 use super::Case;
+use crate::bundles::{HIDDEN_SENDS, MISMATCH, MISMATCH_REPORT, ONE_MESSAGE};
 
 pub static CASES: [Case; 3] = [
     Case {
         name: "chart_hidden_sends",
-        input: "seqtrace 1\n\
-            process <0.30.0>\n\
-            {seq_trace,17,{print,{0,1},<0.30.0>,[],7}}\n\
-            {seq_trace,17,{'receive',{2,4},<0.31.0>,<0.30.0>,6}}\n\
-            process <0.31.0>\n\
-            {seq_trace,17,{'receive',{0,2},<0.30.0>,<0.31.0>,5}}\n\
-            {seq_trace,17,{print,{2,3},<0.31.0>,[],8}}\n",
+        input: HIDDEN_SENDS,
         text: "label 17\n\
             lane 1 <0.30.0>\n\
             lane 2 <0.31.0>\n\
@@ -25,11 +20,7 @@ pub static CASES: [Case; 3] = [
     },
     Case {
         name: "chart_reported_send",
-        input: "seqtrace 1\n\
-            process <0.30.0>\n\
-            {seq_trace,17,{send,{0,1},<0.30.0>,<0.31.0>,5}}\n\
-            process <0.31.0>\n\
-            {seq_trace,17,{'receive',{0,1},<0.30.0>,<0.31.0>,5}}\n",
+        input: ONE_MESSAGE,
         text: "label 17\n\
             lane 1 <0.30.0>\n\
             lane 2 <0.31.0>\n\
@@ -39,14 +30,8 @@ pub static CASES: [Case; 3] = [
     },
     Case {
         name: "chart_unfit",
-        input: "seqtrace 1\n\
-            process <0.30.0>\n\
-            {seq_trace,17,{print,{0,2},<0.30.0>,[],7}}\n\
-            process <0.31.0>\n\
-            {seq_trace,17,{'receive',{0,2},<0.30.0>,<0.31.0>,5}}\n",
-        text: "unfit <0.31.0> 0 mismatch <0.30.0> 0\n\
-            event <0.31.0> 0 {seq_trace,17,{'receive',{0,2},<0.30.0>,<0.31.0>,5}}\n\
-            event <0.30.0> 0 {seq_trace,17,{print,{0,2},<0.30.0>,[],7}}\n",
+        input: MISMATCH,
+        text: MISMATCH_REPORT,
         status: 1,
     },
 ];

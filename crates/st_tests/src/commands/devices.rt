@@ -1,22 +1,13 @@
 //! Devices that fail on the way, and readers and writers of std's that pass little at a time, err
 //! once and work again.
 
+use crate::bundles::PRINT_ONE;
 use crate::collected::same;
 use st_commands::run;
 use st_core::{EndlessSource, MemorySink, MemorySource, ReadFrom, WriteTo};
 use std::io;
 use std::io::{ErrorKind, Read, Write};
 use std::test::Fail;
-
-/// One process that sets a label and the print flag, and prints: 160 bytes.
-static PRINT_ONE: &str = "seqtrace 1\n\
-    process <0.30.0>\n\
-    {seq_trace,17,{print,{0,1},<0.30.0>,[],7}}\n\
-    acts\n\
-    tracer <0.30.0> true\n\
-    set <0.30.0> label 17\n\
-    set <0.30.0> print true\n\
-    print <0.30.0> 7\n";
 
 /// Calls of a device of std's: each passes so many bytes at most, and one may err.
 #[derive(Drop)]

@@ -1,6 +1,7 @@
 //! Acts that are driven: `drive` writes the bundle of the one run that the threads made.
 
 use super::Case;
+use crate::bundles::PRINT_ONE;
 use crate::collected::same;
 use st_commands::run;
 use st_core::{MemorySink, MemorySource};
@@ -9,22 +10,8 @@ use std::test::Fail;
 pub static CASES: [Case; 3] = [
     Case {
         name: "drive_one",
-        input: "seqtrace 1\n\
-            process <0.30.0>\n\
-            {seq_trace,17,{print,{0,1},<0.30.0>,[],7}}\n\
-            acts\n\
-            tracer <0.30.0> true\n\
-            set <0.30.0> label 17\n\
-            set <0.30.0> print true\n\
-            print <0.30.0> 7\n",
-        text: "seqtrace 1\n\
-            process <0.30.0>\n\
-            {seq_trace,17,{print,{0,1},<0.30.0>,[],7}}\n\
-            acts\n\
-            tracer <0.30.0> true\n\
-            set <0.30.0> label 17\n\
-            set <0.30.0> print true\n\
-            print <0.30.0> 7\n",
+        input: PRINT_ONE,
+        text: PRINT_ONE,
         status: 0,
     },
     Case {

@@ -3,6 +3,7 @@
 //! reported everything.
 
 use super::{Case, certificates, nodes};
+use crate::bundles::ONE_MESSAGE_CERTIFICATE;
 
 /// The cases of `check` with these names, and what `audit` says of their streams.
 pub static AUDITED: [Case; 4] = [
@@ -32,16 +33,7 @@ pub static AUDITED: [Case; 4] = [
     Case {
         name: "everything_reported_checked",
         input: certificates::EVERYTHING_REPORTED,
-        text: "seqtrace 1\n\
-            process <0.30.0>\n\
-            {seq_trace,17,{send,{0,1},<0.30.0>,<0.31.0>,5}}\n\
-            process <0.31.0>\n\
-            {seq_trace,17,{'receive',{0,1},<0.30.0>,<0.31.0>,5}}\n\
-            acts\n\
-            tracer <0.30.0> true\n\
-            restore <0.30.0> 17 true true false 0 0 <0.30.0>\n\
-            send <0.30.0> <0.31.0> 5\n\
-            receive <0.31.0> place 0\n",
+        text: ONE_MESSAGE_CERTIFICATE,
         status: 0,
     },
 ];

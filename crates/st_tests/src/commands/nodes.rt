@@ -1,6 +1,7 @@
 //! Processes of other nodes, and the header that lets them in.
 
 use super::Case;
+use crate::bundles::{HEADER_2_ORDER, TWO_NODES_CERTIFICATE, WANT_AWAY};
 
 /// Two sends with one count, since a reset of the sender's node lies between; the receiver is on
 /// another.
@@ -40,19 +41,7 @@ pub static CASES: [Case; 7] = [
     },
     Case {
         name: "node_audit_checked",
-        input: "seqtrace 2\n\
-            process <1.30.0>\n\
-            {seq_trace,17,{print,{0,1},<1.30.0>,[],7}}\n\
-            process <2.31.0>\n\
-            {seq_trace,17,{'receive',{0,2},<1.30.0>,<2.31.0>,5}}\n\
-            acts\n\
-            tracer <1.30.0> true\n\
-            tracer <2.31.0> true\n\
-            restore <1.30.0> 17 false false true 0 0 <1.30.0>\n\
-            print <1.30.0> 7\n\
-            restore <1.30.0> 17 false true false 0 0 <1.30.0>\n\
-            send <1.30.0> <2.31.0> 5\n\
-            receive <2.31.0> place 0\n",
+        input: TWO_NODES_CERTIFICATE,
         text: "yes\n\
             pair 6 5\n",
         status: 0,
@@ -73,18 +62,13 @@ pub static CASES: [Case; 7] = [
     },
     Case {
         name: "header_2_order",
-        input: "seqtrace 2\n\
-            process <0.31.0>\n\
-            process <0.30.0>\n",
+        input: HEADER_2_ORDER,
         text: "fault order 3\n",
         status: 2,
     },
     Case {
         name: "header_2_by_want",
-        input: "seqtrace 2\n\
-            process <0.30.0>\n\
-            acts\n\
-            receive <0.30.0> from <1.5.0>\n",
+        input: WANT_AWAY,
         text: "yes\n",
         status: 0,
     },

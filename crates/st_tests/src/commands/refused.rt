@@ -1,6 +1,7 @@
 //! Certificates that are no runs: `check` says no, and the place.
 
 use super::Case;
+use crate::bundles::TAMPERED_SERIAL;
 
 pub static CASES: [Case; 9] = [
     Case {
@@ -125,25 +126,7 @@ pub static CASES: [Case; 9] = [
     },
     Case {
         name: "tampered_serial",
-        input: "seqtrace 1\n\
-            process <0.30.0>\n\
-            {seq_trace,17,{print,{0,1},<0.30.0>,[],7}}\n\
-            {seq_trace,17,{'receive',{2,4},<0.31.0>,<0.30.0>,6}}\n\
-            process <0.31.0>\n\
-            {seq_trace,17,{'receive',{0,3},<0.30.0>,<0.31.0>,5}}\n\
-            {seq_trace,17,{print,{2,3},<0.31.0>,[],8}}\n\
-            acts\n\
-            tracer <0.30.0> true\n\
-            restore <0.30.0> 17 false false true 0 0 <0.30.0>\n\
-            print <0.30.0> 7\n\
-            restore <0.30.0> 17 false true false 0 0 <0.30.0>\n\
-            send <0.30.0> <0.31.0> 5\n\
-            receive <0.31.0> place 0\n\
-            restore <0.31.0> 17 false false true 0 0 <0.31.0>\n\
-            print <0.31.0> 8\n\
-            restore <0.31.0> 17 false true false 0 0 <0.31.0>\n\
-            send <0.31.0> <0.30.0> 6\n\
-            receive <0.30.0> place 0\n",
+        input: TAMPERED_SERIAL,
         text: "no differs 5\n",
         status: 1,
     },

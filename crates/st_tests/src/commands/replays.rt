@@ -1,6 +1,9 @@
 //! Acts that are replayed: `replay` writes the bundle of what they report.
 
 use super::Case;
+use crate::bundles::{
+    LOW_SERIAL_RECEIVE, NEW_TRACE_AFTER_CLEAR, PRINTAT_OTHER_LABEL, SILENT_PRINT_STAMPS, WANT_AWAY,
+};
 
 pub static CASES: [Case; 7] = [
     Case {
@@ -16,19 +19,7 @@ pub static CASES: [Case; 7] = [
             set <0.30.0> label 18\n\
             set <0.30.0> print true\n\
             print <0.30.0> 8\n",
-        text: "seqtrace 1\n\
-            process <0.30.0>\n\
-            {seq_trace,17,{print,{0,1},<0.30.0>,[],7}}\n\
-            {seq_trace,18,{print,{1,2},<0.30.0>,[],8}}\n\
-            acts\n\
-            tracer <0.30.0> true\n\
-            set <0.30.0> label 17\n\
-            set <0.30.0> print true\n\
-            print <0.30.0> 7\n\
-            clear <0.30.0>\n\
-            set <0.30.0> label 18\n\
-            set <0.30.0> print true\n\
-            print <0.30.0> 8\n",
+        text: NEW_TRACE_AFTER_CLEAR,
         status: 0,
     },
     Case {
@@ -52,27 +43,7 @@ pub static CASES: [Case; 7] = [
             receive <0.31.0> first\n\
             receive <0.31.0> first\n\
             send <0.31.0> <0.30.0> 9\n",
-        text: "seqtrace 1\n\
-            process <0.30.0>\n\
-            process <0.31.0>\n\
-            {seq_trace,0,{send,{3,6},<0.31.0>,<0.30.0>,9}}\n\
-            process <0.32.0>\n\
-            {seq_trace,0,{send,{0,3},<0.32.0>,<0.31.0>,3}}\n\
-            acts\n\
-            tracer <0.30.0> true\n\
-            set <0.30.0> label 1\n\
-            print <0.30.0> 0\n\
-            print <0.30.0> 0\n\
-            print <0.30.0> 0\n\
-            print <0.30.0> 0\n\
-            send <0.30.0> <0.31.0> 5\n\
-            set <0.32.0> send true\n\
-            print <0.32.0> 0\n\
-            print <0.32.0> 0\n\
-            send <0.32.0> <0.31.0> 3\n\
-            receive <0.31.0> first\n\
-            receive <0.31.0> first\n\
-            send <0.31.0> <0.30.0> 9\n",
+        text: LOW_SERIAL_RECEIVE,
         status: 0,
     },
     Case {
@@ -85,15 +56,7 @@ pub static CASES: [Case; 7] = [
             print <0.30.0> 5\n\
             set <0.30.0> print true\n\
             print <0.30.0> 6\n",
-        text: "seqtrace 1\n\
-            process <0.30.0>\n\
-            {seq_trace,17,{print,{0,2},<0.30.0>,[],6}}\n\
-            acts\n\
-            tracer <0.30.0> true\n\
-            set <0.30.0> label 17\n\
-            print <0.30.0> 5\n\
-            set <0.30.0> print true\n\
-            print <0.30.0> 6\n",
+        text: SILENT_PRINT_STAMPS,
         status: 0,
     },
     Case {
@@ -106,15 +69,7 @@ pub static CASES: [Case; 7] = [
             set <0.30.0> print true\n\
             printat <0.30.0> 18 5\n\
             print <0.30.0> 6\n",
-        text: "seqtrace 1\n\
-            process <0.30.0>\n\
-            {seq_trace,17,{print,{0,1},<0.30.0>,[],6}}\n\
-            acts\n\
-            tracer <0.30.0> true\n\
-            set <0.30.0> label 17\n\
-            set <0.30.0> print true\n\
-            printat <0.30.0> 18 5\n\
-            print <0.30.0> 6\n",
+        text: PRINTAT_OTHER_LABEL,
         status: 0,
     },
     Case {
@@ -166,14 +121,8 @@ pub static CASES: [Case; 7] = [
     },
     Case {
         name: "header_2_by_want_replayed",
-        input: "seqtrace 2\n\
-            process <0.30.0>\n\
-            acts\n\
-            receive <0.30.0> from <1.5.0>\n",
-        text: "seqtrace 2\n\
-            process <0.30.0>\n\
-            acts\n\
-            receive <0.30.0> from <1.5.0>\n",
+        input: WANT_AWAY,
+        text: WANT_AWAY,
         status: 0,
     },
 ];

@@ -1,7 +1,7 @@
 //! Devices that fail, that pass three bytes a call, and that err once and would work again.
 
-use super::texts::PRINT_ONE;
 use super::{refusal, sink, text_of};
+use crate::bundles::PRINT_ONE;
 use crate::collected::same;
 use st_core::{MemorySource, ReadFrom, WriteTo};
 use st_text::{Bundle, ReadFault, read, write};

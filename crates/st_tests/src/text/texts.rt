@@ -1,76 +1,17 @@
 //! The texts of the tests, each with what is wrong with it.
 
+use crate::bundles::{
+    FOREIGN_PRINT, HEADER_2_ORDER, HIDDEN_SENDS_CUT, LABEL_LEADING_ZERO, LABEL_LEADING_ZERO_IN_ACT,
+    LAST_NEWLINE_MISSING, LINE_BEFORE_TRUNCATED, PREFIX_CUT_IN_ACTS_WORD, PREFIX_UNLISTED,
+    PROCESSES_FALLING, SEND_EVENT_TO_UNLISTED,
+};
 use st_text::ReadFault;
-
-/// The stored run: one traced print.
-pub(super) const PRINT_ONE: &str = "seqtrace 1\n\
-    process <0.30.0>\n\
-    {seq_trace,17,{print,{0,1},<0.30.0>,[],7}}\n\
-    acts\n\
-    tracer <0.30.0> true\n\
-    set <0.30.0> label 17\n\
-    set <0.30.0> print true\n\
-    print <0.30.0> 7\n";
-
-/// A certificate of two sends that weren't reported.
-pub(crate) const CERTIFICATE: &str = "seqtrace 1\n\
-    process <0.30.0>\n\
-    {seq_trace,17,{print,{0,1},<0.30.0>,[],7}}\n\
-    {seq_trace,17,{'receive',{2,4},<0.31.0>,<0.30.0>,6}}\n\
-    process <0.31.0>\n\
-    {seq_trace,17,{'receive',{0,2},<0.30.0>,<0.31.0>,5}}\n\
-    {seq_trace,17,{print,{2,3},<0.31.0>,[],8}}\n\
-    acts\n\
-    tracer <0.30.0> true\n\
-    restore <0.30.0> 17 false false true 0 0 <0.30.0>\n\
-    print <0.30.0> 7\n\
-    restore <0.30.0> 17 false true false 0 0 <0.30.0>\n\
-    send <0.30.0> <0.31.0> 5\n\
-    receive <0.31.0> place 0\n\
-    restore <0.31.0> 17 false false true 0 0 <0.31.0>\n\
-    print <0.31.0> 8\n\
-    restore <0.31.0> 17 false true false 0 0 <0.31.0>\n\
-    send <0.31.0> <0.30.0> 6\n\
-    receive <0.30.0> place 0\n";
-
-/// A pid of another node in a want alone.
-pub(super) const WANT_AWAY: &str = "seqtrace 2\n\
-    process <0.30.0>\n\
-    acts\n\
-    receive <0.30.0> from <1.5.0>\n";
 
 /// Texts that are refused, and why.
 pub(super) const REFUSED: [(&str, ReadFault); 15] = [
-    // audit truncated
-    (
-        "seqtrace 1\n\
-         process <0.30.0>\n\
-         {seq_trace,17,{print,{0,1},<0.30.0>,[],7}}\n\
-         {seq_trace,17,{'receive',{2,4},<0.31.0>,<0.30.0>,6}}\n\
-         process <0.31.0>\n\
-         {seq_trace,17,{'receive',{0,2},<0.30.0>,<0.31.0>,5}}\n\
-         {seq_trace,17,{print,{2,3},<0.31.0>,[],8}}",
-        ReadFault::Truncated,
-    ),
-    // foreign print
-    (
-        "seqtrace 1\n\
-         process <0.30.0>\n\
-         {seq_trace,17,{print,{0,1},<0.31.0>,[],7}}\n\
-         acts\n\
-         tracer <0.30.0> true\n\
-         set <0.30.0> label 17\n\
-         set <0.30.0> print true\n\
-         print <0.30.0> 7\n",
-        ReadFault::Foreign(3),
-    ),
-    // header 2 order
-    (
-        "seqtrace 2\n\
-         process <0.31.0>\n\
-         process <0.30.0>\n",
-        ReadFault::Order(3),
-    ),
+    (HIDDEN_SENDS_CUT, ReadFault::Truncated),
+    (FOREIGN_PRINT, ReadFault::Foreign(3)),
+    (HEADER_2_ORDER, ReadFault::Order(3)),
     // header 2 truncated
     (
         "seqtrace 2\n\
@@ -83,54 +24,10 @@ pub(super) const REFUSED: [(&str, ReadFault); 15] = [
          process <0.30.0>\n",
         ReadFault::Line(1),
     ),
-    // label leading zero
-    (
-        "seqtrace 1\n\
-         process <0.30.0>\n\
-         {seq_trace,017,{print,{0,1},<0.30.0>,[],7}}\n\
-         acts\n\
-         tracer <0.30.0> true\n\
-         set <0.30.0> label 17\n\
-         set <0.30.0> print true\n\
-         print <0.30.0> 7\n",
-        ReadFault::Line(3),
-    ),
-    // label leading zero in act
-    (
-        "seqtrace 1\n\
-         process <0.30.0>\n\
-         {seq_trace,17,{print,{0,1},<0.30.0>,[],7}}\n\
-         acts\n\
-         tracer <0.30.0> true\n\
-         set <0.30.0> label 017\n\
-         set <0.30.0> print true\n\
-         print <0.30.0> 7\n",
-        ReadFault::Line(6),
-    ),
-    // last newline missing
-    (
-        "seqtrace 1\n\
-         process <0.30.0>\n\
-         {seq_trace,17,{print,{0,1},<0.30.0>,[],7}}\n\
-         acts\n\
-         tracer <0.30.0> true\n\
-         set <0.30.0> label 17\n\
-         set <0.30.0> print true\n\
-         print <0.30.0> 7",
-        ReadFault::Truncated,
-    ),
-    // line before truncated
-    (
-        "seqtrace 1\n\
-         process <0.30.0>\n\
-         {seq_trace,017,{print,{0,1},<0.30.0>,[],7}}\n\
-         acts\n\
-         tracer <0.30.0> true\n\
-         set <0.30.0> label 17\n\
-         set <0.30.0> print true\n\
-         print <0.30.0> 7",
-        ReadFault::Line(3),
-    ),
+    (LABEL_LEADING_ZERO, ReadFault::Line(3)),
+    (LABEL_LEADING_ZERO_IN_ACT, ReadFault::Line(6)),
+    (LAST_NEWLINE_MISSING, ReadFault::Truncated),
+    (LINE_BEFORE_TRUNCATED, ReadFault::Line(3)),
     // no bytes
     ("", ReadFault::Truncated),
     // pid other node header 1
@@ -139,41 +36,8 @@ pub(super) const REFUSED: [(&str, ReadFault); 15] = [
          process <1.30.0>\n",
         ReadFault::Line(2),
     ),
-    // prefix cut in acts word
-    (
-        "seqtrace 1\n\
-         process <0.30.0>\n\
-         {seq_trace,17,{print,{0,1},<0.30.0>,[],7}}\n\
-         {seq_trace,17,{'receive',{2,4},<0.31.0>,<0.30.0>,6}}\n\
-         acts",
-        ReadFault::Truncated,
-    ),
-    // prefix unlisted
-    (
-        "seqtrace 1\n\
-         process <0.30.0>\n\
-         {seq_trace,17,{print,{0,1},<0.30.0>,[],7}}\n\
-         {seq_trace,17,{'receive',{2,4},<0.31.0>,<0.30.0>,6}}\n",
-        ReadFault::Unknown(4),
-    ),
-    // processes falling
-    (
-        "seqtrace 1\n\
-         process <0.31.0>\n\
-         process <0.30.0>\n\
-         acts\n",
-        ReadFault::Order(3),
-    ),
-    // send event to unlisted
-    (
-        "seqtrace 1\n\
-         process <0.30.0>\n\
-         {seq_trace,17,{send,{0,1},<0.30.0>,<0.31.0>,7}}\n\
-         acts\n\
-         tracer <0.30.0> true\n\
-         set <0.30.0> label 17\n\
-         set <0.30.0> print true\n\
-         print <0.30.0> 7\n",
-        ReadFault::Unknown(3),
-    ),
+    (PREFIX_CUT_IN_ACTS_WORD, ReadFault::Truncated),
+    (PREFIX_UNLISTED, ReadFault::Unknown(4)),
+    (PROCESSES_FALLING, ReadFault::Order(3)),
+    (SEND_EVENT_TO_UNLISTED, ReadFault::Unknown(3)),
 ];
