@@ -27,7 +27,7 @@ use Rattle.st_order.specs.Items.{event_of}
 use Rattle.st_plan.specs.declared.plan.Start.{Start}
 use Rattle.st_plan.specs.Marks.{all_told, Marks}
 use Rattle.st_plan.specs.Moves.{Move, clock, earlier_of, is_taking, last, move_by, moves, skips}
-use Rattle.st_plan.specs.Plain.{told, out_of_turn}
+use Rattle.st_plan.specs.Plain.{event_count, out_of_turn}
 use Rattle.st_plan.specs.Reasons.{most_skipped, most_skipped_in_all, too_wide, uncaused}
 use Rattle.st_plan.specs.Build.{ready, start_of}
 use Rattle.st_audit.specs.declared.construction.Construction.{Construction}
@@ -268,15 +268,15 @@ module _ {top : ℕ} (streams : List Stream) (marks : Marks) (old : Construction
 -- AN ITEM
 
 -- no more is told than there were moves
-told_most : (p : Pid) (ms : List Move) → told p ms ≤ length ms
+told_most : (p : Pid) (ms : List Move) → event_count p ms ≤ length ms
 told_most p [] = omega arith
 told_most p (m ∷ ms) =
     let rest = told_most p ms in
-    elim m.item as (λ x. told p ms + (elim x [
+    elim m.item as (λ x. event_count p ms + (elim x [
       | item.Reported q i ↦ cond (pid_eq q p) 1 0
       | item.Hidden q i ↦ 0
     ]) ≤ suc (length ms)) [
-      | item.Reported q i ↦ elim (pid_eq q p) as (λ b. told p ms + cond b 1 0 ≤ suc (length ms))
+      | item.Reported q i ↦ elim (pid_eq q p) as (λ b. event_count p ms + cond b 1 0 ≤ suc (length ms))
           [ true ↦ omega arith | false ↦ omega arith ]
       | item.Hidden q i ↦ omega arith
     ]
@@ -301,7 +301,7 @@ take_most (x ∷ xs) zero = omega arith
 take_most (x ∷ xs) (suc n) = let rest = take_most xs n in omega arith
 
 pub told_below : (streams : List Stream) (p : Pid) (xs : List Item) (n : ℕ)
-    → told p (earlier_of streams (take n xs)) ≤ n
+    → event_count p (earlier_of streams (take n xs)) ≤ n
 told_below streams p xs n =
     let one = told_most p (earlier_of streams (take n xs)) in
     let two = length-reverse (moves streams (take n xs)) in
@@ -358,11 +358,11 @@ module _ {top : ℕ} (streams : List Stream) (marks : Marks) (earlier : List Mov
 -- what comes of a report is what comes of its item
 pub report_turn_is : {top : ℕ} (streams : List Stream) (marks : Marks) (earlier : List Move) (c : Construction top)
     → IsSoFar streams earlier c → (p : Pid) (i : ℕ) (e : Event)
-    → report_turn streams marks c (told p earlier) (move_by (item.Reported p i) e)
+    → report_turn streams marks c (event_count p earlier) (move_by (item.Reported p i) e)
     ≡ item_turn streams marks c earlier (move_by (item.Reported p i) e)
 report_turn_is streams marks earlier c so p i e =
     let m = move_by (item.Reported p i) e in
-    ap (λ t. cond (not (told p earlier == i)) (Stopped []) (cond (is_high marks c.world m) (Stopped [])
+    ap (λ t. cond (not (event_count p earlier == i)) (Stopped []) (cond (is_high marks c.world m) (Stopped [])
     (marked_turn marks m t))) (move_turn_is streams marks earlier c so m)
 
 marked_hidden : (marks : Marks) (p : Pid) (i : ℕ) (e : Event) (t : Turn)

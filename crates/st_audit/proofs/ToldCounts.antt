@@ -18,7 +18,7 @@ use Rattle.st_core.proofs.ForCallers.{pid_eq-refl, pid_same, rising_at, IsBelow-
 use Rattle.st_pair.specs.Places.{event_at}
 use Rattle.st_order.specs.declared.item.Item.TheVariants as item
 use Rattle.st_plan.specs.Moves.{Move, move_by}
-use Rattle.st_plan.specs.Plain.{told}
+use Rattle.st_plan.specs.Plain.{event_count}
 use Rattle.st_audit.specs.Progress.{AreTold, TellsOne}
 
 none_of : (streams : List Stream) (p : Pid) → AllByRecursion (λ q. pid_eq q p ≡ false) (pids_of streams)
@@ -95,20 +95,20 @@ pub told_next : (streams : List Stream) (earlier : List Move) (old new : List �
     → IsRising (pids_of streams) → AreTold streams earlier old → TellsOne streams p i old new
     → AreTold streams (move_by (item.Reported p i) e ∷ earlier) new
 told_next streams earlier old new p i e rising are one k q at =
-    elim (pid_eq p q) as (λ b. pid_eq p q ≡ b → told q earlier + cond b 1 0 < 2 ^ 64
-    → slice_get new k ≡ Some (told q earlier + cond b 1 0)) [
+    elim (pid_eq p q) as (λ b. pid_eq p q ≡ b → event_count q earlier + cond b 1 0 < 2 ^ 64
+    → slice_get new k ≡ Some (event_count q earlier + cond b 1 0)) [
       | true ↦ λ same fits.
           let who = pid_same p q same in
           let place : one.place ≡ k = one_place (pids_of streams) one.place k q rising
           (one.is_place ∙ ap (λ (x : Pid). Some x) who) at in
-          let was : told q earlier ≡ i = same_Some (told q earlier) i
+          let was : event_count q earlier ≡ i = same_Some (event_count q earlier) i
           (sym (are k q at (omega arith)) ∙ ap (slice_get old) (sym place) ∙ one.was) in
           ap (slice_get new) (sym place) ∙ one.now (omega arith) ∙ ap (λ (n : ℕ). Some (n + 1)) (sym was)
       | false ↦ λ apart fits.
           let other : k ≢ one.place = λ same.
           let who : p ≡ q = same_Some p q (sym one.is_place ∙ ap (slice_get (pids_of streams)) (sym same) ∙ at) in
           false≢true (sym apart ∙ ap (pid_eq p) (sym who) ∙ pid_eq-refl p) in
-          let still : told q earlier ≡ told q earlier + 0 = omega arith in
+          let still : event_count q earlier ≡ event_count q earlier + 0 = omega arith in
           one.others k other ∙ are k q at (omega arith) ∙ ap (λ (n : ℕ). Some n) still
     ] refl
 
@@ -116,7 +116,7 @@ told_next streams earlier old new p i e rising are one k q at =
 pub told_hidden : (streams : List Stream) (earlier : List Move) (counts : List ℕ) (p : Pid) (i : ℕ) (e : Event)
     → AreTold streams earlier counts → AreTold streams (move_by (item.Hidden p i) e ∷ earlier) counts
 told_hidden streams earlier counts p i e are k q at fits =
-    let still : told q earlier ≡ told q earlier + 0 = omega arith in
+    let still : event_count q earlier ≡ event_count q earlier + 0 = omega arith in
     are k q at (omega arith) ∙ ap (λ (n : ℕ). Some n) still
 
 -- nothing is told before the first item

@@ -23,7 +23,7 @@ use Rattle.st_order.specs.Order.{IsOrder}
 use Rattle.st_plan.specs.Marks.{all_told, told_only, Marks}
 use Rattle.st_plan.specs.Moves.{Move, clock, earlier_of, is_taking, move_by, moves}
 use Rattle.st_plan.specs.Build.{state_after, tracers_after, GoesOn}
-use Rattle.st_plan.specs.Plain.{out_of_turn, told, told_all, told_by, IsSettled}
+use Rattle.st_plan.specs.Plain.{out_of_turn, event_count, told_all, told_by, IsSettled}
 use Rattle.st_plan.proofs.ForCallers.{clock_at, earlier_more, goes_on, in_turn_at, moves_append, one_move, opens}
 use Rattle.st_plan.proofs.ForCallers.{order_there, run_append, state_append, stream_append, stream_silent}
 use Rattle.st_plan.proofs.ForCallers.{acts_none, append_none, tells_only, tells_told_events, told_pids, tracers_none}
@@ -135,9 +135,9 @@ take_one xs n x at =
     ∙ ap (λ y. take n xs ++ y ∷ []) (get_or_from_slice_get xs n x x at)
 
 in_turn_by : (earlier : List Move) (x : Item) (e : Event)
-    → ((p : Pid) (i : ℕ) → (move_by x e).item ≡ item.Reported p i → told p earlier ≡ i)
+    → ((p : Pid) (i : ℕ) → (move_by x e).item ≡ item.Reported p i → event_count p earlier ≡ i)
     → out_of_turn earlier (move_by x e) ≡ false
-in_turn_by earlier (item.Reported p i) e turn = ap not (eq-eqb (told p earlier) i (turn p i refl))
+in_turn_by earlier (item.Reported p i) e turn = ap not (eq-eqb (event_count p earlier) i (turn p i refl))
 in_turn_by earlier (item.Hidden p i) e turn = refl
 
 -- what stands for an item if there is none

@@ -23,7 +23,7 @@ use Rattle.st_plan.specs.Marks.{Marks}
 use Rattle.st_plan.specs.Moves.{Move, clock, is_taking, last, skips}
 use Rattle.st_plan.specs.Reasons.{most_skipped, most_skipped_in_all, too_wide, uncaused}
 use Rattle.st_plan.specs.Build.{ready, start_of, state_after}
-use Rattle.st_plan.specs.Plain.{told, out_of_turn}
+use Rattle.st_plan.specs.Plain.{event_count, out_of_turn}
 use Rattle.st_audit.specs.declared.construction.Construction.{Construction}
 use Rattle.st_audit.specs.declared.construction.Halt.{Halt}
 use Rattle.st_audit.specs.declared.construction.Halt.TheVariants as halt
@@ -45,7 +45,7 @@ AreCounted earlier s = (p : Pid) (r : Process) → process s p ≡ Some r → Is
 -- the counts are of the events that these moves report, as long as 64 bits hold these
 abbrev pub AreTold : List Stream → List Move → List ℕ → Type 0
 AreTold streams earlier counts = (k : ℕ) (p : Pid) → slice_get (pids_of streams) k ≡ Some p
-    → told p earlier < 2 ^ 64 → slice_get counts k ≡ Some (told p earlier)
+    → event_count p earlier < 2 ^ 64 → slice_get counts k ≡ Some (event_count p earlier)
 
 -- the construction is as these moves make it
 pub record IsSoFar {top : ℕ} (streams : List Stream) (earlier : List Move)

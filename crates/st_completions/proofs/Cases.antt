@@ -25,7 +25,7 @@ use Rattle.st_order.specs.declared.item.Item.{Item}
 use Rattle.st_order.specs.declared.item.Item.TheVariants as item
 use Rattle.st_order.specs.Order.{order}
 use Rattle.st_plan.specs.Moves.{Move, clock, last, moves}
-use Rattle.st_plan.specs.Plain.{IsPlain, out_of_turn, told}
+use Rattle.st_plan.specs.Plain.{IsPlain, out_of_turn, event_count}
 use Rattle.st_plan.specs.Reasons.{too_wide, uncaused}
 use Rattle.st_plan.specs.Marks.{all_streams, Marked, Whole}
 use Rattle.st_completions.specs.Completion.{completion}
@@ -126,7 +126,7 @@ clocks = refl
 lasts : along (λ e m. last m.who e) [] in_moves ≡ 0 ∷ 0 ∷ 1 ∷ 1 ∷ 0 ∷ 3 ∷ []
 lasts = refl
 
-turns : along (λ e m. told m.who e) [] in_moves ≡ 0 ∷ 0 ∷ 1 ∷ 2 ∷ 1 ∷ 2 ∷ []
+turns : along (λ e m. event_count m.who e) [] in_moves ≡ 0 ∷ 0 ∷ 1 ∷ 2 ∷ 1 ∷ 2 ∷ []
 turns = refl
 
 reasons : along out_of_turn [] in_moves ++ along uncaused [] in_moves ++ along too_wide [] in_moves

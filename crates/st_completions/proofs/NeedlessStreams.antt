@@ -19,7 +19,7 @@ use Rattle.st_order.specs.Turn.{StampsLead}
 use Rattle.st_plan.specs.Marks.{all_streams, told_streams, Marked, told_events, Whole}
 use Rattle.st_plan.specs.Moves.{Move, clock, last, moves}
 use Rattle.st_plan.specs.Reasons.{uncaused}
-use Rattle.st_plan.specs.Plain.{IsSettled, out_of_turn, told}
+use Rattle.st_plan.specs.Plain.{IsSettled, out_of_turn, event_count}
 use Rattle.st_completions.specs.Completed.{IsCompleted, IsShownInOneTrace}
 use Rattle.st_plan.specs.Full.{IsFull}
 use Rattle.st_completions.specs.Local.{IsNeedless}
@@ -55,7 +55,7 @@ at_move : (streams : List Stream) (p : Pid) (i : ℕ) (e : Event) (earlier later
     → IsSettledNext earlier (event_move p i e)
 at_move streams p i e earlier later needless before =
     let events = events_of streams p in
-    let n = told p earlier in
+    let n = event_count p earlier in
     let c = clock p earlier in
     let l = last p earlier in
     let prev = e.serial.prev in

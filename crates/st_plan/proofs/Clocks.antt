@@ -16,7 +16,7 @@ use Rattle.st_order.specs.declared.item.Item.TheVariants as item
 use Rattle.st_order.specs.Items.{height}
 use Rattle.st_order.specs.Order.{key_by}
 use Rattle.st_plan.specs.Moves.{Move, move_by, is_taking, clock}
-use Rattle.st_plan.specs.Plain.{told}
+use Rattle.st_plan.specs.Plain.{event_count}
 use Rattle.st_plan.proofs.FreeMoves.{AllAlong, IsInTurn}
 use Rattle.st_plan.proofs.EarlierMoves.{clock_below, IsAt, IsKeyBelow}
 use Rattle.st_plan.proofs.RisingStamps.{height_is, height_more, height_of, rank_of, this_below, IsTop, Stamps}
@@ -47,7 +47,7 @@ pub record Stands (earlier : List Move) (q : Pid) (k : ℕ) : Type 0 where
 -- what is known of the moves that came
 pub record IsKnown (streams : List Stream) (earlier : List Move) : Type 0 where
   pub each : AllByRecursion (HasCome streams) earlier
-  pub have : (q : Pid) (k : ℕ) → k < told q earlier → Stands earlier q k
+  pub have : (q : Pid) (k : ℕ) → k < event_count q earlier → Stands earlier q k
 
 -- THE MOVES THAT CAME
 
@@ -59,16 +59,16 @@ later : (m : Move) (earlier : List Move) (q : Pid) (k : ℕ) → Stands earlier 
 later m earlier q k s = record { number = suc s.number; move = s.move; among = s.among; is = s.is }
 
 pub have_by : (m : Move) (earlier : List Move) (x : Item) → m.item ≡ x → IsInTurn earlier x
-    → ((q : Pid) (k : ℕ) → k < told q earlier → Stands earlier q k) → (q : Pid) (k : ℕ)
-    → k < told q earlier + one_by q x → Stands (m ∷ earlier) q k
+    → ((q : Pid) (k : ℕ) → k < event_count q earlier → Stands earlier q k) → (q : Pid) (k : ℕ)
+    → k < event_count q earlier + one_by q x → Stands (m ∷ earlier) q k
 have_by m earlier (item.Hidden p i) is turn have q k less = later m earlier q k (have q k (omega arith))
 have_by m earlier (item.Reported p i) is turn have q k less =
-    elim (pid_eq p q) as (λ b. pid_eq p q ≡ b → k < told q earlier + cond b 1 0 → Stands (m ∷ earlier) q k) [
+    elim (pid_eq p q) as (λ b. pid_eq p q ≡ b → k < event_count q earlier + cond b 1 0 → Stands (m ∷ earlier) q k) [
       | true ↦ λ same less.
           let who = pid_same p q same in
           let count = turn in
-          let counts : told p earlier ≡ told q earlier = ap (λ r. told r earlier) who in
-          elim (cases_lt k (told q earlier)) [
+          let counts : event_count p earlier ≡ event_count q earlier = ap (λ r. event_count r earlier) who in
+          elim (cases_lt k (event_count q earlier)) [
             | inl old ↦ later m earlier q k (have q k old)
             | inr now ↦
                 let here : i ≡ k = omega arith in

@@ -11,7 +11,7 @@ use Rattle.st_order.specs.Order.{IsOrder}
 use Rattle.st_plan.specs.Moves.{Move, moves}
 use Rattle.st_order.specs.Items.{item_place}
 use Rattle.st_plan.specs.Reasons.{uncaused}
-use Rattle.st_plan.specs.Plain.{out_of_turn, told, HoldsNowhere, IsSettled}
+use Rattle.st_plan.specs.Plain.{out_of_turn, event_count, HoldsNowhere, IsSettled}
 
 -- ALONG THE MOVES
 
@@ -69,15 +69,15 @@ module _ (streams : List Stream) (xs : List Item) (order : IsOrder streams xs) (
 
 -- a reported item comes right after the events of its process before it
 abbrev pub IsInTurn : List Move → Item → Type 0
-IsInTurn earlier (item.Reported p i) = told p earlier ≡ i
+IsInTurn earlier (item.Reported p i) = event_count p earlier ≡ i
 IsInTurn earlier (item.Hidden p i) = Unit {0}
 
 abbrev late_by : List Move → Item → Bool
-late_by earlier (item.Reported p i) = not (told p earlier == i)
+late_by earlier (item.Reported p i) = not (event_count p earlier == i)
 late_by earlier (item.Hidden p i) = false
 
 turn_by : (earlier : List Move) (x : Item) → late_by earlier x ≡ false → IsInTurn earlier x
-turn_by earlier (item.Reported p i) h = eqb-true (told p earlier) i (not-false (told p earlier == i) h)
+turn_by earlier (item.Reported p i) h = eqb-true (event_count p earlier) i (not-false (event_count p earlier == i) h)
 turn_by earlier (item.Hidden p i) h = tt
 
 pub turn_of : (earlier : List Move) (m : Move) → out_of_turn earlier m ≡ false → IsInTurn earlier m.item

@@ -21,7 +21,7 @@ use Rattle.st_order.specs.Order.{IsOrder}
 use Rattle.st_order.specs.Turn.{StampsLead}
 use Rattle.st_plan.specs.Moves.{Move, clock, is_taking, last, moves, skip, skips}
 use Rattle.st_plan.specs.Reasons.{most_skipped, most_skipped_in_all, too_wide, uncaused}
-use Rattle.st_plan.specs.Plain.{IsPlain, out_of_turn, told}
+use Rattle.st_plan.specs.Plain.{IsPlain, out_of_turn, event_count}
 use Rattle.st_plan.specs.Full.{IsFull}
 use Rattle.st_plan.proofs.FullRuns.{run_full}
 use Rattle.st_plan.proofs.Turns.{After, after, event_move, event_move_there, is_move_of, move_back, own_step, turned}
@@ -62,7 +62,7 @@ at_move : (streams : List Stream) (p : Pid) (i : ℕ) (e : Event) (earlier later
     → After (events_of streams p) p earlier (event_move p i e ∷ later) → IsNext earlier (event_move p i e)
 at_move streams p i e earlier later goes_on before =
     let events = events_of streams p in
-    let n = told p earlier in
+    let n = event_count p earlier in
     let c = clock p earlier in
     let l = last p earlier in
     let prev = e.serial.prev in

@@ -19,7 +19,7 @@ use Rattle.st_order.proofs.ForCallers.{all_found, an_order, AreFound}
 use Rattle.st_plan.specs.Marks.{told_from, told_only, Marks}
 use Rattle.st_plan.specs.Moves.{Move, clock, is_taking, move_by, moves}
 use Rattle.st_plan.specs.Reasons.{uncaused}
-use Rattle.st_plan.specs.Plain.{told, told_all, IsSettled}
+use Rattle.st_plan.specs.Plain.{event_count, told_all, IsSettled}
 use Rattle.st_plan.specs.Build.{construction, state_after, GoesOn}
 use Rattle.st_plan.proofs.EarlierMoves.{one_move, order_there, there_event}
 use Rattle.st_plan.proofs.KeptState.{IsKept}
@@ -90,7 +90,7 @@ module _ (top : ℕ) (streams : List Stream) (marks : Marks) (sound : IsStreams 
     free_at = along_at IsFree (moves streams xs) earlier later m free split
 
     -- a reported move comes right after the events of its process before it
-    pub in_turn_at : (p : Pid) (i : ℕ) → m.item ≡ item.Reported p i → told p earlier ≡ i
+    pub in_turn_at : (p : Pid) (i : ℕ) → m.item ≡ item.Reported p i → event_count p earlier ≡ i
     in_turn_at p i is = subst (IsInTurn earlier) is free_at.turn
 
     -- no reason holds of a move

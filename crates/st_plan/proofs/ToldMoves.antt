@@ -17,7 +17,7 @@ use Rattle.st_order.specs.declared.item.Item.{Item}
 use Rattle.st_order.specs.declared.item.Item.TheVariants as item
 use Rattle.st_plan.specs.Marks.{told_from, Marks}
 use Rattle.st_plan.specs.Moves.{Move, move_by}
-use Rattle.st_plan.specs.Plain.{told, told_all, told_by}
+use Rattle.st_plan.specs.Plain.{event_count, told_all, told_by}
 use Rattle.st_plan.proofs.EarlierMoves.{IsAt}
 use Rattle.st_plan.proofs.FreeMoves.{AllAlong, IsInTurn}
 use Rattle.st_plan.proofs.Clocks.{one_by, IsNext}
@@ -48,22 +48,22 @@ abbrev told_first : List Stream → Marks → Pid → ℕ → List Event
 told_first streams marks p n = told_from (marks p) 0 (take n (events_of streams p))
 
 tell_by : (streams : List Stream) (marks : Marks) (earlier : List Move) (p : Pid) (x : Item) (e : Event)
-    → IsAt streams x e → IsInTurn earlier x → told_first streams marks p (told p earlier + one_by p x)
-    ≡ told_first streams marks p (told p earlier) ++ told_by marks p (move_by x e)
+    → IsAt streams x e → IsInTurn earlier x → told_first streams marks p (event_count p earlier + one_by p x)
+    ≡ told_first streams marks p (event_count p earlier) ++ told_by marks p (move_by x e)
 tell_by streams marks earlier p (item.Hidden q i) e at turn =
-    let same : told p earlier + 0 ≡ told p earlier = omega arith in
+    let same : event_count p earlier + 0 ≡ event_count p earlier = omega arith in
     ap (told_first streams marks p) same
-    ∙ sym (append-nil (told_first streams marks p (told p earlier)))
+    ∙ sym (append-nil (told_first streams marks p (event_count p earlier)))
 tell_by streams marks earlier p (item.Reported q i) e at turn =
     let es = events_of streams p in
-    let n = told p earlier in
+    let n = event_count p earlier in
     let whole = told_first streams marks p in
     elim (pid_eq q p) as (λ b. pid_eq q p ≡ b
     → whole (n + cond b 1 0) ≡ whole n ++ cond b (cond (marks q i) (e ∷ []) []) []) [
       | true ↦ λ same.
           let who = pid_same q p same in
           let count = turn in
-          let index : i ≡ n = sym count ∙ ap (λ r. told r earlier) who in
+          let index : i ≡ n = sym count ∙ ap (λ r. event_count r earlier) who in
           let here : slice_get es n ≡ Some e =
           ap (slice_get es) (sym index) ∙ ap (λ r. event_at streams r i) (sym who) ∙ at in
           let more : n + 1 ≡ suc n = omega arith in
@@ -78,42 +78,44 @@ tell_by streams marks earlier p (item.Reported q i) e at turn =
     ] refl
 
 tell_along : (streams : List Stream) (marks : Marks) (p : Pid) (earlier ms : List Move)
-    → AllAlong (IsNext streams) earlier ms → told_first streams marks p (told p earlier + told p ms)
-    ≡ told_first streams marks p (told p earlier) ++ told_all marks p ms
+    → AllAlong (IsNext streams) earlier ms → told_first streams marks p (event_count p earlier + event_count p ms)
+    ≡ told_first streams marks p (event_count p earlier) ++ told_all marks p ms
 tell_along streams marks p earlier [] all =
-    let same : told p earlier + 0 ≡ told p earlier = omega arith in
+    let same : event_count p earlier + 0 ≡ event_count p earlier = omega arith in
     ap (told_first streams marks p) same
-    ∙ sym (append-nil (told_first streams marks p (told p earlier)))
+    ∙ sym (append-nil (told_first streams marks p (event_count p earlier)))
 tell_along streams marks p earlier (m ∷ ms) all =
     let whole = told_first streams marks p in
     let next = all.0 in
     let rest = tell_along streams marks p (m ∷ earlier) ms all.1 in
     let one = tell_by streams marks earlier p m.item m.event next.at next.turn in
-    let step : whole (told p earlier + one_by p m.item) ≡ whole (told p earlier) ++ told_by marks p m =
-    one ∙ ap (λ y. whole (told p earlier) ++ told_by marks p y) next.is in
-    let sum : told p earlier + (told p ms + one_by p m.item) ≡ told p earlier + one_by p m.item + told p ms =
+    let step : whole (event_count p earlier + one_by p m.item) ≡ whole (event_count p earlier) ++ told_by marks p m =
+    one ∙ ap (λ y. whole (event_count p earlier) ++ told_by marks p y) next.is in
+    let sum : event_count p earlier + (event_count p ms + one_by p m.item)
+    ≡ event_count p earlier + one_by p m.item + event_count p ms =
     omega arith in
     ap whole sum
     ∙ rest
     ∙ ap (λ xs. xs ++ told_all marks p ms) step
-    ∙ append_assoc (whole (told p earlier)) (told_by marks p m) (told_all marks p ms)
+    ∙ append_assoc (whole (event_count p earlier)) (told_by marks p m) (told_all marks p ms)
 
 -- a reported item that comes later has an index below the count at the end
 index_low : (streams : List Stream) (p : Pid) (i : ℕ) (earlier ms : List Move) → AllAlong (IsNext streams) earlier ms
-    → (n : ℕ) (m : Move) → slice_get ms n ≡ Some m → m.item ≡ item.Reported p i → i < told p earlier + told p ms
+    → (n : ℕ) (m : Move) → slice_get ms n ≡ Some m → m.item ≡ item.Reported p i
+    → i < event_count p earlier + event_count p ms
 index_low streams p i earlier [] all n m at is = absurd (none-some m at)
 index_low streams p i earlier (y ∷ ms) all zero m at is =
     let same : y ≡ m = same_Some y m at in
     let item_is : y.item ≡ item.Reported p i = ap (λ (z : Move). z.item) same ∙ is in
-    let count : told p earlier ≡ i = subst (IsInTurn earlier) item_is all.0.turn in
+    let count : event_count p earlier ≡ i = subst (IsInTurn earlier) item_is all.0.turn in
     let one : one_by p y.item ≡ 1 =
     ap (one_by p) item_is ∙ ap (λ b. let k : ℕ = if b then 1 else 0 in k) (pid_eq-refl p) in
-    let total : told p (y ∷ ms) ≡ told p ms + one_by p y.item = refl in
+    let total : event_count p (y ∷ ms) ≡ event_count p ms + one_by p y.item = refl in
     omega arith
 index_low streams p i earlier (y ∷ ms) all (suc n) m at is =
     let rest = index_low streams p i (y ∷ earlier) ms all.1 n m at is in
-    let grown : told p (y ∷ earlier) ≡ told p earlier + one_by p y.item = refl in
-    let total : told p (y ∷ ms) ≡ told p ms + one_by p y.item = refl in
+    let grown : event_count p (y ∷ earlier) ≡ event_count p earlier + one_by p y.item = refl in
+    let total : event_count p (y ∷ ms) ≡ event_count p ms + one_by p y.item = refl in
     omega arith
 
 at_index : (es : List Event) (k : ℕ) → k < length es → (e : Event) × (slice_get es k ≡ Some e)
@@ -127,11 +129,11 @@ AreMoved streams p ms = (i : ℕ) (e : Event) → event_at streams p i ≡ Some 
     → (n : ℕ) × (m : Move) × (slice_get ms n ≡ Some m) × (m.item ≡ item.Reported p i)
 
 no_more : (streams : List Stream) (p : Pid) (ms : List Move) → AllAlong (IsNext streams) [] ms → AreMoved streams p ms
-    → told p ms < length (events_of streams p) → ⊥
+    → event_count p ms < length (events_of streams p) → ⊥
 no_more streams p ms all whole less =
-    let next = at_index (events_of streams p) (told p ms) less in
-    let place = whole (told p ms) next.0 next.1 in
-    let low = index_low streams p (told p ms) [] ms all place.0 place.1 place.2 place.3 in
+    let next = at_index (events_of streams p) (event_count p ms) less in
+    let place = whole (event_count p ms) next.0 next.1 in
+    let low = index_low streams p (event_count p ms) [] ms all place.0 place.1 place.2 place.3 in
     omega arith
 
 -- if each event of p is among the moves, they tell all the told ones
@@ -140,10 +142,10 @@ pub tells_all : (streams : List Stream) (marks : Marks) (p : Pid) (ms : List Mov
 tells_all streams marks p ms all whole =
     let es = events_of streams p in
     let tell = tell_along streams marks p [] ms all in
-    let enough : length es ≤ told p ms = elim (cases_lt (told p ms) (length es)) [
+    let enough : length es ≤ event_count p ms = elim (cases_lt (event_count p ms) (length es)) [
       | inr least ↦ least
       | inl less ↦ absurd (no_more streams p ms all whole less)
     ] in
-    let same : 0 + told p ms ≡ told p ms = omega arith in
+    let same : 0 + event_count p ms ≡ event_count p ms = omega arith in
     sym tell ∙ ap (told_first streams marks p) same
-    ∙ ap (told_from (marks p) 0) (take_all (told p ms) es enough)
+    ∙ ap (told_from (marks p) 0) (take_all (event_count p ms) es enough)

@@ -23,7 +23,7 @@ use Rattle.st_order.specs.Order.{IsOrder}
 use Rattle.st_order.specs.Turn.{in_turn, is_event_of, StampsLead}
 use Rattle.st_order.proofs.ForCallers.{all_right, drop_front, keeps_turn}
 use Rattle.st_plan.specs.Moves.{Move, clock, last, move_by, moves}
-use Rattle.st_plan.specs.Plain.{told}
+use Rattle.st_plan.specs.Plain.{event_count}
 use Rattle.st_plan.proofs.EarlierMoves.{take_more, IsThere, one_move, order_there}
 use Rattle.st_plan.proofs.OrderedMoves.{item_is}
 
@@ -169,12 +169,12 @@ own_step events p n c l j e later clocked left =
 
 -- p's counts after these moves, before the later ones
 abbrev pub After : List Event → Pid → List Move → List Move → Type 0
-After events p earlier later = IsAfter events p (told p earlier) (clock p earlier) (last p earlier) later
+After events p earlier later = IsAfter events p (event_count p earlier) (clock p earlier) (last p earlier) later
 
 step : (events : List Event) (p q : Pid) (j : ℕ) (e : Event) (earlier later : List Move)
     → After events p earlier (event_move q j e ∷ later) → After events p (event_move q j e ∷ earlier) later
 step events p q j e earlier later before =
-    let n = told p earlier in
+    let n = event_count p earlier in
     let c = clock p earlier in
     let l = last p earlier in
     let ms = filter (is_move_of p) later in

@@ -26,9 +26,9 @@ told_all marks p [] = []
 told_all marks p (m ∷ ms) = told_by marks p m ++ told_all marks p ms
 
 -- how many of these moves are events of p
-abbrev pub told : Pid → List Move → ℕ
-told p [] = 0
-told p (m ∷ earlier) = told p earlier + (elim m.item [
+abbrev pub event_count : Pid → List Move → ℕ
+event_count p [] = 0
+event_count p (m ∷ earlier) = event_count p earlier + (elim m.item [
   | item.Reported q i ↦ if pid_eq q p then 1 else 0
   | item.Hidden q i ↦ 0
 ])
@@ -36,7 +36,7 @@ told p (m ∷ earlier) = told p earlier + (elim m.item [
 -- a reported item that doesn't come right after the events of its process before it
 abbrev pub out_of_turn : List Move → Move → Bool
 out_of_turn earlier m = elim m.item [
-  | item.Reported p i ↦ not (told p earlier == i)
+  | item.Reported p i ↦ not (event_count p earlier == i)
   | item.Hidden p i ↦ false
 ]
 

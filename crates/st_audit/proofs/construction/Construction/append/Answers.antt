@@ -7,7 +7,7 @@ use Rattle.st_order.specs.declared.item.Item.{Item}
 use Rattle.st_order.specs.declared.item.Item.TheVariants as item
 use Rattle.st_order.specs.Items.{event_of}
 use Rattle.st_plan.specs.Moves.{earlier_of, move_by}
-use Rattle.st_plan.specs.Plain.{told}
+use Rattle.st_plan.specs.Plain.{event_count}
 use Rattle.st_plan.proofs.ForCallers.{order_there, IsThere}
 use Rattle.st_audit.specs.Progress.{item_turn, AreTold, IsCountedAs, Meets, SaysNothing}
 use Rattle.st_audit.proofs.ItemPlaces.{event_there}
@@ -30,13 +30,13 @@ returns-in-Reported-clause-exact g c = λ x e at there.
     let here = slice_get-get_or xs n _ c.requires.within ∙ ap (λ (x : Item). Some x) c.in-Reported.is in
     let same : item.Reported p i ≡ x = same_Some (item.Reported p i) x (sym here ∙ at) in
     let below = told_below streams p xs n in
-    let counted : IsCountedAs streams old.told.items p (told p earlier) =
+    let counted : IsCountedAs streams old.told.items p (event_count p earlier) =
     λ k found. c.requires.so_far.told k p found (omega (arith, c.ranges.number)) in
     subst (λ (y : Item). event_of streams y ≡ Some e
     → Meets {T = Unit {0}} SaysNothing (item_turn streams marks old earlier (move_by y e)) old c.report.result new) same
     (λ found. subst (λ t. Meets {T = Unit {0}} SaysNothing t old c.report.result new)
     (report_turn_is streams marks earlier old c.requires.so_far p i e)
-    (c.report.ensures.exact e (told p earlier) found c.requires.paired counted)) there
+    (c.report.ensures.exact e (event_count p earlier) found c.requires.paired counted)) there
 
 pub returns-in-Reported-clause-so_far : goal.returns-in-Reported-clause-so_far
 returns-in-Reported-clause-so_far g c =
@@ -56,11 +56,11 @@ returns-in-Reported-clause-so_far g c =
     here) in
     let e = found.0 in
     let below = told_below streams p xs n in
-    let counted : IsCountedAs streams old.told.items p (told p earlier) =
+    let counted : IsCountedAs streams old.told.items p (event_count p earlier) =
     λ k at. c.requires.so_far.told k p at (omega (arith, c.ranges.number)) in
     let met = subst (λ t. Meets {T = Unit {0}} SaysNothing t old c.report.result new)
     (report_turn_is streams marks earlier old c.requires.so_far p i e)
-    (c.report.ensures.exact e (told p earlier) found.1 c.requires.paired counted) in
+    (c.report.ensures.exact e (event_count p earlier) found.1 c.requires.paired counted) in
     next_so_far streams marks xs n old new c.requires.so_far rising c.requires.order c.requires.accepted x e here
     found.1 c.report.result met (c.report.ensures.skipped e found.1) (c.report.ensures.told ∙ c.requires.so_far.listed)
     (IfOk-weaker c.report.result _ (λ u. AreTold streams (move_by x e ∷ earlier) new.told.items)
