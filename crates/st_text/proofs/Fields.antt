@@ -1,158 +1,205 @@
--- The small values, each a word or a number between words: what each reader takes is the spelling of its value, and
--- the spelling is read again.
-use Rattle.std.proofs.Common.{◌≡◌, ℕ, ◌≤◌, Bool, true, false, List, ◌++◌, Option, Some, None, refl, ap, subst, ◌∙◌}
-use Rattle.std.proofs.Common.{append_assoc, arith}
+-- The small values, each a word or a number between words: what each reader takes is the spelling
+-- of its value, and the spelling is read again. First the steps that all readers are made of.
+use Rattle.std.proofs.Common.{◌≡◌, ℕ, ◌<◌, ◌≤◌, ◌^◌, Bool, true, false, List, [], ◌++◌}
+use Rattle.std.proofs.Common.{Option, Some, None, refl, subst, append_assoc, arith}
+use Rattle.std.proofs.lemmas.Option.{same_Some, option_and_then_some}
 use Rattle.std.specs.Prelude.{codes, decimal}
 use Rattle.st_core.specs.declared.types.Pid.{Pid}
 use Rattle.st_core.specs.declared.types.Label.{Label}
 use Rattle.st_core.specs.declared.types.Serial.{Serial}
-use Rattle.st_core.specs.Pid.{pid_on}
 use Rattle.st_text.specs.Spelling.{bool, pid, label, serial}
 use Rattle.st_text.specs.Range.{FitsPid, FitsSerial, most_pid, most_label, most_number}
-use Rattle.st_text.specs.Parsing.{◌>>=◌, on_some, begins, after, number, bool_at, pid_at, label_at, serial_at}
-use Rattle.st_text.specs.Parsing.{actor_at}
+use Rattle.st_text.specs.Parsing.{◌>>=◌, on_some, begins, after, number, bool_at, pid_at}
+use Rattle.st_text.specs.Parsing.{label_at, serial_at, actor_at}
 use Rattle.st_text.proofs.Numbers.{Stops, after_takes, number_takes, number_again}
 
--- the value of a step that did not fail, handed on, so that it stays a variable
-pub bind_some : {A B : Type 0} (P : Type 0) (o : Option A) (f : A → Option B) (y : B) → (o >>= f) ≡ Some y
-    → ((x : A) → o ≡ Some x → f x ≡ Some y → P) → P
-bind_some P (Some x) f y e then = then x refl e
-bind_some P None f y e then = absurd cc
+-- ---- A reader goes along the whole: the front is what it has read, and the rest is still to be
+-- read. Each step moves a word or the spelling of a field from the rest to the front. So at the
+-- end the front is the spelling of the value that is made, by computation alone.
 
-pub some_is : {A : Type 0} (x y : A) → ◌≡◌ {A = Option A} (Some x) (Some y) → x ≡ y
-some_is x y e = cc
+pub record Split (whole front rest : List ℕ) : Type 0 where
+  pub parts : whole ≡ front ++ rest
 
--- which way a word decided
-pub begins_cases : {A : Type 0} (P : Type 0) (word bytes : List ℕ) (f : List ℕ → Option A) (other : Option A) (y : A)
-    → begins word bytes f other ≡ Some y
-    → ((rest : List ℕ) → bytes ≡ word ++ rest → f rest ≡ Some y → P) → (other ≡ Some y → P) → P
-begins_cases P word bytes f other y e here there = by (after word bytes) refl e
-  where
-    by : (o : Option (List ℕ)) → after word bytes ≡ o → on_some o f other ≡ Some y → P
-    by (Some rest) is e = here rest (after_takes word bytes rest is) e
-    by None is e = there e
-
--- bytes are a value's spelling, and rest
-pub record Takes {A : Type 0} (spell : A → List ℕ) (Fit : A → Type 0) (bytes : List ℕ) (x : A × List ℕ) : Type 0 where
-  pub parts : bytes ≡ spell x.0 ++ x.1
+-- a reader takes the spelling of a value that fits
+pub record Takes {A : Type 0} (spell : A → List ℕ) (Fit : A → Type 0) (whole : List ℕ)
+    (x : A × List ℕ) : Type 0 where
+  pub split : Split whole (spell x.0) x.1
   pub fits : Fit x.0
 
 abbrev pub Any : {A : Type 0} → A → Type 0
 Any x = Unit {0}
 
-pub bool_takes : (bytes : List ℕ) (x : Bool × List ℕ) → bool_at bytes ≡ Some x → Takes bool Any bytes x
+pub unread : (bytes : List ℕ) → Split bytes [] bytes
+unread bytes = record { parts = refl }
+
+moved : {whole front bytes : List ℕ} (more rest : List ℕ) → Split whole front bytes
+    → bytes ≡ more ++ rest
+    → Split whole (front ++ more) rest
+moved {front} more rest s e = record { parts = rw (append_assoc front more rest, ← e) s.parts }
+
+-- the word that decides which reader goes on
+pub begins_cases : {A P : Type 0} {y : A} {f : List ℕ → Option A} {other : Option A}
+    (word bytes : List ℕ) → begins word bytes f other ≡ Some y
+    → ((rest : List ℕ) → Split bytes word rest → f rest ≡ Some y → P) → (other ≡ Some y → P) → P
+begins_cases {A} {P} {y} {f} {other} word bytes e here there = by (after word bytes) refl e
+  where
+    by : (o : Option (List ℕ)) → after word bytes ≡ o → on_some o f other ≡ Some y → P
+    by (Some rest) is e = here rest (record { parts = after_takes word bytes rest is }) e
+    by None is e = there e
+
+-- the word that has to be next
+pub word_next : {A P : Type 0} {whole front bytes : List ℕ} {y : A} {f : List ℕ → Option A}
+    (word : List ℕ) → Split whole front bytes → (after word bytes >>= f) ≡ Some y
+    → ((rest : List ℕ) → Split whole (front ++ word) rest → f rest ≡ Some y → P) → P
+word_next {bytes} {f} word s e then =
+    option_and_then_some f (after word bytes) _ e λ rest is e.
+    then rest (moved word rest s (after_takes word bytes rest is)) e
+
+-- the field that has to be next, by what its reader takes
+pub field_next : {A B P : Type 0} {spell : A → List ℕ} {Fit : A → Type 0}
+    {whole front bytes : List ℕ} {o : Option (A × List ℕ)} {y : B} {f : A × List ℕ → Option B}
+    → ((x : A × List ℕ) → o ≡ Some x → Takes spell Fit bytes x)
+    → Split whole front bytes → (o >>= f) ≡ Some y
+    → ((x : A × List ℕ) → Fit x.0 → Split whole (front ++ spell x.0) x.1 → f x ≡ Some y → P) → P
+field_next {spell} {o} {f} takes s e then =
+    option_and_then_some f o _ e λ x is e.
+    let t = takes x is in
+    then x t.fits (moved (spell x.0) x.1 s t.split.parts) e
+
+-- the value that is made at the end
+pub made : {A : Type 0} {spell : A → List ℕ} {Fit : A → Type 0} {whole rest : List ℕ} {a : A}
+    {x : A × List ℕ} → ◌≡◌ {A = Option (A × List ℕ)} (Some (a, rest)) (Some x)
+    → Split whole (spell a) rest → Fit a → Takes spell Fit whole x
+made {spell} {Fit} {whole} e s fits =
+    subst (λ y. Takes spell Fit whole y) (same_Some _ _ e) (record { split = s; fits = fits })
+
+-- no reader is left
+pub none_left : {A P : Type 0} {y : A} → ◌≡◌ {A = Option A} None (Some y) → P
+none_left e = absurd cc
+
+-- ---- the parts of a spelling one behind the other, as a reader meets them
+
+pub three_parts : (a b c rest : List ℕ) → (a ++ b ++ c) ++ rest ≡ a ++ (b ++ (c ++ rest))
+three_parts a b c rest = simp append_assoc
+
+pub four_parts : (a b c d rest : List ℕ)
+    → (a ++ b ++ c ++ d) ++ rest ≡ a ++ (b ++ (c ++ (d ++ rest)))
+four_parts a b c d rest = simp append_assoc
+
+pub five_parts : (a b c d e rest : List ℕ)
+    → (a ++ b ++ c ++ d ++ e) ++ rest ≡ a ++ (b ++ (c ++ (d ++ (e ++ rest))))
+five_parts a b c d e rest = simp append_assoc
+
+-- ---- the small values
+
+most_takes : (most : ℕ) (bytes : List ℕ) (x : ℕ × List ℕ) → number most bytes ≡ Some x
+    → Takes decimal (λ n. n ≤ most) bytes x
+most_takes most bytes x e =
+    let t = number_takes most bytes x e in
+    record { split = record { parts = t.0 }; fits = t.1 }
+
+pub value_takes : (bytes : List ℕ) (x : ℕ × List ℕ) → number most_number bytes ≡ Some x
+    → Takes decimal (λ n. n ≤ most_number) bytes x
+value_takes = most_takes most_number
+
+pub value_again : (v : ℕ) (rest : List ℕ) → v ≤ most_number → Stops rest
+    → number most_number (decimal v ++ rest) ≡ Some (v, rest)
+value_again v rest fits stops = number_again most_number v rest fits (omega arith) stops
+
+pub bool_takes : (bytes : List ℕ) (x : Bool × List ℕ) → bool_at bytes ≡ Some x
+    → Takes bool Any bytes x
 unfolding bool_at
 bool_takes bytes x e =
-    begins_cases (Takes bool Any bytes x) (codes "true") bytes (λ rest. Some (true, rest))
-    (begins (codes "false") bytes (λ rest. Some (false, rest)) None) x e
-    (λ rest parts is. subst (λ (y : Bool × List ℕ). Takes bool Any bytes y) (some_is (true, rest) x is)
-    (record { parts = parts; fits = tt }))
-    (λ e2. begins_cases (Takes bool Any bytes x) (codes "false") bytes (λ rest. Some (false, rest)) None x e2
-    (λ rest parts is. subst (λ (y : Bool × List ℕ). Takes bool Any bytes y) (some_is (false, rest) x is)
-    (record { parts = parts; fits = tt }))
-    (λ e3. absurd cc))
+    begins_cases (codes "true") bytes e (λ rest s e. made e s tt) λ e.
+    begins_cases (codes "false") bytes e (λ rest s e. made e s tt) none_left
 
 pub bool_again : (b : Bool) (rest : List ℕ) → bool_at (bool b ++ rest) ≡ Some (b, rest)
 unfolding bool_at
 bool_again true rest = refl
 bool_again false rest = refl
 
-pub pid_parts : (p : Pid) (rest : List ℕ)
-    → pid p ++ rest ≡ codes "<" ++ (decimal p.node ++ (codes "." ++ (decimal p.number ++ (codes ".0>" ++ rest))))
-pid_parts p rest = simp append_assoc
-
-pub pid_takes : (bytes : List ℕ) (x : Pid × List ℕ) → pid_at bytes ≡ Some x → Takes pid FitsPid bytes x
+pub pid_takes : (bytes : List ℕ) (x : Pid × List ℕ) → pid_at bytes ≡ Some x
+    → Takes pid FitsPid bytes x
 unfolding pid_at
 pid_takes bytes x e =
-    bind_some (Takes pid FitsPid bytes x) (after (codes "<") bytes) _ x e λ a ea e. bind_some
-    (Takes pid FitsPid bytes x) (number most_pid a) _ x e λ node en e.
-    bind_some (Takes pid FitsPid bytes x) (after (codes ".") node.1) _ x e λ b eb e. bind_some
-    (Takes pid FitsPid bytes x) (number most_pid b) _ x e λ num em e.
-    bind_some (Takes pid FitsPid bytes x) (after (codes ".0>") num.1) _ x e λ c ec e.
-    let p1 = after_takes (codes "<") bytes a ea in
-    let p2 = number_takes most_pid a node en in
-    let p3 = after_takes (codes ".") node.1 b eb in
-    let p4 = number_takes most_pid b num em in
-    let p5 = after_takes (codes ".0>") num.1 c ec in
-    let made : Pid × List ℕ = (pid_on node.0 num.0, c) in
-    subst (λ (y : Pid × List ℕ). Takes pid FitsPid bytes y) (some_is made x e)
-    (record { parts = cc (pid_parts made.0 c); fits = record { node = p2.1; number = p4.1 } })
+    word_next (codes "<") (unread bytes) e λ a s e.
+    field_next (most_takes most_pid a) s e λ node node_fits s e.
+    word_next (codes ".") s e λ b s e.
+    field_next (most_takes most_pid b) s e λ num num_fits s e.
+    word_next (codes ".0>") s e λ c s e.
+    made e s (record { node = node_fits; number = num_fits })
 
 pub pid_again : (p : Pid) (rest : List ℕ) → FitsPid p → pid_at (pid p ++ rest) ≡ Some (p, rest)
 unfolding pid_at
 pid_again p rest fits =
-    ap pid_at (pid_parts p rest)
-    ∙ rw (
-      number_again most_pid p.node (codes "." ++ (decimal p.number ++ (codes ".0>" ++ rest))) fits.node
-          (omega arith) refl,
-      number_again most_pid p.number (codes ".0>" ++ rest) fits.number (omega arith) refl,
-    ) refl
+    let small : most_pid < 2 ^ 64 = omega arith in
+    rw (
+      four_parts (decimal p.node) (codes ".") (decimal p.number) (codes ".0>"),
+      number_again most_pid p.node _ fits.node small refl,
+      number_again most_pid p.number _ fits.number small refl,
+    )
 
 abbrev pub FitsLabel : Label → Type 0
 FitsLabel l = l.0 ≤ most_label
 
-pub label_takes : (bytes : List ℕ) (x : Label × List ℕ) → label_at bytes ≡ Some x → Takes label FitsLabel bytes x
+pub label_takes : (bytes : List ℕ) (x : Label × List ℕ) → label_at bytes ≡ Some x
+    → Takes label FitsLabel bytes x
 unfolding label_at
 label_takes bytes x e =
-    bind_some (Takes label FitsLabel bytes x) (number most_label bytes) _ x e λ n en e.
-    let p1 = number_takes most_label bytes n en in
-    let made : Label × List ℕ = (record { 0 = n.0 }, n.1) in
-    subst (λ (y : Label × List ℕ). Takes label FitsLabel bytes y) (some_is made x e)
-    (record { parts = p1.0; fits = p1.1 })
+    field_next (most_takes most_label bytes) (unread bytes) e λ n fits s e. made e s fits
 
 pub label_again : (l : Label) (rest : List ℕ) → l.0 ≤ most_label → Stops rest
     → label_at (label l ++ rest) ≡ Some (l, rest)
 unfolding label_at
-label_again l rest fits stops = rw (number_again most_label l.0 rest fits (omega arith) stops) refl
+label_again l rest fits stops = rw (number_again most_label l.0 rest fits (omega arith) stops)
 
-pub serial_parts : (s : Serial) (rest : List ℕ)
-    → serial s ++ rest ≡ codes "{" ++ (decimal s.prev ++ (codes "," ++ (decimal s.this ++ (codes "}" ++ rest))))
-serial_parts s rest = simp append_assoc
-
-pub serial_takes : (bytes : List ℕ) (x : Serial × List ℕ) → serial_at bytes ≡ Some x → Takes serial FitsSerial bytes x
+pub serial_takes : (bytes : List ℕ) (x : Serial × List ℕ) → serial_at bytes ≡ Some x
+    → Takes serial FitsSerial bytes x
 unfolding serial_at
 serial_takes bytes x e =
-    bind_some (Takes serial FitsSerial bytes x) (after (codes "{") bytes) _ x e λ a ea e. bind_some
-    (Takes serial FitsSerial bytes x) (number most_number a) _ x e λ prev en e.
-    bind_some (Takes serial FitsSerial bytes x) (after (codes ",") prev.1) _ x e λ b eb e. bind_some
-    (Takes serial FitsSerial bytes x) (number most_number b) _ x e λ this em e.
-    bind_some (Takes serial FitsSerial bytes x) (after (codes "}") this.1) _ x e λ c ec e.
-    let p1 = after_takes (codes "{") bytes a ea in
-    let p2 = number_takes most_number a prev en in
-    let p3 = after_takes (codes ",") prev.1 b eb in
-    let p4 = number_takes most_number b this em in
-    let p5 = after_takes (codes "}") this.1 c ec in
-    let made : Serial × List ℕ = (record { prev = prev.0; this = this.0 }, c) in
-    subst (λ (y : Serial × List ℕ). Takes serial FitsSerial bytes y) (some_is made x e)
-    (record { parts = cc (serial_parts made.0 c); fits = record { prev = p2.1; this = p4.1 } })
+    word_next (codes "{") (unread bytes) e λ a s e.
+    field_next (value_takes a) s e λ prev prev_fits s e.
+    word_next (codes ",") s e λ b s e.
+    field_next (value_takes b) s e λ this this_fits s e.
+    word_next (codes "}") s e λ c s e.
+    made e s (record { prev = prev_fits; this = this_fits })
 
-pub serial_again : (s : Serial) (rest : List ℕ) → FitsSerial s → serial_at (serial s ++ rest) ≡ Some (s, rest)
+pub serial_again : (s : Serial) (rest : List ℕ) → FitsSerial s
+    → serial_at (serial s ++ rest) ≡ Some (s, rest)
 unfolding serial_at
 serial_again s rest fits =
-    ap serial_at (serial_parts s rest)
-    ∙ rw (
-      number_again most_number s.prev (codes "," ++ (decimal s.this ++ (codes "}" ++ rest))) fits.prev
-          (omega arith) refl,
-      number_again most_number s.this (codes "}" ++ rest) fits.this (omega arith) refl,
-    ) refl
+    rw (
+      four_parts (decimal s.prev) (codes ",") (decimal s.this) (codes "}"),
+      value_again s.prev _ fits.prev refl,
+      value_again s.this _ fits.this refl,
+    )
 
 -- a pid and a space
 abbrev pub spaced : Pid → List ℕ
 spaced p = pid p ++ codes " "
 
-pub spaced_then : (p : Pid) (rest : List ℕ) → spaced p ++ rest ≡ pid p ++ (codes " " ++ rest)
-spaced_then p rest = append_assoc (pid p) (codes " ") rest
-
-pub actor_takes : (bytes : List ℕ) (x : Pid × List ℕ) → actor_at bytes ≡ Some x → Takes spaced FitsPid bytes x
+pub actor_takes : (bytes : List ℕ) (x : Pid × List ℕ) → actor_at bytes ≡ Some x
+    → Takes spaced FitsPid bytes x
 unfolding actor_at
 actor_takes bytes x e =
-    bind_some (Takes spaced FitsPid bytes x) (pid_at bytes) _ x e λ p ep e. bind_some (Takes spaced FitsPid bytes x)
-    (after (codes " ") p.1) _ x e λ a ea e.
-    let p1 = pid_takes bytes p ep in
-    let p2 = after_takes (codes " ") p.1 a ea in
-    subst (λ (y : Pid × List ℕ). Takes spaced FitsPid bytes y) (some_is (p.0, a) x e)
-    (record { parts = cc (spaced_then p.0 a); fits = p1.fits })
+    field_next (pid_takes bytes) (unread bytes) e λ p fits s e.
+    word_next (codes " ") s e λ a s e.
+    made e s fits
 
-pub actor_again : (p : Pid) (rest : List ℕ) → FitsPid p → actor_at (pid p ++ (codes " " ++ rest)) ≡ Some (p, rest)
+-- a pid and a space that have to be next
+pub actor_next : {A P : Type 0} {whole front bytes : List ℕ} {y : A} {f : Pid × List ℕ → Option A}
+    → Split whole front bytes → (actor_at bytes >>= f) ≡ Some y
+    → ((p : Pid × List ℕ) → FitsPid p.0 → Split whole (front ++ pid p.0 ++ codes " ") p.1
+    → f p ≡ Some y → P) → P
+actor_next {front} {bytes} s e then =
+    field_next (actor_takes bytes) s e λ p fits s e.
+    then p fits (record { parts = rw (append_assoc front (pid p.0) (codes " ")) s.parts }) e
+
+pub actor_again : (p : Pid) (rest : List ℕ) → FitsPid p
+    → actor_at (pid p ++ (codes " " ++ rest)) ≡ Some (p, rest)
 unfolding actor_at
-actor_again p rest fits = rw (pid_again p (codes " " ++ rest) fits) refl
+actor_again p rest fits = rw (pid_again p (codes " " ++ rest) fits)
+
+pub actor_then : (p : Pid) (xs rest : List ℕ) → FitsPid p
+    → actor_at ((pid p ++ codes " " ++ xs) ++ rest) ≡ Some (p, xs ++ rest)
+actor_then p xs rest fits = rw (three_parts (pid p) (codes " ") xs, actor_again p _ fits)

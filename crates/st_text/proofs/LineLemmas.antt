@@ -1,19 +1,21 @@
--- Lines: what is read is spelled so, and what is spelled so is read.
-use Rattle.std.proofs.Common.{◌≡◌, ℕ, true, false, eqb, List, [], ◌++◌, length, Option, Some, None, refl, sym, ap}
-use Rattle.std.proofs.Common.{subst, ◌∙◌, append_assoc}
+-- Lines: what is read is spelled so, by the steps of `Fields`, and what is spelled so is read.
+use Rattle.std.proofs.Common.{◌≡◌, ℕ, true, false, eqb, List, [], ◌++◌, length, Option, Some, None}
+use Rattle.std.proofs.Common.{refl, sym, ap, subst, ◌∙◌}
 use Rattle.std.specs.Prelude.{codes}
 use Rattle.std.proofs.lemmas.Bool.{eqb-true}
 use Rattle.std.proofs.lemmas.List.{append-nil, nil_from_length}
+use Rattle.std.proofs.lemmas.Option.{same_Some, option_and_then_some}
 use Rattle.st_core.specs.declared.types.Act.{Act}
 use Rattle.st_core.specs.declared.types.Act.TheVariants as acts
 use Rattle.st_text.specs.declared.line.Line.{Line}
 use Rattle.st_text.specs.declared.line.Line.TheVariants as lines
-use Rattle.st_text.specs.Spelling.{event, act, line}
+use Rattle.st_text.specs.Spelling.{act, line}
 use Rattle.st_text.specs.Range.{Fits}
-use Rattle.st_text.specs.Parsing.{on_some, pid_at, event_at, alone_at, act_at, rare_at, line_at, line_of}
+use Rattle.st_text.specs.Parsing.{on_some, alone_at, act_at, rare_at, line_at, line_of}
 use Rattle.st_text.proofs.Numbers.{Stops, chosen}
-use Rattle.st_text.proofs.Fields.{bind_some, some_is, begins_cases, Takes, pid_takes, pid_again}
-use Rattle.st_text.proofs.EventLemmas.{event_rest, event_is, event_takes, event_again}
+use Rattle.st_text.proofs.Fields.{Takes, begins_cases, field_next, made, none_left, pid_takes}
+use Rattle.st_text.proofs.Fields.{pid_again}
+use Rattle.st_text.proofs.EventLemmas.{event_takes, event_again}
 use Rattle.st_text.proofs.ActLemmas.{act_takes, act_again}
 
 -- neither an event nor an act
@@ -27,42 +29,24 @@ IsRare (lines.Act a) = ⊥
 rare_takes : (bytes : List ℕ) (x : Line × List ℕ) → rare_at bytes ≡ Some x → Takes line Fits bytes x
 unfolding rare_at
 rare_takes bytes x e =
-    begins_cases (Takes line Fits bytes x) (codes "process ") bytes _ _ x e
-    (λ rest parts e. bind_some (Takes line Fits bytes x) (pid_at rest) _ x e λ p ep e.
-    let p1 = pid_takes rest p ep in
-    subst (λ (y : Line × List ℕ). Takes line Fits bytes y) (some_is (lines.Process p.0, p.1) x e)
-    (record { parts = cc; fits = p1.fits }))
-    (λ e. begins_cases (Takes line Fits bytes x) (codes "acts") bytes _ _ x e
-    (λ rest parts e. subst (λ (y : Line × List ℕ). Takes line Fits bytes y) (some_is (lines.Acts, rest) x e)
-    (record { parts = parts; fits = tt }))
-    (λ e. begins_cases (Takes line Fits bytes x) (codes "seqtrace 1") bytes _ _ x e
-    (λ rest parts e. subst (λ (y : Line × List ℕ). Takes line Fits bytes y) (some_is (lines.Header false, rest) x e)
-    (record { parts = parts; fits = tt }))
-    (λ e. begins_cases (Takes line Fits bytes x) (codes "seqtrace 2") bytes _ _ x e
-    (λ rest parts e. subst (λ (y : Line × List ℕ). Takes line Fits bytes y) (some_is (lines.Header true, rest) x e)
-    (record { parts = parts; fits = tt }))
-    (λ e. absurd cc))))
+    begins_cases (codes "process ") bytes e
+    (λ rest s e. field_next (pid_takes rest) s e λ p fits s e. made e s fits) λ e.
+    begins_cases (codes "acts") bytes e (λ rest s e. made e s tt) λ e.
+    begins_cases (codes "seqtrace 1") bytes e (λ rest s e. made e s tt) λ e.
+    begins_cases (codes "seqtrace 2") bytes e (λ rest s e. made e s tt) none_left
 
 line_at_takes : (bytes : List ℕ) (x : Line × List ℕ) → line_at bytes ≡ Some x → Takes line Fits bytes x
 unfolding line_at
 line_at_takes bytes x e =
-    begins_cases (Takes line Fits bytes x) (codes "{seq_trace,") bytes _ _ x e
-    (λ rest parts e. bind_some (Takes line Fits bytes x) (event_at rest) _ x e λ v ev e.
-    let p1 = event_takes rest v ev in
-    let whole : bytes ≡ event v.0 ++ v.1 =
-    parts ∙ ap (λ (b : List ℕ). codes "{seq_trace," ++ b) p1.parts
-    ∙ sym (append_assoc (codes "{seq_trace,") (event_rest v.0) v.1)
-    ∙ ap (λ (b : List ℕ). b ++ v.1) (sym (event_is v.0)) in
-    subst (λ (y : Line × List ℕ). Takes line Fits bytes y) (some_is (lines.Event v.0, v.1) x e)
-    (record { parts = whole; fits = p1.fits }))
-    (λ e. either (act_at bytes) refl e)
+    begins_cases (codes "{seq_trace,") bytes e
+    (λ rest s e. field_next (event_takes rest) s e λ v fits s e. made e s fits) λ e.
+    either (act_at bytes) refl e
   where
     either : (o : Option (Act × List ℕ)) → act_at bytes ≡ o
         → on_some o (λ a. Some (lines.Act a.0, a.1)) (rare_at bytes) ≡ Some x → Takes line Fits bytes x
     either (Some a) ea e =
-        let p1 = act_takes bytes a ea in
-        subst (λ (y : Line × List ℕ). Takes line Fits bytes y) (some_is (lines.Act a.0, a.1) x e)
-        (record { parts = p1.parts; fits = p1.fits })
+        let t = act_takes bytes a ea in
+        made e t.split t.fits
     either None ea e = rare_takes bytes x e
 
 -- a rare line begins as no event and no act does
@@ -79,7 +63,7 @@ rare_again : (l : Line) (rest : List ℕ) → Fits l → IsRare l → rare_at (l
 unfolding rare_at
 rare_again (lines.Header false) rest fits rare = refl
 rare_again (lines.Header true) rest fits rare = refl
-rare_again (lines.Process p) rest fits rare = rw (pid_again p rest fits) refl
+rare_again (lines.Process p) rest fits rare = rw (pid_again p rest fits)
 rare_again lines.Acts rest fits rare = refl
 rare_again (lines.Event v) rest fits rare = absurd rare
 rare_again (lines.Act a) rest fits rare = absurd rare
@@ -91,7 +75,7 @@ line_again (lines.Header wide) rest fits stops =
 line_again (lines.Process p) rest fits stops =
     no_other (lines.Process p) rest tt ∙ rare_again (lines.Process p) rest fits tt
 line_again (lines.Event v) rest fits stops =
-    ap (λ (b : List ℕ). line_at (b ++ rest)) (event_is v) ∙ rw (event_again v rest fits) refl
+    rw (event_again v rest fits)
 line_again lines.Acts rest fits stops = no_other lines.Acts rest tt ∙ rare_again lines.Acts rest fits tt
 line_again (lines.Act a) rest fits stops = rw (no_word a rest) (rw (act_again a rest fits stops) refl)
   where
@@ -113,12 +97,12 @@ line_again (lines.Act a) rest fits stops = rw (no_word a rest) (rw (act_again a 
 pub line_takes : (bytes : List ℕ) (l : Line) → line_of bytes ≡ Some l → (bytes ≡ line l) × Fits l
 unfolding line_of
 line_takes bytes l e =
-    bind_some ((bytes ≡ line l) × Fits l) (line_at bytes) _ l e λ x ex e.
+    option_and_then_some _ (line_at bytes) l e λ x ex e.
     let t = line_at_takes bytes x ex in
     let g = chosen (eqb (length x.1) 0) (Some x.0) l e in
     let none : x.1 ≡ [] = nil_from_length x.1 (eqb-true _ _ g.0) in
-    let whole : bytes ≡ line x.0 = t.parts ∙ ap (λ (r : List ℕ). line x.0 ++ r) none ∙ append-nil (line x.0) in
-    subst (λ (k : Line). (bytes ≡ line k) × Fits k) (some_is x.0 l g.1) (whole, t.fits)
+    let whole : bytes ≡ line x.0 = t.split.parts ∙ ap (λ (r : List ℕ). line x.0 ++ r) none ∙ append-nil (line x.0) in
+    subst (λ (k : Line). (bytes ≡ line k) × Fits k) (same_Some x.0 l g.1) (whole, t.fits)
 
 -- What is spelled so is what the line says.
 pub line_is : (l : Line) → Fits l → line_of (line l) ≡ Some l

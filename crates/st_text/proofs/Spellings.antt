@@ -1,8 +1,7 @@
 -- No spelling is empty, for each begins with a word, a digit or a bracket.
-use Rattle.std.proofs.Common.{ℕ, ◌<◌, Bool, true, false, List, ◌++◌, length, ap, lit<, arith}
+use Rattle.std.proofs.Common.{ℕ, ◌<◌, Bool, true, false, List, ◌++◌, length, lit<, arith}
 use Rattle.std.specs.Prelude.{codes}
 use Rattle.std.proofs.lemmas.List.{length-append}
-use Rattle.st_text.proofs.EventLemmas.{event_rest, event_is}
 use Rattle.std.specs.List.{flat_map, list_any}
 use Rattle.st_core.specs.declared.types.Event.{Event}
 use Rattle.st_text.specs.Spelling.{event}
@@ -22,7 +21,4 @@ text_some c =
     (header_some (list_any is_remote (body c)))
 
 pub event_some : (e : Event) → 0 < length (event e)
-event_some e =
-    let some : 0 < length (codes "{seq_trace," ++ event_rest e) =
-    front_some (codes "{seq_trace,") (event_rest e) (lit< tt) in
-    omega (arith, ap length (event_is e))
+event_some e = front_some (codes "{seq_trace,") _ (lit< tt)
