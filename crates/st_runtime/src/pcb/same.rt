@@ -1,4 +1,5 @@
-//! Whether two entries are one.
+//! Whether two entries are one. The functions over a single `==` are there for the proofs, which
+//! then have what each comparison says without the others.
 
 ghost use Rattle.std.specs.Prelude.{◌≡◌, ◌↔◌, IsTrue};
 
