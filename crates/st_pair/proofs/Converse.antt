@@ -22,7 +22,7 @@ use Rattle.st_pair.specs.Pairing.{source_of, source_at, receiver_at}
 use Rattle.st_pair.proofs.AcceptedEvents.{Rule, IsPaired, event_none, from_none, got_rule, once_place, cond_none}
 use Rattle.st_pair.proofs.Firsts.{is_at, events_in}
 use Rattle.st_pair.proofs.OwnStamps.{own_rule}
-use Rattle.st_pair.proofs.RulesAtEvents.{stamp_at, before_more}
+use Rattle.st_pair.proofs.Stamps.{stamp_at, before_more}
 
 -- WHERE A RULE GAVE SOMETHING
 
@@ -184,17 +184,17 @@ module _ (streams : List Stream) (ok : IsPaired streams) (p : Pid) where
                     let more = rises_at i x before.stamp there stamps before.is in
                     record {
                       stamp = (i, x);
-                      is = before_more (events_of streams p) p i x there true stamps;
+                      is = before_more (events_of streams p) i x there true stamps;
                       above = omega arith;
                     }
                 | false ↦ λ receives. high_kept (events_of streams p) i d.serial.this
-                    (before_more (events_of streams p) p i x there false receives) before
+                    (before_more (events_of streams p) i x there false receives) before
               ] refl
         ] refl
     | inr above ↦
         let same : j ≡ i = omega arith in
         let there : event_at streams p i ≡ Some d = subst (λ n. event_at streams p n ≡ Some d) same at in
-        record { stamp = (i, d); is = before_more (events_of streams p) p i d there true stamp; above = omega arith }
+        record { stamp = (i, d); is = before_more (events_of streams p) i d there true stamp; above = omega arith }
   ]
 
   -- an earlier send or print counts less

@@ -32,7 +32,7 @@ use Rattle.st_pair.proofs.AcceptedEvents.{Rule, got_rule}
 use Rattle.st_pair.proofs.Converse.{first_in, given_from, own_says, got_says}
 use Rattle.st_pair.proofs.Firsts.{events_in}
 use Rattle.st_pair.proofs.OwnStamps.{own_rule}
-use Rattle.st_pair.proofs.RulesAtEvents.{receive_unstamped, stamp_at}
+use Rattle.st_pair.proofs.Stamps.{receive_unstamped, stamp_at}
 use Rattle.st_pair.proofs.Reasons as reasons
 
 -- KINDS

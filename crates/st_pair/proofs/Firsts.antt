@@ -94,23 +94,18 @@ module _ {X : Type 0} (rule : Pid → ℕ → Event
       (subst (λ (ps : List Pid). slice_get ps k ≡ Some (get_or pids k d)) are at))
 
   -- a process that gives something
-  pub first-given : (pids : List Pid) (k : ℕ) (d : Pid) (es : List Event) (x : X) → pids ≡ pids_of streams
-      → k < length pids → es ≡ events_of streams (get_or pids k d) → Some x ≡ first_from rule (get_or pids k d) 0 es
+  pub first-given : (pids : List Pid) (k : ℕ) (d : Pid) (x : X) → pids ≡ pids_of streams → k < length pids
+      → Some x ≡ first_from rule (get_or pids k d) 0 (events_of streams (get_or pids k d))
       → first rule streams ≡ first rule (drop k streams) → Some x ≡ first rule streams
-  first-given pids k d es x are within events given far =
-      let here : first_from rule (get_or pids k d) 0 (events_of streams (get_or pids k d)) ≡ Some x =
-      subst (λ (l : List Event). first_from rule (get_or pids k d) 0 l ≡ Some x) events (sym given) in
-      sym (far ∙ first-loop pids k d are within
-      ∙ ap (λ (o : Option X). or_else o (first rule (drop (k + 1) streams))) here)
+  first-given pids k d x are within given far = sym (far ∙ first-loop pids k d are within
+      ∙ ap (λ (o : Option X). or_else o (first rule (drop (k + 1) streams))) (sym given))
 
   -- a process that gives nothing
-  pub first-passed : (pids : List Pid) (k : ℕ) (d : Pid) (es : List Event) → pids ≡ pids_of streams → k < length pids
-      → es ≡ events_of streams (get_or pids k d) → None ≡ first_from rule (get_or pids k d) 0 es
+  pub first-passed : (pids : List Pid) (k : ℕ) (d : Pid) → pids ≡ pids_of streams → k < length pids
+      → None ≡ first_from rule (get_or pids k d) 0 (events_of streams (get_or pids k d))
       → first rule streams ≡ first rule (drop k streams) → first rule streams ≡ first rule (drop (k + 1) streams)
-  first-passed pids k d es are within events given far =
-      let here : first_from rule (get_or pids k d) 0 (events_of streams (get_or pids k d)) ≡ None =
-      subst (λ (l : List Event). first_from rule (get_or pids k d) 0 l ≡ None) events (sym given) in
-      far ∙ first-loop pids k d are within ∙ ap (λ (o : Option X). or_else o (first rule (drop (k + 1) streams))) here
+  first-passed pids k d are within given far = far ∙ first-loop pids k d are within
+      ∙ ap (λ (o : Option X). or_else o (first rule (drop (k + 1) streams))) (sym given)
 
   -- a table that takes up what a process gives
   pub table-passed : (before after : Option X) (pids : List Pid) (k : ℕ) (d : Pid) (es : List Event)

@@ -6,8 +6,8 @@
 pub use Rattle.st_pair.proofs.AcceptedEvents.{Rule, IsPaired, paired, event_none, serial_rises, once_place}
 pub use Rattle.st_pair.proofs.AcceptedEvents.{from_none, got_rule, cond_none}
 pub use Rattle.st_pair.proofs.Converse.{stamp_counts_rise, stamp_once, source_from_receiver, receiver_from_source}
-pub use Rattle.st_pair.proofs.RulesAtEvents.{stamp_at}
-pub use Rattle.st_pair.proofs.RulesAtEvents.{receive_unstamped}
+pub use Rattle.st_pair.proofs.Stamps.{stamp_at}
+pub use Rattle.st_pair.proofs.Stamps.{receive_unstamped}
 pub use Rattle.st_pair.proofs.FinalReasons.{stamp_not_received}
 pub use Rattle.st_pair.proofs.OwnStamps.{own_rule}
 -- ---- what `refusal streams ≡ Some f` says of all acts, and acts that show streams of pairing
@@ -19,7 +19,7 @@ pub use Rattle.st_pair.proofs.Firsts.{first_from-at, first_from-end, first-at, f
 pub use Rattle.st_pair.proofs.Converse.{IsGiven, given_from, given_at}
 -- ---- streams and their pids
 pub use Rattle.st_pair.proofs.Firsts.{IsAt, is_at, at_get_or, events_in}
-pub use Rattle.st_pair.proofs.RulesAtEvents.{blank}
+pub use Rattle.st_pair.proofs.Stamps.{blank}
 pub use Rattle.st_pair.proofs.Linkage.{take_map}
 -- ---- the order of pids
 pub use Rattle.st_pair.proofs.SortedRows.{pid_total}

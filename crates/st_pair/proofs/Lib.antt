@@ -3,7 +3,7 @@ pub mod NotedRows
 pub mod SortedRows
 pub mod Firsts
 pub mod OwnStamps
-pub mod RulesAtEvents
+pub mod Stamps
 pub mod Linkage
 pub mod AcceptedEvents
 pub mod Converse

@@ -5,5 +5,6 @@ pub mod Pairing
 pub mod Final
 pub mod Links
 pub mod Laws
--- For the parts alone: of `src/tables.rt`.
+-- For the parts alone: of `src/tables.rt` and `src/rules.rt`.
 pub mod Tables
+pub mod Rules

@@ -1,6 +1,6 @@
 -- Tables from a sender and a count to the first event that has them.
-use Rattle.std.specs.Prelude.{◌≡◌, ℕ, ◌==◌, ◌&&◌, ◌||◌, not, nat_lt, Bool, List, Option, Some, None}
-use Rattle.std.specs.Prelude.{if◌then◌else◌, true, false, length, option_map, find, option_and_then}
+use Rattle.std.specs.Prelude.{◌≡◌, ℕ, ◌==◌, ◌&&◌, Bool, List, Option, Some, None}
+use Rattle.std.specs.Prelude.{if◌then◌else◌, true, false, length, option_map, find}
 use Rattle.std.specs.List.{AllWithin}
 use Rattle.st_core.specs.declared.types.Pid.{Pid}
 use Rattle.st_core.specs.declared.types.Event.{Event}
@@ -10,10 +10,8 @@ use Rattle.st_core.specs.Pid.{pid_eq, pid_cmp}
 use Rattle.st_pair.specs.declared.tables.Key.{Key}
 use Rattle.st_pair.specs.declared.tables.Row.{Row}
 use Rattle.st_core.specs.Run.{Stream}
-use Rattle.st_pair.specs.declared.answer.PairFault.{PairFault}
-use Rattle.st_pair.specs.declared.answer.PairFault.TheVariants as fault
 use Rattle.st_pair.specs.Places.{is_stamp}
-use Rattle.st_pair.specs.Pairing.{stamp_before, receive_of, stamp_of}
+use Rattle.st_pair.specs.Pairing.{receive_of, stamp_of}
 
 -- k and l are one sender and one count
 abbrev pub key_eq : Key → Key → Bool
@@ -70,10 +68,3 @@ HasReceives streams table = (k : Key) → table k ≡ receive_of streams k.from 
 abbrev pub HasStamps : List Stream → (Key → Option (Pid × ℕ)) → Type 0
 HasStamps streams table =
     (k : Key) → table k ≡ option_map (λ f. (k.from, f.0)) (stamp_of streams k.from k.this)
-
--- the rule `not_rising` in a stream of these events
-abbrev pub not_rising_in : List Event → Pid → ℕ → Event → Option PairFault
-not_rising_in es p i e = option_and_then
-    (λ f. if not (is_stamp e)
-    || nat_lt f.1.serial.this e.serial.this then None else Some (fault.NotRising p i f.0))
-    (stamp_before es i)

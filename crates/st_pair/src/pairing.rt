@@ -12,7 +12,7 @@ ghost use Rattle.st_pair.specs.Links.{receiver_in, source_in};
 ghost use Rattle.st_pair.specs.Tables.{place_at_key, HasReceives, HasStamps};
 
 use crate::answer::{PairFault, Source};
-use crate::rules::{mismatch, not_rising, prev_not_before, repetition};
+use crate::rules::Rule;
 use crate::tables::{Table, receive_count, receives, stamps};
 use st_core::{Event, Kind, Pid, Sequence, Streams};
 use std::alloc::{AllocError, Global};
@@ -216,24 +216,24 @@ fn tables_of(alloc: Global, streams: &Streams) -> Result<Tables, PairFault>
     ensures sent { IfOk result (λ tables. HasStamps streams.now (place_at_key tables.sent)) }
     ensures err { IfErr result (IsPairFault streams.now) }
 {
-    if let Some(fault) = prev_not_before(streams) {
+    if let Some(fault) = Rule::PrevNotBefore.first_fault(streams) {
         return Err(fault);
     }
-    if let Some(fault) = not_rising(streams) {
+    if let Some(fault) = Rule::NotRising.first_fault(streams) {
         return Err(fault);
     }
     let count = receive_count(streams);
     let Ok(got) = receives(alloc, streams, count) else {
         return Err(PairFault::Memory);
     };
-    if let Some(fault) = repetition(streams, &got) {
+    if let Some(fault) = Rule::Repeated(&got).first_fault(streams) {
         return Err(fault);
     }
     let stamp_count = (streams.total() as usize).saturating_sub(count);
     let Ok(sent) = stamps(alloc, streams, stamp_count) else {
         return Err(PairFault::Memory);
     };
-    if let Some(fault) = mismatch(streams, &sent) {
+    if let Some(fault) = Rule::Mismatch(&sent).first_fault(streams) {
         return Err(fault);
     }
     Ok(Tables { got, sent })

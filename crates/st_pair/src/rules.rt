@@ -1,74 +1,122 @@
-//! The four rules, each at one event, then in one stream, then in all.
+//! The four rules, each at one event, and what any of them gives first.
 
-ghost use Rattle.std.specs.Prelude.{◌≡◌, ◌==◌, ◌&&◌, ℕ, Some, option_map, slice_get};
+ghost use Rattle.std.specs.Prelude.{◌≡◌, ◌==◌, ◌&&◌};
 ghost use Rattle.st_core.specs.Pid.{pid_eq};
 ghost use Rattle.st_core.specs.Streams.{events_of};
-ghost use Rattle.st_pair.specs.declared.tables.Key.{Key as KeyValue};
 ghost use Rattle.st_pair.specs.Pairing.{agrees, mismatch, not_rising, prev_not_before, repeated};
 ghost use Rattle.st_pair.specs.Pairing.{to_eq};
 ghost use Rattle.st_pair.specs.Places.{first, first_from};
-ghost use Rattle.st_pair.specs.Tables.{place_at_key, HasReceives, HasStamps, not_rising_in};
+ghost use Rattle.st_pair.specs.Rules.{count_before, fault_at, HasTable};
+ghost use Rattle.st_pair.specs.Tables.{place_at_key, HasReceives, HasStamps};
 
 use crate::answer::PairFault;
 use crate::tables::Table;
 use st_core::{Event, Kind, Pid, Streams};
 
-/// The first event of one stream whose prev isn't less than its this.
-fn prev_not_before_in(pid: Pid, events: &[Event]) -> Option<PairFault>
-    ensures { result ≡ first_from prev_not_before pid 0 events.now }
-{
-    for (i, event) in events.iter().enumerate() {
-        if event.serial.this <= event.serial.prev {
-            return Some(PairFault::PrevNotBefore(pid, i as u64));
-        }
-    }
-    None
+/// A rule that may refuse streams, with the table that it looks into.
+#[derive(Clone, Copy)]
+pub enum Rule<'a> {
+    /// Each event's prev is less than its this.
+    PrevNotBefore,
+    /// The counts of each process's sends and prints rise.
+    NotRising,
+    /// Each receive is the first from its sender with its count. The table is that of receives.
+    Repeated(&'a Table),
+    /// No receive has its sender's count of an event that isn't its send. The table is that of
+    /// sends and prints.
+    Mismatch(&'a Table),
 }
 
-/// The least place of an event whose prev isn't less than its this.
-pub fn prev_not_before(streams: &Streams) -> Option<PairFault>
-    ensures { result ≡ first prev_not_before streams.now }
-{
-    for &pid in streams.pids() {
-        if let Some(fault) = prev_not_before_in(pid, streams.events(pid)) {
-            return Some(fault);
+impl Rule<'_> {
+    /// What the rule gives at one event, if this is the last send or print before it and its count.
+    fn fault_at(
+        &self,
+        streams: &Streams,
+        pid: Pid,
+        index: u64,
+        last: Option<(u64, u64)>,
+        event: &Event,
+    ) -> Option<PairFault>
+        requires table { HasTable self.now streams.now }
+        requires last { last ≡ count_before (events_of streams.now pid) index }
+        ensures { result ≡ fault_at self.now streams.now pid index event.now }
+    {
+        match self {
+            Rule::PrevNotBefore => prev_not_before_at(pid, index, event),
+            Rule::NotRising => not_rising_at(streams, pid, index, last, event),
+            Rule::Repeated(table) => repetition_at(streams, table, pid, index, event),
+            Rule::Mismatch(table) => mismatch_at(streams, table, pid, index, event),
         }
     }
-    None
-}
 
-/// The first send or print of one stream that has no greater count than the one before it.
-fn not_rising_in(pid: Pid, events: &[Event]) -> Option<PairFault>
-    ensures { result ≡ first_from (not_rising_in events.now) pid 0 events.now }
-{
-    let mut last: Option<(u64, u64)> = None;
-    for (i, event) in events.iter().enumerate() {
-        match event.kind {
-            Kind::Receive => {}
-            Kind::Send | Kind::Print => {
-                let this = event.serial.this;
-                if let Some((j, before)) = last {
-                    if this <= before {
-                        return Some(PairFault::NotRising(pid, i as u64, j));
-                    }
-                }
-                last = Some((i as u64, this));
+    /// What the rule gives first in the stream of one process.
+    fn first_fault_in(&self, streams: &Streams, pid: Pid) -> Option<PairFault>
+        requires { HasTable self.now streams.now }
+        ensures { result ≡ first_from (fault_at self.now streams.now) pid 0
+            (events_of streams.now pid) }
+    {
+        let events = streams.events(pid);
+        let mut last: Option<(u64, u64)> = None;
+        for (i, event) in events.iter().enumerate() {
+            if let Some(fault) = self.fault_at(streams, pid, i as u64, last, event) {
+                return Some(fault);
+            }
+            match event.kind {
+                Kind::Receive => {}
+                Kind::Send | Kind::Print => last = Some((i as u64, event.serial.this)),
             }
         }
+        None
+    }
+
+    /// What the rule gives at the least place at which it gives something.
+    pub fn first_fault(&self, streams: &Streams) -> Option<PairFault>
+        requires { HasTable self.now streams.now }
+        ensures { result ≡ first (fault_at self.now streams.now) streams.now }
+    {
+        for &pid in streams.pids() {
+            if let Some(fault) = self.first_fault_in(streams, pid) {
+                return Some(fault);
+            }
+        }
+        None
+    }
+}
+
+/// Whether one event has a prev that isn't less than its this.
+fn prev_not_before_at(pid: Pid, index: u64, event: &Event) -> Option<PairFault>
+    ensures { result ≡ prev_not_before pid index event.now }
+{
+    if event.serial.this <= event.serial.prev {
+        return Some(PairFault::PrevNotBefore(pid, index));
     }
     None
 }
 
-/// The least place of a send or print that has no greater count than the one before it.
-pub fn not_rising(streams: &Streams) -> Option<PairFault>
-    ensures { result ≡ first (not_rising streams.now) streams.now }
+/// Whether one event is a send or print that has no greater count than the last one before it.
+fn not_rising_at(
+    streams: &Streams,
+    pid: Pid,
+    index: u64,
+    last: Option<(u64, u64)>,
+    event: &Event,
+) -> Option<PairFault>
+    requires { last ≡ count_before (events_of streams.now pid) index }
+    ensures { result ≡ not_rising streams.now pid index event.now }
 {
-    for &pid in streams.pids() {
-        if let Some(fault) = not_rising_in(pid, streams.events(pid)) {
-            return Some(fault);
-        }
+    match event.kind {
+        Kind::Receive => None,
+        Kind::Send | Kind::Print => match last {
+            None => None,
+            Some((place, before)) => {
+                if event.serial.this <= before {
+                    Some(PairFault::NotRising(pid, index, place))
+                } else {
+                    None
+                }
+            }
+        },
     }
-    None
 }
 
 /// Whether these are one place.
@@ -102,32 +150,6 @@ fn repetition_at(
             }
         },
     }
-}
-
-/// The first receive of one stream that isn't the first from its sender with its count.
-fn repetition_in(streams: &Streams, table: &Table, pid: Pid, events: &[Event]) -> Option<PairFault>
-    requires { HasReceives streams.now (place_at_key table.now) }
-    ensures { result ≡ first_from (repeated streams.now) pid 0 events.now }
-{
-    for (i, event) in events.iter().enumerate() {
-        if let Some(fault) = repetition_at(streams, table, pid, i as u64, event) {
-            return Some(fault);
-        }
-    }
-    None
-}
-
-/// The least place of a receive that isn't the first from its sender with its count.
-pub fn repetition(streams: &Streams, table: &Table) -> Option<PairFault>
-    requires { HasReceives streams.now (place_at_key table.now) }
-    ensures { result ≡ first (repeated streams.now) streams.now }
-{
-    for &pid in streams.pids() {
-        if let Some(fault) = repetition_in(streams, table, pid, streams.events(pid)) {
-            return Some(fault);
-        }
-    }
-    None
 }
 
 /// Whether these are one process, or neither is there.
@@ -184,30 +206,4 @@ fn mismatch_at(
             },
         },
     }
-}
-
-/// The first receive of one stream whose sender has its count on an event that isn't its send.
-fn mismatch_in(streams: &Streams, table: &Table, pid: Pid, events: &[Event]) -> Option<PairFault>
-    requires { HasStamps streams.now (place_at_key table.now) }
-    ensures { result ≡ first_from (mismatch streams.now) pid 0 events.now }
-{
-    for (i, event) in events.iter().enumerate() {
-        if let Some(fault) = mismatch_at(streams, table, pid, i as u64, event) {
-            return Some(fault);
-        }
-    }
-    None
-}
-
-/// The least place of a receive whose sender has its count on an event that isn't its send.
-pub fn mismatch(streams: &Streams, table: &Table) -> Option<PairFault>
-    requires { HasStamps streams.now (place_at_key table.now) }
-    ensures { result ≡ first (mismatch streams.now) streams.now }
-{
-    for &pid in streams.pids() {
-        if let Some(fault) = mismatch_in(streams, table, pid, streams.events(pid)) {
-            return Some(fault);
-        }
-    }
-    None
 }
