@@ -53,8 +53,6 @@ WANTS = {
     "receives by sender and value, the first first": numbered(b"receive <0.0.0> both <0.0.0> %d\n", range),
     "receives by sender and value, the last first": numbered(b"receive <0.0.0> both <0.0.0> %d\n", falling),
 }
-# What `replay` and `drive` are given too.
-BY_OTHERS = ("receives by place from the middle", "receives by value, the last first")
 
 
 def timed(program, name, words, pieces, is_right, bound, count):
