@@ -11,7 +11,7 @@ use Rattle.st_core.specs.declared.types.Event.{Event}
 use Rattle.st_core.specs.Pid.{pid_eq, IsBelow, IsRising}
 use Rattle.st_core.specs.Step.{actor}
 use Rattle.st_core.specs.Run.{Stream, pids_of}
-use Rattle.st_core.specs.Streams.{stream_of, lists, with_event, added, is_own, ComesLast, AreOwn}
+use Rattle.st_core.specs.Streams.{stream_of, lists, with_event, added, with_report, is_own, ComesLast, AreOwn}
 use Rattle.st_core.proofs.ForCallers.{pid_eq-same, IsBelow-apart, with_event_pid}
 use Rattle.st_runtime.specs.declared.pcb.entry.Entry.{Entry}
 use Rattle.st_runtime.specs.Joined.{reports_of, streams_of}
