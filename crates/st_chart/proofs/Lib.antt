@@ -1,6 +1,5 @@
--- The lemmas; what upper crates may cite is in `ForCallers`.
+-- The lemmas.
 pub mod Rooms
-pub mod ForCallers
 pub mod Texts
 pub mod Ends
 pub mod Lines

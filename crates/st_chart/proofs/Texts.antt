@@ -1,20 +1,16 @@
 -- Each text has a line, so none is empty.
-use Rattle.std.proofs.Common.{ℕ, ◌<◌, List, [], ◌∷◌, ◌++◌, length, codes, arith}
+use Rattle.std.proofs.Common.{ℕ, ◌<◌, List, ◌++◌, length, codes}
 use Rattle.std.specs.List.{flat_map}
-use Rattle.std.proofs.lemmas.List.{length-append}
 use Rattle.st_core.specs.declared.types.Pid.{Pid}
 use Rattle.st_core.specs.declared.types.Label.{Label}
 use Rattle.st_core.specs.Run.{Stream}
 use Rattle.st_text.specs.Spelling as spelled
-use Rattle.st_text.proofs.ForCallers.{front_some}
+use Rattle.st_text.proofs.ForCallers.{front_some, line_some}
 use Rattle.st_audit.specs.declared.finding.Reason.{Reason}
-use Rattle.st_chart.specs.Words.{ended_line, place_words}
+use Rattle.st_chart.specs.Words.{place_words}
 use Rattle.st_chart.specs.declared.charted.ChartedItem.{ChartedItem}
 use Rattle.st_chart.specs.Chart.{label_line, lane_lines, item_line, chart_lines}
 use Rattle.st_chart.specs.Report.{unfit_line, reason_words, event_line, evidence, unfit_text}
-
-pub line_some : (words : List ℕ) → 0 < length (ended_line words)
-line_some words = omega (arith, length-append words (10 ∷ []))
 
 pub unfit_some : (streams : List Stream) (p : Pid) (i : ℕ) (r : Reason) → 0 < length (unfit_text streams p i r)
 unfit_some streams p i r =

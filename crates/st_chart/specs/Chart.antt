@@ -12,6 +12,7 @@ use Rattle.st_core.specs.declared.types.Event.{Event}
 use Rattle.st_core.specs.Pid.{pid_eq}
 use Rattle.st_core.specs.Run.{Stream, pids_of}
 use Rattle.st_text.specs.Spelling as spelled
+use Rattle.st_text.specs.Spelling.{ended_line}
 use Rattle.st_order.specs.declared.item.Item.{Item}
 use Rattle.st_order.specs.declared.item.Item.TheVariants as item
 use Rattle.st_order.specs.Items.{event_of}
@@ -19,7 +20,7 @@ use Rattle.st_chain.specs.declared.cause.Cause.{Cause}
 use Rattle.st_chain.specs.declared.cause.Cause.TheVariants as cause
 use Rattle.st_chain.specs.Causes.{cause_at}
 use Rattle.st_chart.specs.declared.charted.ChartedItem.{ChartedItem}
-use Rattle.st_chart.specs.Words.{ended_line, place_words}
+use Rattle.st_chart.specs.Words.{place_words}
 
 -- ---- what is shown
 

@@ -6,6 +6,7 @@ use Rattle.st_core.specs.declared.types.Event.{Event}
 use Rattle.st_core.specs.declared.types.Act.{Act}
 use Rattle.st_core.specs.Run.{Stream}
 use Rattle.st_text.specs.Spelling as spelled
+use Rattle.st_text.specs.Spelling.{ended_line}
 use Rattle.st_text.specs.Text.{spelling}
 use Rattle.st_pair.specs.Places.{event_at}
 use Rattle.st_check.specs.declared.verdict.Verdict.{Verdict}
@@ -14,7 +15,7 @@ use Rattle.st_audit.specs.declared.finding.Reason.{Reason}
 use Rattle.st_audit.specs.declared.finding.Reason.TheVariants as reason
 use Rattle.st_audit.specs.declared.finding.Finding.{Finding}
 use Rattle.st_audit.specs.declared.finding.Finding.TheVariants as finding
-use Rattle.st_chart.specs.Words.{ended_line, place_words}
+use Rattle.st_chart.specs.Words.{place_words}
 
 -- what the tried acts come to; a yes is spelled too, but is never a reason
 abbrev pub verdict_words : Verdict → List ℕ

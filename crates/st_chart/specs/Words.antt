@@ -1,11 +1,7 @@
 -- What reports and charts both spell (own profile).
-use Rattle.std.specs.Prelude.{ℕ, List, [], ◌∷◌, ◌++◌, codes, decimal}
+use Rattle.std.specs.Prelude.{ℕ, List, ◌++◌, codes, decimal}
 use Rattle.st_core.specs.declared.types.Pid.{Pid}
 use Rattle.st_text.specs.Spelling as spelled
-
--- these bytes and a newline
-abbrev pub ended_line : List ℕ → List ℕ
-ended_line bytes = bytes ++ 10 ∷ []
 
 -- a place: a process, and an index in its stream, counted from 0
 abbrev pub place_words : Pid → ℕ → List ℕ

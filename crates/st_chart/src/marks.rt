@@ -3,7 +3,7 @@
 ghost use Rattle.std.specs.Prelude.{◌≡◌, ◌≤◌, ◌+◌, ◌++◌, codes};
 ghost use Rattle.arrayvec.specs.ArrayVec.{array_vec_len};
 ghost use Rattle.st_text.specs.Room.{buffer_room, line_room};
-ghost use Rattle.st_chart.specs.Words.{ended_line};
+ghost use Rattle.st_text.specs.Spelling.{ended_line};
 ghost use Rattle.st_chart.specs.Chart.{letter, mark, item_word, cause_words, origin_words};
 ghost use Rattle.st_chart.specs.Chart.{item_words};
 ghost use Rattle.st_chart.specs.Room.{mark_room, item_word_room, origin_room, item_room};

@@ -4,8 +4,9 @@ ghost use Rattle.std.specs.Prelude.{◌≡◌, ◌≤◌, ◌+◌, ◌++◌, len
 ghost use Rattle.std.specs.List.{flat_map};
 ghost use Rattle.arrayvec.specs.ArrayVec.{array_vec_len};
 ghost use Rattle.st_text.specs.Room.{buffer_room, line_room, number_room, pid_room};
+ghost use Rattle.st_text.specs.Spelling.{ended_line};
 ghost use Rattle.st_text.specs.Writing.{WritesOn, WritesText};
-ghost use Rattle.st_chart.specs.Words.{ended_line, place_words};
+ghost use Rattle.st_chart.specs.Words.{place_words};
 ghost use Rattle.st_chart.specs.Room.{place_room, verdict_room, reason_room};
 ghost use Rattle.st_chart.specs.Report.{verdict_words, reason_words, unfit_line, event_words};
 ghost use Rattle.st_chart.specs.Report.{event_front, event_line, act_line, evidence, unfit_text};

@@ -1,7 +1,7 @@
 -- What was driven is a record of the scripts, and a record says what status 0 means. An act of a text that is refused
 -- stands for a stray process alone: its actor and receiver are listed, and a text has fewer acts than clocks and ranks
 -- have counts.
-use Rattle.std.proofs.Common.{◌≡◌, ℕ, ◌*◌, ◌<◌, ◌≤◌, Bool, true, List, [], ◌∷◌, length, map, refl, sym}
+use Rattle.std.proofs.Common.{◌≡◌, ℕ, ◌*◌, ◌<◌, ◌≤◌, true, List, [], ◌∷◌, length, map, refl, sym}
 use Rattle.std.proofs.Common.{subst, arith, Some, slice_get}
 use Rattle.std.specs.Prelude.{All, zip, count_by}
 use Rattle.std.specs.List.{list_all}

@@ -8,7 +8,7 @@ use Rattle.st_text.specs.declared.limits.Limits.{Limits}
 use Rattle.st_text.specs.Limits.{standard}
 use Rattle.st_commands.specs.Output.{Output, judged}
 use Rattle.st_commands.specs.Checked.{Judged}
-use Rattle.st_commands.specs.Audited.{HasFindingWithin, IsAudited, IsAuditedWithin, Found, Faulty, report_output}
+use Rattle.st_commands.specs.Audited.{HasFindingWithin, IsAuditedWithin, Found, Faulty, report_output}
 use Rattle.st_commands.specs.Audited.{finding_status}
 use Rattle.st_commands.specs.Meaning.{MeansFitsWithin, MeansUnfitWithin}
 use Rattle.st_commands.specs.Laws.{FitsMeans, UnfitMeans, CertificateIsYes, certificate}

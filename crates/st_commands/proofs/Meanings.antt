@@ -14,7 +14,7 @@ use Rattle.st_text.specs.declared.fault.ReadFault.TheVariants as faults
 use Rattle.st_text.specs.declared.limits.Limits.{Limits}
 use Rattle.st_text.specs.Limits.{standard}
 use Rattle.st_commands.specs.Output.{Output, judged, refused}
-use Rattle.st_commands.specs.Checked.{top, IsJudgedWithin, IsChecked, IsCheckedWithin, Judged, Lacking, Faulty}
+use Rattle.st_commands.specs.Checked.{top, IsJudgedWithin, IsCheckedWithin, Judged, Lacking, Faulty}
 use Rattle.st_commands.specs.Meaning.{MeansYesWithin, MeansNoWithin}
 use Rattle.st_commands.specs.Laws.{YesMeans, NoMeans, ShownIsYes, NeverStuck, NeverStuckInReplay}
 use Rattle.st_commands.proofs.Outputs.{one_check}

@@ -4,8 +4,8 @@ use Rattle.std.specs.List.{flat_map}
 use Rattle.std.proofs.lemmas.List.{length-append}
 use Rattle.st_core.specs.Verdict.{Verdict, Stuck, Differs, Left, Yes}
 use Rattle.st_text.specs.Spelling as spelled
-use Rattle.st_chart.specs.Words.{ended_line}
-use Rattle.st_chart.proofs.ForCallers.{line_some}
+use Rattle.st_text.specs.Spelling.{ended_line}
+use Rattle.st_text.proofs.ForCallers.{line_some}
 use Rattle.st_commands.specs.Output.{pair_line, verdict_text}
 
 pub verdict_some : (v : Verdict) → 0 < length (verdict_text v)

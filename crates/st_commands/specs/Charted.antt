@@ -15,8 +15,8 @@ use Rattle.st_audit.specs.Findings.{unfit_by}
 use Rattle.st_chart.specs.Chart.{chart_text}
 use Rattle.st_text.specs.declared.fault.ReadFault.{ReadFault}
 use Rattle.st_text.specs.Spelling as spelled
+use Rattle.st_text.specs.Spelling.{ended_line}
 use Rattle.st_text.specs.Fault.{fault}
-use Rattle.st_chart.specs.Words.{ended_line}
 use Rattle.st_commands.specs.Output.{Output, refused}
 use Rattle.st_commands.specs.Checked.{Spells}
 use Rattle.st_commands.specs.Audited.{report_output}

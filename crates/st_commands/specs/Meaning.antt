@@ -17,8 +17,8 @@ use Rattle.st_chart.specs.Report.{report_text}
 use Rattle.st_text.specs.declared.limits.Limits.{Limits}
 use Rattle.st_text.specs.Limits.{standard}
 use Rattle.st_text.specs.Text.{spelling}
+use Rattle.st_text.specs.Spelling.{ended_line}
 use Rattle.st_text.specs.Writing.{Writes}
-use Rattle.st_chart.specs.Words.{ended_line}
 use Rattle.st_commands.specs.Output.{Output, pair_line, verdict_text}
 use Rattle.st_commands.specs.Checked.{top, Spells, SpellsWithin}
 use Rattle.st_commands.specs.Command.{ReaderCall, WriterCall, ReadsAllWithin}

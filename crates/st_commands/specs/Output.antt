@@ -7,10 +7,10 @@ use Rattle.st_core.specs.declared.types.Act.{Act}
 use Rattle.st_core.specs.Run.{Stream}
 use Rattle.st_core.specs.Verdict.{Verdict, Stuck, Differs, Left, Yes}
 use Rattle.st_text.specs.Spelling as spelled
+use Rattle.st_text.specs.Spelling.{ended_line}
 use Rattle.st_text.specs.Text.{spelling}
 use Rattle.st_text.specs.declared.fault.ReadFault.{ReadFault}
 use Rattle.st_text.specs.declared.fault.ReadFault.TheVariants as faults
-use Rattle.st_chart.specs.Words.{ended_line}
 use Rattle.st_commands.specs.declared.words.Refusal.{Refusal}
 use Rattle.st_commands.specs.declared.words.Refusal.TheVariants as refusals
 

@@ -9,7 +9,7 @@ use Rattle.st_check.specs.Answers.{SticksAt, reported_streams}
 use Rattle.st_text.specs.declared.fault.ReadFault.{ReadFault}
 use Rattle.st_text.specs.Text.{spelling}
 use Rattle.st_text.specs.Fault.{fault}
-use Rattle.st_chart.specs.Words.{ended_line}
+use Rattle.st_text.specs.Spelling.{ended_line}
 use Rattle.st_commands.specs.Output.{Output, refused, no_acts}
 use Rattle.st_commands.specs.Checked.{top, Spells, LacksActs}
 

@@ -2,19 +2,19 @@
 
 ghost use Rattle.std.specs.Prelude.{◌≡◌, MatchResult};
 ghost use Rattle.st_check.specs.Answers.{verdict_of};
+ghost use Rattle.st_text.specs.Spelling.{ended_line};
 ghost use Rattle.st_commands.specs.Audited.{finding_status, report_output};
 ghost use Rattle.st_commands.specs.Command.{Delivers, call};
-ghost use Rattle.st_commands.specs.Lines.{text_of};
 ghost use Rattle.st_commands.specs.Output.{verdict_status, fault_status, judged, refusal_output};
 ghost use Rattle.st_commands.specs.Output.{refused, bundled};
 
-use crate::lines::{OutputLine, send_line, send_verdict};
+use crate::lines::{OutputLine, send_verdict};
 use crate::words::Refusal;
 use st_audit::Finding;
 use st_chart::report;
 use st_check::Verdict;
 use st_core::{Act, ByteSink, Streams};
-use st_text::{Device, ReadFault, write_parts};
+use st_text::{Device, ReadFault, TextLine, send_line, write_parts};
 
 /// The status for a text that was written, or for a writer that failed.
 pub fn status_of(sent: Result<(), Device>, status: u8) -> u8
@@ -63,9 +63,9 @@ fn fault_status(fault: ReadFault) -> u8
 }
 
 /// Writes a line, and returns its status.
-pub(crate) fn tell_line<W: ByteSink>(writer: &mut W, line: OutputLine, status: u8) -> u8
+pub fn tell_line<W: ByteSink, L: TextLine>(writer: &mut W, line: L, status: u8) -> u8
     ensures { Delivers (call W.ByteSink writer.old writer.new)
-        (record { text = text_of line; status = status }) result }
+        (record { text = ended_line (L.words line); status = status }) result }
 {
     let sent = send_line(writer, line);
     status_of(sent, status)

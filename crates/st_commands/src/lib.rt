@@ -17,7 +17,7 @@ mod program;
 mod replay;
 mod words;
 
-pub use answer::{status_of, tell_bundle, tell_fault, tell_finding, tell_refusal};
+pub use answer::{status_of, tell_bundle, tell_fault, tell_finding, tell_line, tell_refusal};
 pub use audit::{run_audit, run_audit_within};
 pub use chart::run_chart;
 pub use check::{run_check, run_check_within};

@@ -1,19 +1,22 @@
 //! The lines that the program writes, through a buffer on the stack. Which line is written is
 //! decided elsewhere; writing takes no memory.
 
-ghost use Rattle.std.specs.Prelude.{◌≡◌, ◌≤◌, ◌+◌, ◌++◌, length, decimal};
+ghost use Rattle.std.specs.Prelude.{◌≡◌, ◌≤◌, ◌+◌, ◌++◌, codes};
 ghost use Rattle.std.specs.List.{flat_map};
 ghost use Rattle.arrayvec.specs.ArrayVec.{array_vec_len};
 ghost use Rattle.st_check.specs.Answers.{verdict_of};
-ghost use Rattle.st_text.specs.Room.{buffer_room, line_room, number_room};
+ghost use Rattle.st_text.specs.Room.{buffer_room};
+ghost use Rattle.st_text.specs.Spelling.{ended_line};
 ghost use Rattle.st_text.specs.Writing.{WritesOn, WritesText};
-ghost use Rattle.st_commands.specs.Lines.{words, text_of, words_room};
+ghost use Rattle.st_commands.specs.Lines.{words_of, words_room};
 ghost use Rattle.st_commands.specs.Output.{fault_words, pair_words, pair_line, verdict_text};
 ghost use Rattle.st_commands.specs.Recorded.{act_fault_words};
 
 use st_check::Verdict;
 use st_core::{ByteSink, Label, Pid};
-use st_text::{Buffer, Device, ReadFault, flush, make_room, put_bytes, put_number, put_pid};
+use st_text::{
+    Buffer, Device, ReadFault, TextLine, flush, put_bytes, put_numbered, put_pid, write_line,
+};
 
 /// A line of the program's own.
 #[derive(Clone, Copy, Debug)]
@@ -42,17 +45,6 @@ pub(crate) enum OutputLine {
     JoinFault,
     /// How the program is called.
     Usage,
-}
-
-/// Appends words and a number.
-fn put_numbered(buffer: &mut Buffer, words: &[u8], number: u64)
-    requires { array_vec_len buffer.old + (length words.now + number_room) ≤ buffer_room }
-    ensures items { buffer.new.items ≡ buffer.old.items ++ (words.now ++ decimal number) }
-    ensures len { array_vec_len buffer.new
-        ≤ array_vec_len buffer.old + (length words.now + number_room) }
-{
-    put_bytes(buffer, words);
-    put_number(buffer, number);
 }
 
 /// Appends the numbers of a receive's act and of its send's.
@@ -95,55 +87,31 @@ fn put_act_fault(buffer: &mut Buffer, pid: Pid, n: u64)
     put_numbered(buffer, b" ", n);
 }
 
-/// Appends the words of a line.
-fn put_words(buffer: &mut Buffer, line: OutputLine)
-    requires { array_vec_len buffer.old + words_room ≤ buffer_room }
-    ensures items { buffer.new.items ≡ buffer.old.items ++ words line }
-    ensures len { array_vec_len buffer.new ≤ array_vec_len buffer.old + words_room }
-{
-    match line {
-        OutputLine::Yes => put_bytes(buffer, b"yes"),
-        OutputLine::Pair(receive, send) => put_pair(buffer, receive, send),
-        OutputLine::Stuck(n) => put_numbered(buffer, b"no stuck ", n),
-        OutputLine::Differs(n) => put_numbered(buffer, b"no differs ", n),
-        OutputLine::Left(pid) => {
-            put_bytes(buffer, b"no left ");
-            put_pid(buffer, pid);
+impl TextLine for OutputLine {
+    ghost words = { words_of };
+
+    fn put_words(self, buffer: &mut Buffer) {
+        match self {
+            OutputLine::Yes => put_bytes(buffer, b"yes"),
+            OutputLine::Pair(receive, send) => put_pair(buffer, receive, send),
+            OutputLine::Stuck(n) => put_numbered(buffer, b"no stuck ", n),
+            OutputLine::Differs(n) => put_numbered(buffer, b"no differs ", n),
+            OutputLine::Left(pid) => {
+                put_bytes(buffer, b"no left ");
+                put_pid(buffer, pid);
+            }
+            OutputLine::NoLabel(label) => put_numbered(buffer, b"no label ", u64::from(label.0)),
+            OutputLine::Fault(fault) => put_fault(buffer, fault),
+            OutputLine::NoActs => put_bytes(buffer, b"fault no acts"),
+            OutputLine::ActFault(pid, n) => put_act_fault(buffer, pid, n),
+            OutputLine::ThreadFault => put_bytes(buffer, b"fault thread"),
+            OutputLine::JoinFault => put_bytes(buffer, b"fault join"),
+            OutputLine::Usage => put_bytes(
+                buffer,
+                b"usage: seqaudit check|audit|replay|drive|chart --label N",
+            ),
         }
-        OutputLine::NoLabel(label) => put_numbered(buffer, b"no label ", u64::from(label.0)),
-        OutputLine::Fault(fault) => put_fault(buffer, fault),
-        OutputLine::NoActs => put_bytes(buffer, b"fault no acts"),
-        OutputLine::ActFault(pid, n) => put_act_fault(buffer, pid, n),
-        OutputLine::ThreadFault => put_bytes(buffer, b"fault thread"),
-        OutputLine::JoinFault => put_bytes(buffer, b"fault join"),
-        OutputLine::Usage => put_bytes(
-            buffer,
-            b"usage: seqaudit check|audit|replay|drive|chart --label N",
-        ),
     }
-}
-
-/// Appends a line and its newline.
-fn put_line(buffer: &mut Buffer, line: OutputLine)
-    requires { array_vec_len buffer.old + line_room ≤ buffer_room }
-    ensures { buffer.new.items ≡ buffer.old.items ++ text_of line }
-{
-    put_words(buffer, line);
-    put_bytes(buffer, b"\n");
-}
-
-/// Writes a line into the buffer, and first what waits there if that is much.
-fn write_line<W: ByteSink>(
-    writer: &mut W,
-    buffer: &mut Buffer,
-    line: OutputLine,
-) -> Result<(), Device>
-    ensures { WritesOn W.puts W.failed (text_of line)
-        writer.old writer.new buffer.old.items buffer.new.items result }
-{
-    make_room(writer, buffer)?;
-    put_line(buffer, line);
-    Ok(())
 }
 
 /// Writes a line for each pair.
@@ -167,7 +135,7 @@ fn write_yes<W: ByteSink>(
     buffer: &mut Buffer,
     pairs: &[(u64, u64)],
 ) -> Result<(), Device>
-    ensures { WritesOn W.puts W.failed (text_of OutputLine.Yes ++ flat_map pair_line pairs.now)
+    ensures { WritesOn W.puts W.failed (ended_line (codes "yes") ++ flat_map pair_line pairs.now)
         writer.old writer.new buffer.old.items buffer.new.items result }
 {
     write_line(writer, buffer, OutputLine::Yes)?;
@@ -191,18 +159,8 @@ fn write_verdict<W: ByteSink>(
     }
 }
 
-/// Writes one line to the writer. Not inlined, so that its buffer isn't on the stack of its
+/// Writes a verdict to the writer. Not inlined, so that its buffer isn't on the stack of its
 /// callers.
-#[inline(never)]
-pub(crate) fn send_line<W: ByteSink>(writer: &mut W, line: OutputLine) -> Result<(), Device>
-    ensures { WritesText W.puts W.failed (text_of line) writer.old writer.new result }
-{
-    let mut buffer = Buffer::new();
-    write_line(writer, &mut buffer, line)?;
-    flush(writer, &mut buffer)
-}
-
-/// Writes a verdict to the writer. Not inlined, for the same reason.
 #[inline(never)]
 pub(crate) fn send_verdict<W: ByteSink>(writer: &mut W, verdict: &Verdict) -> Result<(), Device>
     ensures { WritesText W.puts W.failed

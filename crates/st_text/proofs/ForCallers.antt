@@ -7,7 +7,7 @@ pub use Rattle.st_text.proofs.GoodText.{text_sound}
 pub use Rattle.st_text.proofs.FaultlessText.{readable}
 pub use Rattle.st_text.proofs.Newlines.{fault_too_large}
 -- ---- spellings
-pub use Rattle.st_text.proofs.Spellings.{front_some}
+pub use Rattle.st_text.proofs.Spellings.{front_some, line_some}
 -- ---- writing through a buffer
 pub use Rattle.st_text.proofs.Puts.{finishes, part_longer, goes_then, goes_buffer, goes_still, then_on, on_err}
 pub use Rattle.st_text.proofs.Puts.{one_more, one_failed, all_done}

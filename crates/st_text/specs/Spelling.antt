@@ -1,6 +1,7 @@
 -- The one spelling of each value, as bytes. These are the words of the grammar; nothing here says
 -- how they are read.
-use Rattle.std.specs.Prelude.{ℕ, Bool, true, false, List, ◌++◌, Option, Some, None, codes, decimal}
+use Rattle.std.specs.Prelude.{ℕ, Bool, true, false, List, [], ◌∷◌, ◌++◌}
+use Rattle.std.specs.Prelude.{Option, Some, None, codes, decimal}
 use Rattle.st_core.specs.declared.types.Pid.{Pid}
 use Rattle.st_core.specs.declared.types.Label.{Label}
 use Rattle.st_core.specs.declared.types.Serial.{Serial}
@@ -103,3 +104,7 @@ line (lines.Process p) = codes "process " ++ pid p
 line (lines.Event e) = event e
 line lines.Acts = codes "acts"
 line (lines.Act a) = act a
+
+-- these bytes and a newline
+abbrev pub ended_line : List ℕ → List ℕ
+ended_line bytes = bytes ++ 10 ∷ []

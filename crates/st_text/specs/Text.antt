@@ -15,7 +15,7 @@ use Rattle.st_core.specs.Run.{Stream, pids_of}
 use Rattle.st_core.specs.Streams.{IsStreams, is_among}
 use Rattle.st_text.specs.declared.line.Line.{Line}
 use Rattle.st_text.specs.declared.line.Line.TheVariants as lines
-use Rattle.st_text.specs.Spelling.{line}
+use Rattle.st_text.specs.Spelling.{line, ended_line}
 use Rattle.st_text.specs.Range.{Fits}
 use Rattle.st_text.specs.declared.limits.Limits.{Limits}
 use Rattle.st_text.specs.Limits.{standard}
@@ -81,7 +81,7 @@ lines_of c = lines.Header (list_any is_remote (body c)) ∷ body c
 
 -- a line and its newline
 abbrev pub ended : Line → List ℕ
-ended l = line l ++ 10 ∷ []
+ended l = ended_line (line l)
 
 -- the one spelling of a bundle
 abbrev pub spelling : Contents → List ℕ

@@ -14,6 +14,7 @@ mod finish;
 pub mod laws;
 mod limits;
 mod line;
+mod lines;
 mod number;
 mod reader;
 mod remote;
@@ -27,7 +28,10 @@ pub use bundle::{Bundle, UnknownAct};
 pub use fault::ReadFault;
 pub use feed::Feed;
 pub use limits::Limits;
+pub use lines::{TextLine, send_line, write_line};
 pub use reader::{read, read_within};
 pub use sink::{Device, flush, make_room};
-pub use spell::{Buffer, put_act, put_bytes, put_event, put_number, put_pid, put_serial};
+pub use spell::{
+    Buffer, put_act, put_bytes, put_event, put_number, put_numbered, put_pid, put_serial,
+};
 pub use writer::{write, write_act, write_event, write_parts, write_pid};

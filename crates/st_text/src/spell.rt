@@ -5,12 +5,10 @@
 ghost use Rattle.std.specs.Prelude.{◌≡◌, ◌+◌, ◌≤◌, ◌++◌, length, decimal};
 ghost use Rattle.arrayvec.specs.ArrayVec.{array_vec_len};
 ghost use Rattle.st_text.specs.Spelling as spelled;
-ghost use Rattle.st_text.specs.Text.{ended};
-ghost use Rattle.st_text.specs.Room.{buffer_room, line_room, number_room, bool_room, pid_room};
+ghost use Rattle.st_text.specs.Room.{buffer_room, number_room, bool_room, pid_room};
 ghost use Rattle.st_text.specs.Room.{serial_room, kind_room, head_room, ends_room, event_room};
 ghost use Rattle.st_text.specs.Room.{component_room, want_room, flags_room, token_room, act_room};
 
-use crate::line::Line;
 use arrayvec::ArrayVec;
 use st_core::{Act, Component, Event, Flags, Kind, Label, Pid, Serial, Token, Want};
 
@@ -40,6 +38,17 @@ pub fn put_number(buffer: &mut Buffer, number: u64)
 {
     let mut digits = itoa::Buffer::new();
     put_bytes(buffer, digits.format(number).as_bytes());
+}
+
+/// Appends words and a decimal number.
+pub fn put_numbered(buffer: &mut Buffer, words: &[u8], number: u64)
+    requires { array_vec_len buffer.old + (length words.now + number_room) ≤ buffer_room }
+    ensures items { buffer.new.items ≡ buffer.old.items ++ (words.now ++ decimal number) }
+    ensures len { array_vec_len buffer.new
+        ≤ array_vec_len buffer.old + (length words.now + number_room) }
+{
+    put_bytes(buffer, words);
+    put_number(buffer, number);
 }
 
 fn put_bool(buffer: &mut Buffer, flag: bool)
@@ -300,24 +309,4 @@ pub fn put_act(buffer: &mut Buffer, act: &Act)
             put_bool(buffer, *flag);
         }
     }
-}
-
-/// A line and its newline.
-pub(crate) fn put_line(buffer: &mut Buffer, line: &Line)
-    requires { array_vec_len buffer.old + line_room ≤ buffer_room }
-    ensures items { buffer.new.items ≡ buffer.old.items ++ ended line.now }
-    ensures len { array_vec_len buffer.new ≤ array_vec_len buffer.old + line_room }
-{
-    match line {
-        Line::Header(false) => put_bytes(buffer, b"seqtrace 1"),
-        Line::Header(true) => put_bytes(buffer, b"seqtrace 2"),
-        Line::Process(pid) => {
-            put_bytes(buffer, b"process ");
-            put_pid(buffer, *pid);
-        }
-        Line::Event(event) => put_event(buffer, event),
-        Line::Acts => put_bytes(buffer, b"acts"),
-        Line::Act(act) => put_act(buffer, act),
-    }
-    put_bytes(buffer, b"\n");
 }

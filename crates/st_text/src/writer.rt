@@ -12,20 +12,11 @@ ghost use Rattle.st_text.specs.Writing.{WritesOn, WritesText};
 
 use crate::bundle::Bundle;
 use crate::line::Line;
+use crate::lines::write_line;
 use crate::remote::are_parts_remote;
-use crate::sink::{Device, flush, make_room};
-use crate::spell::{Buffer, put_act, put_event, put_line, put_pid};
+use crate::sink::{Device, flush};
+use crate::spell::{Buffer, put_act, put_event, put_pid};
 use st_core::{Act, ByteSink, Event, Pid, Streams};
-
-/// Writes a line and its newline.
-fn write_line<S: ByteSink>(sink: &mut S, buffer: &mut Buffer, line: &Line) -> Result<(), Device>
-    ensures { WritesOn S.puts S.failed
-        (ended line.now) sink.old sink.new buffer.old.items buffer.new.items result }
-{
-    make_room(sink, buffer)?;
-    put_line(buffer, line);
-    Ok(())
-}
 
 fn write_events<S: ByteSink>(
     sink: &mut S,
@@ -36,7 +27,7 @@ fn write_events<S: ByteSink>(
         sink.old sink.new buffer.old.items buffer.new.items result }
 {
     for event in events {
-        write_line(sink, buffer, &Line::Event(*event))?;
+        write_line(sink, buffer, Line::Event(*event))?;
     }
     Ok(())
 }
@@ -52,7 +43,7 @@ fn write_process<S: ByteSink>(
         (flat_map ended (process_lines (record { pid = pid; events = events_of streams.now pid })))
         sink.old sink.new buffer.old.items buffer.new.items result }
 {
-    write_line(sink, buffer, &Line::Process(pid))?;
+    write_line(sink, buffer, Line::Process(pid))?;
     write_events(sink, buffer, streams.events(pid))
 }
 
@@ -79,7 +70,7 @@ fn write_act_list<S: ByteSink>(
         sink.old sink.new buffer.old.items buffer.new.items result }
 {
     for act in acts {
-        write_line(sink, buffer, &Line::Act(*act))?;
+        write_line(sink, buffer, Line::Act(*act))?;
     }
     Ok(())
 }
@@ -89,7 +80,7 @@ fn write_acts<S: ByteSink>(sink: &mut S, buffer: &mut Buffer, acts: &[Act]) -> R
     ensures { WritesOn S.puts S.failed (flat_map ended (lines.Acts ∷ map lines.Act acts.now))
         sink.old sink.new buffer.old.items buffer.new.items result }
 {
-    write_line(sink, buffer, &Line::Acts)?;
+    write_line(sink, buffer, Line::Acts)?;
     write_act_list(sink, buffer, acts)
 }
 
@@ -120,7 +111,7 @@ fn write_lines<S: ByteSink>(
     ensures { WritesOn S.puts S.failed (spelling (parts streams.now acts.entry))
         sink.old sink.new buffer.old.items buffer.new.items result }
 {
-    write_line(sink, buffer, &Line::Header(are_parts_remote(streams, acts)))?;
+    write_line(sink, buffer, Line::Header(are_parts_remote(streams, acts)))?;
     write_body(sink, buffer, streams, acts)
 }
 

@@ -1,6 +1,6 @@
 -- The line of an event isn't empty, so neither are those of a way back that begins with one; and a reason of pairing is
 -- told as a finding.
-use Rattle.std.proofs.Common.{◌≡◌, ℕ, ◌<◌, List, [], ◌∷◌, ◌++◌, length, Option, Some, None, ap, sym, ◌∙◌, arith}
+use Rattle.std.proofs.Common.{◌≡◌, ℕ, ◌<◌, List, [], ◌∷◌, length, Option, Some, None, ap, sym, ◌∙◌, arith}
 use Rattle.std.specs.Prelude.{IsSome, option_map}
 use Rattle.std.specs.List.{flat_map}
 use Rattle.std.proofs.lemmas.List.{length-append}
@@ -14,8 +14,8 @@ use Rattle.st_pair.specs.declared.answer.PairFault.TheVariants as fault
 use Rattle.st_chain.specs.Causes.{IsBackFrom, place_at}
 use Rattle.st_audit.specs.declared.finding.Finding.{Finding}
 use Rattle.st_audit.specs.Findings.{unfit_by}
-use Rattle.st_chart.specs.Words.{ended_line}
-use Rattle.st_chart.proofs.ForCallers.{line_some}
+use Rattle.st_text.specs.Spelling.{ended_line}
+use Rattle.st_text.proofs.ForCallers.{line_some}
 use Rattle.st_commands.specs.Audited.{report_output}
 use Rattle.st_tool.specs.Why.{step_line, step_words}
 use Rattle.st_tool.specs.Parts.{TracesTo, OfReason}

@@ -9,8 +9,7 @@ use Rattle.st_plan.specs.Marks.{all_streams, Whole}
 use Rattle.st_completions.specs.Needs.{marked_of}
 use Rattle.st_hidden.specs.declared.answer.Never.{Never}
 use Rattle.st_needs.specs.Completions.{added_in}
-use Rattle.st_text.proofs.ForCallers.{front_some}
-use Rattle.st_chart.proofs.ForCallers.{line_some}
+use Rattle.st_text.proofs.ForCallers.{front_some, line_some}
 use Rattle.st_chart.specs.Words.{place_words}
 use Rattle.st_chart.specs.Report.{event_line}
 use Rattle.st_tool.specs.Complete.{added_at, added_of, added_text, count_line, if_untold, never_line, never_text}

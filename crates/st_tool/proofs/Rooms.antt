@@ -1,6 +1,6 @@
 -- Texts go one behind the other: if room is made first, what goes then is the text alone, and the texts of the
 -- numbers below one are those of the numbers up to any of them and of the others.
-use Rattle.std.proofs.Common.{◌≡◌, ℕ, zero, suc, ◌+◌, ◌<◌, Bool, List, [], ◌++◌, refl, sym, ap, subst}
+use Rattle.std.proofs.Common.{◌≡◌, ℕ, zero, suc, ◌+◌, ◌<◌, Bool, List, [], ◌++◌, sym, ap, subst}
 use Rattle.std.proofs.Common.{◌∙◌, append_assoc}
 use Rattle.std.proofs.Common.{inl, inr, arith, add-one}
 use Rattle.std.proofs.lemmas.Bool.{cases_lt}

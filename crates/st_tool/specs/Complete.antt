@@ -1,7 +1,7 @@
 -- What `complete` makes of bytes: what the streams that they spell lack, or why no run without a
 -- reset has them. The acts in the input are ignored.
 use Rattle.std.specs.Prelude.{◌≡◌, ℕ, ◌+◌, zero, suc, Bool, true, false, List, [], ◌++◌, Option}
-use Rattle.std.specs.Prelude.{Some, None, IsSome, codes, decimal, length, map, option_map}
+use Rattle.std.specs.Prelude.{Some, None, codes, decimal, length, option_map}
 use Rattle.std.specs.Prelude.{slice_get}
 use Rattle.std.specs.List.{flat_map}
 use Rattle.st_core.specs.declared.types.Pid.{Pid}
@@ -12,6 +12,7 @@ use Rattle.st_core.specs.Run.{Stream, Shows, pids_of}
 use Rattle.st_core.specs.Streams.{events_of}
 use Rattle.st_text.specs.declared.fault.ReadFault.{ReadFault}
 use Rattle.st_text.specs.Fault.{fault}
+use Rattle.st_text.specs.Spelling.{ended_line}
 use Rattle.st_pair.specs.Places.{event_at}
 use Rattle.st_plan.specs.Marks.{all_streams, Whole}
 use Rattle.st_completions.specs.Needs.{marked_of}
@@ -21,7 +22,7 @@ use Rattle.st_hidden.specs.declared.answer.Answer.{Answer}
 use Rattle.st_hidden.specs.declared.answer.Answer.TheVariants as answer
 use Rattle.st_hidden.specs.Answers.{IsAnswer, IsNeverFinal}
 use Rattle.st_needs.specs.Completions.{added_in}
-use Rattle.st_chart.specs.Words.{ended_line, place_words}
+use Rattle.st_chart.specs.Words.{place_words}
 use Rattle.st_chart.specs.Report.{event_line, event_words}
 use Rattle.st_commands.specs.Output.{Output, refused, bundled}
 use Rattle.st_commands.specs.Checked.{top, Spells}

@@ -10,6 +10,7 @@ use Rattle.st_core.specs.Run.{Stream}
 use Rattle.st_core.specs.Streams.{events_of}
 use Rattle.st_text.specs.declared.fault.ReadFault.{ReadFault}
 use Rattle.st_text.specs.Spelling as spelled
+use Rattle.st_text.specs.Spelling.{ended_line}
 use Rattle.st_text.specs.Fault.{fault}
 use Rattle.st_pair.specs.Pairing.{refusal}
 use Rattle.st_pair.specs.Places.{event_at, is_stamp}
@@ -18,7 +19,7 @@ use Rattle.st_chain.specs.declared.cause.Cause.{Cause}
 use Rattle.st_chain.specs.declared.cause.Cause.TheVariants as cause
 use Rattle.st_chain.specs.Causes.{cause_at, IsBackFrom}
 use Rattle.st_audit.specs.declared.finding.Finding.{Finding}
-use Rattle.st_chart.specs.Words.{ended_line, place_words}
+use Rattle.st_chart.specs.Words.{place_words}
 use Rattle.st_chart.specs.Chart.{cause_words, item_word}
 use Rattle.st_commands.specs.Output.{Output, refused}
 use Rattle.st_commands.specs.Checked.{Spells}

@@ -3,22 +3,11 @@
 
 ghost use Rattle.st_commands.specs.Command.{Delivers, call};
 ghost use Rattle.st_commands.specs.Output.{no_device, no_memory};
-ghost use Rattle.st_tool.specs.Lines.{text_of};
 ghost use Rattle.st_tool.specs.Renumber.{streams_output};
 
-use crate::lines::{OutputLine, send_line};
 use st_commands::{status_of, tell_fault};
 use st_core::{ByteSink, Streams};
 use st_text::{ReadFault, write_parts};
-
-/// Writes a line that stands alone.
-pub(crate) fn tell_line<W: ByteSink>(writer: &mut W, line: OutputLine, status: u8) -> u8
-    ensures { Delivers (call W.ByteSink writer.old writer.new)
-        (record { text = text_of line; status = status }) result }
-{
-    let sent = send_line(writer, line);
-    status_of(sent, status)
-}
 
 /// Writes the bundle of streams without acts.
 pub(crate) fn tell_streams<W: ByteSink>(writer: &mut W, streams: &Streams) -> u8

@@ -6,10 +6,10 @@ ghost use Rattle.st_hidden.specs.Answers.{IsAnswer, IsNeverFinal};
 ghost use Rattle.st_tool.specs.Complete.{IsCompleted};
 ghost use Rattle.st_tool.specs.Parts.{CompletesTo};
 
-use crate::answer::{tell_line, tell_streams};
+use crate::answer::tell_streams;
 use crate::completion_lines::{send_added, send_never, send_open};
 use crate::lines::OutputLine;
-use st_commands::{status_of, tell_bundle, tell_fault};
+use st_commands::{status_of, tell_bundle, tell_fault, tell_line};
 use st_complete::{Answer, CertificateFault, CompleteFault, Completion, certificate, complete};
 use st_core::{ByteSink, ByteSource, Streams};
 use st_text::{ReadFault, read};

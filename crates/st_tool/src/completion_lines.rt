@@ -7,16 +7,17 @@ ghost use Rattle.arrayvec.specs.ArrayVec.{array_vec_len};
 ghost use Rattle.st_core.specs.Run.{pids_of};
 ghost use Rattle.st_plan.specs.Marks.{all_streams};
 ghost use Rattle.st_text.specs.Room.{buffer_room, line_room};
+ghost use Rattle.st_text.specs.Spelling.{ended_line};
 ghost use Rattle.st_text.specs.Writing.{WritesOn, WritesText};
-ghost use Rattle.st_chart.specs.Words.{ended_line, place_words};
+ghost use Rattle.st_chart.specs.Words.{place_words};
 ghost use Rattle.st_chart.specs.Report.{event_line, event_words};
 ghost use Rattle.st_tool.specs.Complete.{added_at, added_of, added_text, never_text, open_text};
 ghost use Rattle.st_tool.specs.Complete.{other_line, place_line};
 
-use crate::lines::{OutputLine, put_place, write_line};
+use crate::lines::{OutputLine, put_place};
 use st_complete::{Completion, Never};
 use st_core::{ByteSink, Event, Pid, Streams};
-use st_text::{Buffer, Device, flush, make_room, put_bytes, put_event};
+use st_text::{Buffer, Device, flush, make_room, put_bytes, put_event, write_line};
 
 /// Appends a word, a place and a space.
 fn put_front(buffer: &mut Buffer, word: &[u8], pid: Pid, index: u64)

@@ -2,11 +2,10 @@
 //! that reports something else than the streams have, and shows that act, the event that was due,
 //! the report that came, and the actor's state before it.
 
-use crate::answer::tell_line;
 use crate::lines::OutputLine;
 use crate::say::{say, say_act, say_event, say_number, say_pid, say_serial};
 use st_check::{CheckFault, Verdict, check};
-use st_commands::{status_of, tell_fault};
+use st_commands::{status_of, tell_fault, tell_line};
 use st_core::{Act, ByteSink, ByteSource, Event, Pid, Streams, Token};
 use st_text::{Buffer, Bundle, Device, Limits, ReadFault, flush, read_within};
 use st_world::{NewFault, StepFault, World};

@@ -1,18 +1,17 @@
 //! The lines that stand alone. They are written through a buffer on the stack, so that writing
 //! takes no memory.
 
-ghost use Rattle.std.specs.Prelude.{◌≡◌, ◌≤◌, ◌+◌, ◌++◌, codes, length, decimal};
+ghost use Rattle.std.specs.Prelude.{◌≡◌, ◌≤◌, ◌+◌, ◌++◌, codes, length};
 ghost use Rattle.arrayvec.specs.ArrayVec.{array_vec_len};
-ghost use Rattle.st_text.specs.Room.{buffer_room, line_room, number_room};
-ghost use Rattle.st_text.specs.Writing.{WritesOn, WritesText};
+ghost use Rattle.st_text.specs.Room.{buffer_room};
 ghost use Rattle.st_chart.specs.Words.{place_words};
 ghost use Rattle.st_chart.specs.Room.{place_room};
 ghost use Rattle.st_tool.specs.Complete.{never_words};
-ghost use Rattle.st_tool.specs.Lines.{words, text_of, words_room};
+ghost use Rattle.st_tool.specs.Lines.{words_of, words_room};
 
 use st_complete::Never;
-use st_core::{ByteSink, Pid};
-use st_text::{Buffer, Device, flush, make_room, put_bytes, put_number, put_pid};
+use st_core::Pid;
+use st_text::{Buffer, TextLine, put_bytes, put_number, put_numbered, put_pid};
 
 /// A line that stands alone.
 #[derive(Clone, Copy, Debug)]
@@ -40,17 +39,6 @@ pub(crate) fn put_place(buffer: &mut Buffer, pid: Pid, index: u64)
     put_pid(buffer, pid);
     put_bytes(buffer, b" ");
     put_number(buffer, index);
-}
-
-/// Appends words and a number.
-fn put_numbered(buffer: &mut Buffer, words: &[u8], number: u64)
-    requires { array_vec_len buffer.old + (length words.now + number_room) ≤ buffer_room }
-    ensures items { buffer.new.items ≡ buffer.old.items ++ (words.now ++ decimal number) }
-    ensures len { array_vec_len buffer.new
-        ≤ array_vec_len buffer.old + (length words.now + number_room) }
-{
-    put_bytes(buffer, words);
-    put_number(buffer, number);
 }
 
 /// Appends a word and a place.
@@ -96,51 +84,17 @@ fn put_never(buffer: &mut Buffer, pid: Pid, index: u64, never: Never)
     put_never_words(buffer, pid, never);
 }
 
-/// Appends the words of a line.
-fn put_words(buffer: &mut Buffer, line: OutputLine)
-    requires { array_vec_len buffer.old + words_room ≤ buffer_room }
-    ensures items { buffer.new.items ≡ buffer.old.items ++ words line }
-    ensures len { array_vec_len buffer.new ≤ array_vec_len buffer.old + words_room }
-{
-    match line {
-        OutputLine::NoEvent(pid, index) => put_other(buffer, b"no event ", pid, index),
-        OutputLine::NoActs => put_bytes(buffer, b"fault no acts"),
-        OutputLine::Long => put_bytes(buffer, b"long"),
-        OutputLine::Added(count) => put_numbered(buffer, b"added ", count),
-        OutputLine::Never(pid, index, never) => put_never(buffer, pid, index, never),
-        OutputLine::Open(pid, index) => put_other(buffer, b"open ", pid, index),
+impl TextLine for OutputLine {
+    ghost words = { words_of };
+
+    fn put_words(self, buffer: &mut Buffer) {
+        match self {
+            OutputLine::NoEvent(pid, index) => put_other(buffer, b"no event ", pid, index),
+            OutputLine::NoActs => put_bytes(buffer, b"fault no acts"),
+            OutputLine::Long => put_bytes(buffer, b"long"),
+            OutputLine::Added(count) => put_numbered(buffer, b"added ", count),
+            OutputLine::Never(pid, index, never) => put_never(buffer, pid, index, never),
+            OutputLine::Open(pid, index) => put_other(buffer, b"open ", pid, index),
+        }
     }
-}
-
-/// Appends a line and its newline.
-fn put_line(buffer: &mut Buffer, line: OutputLine)
-    requires { array_vec_len buffer.old + line_room ≤ buffer_room }
-    ensures { buffer.new.items ≡ buffer.old.items ++ text_of line }
-{
-    put_words(buffer, line);
-    put_bytes(buffer, b"\n");
-}
-
-/// Appends a line to the buffer. If there is too little room, the writer gets what waits there
-/// first.
-pub(crate) fn write_line<W: ByteSink>(
-    writer: &mut W,
-    buffer: &mut Buffer,
-    line: OutputLine,
-) -> Result<(), Device>
-    ensures { WritesOn W.puts W.failed (text_of line)
-        writer.old writer.new buffer.old.items buffer.new.items result }
-{
-    make_room(writer, buffer)?;
-    put_line(buffer, line);
-    Ok(())
-}
-
-/// Writes one line to the writer.
-pub(crate) fn send_line<W: ByteSink>(writer: &mut W, line: OutputLine) -> Result<(), Device>
-    ensures { WritesText W.puts W.failed (text_of line) writer.old writer.new result }
-{
-    let mut buffer = Buffer::new();
-    write_line(writer, &mut buffer, line)?;
-    flush(writer, &mut buffer)
 }

@@ -9,12 +9,11 @@ ghost use Rattle.st_pair.specs.Places.{event_at};
 ghost use Rattle.st_tool.specs.Parts.{TracesTo};
 ghost use Rattle.st_tool.specs.Why.{IsWhy};
 
-use crate::answer::tell_line;
 use crate::lines::OutputLine;
 use crate::steps::send_steps;
 use st_audit::unfit_by;
 use st_chain::Chains;
-use st_commands::{status_of, tell_fault, tell_finding};
+use st_commands::{status_of, tell_fault, tell_finding, tell_line};
 use st_core::{ByteSink, ByteSource, Pid, Streams};
 use st_pair::{PairFault, Pairing, pair};
 use st_text::{ReadFault, read};

@@ -1,8 +1,8 @@
 -- The words stand behind the marks.
 use Rattle.std.proofs.Common.{codes, ◌++◌}
 use Rattle.std.specs.List.{flat_map}
+use Rattle.st_text.specs.Spelling.{ended_line}
 use Rattle.st_text.proofs.ForCallers.{goes_then, then_on, part_longer, on_err}
-use Rattle.st_chart.specs.Words.{ended_line}
 use Rattle.st_chart.specs.Chart.{mark, item_words}
 use Rattle.st_chart.proofs.Rooms.{room_then, no_room}
 use Rattle.st_chart.proofs.charting.write_item.Goals as goal

@@ -1,7 +1,7 @@
 -- Room is made for the front of the line, and then for the rest.
 use Rattle.st_pair.specs.Places.{event_at}
+use Rattle.st_text.specs.Spelling.{ended_line}
 use Rattle.st_text.proofs.ForCallers.{goes_then, then_on}
-use Rattle.st_chart.specs.Words.{ended_line}
 use Rattle.st_chart.specs.Report.{event_front, event_line, event_words}
 use Rattle.st_chart.proofs.Rooms.{room_then, no_room}
 use Rattle.st_chart.proofs.reporting.write_event.Goals as goal

@@ -1,8 +1,8 @@
 -- The word waits behind what room was made for, and the acts go behind it.
 use Rattle.std.proofs.Common.{codes, ◌++◌}
 use Rattle.std.specs.List.{flat_map}
+use Rattle.st_text.specs.Spelling.{ended_line}
 use Rattle.st_text.proofs.ForCallers.{then_on}
-use Rattle.st_chart.specs.Words.{ended_line}
 use Rattle.st_chart.specs.Report.{act_line}
 use Rattle.st_chart.proofs.Rooms.{room_then, no_room}
 use Rattle.st_chart.proofs.reporting.write_tried.Goals as goal

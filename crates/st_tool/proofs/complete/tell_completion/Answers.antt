@@ -1,5 +1,5 @@
 -- Each form has its text.
-use Rattle.std.proofs.Common.{refl, sym, subst}
+use Rattle.std.proofs.Common.{sym, subst}
 use Rattle.st_plan.specs.Marks.{all_streams}
 use Rattle.st_hidden.specs.declared.answer.Answer.TheVariants as answer
 use Rattle.st_commands.specs.Command.{call}

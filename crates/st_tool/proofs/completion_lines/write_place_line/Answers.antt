@@ -1,7 +1,8 @@
 -- Room is made for the front of the line, and then for the rest.
 use Rattle.std.proofs.Common.{codes, ◌++◌}
+use Rattle.st_text.specs.Spelling.{ended_line}
 use Rattle.st_text.proofs.ForCallers.{goes_then, then_on}
-use Rattle.st_chart.specs.Words.{ended_line, place_words}
+use Rattle.st_chart.specs.Words.{place_words}
 use Rattle.st_chart.specs.Report.{event_words}
 use Rattle.st_tool.specs.Complete.{place_line}
 use Rattle.st_tool.proofs.Rooms.{room_then, no_room}

@@ -1,6 +1,6 @@
 -- Room is made first, and the line then waits in the buffer.
 use Rattle.std.proofs.Common.{[]}
-use Rattle.st_chart.specs.Words.{ended_line}
+use Rattle.st_text.specs.Spelling.{ended_line}
 use Rattle.st_text.proofs.ForCallers.{part_longer, goes_then, goes_buffer, on_err}
 use Rattle.st_tool.specs.Why.{step_words}
 use Rattle.st_tool.proofs.steps.write_step.Goals as goal

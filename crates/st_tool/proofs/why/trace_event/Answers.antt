@@ -1,6 +1,5 @@
 -- The way back begins with the event, so there is a line; running out of memory has a line of its own.
-use Rattle.std.proofs.Common.{refl, sym, subst}
-use Rattle.st_chain.specs.Causes.{IsBackFrom}
+use Rattle.std.proofs.Common.{refl}
 use Rattle.st_commands.specs.Output.{no_memory}
 use Rattle.st_commands.specs.Command.{call}
 use Rattle.st_commands.proofs.ForCallers.{delivers}

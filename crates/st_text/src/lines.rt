@@ -1,0 +1,69 @@
+//! One line on its way to a sink, whatever it says: its words and a newline wait in the buffer.
+//! Writing takes no memory.
+
+ghost use Rattle.std.specs.Prelude.{◌≡◌, ◌+◌, ◌<◌, ◌≤◌, ◌++◌, ℕ, List};
+ghost use Rattle.arrayvec.specs.ArrayVec.{array_vec_len};
+ghost use Rattle.st_text.specs.Room.{buffer_room, line_room};
+ghost use Rattle.st_text.specs.Spelling as spelled;
+ghost use Rattle.st_text.specs.Spelling.{ended_line};
+ghost use Rattle.st_text.specs.Writing.{WritesOn, WritesText};
+
+use crate::line::Line;
+use crate::sink::{Device, flush, make_room};
+use crate::spell::{Buffer, put_act, put_bytes, put_event, put_pid};
+use st_core::ByteSink;
+
+/// What is written as one line.
+pub trait TextLine: Copy {
+    // The line without its newline.
+    ghost words: { Self → List ℕ };
+
+    /// Appends the words, and leaves room for the newline.
+    fn put_words(self, buffer: &mut Buffer)
+        requires { array_vec_len buffer.old + line_room ≤ buffer_room }
+        ensures items { buffer.new.items ≡ buffer.old.items ++ words self }
+        ensures len { array_vec_len buffer.new < array_vec_len buffer.old + line_room };
+}
+
+impl TextLine for Line {
+    ghost words = { spelled.line };
+
+    fn put_words(self, buffer: &mut Buffer) {
+        match self {
+            Line::Header(false) => put_bytes(buffer, b"seqtrace 1"),
+            Line::Header(true) => put_bytes(buffer, b"seqtrace 2"),
+            Line::Process(pid) => {
+                put_bytes(buffer, b"process ");
+                put_pid(buffer, pid);
+            }
+            Line::Event(event) => put_event(buffer, &event),
+            Line::Acts => put_bytes(buffer, b"acts"),
+            Line::Act(act) => put_act(buffer, &act),
+        }
+    }
+}
+
+/// Writes a line into the buffer, and first what waits there if too little room is left.
+pub fn write_line<S: ByteSink, L: TextLine>(
+    sink: &mut S,
+    buffer: &mut Buffer,
+    line: L,
+) -> Result<(), Device>
+    ensures { WritesOn S.puts S.failed (ended_line (L.words line))
+        sink.old sink.new buffer.old.items buffer.new.items result }
+{
+    make_room(sink, buffer)?;
+    line.put_words(buffer);
+    put_bytes(buffer, b"\n");
+    Ok(())
+}
+
+/// Writes one line to the sink. Not inlined, so that its buffer isn't on the stack of its callers.
+#[inline(never)]
+pub fn send_line<S: ByteSink, L: TextLine>(sink: &mut S, line: L) -> Result<(), Device>
+    ensures { WritesText S.puts S.failed (ended_line (L.words line)) sink.old sink.new result }
+{
+    let mut buffer = Buffer::new();
+    write_line(sink, &mut buffer, line)?;
+    flush(sink, &mut buffer)
+}
