@@ -43,8 +43,8 @@ explain(<<"late">>) ->
      "falls behind what it received. Only a reset puts it back.",
      ?COUNTER_WENT_BACK};
 explain(<<"unfounded">>) ->
-    {"by its serial the event follows nothing, but its process had received a message of a trace "
-     "before. Only a reset makes a process forget that.",
+    {"by its serial the event follows nothing, but the process that sent or printed it had received a "
+     "message of a trace before. Only a reset makes a process forget that.",
      "seq_trace:reset_trace/0 before the event; a token that set_token/1 puts back; files of two "
      "runs converted as one."};
 explain(<<"unsent">>) ->
