@@ -7,8 +7,9 @@ from .program import Answer, Check
 SMALL, GREAT = 10_000, 1_000_000
 # The seconds that so many messages may take: a message is found in time that grows as the logarithm of its queue's length.
 BOUND = {SMALL: 1, GREAT: 10}
-# The most memory that a command takes for a message, in bytes. Beside that a program takes some megabytes for any input.
-BYTES = 400
+# The most memory that a command takes for a message, in bytes, and `drive` for one that nobody takes: it keeps the queue
+# beside the log of both acts. Beside that a program takes some megabytes for any input.
+BYTES, BYTES_LEFT = 400, 550
 LEAST_MEGABYTES = 20
 
 # A server with so many waiting messages makes so many calls, and takes the messages after that.
@@ -40,6 +41,7 @@ def middle(count):
     return (left // 2 for left in range(count, 0, -1))
 
 
+NONE_TAKEN = "receives from a sender that sent nothing"
 # Acts on the queue, as many as it has messages.
 WANTS = {
     "resets": same(b"reset <0.0.0>\n"),
@@ -49,16 +51,16 @@ WANTS = {
     "receives by value, the first first": numbered(b"receive <0.0.0> value %d\n", range),
     "receives by value, the last first": numbered(b"receive <0.0.0> value %d\n", falling),
     "receives by sender": same(b"receive <0.0.0> from <0.0.0>\n"),
-    "receives from a sender that sent nothing": same(b"receive <0.0.0> from <0.1.0>\n"),
+    NONE_TAKEN: same(b"receive <0.0.0> from <0.1.0>\n"),
     "receives by sender and value, the first first": numbered(b"receive <0.0.0> both <0.0.0> %d\n", range),
     "receives by sender and value, the last first": numbered(b"receive <0.0.0> both <0.0.0> %d\n", falling),
 }
 
 
-def timed(program, name, words, pieces, is_right, bound, count):
+def timed(program, name, words, pieces, is_right, bound, count, bytes_each=BYTES):
     """The check of one input with so many messages: what the program writes, in time and memory."""
     got, taken, megabytes = program.measure(words, pieces, 6 * bound)
-    most = LEAST_MEGABYTES + BYTES * count // 1_000_000
+    most = LEAST_MEGABYTES + bytes_each * count // 1_000_000
     if got.status == -9:
         return Check(name, f"no output in {6 * bound} s")
     if not is_right(got):
@@ -81,7 +83,8 @@ def waited(program, command, kind, count):
         return got == Answer(0, b"yes\n" if command == "check" else b"".join(pieces()))
 
     name = f"queues: {count:,} sends to one process, then as many {kind}, by {command}"
-    yield timed(program, name, (command,), pieces(), is_right, BOUND[count], count)
+    bytes_each = BYTES_LEFT if (command, kind) == ("drive", NONE_TAKEN) else BYTES
+    yield timed(program, name, (command,), pieces(), is_right, BOUND[count], count, bytes_each)
 
 
 def on_node(program, act):
