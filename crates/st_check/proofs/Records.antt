@@ -257,7 +257,8 @@ recorded_rises top pids acts keeps s streams replies p told same =
 -- recorded streams list the run's processes
 pub recorded_pids : (top : ℕ) (pids : List Pid) (acts : List Act) (keeps : Bool) (s : State) (streams : List Stream)
     (replies : List Reply) → IsReplayedTo top pids acts keeps s streams replies → pids ≡ pids_of streams
-recorded_pids top pids acts keeps s streams replies p = reported_pids pids acts p.outcomes ∙ ap pids_of (sym p.are_streams)
+recorded_pids top pids acts keeps s streams replies p =
+    reported_pids pids acts p.outcomes ∙ ap pids_of (sym p.are_streams)
   where
     reported_pids : (ps : List Pid) (acts : List Act) (os : List Outcome) → ps ≡ pids_of (reported_streams ps acts os)
     reported_pids [] acts os = refl

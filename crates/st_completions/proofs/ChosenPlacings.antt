@@ -174,7 +174,8 @@ module _ (top : ℕ) (streams : List Stream) (sound : IsStreams streams) (accept
         → events_of all p ≡ events_of (all_streams t.wholes) p) [
           | true ↦ λ listed. sym (t.events p listed ∙ picked p (lists streams p) refl listed)
           | false ↦ λ unlisted. unlisted_events all p (unlisted_in all same_pids p unlisted)
-              ∙ sym (unlisted_events (all_streams t.wholes) p (unlisted_in (all_streams t.wholes) choice_pids p unlisted))
+              ∙ sym (unlisted_events (all_streams t.wholes) p
+              (unlisted_in (all_streams t.wholes) choice_pids p unlisted))
         ] refl
 
     same_all : all_streams t.wholes ≡ all

@@ -9,14 +9,16 @@ pub use Rattle.st_completions.proofs.ReasonlessStreams.{IsNeedOf, need_of, fit_t
 pub use Rattle.st_completions.proofs.SameNames.{streams_with}
 pub use Rattle.st_completions.proofs.StampsTold.{told_zeros_final, stamper}
 pub use Rattle.st_completions.proofs.ZeroFreePlacings.{founded_least}
-pub use Rattle.st_completions.proofs.ChosenPlacings.{AreScarce, chosen_open, IsChosen, IsOpenTo, needs_of_all, stream_by}
+pub use Rattle.st_completions.proofs.ChosenPlacings.{AreScarce, chosen_open, IsChosen, IsOpenTo}
+pub use Rattle.st_completions.proofs.ChosenPlacings.{needs_of_all, stream_by}
 pub use Rattle.st_completions.proofs.ChosenPlacings.{streams_by}
 pub use Rattle.st_completions.proofs.Leasts.{Among, among_filter, mixed, timely_is, never_shown_anywhere, smallest_low}
 pub use Rattle.st_completions.proofs.Mixes.{among_at, at_among, IsTakenApart, placing_from, timely_of, among_marks}
 pub use Rattle.st_completions.proofs.Mixes.{told_append, untold_append}
 pub use Rattle.st_completions.proofs.MergedPlacings.{some_placing}
 pub use Rattle.st_completions.proofs.JointPlacings.{hidden_one, one_hidden}
-pub use Rattle.st_completions.proofs.UntoldEvents.{hidden_is, AreBelow, AreHidden, count_at, HasCount, HaveHidden, hidden_all}
+pub use Rattle.st_completions.proofs.UntoldEvents.{hidden_is, AreBelow, AreHidden, count_at}
+pub use Rattle.st_completions.proofs.UntoldEvents.{HasCount, HaveHidden, hidden_all}
 pub use Rattle.st_completions.proofs.UntoldEvents.{first_of, IsHiddenSend, RisesFrom, untold_events}
 pub use Rattle.st_completions.proofs.Lookups.{HasStamp, none_stamped, IsTaken}
 pub use Rattle.st_completions.proofs.InsertedEvents.{listed_at}

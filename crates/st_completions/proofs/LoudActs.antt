@@ -286,7 +286,8 @@ acted_louder top (act.Clear p) r done h other = subst (IsLouder top r (act.Clear
 })
 acted_louder top (act.Restore p t) r done h other = subst (IsLouder top r (act.Restore p t))
     (same_Some _ done h) (record {
-      part = answers (loud r) (record (loud r).local { token = Some (loud_token t) }) (reply.Previous (loud r).local.token);
+      part = answers (loud r) (record (loud r).local { token = Some (loud_token t) })
+          (reply.Previous (loud r).local.token);
       is_part = refl;
       local = refl;
       queue = refl;

@@ -32,7 +32,8 @@ use Rattle.st_completions.proofs.Mixes.{told_append, untold_append}
 use Rattle.st_completions.proofs.ReasonlessStreams.{fit_together, need_of}
 use Rattle.st_completions.proofs.StampsTold.{stamper}
 use Rattle.st_completions.proofs.Suppliers.{own_at}
-use Rattle.st_completions.proofs.EventsInTurn.{AreReceives, count_low, greatest_append, none_asks, timely_back, timely_high}
+use Rattle.st_completions.proofs.EventsInTurn.{AreReceives, count_low, greatest_append, none_asks}
+use Rattle.st_completions.proofs.EventsInTurn.{timely_back, timely_high}
 use Rattle.st_completions.proofs.JointPlacings.{hidden_each}
 use Rattle.st_completions.proofs.Supplies.{highest}
 use Rattle.st_completions.proofs.UntoldEvents.{hidden_is, untold_events}

@@ -11,12 +11,14 @@ use Rattle.st_check.proofs.recording.record_run.Goals as goal
 pub advance-requires : goal.advance-requires
 advance-requires g c =
     let r = c.loop-number.recording in
-    let same = recorded_pids g.row.TOP c.args.pids.now _ c.args.keeps_replies r.world r.streams r.replies c.loop-number.invariant in (
+    let same = recorded_pids g.row.TOP c.args.pids.now _ c.args.keeps_replies
+    r.world r.streams r.replies c.loop-number.invariant in (
       omega arith,
       (
         c.loop-number-test.true,
         subst
-            (λ ps. IsReplayedTo g.row.TOP ps (take c.loop-number.number c.args.acts.now) c.args.keeps_replies r.world r.streams r.replies)
+            (λ ps. IsReplayedTo g.row.TOP ps (take c.loop-number.number c.args.acts.now)
+            c.args.keeps_replies r.world r.streams r.replies)
             same
             c.loop-number.invariant,
       ),
@@ -25,7 +27,8 @@ advance-requires g c =
 pub returns-then-not-has_step-clause-replay : goal.returns-then-not-has_step-clause-replay
 returns-then-not-has_step-clause-replay g c =
     let r = c.loop-number.recording in
-    let same = recorded_pids g.row.TOP c.args.pids.now _ c.args.keeps_replies r.world r.streams r.replies c.loop-number.invariant in
+    let same = recorded_pids g.row.TOP c.args.pids.now _ c.args.keeps_replies
+    r.world r.streams r.replies c.loop-number.invariant in
     record {
       within = c.loop-number-test.true;
       before = ap is_some c.loop-number.invariant.runs;
@@ -37,8 +40,10 @@ pub loop-number-preserved : goal.loop-number-preserved
 loop-number-preserved g c =
     let r = c.loop-number.recording in
     let new = c.advance.new.self in
-    let same = recorded_pids g.row.TOP c.args.pids.now _ c.args.keeps_replies r.world r.streams r.replies c.loop-number.invariant in
-    subst (λ ps. IsReplayedTo g.row.TOP ps (take (c.loop-number.number + 1) c.args.acts.now) c.args.keeps_replies new.world new.streams
+    let same = recorded_pids g.row.TOP c.args.pids.now _ c.args.keeps_replies
+    r.world r.streams r.replies c.loop-number.invariant in
+    subst (λ ps. IsReplayedTo g.row.TOP ps (take (c.loop-number.number + 1) c.args.acts.now)
+    c.args.keeps_replies new.world new.streams
     new.replies) (sym same) (MatchBool-at_true _ _ c.if-not-has_step.false c.in-Ok.ensures)
 
 pub unreachable-requires : goal.unreachable-requires
@@ -50,5 +55,6 @@ unreachable-requires g c =
 pub returns-clause-rises : goal.returns-clause-rises
 returns-clause-rises g c =
     let r = c.loop-number.recording in
-    recorded_rises g.row.TOP c.args.pids.now _ c.args.keeps_replies r.world r.streams r.replies c.loop-number.invariant
+    recorded_rises g.row.TOP c.args.pids.now _ c.args.keeps_replies
+    r.world r.streams r.replies c.loop-number.invariant
     c.in-Ok-close.streams c.in-Ok-close.ensures.ok

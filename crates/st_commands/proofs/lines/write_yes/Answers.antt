@@ -9,10 +9,12 @@ use Rattle.st_commands.proofs.lines.write_yes.Goals as goal
 pub returns-in_err-write_line : goal.returns-in_err-write_line
 returns-in_err-write_line g c =
     on_err _ _ _ _ c.from_residual.ensures.0
-    (part_longer g.W.ByteSink.puts g.W.ByteSink.failed (ended_line (codes "yes")) (flat_map pair_line c.args.pairs.now) _
+    (part_longer g.W.ByteSink.puts g.W.ByteSink.failed (ended_line (codes "yes"))
+    (flat_map pair_line c.args.pairs.now) _
     c.in_err-write_line.ensures)
 
 pub returns : goal.returns
 returns g c =
-    then_on g.W.ByteSink.puts g.W.ByteSink.failed (ended_line (codes "yes")) (flat_map pair_line c.args.pairs.now) _ _
+    then_on g.W.ByteSink.puts g.W.ByteSink.failed (ended_line (codes "yes"))
+    (flat_map pair_line c.args.pairs.now) _ _
     c.write_pairs.result c.in_ok-write_line.ensures c.write_pairs.ensures

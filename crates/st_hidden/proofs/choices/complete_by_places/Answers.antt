@@ -13,23 +13,27 @@ placed_wholes-requires-clause-timely g c = none_late g.row.TOP c.args.streams.no
 pub complete_told-requires-clause-told : goal.complete_told-requires-clause-told
 complete_told-requires-clause-told g c =
     ap told_streams c.deref.ensures.value
-    ∙ placed_told g.row.TOP c.args.streams.now c.pids-pids.ensures.streams c.requires.accepted c.requires.none
+    ∙ placed_told g.row.TOP c.args.streams.now c.pids-pids.ensures.streams
+    c.requires.accepted c.requires.none
     c.requires.no_two c.in_ok-wholes.wholes.items _ c.requires.counts c.in_ok-wholes.ensures
 
 pub complete_told-requires-clause-sound : goal.complete_told-requires-clause-sound
 complete_told-requires-clause-sound g c =
-    let chosen = placed_open g.row.TOP c.args.streams.now c.pids-pids.ensures.streams c.requires.accepted c.requires.none
+    let chosen = placed_open g.row.TOP c.args.streams.now c.pids-pids.ensures.streams
+    c.requires.accepted c.requires.none
     c.requires.no_two c.in_ok-wholes.wholes.items _ c.requires.counts c.in_ok-wholes.ensures in
     subst (λ ws. IsStreams (all_streams ws)) (sym c.deref.ensures.value) chosen.sound
 
 pub complete_told-requires-clause-sends : goal.complete_told-requires-clause-sends
 complete_told-requires-clause-sends g c =
-    let chosen = placed_open g.row.TOP c.args.streams.now c.pids-pids.ensures.streams c.requires.accepted c.requires.none
+    let chosen = placed_open g.row.TOP c.args.streams.now c.pids-pids.ensures.streams
+    c.requires.accepted c.requires.none
     c.requires.no_two c.in_ok-wholes.wholes.items _ c.requires.counts c.in_ok-wholes.ensures in
     subst (λ ws. HasEachSend (all_streams ws)) (sym c.deref.ensures.value) chosen.sends
 
 pub complete_told-requires-clause-none : goal.complete_told-requires-clause-none
 complete_told-requires-clause-none g c =
-    let chosen = placed_open g.row.TOP c.args.streams.now c.pids-pids.ensures.streams c.requires.accepted c.requires.none
+    let chosen = placed_open g.row.TOP c.args.streams.now c.pids-pids.ensures.streams
+    c.requires.accepted c.requires.none
     c.requires.no_two c.in_ok-wholes.wholes.items _ c.requires.counts c.in_ok-wholes.ensures in
     subst (λ ws. HasNoReason g.row.TOP (all_streams ws)) (sym c.deref.ensures.value) chosen.none

@@ -32,7 +32,8 @@ loop-place-preserved c =
     let hidden = c.hidden_at.ensures
     ∙ hidden_here streams c.args.hidden.now c.pids-pids.result.now c.loop-place.place none c.requires.hidden
     c.pids-pids.ensures.value c.loop-place-test.true in
-    none_next_place streams c.pids-pids.ensures.streams c.requires.accepted c.pids-pids.result.now c.loop-place.place none
+    none_next_place streams c.pids-pids.ensures.streams c.requires.accepted
+    c.pids-pids.result.now c.loop-place.place none
     _ _ _ c.pids-pids.ensures.value c.loop-place-test.true c.requires.counts c.events.ensures.value hidden
     (rw c.in_default.is at c.in_ok-found.ensures.none) c.loop-place.invariant
 

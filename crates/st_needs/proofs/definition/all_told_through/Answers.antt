@@ -37,5 +37,6 @@ loop-whole-preserved c =
 
 pub returns : goal.returns
 returns c =
-    told_all c.args.all.now c.args.lists.now c.loop-whole.both.items c.args.wholes.now c.loop-whole.whole-index c.requires
+    told_all c.args.all.now c.args.lists.now c.loop-whole.both.items c.args.wholes.now
+    c.loop-whole.whole-index c.requires
     (let past = c.loop-whole-test.false in omega arith) c.loop-whole.invariant.each
