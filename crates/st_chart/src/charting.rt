@@ -1,9 +1,8 @@
 //! The chart of one label.
 
-ghost use Rattle.std.specs.Prelude.{◌≡◌, ◌↔◌, ◌≤◌, ◌+◌, ◌++◌, false, Err};
+ghost use Rattle.std.specs.Prelude.{◌≡◌, ◌↔◌, ◌+◌, ◌++◌, false, Err};
 ghost use Rattle.std.specs.List.{flat_map, list_any};
-ghost use Rattle.arrayvec.specs.ArrayVec.{array_vec_len};
-ghost use Rattle.st_text.specs.Room.{buffer_room, line_room};
+ghost use Rattle.st_text.specs.Room.{line_room, HasRoom};
 ghost use Rattle.st_text.specs.Writing.{WritesOn, WritesText};
 ghost use Rattle.st_order.specs.Labels.{item_has_label};
 ghost use Rattle.st_chart.specs.Answer.{WritesChart};
@@ -23,7 +22,7 @@ use std::alloc::Global;
 
 /// Appends the line that names the label.
 fn put_label_line(buffer: &mut Buffer, label: Label)
-    requires { array_vec_len buffer.old + line_room ≤ buffer_room }
+    requires { HasRoom line_room buffer.old }
     ensures { buffer.new.items ≡ buffer.old.items ++ label_line label }
 {
     put_bytes(buffer, b"label ");
@@ -33,7 +32,7 @@ fn put_label_line(buffer: &mut Buffer, label: Label)
 
 /// Appends the line of a lane.
 fn put_lane_line(buffer: &mut Buffer, number: u64, pid: Pid)
-    requires { array_vec_len buffer.old + line_room ≤ buffer_room }
+    requires { HasRoom line_room buffer.old }
     ensures { buffer.new.items ≡ buffer.old.items ++ lane_line number pid }
 {
     put_bytes(buffer, b"lane ");

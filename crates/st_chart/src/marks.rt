@@ -1,8 +1,7 @@
 //! The parts of a chart's line for an item.
 
-ghost use Rattle.std.specs.Prelude.{◌≡◌, ◌≤◌, ◌+◌, ◌++◌, codes};
-ghost use Rattle.arrayvec.specs.ArrayVec.{array_vec_len};
-ghost use Rattle.st_text.specs.Room.{buffer_room, line_room};
+ghost use Rattle.std.specs.Prelude.{◌≡◌, ◌+◌, ◌++◌, codes};
+ghost use Rattle.st_text.specs.Room.{line_room, HasRoom, Puts};
 ghost use Rattle.st_text.specs.Spelling.{ended_line};
 ghost use Rattle.st_chart.specs.Chart.{letter, mark, item_word, cause_words, origin_words};
 ghost use Rattle.st_chart.specs.Chart.{item_words};
@@ -17,7 +16,7 @@ use st_text::{Buffer, put_bytes, put_number, put_serial};
 
 /// Appends the mark of the lane in which an item happened.
 fn put_letter(buffer: &mut Buffer, item: Item, kind: Kind)
-    requires { array_vec_len buffer.old + mark_room ≤ buffer_room }
+    requires { HasRoom mark_room buffer.old }
     ensures { buffer.new.items ≡ buffer.old.items ++ letter item kind }
 {
     match item {
@@ -32,7 +31,7 @@ fn put_letter(buffer: &mut Buffer, item: Item, kind: Kind)
 
 /// Appends an item's mark in a process's lane.
 pub(crate) fn put_mark(buffer: &mut Buffer, charted: &ChartedItem, lane: Pid)
-    requires { array_vec_len buffer.old + mark_room ≤ buffer_room }
+    requires { HasRoom mark_room buffer.old }
     ensures { buffer.new.items ≡ buffer.old.items ++ mark charted.now lane }
 {
     if charted.is_at(lane) {
@@ -46,9 +45,8 @@ pub(crate) fn put_mark(buffer: &mut Buffer, charted: &ChartedItem, lane: Pid)
 
 /// Appends what an item is.
 fn put_item_word(buffer: &mut Buffer, item: Item, kind: Kind)
-    requires { array_vec_len buffer.old + item_word_room ≤ buffer_room }
-    ensures items { buffer.new.items ≡ buffer.old.items ++ item_word item kind }
-    ensures len { array_vec_len buffer.new ≤ array_vec_len buffer.old + item_word_room }
+    requires { HasRoom item_word_room buffer.old }
+    ensures { Puts item_word_room (item_word item kind) buffer.old buffer.new }
 {
     match item {
         Item::Hidden(_, _) => put_bytes(buffer, b"hidden  "),
@@ -62,9 +60,8 @@ fn put_item_word(buffer: &mut Buffer, item: Item, kind: Kind)
 
 /// Appends a cause.
 fn put_cause(buffer: &mut Buffer, cause: Option<Cause>)
-    requires { array_vec_len buffer.old + origin_room ≤ buffer_room }
-    ensures items { buffer.new.items ≡ buffer.old.items ++ cause_words cause }
-    ensures len { array_vec_len buffer.new ≤ array_vec_len buffer.old + origin_room }
+    requires { HasRoom origin_room buffer.old }
+    ensures { Puts origin_room (cause_words cause) buffer.old buffer.new }
 {
     match cause {
         None => {}
@@ -79,9 +76,8 @@ fn put_cause(buffer: &mut Buffer, cause: Option<Cause>)
 
 /// Appends what an item follows.
 fn put_origin(buffer: &mut Buffer, chains: &Chains, item: Item)
-    requires { array_vec_len buffer.old + origin_room ≤ buffer_room }
-    ensures items { buffer.new.items ≡ buffer.old.items ++ origin_words chains.now item }
-    ensures len { array_vec_len buffer.new ≤ array_vec_len buffer.old + origin_room }
+    requires { HasRoom origin_room buffer.old }
+    ensures { Puts origin_room (origin_words chains.now item) buffer.old buffer.new }
 {
     match item {
         Item::Reported(pid, index) => put_cause(buffer, chains.cause(pid, index)),
@@ -91,9 +87,8 @@ fn put_origin(buffer: &mut Buffer, chains: &Chains, item: Item)
 
 /// Appends an item's word, serial, value and cause.
 fn put_item_words(buffer: &mut Buffer, chains: &Chains, charted: &ChartedItem)
-    requires { array_vec_len buffer.old + item_room ≤ buffer_room }
-    ensures items { buffer.new.items ≡ buffer.old.items ++ item_words chains.now charted.now }
-    ensures len { array_vec_len buffer.new ≤ array_vec_len buffer.old + item_room }
+    requires { HasRoom item_room buffer.old }
+    ensures { Puts item_room (item_words chains.now charted.now) buffer.old buffer.new }
 {
     put_item_word(buffer, charted.item, charted.event.kind);
     put_bytes(buffer, b" ");
@@ -106,7 +101,7 @@ fn put_item_words(buffer: &mut Buffer, chains: &Chains, charted: &ChartedItem)
 
 /// Appends what follows the marks.
 pub(crate) fn put_item(buffer: &mut Buffer, chains: &Chains, charted: &ChartedItem)
-    requires { array_vec_len buffer.old + line_room ≤ buffer_room }
+    requires { HasRoom line_room buffer.old }
     ensures { buffer.new.items
         ≡ buffer.old.items ++ ended_line (codes "  " ++ item_words chains.now charted.now) }
 {

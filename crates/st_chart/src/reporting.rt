@@ -1,9 +1,8 @@
 //! The report of what the auditor found.
 
-ghost use Rattle.std.specs.Prelude.{◌≡◌, ◌≤◌, ◌+◌, ◌++◌, length, codes};
+ghost use Rattle.std.specs.Prelude.{◌≡◌, ◌+◌, ◌++◌, length, codes};
 ghost use Rattle.std.specs.List.{flat_map};
-ghost use Rattle.arrayvec.specs.ArrayVec.{array_vec_len};
-ghost use Rattle.st_text.specs.Room.{buffer_room, line_room, number_room, pid_room};
+ghost use Rattle.st_text.specs.Room.{line_room, HasRoom, Puts};
 ghost use Rattle.st_text.specs.Spelling.{ended_line};
 ghost use Rattle.st_text.specs.Writing.{WritesOn, WritesText};
 ghost use Rattle.st_chart.specs.Words.{place_words};
@@ -23,9 +22,8 @@ use st_text::{
 
 /// Appends what the tried acts come to.
 fn put_verdict(buffer: &mut Buffer, verdict: &Verdict)
-    requires { array_vec_len buffer.old + verdict_room ≤ buffer_room }
-    ensures items { buffer.new.items ≡ buffer.old.items ++ verdict_words verdict.now }
-    ensures len { array_vec_len buffer.new ≤ array_vec_len buffer.old + verdict_room }
+    requires { HasRoom verdict_room buffer.old }
+    ensures { Puts verdict_room (verdict_words verdict.now) buffer.old buffer.new }
 {
     match verdict {
         Verdict::Stuck(n) => {
@@ -46,10 +44,9 @@ fn put_verdict(buffer: &mut Buffer, verdict: &Verdict)
 
 /// Appends a word and the other place.
 fn put_other(buffer: &mut Buffer, word: &[u8], pid: Pid, index: u64)
-    requires { array_vec_len buffer.old + (length word.now + place_room) ≤ buffer_room }
-    ensures items { buffer.new.items ≡ buffer.old.items ++ (word.now ++ place_words pid index) }
-    ensures len { array_vec_len buffer.new
-        ≤ array_vec_len buffer.old + (length word.now + place_room) }
+    requires { HasRoom (length word.now + place_room) buffer.old }
+    ensures { Puts (length word.now + place_room)
+        (word.now ++ place_words pid index) buffer.old buffer.new }
 {
     put_bytes(buffer, word);
     put_place(buffer, pid, index);
@@ -57,9 +54,8 @@ fn put_other(buffer: &mut Buffer, word: &[u8], pid: Pid, index: u64)
 
 /// Appends the reason against an event of this process.
 fn put_reason(buffer: &mut Buffer, pid: Pid, reason: &Reason)
-    requires { array_vec_len buffer.old + reason_room ≤ buffer_room }
-    ensures items { buffer.new.items ≡ buffer.old.items ++ reason_words pid reason.now }
-    ensures len { array_vec_len buffer.new ≤ array_vec_len buffer.old + reason_room }
+    requires { HasRoom reason_room buffer.old }
+    ensures { Puts reason_room (reason_words pid reason.now) buffer.old buffer.new }
 {
     match reason {
         Reason::PrevNotBefore => put_bytes(buffer, b"prevnotbefore"),
@@ -77,7 +73,7 @@ fn put_reason(buffer: &mut Buffer, pid: Pid, reason: &Reason)
 
 /// Appends the line that names the place and the reason.
 fn put_unfit(buffer: &mut Buffer, pid: Pid, index: u64, reason: &Reason)
-    requires { array_vec_len buffer.old + line_room ≤ buffer_room }
+    requires { HasRoom line_room buffer.old }
     ensures { buffer.new.items ≡ buffer.old.items ++ unfit_line pid index reason.now }
 {
     put_bytes(buffer, b"unfit ");
@@ -89,7 +85,7 @@ fn put_unfit(buffer: &mut Buffer, pid: Pid, index: u64, reason: &Reason)
 
 /// Appends the front of an event's line, which takes room by itself.
 fn put_front(buffer: &mut Buffer, pid: Pid, index: u64)
-    requires { array_vec_len buffer.old + line_room ≤ buffer_room }
+    requires { HasRoom line_room buffer.old }
     ensures { buffer.new.items ≡ buffer.old.items ++ event_front pid index }
 {
     put_bytes(buffer, b"event ");
@@ -99,7 +95,7 @@ fn put_front(buffer: &mut Buffer, pid: Pid, index: u64)
 
 /// Appends the rest of an event's line.
 fn put_back(buffer: &mut Buffer, event: Option<Event>)
-    requires { array_vec_len buffer.old + line_room ≤ buffer_room }
+    requires { HasRoom line_room buffer.old }
     ensures { buffer.new.items ≡ buffer.old.items ++ ended_line (event_words event) }
 {
     if let Some(event) = event {
@@ -110,7 +106,7 @@ fn put_back(buffer: &mut Buffer, event: Option<Event>)
 
 /// Appends an act's line.
 fn put_act_line(buffer: &mut Buffer, act: &Act)
-    requires { array_vec_len buffer.old + line_room ≤ buffer_room }
+    requires { HasRoom line_room buffer.old }
     ensures { buffer.new.items ≡ buffer.old.items ++ act_line act.now }
 {
     put_act(buffer, act);

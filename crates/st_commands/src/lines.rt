@@ -1,11 +1,10 @@
 //! The lines that the program writes, through a buffer on the stack. Which line is written is
 //! decided elsewhere; writing takes no memory.
 
-ghost use Rattle.std.specs.Prelude.{◌≡◌, ◌≤◌, ◌+◌, ◌++◌, codes};
+ghost use Rattle.std.specs.Prelude.{◌+◌, ◌++◌, codes};
 ghost use Rattle.std.specs.List.{flat_map};
-ghost use Rattle.arrayvec.specs.ArrayVec.{array_vec_len};
 ghost use Rattle.st_check.specs.Answers.{verdict_of};
-ghost use Rattle.st_text.specs.Room.{buffer_room};
+ghost use Rattle.st_text.specs.Room.{HasRoom, Puts};
 ghost use Rattle.st_text.specs.Spelling.{ended_line};
 ghost use Rattle.st_text.specs.Writing.{WritesOn, WritesText};
 ghost use Rattle.st_commands.specs.Lines.{words_of, words_room};
@@ -49,9 +48,8 @@ pub(crate) enum OutputLine {
 
 /// Appends the numbers of a receive's act and of its send's.
 fn put_pair(buffer: &mut Buffer, receive: u64, send: u64)
-    requires { array_vec_len buffer.old + words_room ≤ buffer_room }
-    ensures items { buffer.new.items ≡ buffer.old.items ++ pair_words (receive, send) }
-    ensures len { array_vec_len buffer.new ≤ array_vec_len buffer.old + words_room }
+    requires { HasRoom words_room buffer.old }
+    ensures { Puts words_room (pair_words (receive, send)) buffer.old buffer.new }
 {
     put_numbered(buffer, b"pair ", receive);
     put_numbered(buffer, b" ", send);
@@ -59,9 +57,8 @@ fn put_pair(buffer: &mut Buffer, receive: u64, send: u64)
 
 /// Appends the words of a fault.
 fn put_fault(buffer: &mut Buffer, fault: ReadFault)
-    requires { array_vec_len buffer.old + words_room ≤ buffer_room }
-    ensures items { buffer.new.items ≡ buffer.old.items ++ fault_words fault }
-    ensures len { array_vec_len buffer.new ≤ array_vec_len buffer.old + words_room }
+    requires { HasRoom words_room buffer.old }
+    ensures { Puts words_room (fault_words fault) buffer.old buffer.new }
 {
     match fault {
         ReadFault::Memory => put_bytes(buffer, b"fault memory"),
@@ -78,9 +75,8 @@ fn put_fault(buffer: &mut Buffer, fault: ReadFault)
 
 /// Appends the words of an act that was refused.
 fn put_act_fault(buffer: &mut Buffer, pid: Pid, n: u64)
-    requires { array_vec_len buffer.old + words_room ≤ buffer_room }
-    ensures items { buffer.new.items ≡ buffer.old.items ++ act_fault_words pid n }
-    ensures len { array_vec_len buffer.new ≤ array_vec_len buffer.old + words_room }
+    requires { HasRoom words_room buffer.old }
+    ensures { Puts words_room (act_fault_words pid n) buffer.old buffer.new }
 {
     put_bytes(buffer, b"fault act ");
     put_pid(buffer, pid);

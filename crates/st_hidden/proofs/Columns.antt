@@ -3,8 +3,8 @@
 -- hidden send. Above the top of the next column a stamp is late behind each event, and so it is
 -- behind each hidden send. If the last of the hidden sends that came would be late, it stays late
 -- wherever it stands later.
-use Rattle.std.proofs.Common.{◌≡◌, ℕ, ◌+◌, ◌-◌, zero, suc, ◌<◌, ◌≤◌, ◌==◌, ◌&&◌, ◌⊎◌, inl, inr, max}
-use Rattle.std.proofs.Common.{min, nat_lt, not, Bool, true, false, cond, List, [], ◌∷◌, length}
+use Rattle.std.proofs.Common.{◌≡◌, ℕ, ◌+◌, ◌-◌, zero, suc, ◌<◌, ◌≤◌, ◌==◌, inl, inr, max}
+use Rattle.std.proofs.Common.{min, nat_lt, not, true, false, cond, List, [], ◌∷◌, length}
 use Rattle.std.proofs.Common.{length-drop, drop, get_or, slice_get, Option, Some, None, option_map}
 use Rattle.std.proofs.Common.{refl, sym, ◌∙◌, ap, subst, arith}
 use Rattle.std.specs.Option.{ForSome}

@@ -2,11 +2,11 @@
 -- send isn't reported, so it is the hidden send of its count, since no other receive has this
 -- sender and count; and each hidden send has its receive. Two lists that rise and have the same
 -- counts are one list.
-use Rattle.std.proofs.Common.{◌≡◌, ◌⊎◌, inl, inr, ℕ, zero, suc, ◌+◌, ◌<◌, ◌≤◌, ◌&&◌, nat_lt, not, Bool, true, false}
+use Rattle.std.proofs.Common.{◌≡◌, ◌⊎◌, inl, inr, ℕ, zero, suc, ◌+◌, ◌<◌, ◌≤◌, ◌&&◌, nat_lt, Bool, true, false}
 use Rattle.std.proofs.Common.{cond, List, [], ◌∷◌, ◌++◌, length, drop, get_or, slice_get, Option, Some, None, is_none}
 use Rattle.std.proofs.Common.{option_map, option_and_then, refl, sym, ◌∙◌, ap, subst, arith, append_assoc}
 use Rattle.std.specs.List.{Contains}
-use Rattle.std.specs.List.Sorted.{IsNonDecreasingBy, IsPermutation}
+use Rattle.std.specs.List.Sorted.{IsPermutation}
 use Rattle.std.proofs.lemmas.Bool.{and_from, and_parts, cases_lt, false≢true, ltb-false, ltb-true}
 use Rattle.std.proofs.lemmas.List.{drop_more}
 use Rattle.std.proofs.lemmas.List.Sorted.{Contains-permutation, IsPermutation-sym}
@@ -19,9 +19,9 @@ use Rattle.st_core.specs.Streams.{events_of, stream_of}
 use Rattle.st_core.proofs.ForCallers.{pid_eq-refl, pid_same}
 use Rattle.st_pair.specs.declared.answer.Source.{Source}
 use Rattle.st_pair.specs.declared.answer.Source.TheVariants as source
-use Rattle.st_pair.specs.Pairing.{receive_of, refusal, source_of, stamp_of}
+use Rattle.st_pair.specs.Pairing.{receive_of, refusal, stamp_of}
 use Rattle.st_pair.specs.Places.{event_at, is_stamp}
-use Rattle.st_pair.proofs.ForCallers.{at_get_or, blank, events_in, paired}
+use Rattle.st_pair.proofs.ForCallers.{blank, events_in, paired}
 use Rattle.st_order.specs.Items.{is_hidden}
 use Rattle.st_order.proofs.ForCallers.{all_found, AreFound, only_receive}
 use Rattle.st_completions.specs.HiddenSends.{hidden_send, hidden_sends, send_of}

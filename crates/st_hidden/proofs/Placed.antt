@@ -1,7 +1,7 @@
 -- Why the best placings of all processes are whole streams of a choice against which no reason stands: each
 -- tells its process's events, and the fewest needs of the scarce counts together are the fewest of each, as
 -- the law says.
-use Rattle.std.proofs.Common.{◌≡◌, inl, ℕ, zero, ◌<◌, ◌||◌, true, false, cond, List, [], ◌∷◌, map}
+use Rattle.std.proofs.Common.{◌≡◌, inl, ℕ, ◌<◌, ◌||◌, true, false, cond, List, [], ◌∷◌, map}
 use Rattle.std.proofs.Common.{length, Some, None, refl, sym, ◌∙◌, ap, subst, arith}
 use Rattle.std.specs.List.{AllByRecursion}
 use Rattle.std.proofs.lemmas.Bool.{false≢true}

@@ -18,8 +18,6 @@ use Rattle.st_core.specs.Pid.{pid_eq, IsRising}
 use Rattle.st_core.specs.Run.{Stream, pids_of}
 use Rattle.st_core.specs.Streams.{events_of, IsStreams, lists, stream_of}
 use Rattle.st_core.proofs.ForCallers.{pid_eq-refl, pid_same}
-use Rattle.st_pair.specs.declared.answer.Source.{Source}
-use Rattle.st_pair.specs.declared.answer.Source.TheVariants as source
 use Rattle.st_pair.specs.Pairing.{refusal, stamp_of}
 use Rattle.st_pair.specs.Places.{event_at, first, is_stamp}
 use Rattle.st_pair.proofs.ForCallers.{at_get_or, blank, event_none, given_at, paired, take_map}

@@ -2,7 +2,7 @@
 -- two ways to go on has as many, and it takes its own need off. At the end nothing remains: there
 -- are as many needs as any order of these events and hidden sends has at least.
 use Rattle.std.proofs.Common.{◌≡◌, inl, inr, ◌⊎◌, ℕ, ◌+◌, ◌-◌, zero, suc, ◌<◌, ◌≤◌, ◌&&◌, max}
-use Rattle.std.proofs.Common.{nat_lt, Bool, true, false, not, cond, List, [], ◌∷◌, ◌++◌, map}
+use Rattle.std.proofs.Common.{nat_lt, Bool, true, false, not, cond, List, [], ◌∷◌, ◌++◌}
 use Rattle.std.proofs.Common.{length, length-append, length-drop, take, drop, get_or, slice_get}
 use Rattle.std.proofs.Common.{Option, Some, None, append_assoc, append-nil, refl, sym, ◌∙◌, ap}
 use Rattle.std.proofs.Common.{subst, arith}

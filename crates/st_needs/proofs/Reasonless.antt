@@ -1,5 +1,5 @@
 -- Streams against which no reason stands.
-use Rattle.std.proofs.Common.{◌≡◌, ℕ, ◌<◌, ◌≤◌, nat_lt, false, List, arith}
+use Rattle.std.proofs.Common.{◌≡◌, ℕ, ◌≤◌, nat_lt, false, List, arith}
 use Rattle.std.proofs.lemmas.Bool.Decides.{nat_tests}
 use Rattle.st_core.specs.Run.{Stream}
 use Rattle.st_completions.specs.Needs.{HoldsOfNone}

@@ -1,10 +1,20 @@
 -- How much room a spelling takes in a buffer at most. Each number is given the room of the longest,
 -- labels and the parts of pids too, since one function writes them all.
-use Rattle.std.specs.Prelude.{ℕ, ◌+◌}
+use Rattle.std.specs.Prelude.{◌≡◌, ℕ, ◌+◌, ◌≤◌, List, ◌++◌}
+use Rattle.arrayvec.specs.ArrayVec.{array_vec_len, ArrayVec}
 
 -- a buffer: 32 lines of the greatest room, so that a sink is called once for some kilobytes
 abbrev pub buffer_room : ℕ
 buffer_room = 8192
+
+-- the buffer has room for so many bytes more
+abbrev pub HasRoom : ℕ → ArrayVec ℕ → Type 0
+HasRoom room buffer = array_vec_len buffer + room ≤ buffer_room
+
+-- the text was put behind what waited, and took at most so much room
+pub record Puts (room : ℕ) (text : List ℕ) (old new : ArrayVec ℕ) : Type 0 where
+  pub items : new.items ≡ old.items ++ text
+  pub len : array_vec_len new ≤ array_vec_len old + room
 
 -- a line and its newline: an event's room, rounded up
 abbrev pub line_room : ℕ

@@ -1,9 +1,9 @@
 //! One line on its way to a sink, whatever it says: its words and a newline wait in the buffer.
 //! Writing takes no memory.
 
-ghost use Rattle.std.specs.Prelude.{◌≡◌, ◌+◌, ◌<◌, ◌≤◌, ◌++◌, ℕ, List};
+ghost use Rattle.std.specs.Prelude.{◌≡◌, ◌+◌, ◌<◌, ◌++◌, ℕ, List};
 ghost use Rattle.arrayvec.specs.ArrayVec.{array_vec_len};
-ghost use Rattle.st_text.specs.Room.{buffer_room, line_room};
+ghost use Rattle.st_text.specs.Room.{line_room, HasRoom};
 ghost use Rattle.st_text.specs.Spelling as spelled;
 ghost use Rattle.st_text.specs.Spelling.{ended_line};
 ghost use Rattle.st_text.specs.Writing.{WritesOn, WritesText};
@@ -20,7 +20,7 @@ pub trait TextLine: Copy {
 
     /// Appends the words, and leaves room for the newline.
     fn put_words(self, buffer: &mut Buffer)
-        requires { array_vec_len buffer.old + line_room ≤ buffer_room }
+        requires { HasRoom line_room buffer.old }
         ensures items { buffer.new.items ≡ buffer.old.items ++ words self }
         ensures len { array_vec_len buffer.new < array_vec_len buffer.old + line_room };
 }

@@ -1,9 +1,9 @@
 //! Bytes on their way to a sink: all of a piece, and through a buffer on the stack. Nothing here
 //! knows of lines.
 
-ghost use Rattle.std.specs.Prelude.{◌≡◌, ◌≤◌, ◌+◌, [], OnOk, OnErr};
+ghost use Rattle.std.specs.Prelude.{◌≡◌, [], OnOk, OnErr};
 ghost use Rattle.arrayvec.specs.ArrayVec.{array_vec_len};
-ghost use Rattle.st_text.specs.Room.{line_room, buffer_room};
+ghost use Rattle.st_text.specs.Room.{line_room, HasRoom};
 ghost use Rattle.st_text.specs.Writing.{WritesOn};
 
 use crate::spell::Buffer;
@@ -50,7 +50,7 @@ pub fn flush<S: ByteSink>(sink: &mut S, buffer: &mut Buffer) -> Result<(), Devic
 pub fn make_room<S: ByteSink>(sink: &mut S, buffer: &mut Buffer) -> Result<(), Device>
     ensures goes { WritesOn S.puts S.failed [] sink.old sink.new
         buffer.old.items buffer.new.items result }
-    ensures room { OnOk result (array_vec_len buffer.new + line_room ≤ buffer_room) }
+    ensures room { OnOk result (HasRoom line_room buffer.new) }
     ensures err { OnErr result (buffer.new.items ≡ buffer.old.items) }
 {
     if buffer.remaining_capacity() < LINE {

@@ -5,7 +5,7 @@
 ghost use Rattle.std.specs.Prelude.{◌≡◌, ◌+◌, ◌≤◌, ◌++◌, length, decimal};
 ghost use Rattle.arrayvec.specs.ArrayVec.{array_vec_len};
 ghost use Rattle.st_text.specs.Spelling as spelled;
-ghost use Rattle.st_text.specs.Room.{buffer_room, number_room, bool_room, pid_room};
+ghost use Rattle.st_text.specs.Room.{number_room, bool_room, pid_room, HasRoom, Puts};
 ghost use Rattle.st_text.specs.Room.{serial_room, kind_room, head_room, ends_room, event_room};
 ghost use Rattle.st_text.specs.Room.{component_room, want_room, flags_room, token_room, act_room};
 
@@ -21,7 +21,7 @@ pub type Buffer = ArrayVec<u8, BUFFER>;
 
 /// Appends bytes.
 pub fn put_bytes(buffer: &mut Buffer, bytes: &[u8])
-    requires { array_vec_len buffer.old + length bytes.now ≤ buffer_room }
+    requires { HasRoom (length bytes.now) buffer.old }
     ensures items { buffer.new.items ≡ buffer.old.items ++ bytes.now }
     ensures len { array_vec_len buffer.new ≡ array_vec_len buffer.old + length bytes.now }
 {
@@ -32,9 +32,8 @@ pub fn put_bytes(buffer: &mut Buffer, bytes: &[u8])
 
 /// Appends a decimal number.
 pub fn put_number(buffer: &mut Buffer, number: u64)
-    requires { array_vec_len buffer.old + number_room ≤ buffer_room }
-    ensures items { buffer.new.items ≡ buffer.old.items ++ decimal number }
-    ensures len { array_vec_len buffer.new ≤ array_vec_len buffer.old + number_room }
+    requires { HasRoom number_room buffer.old }
+    ensures { Puts number_room (decimal number) buffer.old buffer.new }
 {
     let mut digits = itoa::Buffer::new();
     put_bytes(buffer, digits.format(number).as_bytes());
@@ -42,19 +41,16 @@ pub fn put_number(buffer: &mut Buffer, number: u64)
 
 /// Appends words and a decimal number.
 pub fn put_numbered(buffer: &mut Buffer, words: &[u8], number: u64)
-    requires { array_vec_len buffer.old + (length words.now + number_room) ≤ buffer_room }
-    ensures items { buffer.new.items ≡ buffer.old.items ++ (words.now ++ decimal number) }
-    ensures len { array_vec_len buffer.new
-        ≤ array_vec_len buffer.old + (length words.now + number_room) }
+    requires { HasRoom (length words.now + number_room) buffer.old }
+    ensures { Puts (length words.now + number_room) (words.now ++ decimal number) buffer.old buffer.new }
 {
     put_bytes(buffer, words);
     put_number(buffer, number);
 }
 
 fn put_bool(buffer: &mut Buffer, flag: bool)
-    requires { array_vec_len buffer.old + bool_room ≤ buffer_room }
-    ensures items { buffer.new.items ≡ buffer.old.items ++ spelled.bool flag }
-    ensures len { array_vec_len buffer.new ≤ array_vec_len buffer.old + bool_room }
+    requires { HasRoom bool_room buffer.old }
+    ensures { Puts bool_room (spelled.bool flag) buffer.old buffer.new }
 {
     if flag {
         put_bytes(buffer, b"true");
@@ -65,9 +61,8 @@ fn put_bool(buffer: &mut Buffer, flag: bool)
 
 /// Appends a pid, as `<0.30.0>`.
 pub fn put_pid(buffer: &mut Buffer, pid: Pid)
-    requires { array_vec_len buffer.old + pid_room ≤ buffer_room }
-    ensures items { buffer.new.items ≡ buffer.old.items ++ spelled.pid pid }
-    ensures len { array_vec_len buffer.new ≤ array_vec_len buffer.old + pid_room }
+    requires { HasRoom pid_room buffer.old }
+    ensures { Puts pid_room (spelled.pid pid) buffer.old buffer.new }
 {
     put_bytes(buffer, b"<");
     put_number(buffer, u64::from(pid.node()));
@@ -77,18 +72,16 @@ pub fn put_pid(buffer: &mut Buffer, pid: Pid)
 }
 
 fn put_label(buffer: &mut Buffer, label: Label)
-    requires { array_vec_len buffer.old + number_room ≤ buffer_room }
-    ensures items { buffer.new.items ≡ buffer.old.items ++ spelled.label label }
-    ensures len { array_vec_len buffer.new ≤ array_vec_len buffer.old + number_room }
+    requires { HasRoom number_room buffer.old }
+    ensures { Puts number_room (spelled.label label) buffer.old buffer.new }
 {
     put_number(buffer, u64::from(label.0));
 }
 
 /// Appends a serial, as `{0,1}`.
 pub fn put_serial(buffer: &mut Buffer, serial: Serial)
-    requires { array_vec_len buffer.old + serial_room ≤ buffer_room }
-    ensures items { buffer.new.items ≡ buffer.old.items ++ spelled.serial serial }
-    ensures len { array_vec_len buffer.new ≤ array_vec_len buffer.old + serial_room }
+    requires { HasRoom serial_room buffer.old }
+    ensures { Puts serial_room (spelled.serial serial) buffer.old buffer.new }
 {
     put_bytes(buffer, b"{");
     put_number(buffer, serial.prev);
@@ -98,9 +91,8 @@ pub fn put_serial(buffer: &mut Buffer, serial: Serial)
 }
 
 fn put_kind(buffer: &mut Buffer, kind: Kind)
-    requires { array_vec_len buffer.old + kind_room ≤ buffer_room }
-    ensures items { buffer.new.items ≡ buffer.old.items ++ spelled.kind kind }
-    ensures len { array_vec_len buffer.new ≤ array_vec_len buffer.old + kind_room }
+    requires { HasRoom kind_room buffer.old }
+    ensures { Puts kind_room (spelled.kind kind) buffer.old buffer.new }
 {
     match kind {
         Kind::Send => put_bytes(buffer, b"send"),
@@ -110,9 +102,8 @@ fn put_kind(buffer: &mut Buffer, kind: Kind)
 }
 
 fn put_place(buffer: &mut Buffer, place: Option<Pid>)
-    requires { array_vec_len buffer.old + pid_room ≤ buffer_room }
-    ensures items { buffer.new.items ≡ buffer.old.items ++ spelled.place place }
-    ensures len { array_vec_len buffer.new ≤ array_vec_len buffer.old + pid_room }
+    requires { HasRoom pid_room buffer.old }
+    ensures { Puts pid_room (spelled.place place) buffer.old buffer.new }
 {
     match place {
         None => put_bytes(buffer, b"[]"),
@@ -121,9 +112,8 @@ fn put_place(buffer: &mut Buffer, place: Option<Pid>)
 }
 
 fn put_head(buffer: &mut Buffer, event: &Event)
-    requires { array_vec_len buffer.old + head_room ≤ buffer_room }
-    ensures items { buffer.new.items ≡ buffer.old.items ++ spelled.head event.now }
-    ensures len { array_vec_len buffer.new ≤ array_vec_len buffer.old + head_room }
+    requires { HasRoom head_room buffer.old }
+    ensures { Puts head_room (spelled.head event.now) buffer.old buffer.new }
 {
     put_label(buffer, event.label);
     put_bytes(buffer, b",{");
@@ -132,9 +122,8 @@ fn put_head(buffer: &mut Buffer, event: &Event)
 }
 
 fn put_ends(buffer: &mut Buffer, event: &Event)
-    requires { array_vec_len buffer.old + ends_room ≤ buffer_room }
-    ensures items { buffer.new.items ≡ buffer.old.items ++ spelled.ends event.now }
-    ensures len { array_vec_len buffer.new ≤ array_vec_len buffer.old + ends_room }
+    requires { HasRoom ends_room buffer.old }
+    ensures { Puts ends_room (spelled.ends event.now) buffer.old buffer.new }
 {
     put_pid(buffer, event.from);
     put_bytes(buffer, b",");
@@ -143,9 +132,8 @@ fn put_ends(buffer: &mut Buffer, event: &Event)
 
 /// Appends an event, without a newline.
 pub fn put_event(buffer: &mut Buffer, event: &Event)
-    requires { array_vec_len buffer.old + event_room ≤ buffer_room }
-    ensures items { buffer.new.items ≡ buffer.old.items ++ spelled.event event.now }
-    ensures len { array_vec_len buffer.new ≤ array_vec_len buffer.old + event_room }
+    requires { HasRoom event_room buffer.old }
+    ensures { Puts event_room (spelled.event event.now) buffer.old buffer.new }
 {
     put_bytes(buffer, b"{seq_trace,");
     put_head(buffer, event);
@@ -158,9 +146,8 @@ pub fn put_event(buffer: &mut Buffer, event: &Event)
 }
 
 fn put_component(buffer: &mut Buffer, component: Component)
-    requires { array_vec_len buffer.old + component_room ≤ buffer_room }
-    ensures items { buffer.new.items ≡ buffer.old.items ++ spelled.component component }
-    ensures len { array_vec_len buffer.new ≤ array_vec_len buffer.old + component_room }
+    requires { HasRoom component_room buffer.old }
+    ensures { Puts component_room (spelled.component component) buffer.old buffer.new }
 {
     match component {
         Component::Label(label) => {
@@ -183,9 +170,8 @@ fn put_component(buffer: &mut Buffer, component: Component)
 }
 
 fn put_want(buffer: &mut Buffer, want: Want)
-    requires { array_vec_len buffer.old + want_room ≤ buffer_room }
-    ensures items { buffer.new.items ≡ buffer.old.items ++ spelled.want want }
-    ensures len { array_vec_len buffer.new ≤ array_vec_len buffer.old + want_room }
+    requires { HasRoom want_room buffer.old }
+    ensures { Puts want_room (spelled.want want) buffer.old buffer.new }
 {
     match want {
         Want::First => put_bytes(buffer, b"first"),
@@ -211,9 +197,8 @@ fn put_want(buffer: &mut Buffer, want: Want)
 }
 
 fn put_flags(buffer: &mut Buffer, flags: Flags)
-    requires { array_vec_len buffer.old + flags_room ≤ buffer_room }
-    ensures items { buffer.new.items ≡ buffer.old.items ++ spelled.flags flags }
-    ensures len { array_vec_len buffer.new ≤ array_vec_len buffer.old + flags_room }
+    requires { HasRoom flags_room buffer.old }
+    ensures { Puts flags_room (spelled.flags flags) buffer.old buffer.new }
 {
     put_bool(buffer, flags.send);
     put_bytes(buffer, b" ");
@@ -223,9 +208,8 @@ fn put_flags(buffer: &mut Buffer, flags: Flags)
 }
 
 fn put_token(buffer: &mut Buffer, token: &Token)
-    requires { array_vec_len buffer.old + token_room ≤ buffer_room }
-    ensures items { buffer.new.items ≡ buffer.old.items ++ spelled.token token.now }
-    ensures len { array_vec_len buffer.new ≤ array_vec_len buffer.old + token_room }
+    requires { HasRoom token_room buffer.old }
+    ensures { Puts token_room (spelled.token token.now) buffer.old buffer.new }
 {
     put_label(buffer, token.label);
     put_bytes(buffer, b" ");
@@ -240,12 +224,9 @@ fn put_token(buffer: &mut Buffer, token: &Token)
 
 /// A word, a space, a pid and, if more follows, another space.
 fn put_actor(buffer: &mut Buffer, word: &[u8], pid: Pid, space: &[u8])
-    requires { array_vec_len buffer.old + length word.now + length space.now + pid_room
-        ≤ buffer_room }
-    ensures items { buffer.new.items
-        ≡ buffer.old.items ++ (word.now ++ spelled.pid pid ++ space.now) }
-    ensures len { array_vec_len buffer.new
-        ≤ array_vec_len buffer.old + length word.now + length space.now + pid_room }
+    requires { HasRoom (length word.now + length space.now + pid_room) buffer.old }
+    ensures { Puts (length word.now + length space.now + pid_room)
+        (word.now ++ spelled.pid pid ++ space.now) buffer.old buffer.new }
 {
     put_bytes(buffer, word);
     put_pid(buffer, pid);
@@ -253,10 +234,8 @@ fn put_actor(buffer: &mut Buffer, word: &[u8], pid: Pid, space: &[u8])
 }
 
 fn put_send(buffer: &mut Buffer, sender: Pid, receiver: Pid, value: u64)
-    requires { array_vec_len buffer.old + act_room ≤ buffer_room }
-    ensures items { buffer.new.items
-        ≡ buffer.old.items ++ spelled.act (Act.Send sender receiver value) }
-    ensures len { array_vec_len buffer.new ≤ array_vec_len buffer.old + act_room }
+    requires { HasRoom act_room buffer.old }
+    ensures { Puts act_room (spelled.act (Act.Send sender receiver value)) buffer.old buffer.new }
 {
     put_actor(buffer, b"send ", sender, b" ");
     put_pid(buffer, receiver);
@@ -265,10 +244,8 @@ fn put_send(buffer: &mut Buffer, sender: Pid, receiver: Pid, value: u64)
 }
 
 fn put_print_at(buffer: &mut Buffer, pid: Pid, label: Label, value: u64)
-    requires { array_vec_len buffer.old + act_room ≤ buffer_room }
-    ensures items { buffer.new.items
-        ≡ buffer.old.items ++ spelled.act (Act.PrintAt pid label value) }
-    ensures len { array_vec_len buffer.new ≤ array_vec_len buffer.old + act_room }
+    requires { HasRoom act_room buffer.old }
+    ensures { Puts act_room (spelled.act (Act.PrintAt pid label value)) buffer.old buffer.new }
 {
     put_actor(buffer, b"printat ", pid, b" ");
     put_label(buffer, label);
@@ -278,9 +255,8 @@ fn put_print_at(buffer: &mut Buffer, pid: Pid, label: Label, value: u64)
 
 /// Appends an act, without a newline.
 pub fn put_act(buffer: &mut Buffer, act: &Act)
-    requires { array_vec_len buffer.old + act_room ≤ buffer_room }
-    ensures items { buffer.new.items ≡ buffer.old.items ++ spelled.act act.now }
-    ensures len { array_vec_len buffer.new ≤ array_vec_len buffer.old + act_room }
+    requires { HasRoom act_room buffer.old }
+    ensures { Puts act_room (spelled.act act.now) buffer.old buffer.new }
 {
     match act {
         Act::Send(sender, receiver, value) => put_send(buffer, *sender, *receiver, *value),

@@ -3,10 +3,9 @@
 
 ghost use Rattle.std.specs.Prelude.{◌≡◌, ◌≤◌, ◌+◌, ◌++◌, codes, length};
 ghost use Rattle.std.specs.List.{flat_map};
-ghost use Rattle.arrayvec.specs.ArrayVec.{array_vec_len};
 ghost use Rattle.st_core.specs.Run.{pids_of};
 ghost use Rattle.st_plan.specs.Marks.{all_streams};
-ghost use Rattle.st_text.specs.Room.{buffer_room, line_room};
+ghost use Rattle.st_text.specs.Room.{line_room, HasRoom};
 ghost use Rattle.st_text.specs.Spelling.{ended_line};
 ghost use Rattle.st_text.specs.Writing.{WritesOn, WritesText};
 ghost use Rattle.st_chart.specs.Words.{place_words};
@@ -21,7 +20,7 @@ use st_text::{Buffer, Device, flush, make_room, put_bytes, put_event, write_line
 
 /// Appends a word, a place and a space.
 fn put_front(buffer: &mut Buffer, word: &[u8], pid: Pid, index: u64)
-    requires room { array_vec_len buffer.old + line_room ≤ buffer_room }
+    requires room { HasRoom line_room buffer.old }
     requires short { length word.now ≤ 6 }
     ensures { buffer.new.items
         ≡ buffer.old.items ++ (word.now ++ place_words pid index ++ codes " ") }
@@ -33,7 +32,7 @@ fn put_front(buffer: &mut Buffer, word: &[u8], pid: Pid, index: u64)
 
 /// Appends an event and a newline.
 fn put_end(buffer: &mut Buffer, event: Option<Event>)
-    requires { array_vec_len buffer.old + line_room ≤ buffer_room }
+    requires { HasRoom line_room buffer.old }
     ensures { buffer.new.items ≡ buffer.old.items ++ ended_line (event_words event) }
 {
     if let Some(event) = event {

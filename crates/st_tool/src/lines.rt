@@ -1,9 +1,8 @@
 //! The lines that stand alone. They are written through a buffer on the stack, so that writing
 //! takes no memory.
 
-ghost use Rattle.std.specs.Prelude.{◌≡◌, ◌≤◌, ◌+◌, ◌++◌, codes, length};
-ghost use Rattle.arrayvec.specs.ArrayVec.{array_vec_len};
-ghost use Rattle.st_text.specs.Room.{buffer_room};
+ghost use Rattle.std.specs.Prelude.{◌+◌, ◌++◌, codes, length};
+ghost use Rattle.st_text.specs.Room.{HasRoom, Puts};
 ghost use Rattle.st_chart.specs.Words.{place_words};
 ghost use Rattle.st_chart.specs.Room.{place_room};
 ghost use Rattle.st_tool.specs.Complete.{never_words};
@@ -32,9 +31,8 @@ pub(crate) enum OutputLine {
 
 /// Appends a process and an index in its stream.
 pub(crate) fn put_place(buffer: &mut Buffer, pid: Pid, index: u64)
-    requires { array_vec_len buffer.old + place_room ≤ buffer_room }
-    ensures items { buffer.new.items ≡ buffer.old.items ++ place_words pid index }
-    ensures len { array_vec_len buffer.new ≤ array_vec_len buffer.old + place_room }
+    requires { HasRoom place_room buffer.old }
+    ensures { Puts place_room (place_words pid index) buffer.old buffer.new }
 {
     put_pid(buffer, pid);
     put_bytes(buffer, b" ");
@@ -43,10 +41,9 @@ pub(crate) fn put_place(buffer: &mut Buffer, pid: Pid, index: u64)
 
 /// Appends a word and a place.
 fn put_other(buffer: &mut Buffer, word: &[u8], pid: Pid, index: u64)
-    requires { array_vec_len buffer.old + (length word.now + place_room) ≤ buffer_room }
-    ensures items { buffer.new.items ≡ buffer.old.items ++ (word.now ++ place_words pid index) }
-    ensures len { array_vec_len buffer.new
-        ≤ array_vec_len buffer.old + (length word.now + place_room) }
+    requires { HasRoom (length word.now + place_room) buffer.old }
+    ensures { Puts (length word.now + place_room)
+        (word.now ++ place_words pid index) buffer.old buffer.new }
 {
     put_bytes(buffer, word);
     put_place(buffer, pid, index);
@@ -54,9 +51,8 @@ fn put_other(buffer: &mut Buffer, word: &[u8], pid: Pid, index: u64)
 
 /// Appends the words of a reason against an event of this process.
 fn put_never_words(buffer: &mut Buffer, pid: Pid, never: Never)
-    requires { array_vec_len buffer.old + (13 + place_room) ≤ buffer_room }
-    ensures items { buffer.new.items ≡ buffer.old.items ++ never_words pid never }
-    ensures len { array_vec_len buffer.new ≤ array_vec_len buffer.old + (13 + place_room) }
+    requires { HasRoom (13 + place_room) buffer.old }
+    ensures { Puts (13 + place_room) (never_words pid never) buffer.old buffer.new }
 {
     match never {
         Never::PrevNotBefore => put_bytes(buffer, b"prevnotbefore"),
@@ -72,11 +68,9 @@ fn put_never_words(buffer: &mut Buffer, pid: Pid, never: Never)
 
 /// Appends the words of a reason and its place.
 fn put_never(buffer: &mut Buffer, pid: Pid, index: u64, never: Never)
-    requires { array_vec_len buffer.old + words_room ≤ buffer_room }
-    ensures items { buffer.new.items
-        ≡ buffer.old.items ++ (codes "never " ++ place_words pid index ++ codes " "
-        ++ never_words pid never) }
-    ensures len { array_vec_len buffer.new ≤ array_vec_len buffer.old + words_room }
+    requires { HasRoom words_room buffer.old }
+    ensures { Puts words_room
+        (codes "never " ++ place_words pid index ++ codes " " ++ never_words pid never) buffer.old buffer.new }
 {
     put_bytes(buffer, b"never ");
     put_place(buffer, pid, index);

@@ -3,9 +3,8 @@
 
 ghost use Rattle.std.specs.Prelude.{◌≡◌, ◌≤◌, ◌<◌, ◌+◌, ◌++◌, length, take};
 ghost use Rattle.std.specs.List.{flat_map};
-ghost use Rattle.arrayvec.specs.ArrayVec.{array_vec_len};
 ghost use Rattle.st_core.specs.Streams.{events_of};
-ghost use Rattle.st_text.specs.Room.{buffer_room, line_room};
+ghost use Rattle.st_text.specs.Room.{line_room, HasRoom, Puts};
 ghost use Rattle.st_text.specs.Spelling.{ended_line};
 ghost use Rattle.st_text.specs.Writing.{WritesOn, WritesText};
 ghost use Rattle.st_pair.specs.Places.{is_stamp};
@@ -64,10 +63,9 @@ fn is_begun(prev: u64, before: &[Event]) -> bool
 
 /// Appends what the event is.
 fn put_kind(buffer: &mut Buffer, event: &Event)
-    requires { array_vec_len buffer.old + item_word_room ≤ buffer_room }
-    ensures items { buffer.new.items
-        ≡ buffer.old.items ++ item_word (item.Reported event.now.from 0) event.now.kind }
-    ensures len { array_vec_len buffer.new ≤ array_vec_len buffer.old + item_word_room }
+    requires { HasRoom item_word_room buffer.old }
+    ensures { Puts item_word_room
+        (item_word (item.Reported event.now.from 0) event.now.kind) buffer.old buffer.new }
 {
     match event.kind {
         Kind::Send => put_bytes(buffer, b"send    "),
@@ -78,9 +76,8 @@ fn put_kind(buffer: &mut Buffer, event: &Event)
 
 /// Appends a cause.
 fn put_cause(buffer: &mut Buffer, cause: Option<Cause>)
-    requires { array_vec_len buffer.old + origin_room ≤ buffer_room }
-    ensures items { buffer.new.items ≡ buffer.old.items ++ cause_words cause }
-    ensures len { array_vec_len buffer.new ≤ array_vec_len buffer.old + origin_room }
+    requires { HasRoom origin_room buffer.old }
+    ensures { Puts origin_room (cause_words cause) buffer.old buffer.new }
 {
     match cause {
         None => {}
@@ -95,9 +92,8 @@ fn put_cause(buffer: &mut Buffer, cause: Option<Cause>)
 
 /// Appends how an event follows its cause. These are the events of its process before it.
 fn put_by(buffer: &mut Buffer, before: &[Event], event: &Event, cause: Option<Cause>)
-    requires { array_vec_len buffer.old + by_room ≤ buffer_room }
-    ensures items { buffer.new.items ≡ buffer.old.items ++ by_words before.now event.now cause }
-    ensures len { array_vec_len buffer.new ≤ array_vec_len buffer.old + by_room }
+    requires { HasRoom by_room buffer.old }
+    ensures { Puts by_room (by_words before.now event.now cause) buffer.old buffer.new }
 {
     match cause {
         None => {}
@@ -130,9 +126,8 @@ fn events_before(streams: &Streams, pid: Pid, index: u64) -> &[Event]
 
 /// Appends what an event is, its serial and its value.
 fn put_what(buffer: &mut Buffer, event: &Event)
-    requires { array_vec_len buffer.old + what_room ≤ buffer_room }
-    ensures items { buffer.new.items ≡ buffer.old.items ++ what_words event.now }
-    ensures len { array_vec_len buffer.new ≤ array_vec_len buffer.old + what_room }
+    requires { HasRoom what_room buffer.old }
+    ensures { Puts what_room (what_words event.now) buffer.old buffer.new }
 {
     put_kind(buffer, event);
     put_bytes(buffer, b" ");
@@ -143,9 +138,8 @@ fn put_what(buffer: &mut Buffer, event: &Event)
 
 /// Appends what an event follows, and how.
 fn put_follow(buffer: &mut Buffer, before: &[Event], event: &Event, cause: Option<Cause>)
-    requires { array_vec_len buffer.old + follow_room ≤ buffer_room }
-    ensures items { buffer.new.items ≡ buffer.old.items ++ follow_words before.now event.now cause }
-    ensures len { array_vec_len buffer.new ≤ array_vec_len buffer.old + follow_room }
+    requires { HasRoom follow_room buffer.old }
+    ensures { Puts follow_room (follow_words before.now event.now cause) buffer.old buffer.new }
 {
     put_cause(buffer, cause);
     put_by(buffer, before, event, cause);
@@ -160,7 +154,7 @@ fn put_step(
     event: &Event,
 )
     requires same { chains.now ≡ streams.now }
-    requires room { array_vec_len buffer.old + line_room ≤ buffer_room }
+    requires room { HasRoom line_room buffer.old }
     ensures { buffer.new.items
         ≡ buffer.old.items ++ ended_line (step_words streams.now place.0 place.1 event.now) }
 {

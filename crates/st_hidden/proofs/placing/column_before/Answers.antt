@@ -1,12 +1,12 @@
 -- Each number of hidden sends gets its needs from the next column and from the number above.
-use Rattle.std.proofs.Common.{◌≡◌, ℕ, ◌+◌, ◌-◌, ◌<◌, ◌≤◌, ◌⊎◌, ◌^◌, ◌∙◌, ◌==◌, inl, inr, [], length}
-use Rattle.std.proofs.Common.{drop, get_or, slice_get, Option, Some, None, cond, true, false, refl}
+use Rattle.std.proofs.Common.{◌≡◌, ℕ, ◌+◌, ◌-◌, ◌<◌, ◌≤◌, ◌^◌, ◌∙◌, inl, inr, [], length}
+use Rattle.std.proofs.Common.{drop, get_or, Option, refl}
 use Rattle.std.proofs.Common.{sym, ap, subst, arith}
 use Rattle.std.specs.Option.{ForSome}
 use Rattle.std.proofs.lemmas.Bool.{cases_lt}
 use Rattle.std.proofs.lemmas.Option.{none-some}
 use Rattle.st_needs.specs.Flaws.{left_by}
-use Rattle.st_hidden.specs.Placings.{cell_of, fewest_after, IsFilledTo, left_at, sent_last, told_last}
+use Rattle.st_hidden.specs.Placings.{fewest_after, IsFilledTo, left_at, sent_last, told_last}
 use Rattle.st_hidden.proofs.Columns.{cell_from, fewest_small, found_at, late_below, low_none, none_above}
 use Rattle.st_hidden.proofs.placing.column_before.Goals as goal
 

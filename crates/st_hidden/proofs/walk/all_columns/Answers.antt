@@ -1,5 +1,5 @@
 -- Each column was found from the one behind it.
-use Rattle.std.proofs.Common.{◌≡◌, ◌-◌, ◌<◌, length, drop, get_or, [], ◌∙◌, ap, subst, arith}
+use Rattle.std.proofs.Common.{◌≡◌, ◌-◌, length, drop, get_or, [], ◌∙◌, ap, subst, arith}
 use Rattle.st_needs.specs.Flaws.{left_by}
 use Rattle.st_hidden.specs.Placings.{IsFor, left_at}
 use Rattle.st_hidden.proofs.Walked.{column_top, more_columns}

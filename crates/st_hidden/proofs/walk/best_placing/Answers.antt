@@ -1,6 +1,5 @@
 -- The first cell of the first column has the fewest needs, if there is a placing.
-use Rattle.std.proofs.Common.{◌≡◌, ◌-◌, ◌<◌, ◌+◌, [], length, get_or, sym, ◌∙◌, ap, subst, arith}
-use Rattle.st_needs.specs.Flaws.{left_by}
+use Rattle.std.proofs.Common.{◌≡◌, ◌-◌, length, get_or, sym, ◌∙◌, ap, subst, arith}
 use Rattle.st_hidden.specs.Placings.{IsBeyond, IsFor}
 use Rattle.st_hidden.proofs.Columns.{beyond_first, first_cell}
 use Rattle.st_hidden.proofs.Walked.{column_beyond, column_top, none_placed}

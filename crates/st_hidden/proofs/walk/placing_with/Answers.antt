@@ -1,5 +1,5 @@
 -- At each place the event or the hidden send comes next, and at the end all came.
-use Rattle.std.proofs.Common.{◌≡◌, ◌+◌, ◌<◌, ◌^◌, length, sym, ◌∙◌, ap, subst, arith}
+use Rattle.std.proofs.Common.{◌+◌, ◌^◌, sym, ◌∙◌, ap, subst, arith}
 use Rattle.st_hidden.specs.declared.walk.Walk.{Walk}
 use Rattle.st_hidden.specs.Walks.{ComesNext, first_walk, walk_with}
 use Rattle.st_hidden.proofs.Walked.{best_at_end, column_beyond, IsSoFar, needs_small, never_stuck, next_placed}

@@ -2,7 +2,6 @@
 use Rattle.std.proofs.Common.{◌≡◌, Some, sym, ◌∙◌, ap, subst, take, Bool, true, false, not, refl, IsTrue}
 use Rattle.std.proofs.lemmas.Bool.{false≢true}
 use Rattle.std.proofs.lemmas.Option.{same_Some}
-use Rattle.st_core.specs.declared.types.Event.{Event}
 use Rattle.st_pair.specs.Places.{event_at}
 use Rattle.st_completions.specs.Needs.{is_need}
 use Rattle.st_completions.specs.Supply.{IsSupplied}
