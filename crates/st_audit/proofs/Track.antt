@@ -20,10 +20,10 @@ use Rattle.st_order.specs.declared.item.Item.{Item}
 use Rattle.st_order.specs.declared.item.Item.TheVariants as item
 use Rattle.st_order.specs.Items.{event_of}
 use Rattle.st_order.specs.Order.{IsOrder}
-use Rattle.st_plan.specs.Marks.{all_told, told_only, Marks}
+use Rattle.st_plan.specs.Marks.{all_told, told_parts, Marks}
 use Rattle.st_plan.specs.Moves.{Move, clock, earlier_of, is_taking, move_by, moves}
 use Rattle.st_plan.specs.Build.{state_after, tracers_after, GoesOn}
-use Rattle.st_plan.specs.Plain.{out_of_turn, event_count, told_all, told_by, IsSettled}
+use Rattle.st_plan.specs.Plain.{out_of_turn, event_count, told_of_moves, told_of_move, IsSettled}
 use Rattle.st_plan.proofs.ForCallers.{clock_at, earlier_more, goes_on, in_turn_at, moves_append, one_move, opens}
 use Rattle.st_plan.proofs.ForCallers.{order_there, run_append, state_append, stream_append, stream_silent}
 use Rattle.st_plan.proofs.ForCallers.{acts_none, append_none, tells_only, tells_told_events, told_pids, tracers_none}
@@ -58,7 +58,7 @@ pub record IsOnTrack (top : ℕ) (streams : List Stream) (marks : Marks) (xs : L
   pub runs : run top (pids_of streams) acts ≡ Some outcomes
   pub after : s ≡ state_after (zero_state (pids_of streams)) outcomes
   pub kept : IsKept streams marks (earlier_of streams xs) s
-  pub tells : (p : Pid) → stream acts outcomes p ≡ told_all marks p (moves streams xs)
+  pub tells : (p : Pid) → stream acts outcomes p ≡ told_of_moves marks p (moves streams xs)
   pub one_trace : NoReset acts
 
 -- the tracers lead to where no item was
@@ -122,12 +122,12 @@ module _ {top : ℕ} (streams : List Stream) (pids : List Pid) (are : pids ≡ p
 
 -- ITEM BY ITEM
 
-told_append : (marks : Marks) (p : Pid) (ms ns : List Move) → told_all marks p (ms ++ ns)
-    ≡ told_all marks p ms ++ told_all marks p ns
+told_append : (marks : Marks) (p : Pid) (ms ns : List Move) → told_of_moves marks p (ms ++ ns)
+    ≡ told_of_moves marks p ms ++ told_of_moves marks p ns
 told_append marks p [] ns = refl
 told_append marks p (m ∷ ms) ns =
-    ap (λ es. told_by marks p m ++ es) (told_append marks p ms ns)
-    ∙ sym (append_assoc (told_by marks p m) (told_all marks p ms) (told_all marks p ns))
+    ap (λ es. told_of_move marks p m ++ es) (told_append marks p ms ns)
+    ∙ sym (append_assoc (told_of_move marks p m) (told_of_moves marks p ms) (told_of_moves marks p ns))
 
 take_one : (xs : List Item) (n : ℕ) (x : Item) → slice_get xs n ≡ Some x → take (n + 1) xs ≡ take n xs ++ x ∷ []
 take_one xs n x at =
@@ -208,16 +208,16 @@ module _ (top : ℕ) (streams : List Stream) (marks : Marks) (sound : IsStreams 
           tells = λ p. ap (λ ys. stream ys both p) put
               ∙ stream_append top zero acts g.acts os g.outcomes p track.runs
               ∙ ap (λ es. es ++ stream g.acts g.outcomes p) (track.tells p)
-              ∙ ap (λ es. told_all marks p before ++ es) (g.tells p ∙ sym (append-nil (told_by marks p move)))
+              ∙ ap (λ es. told_of_moves marks p before ++ es) (g.tells p ∙ sym (append-nil (told_of_move marks p move)))
               ∙ sym (told_append marks p before (move ∷ []))
-              ∙ ap (told_all marks p) (sym more);
+              ∙ ap (told_of_moves marks p) (sym more);
           one_trace = subst NoReset (sym put) (append_none acts g.acts track.one_trace
               (acts_none streams marks g.before move g.acts g.are));
         }
 
   -- and at the end all that is told is shown
   pub track_shows : (n : ℕ) (s : State) (acts : List Act) → length xs ≤ n
-      → IsOnTrack top streams marks (take n xs) s acts → Shows top (told_only marks streams) acts
+      → IsOnTrack top streams marks (take n xs) s acts → Shows top (told_parts marks streams) acts
   track_shows n s acts past track =
       let all : take n xs ≡ xs = take_all n xs past in
       let told = tells_told_events top streams marks sound settled xs order in
@@ -225,6 +225,6 @@ module _ (top : ℕ) (streams : List Stream) (marks : Marks) (sound : IsStreams 
         track.outcomes,
         subst (λ ps. run top ps acts ≡ Some track.outcomes) (told_pids marks streams) track.runs,
         λ k d within.
-            let x = get_or (told_only marks streams) k d in
-            track.tells x.pid ∙ ap (λ ys. told_all marks x.pid (moves streams ys)) all ∙ shown k d within,
+            let x = get_or (told_parts marks streams) k d in
+            track.tells x.pid ∙ ap (λ ys. told_of_moves marks x.pid (moves streams ys)) all ∙ shown k d within,
       )

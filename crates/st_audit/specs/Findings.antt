@@ -14,7 +14,7 @@ use Rattle.st_audit.specs.declared.finding.Reason.{Reason}
 use Rattle.st_audit.specs.declared.finding.Reason.TheVariants as reason
 use Rattle.st_audit.specs.declared.finding.Finding.{Finding}
 use Rattle.st_audit.specs.declared.finding.Finding.TheVariants as finding
-use Rattle.st_plan.specs.Marks.{told_only, Marks}
+use Rattle.st_plan.specs.Marks.{told_parts, Marks}
 use Rattle.st_plan.specs.Reasons.{HoldsAt, uncaused, too_wide}
 
 -- the verdict is no yes
@@ -69,4 +69,4 @@ IsCertificate (finding.Unfit p i r) = ⊥
 -- there are acts, none of them is a reset, and they show those events that are told
 abbrev pub ShowTold : ℕ → List Stream → Marks → Option (List Act) → Type 0
 ShowTold top streams marks None = ⊥
-ShowTold top streams marks (Some acts) = Shows top (told_only marks streams) acts × NoReset acts
+ShowTold top streams marks (Some acts) = Shows top (told_parts marks streams) acts × NoReset acts

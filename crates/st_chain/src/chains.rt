@@ -10,7 +10,7 @@ ghost use Rattle.st_core.specs.Run.{Stream};
 ghost use Rattle.st_core.specs.declared.types.Event.{Event as EventValue};
 ghost use Rattle.st_core.specs.Streams.{events_of, IsStreams};
 ghost use Rattle.st_pair.specs.Links.{IsPairing};
-ghost use Rattle.st_pair.specs.Pairing.{refusal, source_at};
+ghost use Rattle.st_pair.specs.Pairing.{refusal};
 ghost use Rattle.st_chain.specs.Causes.{backs_from, cause_at, event_in, place_at, received_before};
 ghost use Rattle.st_chain.specs.Causes.{IsBackFrom};
 ghost use Rattle.st_chain.specs.Labels.{chain};

@@ -16,3 +16,4 @@ mod words;
 pub use charting::chart;
 pub use fault::ChartFault;
 pub use reporting::report;
+pub use words::put_place;

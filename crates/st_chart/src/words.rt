@@ -7,8 +7,8 @@ ghost use Rattle.st_chart.specs.Room.{place_room};
 use st_core::Pid;
 use st_text::{Buffer, put_bytes, put_number, put_pid};
 
-/// Appends a process and an index in its stream.
-pub(crate) fn put_place(buffer: &mut Buffer, pid: Pid, index: u64)
+/// Appends a process and an index in its stream, as `<0.30.0> 2`.
+pub fn put_place(buffer: &mut Buffer, pid: Pid, index: u64)
     requires { HasRoom place_room buffer.old }
     ensures { Puts place_room (place_words pid index) buffer.old buffer.new }
 {

@@ -1,7 +1,7 @@
 -- Each event has a template, and what a template of an event spells is one.
 use Rattle.std.proofs.Common.{◌≡◌, ℕ, ◌≤◌, Bool, true, List, [], ◌∷◌, ◌++◌, Option, Some, None, refl, sym, ap}
 use Rattle.std.proofs.Common.{subst, ◌∙◌}
-use Rattle.std.proofs.Common.{append_assoc, ◌⊎◌, inl, inr, lit<}
+use Rattle.std.proofs.Common.{append_assoc, inl, inr, lit<}
 use Rattle.std.specs.Prelude.{codes, decimal, option_to_list}
 use Rattle.std.specs.List.{AllByRecursion}
 use Rattle.st_core.specs.declared.types.Pid.{Pid}

@@ -1,7 +1,7 @@
 -- The templates spell the very lines of the grammar that may stand there, so the longest front of the ones is that of
 -- the others.
-use Rattle.std.proofs.Common.{◌≡◌, ℕ, ◌≤◌, Bool, true, false, not, ◌&&◌, ◌||◌, List, [], ◌∷◌, ◌++◌, take, length}
-use Rattle.std.proofs.Common.{Option, Some, None, refl, sym, ap, subst, ◌∙◌, ◌⊎◌, inl, inr, lit<}
+use Rattle.std.proofs.Common.{◌≡◌, ℕ, Bool, true, false, not, ◌&&◌, ◌||◌, List, [], ◌∷◌, ◌++◌, take}
+use Rattle.std.proofs.Common.{Option, Some, None, refl, sym, ap, subst, ◌∙◌, ◌⊎◌, inl, inr}
 use Rattle.std.specs.Prelude.{codes, option_to_list}
 use Rattle.std.specs.List.{AllByRecursion}
 use Rattle.st_core.specs.declared.types.Pid.{Pid}
@@ -20,7 +20,7 @@ use Rattle.st_text.specs.Text.{is_remote, named, names, wanted}
 use Rattle.st_text.specs.Fault.{has_acts, is_header, is_wide_header, last_of, may_follow, may_stand, pids}
 use Rattle.st_column.specs.declared.above.Above.{Above}
 use Rattle.st_column.specs.declared.above.Above.TheVariants as above
-use Rattle.st_column.specs.Column.{Begins, IsLineBehind, IsLongest, above_by, above_of, has_wide_header}
+use Rattle.st_column.specs.Column.{IsLineBehind, IsLongest, above_by, above_of, has_wide_header}
 use Rattle.st_column.specs.Longest.{IsAnyOf, act_lines, event_lines, header_lines, lines_below, rare_lines}
 use Rattle.st_column.proofs.Templates.{any_split, any_left, any_right}
 use Rattle.st_column.proofs.Pieces.{FitsNode, fits_pid, last_pid, last_word, pid_last, pids_in, pids_out, word_last}

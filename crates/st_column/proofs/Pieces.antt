@@ -1,6 +1,6 @@
 -- What a template spells piece by piece, in both directions: a word of bytes that stand for themselves, a number, a
 -- pid.
-use Rattle.std.proofs.Common.{◌≡◌, ℕ, zero, suc, ◌≤◌, Bool, true, false, not, ◌&&◌, ◌||◌, List, [], ◌∷◌, ◌++◌}
+use Rattle.std.proofs.Common.{◌≡◌, ℕ, ◌≤◌, Bool, true, false, not, ◌&&◌, ◌||◌, List, [], ◌∷◌, ◌++◌}
 use Rattle.std.proofs.Common.{Option, Some, None, refl, sym, ap, subst, ◌∙◌, arith, append_assoc}
 use Rattle.std.specs.Prelude.{◌==◌, codes, decimal}
 use Rattle.std.specs.List.{list_any, AllByRecursion}
@@ -11,7 +11,7 @@ use Rattle.st_core.specs.Pid.{node_of, number_of, pid_on}
 use Rattle.st_text.specs.Spelling as spelled
 use Rattle.st_text.specs.Range.{FitsPid, most_pid}
 use Rattle.st_text.specs.Text.{is_away}
-use Rattle.st_column.specs.Longest.{IsNumber, IsPiece, Spells, most_node, most_of}
+use Rattle.st_column.specs.Longest.{Spells, most_node, most_of}
 use Rattle.st_column.proofs.Templates.{is_byte, is_number, byte_is, number_is}
 
 -- ---- pids that the header lets in

@@ -1,10 +1,9 @@
 //! The command `drive`: what the acts of the input's bundle come to if each process makes its own,
 //! in order, on a thread of its own. The events in the input are ignored.
 
-ghost use Rattle.std.specs.Prelude.{◌≡◌, ◌≢◌, ◌<◌, ◌∷◌, ◌++◌, [], IfOk, OnErr, OnOk, length, map};
+ghost use Rattle.std.specs.Prelude.{◌≡◌, ◌≢◌, ◌<◌, ◌∷◌, ◌++◌, [], IfOk, OnErr, OnOk, length};
 ghost use Rattle.std.specs.Prelude.{replicate, slice_set, slice_index_or};
 ghost use Rattle.st_core.specs.Run.{pids_of};
-ghost use Rattle.st_runtime.specs.Driven.{acts_by};
 ghost use Rattle.st_text.specs.Contents.{contents};
 ghost use Rattle.st_commands.specs.Command.{Delivers, Owes, Tells, call};
 ghost use Rattle.st_commands.specs.Meaning.{Says, MeansDriven};

@@ -1,7 +1,7 @@
 -- Nothing is needed in streams whose events are all fit: a send names one receive, and each receive a send that names
 -- it, so no two receives have the same send.
 use Rattle.std.proofs.Common.{◌≡◌, ℕ, ◌+◌, ◌<◌, ◌≤◌, zero, suc, ◌==◌, ◌&&◌, nat_lt, not, Bool, true}
-use Rattle.std.proofs.Common.{false, cond, ◌⊎◌, inl, inr, List, [], ◌∷◌, length, get_or, take}
+use Rattle.std.proofs.Common.{false, cond, inl, inr, List, [], ◌∷◌, length, take}
 use Rattle.std.proofs.Common.{slice_get, Option, Some, None, refl, sym, ◌∙◌, ap, subst, arith}
 use Rattle.std.proofs.lemmas.Bool.{cases_lt, eq-eqb, false≢true, and_from}
 use Rattle.std.proofs.lemmas.Bool.Decides.{nat_tests}
@@ -21,7 +21,6 @@ use Rattle.st_pair.specs.declared.answer.Source.TheVariants as source
 use Rattle.st_pair.proofs.ForCallers.{events_in, paired, stamp_once}
 use Rattle.st_order.specs.Items.{is_hidden}
 use Rattle.st_completions.specs.Local.{IsNeedless}
-use Rattle.st_completions.specs.Needs.{is_late}
 use Rattle.st_completions.proofs.ForCallers.{accepted_if, own_at, received_to, FitTogether}
 use Rattle.st_needs.proofs.ForCallers.{index_within}
 use Rattle.st_complete.specs.Links.{other_end, receipt_of, AreEventsFit, IsEventFit, IsLinked}

@@ -4,7 +4,7 @@ ghost use Rattle.std.specs.Prelude.{◌≡◌};
 ghost use Rattle.st_complete.specs.Links.{receipt_of};
 
 use crate::feeds::{Feed, Feeding, Need, pid_at};
-use crate::lean::Whole;
+use crate::lean::MarkedStreams;
 use crate::links::short;
 use st_core::{Draft, Event, Kind, Pid, Sequence, Serial, Streams};
 use st_needs::{Left, is_marked, is_stamp, marks_at};
@@ -22,8 +22,8 @@ pub(crate) struct Candidate {
 
 impl Candidate {
     /// The same, as the acts are built from it.
-    pub(crate) fn whole(&self) -> Whole<'_> {
-        Whole {
+    pub(crate) fn whole(&self) -> MarkedStreams<'_> {
+        MarkedStreams {
             streams: &self.streams,
             told: &self.told,
         }
@@ -58,37 +58,16 @@ pub(crate) struct Extras {
     pub receives: Vec<Extra>,
 }
 
-/// The needs whose messages must be invented, by sender and count.
-fn wanted_needs(
-    alloc: Global,
-    feeding: &Feeding,
-    process_count: usize,
-) -> Result<Vec<u32>, AllocError> {
-    let mut starts = vec![in alloc; 0usize; process_count]?;
-    for feed in &feeding.feeds {
-        if let Feed::Invented(from) = feed {
-            if let Some(count) = starts.get_mut(*from as usize) {
-                *count = count.saturating_add(1);
-            }
-        }
-    }
-    let mut total: usize = 0;
-    for start in starts.iter_mut() {
-        let count = *start;
-        *start = total;
-        total = total.saturating_add(count);
-    }
-    let mut wanted = vec![in alloc; 0u32; total]?;
+/// The needs whose messages must be invented, by sender and count: the sender's place and the need's
+/// number.
+fn wanted_needs(alloc: Global, feeding: &Feeding) -> Result<Vec<(u32, u32)>, AllocError> {
+    let mut wanted = Vec::new(alloc);
     for &number in &feeding.order {
-        if let Some(Feed::Invented(from)) = feeding.feeds.get(number as usize) {
-            if let Some(start) = starts.get_mut(*from as usize) {
-                if let Some(slot) = wanted.get_mut(*start) {
-                    *slot = number;
-                }
-                *start = start.saturating_add(1);
-            }
+        if let Some(Feed::Invented(sender)) = feeding.feeds.get(number as usize) {
+            wanted.push((*sender, number))?;
         }
     }
+    wanted.sort_by_key(|one| one.0)?;
     Ok(wanted)
 }
 
@@ -266,19 +245,15 @@ pub(crate) fn feed_all(
     whole: &Streams,
     feeding: Feeding,
 ) -> Result<Fed, AllocError> {
-    let wanted = wanted_needs(alloc, &feeding, whole.pids().len())?;
+    let wanted = wanted_needs(alloc, &feeding)?;
     let mut numbers = vec![in alloc; 0u32; feeding.needs.len()]?;
     let mut inventions = Inventions::new(alloc, wanted.len(), feeding.needs.len())?;
-    for &number in &wanted {
-        let number = number as usize;
-        if let (Some(&need), Some(Feed::Invented(sender))) = (
-            feeding.needs.get(number),
-            feeding.feeds.get(number),
-        ) {
-            if let Some(slot) = numbers.get_mut(number) {
+    for &(sender, number) in &wanted {
+        if let Some(&need) = feeding.needs.get(number as usize) {
+            if let Some(slot) = numbers.get_mut(number as usize) {
                 *slot = short(inventions.messages.len());
             }
-            inventions.invent(whole, need, *sender)?;
+            inventions.invent(whole, need, sender)?;
         }
     }
     let Inventions {

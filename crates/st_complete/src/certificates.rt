@@ -8,7 +8,7 @@ ghost use Rattle.st_core.specs.Verdict.{IsVerdict, Yes};
 use crate::answer::{Certificate, CertificateFault};
 use crate::climbs::with_shared_climbs;
 use crate::homes::with_near_homes;
-use crate::lean::{LeanFault, Whole, lean_acts};
+use crate::lean::{LeanFault, MarkedStreams, lean_acts};
 use st_audit::told_acts;
 use st_check::{Verdict, check};
 use st_core::{Act, Sequence, Streams};
@@ -79,7 +79,7 @@ fn certify_lean<const TOP: u64>(
     rt: &(impl Threads + Sync),
     alloc: Global,
     streams: &Streams,
-    whole: Whole<'_>,
+    whole: MarkedStreams<'_>,
     most: u64,
 ) -> Result<Option<Certificate>, AllocError>
     ensures verdict { IfOk result (λ some. IfSome some
@@ -105,7 +105,7 @@ fn certify_shared<const TOP: u64>(
     rt: &(impl Threads + Sync),
     alloc: Global,
     streams: &Streams,
-    whole: Whole<'_>,
+    whole: MarkedStreams<'_>,
     most: u64,
 ) -> Result<Option<Certificate>, AllocError>
     ensures verdict { IfOk result (λ some. IfSome some
@@ -134,7 +134,7 @@ fn certify_completion<const TOP: u64>(
     ensures one_trace { IfOk result (λ some. IfSome some (λ found. NoReset found.acts)) }
     ensures within { IfOk result (λ some. IfSome some (λ found. length found.acts ≤ most)) }
 {
-    let whole = Whole {
+    let whole = MarkedStreams {
         streams: completion.streams(),
         told: completion.marks(),
     };

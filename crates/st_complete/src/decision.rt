@@ -1,13 +1,13 @@
 //! `complete`: first the reasons that one look at the events shows, then the search, and if it
 //! finds no completion, the reasons that count messages.
 
-ghost use Rattle.std.specs.Prelude.{◌≡◌, ◌≤◌, ℕ, true, IfOk, IsSome, None, length};
+ghost use Rattle.std.specs.Prelude.{◌≡◌, ◌≤◌, ℕ, IfOk, IsSome, None, length};
 ghost use Rattle.std.specs.Option.{ForSome};
 ghost use Rattle.st_core.specs.declared.types.Pid.{Pid as PidValue};
 ghost use Rattle.st_pair.specs.Links.{IsPairing};
 ghost use Rattle.st_pair.specs.Pairing.{refusal, IsPairFault};
 ghost use Rattle.st_pair.specs.Places.{event_at};
-ghost use Rattle.st_completions.specs.FinalReasons.{IsSuppliedAtLeast, IsZeroBehind};
+ghost use Rattle.st_completions.specs.FinalReasons.{IsZeroBehind};
 ghost use Rattle.st_completions.specs.Needs.{is_late, is_rootless, HoldsOfNone};
 ghost use Rattle.st_needs.specs.Reasons.{is_too_high, HidesNone, HidesSend, HoldsThere, IsRooted};
 ghost use Rattle.st_needs.specs.Reasons.{IsUnsent};

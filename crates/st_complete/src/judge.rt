@@ -1,15 +1,13 @@
 //! The judge of the search: whether whole streams are a completion.
 
-ghost use Rattle.std.specs.Prelude.{◌≡◌, ◌↔◌, true, false, List, IfOk, IsTrue};
+ghost use Rattle.std.specs.Prelude.{◌≡◌, ◌↔◌, true, false, IfOk, IsTrue};
 ghost use Rattle.std.specs.Option.{ForSome};
-ghost use Rattle.st_core.specs.declared.types.Event.{Event as EventValue};
 ghost use Rattle.st_core.specs.Streams.{IsStreams};
 ghost use Rattle.st_pair.specs.Pairing.{is_send};
 ghost use Rattle.st_pair.specs.Places.{is_stamp};
 ghost use Rattle.st_completions.specs.Local.{IsNeedless};
 ghost use Rattle.st_plan.specs.Marks.{told_events, told_streams};
 ghost use Rattle.st_needs.specs.Completions.{marked_with, wholes_with, Completes};
-ghost use Rattle.st_needs.specs.Flaws.{left_by, GoesOnWithin};
 ghost use Rattle.st_complete.specs.Links.{other_end, receipt_of, AreEventsFit, IsLinked};
 
 use crate::candidate::{Candidate, receive_of};

@@ -17,14 +17,14 @@ use std::thread::Threads;
 
 /// All events of each process, and which are told.
 #[derive(Clone, Copy, Debug)]
-pub(crate) struct Whole<'a> {
+pub(crate) struct MarkedStreams<'a> {
     /// All events.
     pub streams: &'a Streams,
     /// The marks of each process, by its place; events past the end of the marks are untold.
     pub told: &'a [Sequence<bool>],
 }
 
-impl Whole<'_> {
+impl MarkedStreams<'_> {
     /// Whether the event at this place is told.
     pub(crate) fn is_told(self, place: (Pid, u64)) -> bool {
         match self.streams.place_of(place.0) {
@@ -207,7 +207,7 @@ impl Tallies {
     }
 
     /// Of all events.
-    fn of(whole: Whole<'_>) -> Tallies {
+    fn of(whole: MarkedStreams<'_>) -> Tallies {
         let mut tallies = Tallies {
             sends: Tally::of_none(),
             receives: Tally::of_none(),
@@ -341,7 +341,7 @@ impl<const TOP: u64> Acts<TOP> {
     /// Puts the acts of the event at this place at the end.
     fn append(
         &mut self,
-        whole: Whole<'_>,
+        whole: MarkedStreams<'_>,
         pairing: &Pairing,
         pid: Pid,
         index: u64,
@@ -381,7 +381,7 @@ impl<const TOP: u64> Acts<TOP> {
 /// The acts of all items, in their order.
 fn acts_in_order<const TOP: u64>(
     alloc: Global,
-    whole: Whole<'_>,
+    whole: MarkedStreams<'_>,
     pairing: &Pairing,
     items: &[Item],
     most: u64,
@@ -417,7 +417,7 @@ fn acts_in_order<const TOP: u64>(
 pub(crate) fn lean_acts<const TOP: u64>(
     rt: &(impl Threads + Sync),
     alloc: Global,
-    whole: Whole<'_>,
+    whole: MarkedStreams<'_>,
     most: u64,
 ) -> Result<Sequence<Act>, LeanFault> {
     let pairing = match pair(alloc, whole.streams) {

@@ -22,7 +22,7 @@ use crate::placing::fewest_needs;
 use crate::scarce::{asking_count, hidden_at};
 use crate::trials::{need_numbers, suffices_tried};
 use st_core::{Event, Pid, Sequence, Streams};
-use st_needs::{Told, all_told, is_hidden_source, is_stamp, untaken_count, unused_count};
+use st_needs::{Told, is_hidden_source, is_stamp, told_of_each, untaken_count, unused_count};
 use st_pair::Pairing;
 use std::alloc::{AllocError, Global};
 
@@ -97,7 +97,7 @@ fn is_supplied_at_least(
     requires { hidden.now ≡ map (hidden_sends streams.now) (pids_of streams.now) }
     ensures { IfOk result (λ yes. IsTrue yes ↔ IsSuppliedAtLeast streams.now count) }
 {
-    let all = all_told(alloc, streams, count)?;
+    let all = told_of_each(alloc, streams, count)?;
     let tried = suffices_tried(alloc, streams, hidden, &all, count)?;
     if tried {
         return Ok(true);

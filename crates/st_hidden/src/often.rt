@@ -3,7 +3,7 @@
 //! processes that stamped nothing with it, there are enough messages. To tell so of all counts, the
 //! prevs that ask and the counts of all sends and prints are noted in one list, which is sorted.
 
-ghost use Rattle.std.specs.Prelude.{◌≡◌, ℕ, ◌+◌, ◌++◌, ◌≤◌, ◌==◌, false, map, nat_le, nat_lt};
+ghost use Rattle.std.specs.Prelude.{◌≡◌, ℕ, ◌+◌, ◌++◌, ◌≤◌, false, map, nat_le, nat_lt};
 ghost use Rattle.std.specs.Prelude.{sum_by, IfOk, OnOk};
 ghost use Rattle.std.specs.List.{count_by};
 ghost use Rattle.std.specs.List.Sorted.{IsNonDecreasing};

@@ -1,7 +1,7 @@
 //! The index of one queue.
 
 ghost use Rattle.std.specs.Prelude.{◌≡◌, ◌+◌, ◌-◌, ◌<◌, ◌≤◌, ◌==◌, ◌&&◌, ◌++◌, [], ◌∷◌, List, ℕ};
-ghost use Rattle.std.specs.Prelude.{length, drop, remove, Some, IfOk, OnOk, option_map, position};
+ghost use Rattle.std.specs.Prelude.{drop, remove, Some, IfOk, OnOk, option_map, position};
 ghost use Rattle.std.specs.Prelude.{slice_get};
 ghost use Rattle.st_core.specs.declared.types.Message.{Message};
 ghost use Rattle.st_core.specs.Pid.{pid_eq};

@@ -1,6 +1,6 @@
 //! Slots that are looked up by a key.
 
-ghost use Rattle.std.specs.Prelude.{◌≡◌, ◌==◌, ◌&&◌, ◌||◌, ℕ, true, false, not, OnOk};
+ghost use Rattle.std.specs.Prelude.{◌≡◌, ◌==◌, ◌&&◌, ◌||◌, ℕ, false, not, OnOk};
 ghost use Rattle.std.specs.Ordering.{is_eq};
 ghost use Rattle.st_index.specs.Keyed.{has_key, IsFirst};
 

@@ -1,6 +1,6 @@
 //! How the messages of one queue are found: by a walk, or by an index once walks have been long.
 
-ghost use Rattle.std.specs.Prelude.{◌≡◌, ◌++◌, [], ◌∷◌, List, ℕ, Some, IfOk, length, remove};
+ghost use Rattle.std.specs.Prelude.{◌≡◌, ◌++◌, [], ◌∷◌, List, Some, IfOk, length, remove};
 ghost use Rattle.std.specs.Prelude.{slice_get};
 ghost use Rattle.st_arena.specs.Arena.{list_at};
 ghost use Rattle.st_core.specs.declared.types.Message.{Message};

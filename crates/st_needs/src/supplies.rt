@@ -10,7 +10,7 @@ ghost use Rattle.st_needs.specs.Told.{told_of};
 
 use crate::flaws::Left;
 use crate::ranks::counts_of;
-use crate::unsent::{Told, all_told, is_untaken, is_unused};
+use crate::unsent::{Told, is_untaken, is_unused, told_of_each};
 use st_core::{Event, Pid, Streams};
 use std::alloc::{AllocError, Global};
 use std::marker::Model;
@@ -165,7 +165,7 @@ fn add_supplies(
         ++ supplies_of streams.now count (filter (is_free streams.now count) (pids_of streams.now))
         (pids_of streams.now)) }
 {
-    let all = all_told(alloc, streams, count)?;
+    let all = told_of_each(alloc, streams, count)?;
     let free = free_senders(alloc, streams, &all, count)?;
     let mut left = free.as_slice();
     for &pid in streams.pids() {

@@ -136,7 +136,7 @@ fn told_of(streams: &Streams, found: &[Pid], pid: Pid, count: u64) -> Told
 }
 
 /// What is told of each process at this count. It looks at all events once.
-pub fn all_told(alloc: Global, streams: &Streams, count: u64) -> Result<Vec<Told>, AllocError>
+pub fn told_of_each(alloc: Global, streams: &Streams, count: u64) -> Result<Vec<Told>, AllocError>
     ensures { IfOk result (λ all. all.items
         ≡ map (told_of streams.now count) (pids_of streams.now)) }
 {
@@ -199,7 +199,7 @@ fn is_need(events: &[Event], index: usize, event: &Event) -> bool
 fn is_supplied(alloc: Global, streams: &Streams, count: u64) -> Result<bool, AllocError>
     ensures { IfOk result (λ yes. IsTrue yes ↔ IsSupplied streams.now count) }
 {
-    let all = all_told(alloc, streams, count)?;
+    let all = told_of_each(alloc, streams, count)?;
     Ok(suffices(streams, &all, count))
 }
 

@@ -6,7 +6,6 @@ ghost use Rattle.std.specs.Prelude.{◌≡◌, ℕ, map, IfNone, IfOk};
 ghost use Rattle.std.specs.Option.{ForSome};
 ghost use Rattle.st_core.specs.declared.types.Pid.{Pid as PidValue};
 ghost use Rattle.st_core.specs.Run.{pids_of};
-ghost use Rattle.st_core.specs.Streams.{events_of};
 ghost use Rattle.st_pair.specs.Places.{first, first_from};
 ghost use Rattle.st_completions.specs.FinalReasons.{IsZeroBehind};
 ghost use Rattle.st_needs.specs.Zeros.{is_below, is_zero_behind, lower_count, lowest_count};

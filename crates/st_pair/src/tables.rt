@@ -7,7 +7,6 @@
 ghost use Rattle.std.specs.Prelude.{◌≡◌, ◌≤◌, IfOk, IsTrue, OnOk, length, option_and_then};
 ghost use Rattle.std.specs.Prelude.{slice_get};
 ghost use Rattle.std.specs.List.Sorted.{IsSortedByKey};
-ghost use Rattle.st_core.specs.Run.{Stream};
 ghost use Rattle.st_pair.specs.declared.tables.Key.{Key as KeyValue};
 ghost use Rattle.st_pair.specs.Places.{first_from, or_else};
 ghost use Rattle.st_pair.specs.Tables.{AreBelow, AreNotBelow, HasReceives, HasStamps, here};

@@ -14,7 +14,7 @@ use Rattle.st_core.proofs.ForCallers.{run_parts}
 use Rattle.st_plan.specs.Marks.{Marks}
 use Rattle.st_plan.specs.Moves.{Move}
 use Rattle.st_plan.specs.Build.{state_after, build, tracers_after, construction}
-use Rattle.st_plan.specs.Plain.{told_by, told_all}
+use Rattle.st_plan.specs.Plain.{told_of_move, told_of_moves}
 use Rattle.st_plan.proofs.FreeMoves.{AllAlong}
 use Rattle.st_plan.proofs.OwnActs.{run_append, stream_silent}
 use Rattle.st_plan.proofs.KeptState.{IsKept, Continues}
@@ -41,7 +41,7 @@ pub record IsBuilt (top : ℕ) (streams : List Stream) (marks : Marks) (s : Stat
   pub os : List Outcome
   pub are : build top streams marks s ms ≡ Some acts
   pub runs : run_from top s acts ≡ Some os
-  pub tells : (p : Pid) → stream acts os p ≡ told_all marks p ms
+  pub tells : (p : Pid) → stream acts os p ≡ told_of_moves marks p ms
 
 pub built : (top : ℕ) (streams : List Stream) (marks : Marks) (earlier ms : List Move) (s : State)
     → AllAlong (Serves top streams marks) earlier ms → IsKept streams marks earlier s → IsBuilt top streams marks s ms
@@ -58,13 +58,13 @@ built top streams marks earlier (m ∷ ms) s all kept =
       runs = run_append top s one.acts rest.acts one.outcomes rest.os one.runs rest.runs;
       tells = λ p. stream_append top s one.acts rest.acts one.outcomes rest.os p one.runs
           ∙ ap (λ es. es ++ stream rest.acts rest.os p) (one.tells p)
-          ∙ ap (λ es. told_by marks p m ++ es) (rest.tells p);
+          ∙ ap (λ es. told_of_move marks p m ++ es) (rest.tells p);
     }
 
 -- if each move goes on, and together they tell what each process shows, the construction is a certificate
 pub construction_shows : (top : ℕ) (streams : List Stream) (marks : Marks) (shown : List Stream) (m : Move)
     (ms : List Move) → AllAlong (Serves top streams marks) [] (m ∷ ms) → pids_of streams ≡ pids_of shown
-    → All (λ (x : Stream). told_all marks x.pid (m ∷ ms) ≡ x.events) shown
+    → All (λ (x : Stream). told_of_moves marks x.pid (m ∷ ms) ≡ x.events) shown
     → (acts : List Act) × (construction top streams marks (m ∷ ms) ≡ Some acts) × Shows top shown acts
 construction_shows top streams marks shown m ms serve pids told =
     let opening = opens top streams marks in

@@ -13,7 +13,7 @@ use Rattle.st_order.specs.Order.{order}
 use Rattle.st_plan.specs.Marks.{all_streams, all_told, marks_of, told_streams, Marked, Whole}
 use Rattle.st_plan.specs.Moves.{clock, last, moves, Move}
 use Rattle.st_plan.specs.Reasons.{too_wide, uncaused}
-use Rattle.st_plan.specs.Plain.{out_of_turn, told_all}
+use Rattle.st_plan.specs.Plain.{out_of_turn, told_of_moves}
 use Rattle.st_plan.specs.Build.{construction, unstamped_token}
 
 abbrev top : ℕ
@@ -77,7 +77,7 @@ hidden_too_wide : along too_wide [] hidden ≡ false ∷ false ∷ false ∷ fal
 hidden_too_wide = refl
 
 -- what a process tells: its own events and no hidden send
-hidden_told : told_all all_told b hidden ≡ got 17 0 2 a b 5 ∷ printed 17 2 3 b 8 ∷ []
+hidden_told : told_of_moves all_told b hidden ≡ got 17 0 2 a b 5 ∷ printed 17 2 3 b 8 ∷ []
 hidden_told = refl
 
 -- their certificate

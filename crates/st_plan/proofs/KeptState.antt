@@ -27,7 +27,7 @@ use Rattle.st_plan.specs.Marks.{Marks}
 use Rattle.st_plan.specs.Moves.{Move, is_taking, clock, last, move_by}
 use Rattle.st_plan.specs.Reasons.{uncaused}
 use Rattle.st_plan.specs.Build.{flags_of, state_after, GoesOn}
-use Rattle.st_plan.specs.Plain.{told_by}
+use Rattle.st_plan.specs.Plain.{told_of_move}
 use Rattle.st_plan.proofs.OwnActs.{process_then, Lifted, Silent}
 
 -- THE INVARIANT
@@ -244,7 +244,7 @@ abbrev pub shown_to : Pid → Move → Option Event → List Event
 shown_to p m report = (if pid_eq m.who p then option_to_list report else []) ++ []
 
 told_item : (marks : Marks) (x : Item) (e : Event) (p : Pid)
-    → shown_to p (move_by x e) (told_event marks (move_by x e)) ≡ told_by marks p (move_by x e)
+    → shown_to p (move_by x e) (told_event marks (move_by x e)) ≡ told_of_move marks p (move_by x e)
 told_item marks (item.Reported q i) e p =
     let some : Option Event = Some e in
     elim (pid_eq q p) as (λ b. (cond b (option_to_list (cond (marks q i) some None)) []) ++ []
@@ -263,6 +263,6 @@ told_item marks (item.Hidden q i) e p =
     ]
 
 pub told_last : (marks : Marks) (m : Move) (report : Option Event) (p : Pid) → move_by m.item m.event ≡ m
-    → report ≡ told_event marks m → shown_to p m report ≡ told_by marks p m
+    → report ≡ told_event marks m → shown_to p m report ≡ told_of_move marks p m
 told_last marks m report p is h = ap (shown_to p m) h
-    ∙ subst (λ y. shown_to p y (told_event marks y) ≡ told_by marks p y) is (told_item marks m.item m.event p)
+    ∙ subst (λ y. shown_to p y (told_event marks y) ≡ told_of_move marks p y) is (told_item marks m.item m.event p)

@@ -5,20 +5,20 @@ use Rattle.st_core.specs.declared.types.Act.{Act}
 use Rattle.st_core.specs.Run.{Shows, Stream}
 use Rattle.st_core.specs.Streams.{IsStreams}
 use Rattle.st_order.specs.Order.{order}
-use Rattle.st_plan.specs.Marks.{all_told, told_from, told_only}
+use Rattle.st_plan.specs.Marks.{all_told, told_events_from, told_parts}
 use Rattle.st_plan.specs.Moves.{moves}
 use Rattle.st_plan.specs.Plain.{IsPlain}
 use Rattle.st_plan.specs.Build.{construction}
 use Rattle.st_plan.proofs.SettledStreams.{settled_is_shown}
 
-pub told_whole : (i : ℕ) (es : List Event) → told_from (λ n. true) i es ≡ es
+pub told_whole : (i : ℕ) (es : List Event) → told_events_from (λ n. true) i es ≡ es
 told_whole i [] = refl
 told_whole i (e ∷ es) = ap (λ ds. e ∷ ds) (told_whole (i + 1) es)
 
-pub only_whole : (streams : List Stream) → told_only all_told streams ≡ streams
+pub only_whole : (streams : List Stream) → told_parts all_told streams ≡ streams
 only_whole [] = refl
 only_whole (x ∷ streams) =
-    ap (λ (es : List Event). record { pid = x.pid; events = es } ∷ told_only all_told streams) (told_whole 0 x.events)
+    ap (λ (es : List Event). record { pid = x.pid; events = es } ∷ told_parts all_told streams) (told_whole 0 x.events)
     ∙ ap (λ ss. x ∷ ss) (only_whole streams)
 
 pub plain_is_shown : (top : ℕ) (streams : List Stream) → IsStreams streams → IsPlain top streams

@@ -16,10 +16,10 @@ use Rattle.st_order.specs.declared.item.Item.{Item}
 use Rattle.st_order.specs.declared.item.Item.TheVariants as item
 use Rattle.st_order.specs.Order.{order, IsOrder}
 use Rattle.st_order.proofs.ForCallers.{all_found, an_order, AreFound}
-use Rattle.st_plan.specs.Marks.{told_from, told_only, Marks}
+use Rattle.st_plan.specs.Marks.{told_events_from, told_parts, Marks}
 use Rattle.st_plan.specs.Moves.{Move, clock, is_taking, move_by, moves}
 use Rattle.st_plan.specs.Reasons.{uncaused}
-use Rattle.st_plan.specs.Plain.{event_count, told_all, IsSettled}
+use Rattle.st_plan.specs.Plain.{event_count, told_of_moves, IsSettled}
 use Rattle.st_plan.specs.Build.{construction, state_after, GoesOn}
 use Rattle.st_plan.proofs.EarlierMoves.{one_move, order_there, there_event}
 use Rattle.st_plan.proofs.KeptState.{IsKept}
@@ -72,7 +72,7 @@ module _ (top : ℕ) (streams : List Stream) (marks : Marks) (sound : IsStreams 
       settled.within [] xs there free known.clocks known.waits
 
   -- the moves tell the told events
-  pub tells_told_events : (p : Pid) → told_all marks p (moves streams xs) ≡ told_from (marks p) 0 (events_of streams p)
+  pub tells_told_events : (p : Pid) → told_of_moves marks p (moves streams xs) ≡ told_events_from (marks p) 0 (events_of streams p)
   tells_told_events p =
       let moved : AreMoved streams p (moves streams xs) = λ i e at.
       let place = order_whole streams xs is_order (item.Reported p i) e at in
@@ -110,25 +110,25 @@ module _ (top : ℕ) (streams : List Stream) (marks : Marks) (sound : IsStreams 
 
 -- WHAT IS SHOWN
 
-pub told_pids : (marks : Marks) (streams : List Stream) → pids_of streams ≡ pids_of (told_only marks streams)
+pub told_pids : (marks : Marks) (streams : List Stream) → pids_of streams ≡ pids_of (told_parts marks streams)
 told_pids marks [] = refl
 told_pids marks (x ∷ streams) = ap (λ ps. x.pid ∷ ps) (told_pids marks streams)
 
 -- what the moves tell is what some of all streams tell
 told_some : (marks : Marks) (all some : List Stream) (ms : List Move)
-    → ((p : Pid) → told_all marks p ms ≡ told_from (marks p) 0 (events_of all p)) → AreFound all some
-    → AllByRecursion (λ (x : Stream). told_all marks x.pid ms ≡ x.events) (told_only marks some)
+    → ((p : Pid) → told_of_moves marks p ms ≡ told_events_from (marks p) 0 (events_of all p)) → AreFound all some
+    → AllByRecursion (λ (x : Stream). told_of_moves marks x.pid ms ≡ x.events) (told_parts marks some)
 told_some marks all [] ms told found = tt
 told_some marks all (x ∷ some) ms told found =
-    (told x.pid ∙ ap (told_from (marks x.pid) 0) found.0, told_some marks all some ms told found.1)
+    (told x.pid ∙ ap (told_events_from (marks x.pid) 0) found.0, told_some marks all some ms told found.1)
 
 pub tells_only : (streams : List Stream) (marks : Marks) (ms : List Move) → IsStreams streams
-    → ((p : Pid) → told_all marks p ms ≡ told_from (marks p) 0 (events_of streams p))
-    → All (λ (x : Stream). told_all marks x.pid ms ≡ x.events) (told_only marks streams)
+    → ((p : Pid) → told_of_moves marks p ms ≡ told_events_from (marks p) 0 (events_of streams p))
+    → All (λ (x : Stream). told_of_moves marks x.pid ms ≡ x.events) (told_parts marks streams)
 tells_only streams marks ms sound told k d within =
-    let shown = told_only marks streams in
+    let shown = told_parts marks streams in
     let found = told_some marks streams streams ms told (all_found streams sound.draft.rising) in
-    all_at (λ (x : Stream). told_all marks x.pid ms ≡ x.events) shown k (get_or shown k d) found
+    all_at (λ (x : Stream). told_of_moves marks x.pid ms ≡ x.events) shown k (get_or shown k d) found
     (slice_get-get_or shown k d within)
 
 abbrev IsShown : ℕ → List Stream → Marks → List Stream → List Move → Type 0
@@ -137,7 +137,7 @@ IsShown top streams marks shown ms =
 
 shown_by : (top : ℕ) (streams : List Stream) (marks : Marks) (shown : List Stream) (ms : List Move)
     → AllAlong (Serves top streams marks) [] ms → pids_of streams ≡ pids_of shown
-    → All (λ (x : Stream). told_all marks x.pid ms ≡ x.events) shown → IsShown top streams marks shown ms
+    → All (λ (x : Stream). told_of_moves marks x.pid ms ≡ x.events) shown → IsShown top streams marks shown ms
 shown_by top streams marks shown [] serve pids told = ([], refl, ([], refl, told))
 shown_by top streams marks shown (m ∷ ms) serve pids told =
     construction_shows top streams marks shown m ms serve pids told
@@ -145,13 +145,13 @@ shown_by top streams marks shown (m ∷ ms) serve pids told =
 -- so the acts of the construction show the told events
 pub settled_is_shown : (top : ℕ) (streams : List Stream) (marks : Marks) → IsStreams streams → IsSettled top streams
     → (acts : List Act) × (construction top streams marks (moves streams (order streams)) ≡ Some acts)
-    × Shows top (told_only marks streams) acts × NoReset acts
+    × Shows top (told_parts marks streams) acts × NoReset acts
 settled_is_shown top streams marks sound settled =
     let ok = paired streams settled.accepted in
     let is_order = an_order streams sound.draft.rising ok.once in
     let ms = moves streams (order streams) in
     let told = tells_told_events top streams marks sound settled (order streams) is_order in
     let serve = each_serves top streams marks sound settled (order streams) is_order in
-    let shown = shown_by top streams marks (told_only marks streams) ms serve (told_pids marks streams)
+    let shown = shown_by top streams marks (told_parts marks streams) ms serve (told_pids marks streams)
     (tells_only streams marks ms sound told) in
     (shown.0, shown.1, shown.2, no_reset top streams marks ms shown.0 shown.1)

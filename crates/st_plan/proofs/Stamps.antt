@@ -21,7 +21,7 @@ use Rattle.st_core.specs.Report.{report}
 use Rattle.st_core.specs.Streams.{lists}
 use Rattle.st_core.proofs.ForCallers.{process_pid, step_done, run_from-one}
 use Rattle.st_plan.specs.Marks.{Marks}
-use Rattle.st_plan.specs.Plain.{told_by}
+use Rattle.st_plan.specs.Plain.{told_of_move}
 use Rattle.st_plan.specs.Moves.{Move, is_taking, clock, move_by}
 use Rattle.st_plan.specs.Reasons.{uncaused}
 use Rattle.st_plan.specs.Build.{ready, flags_of, act_of, state_after, start_of}
@@ -203,7 +203,7 @@ stamping top streams marks earlier s m a can st =
     subst (IsSo streams marks (m ∷ earlier) x) (sym (reaches z))
     (so_other streams marks earlier m x z (process_pid s x z before) apart can.stamps (kept.each x z before)) in
     let state : state_after s (y.lift.os ++ o ∷ []) ≡ o.after = state_append s y.lift.os (o ∷ []) in
-    let shown : (p : Pid) → stream (first_acts ++ a ∷ []) (y.lift.os ++ o ∷ []) p ≡ told_by marks p m = λ p.
+    let shown : (p : Pid) → stream (first_acts ++ a ∷ []) (y.lift.os ++ o ∷ []) p ≡ told_of_move marks p m = λ p.
     stream_last first_acts a y.lift.os o p top s y.lift.runs y.lift.silent
     ∙ ap (λ q. (if pid_eq q p then option_to_list o.report else []) ++ []) st.by
     ∙ told_last marks m o.report p can.is report_is in (

@@ -15,17 +15,17 @@ use Rattle.st_core.proofs.ForCallers.{pid_same, pid_eq-refl}
 use Rattle.st_pair.specs.Places.{event_at}
 use Rattle.st_order.specs.declared.item.Item.{Item}
 use Rattle.st_order.specs.declared.item.Item.TheVariants as item
-use Rattle.st_plan.specs.Marks.{told_from, Marks}
+use Rattle.st_plan.specs.Marks.{told_events_from, Marks}
 use Rattle.st_plan.specs.Moves.{Move, move_by}
-use Rattle.st_plan.specs.Plain.{event_count, told_all, told_by}
+use Rattle.st_plan.specs.Plain.{event_count, told_of_moves, told_of_move}
 use Rattle.st_plan.proofs.EarlierMoves.{IsAt}
 use Rattle.st_plan.proofs.FreeMoves.{AllAlong, IsInTurn}
 use Rattle.st_plan.proofs.Clocks.{one_by, IsNext}
 
 -- the told ones of one event more
 told_more : (told : ℕ → Bool) (i : ℕ) (es : List Event) (n : ℕ) (e : Event) → slice_get es n ≡ Some e
-    → told_from told i (take (suc n) es)
-    ≡ told_from told i (take n es) ++ (if told (i + n) then e ∷ [] else [])
+    → told_events_from told i (take (suc n) es)
+    ≡ told_events_from told i (take n es) ++ (if told (i + n) then e ∷ [] else [])
 told_more told i [] n e at = absurd (none-some e at)
 told_more told i (d ∷ es) zero e at =
     let here : i ≡ i + 0 = omega arith in
@@ -34,10 +34,10 @@ told_more told i (d ∷ es) zero e at =
 told_more told i (d ∷ es) (suc n) e at =
     let next : i + 1 + n ≡ i + suc n = omega arith in
     let one = λ (k : ℕ). let xs : List Event = if told k then e ∷ [] else [] in xs in
-    let before = told_from told (i + 1) (take n es) in
-    let rest : told_from told (i + 1) (take (suc n) es) ≡ before ++ one (i + suc n) =
+    let before = told_events_from told (i + 1) (take n es) in
+    let rest : told_events_from told (i + 1) (take (suc n) es) ≡ before ++ one (i + suc n) =
     told_more told (i + 1) es n e at ∙ ap (λ k. before ++ one k) next in
-    let after = told_from told (i + 1) (take (suc n) es) in
+    let after = told_events_from told (i + 1) (take (suc n) es) in
     elim (told i) as (λ b. cond b (d ∷ after) after ≡ cond b (d ∷ before) before ++ one (i + suc n)) [
       | true ↦ ap (λ xs. d ∷ xs) rest
       | false ↦ rest
@@ -45,11 +45,11 @@ told_more told i (d ∷ es) (suc n) e at =
 
 -- what p tells of its first n events
 abbrev told_first : List Stream → Marks → Pid → ℕ → List Event
-told_first streams marks p n = told_from (marks p) 0 (take n (events_of streams p))
+told_first streams marks p n = told_events_from (marks p) 0 (take n (events_of streams p))
 
 tell_by : (streams : List Stream) (marks : Marks) (earlier : List Move) (p : Pid) (x : Item) (e : Event)
     → IsAt streams x e → IsInTurn earlier x → told_first streams marks p (event_count p earlier + one_by p x)
-    ≡ told_first streams marks p (event_count p earlier) ++ told_by marks p (move_by x e)
+    ≡ told_first streams marks p (event_count p earlier) ++ told_of_move marks p (move_by x e)
 tell_by streams marks earlier p (item.Hidden q i) e at turn =
     let same : event_count p earlier + 0 ≡ event_count p earlier = omega arith in
     ap (told_first streams marks p) same
@@ -79,7 +79,7 @@ tell_by streams marks earlier p (item.Reported q i) e at turn =
 
 tell_along : (streams : List Stream) (marks : Marks) (p : Pid) (earlier ms : List Move)
     → AllAlong (IsNext streams) earlier ms → told_first streams marks p (event_count p earlier + event_count p ms)
-    ≡ told_first streams marks p (event_count p earlier) ++ told_all marks p ms
+    ≡ told_first streams marks p (event_count p earlier) ++ told_of_moves marks p ms
 tell_along streams marks p earlier [] all =
     let same : event_count p earlier + 0 ≡ event_count p earlier = omega arith in
     ap (told_first streams marks p) same
@@ -89,15 +89,15 @@ tell_along streams marks p earlier (m ∷ ms) all =
     let next = all.0 in
     let rest = tell_along streams marks p (m ∷ earlier) ms all.1 in
     let one = tell_by streams marks earlier p m.item m.event next.at next.turn in
-    let step : whole (event_count p earlier + one_by p m.item) ≡ whole (event_count p earlier) ++ told_by marks p m =
-    one ∙ ap (λ y. whole (event_count p earlier) ++ told_by marks p y) next.is in
+    let step : whole (event_count p earlier + one_by p m.item) ≡ whole (event_count p earlier) ++ told_of_move marks p m =
+    one ∙ ap (λ y. whole (event_count p earlier) ++ told_of_move marks p y) next.is in
     let sum : event_count p earlier + (event_count p ms + one_by p m.item)
     ≡ event_count p earlier + one_by p m.item + event_count p ms =
     omega arith in
     ap whole sum
     ∙ rest
-    ∙ ap (λ xs. xs ++ told_all marks p ms) step
-    ∙ append_assoc (whole (event_count p earlier)) (told_by marks p m) (told_all marks p ms)
+    ∙ ap (λ xs. xs ++ told_of_moves marks p ms) step
+    ∙ append_assoc (whole (event_count p earlier)) (told_of_move marks p m) (told_of_moves marks p ms)
 
 -- a reported item that comes later has an index below the count at the end
 index_low : (streams : List Stream) (p : Pid) (i : ℕ) (earlier ms : List Move) → AllAlong (IsNext streams) earlier ms
@@ -138,7 +138,7 @@ no_more streams p ms all whole less =
 
 -- if each event of p is among the moves, they tell all the told ones
 pub tells_all : (streams : List Stream) (marks : Marks) (p : Pid) (ms : List Move) → AllAlong (IsNext streams) [] ms
-    → AreMoved streams p ms → told_all marks p ms ≡ told_from (marks p) 0 (events_of streams p)
+    → AreMoved streams p ms → told_of_moves marks p ms ≡ told_events_from (marks p) 0 (events_of streams p)
 tells_all streams marks p ms all whole =
     let es = events_of streams p in
     let tell = tell_along streams marks p [] ms all in
@@ -148,4 +148,4 @@ tells_all streams marks p ms all whole =
     ] in
     let same : 0 + event_count p ms ≡ event_count p ms = omega arith in
     sym tell ∙ ap (told_first streams marks p) same
-    ∙ ap (told_from (marks p) 0) (take_all (event_count p ms) es enough)
+    ∙ ap (told_events_from (marks p) 0) (take_all (event_count p ms) es enough)

@@ -12,7 +12,7 @@ use Rattle.st_core.specs.Run.{Shows, Stream, pids_of}
 use Rattle.st_core.specs.Streams.{IsStreams}
 use Rattle.st_core.proofs.ForCallers.{pid_eq-refl, IsBelow-apart}
 use Rattle.st_order.specs.Order.{order}
-use Rattle.st_plan.specs.Marks.{all_streams, marks_of, told_events, told_from, told_only, told_streams, Marked, Whole}
+use Rattle.st_plan.specs.Marks.{all_streams, marks_of, told_events, told_events_from, told_parts, told_streams, Marked, Whole}
 use Rattle.st_plan.specs.Moves.{moves}
 use Rattle.st_plan.specs.Plain.{IsSettled}
 use Rattle.st_plan.specs.Build.{construction}
@@ -22,7 +22,7 @@ use Rattle.st_plan.proofs.SettledStreams.{settled_is_shown}
 
 told_marked : (told : ℕ → Bool) (i : ℕ) (ms : List Marked)
     → ((k : ℕ) (m : Marked) → slice_get ms k ≡ Some m → told (i + k) ≡ m.told)
-    → told_from told i (map (λ (m : Marked). m.event) ms) ≡ told_events ms
+    → told_events_from told i (map (λ (m : Marked). m.event) ms) ≡ told_events ms
 told_marked told i [] all = refl
 told_marked told i (m ∷ ms) all =
     let here : i ≡ i + 0 = omega arith in
@@ -30,7 +30,7 @@ told_marked told i (m ∷ ms) all =
     let rest = told_marked told (i + 1) ms (λ k x at.
     let next : i + 1 + k ≡ i + suc k = omega arith in
     ap told next ∙ all (suc k) x at) in
-    let later = told_from told (i + 1) (map (λ (x : Marked). x.event) ms) in
+    let later = told_events_from told (i + 1) (map (λ (x : Marked). x.event) ms) in
     ap (λ b. cond b (m.event ∷ later) later) first ∙ ap (λ es. cond m.told (m.event ∷ es) es) rest
 
 -- ALL
@@ -64,19 +64,19 @@ are_marked (w ∷ wholes) rising = (
 )
 
 told_some : (all some : List Whole) → AreMarked all some
-    → told_only (marks_of all) (all_streams some) ≡ told_streams some
+    → told_parts (marks_of all) (all_streams some) ≡ told_streams some
 told_some all [] marked = refl
 told_some all (w ∷ some) marked =
     let one = told_marked (marks_of all w.pid) 0 w.marked (λ k m at.
     let same : 0 + k ≡ k = omega arith in
     ap (marks_of all w.pid) same ∙ marked.0 k m at) in
-    ap (λ (es : List Event). record { pid = w.pid; events = es } ∷ told_only (marks_of all) (all_streams some)) one
+    ap (λ (es : List Event). record { pid = w.pid; events = es } ∷ told_parts (marks_of all) (all_streams some)) one
     ∙ ap (λ (ss : List Stream). record { pid = w.pid; events = told_events w.marked } ∷ ss)
     (told_some all some marked.1)
 
 -- told by places as by marks
 pub told_of_whole : (wholes : List Whole) → IsRising (pids_of (all_streams wholes))
-    → told_only (marks_of wholes) (all_streams wholes) ≡ told_streams wholes
+    → told_parts (marks_of wholes) (all_streams wholes) ≡ told_streams wholes
 told_of_whole wholes rising = told_some wholes wholes (are_marked wholes rising)
 
 pub completion_is_shown : (top : ℕ) (wholes : List Whole) → IsStreams (all_streams wholes)

@@ -22,7 +22,7 @@ use Rattle.st_order.specs.declared.item.Item.TheVariants as item
 use Rattle.st_plan.specs.declared.plan.Start.{Start}
 use Rattle.st_plan.specs.Marks.{Marks}
 use Rattle.st_plan.specs.Moves.{Move, is_taking}
-use Rattle.st_plan.specs.Plain.{told_by}
+use Rattle.st_plan.specs.Plain.{told_of_move}
 
 -- what of a process's state the acts are built from
 abbrev pub start_of : LocalState → Start
@@ -132,7 +132,7 @@ pub record GoesOn (top : ℕ) (streams : List Stream) (marks : Marks) (s : State
   pub are : acts_of streams marks before m ≡ Some acts
   pub outcomes : List Outcome
   pub runs : run_from top s acts ≡ Some outcomes
-  pub tells : (p : Pid) → stream acts outcomes p ≡ told_by marks p m
+  pub tells : (p : Pid) → stream acts outcomes p ≡ told_of_move marks p m
 
 -- all acts of these moves, each item's from the state that the acts before lead to
 abbrev pub build : ℕ → List Stream → Marks → State → List Move → Option (List Act)

@@ -47,12 +47,12 @@ marks_of wholes p i = elim (find (λ w. pid_eq w.pid p) wholes) [
 ]
 
 -- the told ones of these events, which stand from index i on
-abbrev pub told_from : (ℕ → Bool) → ℕ → List Event → List Event
-told_from told i [] = []
-told_from told i (e ∷ es) =
-    if told i then e ∷ told_from told (i + 1) es else told_from told (i + 1) es
+abbrev pub told_events_from : (ℕ → Bool) → ℕ → List Event → List Event
+told_events_from told i [] = []
+told_events_from told i (e ∷ es) =
+    if told i then e ∷ told_events_from told (i + 1) es else told_events_from told (i + 1) es
 
 -- the told events of each stream
-abbrev pub told_only : Marks → List Stream → List Stream
-told_only marks streams =
-    map (λ s. record { pid = s.pid; events = told_from (marks s.pid) 0 s.events }) streams
+abbrev pub told_parts : Marks → List Stream → List Stream
+told_parts marks streams =
+    map (λ s. record { pid = s.pid; events = told_events_from (marks s.pid) 0 s.events }) streams

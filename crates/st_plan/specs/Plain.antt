@@ -14,16 +14,16 @@ use Rattle.st_plan.specs.Moves.{Move}
 use Rattle.st_plan.specs.Reasons.{too_wide, uncaused, HoldsAt}
 
 -- what p tells of a move: the event of its own item, if that is told
-abbrev pub told_by : Marks → Pid → Move → List Event
-told_by marks p m = elim m.item [
+abbrev pub told_of_move : Marks → Pid → Move → List Event
+told_of_move marks p m = elim m.item [
   | item.Reported q i ↦ if pid_eq q p then (if marks q i then m.event ∷ [] else []) else []
   | item.Hidden q i ↦ []
 ]
 
 -- all that p tells of these moves
-abbrev pub told_all : Marks → Pid → List Move → List Event
-told_all marks p [] = []
-told_all marks p (m ∷ ms) = told_by marks p m ++ told_all marks p ms
+abbrev pub told_of_moves : Marks → Pid → List Move → List Event
+told_of_moves marks p [] = []
+told_of_moves marks p (m ∷ ms) = told_of_move marks p m ++ told_of_moves marks p ms
 
 -- how many of these moves are events of p
 abbrev pub event_count : Pid → List Move → ℕ

@@ -11,7 +11,7 @@ ghost use Rattle.st_core.specs.Streams.{IsStreams};
 ghost use Rattle.st_order.specs.Order.{order};
 ghost use Rattle.st_plan.specs.Build.{construction};
 ghost use Rattle.st_plan.specs.Full.{IsFull};
-ghost use Rattle.st_plan.specs.Marks.{all_streams, all_told, marks_of, told_only, told_streams};
+ghost use Rattle.st_plan.specs.Marks.{all_streams, all_told, marks_of, told_parts, told_streams};
 ghost use Rattle.st_plan.specs.Marks.{Marks, Whole};
 ghost use Rattle.st_plan.specs.Moves.{moves, Move};
 ghost use Rattle.st_plan.specs.Plain.{IsPlain, IsSettled};
@@ -24,7 +24,7 @@ pub fn settled_streams_are_shown()
         → IsSettled top streams →
         (acts : List Act) × (construction top streams marks (moves streams (order streams))
         ≡ Some acts)
-        × Shows top (told_only marks streams) acts × NoReset acts }
+        × Shows top (told_parts marks streams) acts × NoReset acts }
 {}
 
 /// So if the streams of a trace are all that is told of such whole streams, acts without a reset

@@ -1,7 +1,7 @@
 //! The tree: the root is node 1, and node k has the children 2k and 2k + 1; the leaves are the
 //! slots.
 
-ghost use Rattle.std.specs.Prelude.{◌≡◌, ◌≢◌, ◌+◌, ◌<◌, ◌≤◌, ◌^◌, ℕ, suc, length, drop, true};
+ghost use Rattle.std.specs.Prelude.{◌≡◌, ◌+◌, ◌<◌, ◌≤◌, ◌^◌, ℕ, length, drop, true};
 ghost use Rattle.std.specs.Prelude.{false};
 ghost use Rattle.st_ranks.specs.Tree.{count_at, sums, wide, IsTree, IsDead, IsLive};
 

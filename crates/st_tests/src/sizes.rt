@@ -2,7 +2,7 @@
 //! memory is left, so the prover accepts a body that gives up at some size; these tests don't.
 //! `text::limits` and `checks` have the reader, the check and the replay.
 
-ghost use Rattle.std.specs.Prelude.{◌≡◌, ◌<◌, length, IfOk};
+ghost use Rattle.std.specs.Prelude.{◌<◌};
 
 mod arenas;
 

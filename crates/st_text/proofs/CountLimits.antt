@@ -1,17 +1,15 @@
 -- A line without a fault passed each test, and one of them is by how many of its kind came before it: so lines without
 -- a fault are within the limits on counts.
 use Rattle.std.proofs.Common.{◌≡◌, ℕ, ◌+◌, ◌≤◌, Bool, true, false, not, cond, leb, List, [], ◌∷◌, ◌++◌, length, map}
-use Rattle.std.proofs.Common.{Option, Some, None, refl, sym, ap, subst, ◌∙◌, append_assoc, arith}
+use Rattle.std.proofs.Common.{Some, None, refl, sym, ap, subst, append_assoc, arith}
 use Rattle.std.specs.List.{count_by}
 use Rattle.std.proofs.lemmas.Bool.Decides.{nat_tests}
 use Rattle.std.proofs.lemmas.List.{append-nil, length_push}
-use Rattle.st_core.specs.declared.types.Pid.{Pid}
 use Rattle.st_text.specs.declared.line.Line.{Line}
 use Rattle.st_text.specs.declared.line.Line.TheVariants as lines
-use Rattle.st_text.specs.declared.fault.ReadFault.{ReadFault}
 use Rattle.st_text.specs.declared.fault.ReadFault.TheVariants as faults
 use Rattle.st_text.specs.declared.limits.Limits.{Limits}
-use Rattle.st_text.specs.Fault.{pids, pid_of, last_of, is_event, is_act, may_stand, is_out_of_order, is_foreign}
+use Rattle.st_text.specs.Fault.{pids, last_of, is_event, is_act, may_stand, is_out_of_order, is_foreign}
 use Rattle.st_text.specs.Fault.{is_one_too_many, line_fault, first_fault}
 use Rattle.st_text.proofs.Newlines.{none_of}
 use Rattle.st_text.proofs.BuilderSteps.{pids_push, count_push}

@@ -1,5 +1,5 @@
 -- At the end the lines are judged and the tail is what was kept, so that the answer is the bytes' bundle or fault.
-use Rattle.std.proofs.Common.{◌≡◌, ℕ, ◌+◌, ◌^◌, ◌<◌, ◌≤◌, Bool, true, false, cond, eqb, List, [], ◌∷◌, ◌++◌, length}
+use Rattle.std.proofs.Common.{◌≡◌, ℕ, ◌+◌, ◌^◌, ◌<◌, ◌≤◌, Bool, true, false, List, [], ◌∷◌, ◌++◌, length}
 use Rattle.std.proofs.Common.{map, Option, Some, None, refl, sym, ap, subst, ◌∙◌, arith}
 use Rattle.std.specs.Prelude.{Result, Ok, Err}
 use Rattle.std.specs.List.{flat_map, count_by}
@@ -18,7 +18,7 @@ use Rattle.st_text.specs.Parsing.{line_of}
 use Rattle.st_text.specs.Parts.Counts.{acts_len, acts_lines}
 use Rattle.st_text.specs.Text.{process_lines, act_lines, acts_or_none, body, ended, spelling}
 use Rattle.st_text.specs.Contents.{contents}
-use Rattle.st_text.specs.Fault.{cut, onto_first, sayings, fault_within, closing_fault, first_fault, is_event}
+use Rattle.st_text.specs.Fault.{cut, sayings, fault_within, closing_fault, first_fault, is_event}
 use Rattle.st_text.specs.Parts.Builder.{so_far, IsBuilt}
 use Rattle.st_text.specs.Parts.Finish.{IsFinished, Finishes}
 use Rattle.st_text.specs.Parts.Cutter.{IsTail}

@@ -1,6 +1,6 @@
 -- Bytes without a fault are the text of a bundle: each good line adds a process, an event or an act to what the lines
 -- before it spell, and if no pid is unlisted at the end, what was added up is a bundle.
-use Rattle.std.proofs.Common.{◌≡◌, ℕ, ◌+◌, ◌<◌, ◌≤◌, Bool, true, false, not, ◌&&◌, ◌||◌, cond, eqb, leb, nat_lt}
+use Rattle.std.proofs.Common.{◌≡◌, ℕ, ◌+◌, ◌<◌, ◌≤◌, Bool, true, false, not, ◌&&◌, ◌||◌, cond, eqb, nat_lt}
 use Rattle.std.proofs.Common.{List, [], ◌∷◌, ◌++◌, length, map, Option, Some, None, refl, sym, ap, subst, ◌∙◌}
 use Rattle.std.proofs.Common.{append_assoc, arith}
 use Rattle.std.specs.Prelude.{is_some}
@@ -10,7 +10,7 @@ use Rattle.std.specs.declared.cmp.Ordering.TheVariants.{Less, Equal, Greater}
 use Rattle.std.specs.Ordering.{is_lt}
 use Rattle.std.proofs.lemmas.Bool.Decides.{nat_tests}
 use Rattle.std.proofs.lemmas.Bool.{eqb-true}
-use Rattle.std.proofs.lemmas.List.{append-nil, length-map, length_push, map-append, nil_from_length}
+use Rattle.std.proofs.lemmas.List.{append-nil, length-map, map-append, nil_from_length}
 use Rattle.std.proofs.lemmas.List.Concat.{flat_map-append}
 use Rattle.std.proofs.lemmas.List.Folds.{list_any-append}
 use Rattle.st_core.specs.declared.types.Pid.{Pid}
@@ -30,7 +30,7 @@ use Rattle.st_text.specs.Text.{unlisted_act}
 use Rattle.st_text.specs.Parsing.{line_of}
 use Rattle.st_text.specs.Fault.{cut, sayings, said, pids, pid_of, last_of, last_passes, has_acts, is_event, is_act}
 use Rattle.st_text.specs.Fault.{is_acts}
-use Rattle.st_text.specs.Fault.{may_stand, may_follow, is_out_of_order, is_foreign, is_one_too_many}
+use Rattle.st_text.specs.Fault.{may_follow}
 use Rattle.st_text.specs.Fault.{line_fault, first_fault, first_of, truncated, needless, unknown_from, closing_fault}
 use Rattle.st_text.specs.Fault.{fault_within}
 use Rattle.st_text.specs.Parts.Builder.{so_far}
@@ -40,7 +40,7 @@ use Rattle.st_text.proofs.CountLimits.{Passes, passes, all_few}
 use Rattle.st_text.proofs.GoodLines.{count-append, count-cons}
 use Rattle.st_text.proofs.BuilderFaults.{stands_is}
 use Rattle.st_text.proofs.BuilderSteps.{so_far_open, so_far_event, so_far_begin, so_far_act, added_pids, last_cons}
-use Rattle.st_text.proofs.BuilderSteps.{pids_push, count_push}
+use Rattle.st_text.proofs.BuilderSteps.{pids_push}
 use Rattle.st_text.proofs.Headers.{spelled_whole, body_fits}
 use Rattle.st_text.proofs.ListedPids.{own_events, none_unlisted}
 use Rattle.st_text.proofs.ClosingFaults.{place_of, place_or, streams_place, acts_place}

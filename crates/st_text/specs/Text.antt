@@ -9,7 +9,7 @@ use Rattle.st_core.specs.declared.types.Want.{Want}
 use Rattle.st_core.specs.declared.types.Want.TheVariants as wants
 use Rattle.st_core.specs.declared.types.Act.{Act}
 use Rattle.st_core.specs.declared.types.Act.TheVariants as acts
-use Rattle.st_core.specs.Pid.{pid_eq, node_of}
+use Rattle.st_core.specs.Pid.{node_of}
 use Rattle.st_core.specs.Step.{actor, receiver}
 use Rattle.st_core.specs.Run.{Stream, pids_of}
 use Rattle.st_core.specs.Streams.{IsStreams, is_among}

@@ -2,7 +2,7 @@
 //! one spelling of its value; that there is room is its caller's to know. Nothing here knows of a
 //! device.
 
-ghost use Rattle.std.specs.Prelude.{◌≡◌, ◌+◌, ◌≤◌, ◌++◌, length, decimal};
+ghost use Rattle.std.specs.Prelude.{◌≡◌, ◌+◌, ◌++◌, length, decimal};
 ghost use Rattle.arrayvec.specs.ArrayVec.{array_vec_len};
 ghost use Rattle.st_text.specs.Spelling as spelled;
 ghost use Rattle.st_text.specs.Room.{number_room, bool_room, pid_room, HasRoom, Puts};

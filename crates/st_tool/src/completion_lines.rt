@@ -3,8 +3,6 @@
 
 ghost use Rattle.std.specs.Prelude.{◌≡◌, ◌≤◌, ◌+◌, ◌++◌, codes, length};
 ghost use Rattle.std.specs.List.{flat_map};
-ghost use Rattle.st_core.specs.Run.{pids_of};
-ghost use Rattle.st_plan.specs.Marks.{all_streams};
 ghost use Rattle.st_text.specs.Room.{line_room, HasRoom};
 ghost use Rattle.st_text.specs.Spelling.{ended_line};
 ghost use Rattle.st_text.specs.Writing.{WritesOn, WritesText};
@@ -13,7 +11,8 @@ ghost use Rattle.st_chart.specs.Report.{event_line, event_words};
 ghost use Rattle.st_tool.specs.Complete.{added_at, added_of, added_text, never_text, open_text};
 ghost use Rattle.st_tool.specs.Complete.{other_line, place_line};
 
-use crate::lines::{OutputLine, put_place};
+use crate::lines::OutputLine;
+use st_chart::put_place;
 use st_complete::{Completion, Never};
 use st_core::{ByteSink, Event, Pid, Streams};
 use st_text::{Buffer, Device, flush, make_room, put_bytes, put_event, write_line};

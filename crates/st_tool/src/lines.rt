@@ -8,9 +8,10 @@ ghost use Rattle.st_chart.specs.Room.{place_room};
 ghost use Rattle.st_tool.specs.Complete.{never_words};
 ghost use Rattle.st_tool.specs.Lines.{words_of, words_room};
 
+use st_chart::put_place;
 use st_complete::Never;
 use st_core::Pid;
-use st_text::{Buffer, TextLine, put_bytes, put_number, put_numbered, put_pid};
+use st_text::{Buffer, TextLine, put_bytes, put_numbered};
 
 /// A line that stands alone.
 #[derive(Clone, Copy, Debug)]
@@ -27,16 +28,6 @@ pub(crate) enum OutputLine {
     Never(Pid, u64, Never),
     /// Neither a completion nor a reason was found; this is one event of those in question.
     Open(Pid, u64),
-}
-
-/// Appends a process and an index in its stream.
-pub(crate) fn put_place(buffer: &mut Buffer, pid: Pid, index: u64)
-    requires { HasRoom place_room buffer.old }
-    ensures { Puts place_room (place_words pid index) buffer.old buffer.new }
-{
-    put_pid(buffer, pid);
-    put_bytes(buffer, b" ");
-    put_number(buffer, index);
 }
 
 /// Appends a word and a place.

@@ -9,15 +9,14 @@ ghost use Rattle.st_text.specs.Spelling.{ended_line};
 ghost use Rattle.st_text.specs.Writing.{WritesOn, WritesText};
 ghost use Rattle.st_pair.specs.Places.{is_stamp};
 ghost use Rattle.st_order.specs.declared.item.Item.TheVariants as item;
-ghost use Rattle.st_chain.specs.Causes.{cause_at};
 ghost use Rattle.st_chart.specs.Chart.{cause_words, item_word};
 ghost use Rattle.st_chart.specs.Room.{item_word_room, origin_room};
 ghost use Rattle.st_tool.specs.Begun.{greatest_count, is_begun, row_of};
 ghost use Rattle.st_tool.specs.Why.{by_words, follow_words, step_line, step_words, what_words};
 ghost use Rattle.st_tool.specs.Parts.{by_room, follow_room, what_room};
 
-use crate::lines::put_place;
 use st_chain::{Cause, Chains};
+use st_chart::put_place;
 use st_core::{ByteSink, Event, Kind, Pid, Streams};
 use st_text::{Buffer, Device, flush, make_room, put_bytes, put_number, put_serial};
 

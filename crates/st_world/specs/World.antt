@@ -1,5 +1,5 @@
 -- What the public calls of a world return.
-use Rattle.std.specs.Prelude.{◌≡◌, ℕ, ◌<◌, ◌≤◌, Bool, true, false, ◌⊎◌, List, Option, Some, None}
+use Rattle.std.specs.Prelude.{◌≡◌, ℕ, ◌<◌, ◌≤◌, true, ◌⊎◌, List, Option, Some, None}
 use Rattle.std.specs.Prelude.{Result, Err, IsSome, IfSome, IfOk, IfErr, OnErr, All, option_and_then}
 use Rattle.std.specs.Prelude.{position}
 use Rattle.std.specs.Option.{ForSome}

@@ -1,6 +1,6 @@
 //! The workers of a drive: each makes the acts of one script in a thread of its own.
 
-ghost use Rattle.std.specs.Prelude.{◌≡◌, [], length, map, reverse, zip, All, IfOk, IfErr, Some};
+ghost use Rattle.std.specs.Prelude.{◌≡◌, [], map, reverse, zip, All, IfOk, IfErr, Some};
 ghost use Rattle.st_runtime.specs.Working.{IsLeft, AreWorked, IsOwnFault};
 
 use crate::fault::{ActFault, DriveFault};

@@ -1,6 +1,6 @@
 //! Whether each process has the one seat that its log tells of.
 
-ghost use Rattle.std.specs.Prelude.{◌≡◌, ◌↔◌, [], ◌∷◌, length, IsTrue, MatchOption};
+ghost use Rattle.std.specs.Prelude.{◌≡◌, ◌↔◌, [], ◌∷◌, IsTrue, MatchOption};
 ghost use Rattle.st_core.specs.Pid.{IsRising};
 ghost use Rattle.st_runtime.specs.Joining.{IsLeastUnseated, lesser};
 ghost use Rattle.st_runtime.specs.Pieces.{pids_in, calls_of, seats_at, IsSeated, IsFirstUnseated};

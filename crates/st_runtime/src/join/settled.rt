@@ -3,7 +3,7 @@
 //! Ranks rise in each log, so that the entries of one log that another shares stand there in the
 //! same order: each is looked for from where the one before was found.
 
-ghost use Rattle.std.specs.Prelude.{◌≡◌, All, Contains, IsTrue};
+ghost use Rattle.std.specs.Prelude.{All, Contains, IsTrue};
 ghost use Rattle.st_core.specs.Pid.{IsRising};
 ghost use Rattle.st_core.specs.Step.{actor};
 ghost use Rattle.st_runtime.specs.Joining.{HasAt, IsSettled};

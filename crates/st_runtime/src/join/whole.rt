@@ -1,7 +1,7 @@
 //! Which entries stand in the log of each process that their acts touch.
 
 ghost use Rattle.std.specs.Prelude.{◌≡◌, ◌<◌, length, take, true, All, Contains, slice_get};
-ghost use Rattle.std.specs.Prelude.{slice_index_or, is_some, Some, IfSome, IsTrue, MatchBool};
+ghost use Rattle.std.specs.Prelude.{slice_index_or, is_some, Some, IfSome, MatchBool};
 ghost use Rattle.std.specs.Prelude.{MatchOption};
 ghost use Rattle.st_core.specs.Pid.{IsRising};
 ghost use Rattle.st_core.specs.Step.{actor, touches};

@@ -4,7 +4,7 @@ use Rattle.std.proofs.Common.{◌≡◌, [], get_or, rules, arith, sym, subst}
 use Rattle.std.proofs.lemmas.Option.{slice_get-get_or}
 use Rattle.st_core.specs.Laws.{NoReset}
 use Rattle.st_core.specs.Run.{Shows}
-use Rattle.st_plan.specs.Marks.{told_only}
+use Rattle.st_plan.specs.Marks.{told_parts}
 use Rattle.st_audit.specs.declared.construction.Halt.TheVariants as halt
 use Rattle.st_audit.proofs.PlainItems.{goes_memory, goes_track, item_goes}
 use Rattle.st_audit.proofs.Track.{tracers_begin, none, on_track, opening_memory, track_shows, IsOnTrack}
@@ -112,7 +112,7 @@ returns g c = λ plain.
     let now = c.loop-number.construction in
     let track = c.loop-number.invariant.track plain in
     let same = sym c.into_acts.ensures in (
-      subst (Shows top (told_only marks streams)) same
+      subst (Shows top (told_parts marks streams)) same
           (track_shows top streams marks c.requires.streams plain.settled xs c.requires.order n now.world now.acts
           (omega arith) track),
       subst NoReset same track.one_trace,

@@ -1,11 +1,11 @@
 -- The template's first piece is a byte or a number, and what stands behind it goes on as the call says.
-use Rattle.std.proofs.Common.{◌≡◌, ◌<◌, ◌≤◌, ◌+◌, ◌∙◌, ◌^◌, ◌∷◌, ℕ, List, [], length, Option, Some}
-use Rattle.std.proofs.Common.{None, sym, ap, subst, arith}
+use Rattle.std.proofs.Common.{◌≡◌, ◌<◌, ◌+◌, ◌∙◌, ℕ, List, length, Option}
+use Rattle.std.proofs.Common.{sym, subst, arith}
 use Rattle.std.specs.Borrow.{Bor}
 use Rattle.std.specs.Option.{IsSome}
 use Rattle.std.proofs.lemmas.List.{take_rest}
 use Rattle.st_column.specs.Column.{IsLongest}
-use Rattle.st_column.specs.Longest.{Spells, most_of}
+use Rattle.st_column.specs.Longest.{Spells}
 use Rattle.st_column.proofs.Templates.{same_longest, other_longest, end_longest, best_more, number_longest, IsBest}
 use Rattle.st_column.proofs.column.+furthest.Goals as goal
 

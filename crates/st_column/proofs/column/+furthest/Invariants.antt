@@ -1,5 +1,5 @@
 -- The template gets shorter at each call; the numbers so far give the best.
-use Rattle.std.proofs.Common.{◌≤◌, length}
+use Rattle.std.proofs.Common.{length}
 use Rattle.st_column.proofs.Templates.{IsBest}
 use Rattle.st_column.proofs.column.+furthest.Given as goal
 

@@ -1,6 +1,6 @@
 -- A byte that isn't passed can't be a further digit of a number: it is none, or a 0 leads, or the
 -- number would be too great.
-use Rattle.std.proofs.Common.{◌≡◌, ◌<◌, ◌≤◌, ◌∙◌, ◌^◌, ℕ, length, get_or, take, sym, arith, inl, inr, false, true}
+use Rattle.std.proofs.Common.{◌≡◌, ◌<◌, ◌∙◌, length, get_or, take, sym, arith, false, true}
 use Rattle.std.specs.Char.{is_ascii_digit}
 use Rattle.st_column.proofs.Numbers.{IsDecimal, stops, next_digit, next_lead, worth_more, decimal_more}
 use Rattle.st_column.proofs.column.number_bytes.Goals.{else-i-gt0-via-then-i-gt0+else-line-eq48}

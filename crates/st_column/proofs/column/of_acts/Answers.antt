@@ -1,7 +1,5 @@
 -- The best of the seven groups, one behind the other from the last.
-use Rattle.std.proofs.Common.{◌≡◌, ℕ, List, ◌++◌, sym, subst, max}
-use Rattle.st_column.specs.Column.{IsLongest}
-use Rattle.st_column.specs.Longest.{IsAnyOf, act_lines}
+use Rattle.std.proofs.Common.{◌++◌, max}
 use Rattle.st_column.specs.Longest.{message_lines, print_lines, token_lines, flag_lines, tracer_lines}
 use Rattle.st_column.specs.Longest.{restore_send_lines, restore_lines}
 use Rattle.st_column.proofs.Templates.{better}
