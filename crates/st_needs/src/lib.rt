@@ -19,5 +19,7 @@ pub use construction::{Marked, Whole};
 pub use definition::{complete_by_definition, complete_told};
 pub use flaws::{Flaw, Left, find_flaw, find_hidden, is_hidden_source, is_stamp, prev_left};
 pub use ranks::{counts_of, renumbered};
-pub use unsent::{Told, find_unsent, is_unsent, need_count, told_of_each, untaken_count, unused_count};
+pub use unsent::{
+    Told, find_unsent, is_unsent, need_count, told_of_each, untaken_count, unused_count,
+};
 pub use zeros::find_zero_behind;

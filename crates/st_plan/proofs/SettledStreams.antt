@@ -72,7 +72,8 @@ module _ (top : ℕ) (streams : List Stream) (marks : Marks) (sound : IsStreams 
       settled.within [] xs there free known.clocks known.waits
 
   -- the moves tell the told events
-  pub tells_told_events : (p : Pid) → told_of_moves marks p (moves streams xs) ≡ told_events_from (marks p) 0 (events_of streams p)
+  pub tells_told_events : (p : Pid) → told_of_moves marks p (moves streams xs)
+    ≡ told_events_from (marks p) 0 (events_of streams p)
   tells_told_events p =
       let moved : AreMoved streams p (moves streams xs) = λ i e at.
       let place = order_whole streams xs is_order (item.Reported p i) e at in
@@ -116,7 +117,8 @@ told_pids marks (x ∷ streams) = ap (λ ps. x.pid ∷ ps) (told_pids marks stre
 
 -- what the moves tell is what some of all streams tell
 told_some : (marks : Marks) (all some : List Stream) (ms : List Move)
-    → ((p : Pid) → told_of_moves marks p ms ≡ told_events_from (marks p) 0 (events_of all p)) → AreFound all some
+    → ((p : Pid) → told_of_moves marks p ms ≡ told_events_from (marks p) 0 (events_of all p))
+    → AreFound all some
     → AllByRecursion (λ (x : Stream). told_of_moves marks x.pid ms ≡ x.events) (told_parts marks some)
 told_some marks all [] ms told found = tt
 told_some marks all (x ∷ some) ms told found =

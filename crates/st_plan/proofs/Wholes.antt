@@ -12,7 +12,8 @@ use Rattle.st_core.specs.Run.{Shows, Stream, pids_of}
 use Rattle.st_core.specs.Streams.{IsStreams}
 use Rattle.st_core.proofs.ForCallers.{pid_eq-refl, IsBelow-apart}
 use Rattle.st_order.specs.Order.{order}
-use Rattle.st_plan.specs.Marks.{all_streams, marks_of, told_events, told_events_from, told_parts, told_streams, Marked, Whole}
+use Rattle.st_plan.specs.Marks.{all_streams, marks_of, told_events, told_events_from, told_parts}
+use Rattle.st_plan.specs.Marks.{told_streams, Marked, Whole}
 use Rattle.st_plan.specs.Moves.{moves}
 use Rattle.st_plan.specs.Plain.{IsSettled}
 use Rattle.st_plan.specs.Build.{construction}
@@ -70,7 +71,8 @@ told_some all (w ∷ some) marked =
     let one = told_marked (marks_of all w.pid) 0 w.marked (λ k m at.
     let same : 0 + k ≡ k = omega arith in
     ap (marks_of all w.pid) same ∙ marked.0 k m at) in
-    ap (λ (es : List Event). record { pid = w.pid; events = es } ∷ told_parts (marks_of all) (all_streams some)) one
+    ap (λ (es : List Event). record { pid = w.pid; events = es }
+      ∷ told_parts (marks_of all) (all_streams some)) one
     ∙ ap (λ (ss : List Stream). record { pid = w.pid; events = told_events w.marked } ∷ ss)
     (told_some all some marked.1)
 

@@ -1,6 +1,5 @@
 //! Ranks of slots by worked marks, and by a list of marks beside them.
 
-
 use crate::collected::{same, same_at};
 use st_ranks::Ranks;
 use std::alloc::{AllocError, Global};

@@ -61,7 +61,8 @@ fn put_never_words(buffer: &mut Buffer, pid: Pid, never: Never)
 fn put_never(buffer: &mut Buffer, pid: Pid, index: u64, never: Never)
     requires { HasRoom words_room buffer.old }
     ensures { Puts words_room
-        (codes "never " ++ place_words pid index ++ codes " " ++ never_words pid never) buffer.old buffer.new }
+        (codes "never " ++ place_words pid index ++ codes " " ++ never_words pid never)
+        buffer.old buffer.new }
 {
     put_bytes(buffer, b"never ");
     put_place(buffer, pid, index);
