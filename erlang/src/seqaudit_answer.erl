@@ -11,7 +11,7 @@
 -define(SYSTEM, 4).
 
 -type options() :: #{string() => [string()]}.
-%% The words after each option, the last one first; the words without one stand under "".
+%% The words after each option, the last one first; the words without one are under "".
 
 -type status() :: ?FITS..?INPUT | ?SYSTEM.
 -type result() :: status() | {status() | ?USAGE, Complaint :: unicode:chardata()} | {usage, string()}.
@@ -193,7 +193,7 @@ charts(Number, #{parts := Parts, outcome := #{streams := Streams}} = Audited, Op
              end,
     page(Audited, Options, Number, Status).
 
-%% What stands above a chart.
+%% The lines above a chart.
 charted(#{cut := Cut, outcome := Outcome, notes := Notes, parts := Parts, legend := Legend}) ->
     [Cut, seqaudit_explain:headline(Outcome, Legend), seqaudit_explain:losses(Notes),
      [seqaudit_explain:reset_places([Part || {Part, _} <- Parts], Legend) || Parts =/= []]].
@@ -287,7 +287,7 @@ why(Event, Shown, Options, #{legend := Legend, timed := Times}) ->
 shown(#{parts := [], outcome := #{streams := Streams}}) -> [Streams];
 shown(#{parts := Parts}) -> [Streams || {_, #{streams := Streams}} <- Parts].
 
-%% Causes of a trace that doesn't fit are told with the doubt first.
+%% For a trace that doesn't fit, the doubt comes before the causes.
 doubt(Outcome, Legend) ->
     case fits(Outcome) of
         true -> "";

@@ -1,7 +1,7 @@
 %% @doc Takes collected events in, one by one, in little memory.
 %%
-%% Of an event stays a record of a fixed size in one binary: numbers for its label, parties and
-%% message, its serial and its time. The terms themselves stand in tables, each once. So a million
+%% An event becomes a record of a fixed size in one binary: numbers for its label, parties and
+%% message, its serial and its time. The terms themselves are in tables, each once. So a million
 %% events take some tens of megabytes beside their different messages. Some events make a part, in
 %% which terms have numbers of their own. A part may be made in another process, and given the numbers
 %% of the tables there; only giving them goes from part to part.

@@ -2,7 +2,7 @@
 %%
 %% An event keeps its number in the trace as it was converted (`at'), whatever is cut off it later,
 %% so that its name, `shop#24', is the same in every answer. An event that nobody reported, which
-%% `seqtool complete' adds, is named after the one that it stands before: `shop#24~1'.
+%% `seqtool complete' adds, is named after the one that it comes before: `shop#24~1'.
 -module(seqaudit_bundle).
 
 -export([read/1, parse/1, text/1, event_text/1, events/1, actor/1]).
@@ -118,13 +118,13 @@ receiver_text(Pid) -> Pid.
 events(Streams) ->
     lists:sum([length(Events) || {_, Events} <- Streams]).
 
-%% @doc The process in whose stream the event stands.
+%% @doc The process in whose stream the event is.
 -spec actor(event()) -> pid_text().
 actor(#{kind := 'receive', to := To}) -> To;
 actor(#{from := From}) -> From.
 
 %% @doc The streams with the unreported events that `seqtool complete' found: its streams of all
-%% events, in which those of these streams stand in their order, with their numbers.
+%% events, in which those of these streams are in their order, with their numbers.
 %%
 %% The tool looks at counts alone. If they leave a choice, what an engineer would expect is taken:
 %% of several messages with the count that an event needs one with its label, and of the places where
@@ -148,7 +148,7 @@ mark(Pid, Events, Unreported) ->
       end, Event} || #{at := Position} = Event <- Events].
 
 %% Moves each unreported send whose receive was reported behind the receive whose count is its prev,
-%% if that stands between it and the next stamp. What it leaves for the next event is the same there.
+%% if that is between it and the next stamp. What it leaves for the next event is the same there.
 follow(Marked, Received) ->
     {Known, _} = lists:mapfoldl(fun({_, #{prev := Prev} = Event} = One, Counts) ->
                                         {{is_map_key(Prev, Counts), One}, counts(Event, Counts)}

@@ -1,6 +1,6 @@
 %% @doc What caused each event of some streams.
 %%
-%% Rows stand in the one order that `seqaudit' uses for all processes: by the greatest count that a
+%% Rows are in the one order that `seqaudit' uses for all processes: by the greatest count that a
 %% process has reached, sends and prints before receives, then by process. So rows and causes are
 %% those of `seqaudit chart', over all labels at once. If the chart has `start', this module
 %% tells beginnings from events whose cause wasn't reported.

@@ -8,7 +8,7 @@
 -define(CHARACTERS, 80).
 -define(NAME, 40).
 
-%% Each mark stands at the right of so many places.
+%% Each mark is at the right of so many places.
 -define(PLACES, 4).
 
 -type row() :: #{marks := [byte()], kind := binary(), serial := binary(), value := binary(),

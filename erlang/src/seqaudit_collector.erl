@@ -387,7 +387,7 @@ infos(<<1, _:32, Rest/binary>>, Used, Infos) ->
 infos(_, Used, Infos) ->
     {Infos, Used}.
 
-%% A busy port may have written the file over since it was last looked at; then what stands behind the
+%% A busy port may have written the file over since it was last looked at; then what comes behind the
 %% offset begins in the middle of an event, and is no term.
 info(Bytes) ->
     try binary_to_term(Bytes, [safe]) of
@@ -424,7 +424,7 @@ named_late(#state{processes = Known} = State) ->
                                            is_map_key(name, About)]),
     State#state{processes = Late}.
 
-%% Puts the former tracer back, unless somebody else's stands in the collector's place. There may be
+%% Puts the former tracer back, unless somebody else's is in the collector's place. There may be
 %% none because the port is behind, or gone.
 take_off(#state{tracer = on, by = By, watch = Watch, former = Former} = State) ->
     ok = release_trigger(State),

@@ -2,7 +2,7 @@
 %%
 %% <dl>
 %% <dt>`NAME.seqtrace'</dt><dd>the text of the bundle: the stream of each process</dd>
-%% <dt>`NAME.terms'</dt><dd>what each number stands for ({@link seqaudit_legend})</dd>
+%% <dt>`NAME.terms'</dt><dd>what each number means ({@link seqaudit_legend})</dd>
 %% <dt>`NAME.messages'</dt><dd>the whole texts of the messages that are cut there, if any are
 %% ({@link seqaudit_messages})</dd>
 %% <dt>`NAME.notes'</dt><dd>what was decided, dropped or can't be represented, a line each</dd>
@@ -176,7 +176,7 @@ has_messages(File) ->
 write_own(File, Text) ->
     write_file(File, fun(Out) -> Out(Text) end).
 
-%% The owner alone may read the file, from before anything stands in it.
+%% The owner alone may read the file, from before anything is in it.
 write_file(File, Part) ->
     case file:open(File, [write, raw, binary]) of
         {ok, Device} ->
@@ -395,7 +395,7 @@ some([{_, Term} = One | Others], Bytes, Some) ->
         More -> some(Others, More, [One | Some])
     end.
 
-%% The entry of a value, if dots stand in its text since it is cut.
+%% The entry of a value, if its text is cut and has dots.
 whole(Number, Term, Numbers) ->
     Whole = seqaudit_terms:whole(Term, Numbers),
     case seqaudit_terms:append(Term, Numbers, <<>>) of

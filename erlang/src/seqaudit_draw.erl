@@ -13,7 +13,7 @@
 -define(MOST_ROWS, 2_000).
 
 %% Distances in pixels. A row is high enough for one line of text, so texts never meet; a lane is
-%% as wide as the text of most messages. The names stand again after so many rows, about a screen.
+%% as wide as the text of most messages. The names come again after so many rows, about a screen.
 -define(LANE, 170).
 -define(ROW, 22).
 -define(LEFT, 190).
@@ -42,7 +42,7 @@
 -type place() :: {Lane :: pos_integer(), Row :: non_neg_integer()}.
 
 -type heading() :: #{part := string(), said := string(), fits := boolean(), losses := string()}.
-%% What stands above the drawing: which part of a trace it is, if there are several, what the audit
+%% The lines above the drawing: which part of a trace it is, if there are several, what the audit
 %% says, and what was lost.
 
 %% @doc The text of the drawing.
@@ -248,7 +248,7 @@ short(Text, Length) ->
 
 tip(Lines) -> lists:join("\n", Lines).
 
-%% What XML doesn't allow, and what turns the direction of text, stands as its number.
+%% What XML doesn't allow, and what turns the direction of text, is written as its number.
 escape(Text) ->
     [case C of
          $& -> "&amp;";

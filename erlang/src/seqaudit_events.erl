@@ -19,7 +19,7 @@
 
 -import(seqaudit_errors, [text/2]).
 
-%% The first line of NAME.events. Behind it stand entries: a byte that says what, a size of four
+%% The first line of NAME.events. Entries follow: a byte that says what, a size of four
 %% bytes, and a term. Events and drops (whose four bytes are their number) are as in a trace file.
 -define(HEADER, "seqaudit events 2\n").
 -define(EVENT, 0).
@@ -44,7 +44,7 @@
           processes => #{pid() => seqaudit_spool:about()}, tracer => put_back | taken | gone,
           atom() => term()}
       | #{node := node(), lost := term()}.
-%% One node's events with what its collector counted; `lost' stands for a collector that went down.
+%% One node's events with what its collector counted; `lost' means that the collector went down.
 
 -type about() :: #{name => binary(), call => seqaudit_external:encoded()}.
 -type facts() :: #{node => binary(), collector => seqaudit_external:encoded(),
@@ -422,7 +422,7 @@ begin_collection(Device, Facts) ->
     Term = term_to_binary(Facts),
     file:write(Device, [<<?COLLECTION, (byte_size(Term)):32>>, Term]).
 
-%% @doc Appends entries as they stand in a folder of {@link seqaudit_spool}.
+%% @doc Appends entries as they are in a folder of {@link seqaudit_spool}.
 -spec append(file:io_device(), iodata()) -> ok | {error, term()}.
 append(Device, Entries) ->
     file:write(Device, Entries).

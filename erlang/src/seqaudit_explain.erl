@@ -220,13 +220,13 @@ losses(Notes) ->
         Lost -> ["The trace isn't whole:\n", [["  ", Note, $\n] || Note <- Lost]]
     end.
 
-%% Names and labels, which may say anything, stand in notes of their own.
+%% Names and labels, which may say anything, are in notes of their own.
 is_loss(Note) ->
     re:run(Note, "^(labels that|no processes, or|nodes are numbered)", [unicode]) =:= nomatch
         andalso re:run(Note, "dropped|lost|went down|ended early|written over|cut or damaged|"
                        "took the collector's place|won't take|no events came", [unicode]) =/= nomatch.
 
-%% @doc Where the resets between the parts stand, and the outcome of each part.
+%% @doc Where the resets between the parts are, and the outcome of each part.
 -spec parts([seqaudit_outcome:outcome()], [seqaudit_bundle:streams()], seqaudit_legend:legend()) ->
           unicode:chardata().
 parts(Outcomes, Parts, Legend) ->
@@ -234,7 +234,7 @@ parts(Outcomes, Parts, Legend) ->
      [[format("part ~b: ", [Which]), headline(Outcome, Legend)]
       || {Which, Outcome} <- lists:enumerate(Outcomes)]].
 
-%% @doc Where the resets between the parts stand.
+%% @doc Where the resets between the parts are.
 -spec reset_places([seqaudit_bundle:streams()], seqaudit_legend:legend()) -> unicode:chardata().
 reset_places(Parts, Legend) ->
     case seqaudit_parts:places(Parts) of

@@ -320,7 +320,7 @@ part(Bytes, Depth) ->
             {Term, Rest}
     end.
 
-%% @doc What stands in the place of a process.
+%% @doc What replaces a process.
 -spec view(encoded()) -> view().
 view(<<?NEW_PID, Rest0/binary>>) ->
     {Node, <<Number:32, Serial:32, _Creation:32>>} = atom_name(Rest0),

@@ -16,13 +16,13 @@
 %% <dt>`unreceived'</dt><dd>the first event that follows each message whose receive wasn't reported,
 %% and the send of that message</dd>
 %% <dt>`waiting'</dt><dd>the sends of the other messages whose receive wasn't reported: these may still wait</dd>
-%% <dt>`before'</dt><dd>where the counter of a process stood before its first stamp, if not at 0</dd>
+%% <dt>`before'</dt><dd>the counter of a process before its first stamp, if it wasn't 0</dd>
 %% <dt>`spawns'</dt><dd>how often OTP moved a counter on as it answered a spawn</dd>
 %% <dt>`silent'</dt><dd>how many stamps came between a process's events and were not reported</dd>
-%% <dt>`jumps'</dt><dd>how often a counter stood higher than anything reported tells</dd>
+%% <dt>`jumps'</dt><dd>how often a counter was higher than any reported event shows</dd>
 %% </dl>
 
-%% @doc What they leave out; unreported events that stand in the streams count as theirs.
+%% @doc What they leave out; unreported events in the streams count as theirs.
 -spec find(seqaudit_bundle:streams()) -> gaps().
 find(Streams) ->
     Rows = seqaudit_causes:rows(Streams),

@@ -1,7 +1,7 @@
-%% @doc `NAME.terms', which says what each number of a bundle stands for.
+%% @doc `NAME.terms', which says what each number of a bundle means.
 %%
 %% It is text in UTF-8, a line an entry, with tabs between its parts: `process PID NAME WHAT',
-%% `label NUMBER TERM' and `value NUMBER TERM'. All of them are kept as binaries, as they stand in
+%% `label NUMBER TERM' and `value NUMBER TERM'. All of them are kept as binaries, as they are in
 %% the text of a bundle and in what `seqaudit' writes.
 -module(seqaudit_legend).
 
@@ -14,7 +14,7 @@
 -define(HEADER, <<"seqaudit terms 1">>).
 
 %% Messages of gen_server: a call, a cast, and the replies to an alias and to a reference; and those
-%% by which OTP spawns a process. A number stands for what is captured.
+%% by which OTP spawns a process. A number means what is captured.
 -define(TAG, "(?:\\[alias\\|#Ref<[0-9.]*>\\]|#Ref<[0-9.]*>)").
 -define(BRIEF, [{"^\\{'\\$gen_call',\\{[^,]*," ?TAG "\\},(.*)\\}$", ["call ", 1]},
                 {"^\\{'\\$gen_cast',(.*)\\}$", ["cast ", 1]},

@@ -1,6 +1,6 @@
 %% @doc `NAME.messages', the whole texts of the messages that `NAME.terms' has cut.
 %%
-%% It is text in UTF-8: behind its first line stands a line for each of these messages, `value NUMBER TERM',
+%% It is text in UTF-8: below its first line is a line for each of these messages, `value NUMBER TERM',
 %% with tabs between. It may be far larger than the legend, so only a page reads it, line by line.
 -module(seqaudit_messages).
 

@@ -14,7 +14,7 @@
 -define(CUTS, ["--label", "--process", "--from", "--to"]).
 
 -type options() :: #{string() => [string()]}.
-%% The words after each option, the last one first; the words without one stand under "".
+%% The words after each option, the last one first; the words without one are under "".
 
 %% @doc Runs the command and halts with its status.
 -spec main([string()]) -> no_return().
@@ -63,7 +63,7 @@ commands() ->
      {"why", ["--event" | ?CUTS], ["--effects"],
       fun(Options) -> answer(fun seqaudit_answer:why/1, Options) end}].
 
-%% The commands on a trace that was collected stand in a module of their own.
+%% The commands on a collected trace are in a module of their own.
 answer(Command, Options) ->
     case seqaudit_program:unproved() of
         [] -> ok;

@@ -40,7 +40,7 @@ known(Kind, #{facts := Facts} = Collection) ->
     count(Kind, Facts) + count(Kind, Collection).
 
 %% The bytes that a port wrote over, and about how many events they were: all that came to the port
-%% without what its files have. The port counts an event without what stands before it in a file.
+%% without what its files have. The port counts an event without what comes before it in a file.
 over(#{facts := #{by := port, written := Written, came := Came, kept := Kept, kept_bytes := Size,
                   cut := Cut} = Facts}) ->
     Over = Written + ?BEFORE_EVENT * (Kept + count(dropped_here, Facts)) - Came - Cut,

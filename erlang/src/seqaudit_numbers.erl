@@ -1,7 +1,7 @@
 %% @doc Gives each different term a number, from 0 in the order of first sight.
 %%
-%% The terms are bytes and stand in tables beside the heap, so that a million of them are neither copied nor
-%% looked through whenever memory is tidied. Terms that are given together stand together.
+%% The terms are bytes and are in tables beside the heap, so that a million of them are neither copied nor
+%% looked through whenever memory is tidied. Terms that are given together are stored together.
 -module(seqaudit_numbers).
 
 -export([new/0, number/2, numbers/2, size/1, part/3, listed/1, few/0, number_few/2, terms/1]).

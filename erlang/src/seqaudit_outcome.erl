@@ -24,7 +24,7 @@
 %% What is said:
 %% <dl>
 %% <dt>`fits'</dt><dd>a run has the streams, and `answer' is the bundle that shows it</dd>
-%% <dt>`completed'</dt><dd>a run has them, with unreported events, which stand in `streams'; `answer'
+%% <dt>`completed'</dt><dd>a run has them, with unreported events, which are in `streams'; `answer'
 %% is the bundle that shows it, or the list of the events if it has too many acts for one</dd>
 %% <dt>`never'</dt><dd>no run without a reset has them; `finding' says why</dd>
 %% <dt>`open'</dt><dd>it isn't known; `finding' is an event that no choice was found for</dd>

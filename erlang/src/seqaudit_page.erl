@@ -1,7 +1,7 @@
 %% @doc Draws a trace as one page to look at, of all labels, however many rows it has.
 %%
 %% The page needs no network and takes none: its policy allows its own script and style and nothing
-%% else. What came from the trace stands in it as data, in which no character can end the element
+%% else. What came from the trace is in it as data, in which no character can end the element
 %% that it is in, and the script puts it into the page as text. The sources are in `priv'.
 -module(seqaudit_page).
 
@@ -18,7 +18,7 @@ html(Audited, Label) ->
     html(Audited, Label, ?CHARACTERS).
 
 %% @doc The text of the page. `Label' is the number of the one that is shown at first, `<<>>' for all
-%% of them. Each message stands in it whole and once; if they have more characters than `Limit', the
+%% of them. Each message is in it whole and once; if they have more characters than `Limit', the
 %% longest are cut.
 -spec html(map(), binary(), pos_integer()) -> {ok, iodata()} | {error, term()}.
 html(#{name := Name} = Audited, Label, Limit) ->
@@ -35,7 +35,7 @@ sources([], Texts) ->
 sources([Source | Sources], Texts) ->
     Home = filename:dirname(filename:dirname(filename:absname(code:which(?MODULE)))),
     File = filename:join([Home, "priv", Source]),
-    %% In an escript it stands in an archive, which the loader reads.
+    %% In an escript it is in an archive, which the loader reads.
     case erl_prim_loader:get_file(File) of
         {ok, Text, _} -> sources(Sources, [Text | Texts]);
         error -> {error, {file, File, enoent}}

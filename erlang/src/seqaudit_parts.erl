@@ -1,4 +1,4 @@
-%% @doc Where resets stand in streams that no run without one has.
+%% @doc Where resets are in streams that no run without one has.
 %%
 %% A reset sets the counters of all processes back and takes the tokens off the messages that are
 %% under way. So each part between two resets is a beginning of what is left of each stream: in it
@@ -19,7 +19,7 @@
                waiting = #{} :: #{term() => [seqaudit_bundle:pid_text()]}}).
 
 %% @doc The parts, one after the other; each has all processes. One part alone if nothing says
-%% that a reset stands between.
+%% that a reset is between.
 -spec split(seqaudit_bundle:streams()) -> [seqaudit_bundle:streams()].
 split(Streams) ->
     case take(Streams) of
@@ -33,7 +33,7 @@ split_rest(Rest) ->
         _ -> split(Rest)
     end.
 
-%% @doc Between which events of which processes each reset stands: `none' if the process has no
+%% @doc Between which events of which processes each reset is: `none' if the process has no
 %% event in all parts before it, or none after it.
 -spec places([seqaudit_bundle:streams()]) ->
           [[{seqaudit_bundle:pid_text(), Before :: seqaudit_bundle:at() | none,

@@ -1,6 +1,6 @@
 %% @doc A folder of a traced node to which its events go as they come.
 %%
-%% In it stand wrapped files of a trace port (`events0.trace' and so on: `&lt;&lt;0, Size:32, Term>>' is
+%% It has wrapped files of a trace port (`events0.trace' and so on: `&lt;&lt;0, Size:32, Term>>' is
 %% an event, `&lt;&lt;1, Count:32>>' events that the port dropped) and a file of facts, a term each. The
 %% folder's name is long and random, and only its owner may enter. Whoever sees that name sees the
 %% folder: so a collection is read from the disk if that is shared, also when the node is gone.
@@ -62,7 +62,7 @@ base(Folder) ->
 note(Folder, Facts) ->
     file:write_file(filename:join(Folder, ?FACTS), entry(Facts), [append]).
 
-%% @doc Facts as they stand in a file.
+%% @doc Facts as they are in a file.
 -spec entry(facts()) -> iolist().
 entry(Facts) ->
     Term = term_to_binary(Facts),

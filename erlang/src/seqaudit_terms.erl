@@ -98,7 +98,7 @@ append(Term, Numbers, Before) ->
             <<Before/binary, (unicode:characters_to_binary(Short))/binary>>
     end.
 
-%% @doc The text of a term in UTF-8, not cut. Dots stand only for what is more than 10,000 parts deep and
+%% @doc The text of a term in UTF-8, not cut. Dots replace only what is more than 10,000 parts deep and
 %% for a number of more than 500 bytes.
 -spec whole(seqaudit_external:encoded(), numbers()) -> binary().
 whole(Term, Numbers) ->
@@ -116,7 +116,7 @@ short(Text, Length) ->
 
 %% Puts the text of the first term of the bytes behind the text before; returns it with how many parts
 %% are left for what follows, and the bytes behind the term. If no parts are left, nothing is read any
-%% more; dots stand for what is left out.
+%% more; dots replace what is left out.
 print(_Bytes, _Depth, 0, _, Before) -> {<<Before/binary, "...">>, 0, unread};
 print(Bytes, 0, Parts, _, Before) ->
     {ok, _, Rest} = seqaudit_external:take(Bytes),
@@ -143,7 +143,7 @@ print_parts(Left, Bytes, Depth, Parts, Style, Before) ->
     {Text, PartsLeft, Rest} = print(Bytes, Depth, Parts, Style, Before),
     print_parts(Left - 1, Rest, Depth, PartsLeft, Style, separated(Left, Text)).
 
-%% A comma stands between the parts.
+%% A comma separates the parts.
 separated(1, Text) -> Text;
 separated(_, Text) -> <<Text/binary, $,>>.
 
@@ -204,7 +204,7 @@ print_string(String, Parts, #style{bytes = Most}, Before) ->
             <<Shown/binary, (separator(Parts))/binary, "...]">>
     end.
 
-%% What stands between so many parts and the next.
+%% What separates so many parts from the next.
 separator(0) -> <<>>;
 separator(_) -> <<$,>>.
 
@@ -241,7 +241,7 @@ pairs(Left, Bytes, Done) ->
     {ok, Value, Rest} = seqaudit_external:take(Rest0),
     pairs(Left - 1, Rest, [{order(Key), Key, Value} | Done]).
 
-%% Style stand before atoms, and these before all else, as Erlang orders them.
+%% Style come before atoms, and these before all else, as Erlang orders them.
 order(Key) ->
     case {seqaudit_external:number(Key), seqaudit_external:view(Key)} of
         {Number, _} when is_integer(Number) -> {0, Number};

@@ -1,7 +1,7 @@
 %% @doc Reads events from text, as `io:format("~p~n", [Event])' printed them.
 %%
 %% One term after the other, each ended by a newline or a full stop. Processes, references, ports
-%% and funs may stand in their printed form, which Erlang itself doesn't read back. What `logger' or
+%% and funs may be in their printed form, which Erlang itself doesn't read back. What `logger' or
 %% another log puts in front of `{seq_trace,' on its line is passed over, and in such a text so are
 %% lines without an event. A comment says where the events after it were collected, and which node
 %% the first number of a pid means there:
@@ -27,7 +27,7 @@
 %% Whole numbers are read up to so many digits: reading one takes the square of their number.
 -define(DIGITS, 20_000).
 -define(ATOM_CHARACTERS, 255).
-%% Between the angles of a pid or a fun stand at most so many bytes.
+%% A pid or a fun has at most so many bytes between its angles.
 -define(INNER, 2_000).
 
 %% Of what isn't understood so many characters are shown.
@@ -201,7 +201,7 @@ shown(Bytes) ->
             end,
     lists:flatten(io_lib:write_string(seqaudit_terms:short(Begin, ?SHOWN))).
 
-%% The bytes of the first term of a text, and what stands behind it.
+%% The bytes of the first term of a text, and what comes behind it.
 term(_Bytes, _Place, ?DEPTH) ->
     fault("this term is more than 10000 deep");
 term(Bytes, Place, Depth) ->
@@ -349,7 +349,7 @@ bits(Bits) ->
     Padded = <<Bits/bitstring, 0:(8 - Last)>>,
     <<77, (byte_size(Padded)):32, Last, Padded/binary>>.
 
-%% What stands between the angles; of a pid, port or reference numbers and dots alone.
+%% What is between the angles; of a pid, port or reference numbers and dots alone.
 opaque(Kind, Bytes, Place) ->
     case angle(Bytes) of
         {Size, 1} ->

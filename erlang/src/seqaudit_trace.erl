@@ -26,7 +26,7 @@
 -define(LEAST_BYTES, 65_536).
 -define(FLAGS, [send, 'receive', print, timestamp, strict_monotonic_timestamp,
                 monotonic_timestamp]).
-%% Modules that another node needs: the collector, what it stands on, and this one for `with_trace'.
+%% Modules that another node needs: the collector, what it depends on, and this one for `with_trace'.
 -define(MODULES, [seqaudit_spool, seqaudit_scribe, seqaudit_watch, seqaudit_collector, ?MODULE]).
 -define(REMOTE_MS, 15_000).
 %% A node that is out of reach is tried again in these steps.
