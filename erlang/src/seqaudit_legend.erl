@@ -14,7 +14,7 @@
 -define(HEADER, <<"seqaudit terms 1">>).
 
 %% Messages of gen_server: a call, a cast, and the replies to an alias and to a reference; and those
-%% by which OTP spawns a process. A number means what is captured.
+%% by which OTP spawns a process. What is captured replaces its number.
 -define(TAG, "(?:\\[alias\\|#Ref<[0-9.]*>\\]|#Ref<[0-9.]*>)").
 -define(BRIEF, [{"^\\{'\\$gen_call',\\{[^,]*," ?TAG "\\},(.*)\\}$", ["call ", 1]},
                 {"^\\{'\\$gen_cast',(.*)\\}$", ["cast ", 1]},
