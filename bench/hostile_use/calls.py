@@ -1,5 +1,5 @@
 """Memory that runs out in library calls: each test that promises to hold then, in a process of its own in which the Nth
-request for memory is refused, for N = 1, 2, .. until a run meets no refusal."""
+request for memory fails, for N = 1, 2, .. until none of a run fails."""
 
 import os
 import re
@@ -53,7 +53,7 @@ def names_of(program):
 
 
 def run(program, library, name, n):
-    """Whether the test held as its Nth request was refused, and whether one was."""
+    """Whether the test held though its Nth request failed, and whether one did."""
     env = os.environ | {"LD_PRELOAD": library, "REFUSE_REQUEST": str(n)}
     ran = subprocess.run([program, name], env=env, stdin=subprocess.DEVNULL, stdout=subprocess.PIPE,
                          stderr=subprocess.PIPE, timeout=600)
@@ -61,7 +61,7 @@ def run(program, library, name, n):
 
 
 def each_refused(library, crate):
-    """The Nth request is refused in each test of this crate that promises to hold."""
+    """The Nth request fails in each test of this crate that promises to hold."""
     program, complaint = build(crate)
     yield Check(f"calls: {crate}: its tests hold without refusals", complaint)
     names = [] if complaint else names_of(program)

@@ -41,7 +41,7 @@ def sources_fail(program, words):
 
 
 def stopped(name, right, got):
-    """The check that the program ended with 4 and had written a prefix of the right answer."""
+    """The check that the program ended with 4 and had written a prefix of the right output."""
     if got.status == 4 and right.startswith(got.output) and got.output != right and not got.complaint:
         return Check(name)
     return Check(name, f"expected status 4 and a prefix of {right!r}\ngot      {got}")

@@ -16,7 +16,7 @@ def faults(words):
 
 
 def each_refused(program, library, name, rest):
-    """The Nth request is refused, or the Nth and all later ones, for N = 1, 2, .. until a run meets no refusal."""
+    """The Nth request fails, or the Nth and all later ones, for N = 1, 2, .. until none of a run fails."""
     words, given = INPUTS[name]
     which = "and all later ones" if rest else "alone"
     memory = right = 0

@@ -43,7 +43,7 @@ def cut(text):
 
 
 def expect(name, wanted, got, given=b"", note=None):
-    """The check that the answer is the wanted one, or one of them; a complaint on standard error fails it too."""
+    """The check that the output is the right one, or one of the right ones; a message on standard error fails it too."""
     wanted = wanted if isinstance(wanted, (list, tuple)) else [wanted]
     if got in wanted:
         return Check(name, note=note)
@@ -69,7 +69,7 @@ class Program:
         return self.run(words) != Answer(3, USAGE)
 
     def measure(self, words, pieces, seconds):
-        """Runs it on the bytes of these pieces, from disk to disk: the answer, the seconds, the peak in megabytes."""
+        """Runs it on the bytes of these pieces, from disk to disk: the output, the seconds, the peak in megabytes."""
         with tempfile.TemporaryDirectory() as folder:
             given, written = os.path.join(folder, "given"), os.path.join(folder, "written")
             with open(given, "wb") as file:

@@ -1,4 +1,4 @@
-"""Tampered text: every small change of a good text has to get the answer that a slow reading of the rules gives it."""
+"""Tampered text: for every small change of a good text the program has to write what a slow reading of the rules gives."""
 
 import random
 import re

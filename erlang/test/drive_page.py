@@ -302,7 +302,7 @@ LONG = ["{text,\"</script><b>&\\\"'\\e\\x{202E}\u05e9\U0001F600" + 100000 * "x" 
 
 
 def whole(browser, checks):
-    """Each message stands whole in the panel, is copied whole, and is found by its end; rows have short forms."""
+    """Each message is whole in the panel, is copied whole, and is found by its end; rows have short forms."""
     for row, text in enumerate(LONG):
         browser.click(f"#list [data-row='{row}']")
         browser.until(f"document.querySelector('#message').textContent.length >= {len(text)}")

@@ -164,7 +164,7 @@ def ask(program, words, given):
 
 
 def compare(program, words, given):
-    """The model's answer, which must be the program's too where the program has the command."""
+    """The model's output, which must be the program's too if the program has the command."""
     lines, status = model.answer(words, given)
     said = ask(program, words, given)
     assert said[1] == 3 or said == (text(lines), status), (words, given, lines, status, said)

@@ -72,7 +72,7 @@ CHOSEN = (own_receives((0, 2), (0, 1), (1, 3), (2, 4)), own_receives((0, 3), (0,
 
 
 def word_of(lines):
-    """What an answer says: a completion, the reason of a `never`, or `open`."""
+    """What an output says: a completion, the reason of a `never`, or `open`."""
     word, *rest = lines[0].split(" ")
     return {"added": "whole", "never": rest[-1] if word != "never" else rest[2], "open": "open"}[word]
 
@@ -105,7 +105,7 @@ class Trace:
             and not tool.is_supplied_at_least(self.streams, hidden, messages, event.prev)
 
     def allows(self, lines):
-        """Whether the program may say this where the model says something else."""
+        """Whether the program may say this though the model says something else."""
         match lines[0].split(" "):
             case ["added", *_]:
                 return self.word == "whole" and self.lines != ["added 0"]

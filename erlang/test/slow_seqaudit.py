@@ -195,7 +195,7 @@ class World:
         return None
 
     def place_of(self, pid, sender, this):
-        """Where in the queue the first message with that stamp stands."""
+        """The place in the queue of the first message with that stamp."""
         return next((k for k, (_, _, token, _) in enumerate(self.of[pid].queue)
                      if token and (token.sender, token.this) == (sender, this)), None)
 
