@@ -60,15 +60,15 @@ acts = (act.Tracer a true ∷ started a 1) ++ (
 abbrev streams : List Stream
 streams =
     of a (
-      sent 1 0 1 a b 5
-      ∷ got 1 1 3 b a 6
-      ∷ printed 2 3 4 a 9
-      ∷ [])
+    sent 1 0 1 a b 5
+    ∷ got 1 1 3 b a 6
+    ∷ printed 2 3 4 a 9
+    ∷ [])
     ∷ of b (
-      got 1 0 1 a b 5
-      ∷ printed 1 1 2 b 8
-      ∷ sent 1 1 3 b a 6
-      ∷ [])
+    got 1 0 1 a b 5
+    ∷ printed 1 1 2 b 8
+    ∷ sent 1 1 3 b a 6
+    ∷ [])
     ∷ []
 
 abbrev outcomes_in : Option (List Outcome) → List Outcome
@@ -352,7 +352,7 @@ far_completed = refl
 abbrev twice : List Stream
 twice =
     of a (
-      alone ++ (printed 1 4 7 a 4 ∷ printed 1 3 8 a 5 ∷ []))
+    alone ++ (printed 1 4 7 a 4 ∷ printed 1 3 8 a 5 ∷ []))
     ∷ of b ([])
     ∷ []
 
@@ -448,10 +448,10 @@ needy = (refl, refl, refl, refl, refl)
 abbrev high : List Stream
 high =
     of a (
-      printed 1 0 3000 a 1
-      ∷ printed 1 0 50000 a 2
-      ∷ printed 1 3000 60001 a 3
-      ∷ [])
+    printed 1 0 3000 a 1
+    ∷ printed 1 0 50000 a 2
+    ∷ printed 1 3000 60001 a 3
+    ∷ [])
     ∷ of b ([])
     ∷ []
 
@@ -460,10 +460,10 @@ high_counts = refl
 
 high_renumbered : renumbered_streams high
     ≡ of a (
-      printed 1 0 1 a 1
-      ∷ printed 1 0 2 a 2
-      ∷ printed 1 1 3 a 3
-      ∷ [])
+    printed 1 0 1 a 1
+    ∷ printed 1 0 2 a 2
+    ∷ printed 1 1 3 a 3
+    ∷ [])
     ∷ of b ([])
     ∷ []
 high_renumbered = refl
