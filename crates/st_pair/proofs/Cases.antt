@@ -134,10 +134,6 @@ level_refused = refl
 level_never : NeverShown level
 level_never = prev_never_shown level (fault.PrevNotBefore a 0) refl tt
 
--- The other three are final for acts without a reset alone: these streams are refused, and these acts show them.
-abbrev top : ℕ
-top = 18446744073709551615
-
 abbrev outcomes : List Stream → List Act → List Outcome
 outcomes streams acts = elim (run top (pids_of streams) acts) [ None ↦ [] | Some os ↦ os ]
 
