@@ -35,6 +35,7 @@ use Rattle.st_completions.specs.Wholes.{wholes_of}
 use Rattle.st_completions.proofs.ReasonsOfCompletions.{shown_nothing}
 use Rattle.st_plan.proofs.ForCallers.{full_plain}
 use Rattle.st_plan.proofs.Samples.{along}
+use Rattle.st_core.proofs.Samples.{top, a, b, sent, got, printed, of}
 
 -- p's token gets a label and all flags
 abbrev started : Pid → ℕ → List Act
@@ -258,7 +259,7 @@ abbrev alone : List Event
 alone = printed 1 0 3 a 1 ∷ printed 1 0 5 a 2 ∷ printed 1 3 6 a 3 ∷ []
 
 abbrev alone_streams : List Stream
-alone_streams = of a (alone) ∷ []
+alone_streams = of a alone ∷ []
 
 one_needs : (sum_by (excess alone_streams 3) (pids_of alone_streams) ≡ 1)
     × (count_by (is_free alone_streams 3) (pids_of alone_streams) ≡ 0)
@@ -271,7 +272,7 @@ alone_never top acts none shows =
 
 -- With a second process there is one that is free to send it.
 abbrev two_streams : List Stream
-two_streams = of a (alone) ∷ of b ([]) ∷ []
+two_streams = of a alone ∷ of b [] ∷ []
 
 one_feeds : (sum_by (excess two_streams 3) (pids_of two_streams) ≡ 1)
     × (count_by (is_free two_streams 3) (pids_of two_streams) ≡ 1)
@@ -280,7 +281,7 @@ one_feeds = (refl, refl)
 -- Or one that told of a send of it, which no reported receive takes.
 abbrev own_streams : List Stream
 own_streams =
-    of a (alone)
+    of a alone
     ∷ of b (sent 1 0 3 b a 7 ∷ [])
     ∷ []
 
@@ -334,7 +335,7 @@ abbrev far : Pid
 far = pid_on 1 30
 
 abbrev far_streams : List Stream
-far_streams = of a (alone) ∷ of far ([]) ∷ []
+far_streams = of a alone ∷ of far [] ∷ []
 
 far_completed : completion far_streams
     ≡ whole a (
@@ -353,7 +354,7 @@ abbrev twice : List Stream
 twice =
     of a (
     alone ++ (printed 1 4 7 a 4 ∷ printed 1 3 8 a 5 ∷ []))
-    ∷ of b ([])
+    ∷ of b []
     ∷ []
 
 twice_needs : (sum_by (excess twice 3) (pids_of twice) ≡ 2) × (count_by (is_free twice 3) (pids_of twice) ≡ 1)
@@ -382,7 +383,7 @@ too_high = record { event = got 1 0 3 b a 4; at = refl; holds = refl }
 -- begins the trace.
 abbrev begun : List Stream
 begun =
-    of a (alone)
+    of a alone
     ∷ of b (printed 1 2 5 b 4 ∷ [])
     ∷ []
 
@@ -452,7 +453,7 @@ high =
     ∷ printed 1 0 50000 a 2
     ∷ printed 1 3000 60001 a 3
     ∷ [])
-    ∷ of b ([])
+    ∷ of b []
     ∷ []
 
 high_counts : counts_of high ≡ 0 ∷ 3000 ∷ 50000 ∷ 60001 ∷ []
@@ -464,7 +465,7 @@ high_renumbered : renumbered_streams high
     ∷ printed 1 0 2 a 2
     ∷ printed 1 1 3 a 3
     ∷ [])
-    ∷ of b ([])
+    ∷ of b []
     ∷ []
 high_renumbered = refl
 
