@@ -35,7 +35,7 @@ use Rattle.st_completions.specs.Wholes.{wholes_of}
 use Rattle.st_completions.proofs.ReasonsOfCompletions.{shown_nothing}
 use Rattle.st_plan.proofs.ForCallers.{full_plain}
 use Rattle.st_plan.proofs.Samples.{along}
-use Rattle.st_core.proofs.Samples.{top, a, b, sent, got, printed, of}
+use Rattle.st_core.proofs.Samples.{a, b, sent, got, printed, of}
 
 -- p's token gets a label and all flags
 abbrev started : Pid → ℕ → List Act
