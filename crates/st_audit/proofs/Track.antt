@@ -209,7 +209,7 @@ module _ (top : ℕ) (streams : List Stream) (marks : Marks) (sound : IsStreams 
               ∙ stream_append top zero acts g.acts os g.outcomes p track.runs
               ∙ ap (λ es. es ++ stream g.acts g.outcomes p) (track.tells p)
               ∙ ap (λ es. told_of_moves marks p before ++ es)
-                (g.tells p ∙ sym (append-nil (told_of_move marks p move)))
+              (g.tells p ∙ sym (append-nil (told_of_move marks p move)))
               ∙ sym (told_append marks p before (move ∷ []))
               ∙ ap (told_of_moves marks p) (sym more);
           one_trace = subst NoReset (sym put) (append_none acts g.acts track.one_trace
@@ -228,5 +228,5 @@ module _ (top : ℕ) (streams : List Stream) (marks : Marks) (sound : IsStreams 
         λ k d within.
             let x = get_or (told_parts marks streams) k d in
             track.tells x.pid ∙ ap (λ ys. told_of_moves marks x.pid (moves streams ys)) all
-                ∙ shown k d within,
+            ∙ shown k d within,
       )

@@ -1,57 +1,11 @@
 -- Worked cases: the definitions computed. Nothing cites this file; it shows that the definitions say what is meant.
-use Rattle.std.specs.Prelude.{◌≡◌, ℕ, List, [], ◌∷◌, Some, None, refl}
-use Rattle.st_core.specs.declared.types.Pid.{Pid}
+use Rattle.std.specs.Prelude.{◌≡◌, List, [], ◌∷◌, Some, None, refl}
 use Rattle.st_core.specs.declared.types.Event.{Event}
-use Rattle.st_core.specs.declared.types.Kind.TheVariants as kind
-use Rattle.st_core.specs.Pid.{pid_on}
 use Rattle.st_core.specs.Run.{Stream}
 use Rattle.st_chain.specs.declared.cause.Cause.TheVariants as cause
 use Rattle.st_chain.specs.Causes.{cause_at, place_at, IsBackFrom}
 use Rattle.st_chain.specs.Labels.{chain}
-
-abbrev sent : ℕ → ℕ → ℕ → Pid → Pid → ℕ → Event
-sent n prev this p q v = record {
-  label = record { 0 = n };
-  kind = kind.Send;
-  serial = record { prev = prev; this = this };
-  from = p;
-  to = Some q;
-  value = v;
-}
-
-abbrev got : ℕ → ℕ → ℕ → Pid → Pid → ℕ → Event
-got n prev this p q v = record {
-  label = record { 0 = n };
-  kind = kind.Receive;
-  serial = record { prev = prev; this = this };
-  from = p;
-  to = Some q;
-  value = v;
-}
-
-abbrev printed : ℕ → ℕ → ℕ → Pid → ℕ → Event
-printed n prev this p v = record {
-  label = record { 0 = n };
-  kind = kind.Print;
-  serial = record { prev = prev; this = this };
-  from = p;
-  to = None;
-  value = v;
-}
-
-abbrev a : Pid
-a = pid_on 0 30
-
-abbrev b : Pid
-b = pid_on 0 31
-
-abbrev of : Pid → List Event → Stream
-of p es = record { pid = p; events = es }
-
--- two processes, no send reported
-abbrev hidden_sends : List Stream
-hidden_sends = of a (printed 17 0 1 a 7 ∷ got 17 2 4 b a 6 ∷ []) ∷ of b
-    (got 17 0 2 a b 5 ∷ printed 17 2 3 b 8 ∷ []) ∷ []
+use Rattle.st_core.proofs.Samples.{a, b, sent, got, printed, of, hidden_sends}
 
 hidden_start : cause_at hidden_sends a 0 ≡ Some cause.Start
 hidden_start = refl

@@ -1,11 +1,7 @@
 -- Worked cases: the definitions computed. Nothing cites this file; it shows that the definitions say what is meant.
-use Rattle.std.specs.Prelude.{◌≡◌, ℕ, true, List, [], ◌∷◌, ◌++◌, Some, None, codes, refl}
+use Rattle.std.specs.Prelude.{◌≡◌, true, List, [], ◌∷◌, ◌++◌, codes, refl}
 use Rattle.std.specs.Fmt.{digits}
-use Rattle.st_core.specs.declared.types.Pid.{Pid}
-use Rattle.st_core.specs.declared.types.Event.{Event}
-use Rattle.st_core.specs.declared.types.Kind.TheVariants as kind
 use Rattle.st_core.specs.declared.types.Act.TheVariants as acts
-use Rattle.st_core.specs.Pid.{pid_on}
 use Rattle.st_core.specs.Run.{Stream}
 use Rattle.st_order.specs.declared.item.Item.{Item}
 use Rattle.st_order.specs.declared.item.Item.TheVariants as item
@@ -14,42 +10,9 @@ use Rattle.st_audit.specs.declared.finding.Reason.TheVariants as reason
 use Rattle.st_audit.specs.declared.finding.Finding.TheVariants as finding
 use Rattle.st_chart.specs.Report.{report_text}
 use Rattle.st_chart.specs.Chart.{chart_text}
-
-abbrev got : ℕ → ℕ → Pid → Pid → ℕ → Event
-got prev this p q v = record {
-  label = record { 0 = 17 };
-  kind = kind.Receive;
-  serial = record { prev = prev; this = this };
-  from = p;
-  to = Some q;
-  value = v;
-}
-
-abbrev printed : ℕ → ℕ → Pid → ℕ → Event
-printed prev this p v = record {
-  label = record { 0 = 17 };
-  kind = kind.Print;
-  serial = record { prev = prev; this = this };
-  from = p;
-  to = None;
-  value = v;
-}
-
-abbrev a : Pid
-a = pid_on 0 30
-
-abbrev b : Pid
-b = pid_on 0 31
-
-abbrev of : Pid → List Event → Stream
-of p es = record { pid = p; events = es }
+use Rattle.st_core.proofs.Samples.{a, b, got, printed, of, hidden_sends}
 
 -- ---- a chart
-
--- two processes, no send reported
-abbrev hidden_sends : List Stream
-hidden_sends = of a (printed 0 1 a 7 ∷ got 2 4 b a 6 ∷ []) ∷ of b
-    (got 0 2 a b 5 ∷ printed 2 3 b 8 ∷ []) ∷ []
 
 -- their items, in their order
 abbrev in_order : List Item
@@ -73,7 +36,7 @@ hidden_sends_charted = refl
 
 -- a receive whose count is a print's
 abbrev mismatched : List Stream
-mismatched = of a (printed 0 2 a 7 ∷ []) ∷ of b (got 0 2 a b 5 ∷ []) ∷ []
+mismatched = of a (printed 17 0 2 a 7 ∷ []) ∷ of b (got 17 0 2 a b 5 ∷ []) ∷ []
 
 mismatch_reported : report_text mismatched (finding.Unfit b 0 (reason.Mismatch a 0))
     ≡ codes "unfit <0.31.0> 0 mismatch <0.30.0> 0\n"

@@ -1,15 +1,7 @@
-//! Why `complete` and `certificate` fail, and what `certificate` returns.
+//! What `certificate` returns, and why it fails.
 
 use st_core::{Act, Sequence};
 use thiserror::Error;
-
-/// Why `complete` fails.
-#[derive(Clone, Copy, Debug, PartialEq, Eq, Error)]
-pub enum CompleteFault {
-    /// Memory ran out. The same call may succeed later.
-    #[error("no memory")]
-    Memory,
-}
 
 /// Acts that show streams, as the checker says.
 #[derive(Debug, Drop)]

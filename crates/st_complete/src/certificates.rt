@@ -8,7 +8,8 @@ ghost use Rattle.st_core.specs.Verdict.{IsVerdict, Yes};
 use crate::answer::{Certificate, CertificateFault};
 use crate::climbs::with_shared_climbs;
 use crate::homes::with_near_homes;
-use crate::lean::{LeanFault, MarkedStreams, lean_acts};
+use crate::lean::{LeanFault, lean_acts};
+use crate::marked::MarkedStreams;
 use st_audit::told_acts;
 use st_check::{Verdict, check};
 use st_core::{Act, Sequence, Streams};
@@ -116,7 +117,7 @@ fn certify_shared<const TOP: u64>(
 {
     match with_shared_climbs(alloc, whole)? {
         None => certify_lean::<TOP>(rt, alloc, streams, whole, most),
-        Some(candidate) => certify_lean::<TOP>(rt, alloc, streams, candidate.whole(), most),
+        Some(longer) => certify_lean::<TOP>(rt, alloc, streams, longer.whole(), most),
     }
 }
 
@@ -140,7 +141,7 @@ fn certify_completion<const TOP: u64>(
     };
     match with_near_homes(alloc, whole)? {
         None => certify_shared::<TOP>(rt, alloc, streams, whole, most),
-        Some(candidate) => certify_shared::<TOP>(rt, alloc, streams, candidate.whole(), most),
+        Some(longer) => certify_shared::<TOP>(rt, alloc, streams, longer.whole(), most),
     }
 }
 

@@ -11,10 +11,9 @@
 //! begins a new trace, and counts no higher than the clock at which that trace begins; or right
 //! before another receive, which sets the prev itself.
 
-use crate::candidate::Candidate;
-use crate::feeds::pid_at;
 use crate::insertion::{Insertion, with_insertions_by_count};
-use crate::lean::{Whole, missing_before};
+use crate::lean::missing_before;
+use crate::marked::{LongerStreams, MarkedStreams, pid_at};
 use st_core::{Event, Kind, Label, Pid, Serial, Streams};
 use st_needs::{Left, is_stamp};
 use st_pair::{PairFault, Pairing, pair};
@@ -462,8 +461,8 @@ fn shared_messages(alloc: Global, streams: &Streams) -> Result<Vec<Insertion>, A
 /// enough.
 pub(crate) fn with_shared_climbs(
     alloc: Global,
-    whole: Whole<'_>,
-) -> Result<Option<Candidate>, AllocError> {
+    whole: MarkedStreams<'_>,
+) -> Result<Option<LongerStreams>, AllocError> {
     let untold = shared_messages(alloc, whole.streams)?;
     if untold.is_empty() {
         return Ok(None);

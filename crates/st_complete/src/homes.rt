@@ -4,11 +4,10 @@
 //! nothing more, it passes all counts up to the message's for that message alone. So such messages
 //! move: to a process that passes the count anyway, else to the one whose counts end next below it.
 
-use crate::candidate::Candidate;
 use crate::climbs::{Gap, Offer, Offers, gaps_of, offer_of};
-use crate::feeds::pid_at;
 use crate::insertion::{Insertion, Insertions, with_insertions};
-use crate::lean::{Whole, missing_before};
+use crate::lean::missing_before;
+use crate::marked::{LongerStreams, MarkedStreams, pid_at};
 use st_core::{Draft, Event, Kind, Label, Pid, Sequence, Serial, Streams};
 use st_needs::Left;
 use st_pair::{PairFault, Pairing, pair};
@@ -55,7 +54,7 @@ fn left_by(events: &[Event]) -> Left {
 }
 
 /// How many of the last events of a process are untold sends.
-fn count_untold_sends(whole: Whole<'_>, pid: Pid, events: &[Event]) -> usize {
+fn count_untold_sends(whole: MarkedStreams<'_>, pid: Pid, events: &[Event]) -> usize {
     let mut count: usize = 0;
     for (before, event) in events.iter().enumerate().rev() {
         if event.kind != Kind::Send || whole.is_told((pid, before as u64)) {
@@ -67,7 +66,7 @@ fn count_untold_sends(whole: Whole<'_>, pid: Pid, events: &[Event]) -> usize {
 }
 
 /// How many counts are missing before the last events of a process, its untold sends.
-fn missing_at_end(whole: Whole<'_>, pid: Pid) -> u64 {
+fn missing_at_end(whole: MarkedStreams<'_>, pid: Pid) -> u64 {
     let events = whole.streams.events(pid);
     let stay = events
         .len()
@@ -85,7 +84,7 @@ fn missing_at_end(whole: Whole<'_>, pid: Pid) -> u64 {
 
 /// Whether some process passes counts for the sake of invented messages alone, as it seems
 /// without a pairing.
-fn may_save(whole: Whole<'_>) -> bool {
+fn may_save(whole: MarkedStreams<'_>) -> bool {
     for &pid in whole.streams.pids() {
         if missing_at_end(whole, pid) > 0 {
             return true;
@@ -106,7 +105,7 @@ impl Strays {
     /// is none.
     fn note(
         &mut self,
-        whole: Whole<'_>,
+        whole: MarkedStreams<'_>,
         pairing: &Pairing,
         process: usize,
         pid: Pid,
@@ -145,7 +144,7 @@ impl Strays {
     /// Notes the stray messages of a process.
     fn note_process(
         &mut self,
-        whole: Whole<'_>,
+        whole: MarkedStreams<'_>,
         pairing: &Pairing,
         process: usize,
         pid: Pid,
@@ -163,7 +162,7 @@ impl Strays {
     /// Adds the events of a process that stay.
     fn keep_process(
         &mut self,
-        whole: Whole<'_>,
+        whole: MarkedStreams<'_>,
         process: usize,
         pid: Pid,
         mut next: usize,
@@ -191,7 +190,11 @@ impl Strays {
     }
 
     /// The whole streams without the stray messages.
-    fn keep(&mut self, alloc: Global, whole: Whole<'_>) -> Result<Option<Candidate>, AllocError> {
+    fn keep(
+        &mut self,
+        alloc: Global,
+        whole: MarkedStreams<'_>,
+    ) -> Result<Option<LongerStreams>, AllocError> {
         self.removals.sort()?;
         let mut draft = Draft::new(alloc);
         let mut told = Vec::new(alloc);
@@ -206,13 +209,17 @@ impl Strays {
         }
         match draft.close() {
             Err(_) => Ok(None),
-            Ok(streams) => Ok(Some(Candidate { streams, told })),
+            Ok(streams) => Ok(Some(LongerStreams { streams, told })),
         }
     }
 }
 
 /// The stray messages of whole streams.
-fn strays_of(alloc: Global, whole: Whole<'_>, pairing: &Pairing) -> Result<Strays, AllocError> {
+fn strays_of(
+    alloc: Global,
+    whole: MarkedStreams<'_>,
+    pairing: &Pairing,
+) -> Result<Strays, AllocError> {
     let mut strays = Strays {
         strays: Vec::new(alloc),
         removals: Vec::new(alloc),
@@ -381,8 +388,8 @@ fn settled(
 /// saves nothing.
 pub(crate) fn with_near_homes(
     alloc: Global,
-    whole: Whole<'_>,
-) -> Result<Option<Candidate>, AllocError> {
+    whole: MarkedStreams<'_>,
+) -> Result<Option<LongerStreams>, AllocError> {
     if !may_save(whole) {
         return Ok(None);
     }
@@ -395,15 +402,15 @@ pub(crate) fn with_near_homes(
     if strays.strays.is_empty() {
         return Ok(None);
     }
-    let Some(candidate) = strays.keep(alloc, whole)? else {
+    let Some(kept) = strays.keep(alloc, whole)? else {
         return Ok(None);
     };
     let Strays {
         strays,
         removals: _,
     } = strays;
-    match settled(alloc, &candidate.streams, strays)? {
+    match settled(alloc, &kept.streams, strays)? {
         None => Ok(None),
-        Some(untold) => with_insertions(alloc, candidate.whole(), untold),
+        Some(untold) => with_insertions(alloc, kept.whole(), untold),
     }
 }

@@ -1,7 +1,6 @@
 //! Whole streams with further untold events at given places, for acts that a person would write.
 
-use crate::candidate::Candidate;
-use crate::lean::Whole;
+use crate::marked::{LongerStreams, MarkedStreams};
 use st_core::{Draft, Event, Pid, Sequence, Streams};
 use st_needs::{is_marked, marks_at};
 use std::alloc::{AllocError, Global};
@@ -86,9 +85,9 @@ fn add_process<'a>(
 /// process that isn't listed, which nobody asks for.
 pub(crate) fn with_insertions(
     alloc: Global,
-    whole: Whole<'_>,
+    whole: MarkedStreams<'_>,
     mut untold: Insertions,
-) -> Result<Option<Candidate>, AllocError> {
+) -> Result<Option<LongerStreams>, AllocError> {
     untold.sends.sort_by_key(|one| one.key())?;
     untold.receives.sort_by_key(|one| one.key())?;
     let mut draft = Draft::new(alloc);
@@ -107,16 +106,16 @@ pub(crate) fn with_insertions(
     }
     match draft.close() {
         Err(_) => Ok(None),
-        Ok(streams) => Ok(Some(Candidate { streams, told })),
+        Ok(streams) => Ok(Some(LongerStreams { streams, told })),
     }
 }
 
 /// The same, with the untold events by rising count before one event, whatever they are.
 pub(crate) fn with_insertions_by_count(
     alloc: Global,
-    whole: Whole<'_>,
+    whole: MarkedStreams<'_>,
     untold: Vec<Insertion>,
-) -> Result<Option<Candidate>, AllocError> {
+) -> Result<Option<LongerStreams>, AllocError> {
     let untold = Insertions {
         sends: untold,
         receives: Vec::new(alloc),

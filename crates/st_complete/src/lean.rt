@@ -5,6 +5,7 @@
 //! is told. The label and the other flags are left as they are. The acts are judged by the checker,
 //! so a mistake here costs time and no more.
 
+use crate::marked::MarkedStreams;
 use st_core::{
     Act, Component, Event, Flags, Kind, Label, Pid, Sequence, Serial, Streams, Token, Want,
 };
@@ -14,25 +15,6 @@ use st_pair::{PairFault, Pairing, pair};
 use st_world::{StepFault, World};
 use std::alloc::{AllocError, Global};
 use std::thread::Threads;
-
-/// All events of each process, and which are told.
-#[derive(Clone, Copy, Debug)]
-pub(crate) struct MarkedStreams<'a> {
-    /// All events.
-    pub streams: &'a Streams,
-    /// The marks of each process, by its place; events past the end of the marks are untold.
-    pub told: &'a [Sequence<bool>],
-}
-
-impl MarkedStreams<'_> {
-    /// Whether the event at this place is told.
-    pub(crate) fn is_told(self, place: (Pid, u64)) -> bool {
-        match self.streams.place_of(place.0) {
-            None => false,
-            Some(process) => is_marked(marks_at(self.told, process), place.1 as usize),
-        }
-    }
-}
 
 /// Why there are no lean acts.
 #[derive(Clone, Copy, Debug, PartialEq, Eq)]

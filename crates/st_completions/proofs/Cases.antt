@@ -8,8 +8,6 @@ use Rattle.std.proofs.lemmas.Bool.{and_parts, false≢true}
 use Rattle.std.proofs.lemmas.List.Elements.{All-from_recursion}
 use Rattle.st_core.specs.declared.types.Pid.{Pid}
 use Rattle.st_core.specs.declared.types.Event.{Event}
-use Rattle.st_core.specs.declared.types.Kind.{Kind}
-use Rattle.st_core.specs.declared.types.Kind.TheVariants as kind
 use Rattle.st_core.specs.declared.types.Act.{Act}
 use Rattle.st_core.specs.declared.types.Act.TheVariants as act
 use Rattle.st_core.specs.declared.types.Component.TheVariants as component
@@ -36,22 +34,8 @@ use Rattle.st_completions.specs.Supply.{excess, is_free}
 use Rattle.st_completions.specs.Wholes.{wholes_of}
 use Rattle.st_completions.proofs.ReasonsOfCompletions.{shown_nothing}
 use Rattle.st_plan.proofs.ForCallers.{full_plain}
-
-abbrev a : Pid
-a = pid_on 0 30
-
-abbrev b : Pid
-b = pid_on 0 31
-
-abbrev event : Kind → ℕ → ℕ → ℕ → Pid → Option Pid → ℕ → Event
-event k label prev this from to value = record {
-  label = record { 0 = label };
-  kind = k;
-  serial = record { prev = prev; this = this };
-  from = from;
-  to = to;
-  value = value;
-}
+use Rattle.st_plan.proofs.Samples.{along}
+use Rattle.st_core.proofs.Samples.{a, b, sent, got, printed, of}
 
 -- p's token gets a label and all flags
 abbrev started : Pid → ℕ → List Act
@@ -76,20 +60,16 @@ acts = (act.Tracer a true ∷ started a 1) ++ (
 
 abbrev streams : List Stream
 streams =
-    record {
-      pid = a;
-      events = event kind.Send 1 0 1 a (Some b) 5
-          ∷ event kind.Receive 1 1 3 b (Some a) 6
-          ∷ event kind.Print 2 3 4 a None 9
-          ∷ [];
-    }
-    ∷ record {
-      pid = b;
-      events = event kind.Receive 1 0 1 a (Some b) 5
-          ∷ event kind.Print 1 1 2 b None 8
-          ∷ event kind.Send 1 1 3 b (Some a) 6
-          ∷ [];
-    }
+    of a (
+    sent 1 0 1 a b 5
+    ∷ got 1 1 3 b a 6
+    ∷ printed 2 3 4 a 9
+    ∷ [])
+    ∷ of b (
+    got 1 0 1 a b 5
+    ∷ printed 1 1 2 b 8
+    ∷ sent 1 1 3 b a 6
+    ∷ [])
     ∷ []
 
 abbrev outcomes_in : Option (List Outcome) → List Outcome
@@ -111,11 +91,6 @@ in_order =
 
 order_is : order streams ≡ in_order
 order_is = refl
-
--- what the function gives at each of these moves, after those before it
-abbrev along : {X : Type 0} → (List Move → Move → X) → List Move → List Move → List X
-along f earlier [] = []
-along f earlier (m ∷ ms) = f earlier m ∷ along f (m ∷ earlier) ms
 
 abbrev in_moves : List Move
 in_moves = moves streams (order streams)
@@ -226,8 +201,8 @@ is_plain = full_plain 9 streams acts shown ((refl, tt), (tt, tt)) no_reset every
 -- cases of st_plan show that a move of theirs is uncaused.
 abbrev crossing : List Stream
 crossing =
-    record { pid = a; events = event kind.Receive 1 0 1 b (Some a) 4 ∷ [] }
-    ∷ record { pid = b; events = event kind.Receive 1 0 2 a (Some b) 5 ∷ [] }
+    of a (got 1 0 1 b a 4 ∷ [])
+    ∷ of b (got 1 0 2 a b 5 ∷ [])
     ∷ []
 
 abbrev quiet : Pid → List Act
@@ -264,15 +239,15 @@ marked told e = record { event = e; told = told }
 crossing_wholes : wholes_of 9 crossing crossing_acts crossing_outcomes
     ≡ record {
       pid = a;
-      marked = marked false (event kind.Print 1 0 1 a None 0)
-          ∷ marked false (event kind.Send 1 0 2 a (Some b) 5)
-          ∷ marked true (event kind.Receive 1 0 1 b (Some a) 4)
+      marked = marked false (printed 1 0 1 a 0)
+          ∷ marked false (sent 1 0 2 a b 5)
+          ∷ marked true (got 1 0 1 b a 4)
           ∷ [];
     }
     ∷ record {
       pid = b;
-      marked = marked false (event kind.Send 1 0 1 b (Some a) 4)
-          ∷ marked true (event kind.Receive 1 0 2 a (Some b) 5)
+      marked = marked false (sent 1 0 1 b a 4)
+          ∷ marked true (got 1 0 2 a b 5)
           ∷ [];
     }
     ∷ []
@@ -281,10 +256,10 @@ crossing_wholes = refl
 
 -- A need of 3 that nobody is free to feed, since the one process stamped a 3 of its own.
 abbrev alone : List Event
-alone = event kind.Print 1 0 3 a None 1 ∷ event kind.Print 1 0 5 a None 2 ∷ event kind.Print 1 3 6 a None 3 ∷ []
+alone = printed 1 0 3 a 1 ∷ printed 1 0 5 a 2 ∷ printed 1 3 6 a 3 ∷ []
 
 abbrev alone_streams : List Stream
-alone_streams = record { pid = a; events = alone } ∷ []
+alone_streams = of a alone ∷ []
 
 one_needs : (sum_by (excess alone_streams 3) (pids_of alone_streams) ≡ 1)
     × (count_by (is_free alone_streams 3) (pids_of alone_streams) ≡ 0)
@@ -297,7 +272,7 @@ alone_never top acts none shows =
 
 -- With a second process there is one that is free to send it.
 abbrev two_streams : List Stream
-two_streams = record { pid = a; events = alone } ∷ record { pid = b; events = [] } ∷ []
+two_streams = of a alone ∷ of b [] ∷ []
 
 one_feeds : (sum_by (excess two_streams 3) (pids_of two_streams) ≡ 1)
     × (count_by (is_free two_streams 3) (pids_of two_streams) ≡ 1)
@@ -306,8 +281,8 @@ one_feeds = (refl, refl)
 -- Or one that told of a send of it, which no reported receive takes.
 abbrev own_streams : List Stream
 own_streams =
-    record { pid = a; events = alone }
-    ∷ record { pid = b; events = event kind.Send 1 0 3 b (Some a) 7 ∷ [] }
+    of a alone
+    ∷ of b (sent 1 0 3 b a 7 ∷ [])
     ∷ []
 
 own_feeds : (sum_by (excess own_streams 3) (pids_of own_streams) ≡ 0)
@@ -315,7 +290,7 @@ own_feeds : (sum_by (excess own_streams 3) (pids_of own_streams) ≡ 0)
 own_feeds = (refl, refl)
 
 -- After a receive no prev is 0.
-rootless : is_rootless (event kind.Receive 1 0 1 b (Some a) 4 ∷ []) (event kind.Print 1 0 2 a None 5) ≡ true
+rootless : is_rootless (got 1 0 1 b a 4 ∷ []) (printed 1 0 2 a 5) ≡ true
 rootless = refl
 
 -- COMPLETIONS
@@ -332,26 +307,26 @@ whole p ms = record { pid = p; marked = ms }
 -- The reported send that nobody received serves the need of 3: its receive is put right before the need.
 own_completed : completion own_streams
     ≡ whole a (
-    told_event (event kind.Print 1 0 3 a None 1)
-    ∷ told_event (event kind.Print 1 0 5 a None 2)
-    ∷ added (event kind.Receive 1 0 3 b (Some a) 7)
-    ∷ told_event (event kind.Print 1 3 6 a None 3)
+    told_event (printed 1 0 3 a 1)
+    ∷ told_event (printed 1 0 5 a 2)
+    ∷ added (got 1 0 3 b a 7)
+    ∷ told_event (printed 1 3 6 a 3)
     ∷ []
     )
-    ∷ whole b (told_event (event kind.Send 1 0 3 b (Some a) 7) ∷ [])
+    ∷ whole b (told_event (sent 1 0 3 b a 7) ∷ [])
     ∷ []
 own_completed = refl
 
 -- Nobody told of one: the free process sends it, with the need's label.
 two_completed : completion two_streams
     ≡ whole a (
-    told_event (event kind.Print 1 0 3 a None 1)
-    ∷ told_event (event kind.Print 1 0 5 a None 2)
-    ∷ added (event kind.Receive 1 0 3 b (Some a) 0)
-    ∷ told_event (event kind.Print 1 3 6 a None 3)
+    told_event (printed 1 0 3 a 1)
+    ∷ told_event (printed 1 0 5 a 2)
+    ∷ added (got 1 0 3 b a 0)
+    ∷ told_event (printed 1 3 6 a 3)
     ∷ []
     )
-    ∷ whole b (added (event kind.Send 1 0 3 b (Some a) 0) ∷ [])
+    ∷ whole b (added (sent 1 0 3 b a 0) ∷ [])
     ∷ []
 two_completed = refl
 
@@ -360,28 +335,26 @@ abbrev far : Pid
 far = pid_on 1 30
 
 abbrev far_streams : List Stream
-far_streams = record { pid = a; events = alone } ∷ record { pid = far; events = [] } ∷ []
+far_streams = of a alone ∷ of far [] ∷ []
 
 far_completed : completion far_streams
     ≡ whole a (
-    told_event (event kind.Print 1 0 3 a None 1)
-    ∷ told_event (event kind.Print 1 0 5 a None 2)
-    ∷ added (event kind.Receive 1 0 3 far (Some a) 0)
-    ∷ told_event (event kind.Print 1 3 6 a None 3)
+    told_event (printed 1 0 3 a 1)
+    ∷ told_event (printed 1 0 5 a 2)
+    ∷ added (got 1 0 3 far a 0)
+    ∷ told_event (printed 1 3 6 a 3)
     ∷ []
     )
-    ∷ whole far (added (event kind.Send 1 0 3 far (Some a) 0) ∷ [])
+    ∷ whole far (added (sent 1 0 3 far a 0) ∷ [])
     ∷ []
 far_completed = refl
 
 -- Two needs of 3 and one free process: too few.
 abbrev twice : List Stream
 twice =
-    record {
-      pid = a;
-      events = alone ++ (event kind.Print 1 4 7 a None 4 ∷ event kind.Print 1 3 8 a None 5 ∷ []);
-    }
-    ∷ record { pid = b; events = [] }
+    of a (
+    alone ++ (printed 1 4 7 a 4 ∷ printed 1 3 8 a 5 ∷ []))
+    ∷ of b []
     ∷ []
 
 twice_needs : (sum_by (excess twice 3) (pids_of twice) ≡ 2) × (count_by (is_free twice 3) (pids_of twice) ≡ 1)
@@ -393,49 +366,49 @@ twice_unsent few = absurd (omega (arith, few, twice_needs.0, twice_needs.1))
 -- A need of 0, after a receive; and a stamp below a count that was received.
 abbrev after_receive : Event → List Stream
 after_receive e =
-    record { pid = a; events = event kind.Receive 1 0 3 b (Some a) 4 ∷ e ∷ [] }
-    ∷ record { pid = b; events = event kind.Send 1 0 3 b (Some a) 4 ∷ [] }
+    of a (got 1 0 3 b a 4 ∷ e ∷ [])
+    ∷ of b (sent 1 0 3 b a 4 ∷ [])
     ∷ []
 
-unfounded : StandsAgainst 9 (after_receive (event kind.Print 1 0 5 a None 5)) (Unfounded a 1)
-unfounded = record { event = event kind.Print 1 0 5 a None 5; at = refl; holds = refl }
+unfounded : StandsAgainst 9 (after_receive (printed 1 0 5 a 5)) (Unfounded a 1)
+unfounded = record { event = printed 1 0 5 a 5; at = refl; holds = refl }
 
-late : StandsAgainst 9 (after_receive (event kind.Print 1 0 2 a None 5)) (Late a 1)
-late = record { event = event kind.Print 1 0 2 a None 5; at = refl; holds = refl }
+late : StandsAgainst 9 (after_receive (printed 1 0 2 a 5)) (Late a 1)
+late = record { event = printed 1 0 2 a 5; at = refl; holds = refl }
 
-too_high : StandsAgainst 2 (after_receive (event kind.Print 1 3 5 a None 5)) (TooHigh a 0)
-too_high = record { event = event kind.Receive 1 0 3 b (Some a) 4; at = refl; holds = refl }
+too_high : StandsAgainst 2 (after_receive (printed 1 3 5 a 5)) (TooHigh a 0)
+too_high = record { event = got 1 0 3 b a 4; at = refl; holds = refl }
 
 -- The print of b begins a trace at clock 2. A send of 3 before it would lift the clock above 2, so it is the send that
 -- begins the trace.
 abbrev begun : List Stream
 begun =
-    record { pid = a; events = alone }
-    ∷ record { pid = b; events = event kind.Print 1 2 5 b None 4 ∷ [] }
+    of a alone
+    ∷ of b (printed 1 2 5 b 4 ∷ [])
     ∷ []
 
 begun_completed : completion begun
     ≡ whole a (
-    told_event (event kind.Print 1 0 3 a None 1)
-    ∷ told_event (event kind.Print 1 0 5 a None 2)
-    ∷ added (event kind.Receive 1 2 3 b (Some a) 0)
-    ∷ told_event (event kind.Print 1 3 6 a None 3)
+    told_event (printed 1 0 3 a 1)
+    ∷ told_event (printed 1 0 5 a 2)
+    ∷ added (got 1 2 3 b a 0)
+    ∷ told_event (printed 1 3 6 a 3)
     ∷ []
     )
-    ∷ whole b (added (event kind.Send 1 2 3 b (Some a) 0) ∷ told_event (event kind.Print 1 2 5 b None 4) ∷ [])
+    ∷ whole b (added (sent 1 2 3 b a 0) ∷ told_event (printed 1 2 5 b 4) ∷ [])
     ∷ []
 begun_completed = refl
 
 -- A process alone may have sent to itself, before it stamped a higher count.
 abbrev to_itself : List Stream
-to_itself = record { pid = a; events = event kind.Print 1 0 3 a None 1 ∷ event kind.Print 1 2 5 a None 2 ∷ [] } ∷ []
+to_itself = of a (printed 1 0 3 a 1 ∷ printed 1 2 5 a 2 ∷ []) ∷ []
 
 itself_completed : completion to_itself
     ≡ whole a (
-    added (event kind.Send 1 0 2 a (Some a) 0)
-    ∷ told_event (event kind.Print 1 0 3 a None 1)
-    ∷ added (event kind.Receive 1 0 2 a (Some a) 0)
-    ∷ told_event (event kind.Print 1 2 5 a None 2)
+    added (sent 1 0 2 a a 0)
+    ∷ told_event (printed 1 0 3 a 1)
+    ∷ added (got 1 0 2 a a 0)
+    ∷ told_event (printed 1 2 5 a 2)
     ∷ []
     )
     ∷ []
@@ -475,28 +448,24 @@ needy = (refl, refl, refl, refl, refl)
 -- The streams above with a free process, with greater counts in the same order.
 abbrev high : List Stream
 high =
-    record {
-      pid = a;
-      events = event kind.Print 1 0 3000 a None 1
-          ∷ event kind.Print 1 0 50000 a None 2
-          ∷ event kind.Print 1 3000 60001 a None 3
-          ∷ [];
-    }
-    ∷ record { pid = b; events = [] }
+    of a (
+    printed 1 0 3000 a 1
+    ∷ printed 1 0 50000 a 2
+    ∷ printed 1 3000 60001 a 3
+    ∷ [])
+    ∷ of b []
     ∷ []
 
 high_counts : counts_of high ≡ 0 ∷ 3000 ∷ 50000 ∷ 60001 ∷ []
 high_counts = refl
 
 high_renumbered : renumbered_streams high
-    ≡ record {
-      pid = a;
-      events = event kind.Print 1 0 1 a None 1
-          ∷ event kind.Print 1 0 2 a None 2
-          ∷ event kind.Print 1 1 3 a None 3
-          ∷ [];
-    }
-    ∷ record { pid = b; events = [] }
+    ≡ of a (
+    printed 1 0 1 a 1
+    ∷ printed 1 0 2 a 2
+    ∷ printed 1 1 3 a 3
+    ∷ [])
+    ∷ of b []
     ∷ []
 high_renumbered = refl
 

@@ -2,7 +2,7 @@
 -- the reasons that are final. Nothing cites this file; it shows that the definitions say what is
 -- meant.
 use Rattle.std.specs.Prelude.{◌≡◌, ℕ, zero, suc, ◌+◌, ◌≤◌, ◌==◌, ◌&&◌, Bool, true, false, List, []}
-use Rattle.std.specs.Prelude.{◌∷◌, map, filter, nat_lt, if◌then◌else◌, Option, Some, None}
+use Rattle.std.specs.Prelude.{◌∷◌, map, filter, nat_lt, if◌then◌else◌, Some, None}
 use Rattle.std.specs.Prelude.{slice_get}
 use Rattle.std.proofs.Common.{inl, inr, refl, sym, ◌∙◌, ap, subst, arith, sum_by}
 use Rattle.std.proofs.lemmas.List.Sums.{sum_by-cons}
@@ -12,10 +12,8 @@ use Rattle.std.proofs.lemmas.Option.{none-some}
 use Rattle.st_core.specs.declared.types.Act.{Act}
 use Rattle.st_core.specs.declared.types.Pid.{Pid}
 use Rattle.st_core.specs.declared.types.Event.{Event}
-use Rattle.st_core.specs.declared.types.Kind.{Kind}
-use Rattle.st_core.specs.declared.types.Kind.TheVariants as kind
 use Rattle.st_core.specs.Laws.{NoReset}
-use Rattle.st_core.specs.Pid.{pid_eq, pid_on}
+use Rattle.st_core.specs.Pid.{pid_eq}
 use Rattle.st_core.specs.Run.{Shows, Stream, pids_of}
 use Rattle.st_core.specs.Streams.{events_of}
 use Rattle.st_core.proofs.ForCallers.{all_at, pid_same}
@@ -37,41 +35,25 @@ use Rattle.st_completions.proofs.Leasts.{Among, frees, owns, placed, smallest_lo
 use Rattle.st_completions.proofs.ReasonlessStreams.{timely_from}
 use Rattle.st_completions.proofs.StampsTold.{told_zeros_final}
 use Rattle.st_completions.proofs.UntoldEvents.{first_of, hidden_is, same_pids}
+use Rattle.st_core.proofs.Samples.{a, b, of, got as got_under, sent as sent_under}
+use Rattle.st_core.proofs.Samples.{printed as printed_under}
 
-abbrev a : Pid
-a = pid_on 0 30
+-- under label 1, with the value 0
+abbrev got : (from to : Pid) (prev this : ℕ) → Event
+got from to prev this = got_under 1 prev this from to 0
 
-abbrev b : Pid
-b = pid_on 0 31
+abbrev sent : (from to : Pid) (prev this : ℕ) → Event
+sent from to prev this = sent_under 1 prev this from to 0
 
-abbrev event : Kind → Pid → Option Pid → ℕ → ℕ → Event
-event k from to prev this = record {
-  label = record { 0 = 1 };
-  kind = k;
-  serial = record { prev = prev; this = this };
-  from = from;
-  to = to;
-  value = 0;
-}
-
-abbrev got : Pid → Pid → ℕ → ℕ → Event
-got from to prev this = event kind.Receive from (Some to) prev this
-
-abbrev sent : Pid → Pid → ℕ → ℕ → Event
-sent from to prev this = event kind.Send from (Some to) prev this
-
-abbrev printed : Pid → ℕ → ℕ → Event
-printed from prev this = event kind.Print from None prev this
-
-abbrev stream : Pid → List Event → Stream
-stream p es = record { pid = p; events = es }
+abbrev printed : (from : Pid) (prev this : ℕ) → Event
+printed from prev this = printed_under 1 prev this from 0
 
 -- A PLACE LIFTS A NEED
 
 -- a received 2 and 3, and sent a 4 with prev 2 that only b reported. Between the receives it goes
 -- on from the first, and before both it begins a trace; behind both it would be a need.
 abbrev lifted : List Stream
-lifted = stream a (got b a 0 2 ∷ got b a 0 3 ∷ []) ∷ stream b (got a b 2 4 ∷ []) ∷ []
+lifted = of a (got b a 0 2 ∷ got b a 0 3 ∷ []) ∷ of b (got a b 2 4 ∷ []) ∷ []
 
 lifted_hidden : (hidden_sends lifted a ≡ sent a b 2 4 ∷ [])
     × (hidden_sends lifted b ≡ sent b a 0 2 ∷ sent b a 0 3 ∷ [])
@@ -95,8 +77,8 @@ lifted_least = refl
 -- a printed a 4, so its hidden send of 5 needs a 2 wherever it stands; and nobody is free to send
 -- it, since both stamped a 2 themselves.
 abbrev unsent : List Stream
-unsent = stream a (printed a 0 2 ∷ printed a 0 4 ∷ [])
-    ∷ stream b (printed b 0 2 ∷ got a b 2 5 ∷ []) ∷ []
+unsent = of a (printed a 0 2 ∷ printed a 0 4 ∷ [])
+    ∷ of b (printed b 0 2 ∷ got a b 2 5 ∷ []) ∷ []
 
 unsent_needs : (placings unsent a ≡ (printed a 0 2 ∷ printed a 0 4 ∷ sent a b 2 5 ∷ []) ∷ [])
     × (least unsent 2 a ≡ 1) × (sum_by (least_excess unsent 2) (pids_of unsent) ≡ 1)
@@ -108,7 +90,7 @@ unsent_stands few = absurd (omega (arith, few, unsent_needs.2, unsent_needs.3))
 
 -- Without b's print b is free to send it.
 abbrev fed : List Stream
-fed = stream a (printed a 0 2 ∷ printed a 0 4 ∷ []) ∷ stream b (got a b 2 5 ∷ []) ∷ []
+fed = of a (printed a 0 2 ∷ printed a 0 4 ∷ []) ∷ of b (got a b 2 5 ∷ []) ∷ []
 
 fed_needs : (sum_by (least_excess fed 2) (pids_of fed) ≡ 1)
     × (count_by (is_free fed 2) (pids_of fed) ≡ 1)
@@ -117,7 +99,7 @@ fed_needs = (refl, refl)
 -- A hidden send with prev 0 behind a stamp with another prev needs a 0 wherever it stands; behind a
 -- receive it needn't stand.
 abbrev rootless : List Stream
-rootless = stream a (printed a 1 2 ∷ []) ∷ stream b (got a b 0 3 ∷ []) ∷ []
+rootless = of a (printed a 1 2 ∷ []) ∷ of b (got a b 0 3 ∷ []) ∷ []
 
 rootless_stands : StandsAgainstAll 9 rootless (Unfounded a)
 rootless_stands = let one : least rootless 0 a ≡ 1 = refl in omega arith
@@ -156,7 +138,7 @@ rootless_never top =
     }) refl b 0 rootless_behind
 
 abbrev rooted : List Stream
-rooted = stream a (got b a 0 2 ∷ []) ∷ stream b (got a b 0 3 ∷ []) ∷ []
+rooted = of a (got b a 0 2 ∷ []) ∷ of b (got a b 0 3 ∷ []) ∷ []
 
 rooted_least : (map (needs_from 0 []) (placings rooted a) ≡ 1 ∷ 0 ∷ []) × (least rooted 0 a ≡ 0)
 rooted_least = (refl, refl)
@@ -166,7 +148,7 @@ rooted_least = (refl, refl)
 -- One process that sends to itself and reports no send. Each count alone could be served, 1 and 2
 -- not both: both are scarce, and the hidden sends that need them stand in one stretch.
 abbrev alone : List Stream
-alone = stream a (got a a 0 2 ∷ got a a 0 1 ∷ got a a 1 3 ∷ got a a 2 4 ∷ []) ∷ []
+alone = of a (got a a 0 2 ∷ got a a 0 1 ∷ got a a 1 3 ∷ got a a 2 4 ∷ []) ∷ []
 
 alone_accepted : refusal alone ≡ None
 alone_accepted = refl
@@ -256,11 +238,11 @@ not_needed v =
 -- where only a is listed: the events of a, or none
 abbrev of_one : List Event → Bool → List Event
 of_one es listed =
-    elim (if listed then Some (stream a es) else None) [ None ↦ [] | Some x ↦ x.events ]
+    elim (if listed then Some (of a es) else None) [ None ↦ [] | Some x ↦ x.events ]
 
 one_at : (es : List Event) (Is : Event → Type 0) → AllByRecursion Is es
     → (p : Pid) (i : ℕ) (e : Event)
-    → event_at (stream a es ∷ []) p i ≡ Some e → Is e
+    → event_at (of a es ∷ []) p i ≡ Some e → Is e
 one_at es Is all p i e at = elim (pid_eq a p) as (λ t. slice_get (of_one es t) i ≡ Some e → Is e) [
   | true ↦ λ at. all_at Is es i e all at
   | false ↦ λ at. absurd (none-some e at)
@@ -332,7 +314,7 @@ alone_has_two one =
 -- Without the last of these messages only 1 is scarce. The hidden send that asks for it is best put
 -- right behind the receive of 1.
 abbrev fewer : List Stream
-fewer = stream a (got a a 0 2 ∷ got a a 0 1 ∷ got a a 1 3 ∷ []) ∷ []
+fewer = of a (got a a 0 2 ∷ got a a 0 1 ∷ got a a 1 3 ∷ []) ∷ []
 
 fewer_scarce : (is_scarce fewer 1 ≡ true) × (is_scarce fewer 2 ≡ false)
 fewer_scarce = (refl, refl)

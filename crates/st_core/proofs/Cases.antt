@@ -6,7 +6,6 @@ use Rattle.st_core.specs.declared.types.Pid.{Pid}
 use Rattle.st_core.specs.declared.types.Label.{Label}
 use Rattle.st_core.specs.declared.types.Token.{Token}
 use Rattle.st_core.specs.declared.types.Event.{Event}
-use Rattle.st_core.specs.declared.types.Kind.TheVariants as kind
 use Rattle.st_core.specs.declared.types.Message.{Message}
 use Rattle.st_core.specs.declared.types.Want.{Want}
 use Rattle.st_core.specs.declared.types.Want.TheVariants as want
@@ -23,9 +22,7 @@ use Rattle.st_core.specs.Run.{Stream, run, stream}
 use Rattle.st_core.specs.Laws.{AreAllApart, clock_in, GoesOnFrom, ReportsEverything}
 use Rattle.st_core.specs.Verdict.{Stuck, Differs, Left, Yes, IsVerdict}
 use Rattle.st_core.proofs.Verdicts.{computed}
-
-abbrev top : ℕ
-top = 18446744073709551615
+use Rattle.st_core.proofs.Samples.{top, a, b, c, sent, got, printed, hidden_sends}
 
 abbrev label_of : ℕ → Label
 label_of n = record { 0 = n }
@@ -38,48 +35,6 @@ token_of n s r p from =
       serial = record { prev = 0; this = 0 };
       from = from;
     }
-
-abbrev sent : ℕ → ℕ → ℕ → Pid → Pid → ℕ → Event
-sent n prev this p q v =
-    record {
-      label = label_of n;
-      kind = kind.Send;
-      serial = record { prev = prev; this = this };
-      from = p;
-      to = Some q;
-      value = v;
-    }
-
-abbrev got : ℕ → ℕ → ℕ → Pid → Pid → ℕ → Event
-got n prev this p q v =
-    record {
-      label = label_of n;
-      kind = kind.Receive;
-      serial = record { prev = prev; this = this };
-      from = p;
-      to = Some q;
-      value = v;
-    }
-
-abbrev printed : ℕ → ℕ → ℕ → Pid → ℕ → Event
-printed n prev this p v =
-    record {
-      label = label_of n;
-      kind = kind.Print;
-      serial = record { prev = prev; this = this };
-      from = p;
-      to = None;
-      value = v;
-    }
-
-abbrev a : Pid
-a = pid_on 0 30
-
-abbrev b : Pid
-b = pid_on 0 31
-
-abbrev c : Pid
-c = pid_on 0 32
 
 -- a message with a low serial after one with a high one
 abbrev low_acts : List Act
@@ -107,11 +62,6 @@ low_serial_counts : option_map (map (counts_of b)) (run top (a ∷ b ∷ c ∷ [
 low_serial_counts = refl
 
 -- a certificate of 11 acts, two of them sends that nobody reports
-abbrev certificate_streams : List Stream
-certificate_streams =
-    record { pid = a; events = printed 17 0 1 a 7 ∷ got 17 2 4 b a 6 ∷ [] } ∷ record
-    { pid = b; events = got 17 0 2 a b 5 ∷ printed 17 2 3 b 8 ∷ [] } ∷ []
-
 abbrev certificate_acts : List Act
 certificate_acts =
     act.Tracer a true ∷ act.Restore a (token_of 17 false false true a) ∷ act.Print a 7 ∷ act.Restore a
@@ -120,12 +70,12 @@ certificate_acts =
     (token_of 17 false true false b) ∷ act.Send b a 6
     ∷ act.Receive a (want.Place 0) ∷ []
 
-certificate_checked : IsVerdict top certificate_streams certificate_acts (Yes ((5, 4) ∷ (10, 9) ∷ []))
-certificate_checked = computed top certificate_streams certificate_acts (Yes ((5, 4) ∷ (10, 9) ∷ [])) refl
+certificate_checked : IsVerdict top hidden_sends certificate_acts (Yes ((5, 4) ∷ (10, 9) ∷ []))
+certificate_checked = computed top hidden_sends certificate_acts (Yes ((5, 4) ∷ (10, 9) ∷ [])) refl
 
 -- without its last act, <0.30.0> has an event left
-certificate_cut : IsVerdict top certificate_streams (take 10 certificate_acts) (Left a)
-certificate_cut = computed top certificate_streams (take 10 certificate_acts) (Left a) refl
+certificate_cut : IsVerdict top hidden_sends (take 10 certificate_acts) (Left a)
+certificate_cut = computed top hidden_sends (take 10 certificate_acts) (Left a) refl
 
 -- acts that stop too early
 abbrev unfit_streams : List Stream
@@ -175,8 +125,8 @@ other_label :
 other_label =
     computed top (record { pid = a; events = printed 18 0 1 a 7 ∷ [] } ∷ []) (take 3 certificate_acts) (Differs 2) refl
 
-not_there : IsVerdict top certificate_streams (act.Look a ∷ act.Look c ∷ []) (Stuck 1)
-not_there = computed top certificate_streams (act.Look a ∷ act.Look c ∷ []) (Stuck 1) refl
+not_there : IsVerdict top hidden_sends (act.Look a ∷ act.Look c ∷ []) (Stuck 1)
+not_there = computed top hidden_sends (act.Look a ∷ act.Look c ∷ []) (Stuck 1) refl
 
 full :
     IsVerdict 1 (record { pid = a; events = [] } ∷ [])

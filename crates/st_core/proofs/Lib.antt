@@ -1,4 +1,4 @@
--- The lemmas; what upper crates may cite is in `ForCallers`.
+-- The lemmas; what upper crates may cite is in `ForCallers`, and in `Samples` for worked cases.
 pub mod Bools
 pub mod Verdicts
 pub mod Runs
@@ -18,6 +18,7 @@ pub mod Clocks
 pub mod FullReports
 pub mod Once
 pub mod Apart
+pub mod Samples
 mod Cases
 pub mod Pids
 pub mod RisingPids

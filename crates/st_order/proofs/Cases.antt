@@ -1,10 +1,5 @@
 -- Worked cases: the definitions computed. Nothing cites this file; it shows that the definitions say what is meant.
-use Rattle.std.specs.Prelude.{◌≡◌, ℕ, ◌==◌, Bool, true, false, List, [], ◌∷◌, ◌||◌, Some, None, filter, refl}
-use Rattle.st_core.specs.declared.types.Pid.{Pid}
-use Rattle.st_core.specs.declared.types.Label.{Label}
-use Rattle.st_core.specs.declared.types.Event.{Event}
-use Rattle.st_core.specs.declared.types.Kind.TheVariants as kind
-use Rattle.st_core.specs.Pid.{pid_on}
+use Rattle.std.specs.Prelude.{◌≡◌, ◌==◌, Bool, true, false, List, [], ◌∷◌, ◌||◌, None, filter, refl}
 use Rattle.st_core.specs.Run.{Stream}
 use Rattle.st_order.specs.declared.item.Item.{Item}
 use Rattle.st_order.specs.declared.item.Item.TheVariants as item
@@ -12,58 +7,7 @@ use Rattle.st_order.specs.Items.{height}
 use Rattle.st_order.specs.Order.{key, KeysRise, order}
 use Rattle.st_order.specs.Labels.{label_of, IsByLabel}
 use Rattle.st_order.specs.Turn.{in_turn, is_event_of}
-
-abbrev label_17 : Label
-label_17 = record { 0 = 17 }
-
-abbrev a : Pid
-a = pid_on 0 30
-
-abbrev b : Pid
-b = pid_on 0 31
-
-abbrev c : Pid
-c = pid_on 0 32
-
-abbrev labelled_as : ℕ → Label
-labelled_as n = record { 0 = n }
-
-abbrev sent : ℕ → ℕ → ℕ → Pid → Pid → Event
-sent n prev this p q = record {
-  label = labelled_as n;
-  kind = kind.Send;
-  serial = record { prev = prev; this = this };
-  from = p;
-  to = Some q;
-  value = 0;
-}
-
-abbrev got : ℕ → ℕ → ℕ → Pid → Pid → Event
-got n prev this p q = record {
-  label = labelled_as n;
-  kind = kind.Receive;
-  serial = record { prev = prev; this = this };
-  from = p;
-  to = Some q;
-  value = 0;
-}
-
-abbrev printed : ℕ → ℕ → ℕ → Pid → Event
-printed n prev this p = record {
-  label = labelled_as n;
-  kind = kind.Print;
-  serial = record { prev = prev; this = this };
-  from = p;
-  to = None;
-  value = 0;
-}
-
-abbrev of : Pid → List Event → Stream
-of p es = record { pid = p; events = es }
-
--- two processes that received messages whose sends nobody reported
-abbrev hidden_sends : List Stream
-hidden_sends = of a (printed 17 0 1 a ∷ got 17 2 4 b a ∷ []) ∷ of b (got 17 0 2 a b ∷ printed 17 2 3 b ∷ []) ∷ []
+use Rattle.st_core.proofs.Samples.{a, b, c, sent, got, printed, of, hidden_sends}
 
 abbrev hidden_order : List Item
 hidden_order =
@@ -100,12 +44,12 @@ six_times : (x : Bool) → (x || false) ≡ (x || (x || (x || (x || (x || (x || 
 six_times true = refl
 six_times false = refl
 
-hidden_by_label : IsByLabel hidden_sends hidden_order ((label_17, hidden_order) ∷ [])
+hidden_by_label : IsByLabel hidden_sends hidden_order ((record { 0 = 17 }, hidden_order) ∷ [])
 hidden_by_label = record { rises = (tt, tt); labels = λ label. six_times (17 == label.0); lists = (refl, tt) }
 
 -- a receive of a low count stands at the height of its process
 abbrev low_counts : List Stream
-low_counts = of a [] ∷ of b (got 1 0 2 a b ∷ got 1 0 1 c b ∷ printed 1 1 2 b ∷ []) ∷ of c [] ∷ []
+low_counts = of a [] ∷ of b (got 1 0 2 a b 0 ∷ got 1 0 1 c b 0 ∷ printed 1 1 2 b 0 ∷ []) ∷ of c [] ∷ []
 
 low_counts_are : order low_counts
     ≡ item.Hidden b 1 ∷ item.Hidden b 0 ∷ item.Reported b 2 ∷ item.Reported b 0 ∷ item.Reported b 1 ∷ []
@@ -118,14 +62,14 @@ low_counts_out_of_turn = refl
 
 -- a reported send stands before its receive, and neither is hidden
 abbrev passed : List Stream
-passed = of a (sent 17 0 1 a b ∷ []) ∷ of b (got 17 0 1 a b ∷ []) ∷ []
+passed = of a (sent 17 0 1 a b 0 ∷ []) ∷ of b (got 17 0 1 a b 0 ∷ []) ∷ []
 
 passed_is : order passed ≡ item.Reported a 0 ∷ item.Reported b 0 ∷ []
 passed_is = refl
 
 -- if one process repeats a receive, the two hidden sends have one key, so nothing is an order
 abbrev repeats : List Stream
-repeats = of a [] ∷ of b (got 17 0 1 a b ∷ got 17 0 1 a b ∷ []) ∷ []
+repeats = of a [] ∷ of b (got 17 0 1 a b 0 ∷ got 17 0 1 a b 0 ∷ []) ∷ []
 
 one_key : key repeats (item.Hidden b 0) ≡ key repeats (item.Hidden b 1)
 one_key = refl

@@ -1,10 +1,9 @@
 -- Worked cases: the definitions computed. Nothing cites this file; it shows that the definitions say what is meant.
-use Rattle.std.specs.Prelude.{◌≡◌, ℕ, true, List, [], ◌∷◌, ◌++◌, Some, None, refl}
+use Rattle.std.specs.Prelude.{◌≡◌, true, List, [], ◌∷◌, ◌++◌, Some, None, refl}
 use Rattle.std.specs.List.{AllByRecursion}
 use Rattle.std.proofs.lemmas.List.Elements.{All-from_recursion}
 use Rattle.st_core.specs.declared.types.Pid.{Pid}
 use Rattle.st_core.specs.declared.types.Event.{Event}
-use Rattle.st_core.specs.declared.types.Kind.TheVariants as kind
 use Rattle.st_core.specs.declared.types.Want.TheVariants as want
 use Rattle.st_core.specs.declared.types.Component.{Component}
 use Rattle.st_core.specs.declared.types.Component.TheVariants as component
@@ -19,53 +18,7 @@ use Rattle.st_pair.specs.declared.answer.Source.TheVariants as source
 use Rattle.st_pair.specs.Pairing.{refusal, source_at, receiver_at}
 use Rattle.st_pair.specs.Final.{NeverShown}
 use Rattle.st_pair.proofs.FinalReasons.{prev_never_shown}
-
-abbrev pub sent : ℕ → ℕ → ℕ → Pid → Pid → ℕ → Event
-sent n prev this p q v = record {
-  label = record { 0 = n };
-  kind = kind.Send;
-  serial = record { prev = prev; this = this };
-  from = p;
-  to = Some q;
-  value = v;
-}
-
-abbrev pub got : ℕ → ℕ → ℕ → Pid → Pid → ℕ → Event
-got n prev this p q v = record {
-  label = record { 0 = n };
-  kind = kind.Receive;
-  serial = record { prev = prev; this = this };
-  from = p;
-  to = Some q;
-  value = v;
-}
-
-abbrev pub printed : ℕ → ℕ → ℕ → Pid → ℕ → Event
-printed n prev this p v = record {
-  label = record { 0 = n };
-  kind = kind.Print;
-  serial = record { prev = prev; this = this };
-  from = p;
-  to = None;
-  value = v;
-}
-
-abbrev pub a : Pid
-a = pid_on 0 30
-
-abbrev pub b : Pid
-b = pid_on 0 31
-
-abbrev pub c : Pid
-c = pid_on 0 32
-
-abbrev pub of : Pid → List Event → Stream
-of p es = record { pid = p; events = es }
-
--- the vector 'Hidden sends'
-abbrev pub hidden_sends : List Stream
-hidden_sends = of a (printed 17 0 1 a 7 ∷ got 17 2 4 b a 6 ∷ []) ∷ of b
-    (got 17 0 2 a b 5 ∷ printed 17 2 3 b 8 ∷ []) ∷ []
+use Rattle.st_core.proofs.Samples.{top, a, b, c, sent, got, printed, of, hidden_sends}
 
 hidden_paired : refusal hidden_sends ≡ None
 hidden_paired = refl
@@ -180,10 +133,6 @@ level_refused = refl
 
 level_never : NeverShown level
 level_never = prev_never_shown level (fault.PrevNotBefore a 0) refl tt
-
--- The other three are final for acts without a reset alone: these streams are refused, and these acts show them.
-abbrev top : ℕ
-top = 18446744073709551615
 
 abbrev outcomes : List Stream → List Act → List Outcome
 outcomes streams acts = elim (run top (pids_of streams) acts) [ None ↦ [] | Some os ↦ os ]

@@ -1,13 +1,11 @@
 -- Worked cases: the definitions computed. Nothing cites this file; it shows that the definitions say what is meant.
-use Rattle.std.specs.Prelude.{◌≡◌, ℕ, Bool, true, false, List, [], ◌∷◌, ◌++◌, Some, None, refl}
+use Rattle.std.specs.Prelude.{◌≡◌, ℕ, Bool, true, false, List, [], ◌∷◌, ◌++◌, Some, refl}
 use Rattle.st_core.specs.declared.types.Pid.{Pid}
 use Rattle.st_core.specs.declared.types.Event.{Event}
-use Rattle.st_core.specs.declared.types.Kind.TheVariants as kind
 use Rattle.st_core.specs.declared.types.Act.{Act}
 use Rattle.st_core.specs.declared.types.Act.TheVariants as act
 use Rattle.st_core.specs.declared.types.Component.TheVariants as component
 use Rattle.st_core.specs.declared.types.Want.TheVariants as want
-use Rattle.st_core.specs.Pid.{pid_on}
 use Rattle.st_core.specs.Run.{Stream}
 use Rattle.st_order.specs.Order.{order}
 use Rattle.st_plan.specs.Marks.{all_streams, all_told, marks_of, told_streams, Marked, Whole}
@@ -15,51 +13,12 @@ use Rattle.st_plan.specs.Moves.{clock, last, moves, Move}
 use Rattle.st_plan.specs.Reasons.{too_wide, uncaused}
 use Rattle.st_plan.specs.Plain.{out_of_turn, told_of_moves}
 use Rattle.st_plan.specs.Build.{construction, unstamped_token}
-
-abbrev top : ℕ
-top = 18446744073709551615
-
-abbrev sent : ℕ → ℕ → ℕ → Pid → Pid → ℕ → Event
-sent n prev this p q v = record {
-  label = record { 0 = n };
-  kind = kind.Send;
-  serial = record { prev = prev; this = this };
-  from = p;
-  to = Some q;
-  value = v;
-}
-
-abbrev got : ℕ → ℕ → ℕ → Pid → Pid → ℕ → Event
-got n prev this p q v = record (sent n prev this p q v) { kind = kind.Receive }
-
-abbrev printed : ℕ → ℕ → ℕ → Pid → ℕ → Event
-printed n prev this p v = record (sent n prev this p p v) { kind = kind.Print; to = None }
-
-abbrev a : Pid
-a = pid_on 0 30
-
-abbrev b : Pid
-b = pid_on 0 31
-
-abbrev c : Pid
-c = pid_on 0 32
-
-abbrev of : Pid → List Event → Stream
-of p es = record { pid = p; events = es }
+use Rattle.st_core.proofs.Samples.{top, a, b, c, sent, got, printed, of, hidden_sends}
+use Rattle.st_plan.proofs.Samples.{along}
 
 abbrev restored : Pid → ℕ → Bool → Bool → Bool → Act
 restored p n s r q =
     act.Restore p (unstamped_token p (record { 0 = n }) (record { send = s; receive = r; print = q }))
-
--- what the function gives at each of these moves, after those before it
-abbrev along : {X : Type 0} → (List Move → Move → X) → List Move → List Move → List X
-along f earlier [] = []
-along f earlier (m ∷ ms) = f earlier m ∷ along f (m ∷ earlier) ms
-
--- two processes that received messages whose sends nobody reported
-abbrev hidden_sends : List Stream
-hidden_sends = of a (printed 17 0 1 a 7 ∷ got 17 2 4 b a 6 ∷ []) ∷ of b
-    (got 17 0 2 a b 5 ∷ printed 17 2 3 b 8 ∷ []) ∷ []
 
 abbrev hidden : List Move
 hidden = moves hidden_sends (order hidden_sends)

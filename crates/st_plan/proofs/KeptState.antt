@@ -266,4 +266,4 @@ pub told_last : (marks : Marks) (m : Move) (report : Option Event) (p : Pid) →
     → report ≡ told_event marks m → shown_to p m report ≡ told_of_move marks p m
 told_last marks m report p is h = ap (shown_to p m) h
     ∙ subst (λ y. shown_to p y (told_event marks y) ≡ told_of_move marks p y) is
-      (told_item marks m.item m.event p)
+    (told_item marks m.item m.event p)

@@ -1,4 +1,5 @@
 -- The lemmas; what upper crates may cite is in `ForCallers`.
+pub mod Samples
 mod Cases
 pub mod SilentPrints
 pub mod Readiness

@@ -19,7 +19,7 @@ pub only_whole : (streams : List Stream) → told_parts all_told streams ≡ str
 only_whole [] = refl
 only_whole (x ∷ streams) =
     ap (λ (es : List Event). record { pid = x.pid; events = es } ∷ told_parts all_told streams)
-      (told_whole 0 x.events)
+    (told_whole 0 x.events)
     ∙ ap (λ ss. x ∷ ss) (only_whole streams)
 
 pub plain_is_shown : (top : ℕ) (streams : List Stream) → IsStreams streams → IsPlain top streams

@@ -73,7 +73,7 @@ module _ (top : ℕ) (streams : List Stream) (marks : Marks) (sound : IsStreams 
 
   -- the moves tell the told events
   pub tells_told_events : (p : Pid) → told_of_moves marks p (moves streams xs)
-    ≡ told_events_from (marks p) 0 (events_of streams p)
+      ≡ told_events_from (marks p) 0 (events_of streams p)
   tells_told_events p =
       let moved : AreMoved streams p (moves streams xs) = λ i e at.
       let place = order_whole streams xs is_order (item.Reported p i) e at in

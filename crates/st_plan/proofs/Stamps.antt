@@ -204,7 +204,7 @@ stamping top streams marks earlier s m a can st =
     (so_other streams marks earlier m x z (process_pid s x z before) apart can.stamps (kept.each x z before)) in
     let state : state_after s (y.lift.os ++ o ∷ []) ≡ o.after = state_append s y.lift.os (o ∷ []) in
     let shown : (p : Pid) → stream (first_acts ++ a ∷ []) (y.lift.os ++ o ∷ []) p
-          ≡ told_of_move marks p m = λ p.
+    ≡ told_of_move marks p m = λ p.
     stream_last first_acts a y.lift.os o p top s y.lift.runs y.lift.silent
     ∙ ap (λ q. (if pid_eq q p then option_to_list o.report else []) ++ []) st.by
     ∙ told_last marks m o.report p can.is report_is in (

@@ -90,7 +90,7 @@ tell_along streams marks p earlier (m ∷ ms) all =
     let rest = tell_along streams marks p (m ∷ earlier) ms all.1 in
     let one = tell_by streams marks earlier p m.item m.event next.at next.turn in
     let step : whole (event_count p earlier + one_by p m.item)
-          ≡ whole (event_count p earlier) ++ told_of_move marks p m =
+    ≡ whole (event_count p earlier) ++ told_of_move marks p m =
     one ∙ ap (λ y. whole (event_count p earlier) ++ told_of_move marks p y) next.is in
     let sum : event_count p earlier + (event_count p ms + one_by p m.item)
     ≡ event_count p earlier + one_by p m.item + event_count p ms =

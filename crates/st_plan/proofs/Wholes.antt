@@ -72,7 +72,7 @@ told_some all (w ∷ some) marked =
     let same : 0 + k ≡ k = omega arith in
     ap (marks_of all w.pid) same ∙ marked.0 k m at) in
     ap (λ (es : List Event). record { pid = w.pid; events = es }
-      ∷ told_parts (marks_of all) (all_streams some)) one
+    ∷ told_parts (marks_of all) (all_streams some)) one
     ∙ ap (λ (ss : List Stream). record { pid = w.pid; events = told_events w.marked } ∷ ss)
     (told_some all some marked.1)
 
