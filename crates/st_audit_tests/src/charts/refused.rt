@@ -1,0 +1,38 @@
+//! Memory that runs out, and sinks that fail at each place.
+
+use super::{HIDDEN_CHART, THREE_PROCESSES, chart_of, hidden_items};
+use crate::shared::{same, sink_at_last, streams, streams_at_last};
+use st_chart::ChartFault;
+use st_core::MemorySink;
+use std::test::Fail;
+
+/// If memory runs out nothing is written, and the same call writes the chart afterwards.
+#[test]
+fn a_chart_without_memory_writes_nothing(rt: HostRuntime) {
+    let alloc = rt.alloc();
+    let streams = streams_at_last(&rt, alloc, THREE_PROCESSES);
+    let mut sink = sink_at_last(&rt, alloc, 1000);
+    let items = hidden_items();
+    if let Err(fault) = chart_of(alloc, &mut sink, &streams, &items, 17) {
+        same(&rt, &fault, &ChartFault::Memory);
+        assert!(rt; sink.written().is_empty());
+        let again = chart_of(alloc, &mut sink, &streams, &items, 17);
+        same(&rt, &again, &Ok(()));
+    }
+    same(&rt, &sink.written(), &HIDDEN_CHART);
+}
+
+/// At whichever byte the sink fails, what it has is a prefix of the chart.
+#[test]
+fn a_failing_sink_has_a_prefix(rt: HostRuntime) -> Result<(), Fail> {
+    let alloc = rt.alloc();
+    let streams = streams(alloc, THREE_PROCESSES)?;
+    let items = hidden_items();
+    for fuse in 0..HIDDEN_CHART.len() {
+        let mut sink = MemorySink::new(alloc, 1000, Some(fuse as u64))?;
+        let answer = chart_of(alloc, &mut sink, &streams, &items, 17);
+        same(&rt, &answer, &Err(ChartFault::Device));
+        same(&rt, &sink.written(), &&HIDDEN_CHART[..fuse]);
+    }
+    Ok(())
+}

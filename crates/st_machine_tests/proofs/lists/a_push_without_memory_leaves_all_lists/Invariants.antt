@@ -1,0 +1,7 @@
+-- What the loop of pushes keeps.
+use Rattle.std.proofs.Common.{◌≡◌, length}
+use Rattle.st_machine_tests.proofs.lists.a_push_without_memory_leaves_all_lists.Given as goal
+
+-- the arena keeps its two lists
+abbrev pub invariant-loop-item : goal.invariant-loop-item
+invariant-loop-item g l = length l.lists.lists ≡ 2

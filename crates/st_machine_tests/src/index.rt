@@ -1,0 +1,57 @@
+//! An index beside a queue of three messages.
+
+ghost use Rattle.std.specs.Prelude.{◌≡◌, ◌+◌, ◌<◌, IfOk};
+ghost use Rattle.st_index.specs.Index.{IsIndex, room};
+
+use crate::shared::same;
+use st_core::{Message, Pid, Serial, Token};
+use st_index::Index;
+use st_samples::{p30, p31};
+use std::alloc::{AllocError, Global};
+use std::test::Fail;
+
+/// A message of this value, with a token of its sender that has this own count.
+fn stamped_message(from: Pid, value: u64, this: u64) -> Message {
+    let mut token = Token::made_by(from);
+    token.serial = Serial { prev: 0, this };
+    Message {
+        from,
+        value,
+        token: Some(token),
+    }
+}
+
+/// The index with one message more.
+fn index_with(mut index: Index, message: &Message) -> Result<Index, AllocError>
+    requires index { IsIndex index }
+    requires room { 0 < room index }
+    ensures index { IfOk result (λ next. IsIndex next) }
+    ensures room { IfOk result (λ next. room next + 1 ≡ room index) }
+{
+    index.push(message)?;
+    Ok(index)
+}
+
+/// An index of 8 and 9 from 30, and 8 from 31, whose stamps are 6, 7 and 7.
+fn index_of_three(alloc: Global) -> Result<Index, AllocError>
+    ensures index { IfOk result (λ index. IsIndex index) }
+{
+    let none = Index::new(alloc, 3)?;
+    let one = index_with(none, &stamped_message(p30(), 8, 6))?;
+    let two = index_with(one, &stamped_message(p30(), 9, 7))?;
+    let three = index_with(two, &stamped_message(p31(), 8, 7))?;
+    Ok(three)
+}
+
+#[test]
+fn an_index_finds_the_least_place_of_each_key(rt: HostRuntime) -> Result<(), Fail> {
+    let index = index_of_three(rt.alloc())?;
+    same(&rt, &index.find_from(p31()), &Some(2));
+    same(&rt, &index.find_value(8), &Some(0));
+    same(&rt, &index.find_both(p31(), 8), &Some(2));
+    same(&rt, &index.find_both(p31(), 9), &None);
+    same(&rt, &index.find_stamp(p30(), 7, 0), &Some(1));
+    same(&rt, &index.find_stamp(p30(), 7, 2), &None);
+    same(&rt, &index.room(), &1);
+    Ok(())
+}

