@@ -1,4 +1,4 @@
-# `make` alone says what there is. The times were measured on a four-core virtual machine with nothing else to do.
+# `make` alone says what there is. The times were measured on a virtual machine with four processors, which are two cores, and nothing else to do.
 
 # The programs, each a crate; everything below is made for each of them.
 PROGRAMS = seqaudit seqtool
@@ -53,7 +53,7 @@ install: $(PROGRAMS:%=bin/%) ## copies the proved programs, man pages and comple
 	install -D -m 644 completions/seqtool.bash $(SHARE)/bash-completion/completions/seqaudit
 	install -D -m 644 -t $(SHARE)/zsh/site-functions completions/_seqtool
 
-test: layout layers docs ## the merge gate: all proofs from nothing, the wrong bodies of must-fail/, the tests (more than an hour on four cores)
+test: layout layers docs ## the merge gate: all proofs from nothing, the wrong bodies of must-fail/, the tests (more than an hour on four processors)
 	rt ci
 	@$(MAKE) --no-print-directory test-program
 	@$(MAKE) --no-print-directory test-erlang

@@ -29,7 +29,7 @@ readme(Programs) ->
     {ok, Readme} = file:read_file(filename:join(Top, "README.md")),
     Quoted = quoted(binary:split(Readme, <<"\n">>, [global])),
     [true = lists:any(fun({Command, _}) -> string:find(Command, Part) =/= nomatch end, Quoted)
-     || Part <- ["seqaudit-node audit", "seqaudit-node chart", "seqaudit audit", "seqtool complete", "seqaudit chart"]],
+     || Part <- ["seqaudit-node audit", "seqaudit-node chart", "seqaudit audit", "seqtool complete"]],
     [same(Command, Said, Folder, Programs) || {Command, Said} <- Quoted],
     [{ok, Picture}, {ok, Picture}] =
         [file:read_file(filename:join(Where)) || Where <- [[Folder, "shop.svg"], [Top, "docs", "shop.svg"]]].

@@ -1,4 +1,5 @@
-//! How many bytes at the front of a line some line that may stand there begins with.
+//! The greatest number of bytes at the front of a line with which some line that may come there
+//! begins too.
 
 ghost use Rattle.std.specs.Prelude.{◌≡◌, ◌≤◌, ◌<◌, ◌+◌, ◌-◌, ◌*◌, List, ◌∷◌, []};
 ghost use Rattle.std.specs.Option.{SomeIff};
@@ -250,7 +251,8 @@ fn of_lines(wide: bool, above: Above, line: &[u8]) -> usize
     }
 }
 
-/// How many bytes at the front of a line some line that may stand there begins with, and no more.
+/// The greatest number of bytes at the front of a line with which some line that may come there
+/// begins too.
 /// `wide`: the header lets pids of other nodes in.
 pub fn column_below(above: Above, wide: bool, line: &[u8]) -> usize
     ensures { (ls : List Line) → above ≡ above_of ls → wide ≡ has_wide_header ls →

@@ -1,4 +1,4 @@
-//! How far a line goes on as a line of the grammar of `st_text`: the column of `lint`.
+//! How many bytes of a line could still become a line of the grammar of `st_text`: the column of `lint`.
 #![tactic(auto)]
 
 mod above;

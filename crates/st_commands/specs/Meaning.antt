@@ -34,10 +34,10 @@ pub record MeansYes (bytes : List ℕ) (out : Output) : Type 0 where
   pub runs : run top (pids_of streams) acts ≡ Some outcomes
   -- in it each process reports exactly its stream; so the acts show the streams (`Shows`)
   pub reports : All (λ x. stream acts outcomes x.pid ≡ x.events) streams
-  -- each receive that was reported stands in a pair
+  -- each receive that was reported is in a pair
   pub paired : AllPaired outcomes (pairs acts outcomes)
-  -- in each pair the receive follows its send, with the same label and serial, and no send stands
-  -- twice
+  -- in each pair the receive follows its send, with the same label and serial, and no send is in
+  -- two pairs
   pub follows : Follows acts outcomes (pairs acts outcomes)
   -- the text is the line yes and a line for each of these pairs
   pub text : out.text ≡ ended_line (codes "yes") ++ flat_map pair_line (pairs acts outcomes)
@@ -135,10 +135,10 @@ pub record MeansYesWithin (limits : Limits) (bytes : List ℕ) (out : Output) : 
   pub runs : run top (pids_of streams) acts ≡ Some outcomes
   -- in it each process reports exactly its stream; so the acts show the streams (`Shows`)
   pub reports : All (λ x. stream acts outcomes x.pid ≡ x.events) streams
-  -- each receive that was reported stands in a pair
+  -- each receive that was reported is in a pair
   pub paired : AllPaired outcomes (pairs acts outcomes)
-  -- in each pair the receive follows its send, with the same label and serial, and no send stands
-  -- twice
+  -- in each pair the receive follows its send, with the same label and serial, and no send is in
+  -- two pairs
   pub follows : Follows acts outcomes (pairs acts outcomes)
   -- the text is the line yes and a line for each of these pairs
   pub text : out.text ≡ ended_line (codes "yes") ++ flat_map pair_line (pairs acts outcomes)

@@ -1,7 +1,7 @@
-//! The completion of streams with hidden sends against which there is no final reason, if no
-//! stretch asks for two scarce counts. Each process is placed by itself, so that it needs 0 and all
-//! scarce counts as seldom as it can. The choice that these placings are has all sends, and no
-//! reason stands against it, so it has a completion; of this is told what the streams tell.
+//! The completion of streams with hidden sends for which no final reason holds, if no stretch asks
+//! for two scarce counts. Each process is placed by itself, so that it needs 0 and all scarce counts
+//! as seldom as it can. The choice that these placings are has all sends, and no reason holds of it,
+//! so it has a completion, which tells what the streams tell.
 
 ghost use Rattle.std.specs.Prelude.{◌≡◌, map, None, IfOk};
 ghost use Rattle.st_core.specs.Run.{pids_of};

@@ -1,4 +1,4 @@
--- Which tests hold of an event, and what stands against streams so far.
+-- Which tests hold of an event, and which reasons hold of streams so far.
 use Rattle.std.specs.Prelude.{◌≡◌, ℕ, nat_lt, Bool, true, false, List, take, Some, None}
 use Rattle.st_core.specs.declared.types.Pid.{Pid}
 use Rattle.st_core.specs.declared.types.Event.{Event}

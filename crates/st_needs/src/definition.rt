@@ -105,7 +105,7 @@ fn told_completion<const TOP: u64>(
 }
 
 /// Builds the completion of the streams that are told of these whole streams, if no send is hidden in
-/// all events and no reason stands against them: all events are completed by the definition, and told
+/// all events and no reason holds of them: all events are completed by the definition, and told
 /// is what is told of both. That takes a time quadratic in the events.
 pub fn complete_told<const TOP: u64>(
     alloc: Global,

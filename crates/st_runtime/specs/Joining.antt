@@ -65,7 +65,7 @@ referred r = entry_at r.0.now.entries r.1
 abbrev pub IsThere : Bor Logged × ℕ → Type 0
 IsThere r = r.1 < length r.0.now.entries
 
--- the acts of entries that are referred to, and what they answered
+-- the acts of entries that are referred to, and their replies
 abbrev pub IsReadOut : List (Bor Logged × ℕ) → List Act → List Reply → Type 0
 IsReadOut refs acts replies =
     (acts ≡ map (λ r. (referred r).act) refs) × (replies ≡ map (λ r. (referred r).reply) refs)

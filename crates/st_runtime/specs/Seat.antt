@@ -4,7 +4,7 @@ use Rattle.st_core.specs.declared.types.Pid.{Pid}
 use Rattle.st_core.specs.declared.types.Act.{Act}
 use Rattle.st_core.specs.declared.types.Reply.{Reply}
 
--- its process, and the acts that were accepted through it with what they answered, in order
+-- its process, and the acts that were accepted through it with their replies, in order
 pub record Calls : Type 0 where
   pub pid : Pid
   pub mine : List (Act × Reply)

@@ -1,4 +1,4 @@
--- What a list holds after a growth, and what holds if one was refused, by what the call answered.
+-- What a list holds after it grew, and what holds if memory ran out, by what the call returned.
 use Rattle.std.proofs.Common.{◌≡◌, ℕ, true, false, cond, List}
 use Rattle.std.specs.Prelude.{Result, Ok, Err, OnErr}
 use Rattle.std.specs.Result.{is_ok, is_err}

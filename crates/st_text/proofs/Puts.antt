@@ -100,14 +100,14 @@ part_longer puts failed t u x h =
       after = h.after;
     }
 
--- the same of what a call answered
+-- the same of what a call returned
 pub then_on : {S T E : Type 0} (puts : S → List ℕ → S → Type 0) (failed : S → Bool) (t u : List ℕ) {a b : S}
     (c : S) {x y : List ℕ} (z : List ℕ) (r : Result T E)
     → Goes puts failed t a b x y → WritesOn puts failed u b c y z r → WritesOn puts failed (t ++ u) a c x z r
 then_on puts failed t u c z (Ok v) g h = goes_then puts failed t u g h
 then_on puts failed t u c z (Err e) g h = part_then puts failed t u g h
 
--- ---- what calls answered
+-- ---- what calls returned
 
 -- a refusal, if a call failed
 pub on_err : {S T E : Type 0} {puts : S → List ℕ → S → Type 0} {failed : S → Bool} (t : List ℕ) {a b : S}

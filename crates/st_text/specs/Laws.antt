@@ -74,7 +74,7 @@ IsReadBack c (Ok b) = contents b ≡ c
 IsReadBack c (Err faults.Memory) = Unit {0}
 IsReadBack c (Err f) = ⊥
 
--- of the text of a bundle within any limits that bundle is answered
+-- for the text of a bundle within any limits the result is that bundle
 abbrev pub WrittenIsRead : Type 0
 WrittenIsRead = (limits : Limits) (c : Contents) (r : Result Bundle ReadFault) → IsBundle c
     → IsWithinLimits limits c

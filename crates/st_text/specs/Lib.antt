@@ -1,4 +1,4 @@
--- What a text is, which fault it has, what is answered and written of it, and the laws of that:
+-- What a text is, which fault it has, what is returned and written for it, and the laws of that:
 -- each promise of a public contract rests on these modules alone.
 pub mod Spelling
 pub mod Range

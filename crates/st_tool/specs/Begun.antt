@@ -1,5 +1,6 @@
--- Whether a process began the trace of a send or print itself, if it reported no receive of its
--- prev.
+-- Whether by its reported events a process began the trace of a send or print itself, if it
+-- reported no receive of its prev. Unless the prev is 0, an unreported message with that count may
+-- be the cause all the same.
 use Rattle.std.specs.Prelude.{ℕ, ◌-◌, ◌==◌, ◌&&◌, ◌||◌, Bool, List, length, take, reverse, max}
 use Rattle.std.specs.List.{fold, prefix_len}
 use Rattle.st_core.specs.declared.types.Event.{Event}

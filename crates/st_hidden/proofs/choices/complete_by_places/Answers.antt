@@ -1,4 +1,4 @@
--- No reason stands against the choice that the placings are, so it has a completion.
+-- No reason holds of the choice that the placings are, so it has a completion.
 use Rattle.std.proofs.Common.{sym, ◌∙◌, ap, subst}
 use Rattle.st_core.specs.Streams.{IsStreams}
 use Rattle.st_plan.specs.Marks.{all_streams, told_streams}
