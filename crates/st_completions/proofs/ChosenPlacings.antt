@@ -70,7 +70,7 @@ streams_by f (x ∷ xs) all =
     ap (λ es. let s : Stream = record { pid = x.pid; events = es } in s ∷ xs) (sym all.0)
     ∙ ap (λ ys. stream_by f x.pid ∷ ys) (streams_by f xs all.1)
 
-same_streams : (xs ys : List Stream) → IsRising (pids_of xs) → pids_of xs ≡ pids_of ys
+pub same_streams : (xs ys : List Stream) → IsRising (pids_of xs) → pids_of xs ≡ pids_of ys
     → ((p : Pid) → events_of xs p ≡ events_of ys p) → xs ≡ ys
 same_streams xs ys rising pids events =
     streams_by (events_of xs) xs (all_found xs rising)

@@ -7,11 +7,11 @@ pub use Rattle.st_completions.proofs.NeedlessCompletions.{completed}
 pub use Rattle.st_completions.proofs.Decision.{decides, never_shown, no_reason}
 pub use Rattle.st_completions.proofs.ReasonlessStreams.{IsNeedOf, need_of, fit_together}
 pub use Rattle.st_completions.proofs.SameNames.{streams_with}
-pub use Rattle.st_completions.proofs.StampsTold.{told_zeros_final, stamper}
+pub use Rattle.st_completions.proofs.StampsTold.{told_zeros_final, stamper, TellsOf, told}
 pub use Rattle.st_completions.proofs.ZeroFreePlacings.{founded_least}
 pub use Rattle.st_completions.proofs.ChosenPlacings.{AreScarce, chosen_open, IsChosen, IsOpenTo}
 pub use Rattle.st_completions.proofs.ChosenPlacings.{needs_of_all, stream_by}
-pub use Rattle.st_completions.proofs.ChosenPlacings.{streams_by}
+pub use Rattle.st_completions.proofs.ChosenPlacings.{same_streams, streams_by}
 pub use Rattle.st_completions.proofs.Leasts.{Among, among_filter, mixed, timely_is, never_shown_anywhere, smallest_low}
 pub use Rattle.st_completions.proofs.Mixes.{among_at, at_among, IsTakenApart, placing_from, timely_of, among_marks}
 pub use Rattle.st_completions.proofs.Mixes.{told_append, untold_append}
@@ -29,3 +29,15 @@ pub use Rattle.st_completions.proofs.Supplies.{greatest_among, highest}
 pub use Rattle.st_completions.proofs.FewestNeeds.{best_placing}
 pub use Rattle.st_completions.proofs.UntoldEvents.{untold_events as events_untold}
 pub use Rattle.st_completions.proofs.AcceptedStreams.{accepted_if, FitTogether}
+pub use Rattle.st_completions.proofs.Zeros.{zeros_final}
+pub use Rattle.st_completions.proofs.Lookups.{taken_if, unlisted_events}
+pub use Rattle.st_completions.proofs.Leasts.{sum_low}
+pub use Rattle.st_completions.proofs.Choices.{mark_at, shown_if_chosen, told_somewhere}
+pub use Rattle.st_completions.proofs.Leasts.{frees}
+pub use Rattle.st_completions.proofs.UntoldEvents.{same_pids, untold_mark, untold_within}
+pub use Rattle.st_completions.proofs.JointPlacings.{choice_of}
+pub use Rattle.st_completions.proofs.Needs.{events_all, events_told}
+pub use Rattle.st_completions.proofs.NeedlessCompletions.{decided}
+pub use Rattle.st_completions.proofs.NeedlessStreams.{needless_shown}
+pub use Rattle.st_completions.proofs.CompletionsOfCompletions.{completed_again}
+pub use Rattle.st_completions.proofs.ReasonSearch.{IsSomewhere, seek_all, within_if}

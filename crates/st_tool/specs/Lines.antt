@@ -1,6 +1,7 @@
 -- The words of each line that stands alone, for the contracts of the functions that write them.
 use Rattle.std.specs.Prelude.{ℕ, ◌+◌, List, ◌++◌, codes, decimal}
 use Rattle.st_chart.specs.Room.{place_room}
+use Rattle.st_text.specs.Spelling as spelled
 use Rattle.st_chart.specs.Words.{place_words}
 use Rattle.st_tool.specs.declared.lines.OutputLine.{OutputLine}
 use Rattle.st_tool.specs.declared.lines.OutputLine.TheVariants as lines
@@ -12,7 +13,7 @@ words_of lines.NoActs = codes "fault no acts"
 words_of lines.Long = codes "long"
 words_of (lines.Added n) = codes "added " ++ decimal n
 words_of (lines.Never p i r) = codes "never " ++ place_words p i ++ codes " " ++ never_words p r
-words_of (lines.Open p i) = codes "open " ++ place_words p i
+words_of (lines.Unlisted p) = codes "unlisted " ++ spelled.pid p
 
 -- how many bytes the words of a line take at most, each number given the room of the longest
 abbrev pub words_room : ℕ

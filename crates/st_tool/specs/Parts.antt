@@ -18,8 +18,8 @@ use Rattle.st_tool.specs.Why.{traced, no_event}
 use Rattle.st_tool.specs.Renumber.{streams_output}
 use Rattle.st_tool.specs.declared.complete.Form.{Form}
 use Rattle.st_tool.specs.Complete.{Answers}
-use Rattle.st_hidden.specs.declared.answer.Answer.{Answer}
-use Rattle.st_hidden.specs.Answers.{IsAnswer, IsNeverFinal}
+use Rattle.st_complete.specs.declared.answer.Answer.{Answer}
+use Rattle.st_complete.specs.Answers.{IsAnswer}
 use Rattle.st_commands.specs.Checked.{top}
 
 -- the way back from an event of streams
@@ -35,7 +35,6 @@ pub data TracesTo (streams : List Stream) (p : Pid) (i : ℕ) : Output → Type 
 -- what streams lack, in a form
 pub data CompletesTo (f : Form) (streams : List Stream) : Output → Type 0 where
   Finds : (found : Answer) (out : Output) → IsAnswer top streams found
-      → IsNeverFinal top streams found
       → Answers f streams found out → CompletesTo f streams out
   NoRoomToComplete : CompletesTo f streams no_memory
 
