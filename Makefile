@@ -83,8 +83,8 @@ BUILT_TOOL = $(firstword $(wildcard $(CURDIR)/crates/seqtool/out/seqtool $(CURDI
 test-program: ## the programs that were built last: examples/, random traces, a million acts, faults (2 minutes)
 	@.ci/program $(BUILT)
 	@examples/demo-seqtool $(BUILT_TOOL)
-	@if command -v python3 >/dev/null; then .ci/seqtool $(BUILT_TOOL) && bench/hostile $(BUILT); \
-	else echo "There is no python3 here: seqtool's words and the faults are skipped."; fi
+	@if command -v python3 >/dev/null; then .ci/seqtool $(BUILT_TOOL) && bench/completions/small.py $(BUILT_TOOL) 2000 && bench/hostile $(BUILT); \
+	else echo "There is no python3 here: seqtool's words, its small streams and the faults are skipped."; fi
 
 # Traces of a real Erlang node, if there is one, by the program that was built last.
 test-erlang: ## the tests of erlang/, with the programs that were built last (3 to 5 minutes; needs erl; some need runtime_tools)
