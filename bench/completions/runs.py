@@ -12,8 +12,8 @@ BEGUN = "begun"
 
 
 class Run:
-    """Processes that do what they are told. `full` has each stamp and each receive of a token, `streams` what was reported,
-    `causes` of each stamp what gave it its prev: a message's sender and count, `BEGUN`, or None at the clock's start."""
+    """Processes that do what they are told. `full` has each stamp and each receive of a token, `streams` what was
+    reported, `causes` of each stamp what gave it its prev: a message's sender and count, `BEGUN`, or None at the start."""
 
     def __init__(self, chosen, processes, reported, lost=0.0):
         self.chosen, self.flags, self.lost = chosen, [str(kind in reported).lower() for kind in KINDS], lost

@@ -67,8 +67,8 @@ class Told:
 # Ways
 
 class Way:
-    """A way so far: how many messages of each count it took, which counts it stamped that nobody is told of (each may be the
-    count of a message to anyone), and the way before its last step."""
+    """A way so far: how many messages of each count it took, which counts it stamped that nobody is told of (each may be
+    the count of a message to anyone), and the way before its last step."""
 
     def __init__(self, taken, given, before, step):
         self.taken, self.given, self.before, self.step = taken, given, before, step
@@ -85,8 +85,8 @@ class Way:
 
 
 class Ways:
-    """All ways of a process. A state is how many of its events it reported, its clock and its last serial. Of the ways into
-    one state a way is dropped if another one takes no more and gives no less."""
+    """All ways of a process. A state is how many of its events it reported, its clock and its last serial. Of the ways
+    into one state a way is dropped if another one takes no more and gives no less."""
 
     def __init__(self, told, pid):
         self.told, self.pid, self.events, self.hidden = told, pid, told.streams[pid], told.hidden[pid]
@@ -135,7 +135,8 @@ class Ways:
 def asked(told, pid, way):
     """By count, how many messages a way takes of others less those that it has to give. Sends to it that were reported and
     that no reported receive took come first."""
-    return tuple(max(0, taken - told.waiting[pid][count]) - (way.given >> count & 1) for count, taken in enumerate(way.taken))
+    return tuple(max(0, taken - told.waiting[pid][count]) - (way.given >> count & 1)
+                 for count, taken in enumerate(way.taken))
 
 
 def least(sums):

@@ -65,8 +65,9 @@ def some_run(chosen):
     while sum(map(len, streams.values())) < MOST_EVENTS and chosen.random() < 0.97:
         me, other = machine.show(chosen.choice(pids)), machine.show(chosen.choice(pids))
         flags = [chosen.choice(["true", "true", "false"]) for _ in range(3)]
-        act = chosen.choice([["send", me, other, "1"], ["receive", me, "place", str(chosen.randrange(2))], ["print", me, "0"],
-                             ["clear", me], ["set", me, "label", "2"], ["restore", me, "1", *flags, "0", "0", me]])
+        act = chosen.choice([["send", me, other, "1"], ["receive", me, "place", str(chosen.randrange(2))],
+                             ["print", me, "0"], ["clear", me], ["set", me, "label", "2"],
+                             ["restore", me, "1", *flags, "0", "0", me]])
         report, _ = world.step(act)
         if report and chosen.random() >= lost:
             streams[report.actor()].append(report)
@@ -107,7 +108,8 @@ def fault_of_messages(streams, whole):
     if max(taken.values(), default=0) > 1 or any(event not in sent for event in taken):
         return "a message is received twice, or wasn't sent"
     told = {event for events in streams.values() for event in events}
-    return "a send is added that nobody receives" if any(event not in told and event not in taken for event in sent) else None
+    idle = [event for event in sent if event not in told and event not in taken]
+    return "a send is added that nobody receives" if idle else None
 
 
 def fault_of_counts(streams, events):
@@ -150,7 +152,7 @@ def judge(seqtool, streams):
     given = "".join(f"{line}\n" for line in machine.write(streams, None))
     (lines, status), needed = ask(seqtool, ["complete"], given), silent_needed(streams)
     if status == 1 and lines[0].startswith("never "):
-        return lines[0].split(" ")[3], None if needed is None else f"never, and there is a run with {needed} silent processes"
+        return lines[0].split(" ")[3], None if needed is None else f"never, and {needed} silent processes make a run"
     if status != 0 or not lines or not lines[0].startswith("added "):
         return "no answer", f"status {status}, {lines[:1]}"
     unlisted = sum(line.startswith("unlisted ") for line in lines)
@@ -159,7 +161,8 @@ def judge(seqtool, streams):
         return said, "added, and there is no run"
     text, status = ask(seqtool, ["complete", "--as", "streams"], given)
     whole, _ = machine.read("".join(f"{line}\n" for line in text))
-    return said + (f", where {needed} are enough" if needed not in (None, unlisted) else ""), fault_of(streams, lines, whole)
+    said += f", where {needed} are enough" if needed not in (None, unlisted) else ""
+    return said, fault_of(streams, lines, whole)
 
 
 def main(seqtool="bin/seqtool", count="20000", seed="1"):

@@ -47,7 +47,8 @@ def causes_of(events):
 def completed(seqtool, streams):
     """All events of the completion."""
     given = "".join(f"{line}\n" for line in machine.write(streams, None))
-    done = subprocess.run([seqtool, "complete", "--as", "streams"], input=given, capture_output=True, text=True, check=False)
+    words = [seqtool, "complete", "--as", "streams"]
+    done = subprocess.run(words, input=given, capture_output=True, text=True, check=False)
     if done.returncode:
         sys.exit(f"{done.stdout[:200]}of a run:\n{given}")
     return machine.read(done.stdout)[0]

@@ -1,5 +1,5 @@
-"""Large traces of which much wasn't reported, as `seqtool complete` takes them: processor time beside what `audit` of a full
-trace takes, and memory."""
+"""Large traces of which much wasn't reported, as `seqtool complete` takes them: its memory, and its processor time beside
+that of `audit` of a full trace."""
 
 import os
 import sys
@@ -30,7 +30,8 @@ def least(words, source, folder):
     output = os.path.join(folder, "written")
     runs = [run_once(words, source, output, SECONDS) for _ in range(ROUNDS)]
     with open(output, "rb") as file:
-        return file.readline(100).decode(errors="replace").strip(), min(run[2] for run in runs), max(run[3] for run in runs)
+        said = file.readline(100).decode(errors="replace").strip()
+    return said, min(run[2] for run in runs), max(run[3] for run in runs)
 
 
 def completed(program, tool, sort):
@@ -45,5 +46,5 @@ def completed(program, tool, sort):
     most, room = MOST_RATIO * of_audit + MORE_SECONDS, MOST_BYTES * events + MORE_BYTES
     note = f"{said[:40]}: {seconds:.2f} s, audit of a full trace {of_audit:.2f} s, peak {peak >> 20} MB"
     is_right = said.startswith(f"{word} ") and seconds <= most and peak <= room
-    yield Check(f"completions: {title}", None if is_right else f"it takes more than {most:.2f} s or {room >> 20} MB, or isn't"
-                f" {word}: {note}", note)
+    bounds = f"more than {most:.2f} s or {room >> 20} MB, or not {word}: {note}"
+    yield Check(f"completions: {title}", None if is_right else bounds, note)

@@ -98,7 +98,7 @@ class Trace:
             and tool.answer(["complete"], text(model.write(whole, None))) == (["added 0"], 0)
 
     def is_shown(self, acts):
-        """Whether these lines are the trace, with the processes that it doesn't list, and acts that show it without a reset."""
+        """Whether these lines are the trace and the unlisted processes, with acts that show them without a reset."""
         listed = dict(sorted({**{pid: [] for pid in self.unlisted}, **self.streams}.items()))
         return text(acts).startswith(text(model.write(listed, None)) + "acts\n") \
             and not any(line.startswith("reset ") for line in acts) and model.answer(["check"], text(acts))[1] == 0

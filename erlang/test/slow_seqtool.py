@@ -122,18 +122,18 @@ class Stretch:
             self.behind[receive.this].append(gap)
             self.behind[receive.this, receive.label].append(gap)
 
-    def last_begun(self, count):
-        """The last gap at which this count isn't below the clock."""
+    def last_start(self, count):
+        """The last gap at which a trace can begin at this count: the clock isn't above it."""
         return bisect_right(self.clocks, count) - 1
 
-    def next_fed(self, received, gap, limit):
-        """The next gap behind such a receive, if it is within the limit."""
-        gaps = self.behind[received]
+    def next_behind(self, receive, gap, limit):
+        """The next gap behind a receive of this count, or count and label, if it is within the limit."""
+        gaps = self.behind[receive]
         at = bisect_right(gaps, gap)
         return gaps[at] if at < len(gaps) and gaps[at] <= limit else None
 
     def limits(self):
-        """For each send its last gap: behind it, what comes next can no longer cost nothing, if it can at all."""
+        """For each send the last gap at which what comes next can still cost nothing, if it can at all."""
         found, following, limit = [], self.stamp, self.end
         for send in reversed(self.sends):
             if following and following.prev != send.prev:
@@ -144,16 +144,15 @@ class Stretch:
         return found[::-1]
 
     def limits_before(self, send, following, limit):
-        """The last gaps of a send, if the stamp that follows it has another prev: that of a receive before it, or a clock."""
-        gaps = self.behind[following.prev]
-        fed = bisect_right(gaps, limit) - 1
-        # The stamp at the end has only one place.
+        """Last gaps of a send, if what follows it has another prev: right before a receive of that, or where that can
+        begin a trace. The stamp at the end has only one place."""
         moves = following is not self.stamp
-        if fed >= 0 and (moves or gaps[fed] == limit):
-            yield gaps[fed] - 1
-        begun = min(limit, self.last_begun(following.prev))
-        if following.prev >= max(self.clocks[0], send.this) and (moves or begun == limit):
-            yield begun
+        earlier = [gap for gap in self.behind[following.prev] if gap <= limit]
+        if earlier and (moves or earlier[-1] == limit):
+            yield earlier[-1] - 1
+        start = min(limit, self.last_start(following.prev))
+        if following.prev >= max(self.clocks[0], send.this) and (moves or start == limit):
+            yield start
 
     def gaps(self):
         """The gap of each send."""
@@ -172,14 +171,13 @@ class Stretch:
         """Where a send goes from the gap of the one before it."""
         if left == (send.prev, send.label):
             return gap
-        fed = self.next_fed((send.prev, send.label), gap, limit)
-        if fed is not None or send.prev in (left[0], clock):
-            return gap if fed is None else fed
-        fed = self.next_fed(send.prev, gap, limit)
-        if fed is None and send.prev > clock:
-            # It begins a trace later, behind all that may be before it.
-            return max(gap, min(limit, self.last_begun(send.prev)))
-        return gap if fed is None else fed
+        behind = self.next_behind((send.prev, send.label), gap, limit)
+        if behind is None and send.prev not in (left[0], clock):
+            behind = self.next_behind(send.prev, gap, limit)
+            if behind is None and send.prev > clock:
+                # It begins a trace later, behind all that may be before it.
+                return max(gap, min(limit, self.last_start(send.prev)))
+        return gap if behind is None else behind
 
     def ends_in_own_trace(self):
         """Whether the last sends begin the trace of the stamp at the end, so that they go right before it."""
@@ -195,7 +193,8 @@ def with_hidden(events, sends):
     items, begin, before = [], 0, None
     for end in [i for i, event in enumerate(events) if is_stamp(event)] + [len(events)]:
         stamp = events[end] if end < len(events) else None
-        own = [send for send in sends if (not before or send.this > before.this) and (not stamp or send.this < stamp.this)]
+        own = [send for send in sends
+               if (not before or send.this > before.this) and (not stamp or send.this < stamp.this)]
         gaps = Stretch(before, events[begin:end], own, stamp).gaps()
         for gap, receive in enumerate([None, *events[begin:end]]):
             items += [Item(receive, True)] if receive else []
@@ -231,8 +230,8 @@ def lost_receives(pid, asking, unreceived):
 
 
 def with_receives(pid, items, unreceived):
-    """A process's items with a receive right before each need, and before what began a trace though a message of its prev was
-    sent to it. A receive without a sender needs one."""
+    """A process's items with a receive right before each need, and before what would begin a trace though a message of
+    its prev was sent to the process. A receive without a sender needs one."""
     asking = [(item, (event.prev > left[0]) - (event.prev < left[0]))
               for item, (left, event) in zip(items, lefts(item.event for item in items))
               if is_stamp(event) and event.prev != left[1]]
@@ -248,7 +247,7 @@ def with_receives(pid, items, unreceived):
 
 
 def unlisted_pids(listed):
-    """The pids that aren't listed: on the node of the least listed one from the last number down, then on the next nodes."""
+    """The pids that aren't listed: on the node of the least listed one from the last number down, then on the next."""
     least = min(listed)[0]
     every = (((least + k) % 65_536, number) for k in range(65_536) for number in reversed(range(65_536)))
     return (pid for pid in every if pid not in listed)
@@ -274,8 +273,8 @@ def with_senders(whole):
 
 
 def with_invented(pid, items, receives):
-    """A sender's items with the sends of these receives, which come by rising count: each before the first event that reaches
-    its count. It goes on from what is left, or begins the next event's trace. The receives get its serial."""
+    """A sender's items with the sends of these receives, which come by rising count: each before the first event that
+    reaches its count. It goes on from what is left, or begins the next event's trace. The receives get its serial."""
     found, left, waiting = [], START, receives[:]
     for item in [*items, None]:
         while waiting and (item is None or waiting[0].event.this <= item.event.this):
