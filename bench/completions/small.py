@@ -115,15 +115,18 @@ def fault_of_messages(streams, whole):
 def fault_of_counts(streams, events):
     """What is wrong with a process's events in turn."""
     told = {event for some in streams.values() for event in some}
-    clock = left = 0
+    # The clock also as it would be without invented sends: these come last, and what was added before them may stay.
+    clock = clock_before = left = 0
     for event, following in zip(events, [*events[1:], None]):
         if event.prev >= event.this or is_stamp(event) and event.this <= clock:
             return "a count doesn't rise"
         if is_stamp(event) and event.prev != left and event.prev < clock:
             return "something is missing before a stamp"
-        if event not in told and not is_stamp(event) and not is_of_use(event, following, left, clock, told):
+        if event not in told and not is_stamp(event) and not is_of_use(event, following, left, clock_before, told):
             return "a receive is added that nothing needs"
         clock, left = max(clock, event.this), event.prev if is_stamp(event) else event.this
+        if event in told or not is_stamp(event) or replace(event, kind="receive") in told:
+            clock_before = max(clock_before, event.this)
     return None
 
 
