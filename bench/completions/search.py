@@ -17,6 +17,7 @@ them before anything else happens: nobody sees when, nor what their prevs are. A
 one: a process that passed that stamps nothing that is told."""
 
 import heapq
+import itertools
 import sys
 from collections import Counter, defaultdict
 from dataclasses import replace
@@ -92,7 +93,7 @@ class Ways:
         self.told, self.pid, self.events, self.hidden = told, pid, told.streams[pid], told.hidden[pid]
         # The counts that it must stamp.
         self.due = {*self.hidden, *(event.this for event in self.events if is_stamp(event))}
-        self.found, self.left = defaultdict(list), []
+        self.found, self.left, self.numbers = defaultdict(list), [], itertools.count()
         self.reach((0, 0, 0), Way((0,) * (told.most + 1), 0, None, None))
         while self.left:
             *_, state, way = heapq.heappop(self.left)
@@ -104,27 +105,27 @@ class Ways:
         if not any(other.is_as_good_as(way) for other in self.found[state]):
             self.found[state] = [other for other in self.found[state] if not way.is_as_good_as(other)] + [way]
             # Ways that take few and give much come first, since others are dropped for them.
-            heapq.heappush(self.left, (sum(way.taken), -way.given.bit_count(), id(way), state, way))
+            heapq.heappush(self.left, (sum(way.taken), -way.given.bit_count(), next(self.numbers), state, way))
 
     def stamp(self, i, clock, last, way):
-        count, event = clock + 1, self.events[i] if i < len(self.events) else None
+        this, event = clock + 1, self.events[i] if i < len(self.events) else None
         for prev in {last, clock}:
-            if event and is_stamp(event) and (event.prev, event.this) == (prev, count):
-                self.reach((i + 1, count, prev), Way(way.taken, way.given, way, ("told",)))
-            if self.hidden.get(count) == prev:
-                self.reach((i, count, prev), Way(way.taken, way.given, way, ("stamp", count, prev)))
-            if count not in self.due and count <= self.told.most:
-                self.reach((i, count, prev), Way(way.taken, way.given | 1 << count, way, ("stamp", count, prev)))
+            if event and is_stamp(event) and (event.prev, event.this) == (prev, this):
+                self.reach((i + 1, this, prev), Way(way.taken, way.given, way, ("told",)))
+            if self.hidden.get(this) == prev:
+                self.reach((i, this, prev), Way(way.taken, way.given, way, ("stamp", this, prev)))
+            if this not in self.due and this <= self.told.most:
+                self.reach((i, this, prev), Way(way.taken, way.given | 1 << this, way, ("stamp", this, prev)))
 
     def receive(self, i, clock, last, way):
         # What it must stamp can't be passed.
-        counts = [count for count in range(1, self.told.most + 1) if not any(clock < due <= count for due in self.due)]
+        counts = [this for this in range(1, self.told.most + 1) if not any(clock < due <= this for due in self.due)]
         if i < len(self.events) and not is_stamp(self.events[i]) and self.events[i].this in counts:
-            count = self.events[i].this
-            self.reach((i + 1, max(clock, count), count), Way(way.taken, way.given, way, ("told",)))
-        for count in counts:
-            taken = tuple(n + (k == count) for k, n in enumerate(way.taken))
-            self.reach((i, max(clock, count), count), Way(taken, way.given, way, ("take", count)))
+            this = self.events[i].this
+            self.reach((i + 1, max(clock, this), this), Way(way.taken, way.given, way, ("told",)))
+        for this in counts:
+            taken = tuple(n + (k == this) for k, n in enumerate(way.taken))
+            self.reach((i, max(clock, this), this), Way(taken, way.given, way, ("take", this)))
 
     def whole(self):
         """The best ways that tell all."""
@@ -199,19 +200,25 @@ class Acts:
         """Does the step, unless it has to wait for a message."""
         if step == "stamp":
             self.stamp(pid, self.event_of(pid, count, prev), False)
-        elif step == "told" and is_stamp(self.events[pid][0]):
-            self.stamp(pid, self.events[pid].pop(0), True)
-        else:
-            count = self.events[pid][0].this if step == "told" else count
-            senders = [self.events[pid][0].sender] if step == "told" else \
-                [sender for (sender, this), taker in self.takers.items() if (this, taker) == (count, pid)]
-            places = [place for sender in senders if (place := self.world.place_of(pid, sender, count)) is not None]
-            if not places:
-                return False
-            self.act("receive", machine.show(pid), "place", places[0])
-            if step == "told":
-                self.events[pid].pop(0)
+            return True
+        if step == "take":
+            senders = [sender for (sender, this), taker in self.takers.items() if (this, taker) == (count, pid)]
+            return self.has_received(pid, senders, count)
+        event = self.events[pid][0]
+        if is_stamp(event):
+            self.stamp(pid, event, True)
+        elif not self.has_received(pid, [event.sender], event.this):
+            return False
+        self.events[pid].pop(0)
         return True
+
+    def has_received(self, pid, senders, count):
+        """Takes a message of this count from one of the senders, if it is there."""
+        places = [self.world.place_of(pid, sender, count) for sender in senders]
+        place = next((place for place in places if place is not None), None)
+        if place is not None:
+            self.act("receive", machine.show(pid), "place", place)
+        return place is not None
 
     def event_of(self, pid, count, prev):
         """A stamp that isn't reported: the send of a message that somebody takes, or a print."""
