@@ -80,7 +80,7 @@ BUILT_TOOL = $(firstword $(wildcard $(CURDIR)/crates/seqtool/out/seqtool $(CURDI
 
 # What no proof sees: the built programs on examples/, their statuses and words, random traces beside a slow model, a
 # million acts and events, and faults. Python's seeds are fixed.
-test-program: ## the programs that were built last: examples/, random traces, a million acts, faults (2 minutes)
+test-program: ## the programs that were built last: examples/, random traces, a million acts, faults (3 minutes)
 	@.ci/program $(BUILT)
 	@examples/demo-seqtool $(BUILT_TOOL)
 	@if command -v python3 >/dev/null; then .ci/seqtool $(BUILT_TOOL) && bench/completions/small.py $(BUILT_TOOL) 2000 && bench/hostile --tool $(BUILT_TOOL) $(BUILT); \
@@ -100,7 +100,7 @@ test-conformance: ## compares 200 random scripts with a real node (1 minute; nee
 bench: bin/seqaudit ## times the commands on bundles of 600,000 events, beside plain Rust (5 minutes, after program; needs rustc)
 	bench/run
 
-hostile: bin/seqaudit bin/seqtool ## faults, tampered text and inputs at the limits, docs/HOSTILE.md (1 minute, after program)
+hostile: bin/seqaudit bin/seqtool ## faults, tampered text and inputs at the limits, docs/HOSTILE.md (2 minutes, after program)
 	bench/hostile
 
 clean: ## removes what was built; keeps the proofs

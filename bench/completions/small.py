@@ -6,7 +6,8 @@
 Of up to three processes and six events, some of a run and most of any kind. A completion has to come exactly if the search
 finds a run, of the listed processes and up to three silent ones. What is added is judged by the text and from the
 beginning: the given events stay, nothing is missing in all events, nothing is added for nothing, and unlisted processes
-weren't listed. The table says how often each answer came; the exit status is 1 if one was wrong."""
+weren't listed. Then the lines have to be those of the slow model of erlang/test: the same completion, or the same reason
+at the same place. The table says how often each answer came; the exit status is 1 if one was wrong."""
 
 import random
 import subprocess
@@ -19,6 +20,8 @@ sys.dont_write_bytecode = True
 sys.path.insert(0, str(Path(__file__).resolve().parent))
 
 from search import MOST_SILENT, is_stamp, machine, silent_needed  # noqa: E402
+
+import slow_seqtool  # noqa: E402  (search says where it is)
 
 PIDS = [(0, 30), (0, 31), (0, 32)]
 MOST_EVENTS = 6
@@ -153,16 +156,23 @@ def ask(seqtool, words, given):
 def judge(seqtool, streams):
     """What the program says in a few words, and what is wrong with it."""
     given = "".join(f"{line}\n" for line in machine.write(streams, None))
-    (lines, status), needed = ask(seqtool, ["complete"], given), silent_needed(streams)
-    if status == 1 and lines[0].startswith("never "):
-        return lines[0].split(" ")[3], None if needed is None else f"never, and {needed} silent processes make a run"
-    if status != 0 or not lines or not lines[0].startswith("added "):
-        return "no answer", f"status {status}, {lines[:1]}"
+    lines, status = ask(seqtool, ["complete"], given)
+    said, fault = judge_lines(seqtool, streams, given, lines, status)
+    is_same = (lines, status) == slow_seqtool.answer(["complete"], given)
+    return said, fault or (None if is_same else "the slow model says something else")
+
+
+def judge_lines(seqtool, streams, given, lines, status):
+    needed, first = silent_needed(streams), lines[0] if lines else ""
+    if status == 1 and first.startswith("never "):
+        return first.split(" ")[3], None if needed is None else f"never, and {needed} silent processes make a run"
+    if status != 0 or not first.startswith("added "):
+        return "no answer", f"status {status}, {first}"
     unlisted = sum(line.startswith("unlisted ") for line in lines)
     said = f"added, {unlisted} unlisted" if unlisted else "added" if lines != ["added 0"] else "added 0"
     if needed is None and unlisted <= MOST_SILENT:
         return said, "added, and there is no run"
-    text, status = ask(seqtool, ["complete", "--as", "streams"], given)
+    text, _ = ask(seqtool, ["complete", "--as", "streams"], given)
     whole, _ = machine.read("".join(f"{line}\n" for line in text))
     said += f", where {needed} are enough" if needed not in (None, unlisted) else ""
     return said, fault_of(streams, lines, whole)
