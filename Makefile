@@ -80,11 +80,11 @@ BUILT_TOOL = $(firstword $(wildcard $(CURDIR)/crates/seqtool/out/seqtool $(CURDI
 
 # What no proof sees: the built programs on examples/, their statuses and words, random traces beside a slow model, a
 # million acts and events, and faults. Python's seeds are fixed.
-test-program: ## the programs that were built last: examples/, random traces, a million acts, faults (2 minutes)
+test-program: ## the programs that were built last: examples/, random traces, a million acts, faults (3 minutes)
 	@.ci/program $(BUILT)
 	@examples/demo-seqtool $(BUILT_TOOL)
-	@if command -v python3 >/dev/null; then .ci/seqtool $(BUILT_TOOL) && bench/hostile $(BUILT); \
-	else echo "There is no python3 here: seqtool's words and the faults are skipped."; fi
+	@if command -v python3 >/dev/null; then .ci/seqtool $(BUILT_TOOL) && bench/completions/small.py $(BUILT_TOOL) 2000 && bench/hostile --tool $(BUILT_TOOL) $(BUILT); \
+	else echo "There is no python3 here: seqtool's words, its small streams and the faults are skipped."; fi
 
 # Traces of a real Erlang node, if there is one, by the program that was built last.
 test-erlang: ## the tests of erlang/, with the programs that were built last (3 to 5 minutes; needs erl; some need runtime_tools)
@@ -100,7 +100,7 @@ test-conformance: ## compares 200 random scripts with a real node (1 minute; nee
 bench: bin/seqaudit ## times the commands on bundles of 600,000 events, beside plain Rust (5 minutes, after program; needs rustc)
 	bench/run
 
-hostile: bin/seqaudit ## faults, tampered text and inputs at the limits, docs/HOSTILE.md (1 minute, after program)
+hostile: bin/seqaudit bin/seqtool ## faults, tampered text and inputs at the limits, docs/HOSTILE.md (2 minutes, after program)
 	bench/hostile
 
 clean: ## removes what was built; keeps the proofs
