@@ -46,8 +46,7 @@ module _ {R : Type 0} (reader : ReaderCall R) (c : Contents) (h : WasRead standa
   -- ---- complete
 
   pub owes_complete : (f : Form) (out : Output) → CompletesTo f c.streams out → Owes reader (IsCompleted f) out
-  owes_complete f out (Finds found o is final answers) =
+  owes_complete f out (Finds found o is answers) =
       OfBytes h.bytes o h.all
-      (Answered h.bytes c.streams found o
-      (record { given = c.acts; spelled = h.spelled; is = is; ruled_out = final }) answers)
+      (Answered h.bytes c.streams found o (record { given = c.acts; spelled = h.spelled; is = is }) answers)
   owes_complete f out NoRoomToComplete = ForMemory h.bytes h.all h.small

@@ -10,7 +10,7 @@ ghost use Rattle.st_tool.specs.Complete.{IsCompleted, MeansCompleted, MeansNever
 ghost use Rattle.st_tool.specs.Parts.{CompletesTo};
 
 use crate::answer::tell_streams;
-use crate::completion_lines::{send_added, send_never, send_open};
+use crate::completion_lines::{send_added, send_never};
 use crate::lines::OutputLine;
 use st_commands::{status_of, tell_bundle, tell_fault, tell_line};
 use st_complete::{
