@@ -30,15 +30,11 @@ try: bin/quick/seqaudit ## runs the unproved seqaudit: COMMAND=.. FILE=.. (at on
 	@echo 'An unproved run: "make program" proves seqaudit.' >&2
 	@bin/quick/seqaudit $(COMMAND) < $(FILE)
 
-program: ## proves both programs and all below them, and builds them in bin/ (30 to 40 minutes; after an edit less)
+program: ## proves both programs and all below them, and builds them in bin/ (up to 50 minutes; after an edit less)
 	@.ci/prove $(PROGRAMS)
-	@$(MAKE) --no-print-directory $(PROGRAMS:%=bin/%)
 
 bin/%: $(SOURCES)
 	@.ci/prove $*
-	cd crates/$* && rt run -- $$(cat args) < stdin
-	@mkdir -p bin
-	cp crates/$*/out/$* $@
 
 demo: bin/seqaudit bin/seqtool ## runs the proved programs on examples/ and compares what they write (seconds, after program)
 	@examples/demo bin/seqaudit
