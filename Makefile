@@ -40,14 +40,19 @@ demo: bin/seqaudit bin/seqtool ## runs the proved programs on examples/ and comp
 	@examples/demo bin/seqaudit
 	@examples/demo-seqtool bin/seqtool
 
-SHARE = $(DESTDIR)$(PREFIX)/share
+BIN = $(DESTDIR)$(PREFIX)/bin
+MAN = $(DESTDIR)$(PREFIX)/share/man/man1
+BASH_COMPLETIONS = $(DESTDIR)$(PREFIX)/share/bash-completion/completions
+ZSH_COMPLETIONS = $(DESTDIR)$(PREFIX)/share/zsh/site-functions
 
 install: $(PROGRAMS:%=bin/%) ## copies the proved programs, man pages and completions to PREFIX (at once, after program)
-	install -D -t $(DESTDIR)$(PREFIX)/bin $^
-	install -D -m 644 -t $(SHARE)/man/man1 man/seqaudit.1 man/seqtool.1
-	install -D -m 644 completions/seqtool.bash $(SHARE)/bash-completion/completions/seqtool
-	install -D -m 644 completions/seqtool.bash $(SHARE)/bash-completion/completions/seqaudit
-	install -D -m 644 -t $(SHARE)/zsh/site-functions completions/_seqtool
+	install -D -t $(BIN) $^
+	install -D -m 644 -t $(MAN) $(PROGRAMS:%=man/%.1)
+	for program in $(PROGRAMS); do install -D -m 644 completions/seqtool.bash $(BASH_COMPLETIONS)/$$program || exit; done
+	install -D -m 644 -t $(ZSH_COMPLETIONS) completions/_seqtool
+
+uninstall: ## removes from PREFIX what install copied there (at once)
+	rm -f $(PROGRAMS:%=$(BIN)/%) $(PROGRAMS:%=$(MAN)/%.1) $(PROGRAMS:%=$(BASH_COMPLETIONS)/%) $(ZSH_COMPLETIONS)/_seqtool
 
 test: layout layers docs ## the merge gate: all proofs from nothing, the wrong bodies of must-fail/, the tests (more than an hour on four processors)
 	rt ci
