@@ -9,23 +9,27 @@ FILE ?= examples/collected.txt
 
 # What a program is made of, and what of it runs.
 SOURCES := crates.txt $(shell find crates -path '*/out' -prune -o -type f -print)
-CODE := crates.txt $(filter %.rt,$(SOURCES))
+CODE := crates.txt .ci/quick .ci/quick-clang $(filter %.rt,$(SOURCES))
 
-.PHONY: help quick try program demo install test wrong-bodies layout layers docs test-program test-erlang test-conformance bench hostile clean distclean
+.PHONY: help quick try program demo install uninstall test wrong-bodies layout layers docs test-program test-erlang test-conformance bench hostile clean distclean
 .DELETE_ON_ERROR:
 
 help:
 	@awk -F ':.*## ' '/^[a-z-]+:.*## / { printf "make %-18s%s\n", $$1, $$2 }' $(MAKEFILE_LIST)
 
-quick: $(PROGRAMS:%=bin/quick/%) ## builds both programs without proofs, slow ones for small traces, in bin/quick/ (1 to 2 minutes)
+# A build takes one processor, and up to 2 GB.
+QUICK_AT_ONCE = $(shell awk '/^MemAvailable/ { print ($$2 < 5000000 ? 1 : 2) }' /proc/meminfo)
+
+quick: ## builds both programs without their proofs, in bin/quick/ (2 to 3 minutes)
+	@$(MAKE) --no-print-directory -j$(QUICK_AT_ONCE) $(PROGRAMS:%=bin/quick/%)
 
 bin/quick/%: $(CODE)
-	@echo "$* is built without its proofs, in about a minute." >&2
+	@echo "$* is built without its proofs, in 2 to 3 minutes." >&2
 	@.ci/quick $* $@
 
 # What isn't the program's output goes to standard error. If the program fails, make says `Error` and the program's exit
 # status, and ends with 2 itself, as it always does; the command that is printed ends with the program's.
-try: bin/quick/seqaudit ## runs the unproved seqaudit: COMMAND=.. FILE=.. (at once; 1 minute the first time)
+try: bin/quick/seqaudit ## runs the unproved seqaudit: COMMAND=.. FILE=.. (at once; 2 minutes the first time)
 	@echo 'bin/quick/seqaudit $(COMMAND) < $(FILE)' >&2
 	@echo 'An unproved run: "make program" proves seqaudit.' >&2
 	@bin/quick/seqaudit $(COMMAND) < $(FILE)
