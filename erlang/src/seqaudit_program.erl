@@ -133,8 +133,8 @@ format_error({cut, Program}) ->
 format_error({missing, Name, Program}) ->
     text("there is no ~ts, which the variable ~ts names", [Program, string:uppercase(Name)]);
 format_error({no_program, Name, Beside}) ->
-    text("there is no ~ts on the path, nor at ~ts; `make quick' in the repository builds it unproved in a minute "
-         "or two, and `make program' proved; or say where it is in the variable ~ts",
+    text("there is no ~ts on the path, nor at ~ts; `make quick' in the repository builds it unproved in two "
+         "or three minutes, and `make program' proved; or say where it is in the variable ~ts",
          [Name, lists:join(" or ", Beside), string:uppercase(Name)]);
 format_error({file, File, Reason}) ->
     seqaudit_errors:unread(File, Reason).
