@@ -90,7 +90,8 @@ impl Ground {
         (row.0 == count).then_some(row.1)
     }
 
-    /// The first gap right behind a receive of this count, among those past a gap and up to a limit.
+    /// The first gap right behind a receive of this count, among those past a gap and up to a
+    /// limit.
     pub(crate) fn next_behind(&self, count: u64, gap: usize, limit: usize) -> Option<usize> {
         let rows = self.by_count.partition_point(|row| *row <= (count, gap));
         let row = self.by_count.get(rows)?;

@@ -1,11 +1,11 @@
 //! Where hidden sends stand among the events of their processes.
 //!
-//! A hidden send stands somewhere between the two reported stamps of its sender whose counts are the
-//! nearest, before the first receive that doesn't count lower. Which receives of this stretch it
-//! stands behind decides what its prev costs. It costs nothing if the machine could have stamped it
-//! there by what is known: what stands before it leaves its prev, or a new trace began, since its
-//! prev isn't below the clock (the greatest count so far). Else a message must be added that gives
-//! the prev.
+//! A hidden send stands somewhere between the two reported stamps of its sender whose counts are
+//! the nearest, before the first receive that doesn't count lower. Which receives of this stretch
+//! it stands behind decides what its prev costs. It costs nothing if the machine could have stamped
+//! it there by what is known: what stands before it leaves its prev, or a new trace began, since
+//! its prev isn't below the clock (the greatest count so far). Else a message must be added that
+//! gives the prev.
 //!
 //! The places are found by two walks over each stretch, back and then forth. If all receives were
 //! reported, nothing has to be added: in the run that happened each stamp cost nothing. The walk
@@ -42,8 +42,8 @@ enum Next {
 }
 
 impl Next {
-    /// Its last place, if this is the last gap from which it can cost nothing for one reason. A
-    /// hidden send may move back to that gap, but the reported stamp has one place, the last gap.
+    /// Whether what comes next may stand at this gap, which isn't past its last place, the limit. A
+    /// hidden send may move back to it, but the reported stamp has one place, its limit.
     fn may_stand_at(self, gap: usize, limit: usize) -> bool {
         match self {
             Next::Nothing => false,
@@ -63,12 +63,14 @@ impl Next {
         if prev == send.prev {
             return limit;
         }
-        // A receive between the two may leave the prev: the send stands before that receive.
+        // What comes next costs nothing right behind a receive of its prev: then the send stands
+        // before that receive.
         let received = match ground.last_behind(prev, limit) {
             Some(gap) if self.may_stand_at(gap, limit) => Some(gap.saturating_sub(1)),
             _ => None,
         };
-        // Or a trace begins behind the send, while the clock isn't above the prev.
+        // It also costs nothing if a trace can begin behind the send, while the clock isn't above
+        // the prev. Of the two gaps the later one serves.
         if prev < send.this.max(ground.clock(0)) {
             return received.unwrap_or(limit);
         }
@@ -81,8 +83,8 @@ impl Next {
 }
 
 /// The walk back: gives each send its last place, the last gap from which what comes next in the
-/// stretch can still cost nothing. If that isn't to be had at any gap, the send's last place is that
-/// of what comes next. No place is behind a receive that doesn't count lower than the send.
+/// stretch can still cost nothing. If there is no such gap, the send's last place is that of what
+/// comes next. No place is behind a receive that doesn't count lower than the send.
 fn walk_back(ground: &Ground, stretch: Stretch<'_>, steps: &mut [Step]) {
     let mut limit = ground.end();
     let mut next = match stretch.stamp {

@@ -18,9 +18,10 @@ use Rattle.st_tool.specs.Complete.{never_words, other_line, place_line, unlisted
 
 pub added_some : (c : Completed) → 0 < length (added_text c)
 added_some c =
-    front_some (count_line (added_in c.wholes)) (flat_map unlisted_line c.unlisted
-    ++ flat_map (added_of c.wholes) (pids_of (all_streams c.wholes)))
-    (line_some (codes "added " ++ decimal (added_in c.wholes)))
+    let first = count_line (added_in c.wholes) in
+    let second = flat_map unlisted_line c.unlisted in
+    front_some (first ++ second) (flat_map (added_of c.wholes) (pids_of (all_streams c.wholes)))
+    (front_some first second (line_some (codes "added " ++ decimal (added_in c.wholes))))
 
 pub never_some : (streams : List Stream) (p : Pid) (i : ℕ) (r : Never) → 0 < length (never_text streams p i r)
 never_some streams p i r =

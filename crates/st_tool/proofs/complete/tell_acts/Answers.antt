@@ -1,13 +1,13 @@
 -- Without an unlisted process the streams stay as they are; running out of memory has a line of its own.
-use Rattle.std.proofs.Common.{refl, sym, ◌∙◌, ap}
 use Rattle.st_commands.specs.Output.{no_memory}
-use Rattle.st_open.specs.Silent.{with_silent}
 use Rattle.st_tool.specs.Parts.{NoRoomToComplete}
 use Rattle.st_tool.proofs.Completions.{as_they_are}
 use Rattle.st_tool.proofs.complete.tell_acts.Goals as goal
 
 pub tell_shown-requires-clause-more : goal.tell_shown-requires-clause-more
-tell_shown-requires-clause-more g c = ?
+tell_shown-requires-clause-more g c =
+    λ lives within. as_they_are c.args.streams.now c.args.completion.now.unlisted
+    (rw c.unlisted-unlisted.ensures at c.if-unlisted-eq0.true)
 
 pub returns-in-Err : goal.returns-in-Err
 returns-in-Err g c = record { output = no_memory; owed = NoRoomToComplete; delivered = c.tell_fault.ensures }

@@ -1,5 +1,5 @@
 -- The acts show the streams with their unlisted processes; running out of memory has a line of its own.
-use Rattle.std.proofs.Common.{List, refl, sym, ap, subst}
+use Rattle.std.proofs.Common.{List, refl, subst}
 use Rattle.st_core.specs.Run.{Shows, Stream}
 use Rattle.st_commands.specs.Output.{no_memory, bundled}
 use Rattle.st_commands.specs.Checked.{top}
