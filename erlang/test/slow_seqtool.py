@@ -1,9 +1,9 @@
 #!/usr/bin/env python3
 """A slow seqtool: a test model, made by the rules (crates/st_completions/README.md) and not by the program.
 
-    slow_seqtool.py renumber | complete [--as added|streams|acts]    [FILE]
+    slow_seqtool.py renumber | why PID I | complete [--as added|streams|acts]    [FILE]
 
-`renumber` writes what the program writes, and `complete` too, but for what differs on purpose:
+`renumber` and `why` write what the program writes, and `complete` too, but for what differs on purpose:
 
 - A completion that adds events may be another one, with other places of hidden sends and other senders of invented
   messages. Its acts are others.
@@ -14,6 +14,7 @@
   `fault line N`, and may not be seen if it is in the acts or a limit. There are no other commands.
 """
 
+import re
 import signal
 import sys
 from collections import defaultdict
@@ -21,6 +22,7 @@ from dataclasses import dataclass, replace
 from itertools import islice, product
 
 import slow_seqaudit as model
+import slow_why
 from slow_seqaudit import Event, NotABundle, Unfit, show
 
 MOST_ACTS = 4_000_000
@@ -47,6 +49,10 @@ class Reason(Exception):
 
 class Long(Exception):
     """There are more acts than the reader takes."""
+
+
+class NoEvent(Exception):
+    """There is no event at this place."""
 
 
 def renumbered(streams):
@@ -377,11 +383,25 @@ def acts(whole):
 
 # What is written
 
+# A pid as a command's word, with its angle brackets or without.
+PID = re.compile(r"<?(\d+)\.(\d+)\.0>?")
+
+
+def pid_of(word):
+    found = PID.fullmatch(word)
+    return int(found[1]), int(found[2])
+
+
 def written(words, streams):
     """The lines of a command."""
     match words:
         case ["renumber"]:
             return list(model.write(renumbered(streams), None))
+        case ["why", pid, index]:
+            lines = slow_why.why(streams, (pid_of(pid), int(index)), model.TOP, False)
+            if lines is None:
+                raise NoEvent(f"no event {show(pid_of(pid))} {index}")
+            return lines
         case ["complete"] | ["complete", "--as", "added"]:
             lines = [f"added {show(pid)} {k} {item.event}" for pid, items in completed(streams).items()
                      for k, item in enumerate(items) if not item.told]
@@ -414,6 +434,8 @@ def answer(words, text):
         return [f"fault line {fault}"], 2
     except Long:
         return ["long"], 5
+    except NoEvent as none:
+        return [str(none)], 1
     except (Unfit, Reason) as unfit:
         return list(report(streams, unfit)), 1
 
@@ -423,6 +445,8 @@ def asked(words):
     match words:
         case ["renumber" | "complete" as command, *rest] if len(rest) < 2:
             return [command], *rest
+        case ["why", pid, index, *rest] if len(rest) < 2 and PID.fullmatch(pid) and index.isdecimal():
+            return ["why", pid, index], *rest
         case ["complete", "--as", "added" | "streams" | "acts" as form, *rest] if len(rest) < 2:
             return ["complete", "--as", form], *rest
         case _:
@@ -440,7 +464,7 @@ def main():
     signal.signal(signal.SIGPIPE, signal.SIG_DFL)
     words = asked(sys.argv[1:])
     if words is None:
-        print("usage: slow_seqtool.py renumber | complete [--as added|streams|acts]    [FILE]", file=sys.stderr)
+        print("usage: slow_seqtool.py renumber | why PID I | complete [--as added|streams|acts]    [FILE]", file=sys.stderr)
         sys.exit(3)
     command, *file = words
     try:

@@ -1,5 +1,4 @@
 -- The lemmas.
 pub mod Deliveries
 pub mod Rooms
-pub mod Backs
 pub mod Completions
