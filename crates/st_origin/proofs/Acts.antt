@@ -1,7 +1,7 @@
 -- An act changes its actor's last only by what it gives, a receive of a token to the token's count and a set on no
 -- token to the clock, and what it reports goes with that.
-use Rattle.std.proofs.Common.{◌≡◌, ◌≢◌, ℕ, ◌+◌, ◌<◌, ◌≤◌, ◌&&◌, max, Bool, true, false, cond, nat_lt, List, ◌∷◌}
-use Rattle.std.proofs.Common.{◌++◌, Option, Some, None, is_some, option_map, option_and_then, refl, sym, ◌∙◌, ap}
+use Rattle.std.proofs.Common.{◌≡◌, ◌≢◌, ℕ, ◌+◌, ◌<◌, ◌≤◌, ◌&&◌, max, Bool, true, false, cond, nat_lt, ◌∷◌}
+use Rattle.std.proofs.Common.{◌++◌, Option, Some, None, is_some, option_map, refl, sym}
 use Rattle.std.proofs.Common.{subst, arith, []}
 use Rattle.std.specs.Prelude.{is_none}
 use Rattle.std.specs.Option.{ForSome, option_map_or}
@@ -22,7 +22,7 @@ use Rattle.st_core.specs.declared.types.Want.{Want}
 use Rattle.st_core.specs.Pid.{pid_eq, node_eq}
 use Rattle.st_core.specs.State.{LocalState, Process}
 use Rattle.st_core.specs.Stamp.{stamp, stamp_any, stamped_token}
-use Rattle.st_core.specs.Local.{received, default_token, has_label, with_component}
+use Rattle.st_core.specs.Local.{default_token, has_label, with_component}
 use Rattle.st_core.specs.Pick.{pick}
 use Rattle.st_core.specs.Report.{flag_of, report}
 use Rattle.st_core.specs.Step.{Acted, acted, actor, answers, sends, prints, receives, reached, changed}

@@ -1,7 +1,7 @@
 -- What events tell of a stamp's origin is true, by the account of its process: the row goes back to the origin's act at
 -- least, and no further than a receive that was reported.
 use Rattle.std.proofs.Common.{◌≡◌, ◌≢◌, ℕ, ◌+◌, ◌<◌, ◌≤◌, ◌⊎◌, ◌==◌, zero, suc, Bool, true, false, cond, List, [], ◌∷◌}
-use Rattle.std.proofs.Common.{◌++◌, length, take, drop, Option, Some, None, IsSome, option_and_then, option_to_list, inl}
+use Rattle.std.proofs.Common.{◌++◌, length, take, drop, Option, Some, None, option_and_then, option_to_list, inl}
 use Rattle.std.proofs.Common.{inr, refl, sym, ◌∙◌, ap, subst, arith, append_assoc}
 use Rattle.std.specs.Prelude.{is_none, MatchOption}
 use Rattle.std.specs.List.{slice_get}
@@ -23,7 +23,7 @@ use Rattle.st_core.proofs.ForCallers.{followed_sends_lift, lifted_once, reported
 use Rattle.st_origin.specs.declared.told.Told.{Told}
 use Rattle.st_origin.specs.declared.told.Told.TheVariants as what
 use Rattle.st_origin.specs.Origin.{Origin, Follows, Begins, given, given_by, given_to, origin, ReportsReceives, state_before}
-use Rattle.st_origin.specs.Events.{has_above, is_receive, received_before, row_start, told, told_by}
+use Rattle.st_origin.specs.Events.{has_above, received_before, row_start, told, told_by}
 use Rattle.st_origin.specs.Truth.{BeginsAfter, FollowsEvent, FollowsUnreported, IsBeginning, IsTrue, IsTrueIfReported}
 use Rattle.st_origin.specs.Truth.{IsUnreported, last_receive, NeverBeginsAgain}
 use Rattle.st_origin.proofs.Rows.{AreInRow, event_behind, front_not_above, IsRowBetween, last_earlier, last_is, last_passes}
@@ -159,7 +159,7 @@ module _ (acts : List Act) (os : List Outcome) (p : Pid) where
       subst (λ k. k ≤ length before) (sym start) (row_start_within prev all_events (length before)) in (
         within,
         subst (λ xs. greatest_count (take (row_start prev all_events i) xs) ≤ prev) (sym split.whole)
-        (front_not_above prev (row_start prev all_events i) before split.rest within a.below),
+            (front_not_above prev (row_start prev all_events i) before split.rest within a.below),
       )
 
   begun_true : (prev i n m : ℕ) → length (front acts os p n) ≡ i → OfBeginning acts os p m prev (front acts os p n)

@@ -1,6 +1,6 @@
 -- What the events of one process tell of the origin of its send or print at an index.
-use Rattle.std.specs.Prelude.{ℕ, ◌==◌, ◌&&◌, zero, suc, nat_lt, max, Bool, true, false, not, List}
-use Rattle.std.specs.Prelude.{[], ◌∷◌, Option, Some, None, if◌then◌else◌, slice_get, take}
+use Rattle.std.specs.Prelude.{ℕ, ◌==◌, ◌&&◌, zero, suc, nat_lt, Bool, true, false, not, List}
+use Rattle.std.specs.Prelude.{Option, Some, None, if◌then◌else◌, slice_get, take}
 use Rattle.st_core.specs.declared.types.Kind.TheVariants as kind
 use Rattle.st_core.specs.declared.types.Event.{Event}
 use Rattle.st_core.specs.Laws.{greatest_count}

@@ -136,13 +136,7 @@ fn hop_to_send(source: Option<Source>) -> Hop
 
 /// What a process's events tell of its send or print with this prev, which is the event at this
 /// index.
-fn told(
-    streams: &Streams,
-    greatest: &[Sequence<u64>],
-    pid: Pid,
-    index: usize,
-    prev: u64,
-) -> Told
+fn told(streams: &Streams, greatest: &[Sequence<u64>], pid: Pid, index: usize, prev: u64) -> Told
     requires sound { IsStreams streams.now }
     requires kept { greatest.now ≡ all_greatest streams.now }
     requires within { index ≤ length (events_of streams.now pid) }

@@ -16,13 +16,7 @@ fn next_of(across: bool, pid: Pid, hop: Hop) -> Option<(Pid, u64)>
     match hop {
         Hop::Sent(from, index) => Some((from, index)),
         Hop::After(index) | Hop::AfterOneLabel(index) => Some((pid, index)),
-        Hop::OtherLabel(index, _) => {
-            if across {
-                Some((pid, index))
-            } else {
-                None
-            }
-        }
+        Hop::OtherLabel(index, _) => { if across { Some((pid, index)) } else { None } }
         Hop::Unsent | Hop::Begins | Hop::BeginsOrUnreported => None,
     }
 }

@@ -39,7 +39,8 @@ pub(crate) const RENUMBER_EXAMPLE: &str =
 
 If what it writes has a run without a reset, so has the given trace.";
 
-pub(crate) const WHY: &str = "Shows what an event follows, and that, back to where its label begins";
+pub(crate) const WHY: &str =
+    "Shows what an event follows, and that, back to where its label begins";
 
 pub(crate) const WHY_EXAMPLE: &str = "Example:
   seqtool why 0.31.0 1 trace.txt
