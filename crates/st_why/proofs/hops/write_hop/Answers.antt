@@ -1,5 +1,5 @@
 -- Room is made for the head of the line, and then for the rest.
-use Rattle.std.proofs.Common.{[], ◌≡◌}
+use Rattle.std.proofs.Common.{[]}
 use Rattle.st_text.specs.Spelling.{ended_line}
 use Rattle.st_text.proofs.ForCallers.{goes_then, then_on, on_err, part_longer, goes_buffer}
 use Rattle.st_why.specs.Hops.{hop_of}

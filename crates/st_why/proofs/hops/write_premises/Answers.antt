@@ -1,7 +1,7 @@
 -- Room is made first, and the line then waits in the buffer.
-use Rattle.std.proofs.Common.{[], ◌≡◌, ◌++◌, ◌∙◌, ap, List, ℕ, append_assoc, codes}
+use Rattle.std.proofs.Common.{[]}
 use Rattle.st_text.specs.Spelling.{ended_line}
-use Rattle.st_text.proofs.ForCallers.{part_longer, goes_then, goes_buffer, on_err}
+use Rattle.st_text.proofs.ForCallers.{part_longer, on_err}
 use Rattle.st_why.specs.Words.{premises}
 use Rattle.st_why.proofs.hops.write_premises.Goals as goal
 

@@ -1,5 +1,4 @@
 -- The lines are those of the way; running out of memory has a line of its own.
-use Rattle.std.proofs.Common.{Some, refl}
 use Rattle.st_commands.specs.Output.{no_memory}
 use Rattle.st_commands.specs.Command.{call}
 use Rattle.st_commands.proofs.ForCallers.{delivers}
