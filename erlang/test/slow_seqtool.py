@@ -1,7 +1,7 @@
 #!/usr/bin/env python3
 """A slow seqtool: a test model, made by the rules (docs/COMPLETIONS.md) and not by the program.
 
-    slow_seqtool.py renumber | complete [--as added|streams|acts]    [FILE]
+    slow_seqtool.py renumber | why PID I | complete [--as added|streams|acts]    [FILE]
 
 It writes what the program writes, but for what differs on purpose:
 
@@ -11,6 +11,7 @@ It writes what the program writes, but for what differs on purpose:
   commands.
 """
 
+import re
 import signal
 import sys
 from bisect import bisect_left, bisect_right
@@ -19,6 +20,7 @@ from dataclasses import dataclass, replace
 from itertools import islice, product, takewhile
 
 import slow_seqaudit as model
+import slow_why
 from slow_seqaudit import Event, NotABundle, Unfit, show
 
 MOST_PROCESSES = 16_000
@@ -43,6 +45,10 @@ class Reason(Exception):
 
 class Long(Exception):
     """There are more processes or acts than the reader of `seqtool check` takes."""
+
+
+class NoEvent(Exception):
+    """There is no event at this place."""
 
 
 def renumbered(streams):
@@ -349,10 +355,25 @@ def acts(whole):
 
 # What is written
 
+# A pid as a command's word, with its angle brackets or without.
+PID = re.compile(r"<?(\d+)\.(\d+)\.0>?")
+
+
+def pid_of(word):
+    found = PID.fullmatch(word)
+    return int(found[1]), int(found[2])
+
+
 def written(words, streams):
     """The lines of a command."""
-    if words == ["renumber"]:
-        return list(model.write(renumbered(streams), None))
+    match words:
+        case ["renumber"]:
+            return list(model.write(renumbered(streams), None))
+        case ["why", pid, index]:
+            lines = slow_why.why(streams, (pid_of(pid), int(index)), model.TOP, False)
+            if lines is None:
+                raise NoEvent(f"no event {show(pid_of(pid))} {index}")
+            return lines
     whole = completed(streams)
     if words[1:] not in ([], ["--as", "added"]) and len(whole) > MOST_PROCESSES:
         raise Long
@@ -384,6 +405,8 @@ def answer(words, text):
         return [f"fault line {fault}"], 2
     except Long:
         return ["long"], 5
+    except NoEvent as none:
+        return [str(none)], 1
     except (Unfit, Reason) as unfit:
         return list(report(streams, unfit)), 1
 
@@ -393,6 +416,8 @@ def asked(words):
     match words:
         case ["renumber" | "complete" as command, *rest] if len(rest) < 2:
             return [command], *rest
+        case ["why", pid, index, *rest] if len(rest) < 2 and PID.fullmatch(pid) and index.isdecimal():
+            return ["why", pid, index], *rest
         case ["complete", "--as", "added" | "streams" | "acts" as form, *rest] if len(rest) < 2:
             return ["complete", "--as", form], *rest
         case _:
@@ -410,7 +435,7 @@ def main():
     signal.signal(signal.SIGPIPE, signal.SIG_DFL)
     words = asked(sys.argv[1:])
     if words is None:
-        print("usage: slow_seqtool.py renumber | complete [--as added|streams|acts]    [FILE]", file=sys.stderr)
+        print("usage: slow_seqtool.py renumber | why PID I | complete [--as added|streams|acts]    [FILE]", file=sys.stderr)
         sys.exit(3)
     command, *file = words
     try:

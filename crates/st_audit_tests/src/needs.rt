@@ -152,9 +152,7 @@ fn own_receives(
 }
 
 #[test]
-fn a_hidden_send_that_lacks_a_message_gets_it_from_another(
-    rt: HostRuntime,
-) -> Result<(), Fail> {
+fn a_hidden_send_that_lacks_a_message_gets_it_from_another(rt: HostRuntime) -> Result<(), Fail> {
     let streams = own_receives(rt.alloc(), &[(0, 1), (0, 2)], &[(1, 3)])?;
     let Answer::Whole(completion) = complete::<MOST>(rt.alloc(), &streams)? else {
         panic!(rt; "not completed");

@@ -26,6 +26,7 @@ const TOP: u64 = u64::MAX;
 
 /// The most acts and processes that the reader of the greater limits takes.
 const MOST_ACTS: u64 = 64_000_000;
+
 const MOST_PROCESSES: usize = 16_000;
 
 /// How a completion is written.

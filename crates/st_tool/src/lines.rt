@@ -17,8 +17,6 @@ use st_text::{Buffer, TextLine, put_bytes, put_numbered, put_pid};
 /// A line that stands alone.
 #[derive(Clone, Copy, Debug)]
 pub(crate) enum OutputLine {
-    /// There is no event at this place.
-    NoEvent(Pid, u64),
     /// The input has no acts.
     NoActs,
     /// The acts, or the processes, are more than the reader takes.
@@ -84,7 +82,6 @@ impl TextLine for OutputLine {
 
     fn put_words(self, buffer: &mut Buffer) {
         match self {
-            OutputLine::NoEvent(pid, index) => put_other(buffer, b"no event ", pid, index),
             OutputLine::NoActs => put_bytes(buffer, b"fault no acts"),
             OutputLine::Long => put_bytes(buffer, b"long"),
             OutputLine::Added(count) => put_numbered(buffer, b"added ", count),
