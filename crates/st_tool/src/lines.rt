@@ -21,6 +21,8 @@ pub(crate) enum OutputLine {
     NoActs,
     /// The acts, or the processes, are more than the reader takes.
     Long,
+    /// `seqaudit` doesn't read so much.
+    ForSeqtool,
     /// So many events were added.
     Added(u64),
     /// Why the event at this place rules out a run without a reset.
@@ -84,6 +86,12 @@ impl TextLine for OutputLine {
         match self {
             OutputLine::NoActs => put_bytes(buffer, b"fault no acts"),
             OutputLine::Long => put_bytes(buffer, b"long"),
+            OutputLine::ForSeqtool => {
+                put_bytes(
+                    buffer,
+                    b"note: seqaudit doesn't read so much; seqtool check does",
+                )
+            }
             OutputLine::Added(count) => put_numbered(buffer, b"added ", count),
             OutputLine::Never(pid, index, never) => put_never(buffer, pid, index, never),
             OutputLine::Unlisted(pid) => put_unlisted(buffer, pid),
