@@ -19,7 +19,6 @@ ghost use Rattle.st_chain.specs.Labels.{chain};
 use crate::cause::Cause;
 use crate::chain::Chain;
 use crate::label_table::{ChainKey, LabelTable};
-
 use st_core::{Event, Kind, Label, Pid, Sequence, Streams};
 use st_pair::{Pairing, Source};
 use std::alloc::{AllocError, Global};
