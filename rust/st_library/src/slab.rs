@@ -3,7 +3,8 @@
 use crate::alloc::{AllocError, AllocFailed, Global};
 use std::ops::{Index, IndexMut};
 
-/// Values under keys. Theirs gives the same keys; but here growth ends the program if memory runs out.
+/// Values under keys, the same as theirs. Rust's slab ends the program if memory runs out as it grows. So before it does, room
+/// for what is added is asked for and given back: what could never be had is an error, as with theirs.
 #[derive(Debug)]
 pub struct Slab<T> {
     inner: ::slab::Slab<T>,
@@ -27,13 +28,19 @@ impl<T> Slab<T> {
 
     /// See `Slab`.
     pub fn reserve(&mut self, more: usize) -> Result<(), AllocError> {
-        self.inner.reserve(more);
+        if more > self.inner.capacity() - self.inner.len() {
+            std::vec::Vec::<(usize, T)>::new().try_reserve(more)?;
+            self.inner.reserve(more);
+        }
         Ok(())
     }
 
     /// See `Slab`.
     pub fn insert(&mut self, value: T) -> Result<usize, AllocFailed<T>> {
-        Ok(self.inner.insert(value))
+        match self.reserve(1) {
+            Ok(()) => Ok(self.inner.insert(value)),
+            Err(AllocError) => Err(AllocFailed { value }),
+        }
     }
 
     /// Theirs takes only a slab that has room; here one without grows.
