@@ -45,7 +45,7 @@ demo: bin/seqaudit bin/seqtool ## runs the proved programs on examples/ and comp
 	@examples/demo-seqtool bin/seqtool
 
 # The sources without their contracts, as cargo builds them: rust/README.md.
-rust: ## writes both programs as plain Rust, not proved, and builds them in bin/rust/ (1 minute; needs cargo and Python)
+rust: ## writes both programs as plain Rust, not proved, and builds them in bin/rust/ (1 to 2 minutes; needs cargo and Python)
 	@rust/build bin/rust
 
 dist: ## packs the same with docs, man pages and erlang/ as bin/gemshowal-VERSION.tar.gz (at once)
