@@ -11,7 +11,7 @@ FILE ?= examples/collected.txt
 SOURCES := crates.txt $(shell find crates -path '*/out' -prune -o -type f -print)
 CODE := crates.txt .ci/quick .ci/quick-clang $(filter %.rt,$(SOURCES))
 
-.PHONY: help quick try program demo install uninstall test wrong-bodies layout layers docs test-program test-erlang test-conformance bench hostile clean distclean
+.PHONY: help quick try program demo install uninstall test wrong-bodies layout layers docs test-program test-erlang test-conformance test-rust rust dist bench hostile clean distclean
 .DELETE_ON_ERROR:
 
 help:
@@ -44,6 +44,13 @@ demo: bin/seqaudit bin/seqtool ## runs the proved programs on examples/ and comp
 	@examples/demo bin/seqaudit
 	@examples/demo-seqtool bin/seqtool
 
+# The sources without their contracts, as cargo builds them: rust/README.md.
+rust: ## writes both programs as plain Rust, not proved, and builds them in bin/rust/ (1 to 2 minutes; needs cargo and Python)
+	@rust/build bin/rust
+
+dist: ## packs the same with docs, man pages and erlang/ as bin/gemshowal-VERSION.tar.gz (at once)
+	@rust/dist
+
 BIN = $(DESTDIR)$(PREFIX)/bin
 MAN = $(DESTDIR)$(PREFIX)/share/man/man1
 BASH_COMPLETIONS = $(DESTDIR)$(PREFIX)/share/bash-completion/completions
@@ -63,6 +70,7 @@ test: layout layers docs ## the merge gate: all proofs from nothing, the wrong b
 	@$(MAKE) --no-print-directory test-program
 	@$(MAKE) --no-print-directory test-erlang
 	@$(MAKE) --no-print-directory test-conformance
+	@$(MAKE) --no-print-directory test-rust
 
 # The gate tries the wrong bodies that tell most, since each takes a check of its own.
 wrong-bodies: ## tries all wrong bodies, many in one check (an hour or more, after program)
@@ -101,6 +109,11 @@ test-conformance: ## compares 200 random scripts with a real node (1 minute; nee
 	@if command -v erl >/dev/null && command -v python3 >/dev/null; then \
 	SEQAUDIT=$(BUILT) $(MAKE) --no-print-directory -C erlang conformance conformance-broken RUNS=200; \
 	else echo "There is no erl or no python3 here: the comparison with a real node is skipped."; fi
+
+# What `make rust` builds, beside the programs that were built last.
+test-rust: ## plain Rust: its own tests, and each output beside the programs' (3 to 4 minutes; needs cargo and Python)
+	@if command -v python3 >/dev/null; then rust/test $(BUILT) $(BUILT_TOOL); \
+	else echo "There is no python3 here: the plain Rust is skipped."; fi
 
 bench: bin/seqaudit ## times the commands on bundles of 600,000 events, beside plain Rust (5 minutes, after program; needs rustc)
 	bench/run

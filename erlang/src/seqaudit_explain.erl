@@ -137,8 +137,8 @@ details(#{finding := {Reason, Found}} = Outcome, Legend) ->
 tool(there) ->
     "";
 tool(not_there) ->
-    "seqtool would say what the trace lacks, but it isn't there: `make program' builds it (`make quick' "
-    "unproved), and the variable SEQTOOL says where it is.\n";
+    "seqtool would say what the trace lacks, but it isn't there: `make program' builds it (`make rust' "
+    "as plain Rust, not proved), and the variable SEQTOOL says where it is.\n";
 tool({failed, Fault}) ->
     format("seqtool can't say what the trace lacks: ~ts~n", [Fault]).
 

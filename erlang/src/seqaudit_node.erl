@@ -65,11 +65,10 @@ commands() ->
 
 %% The commands on a collected trace are in a module of their own.
 answer(Command, Options) ->
-    case seqaudit_program:unproved() of
-        [] -> ok;
-        Unproved -> complain("built without proofs: ~ts; `make program' builds what is proved",
-                             [lists:join(" and ", Unproved)])
-    end,
+    Unproved = seqaudit_program:unproved(),
+    [complain("~ts: ~ts; `make program' builds what is proved",
+              [What, lists:join(" and ", [File || {Is, File} <- Unproved, Is =:= What])])
+     || What <- lists:usort([What || {What, _} <- Unproved])],
     case Command(Options) of
         {usage, Text} -> {usage, Text};
         {Status, Complaint} -> failed(Status, Complaint);

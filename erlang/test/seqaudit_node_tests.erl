@@ -91,15 +91,20 @@ audit_and_chart_test_() ->
         end
     end}.
 
-%% What `make quick' built isn't proved, and is named.
+%% What `make rust' and `make quick' built isn't proved, and is named.
 unproved_test() ->
-    File = filename:join([filename:dirname(seqaudit_audits:file("x")), "bin", "quick", "seqaudit"]),
+    "plain Rust, not proved" = what_is_said_of("rust"),
+    "built without proofs" = what_is_said_of("quick").
+
+what_is_said_of(Folder) ->
+    File = filename:join([filename:dirname(seqaudit_audits:file("x")), "bin", Folder, "seqaudit"]),
     ok = filelib:ensure_dir(File),
     ok = file:write_file(File, <<>>),
     Before = os:getenv("SEQAUDIT"),
     true = os:putenv("SEQAUDIT", File),
     try
-        [File] = [Program || Program <- seqaudit_program:unproved(), filename:basename(Program) =:= "seqaudit"]
+        [What] = [Is || {Is, Program} <- seqaudit_program:unproved(), Program =:= File],
+        What
     after
         case Before of
             false -> os:unsetenv("SEQAUDIT");
