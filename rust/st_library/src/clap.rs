@@ -9,7 +9,7 @@ use ::clap::builder::{PossibleValuesParser, RangedI64ValueParser, RangedU64Value
 use std::any::Any;
 use std::marker::PhantomData;
 
-pub use ::clap::value_parser;
+pub use ::clap::{ArgAction, value_parser};
 
 /// What the version says behind its number: these programs have the proved sources, and aren't the proved programs.
 const NOT_PROVED: &str = "(plain Rust, not proved)";
@@ -131,6 +131,11 @@ impl<'a> Arg<'a> {
     }
 
     /// As theirs.
+    pub fn action(self, action: ArgAction) -> Arg<'a> {
+        self.with(|arg| arg.action(action))
+    }
+
+    /// As theirs.
     pub fn default_value(self, text: &'a str) -> Arg<'a> {
         self.with(|arg| arg.default_value(text.to_string()))
     }
@@ -235,6 +240,11 @@ impl<'a> ArgMatches<'a> {
     /// An argument's value. Theirs parses the text again, and this copies what was parsed.
     pub fn get_one<T: Any + Clone + Send + Sync>(&self, id: &str) -> Option<T> {
         self.inner.try_get_one::<T>(id).ok().flatten().cloned()
+    }
+
+    /// Whether an argument without a value was given. As theirs.
+    pub fn get_flag(&self, id: &str) -> bool {
+        self.get_one::<bool>(id).unwrap_or(false)
     }
 
     /// An argument's text. Theirs borrows it from the words; here it is a copy that stays until the program ends.

@@ -22,6 +22,11 @@ impl HostRuntime {
     pub fn stdout(&self) -> Stdout {
         Stdout
     }
+
+    /// Standard error. As theirs.
+    pub fn stderr(&self) -> Stderr {
+        Stderr
+    }
 }
 
 /// The right to ask for memory.
