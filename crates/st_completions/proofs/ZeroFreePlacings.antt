@@ -25,7 +25,7 @@ use Rattle.st_completions.proofs.FedNeeds.{events}
 use Rattle.st_completions.proofs.EventsBefore.{AreTimely}
 use Rattle.st_completions.proofs.FewestNeeds.{best_placing}
 use Rattle.st_completions.proofs.ZeroFronts.{move_timely, no_cost, stamp_leaves}
-use Rattle.st_completions.proofs.Leasts.{Among, among_filter, among_left, mixed, smallest_low, timely_is}
+use Rattle.st_completions.proofs.AmongPlacings.{Among, among_filter, among_left, mixed, smallest_low, timely_is}
 use Rattle.st_completions.proofs.MergedPlacings.{above_not_late, some_placing}
 use Rattle.st_completions.proofs.Mixes.{among_at, among_marks, at_among, events_append, placing_from}
 use Rattle.st_completions.proofs.Mixes.{told_append, untold_append}
