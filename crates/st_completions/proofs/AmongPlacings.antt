@@ -1,6 +1,5 @@
--- What is among lists: the smallest of some numbers is no more than any of them, and all events of
--- a process are among the mixes of its told and its untold ones. So they are one of its placings, if
--- its untold events are its hidden sends and no stamp is late.
+-- What is among lists: the smallest of some numbers is no more than any of them, and marked events
+-- are among the mixes of the told and the untold ones of them.
 use Rattle.std.proofs.Common.{◌≡◌, ◌⊎◌, inl, inr, ℕ, ◌≤◌, Bool, true, false, not}
 use Rattle.std.proofs.Common.{cond, List, [], ◌∷◌, ◌++◌, map, filter}
 use Rattle.std.proofs.Common.{refl, sym, ◌∙◌, ap, subst, arith}

@@ -1,7 +1,6 @@
--- Events in turn, taken apart into a front and what is behind: both are in turn, their needs add
--- up, and each stamp has a count above those before it. What is behind a stamp sees only this
--- stamp.
-use Rattle.std.proofs.Common.{◌≡◌, inl, inr, ℕ, ◌+◌, ◌<◌, ◌≤◌, ◌&&◌, max, nat_lt, true, false}
+-- Events in turn: each stamp has a count above those before it, what is behind a front is in turn
+-- too, and only a stamp asks for a count.
+use Rattle.std.proofs.Common.{◌≡◌, inl, inr, ℕ, ◌<◌, ◌≤◌, ◌&&◌, max, nat_lt, true, false}
 use Rattle.std.proofs.Common.{not, List, [], ◌∷◌, ◌++◌, append-nil, append_assoc, refl, sym}
 use Rattle.std.proofs.Common.{◌∙◌, ap, subst, arith}
 use Rattle.std.proofs.lemmas.Bool.{and_parts, cases_lt, false≢true, ltb-true}
@@ -92,7 +91,7 @@ none_asks v before es none = elim (cases_lt 0 (needs_from v before es)) [
   | inr not_some ↦ omega arith
 ]
 
--- receives are neither late nor needs
+-- receives, which are never late
 abbrev pub AreReceives : List Event → Type 0
 AreReceives es = (e : Event) → Among e es → is_stamp e ≡ false
 

@@ -1,7 +1,5 @@
--- In a choice that makes no stamp late the untold events of a process are its hidden sends, by
--- rising count: each is the send of a receive in the streams, of whose count they report no stamp,
--- and each such send is there. So all events of the process are one of its placings, and have as
--- many needs as the least of these, or more.
+-- In a choice the untold events of a process are its hidden sends: each is the send of a receive in
+-- the streams, of whose count they report no stamp, and each such send is there.
 use Rattle.std.proofs.Common.{◌≡◌, inl, inr, ℕ, zero, suc, ◌+◌, ◌<◌, ◌≤◌, ◌==◌, ◌&&◌, Bool, true, false, not}
 use Rattle.std.proofs.Common.{cond, List, [], ◌∷◌, Option, Some, None, is_none, is_some, option_map}
 use Rattle.std.proofs.Common.{option_and_then, slice_get, refl, sym, ◌∙◌, ap, subst, arith}
