@@ -119,8 +119,11 @@ module _ (top : ℕ) (streams : List Stream) (sound : IsStreams streams) (reason
     | true ↦ λ listed. are.placed p listed
     | false ↦ λ unlisted.
         let none = unlisted_events own p (unlisted_own own own_pids p unlisted) in
-        record { index = 0; at = ap (λ xs. slice_get xs 0) (placings_none streams sound p unlisted)
-            ∙ ap (λ es. Some es) (sym none) }
+        record {
+          index = 0;
+          at = ap (λ xs. slice_get xs 0) (placings_none streams sound p unlisted)
+              ∙ ap (λ es. Some es) (sym none);
+        }
   ] refl
 
   t : HasChoiceOf streams (events_of own)

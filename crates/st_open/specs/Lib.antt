@@ -1,5 +1,4 @@
 -- What public contracts cite.
 pub mod Silent
-pub mod OpenReasons
--- For the parts alone: whole streams with processes that did nothing.
 pub mod SilentWholes
+pub mod OpenReasons
