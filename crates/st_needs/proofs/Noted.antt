@@ -147,22 +147,22 @@ noted_here ps low lows new e place rising here some was read put noted =
     subst (λ xs. IsNoted ps (λ q. lowest_with q (low q) e) xs) (sym put) (record {
       long = set_long lows place (Some (lower_count was e.serial.this)) ∙ noted.long;
       each = λ k p at. elim (pid_eq e.from p) as (λ b. pid_eq e.from p ≡ b
-      → slice_get (slice_set lows place (Some (lower_count was e.serial.this))) k
-      ≡ Some (cond (b && nat_lt 0 e.serial.prev) (Some (lower_count (low p) e.serial.this)) (low p))) [
-        | true ↦ λ is.
-            let same = pid_same e.from p is in
-            let at_place : k ≡ place = one_place ps k place e.from rising (at ∙ ap (λ (x : Pid). Some x) (sym same)) here in
-            ap (slice_get (slice_set lows place (Some (lower_count was e.serial.this)))) at_place
-            ∙ set_same lows place (Some (lower_count was e.serial.this)) within
-            ∙ ap (λ l. Some (Some (lower_count l e.serial.this))) (low_here ∙ ap low same)
-            ∙ sym (ap (λ b. Some (cond b (Some (lower_count (low p) e.serial.this)) (low p)))
-            (lt-ltb 0 e.serial.prev above))
-        | false ↦ λ other.
-            set_other lows place k (Some (lower_count was e.serial.this))
-            (λ same. false≢true (sym other ∙ ap (pid_eq e.from)
-            (sym (same_Some e.from p (sym here ∙ ap (slice_get ps) (sym same) ∙ at))) ∙ pid_eq-refl e.from))
-            ∙ noted.each k p at
-      ] refl;
+          → slice_get (slice_set lows place (Some (lower_count was e.serial.this))) k
+          ≡ Some (cond (b && nat_lt 0 e.serial.prev) (Some (lower_count (low p) e.serial.this)) (low p))) [
+            | true ↦ λ is.
+                let same = pid_same e.from p is in
+                let at_place : k ≡ place = one_place ps k place e.from rising (at ∙ ap (λ (x : Pid). Some x) (sym same)) here in
+                ap (slice_get (slice_set lows place (Some (lower_count was e.serial.this)))) at_place
+                ∙ set_same lows place (Some (lower_count was e.serial.this)) within
+                ∙ ap (λ l. Some (Some (lower_count l e.serial.this))) (low_here ∙ ap low same)
+                ∙ sym (ap (λ b. Some (cond b (Some (lower_count (low p) e.serial.this)) (low p)))
+                (lt-ltb 0 e.serial.prev above))
+            | false ↦ λ other.
+                set_other lows place k (Some (lower_count was e.serial.this))
+                (λ same. false≢true (sym other ∙ ap (pid_eq e.from)
+                (sym (same_Some e.from p (sym here ∙ ap (slice_get ps) (sym same) ∙ at))) ∙ pid_eq-refl e.from))
+                ∙ noted.each k p at
+          ] refl;
     })
 
 -- one process more of which nothing is known

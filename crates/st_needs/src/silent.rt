@@ -37,11 +37,7 @@ fn is_other_next(pids: &[Pid], taken: usize, others: &[Pid], added: usize) -> bo
 }
 
 /// The streams, and one without events of each of these processes. It copies all events.
-pub fn with_silent(
-    alloc: Global,
-    streams: &Streams,
-    others: &[Pid],
-) -> Result<Streams, AllocError>
+pub fn with_silent(alloc: Global, streams: &Streams, others: &[Pid]) -> Result<Streams, AllocError>
     requires apart { AllByRecursion (λ q. lists streams.now q ≡ false) others.now }
     requires rising { IsRising others.now }
     ensures { IfOk result (λ more. more ≡ with_silent streams.now others.now) }

@@ -112,7 +112,11 @@ fn told_of(streams: &Streams, found: &[Pid], pid: Pid, count: u64) -> Told
 }
 
 /// What is told of each process at this count. It looks at all events once.
-pub(crate) fn told_of_each(alloc: Global, streams: &Streams, count: u64) -> Result<Vec<Told>, AllocError>
+pub(crate) fn told_of_each(
+    alloc: Global,
+    streams: &Streams,
+    count: u64,
+) -> Result<Vec<Told>, AllocError>
     ensures { IfOk result (λ all. all.items
         ≡ map (told_of streams.now count) (pids_of streams.now)) }
 {

@@ -176,11 +176,7 @@ fn first_in(
 }
 
 /// The least place of an unfounded event in all streams.
-fn first_unfounded(
-    streams: &Streams,
-    pairing: &Pairing,
-    lows: &[Option<u64>],
-) -> Option<(Pid, u64)>
+fn first_unfounded(streams: &Streams, pairing: &Pairing, lows: &[Option<u64>]) -> Option<(Pid, u64)>
     requires paired { IsPairing streams.now pairing.now }
     requires noted { IsNoted (pids_of streams.now) (lowest_count streams.now) lows.now }
     ensures { result ≡ first (flaw_place (is_unfounded streams.now) streams.now) streams.now }
