@@ -1,6 +1,6 @@
--- The lemmas that proofs of the crates above may cite: on streams, and what pairing says of them; on whole streams,
--- their events and what is told of them; on the reasons and completions; and on hidden sends, their places and the
--- choices of these.
+-- The lemmas that proofs of the crates above may cite: on streams, and what pairing says of them; on
+-- whole streams, their events and what is told of them; on reasons and completions; and on hidden
+-- sends, their places and the choices of these.
 
 -- ---- streams, and what pairing says of them
 pub use Rattle.st_completions.proofs.ShownStreams.{lists_among}
