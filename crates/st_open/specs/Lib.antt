@@ -1,4 +1,4 @@
 -- What public contracts cite.
 pub mod Silent
-pub mod SilentWholes
 pub mod OpenReasons
+pub mod SilentWholes
