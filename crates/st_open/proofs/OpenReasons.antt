@@ -1,5 +1,5 @@
--- The reasons decide: if one holds it is final, with any processes that report nothing; and without one there are
--- enough such processes that no count is scarce.
+-- The reasons decide: if one holds it is final, with any processes that report nothing; and if none
+-- holds, enough such processes send what is needed.
 use Rattle.std.proofs.Common.{◌≡◌, ◌↔◌, ℕ, List, Some, None, sum_by}
 use Rattle.std.proofs.Common.{refl, sym, ◌∙◌, ap, arith, take, ◌≤◌}
 use Rattle.std.proofs.lemmas.Bool.{false≢true, ltb-true}

@@ -3,8 +3,8 @@
 -- count, and no event needs more than one.
 use Rattle.std.proofs.Common.{◌≡◌, ℕ, ◌+◌, ◌≤◌, ◌||◌, Bool, true, false, cond, List, [], ◌∷◌, map, take, length}
 use Rattle.std.proofs.Common.{slice_get, Some, if◌then◌else◌, sum_by, refl, sym, ◌∙◌, ap, subst, arith}
-use Rattle.std.specs.List.{count_by, AllByRecursion}
-use Rattle.std.proofs.lemmas.Bool.{and_parts, eqb-true, false≢true}
+use Rattle.std.specs.List.{AllByRecursion}
+use Rattle.std.proofs.lemmas.Bool.{and_parts, eqb-true}
 use Rattle.std.proofs.lemmas.List.{length-map}
 use Rattle.std.proofs.lemmas.List.Sums.{sum_by-cons}
 use Rattle.std.proofs.lemmas.Option.{none-some}
@@ -25,7 +25,7 @@ use Rattle.st_completions.proofs.ForCallers.{choice_of, events_all, events_told,
 use Rattle.st_completions.proofs.ForCallers.{same_streams, sum_low, told_somewhere, unlisted_events, untold_mark}
 use Rattle.st_completions.proofs.ForCallers.{untold_within}
 use Rattle.st_open.specs.OpenReasons.{asked, HasNoOpenReason, HasPlaces, offered}
-use Rattle.st_open.specs.Silent.{inserted, silent, with_silent}
+use Rattle.st_open.specs.Silent.{inserted, with_silent}
 use Rattle.st_open.specs.SilentWholes.{whole_with}
 use Rattle.st_open.proofs.SilentStreams.{silent_lists, silent_sound, sum_inserted}
 use Rattle.st_open.proofs.EnoughSilent.{free_unlisted, needs_low, placings_none}

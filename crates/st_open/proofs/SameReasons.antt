@@ -1,10 +1,9 @@
 -- Streams with the same events of each process, and more processes without events: whatever is asked of events, of what
 -- is received and of what is stamped has the same answer. So pairing, late stamps, hidden sends, placings and needs are
 -- the same.
-use Rattle.std.proofs.Common.{◌≡◌, ◌⊎◌, inl, inr, ℕ, zero, suc, ◌==◌, ◌&&◌, ◌||◌, ◌++◌, nat_lt, true, false}
+use Rattle.std.proofs.Common.{◌≡◌, inl, inr, ℕ, zero, suc, ◌==◌, ◌&&◌, ◌||◌, nat_lt, true, false}
 use Rattle.std.proofs.Common.{not, cond, List, [], ◌∷◌, map, filter, take, Option, Some, None, is_none, slice_get}
 use Rattle.std.proofs.Common.{option_map, option_and_then, refl, sym, ◌∙◌, ap}
-use Rattle.std.specs.List.{count_by}
 use Rattle.std.specs.Option.{option_map_or}
 use Rattle.st_core.specs.declared.types.Pid.{Pid}
 use Rattle.st_core.specs.declared.types.Event.{Event}
@@ -21,7 +20,7 @@ use Rattle.st_order.specs.Items.{is_hidden}
 use Rattle.st_pair.specs.declared.answer.Source.{Source}
 use Rattle.st_pair.specs.declared.answer.Source.TheVariants as source
 use Rattle.st_completions.specs.HiddenSends.{are_timely, hidden_from, hidden_send, hidden_sends, least, mixes, placings}
-use Rattle.st_completions.specs.HiddenSends.{send_of, smallest, stamps_with}
+use Rattle.st_completions.specs.HiddenSends.{send_of, smallest}
 use Rattle.st_completions.specs.Needs.{is_late}
 use Rattle.st_completions.specs.Supply.{is_free, is_own_supply, needs_from}
 use Rattle.st_completions.proofs.ForCallers.{highest}
@@ -129,10 +128,6 @@ module _ (more streams : List Stream) (same : TellSame more streams) where
 
   pub least_as : (v : ℕ) (p : Pid) → least more v p ≡ least streams v p
   least_as v p = ap (λ ps. smallest (map (needs_from v []) ps)) (placings_as p)
-
-  pub stamps_with_as : (v : ℕ) (p : Pid) → stamps_with more v p ≡ stamps_with streams v p
-  stamps_with_as v p = λ k. count_by (λ (e : Event). is_stamp e && e.serial.prev == v)
-      (same.events p k ++ hidden_sends_as p k)
 
   pub own_as : (v : ℕ) (p q : Pid) → is_own_supply more v p q ≡ is_own_supply streams v p q
   own_as v p q = λ k. is_none (same.receives q v k)

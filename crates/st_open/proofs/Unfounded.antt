@@ -1,20 +1,19 @@
 -- A stamp with prev 0 that stands behind another prev or a receive is told at a place: its own, or
 -- that of the receive of its hidden send. And what is told so is such a stamp.
-use Rattle.std.proofs.Common.{◌≡◌, ◌⊎◌, inl, inr, ℕ, ◌<◌, ◌||◌, Bool, true, false, cond, List, Option, Some, None}
-use Rattle.std.proofs.Common.{refl, sym, ◌∙◌, ap, subst, arith}
+use Rattle.std.proofs.Common.{◌≡◌, ◌⊎◌, inl, inr, ℕ, ◌||◌, Bool, true, false, cond, List, Option, Some, None}
+use Rattle.std.proofs.Common.{refl, sym, ◌∙◌, ap, arith}
 use Rattle.st_core.specs.declared.types.Pid.{Pid}
 use Rattle.st_core.specs.declared.types.Event.{Event}
 use Rattle.st_core.specs.Run.{Stream}
 use Rattle.st_core.specs.Streams.{IsStreams}
 use Rattle.st_pair.specs.declared.answer.Source.{Source}
 use Rattle.st_pair.specs.declared.answer.Source.TheVariants as source
-use Rattle.st_pair.specs.Pairing.{refusal, source_of, stamp_of}
+use Rattle.st_pair.specs.Pairing.{refusal, stamp_of}
 use Rattle.st_pair.specs.Places.{event_at, is_stamp}
 use Rattle.st_order.specs.Items.{is_hidden}
-use Rattle.st_completions.specs.FinalReasons.{HasZeroBehindReceive, HasZeroBehindStamp, IsStampOf, IsZeroBehind}
-use Rattle.st_completions.specs.HiddenSends.{send_of}
+use Rattle.st_completions.specs.FinalReasons.{HasZeroBehindReceive, HasZeroBehindStamp, IsStampOf}
 use Rattle.st_completions.proofs.ForCallers.{hidden_is, own_at, stamper}
-use Rattle.st_open.specs.OpenReasons.{IsBehindReceive, IsBehindStamp, IsUnfounded}
+use Rattle.st_open.specs.OpenReasons.{IsUnfounded}
 use Rattle.st_open.proofs.Founded.{told_behind}
 
 -- FROM A PLACE TO THE STAMP

@@ -1,4 +1,4 @@
--- For the parts alone: whole streams with further processes that did nothing.
+-- Whole streams with further processes that did nothing.
 use Rattle.std.specs.Prelude.{List, [], ◌∷◌, if◌then◌else◌}
 use Rattle.std.specs.Ordering.{is_lt}
 use Rattle.st_core.specs.declared.types.Pid.{Pid}
