@@ -53,3 +53,4 @@ pub mod ZeroFronts
 pub mod ZeroFreePlacings
 pub mod SameStreams
 pub mod ForCallers
+mod Cases
