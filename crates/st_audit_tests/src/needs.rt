@@ -126,7 +126,7 @@ fn a_process_that_is_not_listed_sends(rt: HostRuntime) -> Result<(), Fail> {
         panic!(rt; "not completed");
     };
     let other = Pid::new(65_535);
-    same(&rt, completion.unlisted(), &[other]);
+    assert_eq!(rt; completion.unlisted(), [other].as_slice());
     same(&rt, &completion.told(other, 0), &Some(false));
     let wanted = event(Kind::Send, 0, 3, other, Some(p30()), 0);
     same(&rt, &completion.streams().event(other, 0), &Some(wanted));
@@ -157,7 +157,7 @@ fn a_hidden_send_that_lacks_a_message_gets_it_from_another(rt: HostRuntime) -> R
     let Answer::Whole(completion) = complete::<MOST>(rt.alloc(), &streams)? else {
         panic!(rt; "not completed");
     };
-    same(&rt, completion.unlisted(), &[Pid::new(65_535)]);
+    assert_eq!(rt; completion.unlisted(), [Pid::new(65_535)].as_slice());
     Ok(())
 }
 
