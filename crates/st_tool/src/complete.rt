@@ -134,8 +134,9 @@ fn tell_completion<H: Threads + Sync, W: ByteSink, N: ByteSink>(
     match form {
         Form::Acts => tell_acts(rt, alloc, streams, completion, writer, notes),
         Form::Streams => {
-            note_reader(notes, completion.streams(), 0);
-            tell_streams(writer, completion.streams())
+            let whole = completion.streams();
+            note_reader(notes, whole, 0);
+            tell_streams(writer, whole)
         }
         Form::Added => {
             let sent = send_added(writer, completion);

@@ -33,7 +33,7 @@ returns-in-Streams g c =
       output = out;
       owed = Finds (answer.Whole c.args.completion.now) out c.requires
           (Completes c.args.completion.now c.in-Streams.is);
-      delivered = rw c.streams.ensures at c.tell_streams.ensures;
+      delivered = rw c.streams-whole.ensures at c.tell_streams.ensures;
     }
 
 pub returns-in-Added : goal.returns-in-Added
