@@ -31,7 +31,7 @@ def tried(program, words):
     taken = {}
     for counts in (range(flood[0], flood[0] + len(flood)), flood):
         got, _, seconds, _ = program.measure(words, received(counts), 60)
-        if got.status > 1:  # `audit` says of each flood that its sends weren't reported.
+        if got.status > 1:  # `audit` may refuse the counts.
             yield Check(f"floods: {' '.join(words)}", f"status {got.status} after {seconds:.2f} s")
             return
         taken[counts is flood] = seconds
