@@ -59,7 +59,8 @@ last_higher streams p i j this e accepted late at is higher =
       there = higher.at;
       before = higher.before;
       receives = receive_if (is_stamp higher.event) (λ stamps.
-          let below = stamp_counts_rise streams (paired streams accepted) p j i higher.event e higher.before higher.at at stamps stamp in
+          let below = stamp_counts_rise streams (paired streams accepted) p j i higher.event e
+          higher.before higher.at at stamps stamp in
           let high = higher.high in
           omega (arith, below, high, is));
       high = let high = higher.high in omega (arith, high, is);

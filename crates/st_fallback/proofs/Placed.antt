@@ -1,6 +1,7 @@
 -- Why the placings of all processes are whole streams that tell the streams and need no 0: each tells
 -- its process's events, and has as few needs of 0 as any placing; and some placing has none.
-use Rattle.std.proofs.Common.{◌≡◌, inl, ℕ, ◌+◌, ◌<◌, ◌==◌, ◌&&◌, ◌||◌, Bool, true, false, cond, List, [], ◌∷◌, ◌++◌, map}
+use Rattle.std.proofs.Common.{◌≡◌, inl, ℕ, ◌+◌, ◌<◌, ◌==◌, ◌&&◌, ◌||◌, Bool, true, false, cond, List, [], ◌∷◌}
+use Rattle.std.proofs.Common.{◌++◌, map}
 use Rattle.std.proofs.Common.{length, None, Some, if◌then◌else◌, refl, sym, ◌∙◌, ap, subst, arith}
 use Rattle.std.specs.List.{AllByRecursion}
 use Rattle.std.proofs.lemmas.Bool.{false≢true}
@@ -146,7 +147,8 @@ module _ (top : ℕ) (streams : List Stream) (sound : IsStreams streams) (reason
   pub are_placed : (ws : List Whole) → AreBestPlaced streams (0 ∷ []) ws → ArePlaced streams ws
   are_placed ws best =
       let there : (p : Pid) → lists streams p ≡ true → IsAtPlace p (events_of (all_streams ws) p) =
-      λ p listed. placed_in ws best.best p (ap (λ ps. is_among ps p) best.pids ∙ sym (lists_among streams p) ∙ listed) in
+      λ p listed. placed_in ws best.best p
+      (ap (λ ps. is_among ps p) best.pids ∙ sym (lists_among streams p) ∙ listed) in
       record {
         told = told_by ws best.best
             ∙ ap (map (stream_by (events_of streams))) best.pids

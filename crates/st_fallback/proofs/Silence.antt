@@ -1,5 +1,6 @@
 -- Why processes are put in where they belong, one below the other.
-use Rattle.std.proofs.Common.{◌≡◌, ℕ, zero, suc, ◌+◌, ◌<◌, ◌≤◌, Bool, true, false, cond, List, [], ◌∷◌, ◌++◌, take, drop, length, get_or, slice_get, Some}
+use Rattle.std.proofs.Common.{◌≡◌, ℕ, zero, suc, ◌+◌, ◌<◌, ◌≤◌, Bool, true, false, cond, List, [], ◌∷◌, ◌++◌}
+use Rattle.std.proofs.Common.{take, drop, length, get_or, slice_get, Some}
 use Rattle.std.proofs.Common.{sum_by, refl, sym, ◌∙◌, ap, arith}
 use Rattle.std.specs.List.{AllByRecursion}
 use Rattle.std.specs.Ordering.{is_lt}
@@ -29,7 +30,8 @@ pub put_in : (q : Pid) (ws : List Whole)
     → take (place_above q ws) ws ++ silent_whole q ∷ drop (place_above q ws) ws ≡ whole_inserted q ws
 put_in q [] = refl
 put_in q (w ∷ ws) = elim (is_lt (pid_cmp q w.pid)) as (λ b.
-    take (cond b 0 (suc (place_above q ws))) (w ∷ ws) ++ silent_whole q ∷ drop (cond b 0 (suc (place_above q ws))) (w ∷ ws)
+    take (cond b 0 (suc (place_above q ws))) (w ∷ ws) ++ silent_whole q ∷ drop
+    (cond b 0 (suc (place_above q ws))) (w ∷ ws)
     ≡ cond b (silent_whole q ∷ w ∷ ws) (w ∷ whole_inserted q ws)) [
       | true ↦ refl
       | false ↦ ap (λ xs. w ∷ xs) (put_in q ws)
@@ -76,7 +78,8 @@ below_none q [] none = tt
 below_none q (p ∷ ps) none = absurd (omega arith)
 
 -- one process more, below all others
-pub silent_more : (streams : List Stream) → IsStreams streams → (old now next : List Whole) (others : List Pid) (q : Pid)
+pub silent_more : (streams : List Stream) → IsStreams streams
+    → (old now next : List Whole) (others : List Pid) (q : Pid)
     → AllByRecursion (IsBelow q) others → lists streams q ≡ false → next ≡ whole_inserted q now
     → AreSilent streams old now others → AreSilent streams old next (q ∷ others)
 silent_more streams sound old now next others q below unlisted put before = record {

@@ -348,7 +348,8 @@ tells_back streams all lists ws tells are events marks =
     ∙ tells
 
 pub completes_back : (top : ℕ) (streams all : List Stream) (lists : List (List Bool)) (ws built : List Whole)
-    → IsCompletionOf top streams (completion streams) → ws ≡ completion streams → all ≡ all_streams ws → lists ≡ marks_of ws
+    → IsCompletionOf top streams (completion streams) → ws ≡ completion streams → all
+    ≡ all_streams ws → lists ≡ marks_of ws
     → built ≡ wholes_with all lists → IsCompletionOf top streams built
 completes_back top streams all lists ws built completes are events marks is =
     subst (IsCompletionOf top streams) (sym (is

@@ -1,7 +1,8 @@
 -- Why streams and other processes, merged, are the streams with these processes: the least of the
 -- others stands where it is put into the streams with all that follow it.
 use Rattle.std.proofs.Common.{◌≡◌, ℕ, ◌+◌, zero, suc, ◌<◌, ◌≤◌, ◌||◌, Bool, true, false, cond, List, [], ◌∷◌, ◌++◌}
-use Rattle.std.proofs.Common.{inl, inr, length, drop, get_or, slice_get, Some, append-nil, refl, sym, ◌∙◌, ap, subst, arith}
+use Rattle.std.proofs.Common.{inl, inr, length, drop, get_or, slice_get, Some, append-nil, refl, sym, ◌∙◌, ap}
+use Rattle.std.proofs.Common.{subst, arith}
 use Rattle.std.specs.List.{AllByRecursion}
 use Rattle.std.specs.Ordering.{is_lt}
 use Rattle.std.proofs.lemmas.Bool.{cases_lt, false≢true}
@@ -22,7 +23,8 @@ use Rattle.st_needs.specs.Merged.{is_other_next, merged}
 below_is : (p q : Pid) → IsBelow p q → is_lt (pid_cmp p q) ≡ true
 below_is p q below = ap is_lt below
 
-put_first : (q : Pid) (qs : List Pid) → AllByRecursion (IsBelow q) qs → inserted q (merged [] qs) ≡ silent q ∷ merged [] qs
+put_first : (q : Pid) (qs : List Pid) → AllByRecursion (IsBelow q) qs → inserted q (merged [] qs)
+    ≡ silent q ∷ merged [] qs
 put_first q [] below = refl
 put_first q (r ∷ rs) below =
     ap (λ b. cond b (silent q ∷ silent r ∷ merged [] rs) (silent r ∷ inserted q (merged [] rs))) (below_is q r below.0)
@@ -162,7 +164,8 @@ other_more streams others ps k draft next taken added d are is put before =
     let came = before.came in
     let rest = drop_more others added d within in
     let comes : is_other_next (pids_of (drop taken streams)) (q ∷ drop (added + 1) others) ≡ true =
-    ap (λ xs. is_other_next xs (q ∷ drop (added + 1) others)) (sym (drop_pids streams taken) ∙ ap (drop taken) (sym are))
+    ap (λ xs. is_other_next xs (q ∷ drop (added + 1) others))
+    (sym (drop_pids streams taken) ∙ ap (drop taken) (sym are))
     ∙ ap (is_other_next (drop taken ps)) (sym rest) ∙ is in
     record {
       came = omega arith;

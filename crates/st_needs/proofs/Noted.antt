@@ -83,13 +83,16 @@ set_long (y ∷ xs) zero x = refl
 set_long (y ∷ xs) (suc i) x = ap suc (set_long xs i x)
 
 -- rising pids stand once
-one_place : (ps : List Pid) (i j : ℕ) (p : Pid) → IsRising ps → slice_get ps i ≡ Some p → slice_get ps j ≡ Some p → i ≡ j
+one_place : (ps : List Pid) (i j : ℕ) (p : Pid) → IsRising ps → slice_get ps i ≡ Some p
+    → slice_get ps j ≡ Some p → i ≡ j
 one_place [] i j p rising at_i at_j = absurd (none-some p at_i)
 one_place (q ∷ ps) zero zero p rising at_i at_j = refl
 one_place (q ∷ ps) zero (suc j) p rising at_i at_j =
-    absurd (not_below_itself p (subst (λ x. IsBelow x p) (same_Some q p at_i) (all_at (IsBelow q) ps j p rising.0 at_j)))
+    absurd (not_below_itself p (subst (λ x. IsBelow x p) (same_Some q p at_i)
+    (all_at (IsBelow q) ps j p rising.0 at_j)))
 one_place (q ∷ ps) (suc i) zero p rising at_i at_j =
-    absurd (not_below_itself p (subst (λ x. IsBelow x p) (same_Some q p at_j) (all_at (IsBelow q) ps i p rising.0 at_i)))
+    absurd (not_below_itself p (subst (λ x. IsBelow x p) (same_Some q p at_j)
+    (all_at (IsBelow q) ps i p rising.0 at_i)))
 one_place (q ∷ ps) (suc i) (suc j) p rising at_i at_j = ap suc (one_place ps i j p rising.1 at_i at_j)
 
 get_first : {X : Type 0} (xs ys : List X) (j : ℕ) → j < length xs → slice_get (xs ++ ys) j ≡ slice_get xs j
@@ -114,7 +117,8 @@ noted_zero ps low lows e is_zero noted = record {
   each = λ k p at. noted.each k p at
       ∙ sym (ap (λ n. Some (cond (pid_eq e.from p && nat_lt 0 n) (Some (lower_count (low p) e.serial.this)) (low p)))
       is_zero
-      ∙ ap (λ b. Some (cond b (Some (lower_count (low p) e.serial.this)) (low p))) (and_false (pid_eq e.from p) false refl));
+      ∙ ap (λ b. Some (cond b (Some (lower_count (low p) e.serial.this)) (low p)))
+      (and_false (pid_eq e.from p) false refl));
 }
 
 -- nor does one of a process that isn't there
@@ -127,7 +131,8 @@ noted_missing ps low lows e missing noted = record {
       let other : pid_eq e.from p ≡ false =
       pid_eq-swap e.from p ∙ all_at (λ q. pid_eq q e.from ≡ false) ps k p missing at in
       noted.each k p at
-      ∙ sym (ap (λ b. Some (cond (b && nat_lt 0 e.serial.prev) (Some (lower_count (low p) e.serial.this)) (low p))) other);
+      ∙ sym (ap (λ b. Some (cond (b && nat_lt 0 e.serial.prev)
+      (Some (lower_count (low p) e.serial.this)) (low p))) other);
 }
 
 pub noted_here : (ps : List Pid) (low : Pid → Option ℕ) (lows new : List (Option ℕ)) (e : Event) (place : ℕ)
@@ -151,7 +156,8 @@ noted_here ps low lows new e place rising here some was read put noted =
           ≡ Some (cond (b && nat_lt 0 e.serial.prev) (Some (lower_count (low p) e.serial.this)) (low p))) [
             | true ↦ λ is.
                 let same = pid_same e.from p is in
-                let at_place : k ≡ place = one_place ps k place e.from rising (at ∙ ap (λ (x : Pid). Some x) (sym same)) here in
+                let at_place : k ≡ place = one_place ps k place e.from rising
+                (at ∙ ap (λ (x : Pid). Some x) (sym same)) here in
                 ap (slice_get (slice_set lows place (Some (lower_count was e.serial.this)))) at_place
                 ∙ set_same lows place (Some (lower_count was e.serial.this)) within
                 ∙ ap (λ l. Some (Some (lower_count l e.serial.this))) (low_here ∙ ap low same)

@@ -12,7 +12,8 @@ use st_plan::Tells;
 use std::marker::Model;
 
 /// All events of each process, and for each whether it is told, that is, whether it is one of the
-/// streams that were completed; and which of the processes these don't list. It takes 1 byte an event more than the streams of all events.
+/// streams that were completed; and which of the processes these don't list. It takes 1 byte an
+/// event more than the streams of all events.
 #[derive(Debug, Drop)]
 pub struct Completion {
     pub(crate) streams: Streams,

@@ -381,7 +381,8 @@ fn marks_of(alloc: Global, wholes: &[Whole]) -> Result<Vec<Sequence<bool>>, Allo
 /// Builds the completion of streams in which no send is hidden and against which there is no
 /// reason.
 ///
-/// It is called only if the judge refuses a candidate, which no test has seen, and is slow: it looks at all events once for
+/// It is called only if the judge refuses a candidate, which no test has seen, and is slow: it
+/// looks at all events once for
 /// each count in the streams, and for each added event at all events of two processes. That takes a
 /// time quadratic in the events.
 pub(crate) fn construct<const TOP: u64>(

@@ -113,7 +113,8 @@ sum_same f streams (q ∷ qs) sound none =
     → sum_by f (pids_of (cond b all (inserted q all))) ≡ sum_by f (pids_of streams)) [
       | true ↦ λ _. before
       | false ↦ λ is.
-          let nothing = none q (or_false (lists streams q) (is_among qs q) (sym (silent_lists streams sound qs q) ∙ is)) in
+          let nothing = none q (or_false (lists streams q) (is_among qs q)
+          (sym (silent_lists streams sound qs q) ∙ is)) in
           omega arith
     ] refl
 
@@ -177,7 +178,8 @@ module _ (top : ℕ) (streams : List Stream) (sound : IsStreams streams) (has : 
       let enough = senders v in
       let pids : pids_of (with_silent streams others) ≡ pids_of more =
       ap pids_of (sym told) ∙ told_pids wholes ∙ ap pids_of all_is in
-      let free : count_by (is_free all v) (pids_of (with_silent streams others)) ≡ count_by (is_free more v) (pids_of more) =
+      let free : count_by (is_free all v) (pids_of (with_silent streams others))
+      ≡ count_by (is_free more v) (pids_of more) =
       ap (count_by (is_free all v)) pids
       ∙ sym (ap (λ (t : Pid → Bool). count_by t (pids_of more)) (λ i r. free_as more all same v r i)) in
       omega arith
@@ -229,7 +231,8 @@ module _ (top : ℕ) (streams : List Stream) (sound : IsStreams streams) (has : 
       let one : free q ≡ 1 =
       ap one_if (free_unlisted (all_streams has.wholes) has.choice.sound q unlisted_all v) in
       let sum = sum_inserted free q now in
-      subst (λ b. sum_by free (pids_of (cond b now (inserted q now))) ≡ sum_by free (pids_of streams) + suc k) (sym none)
+      subst (λ b. sum_by free (pids_of (cond b now (inserted q now)))
+      ≡ sum_by free (pids_of streams) + suc k) (sym none)
       (omega arith)
 
 pub so_many_shown : (top : ℕ) (streams : List Stream) → IsStreams streams → (places : HasPlaces top streams) (many : ℕ)

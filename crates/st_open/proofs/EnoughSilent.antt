@@ -1,7 +1,8 @@
 -- With as many processes that report nothing as there may be needs, each count has enough senders: each of them is free
 -- to send a message of each count.
 use Rattle.std.proofs.Common.{◌≡◌, ℕ, zero, suc, ◌≤◌, ◌<◌, ◌==◌, ◌&&◌, ◌++◌, Bool, true, false}
-use Rattle.std.proofs.Common.{cond, List, [], ◌∷◌, map, filter, length, Option, Some, None, is_none, is_some, sum_by, slice_get}
+use Rattle.std.proofs.Common.{cond, List, [], ◌∷◌, map, filter, length, Option, Some, None, is_none, is_some}
+use Rattle.std.proofs.Common.{sum_by, slice_get}
 use Rattle.std.proofs.Common.{if◌then◌else◌, option_map, option_and_then, refl, sym, ◌∙◌, ap, subst, arith}
 use Rattle.std.specs.List.{count_by}
 use Rattle.std.specs.Option.{option_map_or}
@@ -115,7 +116,8 @@ pub roomy_none : (streams : List Stream) → IsStreams streams
     → IsRoomy (sum_by (weight streams) (pids_of streams)) 0 streams
 roomy_none streams sound = record { sound = sound; needs = omega arith; frees = λ v. omega arith }
 
-module _ (n k : ℕ) (streams : List Stream) (roomy : IsRoomy n k streams) (q : Pid) (none : lists streams q ≡ false) where
+module _ (n k : ℕ) (streams : List Stream) (roomy : IsRoomy n k streams) (q : Pid)
+    (none : lists streams q ≡ false) where
   abbrev more : List Stream
   more = inserted q streams
 

@@ -73,7 +73,8 @@ seen_shown_with top streams sound accepted timely zero low =
       others = others;
       shown = roomy_shown top n more (roomy_enough n streams (roomy_none streams sound) n)
           (refusal_as more streams same ∙ accepted)
-          (λ p i e at. ap (λ es. is_late (take i es) e) (same.events p) ∙ timely p i e (here more streams same p i e at))
+          (λ p i e at. ap (λ es. is_late (take i es) e) (same.events p)
+          ∙ timely p i e (here more streams same p i e at))
           (λ p. least_as more streams same 0 p ∙ zero p)
           (λ p i e at. low p i e (here more streams same p i e at));
     }

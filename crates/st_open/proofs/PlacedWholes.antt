@@ -194,7 +194,8 @@ module _ (top : ℕ) (streams : List Stream) (sound : IsStreams streams) (reason
 
     senders : (v : ℕ) → asked streams t.wholes v ≤ offered t.wholes v (pids_of (with_silent streams others))
     senders v =
-        let low = sum_low (excess all v) (λ p. needs_from v [] (events_of all p)) (λ p. omega arith) (pids_of streams) in
+        let low = sum_low (excess all v) (λ p. needs_from v [] (events_of all p)) (λ p. omega arith)
+        (pids_of streams) in
         let same : sum_by (λ p. needs_from v [] (events_of all p)) (pids_of streams)
         ≡ sum_by (λ p. needs_from v [] (events_of all p)) (pids_of all) =
         ap (sum_by (λ p. needs_from v [] (events_of all p))) (sym all_pids) in

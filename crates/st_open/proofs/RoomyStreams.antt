@@ -19,7 +19,8 @@ use Rattle.st_completions.specs.Needs.{HoldsOfNone, is_late, is_need, is_rootles
 use Rattle.st_completions.specs.Placed.{HasChoiceOf, IsPlacing}
 use Rattle.st_completions.specs.Reasons.{HasNoReason}
 use Rattle.st_completions.specs.Supply.{excess, IsSupplied, needs, needs_from}
-use Rattle.st_completions.proofs.ForCallers.{best_placing, choice_of, events_all, events_told, frees, lists_among, mark_at}
+use Rattle.st_completions.proofs.ForCallers.{best_placing, choice_of, events_all, events_told, frees}
+use Rattle.st_completions.proofs.ForCallers.{lists_among, mark_at}
 use Rattle.st_completions.proofs.ForCallers.{same_pids, shown_if_chosen, some_placing, sum_low, told_somewhere}
 use Rattle.st_completions.proofs.ForCallers.{unlisted_events, untold_mark, untold_within}
 use Rattle.st_open.proofs.EnoughSilent.{IsRoomy, needs_placed, weight}

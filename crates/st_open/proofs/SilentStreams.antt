@@ -295,7 +295,8 @@ total_inserted q (x ∷ rest) =
           omega arith
     ]
 
-pub silent_total : (streams : List Stream) (others : List Pid) → total_of (with_silent streams others) ≡ total_of streams
+pub silent_total : (streams : List Stream) (others : List Pid)
+    → total_of (with_silent streams others) ≡ total_of streams
 silent_total streams [] = refl
 silent_total streams (q ∷ qs) =
     let all = with_silent streams qs in

@@ -369,7 +369,8 @@ module _ (top : ℕ) (pids : List Pid) (acts : List Act) (os : List Outcome) (h 
       let x = here n a at in
       let t = step_parts top (before n) a x.outcome x.steps in
       let told : t.done.report ≡ Some e =
-      ap (λ (y : Outcome). y.report) t.is_outcome ∙ ap (option_and_then (λ y. y.report)) (sym x.at) ∙ r.reports.report in
+      ap (λ (y : Outcome). y.report) t.is_outcome ∙ ap (option_and_then (λ y. y.report)) (sym x.at)
+      ∙ r.reports.report in
       let found : process (before n) p ≡ Some t.before = ap (process (before n)) (sym r.reports.own) ∙ t.is_before in
       let changes = acted_changes top n a t.before t.done t.is_done
       (process_holds (IsSound top) (before n) p t.before found (sound n x.outcome x.at)) in

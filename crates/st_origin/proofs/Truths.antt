@@ -22,11 +22,13 @@ use Rattle.st_core.specs.Laws.{greatest_count, LiftsClock, moves_token, NoReset,
 use Rattle.st_core.proofs.ForCallers.{followed_sends_lift, lifted_once, reported_stamps_lift}
 use Rattle.st_origin.specs.declared.told.Told.{Told}
 use Rattle.st_origin.specs.declared.told.Told.TheVariants as what
-use Rattle.st_origin.specs.Origin.{Origin, Follows, Begins, given, given_by, given_to, origin, ReportsReceives, state_before}
+use Rattle.st_origin.specs.Origin.{Origin, Follows, Begins, given, given_by, given_to, origin}
+use Rattle.st_origin.specs.Origin.{ReportsReceives, state_before}
 use Rattle.st_origin.specs.Events.{has_above, received_before, row_start, told, told_by}
 use Rattle.st_origin.specs.Truth.{BeginsAfter, FollowsEvent, FollowsUnreported, IsBeginning, IsTrue, IsTrueIfReported}
 use Rattle.st_origin.specs.Truth.{IsUnreported, last_receive, NeverBeginsAgain}
-use Rattle.st_origin.proofs.Rows.{AreInRow, event_behind, front_not_above, IsRowBetween, last_earlier, last_is, last_passes}
+use Rattle.st_origin.proofs.Rows.{AreInRow, event_behind, front_not_above, IsRowBetween, last_earlier}
+use Rattle.st_origin.proofs.Rows.{last_is, last_passes}
 use Rattle.st_origin.proofs.Rows.{not_above, receive_is, received_at, received_earlier, row_behind, row_passes}
 use Rattle.st_origin.proofs.Rows.{row_start_within, row_stops}
 use Rattle.st_origin.proofs.Accounts.{Accounts, front, front_and_rest, OfBeginning, OfNothing, OfReceive, reported}

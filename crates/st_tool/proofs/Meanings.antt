@@ -10,7 +10,8 @@ use Rattle.st_complete.specs.declared.answer.Never.{Never}
 use Rattle.st_complete.specs.declared.answer.Answer.{Answer}
 use Rattle.st_complete.specs.Answers.{IsFinal, NeverShownWithOthers}
 use Rattle.st_tool.specs.declared.complete.Form.{Form}
-use Rattle.st_tool.specs.Complete.{Adds, Answered, Answers, Certifies, Completes, Faulty, HasAnswer, IsCompleted, IsLong}
+use Rattle.st_tool.specs.Complete.{Adds, Answered, Answers, Certifies, Completes, Faulty, HasAnswer}
+use Rattle.st_tool.specs.Complete.{IsCompleted, IsLong}
 use Rattle.st_tool.specs.Complete.{completed_text}
 use Rattle.st_tool.specs.Complete.{IsNever, MeansCompleted, MeansNever}
 

@@ -1,7 +1,8 @@
 //! The commands of `seqtool` on any reader and writer: each reads all bytes, writes its output and
 //! returns the exit status.
 //!
-//! `specs/` defines what `complete` and `renumber` write; `st_why` has the command `why`. `st_words` reads the command line,
+//! `specs/` defines what `complete` and `renumber` write; `st_why` has the command `why`.
+//! `st_words` reads the command line,
 //! and runs the command that it asks for.
 #![tactic(auto)]
 

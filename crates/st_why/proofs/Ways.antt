@@ -1,4 +1,5 @@
--- A way goes on from its next place with one hop less, a line is that of its event, and a reason of pairing is told as a
+-- A way goes on from its next place with one hop less, a line is that of its event, and a reason of
+-- pairing is told as a
 -- finding.
 use Rattle.std.proofs.Common.{◌≡◌, ℕ, ◌+◌, ◌-◌, ◌<◌, zero, suc, Bool, List, [], ◌∷◌, ◌++◌, length, Option, Some, None}
 use Rattle.std.proofs.Common.{refl, sym, ◌∙◌, ap, arith, append_assoc}
@@ -38,7 +39,8 @@ module _ (streams : List Stream) (across : Bool) where
 
   -- one place more
   pub way_passed : (most done : ℕ) (before total : List (Pid × ℕ)) (at next : Option (Pid × ℕ)) (x : Pid × ℕ)
-      → done < most → at ≡ Some x → next ≡ next_at streams across x → before ++ way streams across (most - done) at ≡ total
+      → done < most → at ≡ Some x → next ≡ next_at streams across x
+      → before ++ way streams across (most - done) at ≡ total
       → (before ++ x ∷ []) ++ way streams across (most - (done + 1)) next ≡ total
   way_passed most done before total at next x less is then far =
       let number : suc (most - (done + 1)) ≡ most - done = omega arith in

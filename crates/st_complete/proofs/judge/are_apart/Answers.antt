@@ -19,7 +19,8 @@ loop-pid-preserved c =
     let qs = c.args.unlisted.now in
     let i = c.loop-pid.pid-index in
     all_taken (λ q. lists c.args.streams.now q ≡ false) qs i (get_or qs i none)
-    (slice_get-get_or qs i none c.loop-pid-test.true) (c.is_unlisted.ensures c.if-not-is_unlisted.false) c.loop-pid.invariant
+    (slice_get-get_or qs i none c.loop-pid-test.true)
+    (c.is_unlisted.ensures c.if-not-is_unlisted.false) c.loop-pid.invariant
 
 pub returns-clause-apart : goal.returns-clause-apart
 returns-clause-apart c = λ _.

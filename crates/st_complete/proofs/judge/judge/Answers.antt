@@ -14,7 +14,8 @@ use Rattle.st_complete.proofs.judge.judge.Goals as goal
 
 pub tells_with-requires-clause-apart : goal.tells_with-requires-clause-apart
 tells_with-requires-clause-apart g c =
-    subst (AllByRecursion (λ q. lists c.args.streams.now q ≡ false)) (c.deref.ensures.value ∙ sym c.deref-3.ensures.value)
+    subst (AllByRecursion (λ q. lists c.args.streams.now q ≡ false))
+    (c.deref.ensures.value ∙ sym c.deref-3.ensures.value)
     (c.are_apart.ensures.apart c.if-not-are_apart.false)
 
 pub tells_with-requires-clause-rising : goal.tells_with-requires-clause-rising
@@ -42,7 +43,8 @@ returns g c = λ x is.
     record {
       apart = subst (AllByRecursion (λ q. lists given q ≡ false)) (c.deref.ensures.value ∙ sym others)
           (c.are_apart.ensures.apart c.if-not-are_apart.false);
-      rising = subst IsRising (c.deref.ensures.value ∙ sym others) (c.are_apart.ensures.rising c.if-not-are_apart.false);
+      rising = subst IsRising (c.deref.ensures.value ∙ sym others)
+          (c.are_apart.ensures.rising c.if-not-are_apart.false);
       is = subst (λ (qs : List Pid). IsCompletionOf g.row.TOP (with_silent given qs) x.wholes) (sym others)
           (subst (IsCompletionOf g.row.TOP (with_silent given unlisted)) (sym wholes) (record {
             told = ap (λ ls. told_streams (wholes_with streams ls)) (sym c.deref-2.ensures.value)

@@ -7,11 +7,13 @@ use Rattle.st_plan.specs.Marks.{Whole}
 use Rattle.st_fallback.specs.Silent.{AreSilent}
 use Rattle.st_fallback.proofs.Silence.{silent_more}
 use Rattle.st_fallback.proofs.silent.add_silent.Goals as goal
-use Rattle.st_fallback.proofs.silent.add_silent.Goals.{then-is_further+in_ok-insert_silent+in_ok-insert, else-is_further}
+use Rattle.st_fallback.proofs.silent.add_silent.Goals.{then-is_further+in_ok-insert_silent+in_ok-insert}
+use Rattle.st_fallback.proofs.silent.add_silent.Goals.{else-is_further}
 
 pub loop-back-init : goal.loop-back-init
 loop-back-init c =
-    subst (AreSilent c.args.streams.now c.args.wholes.now.items c.args.wholes.now.items) (sym c.new-others.ensures.items)
+    subst (AreSilent c.args.streams.now c.args.wholes.now.items c.args.wholes.now.items)
+    (sym c.new-others.ensures.items)
     (record { apart = tt; rising = tt; put = refl })
 
 pub returns-then-len-count : goal.returns-then-len-count
@@ -31,14 +33,17 @@ loop-back-preserved c = elim c.if-is_further.branch [
       let old = c.args.wholes.now.items in
       let below = subst (AllByRecursion (IsBelow c.pid_of-pid.result)) c.deref.ensures.value
       (c.is_further.ensures.below w.if-is_further.true) in
-      let more = silent_more streams c.pids-pids.ensures.streams old c.loop-back.wholes.items c.if-is_further.wholes.items
+      let more = silent_more streams c.pids-pids.ensures.streams old c.loop-back.wholes.items
+      c.if-is_further.wholes.items
       c.loop-back.others.items c.pid_of-pid.result below (c.is_further.ensures.unlisted w.if-is_further.true)
       (ap (λ (v : Vec Whole Global). v.items) w.wholes-is ∙ w.in_ok-insert_silent.ensures) c.loop-back.invariant in
       subst (AreSilent streams old c.if-is_further.wholes.items)
       (sym (ap (λ (v : Vec Pid Global). v.items) w.others-is ∙ w.in_ok-insert.ensures.items)) more
   | else-is_further w ↦
-      subst (λ (v : Vec Pid Global). AreSilent c.args.streams.now c.args.wholes.now.items c.if-is_further.wholes.items v.items)
+      subst (λ (v : Vec Pid Global). AreSilent c.args.streams.now c.args.wholes.now.items
+      c.if-is_further.wholes.items v.items)
       (sym w.others-is)
-      (subst (λ (v : Vec Whole Global). AreSilent c.args.streams.now c.args.wholes.now.items v.items c.loop-back.others.items)
+      (subst (λ (v : Vec Whole Global). AreSilent c.args.streams.now c.args.wholes.now.items v.items
+      c.loop-back.others.items)
       (sym w.wholes-is) c.loop-back.invariant)
 ]

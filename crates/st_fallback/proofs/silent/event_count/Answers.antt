@@ -23,4 +23,5 @@ loop-whole-preserved c =
 pub returns : goal.returns
 returns c =
     c.loop-whole.invariant
-    ∙ ap (sum_by (λ (w : Whole). length w.marked)) (take_all c.loop-whole.whole-index c.args.wholes.now c.loop-whole-test.false)
+    ∙ ap (sum_by (λ (w : Whole). length w.marked))
+    (take_all c.loop-whole.whole-index c.args.wholes.now c.loop-whole-test.false)

@@ -12,4 +12,5 @@ construct-requires-clause-none g c = subst (HasNoReason g.row.TOP) (sym c.in_ok-
 
 pub told_completion-requires-clause-all : goal.told_completion-requires-clause-all
 told_completion-requires-clause-all g c =
-    subst (λ ss. IsCompletionOf g.row.TOP ss c.in_ok-completed.completed.wholes) c.in_ok-all.ensures c.in_ok-completed.ensures
+    subst (λ ss. IsCompletionOf g.row.TOP ss c.in_ok-completed.completed.wholes) c.in_ok-all.ensures
+    c.in_ok-completed.ensures

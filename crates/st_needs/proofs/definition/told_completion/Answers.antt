@@ -8,7 +8,8 @@ use Rattle.st_needs.proofs.definition.told_completion.Goals as goal
 
 pub returns-clause-is : goal.returns-clause-is
 returns-clause-is g c =
-    completes_told g.row.TOP (with_silent c.args.streams.now c.args.unlisted.items) c.all.inside.streams c.args.wholes.now c.all.inside.told.items
+    completes_told g.row.TOP (with_silent c.args.streams.now c.args.unlisted.items)
+    c.all.inside.streams c.args.wholes.now c.all.inside.told.items
     c.in_ok-both.both.items c.completion_of.result.wholes
     (subst (IsCompletionOf g.row.TOP (all_streams c.args.wholes.now))
     (ap (λ (x : Completed). x.wholes) (sym c.all.view_is)) c.requires.all) c.requires.told c.in_ok-both.ensures

@@ -7,4 +7,5 @@ pub returns-then-taken-pids : goal.returns-then-taken-pids
 returns-then-taken-pids c =
     let past = c.if-taken-pids.true in
     let some = c.if-added-others.false in
-    sym (others_left c.args.pids.now c.args.others.now c.args.taken c.args.added (omega (arith, past)) (omega (arith, some)))
+    sym (others_left c.args.pids.now c.args.others.now c.args.taken c.args.added
+    (omega (arith, past)) (omega (arith, some)))

@@ -1,5 +1,6 @@
 -- One process more, listed or not, behind all that came.
-use Rattle.std.proofs.Common.{◌≡◌, ◌<◌, ◌+◌, ◌++◌, ℕ, List, [], length, get_or, slice_get, Some, refl, sym, ◌∙◌, ap, subst, arith, rules}
+use Rattle.std.proofs.Common.{◌≡◌, ◌<◌, ◌+◌, ◌++◌, ℕ, List, [], length, get_or, slice_get, Some, refl, sym}
+use Rattle.std.proofs.Common.{◌∙◌, ap, subst, arith, rules}
 use Rattle.st_core.specs.declared.types.Pid.{Pid}
 use Rattle.st_core.specs.declared.types.Event.{Event}
 use Rattle.st_core.specs.Run.{Stream, pids_of}
@@ -8,9 +9,11 @@ use Rattle.st_open.proofs.ForCallers.{silent_sound}
 use Rattle.st_needs.specs.Merged.{merged}
 use Rattle.st_needs.proofs.Counted.{stream_here}
 use Rattle.st_needs.proofs.Ranking.{own_events}
-use Rattle.st_needs.proofs.Merging.{all_merged, IsMerging, listed_last, listed_more, other_last, other_more, taken_within}
+use Rattle.st_needs.proofs.Merging.{all_merged, IsMerging, listed_last, listed_more, other_last, other_more}
+use Rattle.st_needs.proofs.Merging.{taken_within}
 use Rattle.st_needs.proofs.silent.with_silent.Goals as goal
-use Rattle.st_needs.proofs.silent.with_silent.Goals.{then-is_other_next+in_ok-open_last, else-is_other_next+in_ok-add_process}
+use Rattle.st_needs.proofs.silent.with_silent.Goals.{then-is_other_next+in_ok-open_last}
+use Rattle.st_needs.proofs.silent.with_silent.Goals.{else-is_other_next+in_ok-add_process}
 
 abbrev none : Pid
 none = record { node = 0; number = 0 }
@@ -46,7 +49,8 @@ bounds-pids-taken c =
 stream_at : (c : goal.After-events) → slice_get c.args.streams.now c.loop.taken
     ≡ Some (record { pid = get_or c.pids-pids.result.now c.loop.taken none; events = c.events.result.now })
 stream_at c = stream_here c.args.streams.now c.pids-pids.result.now c.loop.taken none c.events.result.now
-    c.pids-pids.ensures.streams.draft.rising c.pids-pids.ensures.value ((taken_within c.args.streams.now c.args.others.now c.pids-pids.result.now c.loop.counter c.loop.draft
+    c.pids-pids.ensures.streams.draft.rising c.pids-pids.ensures.value
+    ((taken_within c.args.streams.now c.args.others.now c.pids-pids.result.now c.loop.counter c.loop.draft
     c.loop.taken c.loop.added c.pids-pids.ensures.value (sym c.is_other_next.ensures ∙ c.if-is_other_next.false)
     c.loop-test.true c.loop.invariant)) c.events.ensures.value
 
@@ -79,7 +83,8 @@ loop-preserved c =
     let ps = c.pids-pids.result.now in
     elim c.if-is_other_next.branch [
       | then-is_other_next+in_ok-open_last w ↦
-          subst (λ (n : ℕ). IsMerging streams others (c.loop.counter + 1) c.if-is_other_next.draft n c.if-is_other_next.added)
+          subst (λ (n : ℕ). IsMerging streams others (c.loop.counter + 1) c.if-is_other_next.draft n
+          c.if-is_other_next.added)
           (sym w.taken-is)
           (subst (IsMerging streams others (c.loop.counter + 1) c.if-is_other_next.draft c.loop.taken) (sym w.added-is)
           (other_more streams others ps c.loop.counter c.loop.draft c.if-is_other_next.draft c.loop.taken c.loop.added
@@ -91,7 +96,8 @@ loop-preserved c =
           c.pids-pids.ensures.value is c.loop-test.true c.loop.invariant in
           let at = stream_here streams ps c.loop.taken none w.events.result.now
           c.pids-pids.ensures.streams.draft.rising c.pids-pids.ensures.value within w.events.ensures.value in
-          subst (λ (n : ℕ). IsMerging streams others (c.loop.counter + 1) c.if-is_other_next.draft c.if-is_other_next.taken n)
+          subst (λ (n : ℕ). IsMerging streams others (c.loop.counter + 1) c.if-is_other_next.draft
+          c.if-is_other_next.taken n)
           (sym w.added-is)
           (subst (λ (n : ℕ). IsMerging streams others (c.loop.counter + 1) c.if-is_other_next.draft n c.loop.added)
           (sym w.taken-is)

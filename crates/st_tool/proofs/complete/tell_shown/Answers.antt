@@ -17,7 +17,8 @@ returns-in-Ok g c =
       output = bundled more acts;
       owed = Finds (answer.Whole c.args.completion.now) (bundled more acts) c.requires.whole
           (Certifies c.args.completion.now acts refl
-          (subst (λ (xs : List Stream). Shows top xs acts) c.requires.more c.in-Ok.ensures.shows) c.in-Ok.ensures.one_trace);
+          (subst (λ (xs : List Stream). Shows top xs acts) c.requires.more c.in-Ok.ensures.shows)
+          c.in-Ok.ensures.one_trace);
       delivered = rw (c.as_slice.ensures, c.requires.more) at c.tell_bundle.ensures;
     }
 

@@ -9,7 +9,8 @@ loop-pid-init g c = goes_still g.W.ByteSink.puts g.W.ByteSink.failed
 
 pub loop-pid-preserved : goal.loop-pid-preserved
 loop-pid-preserved g c =
-    one_more g.W.ByteSink.puts g.W.ByteSink.failed (added_of c.args.completion.now.wholes) c.args.pids.now c.loop-pid.pid-index
+    one_more g.W.ByteSink.puts g.W.ByteSink.failed (added_of c.args.completion.now.wholes)
+    c.args.pids.now c.loop-pid.pid-index
     _ c.loop-pid-test.true c.loop-pid.invariant c.in_ok-write_added_of.ensures
 
 pub returns-in_err-write_added_of : goal.returns-in_err-write_added_of

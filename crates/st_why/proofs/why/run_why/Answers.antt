@@ -13,5 +13,6 @@ returns-in-Ok g c =
 
 pub returns-in-Err : goal.returns-in-Err
 returns-in-Err g c =
-    tells_fault standard (call g.R.ByteSource _ _) (IsWhy c.args.pid c.args.index c.args.reach) Faulty _ _ c.in-Err.fault
+    tells_fault standard (call g.R.ByteSource _ _) (IsWhy c.args.pid c.args.index c.args.reach)
+    Faulty _ _ c.in-Err.fault
     c.in-Err.ensures c.tell_fault.ensures
