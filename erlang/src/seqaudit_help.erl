@@ -52,8 +52,10 @@ text("collect") ->
      "  --limit EVENTS      keep only the first so many events of each node\n"
      "  --folder FOLDER     each node makes the folder of its files in this one, or in that for temporary\n"
      "                      files if this isn't given\n\n"
-     "  --cookie-file FILE  read the cookie from a file; the variable SEQAUDIT_COOKIE may have it too\n"
-     "  --cookie COOKIE     the cookie, but all users of this machine can see it here\n"};
+     "  --cookie-file FILE  read the cookie from a file; else it comes from the variable SEQAUDIT_COOKIE, or\n"
+     "                      as for erl from ERL_FLAGS or ~/.erlang.cookie\n"
+     "  --cookie COOKIE     the cookie, but all users of this machine can see it here\n\n"
+     "The variable ERL_FLAGS has options of erl, as for TLS: -proto_dist inet_tls -ssl_dist_optfile FILE\n"};
 text("convert") ->
     {"convert FILE .. -o NAME",
      "Makes a trace from files of events: NAME.seqtrace; NAME.terms, what its numbers stand for; NAME.messages,\n"

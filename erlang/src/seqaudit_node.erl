@@ -112,7 +112,8 @@ add(Option, Value, Options) ->
 
 collect(#{"--node" := Nodes, "-o" := [Name]} = Options) when not is_map_key("", Options) ->
     case collect_options(lists:reverse(Nodes), Options) of
-        {ok, Wait, Start} -> collect(connect(hd(Nodes), Options), Start#{name => Name}, Wait);
+        {ok, Wait, #{nodes := [Node | _]} = Start} ->
+            collect(seqaudit_reach:connect(Node, Options), Start#{name => Name}, Wait);
         {error, Text} -> {usage, Text}
     end;
 collect(_) ->
@@ -125,7 +126,7 @@ collect_options(Nodes, Options) ->
                    none -> infinity;
                    Seconds -> 1000 * Seconds
                end,
-        Given = [{nodes, [node_name(Node) || Node <- Nodes]},
+        Given = [{nodes, node_names(Nodes)},
                  {reset, is_map_key("--reset", Options)},
                  {trigger, trigger(Options)}]
             ++ [{limit, Limit} || Limit <- [whole("--limit", 0, Options)], Limit =/= none]
@@ -148,10 +149,15 @@ whole(Option, Least, Options) ->
     end.
 
 %% The words of the command line may become atoms: there are few of them, and they are the user's own.
-node_name(Word) ->
-    case {string:split(Word, "@", all), length(Word) =< 255} of
-        {[[_ | _], [_ | _]], true} -> list_to_atom(Word);
-        _ -> throw(Word ++ " isn't the name of a node; it is written name@host")
+node_names(Words) ->
+    Nodes = [case seqaudit_reach:is_node_name(Word) of
+                 true -> list_to_atom(Word);
+                 false -> throw(Word ++ " isn't the name of a node; it is written name@host")
+             end || Word <- Words],
+    case lists:usort([seqaudit_reach:kind(Node) || Node <- Nodes]) of
+        [_] -> Nodes;
+        [_, _] -> throw("some of these nodes have long names, with a dot in the host, and some short ones; one command "
+                        "reaches either")
     end.
 
 trigger(#{"--trigger" := [Function | _], "--label" := [Label | _]} = Options) ->
@@ -180,11 +186,8 @@ label(Word) ->
         {error, _, _} -> throw(Word ++ " isn't an Erlang term")
     end.
 
-collect({error, {cookie, Reason}}, _Start, _Wait) ->
-    failed(?SYSTEM, ["the cookie can't be used: ", Reason]);
 collect({error, Reason}, _Start, _Wait) ->
-    failed(?SYSTEM, io_lib:format("this Erlang can't take part in distribution; it needs a home "
-                                  "folder for its cookie, and epmd: ~0tp", [Reason]));
+    failed(?SYSTEM, seqaudit_reach:format_error(Reason));
 collect(ok, #{nodes := Nodes} = Start, Wait) ->
     %% A signal that comes while the collectors begin ends them as any other does.
     Asked = seqaudit_signals:listen(),
@@ -197,6 +200,8 @@ collect(ok, #{nodes := Nodes} = Start, Wait) ->
              || {Node, Folder} <- seqaudit_trace:folders()],
             _ = seqaudit_signals:wait(Asked, Wait),
             written(seqaudit_trace:stop(), fun seqaudit_trace:format_error/1);
+        {error, {node, Node, unreachable}} ->
+            failed(?SYSTEM, seqaudit_reach:unreachable(Node));
         {error, Reason} ->
             failed(?SYSTEM, seqaudit_trace:format_error(Reason))
     end.
@@ -208,46 +213,6 @@ advice(#{trigger := #{function := {Module, Function, Arity}}}) ->
     io_lib:format("; calls of ~ts:~ts/~b set the token~n", [Module, Function, Arity]);
 advice(_) ->
     "; set tokens there, as with\n  seqaudit_trace:with_trace(17, fun() -> .. end).\n".
-
-%% Makes this a hidden node that listens to nobody, in the name domain of the node.
-connect(Node, Options) ->
-    case cookie(Options) of
-        {error, Reason} -> {error, {cookie, Reason}};
-        Cookie -> connect_with(Node, Cookie)
-    end.
-
-connect_with(Node, Cookie) ->
-    [_ | Host] = string:split(Node, "@"),
-    Domain = case lists:member($., lists:append(Host)) of
-                 true -> longnames;
-                 false -> shortnames
-             end,
-    Own = list_to_atom("seqaudit_" ++ os:getpid()),
-    case is_alive() orelse net_kernel:start(Own, #{name_domain => Domain, dist_listen => false,
-                                                   hidden => true}) of
-        {error, Reason} ->
-            {error, Reason};
-        _ ->
-            Cookie =:= none orelse erlang:set_cookie(list_to_atom(Cookie)),
-            ok
-    end.
-
-%% Words of a command line are seen by all users of the machine; a file and a variable aren't.
-cookie(#{"--cookie" := [Cookie | _]}) ->
-    checked(Cookie);
-cookie(#{"--cookie-file" := [File | _]}) ->
-    case file:read_file(File) of
-        {ok, Text} -> checked(string:trim(unicode:characters_to_list(Text)));
-        {error, Reason} -> {error, [File, ": ", file:format_error(Reason)]}
-    end;
-cookie(_) ->
-    case os:getenv("SEQAUDIT_COOKIE") of
-        false -> none;
-        Cookie -> checked(Cookie)
-    end.
-
-checked([_ | _] = Cookie) when length(Cookie) =< 255 -> Cookie;
-checked(_) -> {error, "it is empty, or longer than 255 characters"}.
 
 written({ok, #{events := Events, processes := Processes, notes := Notes, files := Files}}, _) ->
     io:format("~ts of ~ts: ~ts~n", [seqaudit_explain:count(Events, "event"),

@@ -167,7 +167,7 @@ cookies_test_() ->
         {0, _} = run([Collect, " --cookie-file ", Name, ".cookie"], []),
         {0, _} = run([Collect, " --cookie ", Cookie], [{"SEQAUDIT_COOKIE", "wrong"}]),
         {4, Wrong} = run(Collect, [{"SEQAUDIT_COOKIE", "wrong"}]),
-        {_, _} = binary:match(Wrong, <<"is the cookie the same?">>),
+        {_, _} = binary:match(Wrong, <<"is the cookie the same">>),
         {4, NoFile} = run([Collect, " --cookie-file /no/such/file"], []),
         {_, _} = binary:match(NoFile, <<"the cookie can't be used: /no/such/file: no such file">>)
     end).
