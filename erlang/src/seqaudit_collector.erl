@@ -21,7 +21,7 @@
 
 -export([start/1, folder/1, stop_all/1, adopt/2, names/1]).
 -export([init/1, handle_continue/2, handle_call/3, handle_cast/2, handle_info/2, terminate/2]).
--export_type([options/0, trigger/0]).
+-export_type([options/0]).
 
 %% Trace messages that are on their way when the tracer is taken off come within this time.
 -define(SETTLE_MS, 50).
@@ -45,12 +45,9 @@
 %% The owner's node may come back within this time, as after a net split.
 -define(GRACE_MS, 60_000).
 
--type trigger() :: #{function := mfa(), label := term(), times := boolean()}.
-%% Whoever calls the function gets a token with this label.
-
 -type options() :: #{owner := pid(), limit => non_neg_integer(), reset => boolean(),
                      bytes => pos_integer(), port => boolean(), folder => file:filename() | default,
-                     trigger => trigger() | none, grace => non_neg_integer()}.
+                     trigger => seqaudit_trigger:trigger() | none, grace => non_neg_integer()}.
 %% `owner': the process whose end ends the collector; `limit': how many events are kept, if the
 %% collector itself is the tracer; `reset': whether `seq_trace:reset_trace/0' is called first, so
 %% that all clocks begin at 0; `bytes': the total size of the files; `port': whether to use a trace
@@ -64,7 +61,7 @@
                 limit :: non_neg_integer() | infinity,
                 bytes :: pos_integer(),
                 grace :: non_neg_integer(),
-                trigger :: trigger() | none,
+                trigger :: seqaudit_trigger:trigger() | none | {pulled, seqaudit_trigger:pulled()},
                 former :: tracer(),
                 by :: {port, port()} | {scribe, seqaudit_scribe:scribe()} | closed,
                 watch = none :: none | seqaudit_watch:watch(),
@@ -154,9 +151,9 @@ begin_tracing(#state{folder = Folder} = State, Options) ->
         _ = seq_trace:set_system_tracer(case By of {port, Port} -> Port; _ -> self() end),
         Opened = State#state{by = By, watch = watch(By, State)},
         case pull_trigger(State#state.trigger) of
-            ok ->
+            {ok, Trigger} ->
                 erlang:send_after(?TICK_MS, self(), tick),
-                {ok, Opened, {continue, names}};
+                {ok, Opened#state{trigger = Trigger}, {continue, names}};
             {error, Reason} ->
                 _ = close(take_off(Opened)),
                 _ = seqaudit_spool:remove(Folder),
@@ -194,30 +191,21 @@ open(false, #state{folder = Folder}) ->
 watch({port, Port}, #state{folder = Folder}) -> seqaudit_watch:start(Port, Folder);
 watch({scribe, _}, _State) -> none.
 
-%% Sets the token by a match specification, which sends no message. Calls are traced for this process,
-%% so that a killed collector leaves nothing that acts.
 pull_trigger(none) ->
-    ok;
-pull_trigger(#{function := {Module, _, _} = Function, label := Label, times := Times}) ->
-    _ = code:ensure_loaded(Module),
-    Flags = [send, 'receive', print] ++ [strict_monotonic_timestamp || Times],
-    Acts = [{set_seq_token, label, {const, Label}} | [{set_seq_token, Flag, true} || Flag <- Flags]],
-    case erlang:trace_pattern(Function, [{'_', [], Acts ++ [{message, false}]}], [local]) of
-        0 ->
-            {error, {no_function, Function}};
-        _ ->
-            _ = erlang:trace(all, true, [call]),
-            ok
+    {ok, none};
+pull_trigger(Trigger) ->
+    case seqaudit_trigger:pull(Trigger) of
+        {ok, Pulled} -> {ok, {pulled, Pulled}};
+        {error, Reason} -> {error, Reason}
     end.
 
 %% Tokens that the trigger set would stay with their processes; if nobody else traces, all are
 %% taken off.
-release_trigger(#state{trigger = none}) ->
-    ok;
-release_trigger(#state{trigger = #{function := Function}, former = Former}) ->
-    _ = erlang:trace(all, false, [call]),
-    _ = erlang:trace_pattern(Function, false, [local]),
+release_trigger(#state{trigger = {pulled, Pulled}, former = Former}) ->
+    ok = seqaudit_trigger:release(Pulled),
     _ = Former =:= false andalso seq_trace:reset_trace(),
+    ok;
+release_trigger(_State) ->
     ok.
 
 %% @private
@@ -260,7 +248,7 @@ handle_info(timeout, #state{asked = From} = State) when From =/= undefined ->
     {stop, normal, Closed#state{asked = undefined}};
 handle_info(tick, State) ->
     erlang:send_after(?TICK_MS, self(), tick),
-    go_on(tick(State));
+    go_on(tick(count_calls(State)));
 handle_info({'DOWN', Owner, process, _, noconnection}, #state{owner = Owner} = State) ->
     go_on(State#state{lost = erlang:start_timer(State#state.grace, self(), owner)});
 handle_info({timeout, Lost, owner}, #state{lost = Lost} = State) ->
@@ -341,6 +329,11 @@ look_at_queue(#state{tracer = on, by = {scribe, Scribe}} = State) ->
         false -> State
     end;
 look_at_queue(State) ->
+    State.
+
+count_calls(#state{trigger = {pulled, Pulled}} = State) ->
+    State#state{trigger = {pulled, seqaudit_trigger:tick(Pulled)}};
+count_calls(State) ->
     State.
 
 %% What the port has goes to the disk, so that a node that is killed leaves it there.

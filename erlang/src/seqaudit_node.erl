@@ -55,7 +55,7 @@ run({Command, Valued, Flags, Do}, Words) ->
 %% Each command with its options that have a value, and those that have none.
 commands() ->
     [{"collect", ["--node", "--cookie", "--cookie-file", "--seconds", "--bytes", "--limit", "--folder",
-                  "--trigger", "--label", "-o"], ["--reset", "--times"], fun collect/1},
+                  "--trigger", "--label", "--calls", "-o"], ["--reset", "--times"], fun collect/1},
      {"convert", ["-o"], [], fun convert/1},
      {"audit", ?CUTS, ["--whole", "--parts"], fun(Options) -> answer(fun seqaudit_answer:audit/1, Options) end},
      {"chart", ["--svg", "--html" | ?CUTS], ["--parts"],
@@ -160,20 +160,26 @@ node_names(Words) ->
                         "reaches either")
     end.
 
-trigger(#{"--trigger" := [Function | _], "--label" := [Label | _]} = Options) ->
-    #{function => function(Function), label => label(Label), times => is_map_key("--times", Options)};
+trigger(#{"--trigger" := Functions, "--label" := [Label | _]} = Options) ->
+    #{functions => [read(fun seqaudit_calls:function/1, Function) || Function <- lists:reverse(Functions)],
+      label => label(Label), times => is_map_key("--times", Options),
+      calls => case Options of
+                   #{"--calls" := [Calls | _]} -> read(fun seqaudit_calls:limit/1, Calls);
+                   #{} -> infinity
+               end};
 trigger(Options) when is_map_key("--trigger", Options); is_map_key("--label", Options) ->
     throw("--trigger and --label go together");
 trigger(#{"--times" := _}) ->
     throw("--times goes with --trigger; a program that sets tokens gives them the flag for timestamps itself");
+trigger(#{"--calls" := _}) ->
+    throw("--calls goes with --trigger");
 trigger(_) ->
     none.
 
-function(Word) ->
-    case re:run(Word, "^([^:]+):([^:]+)/([0-9]{1,3})$", [unicode, {capture, all_but_first, list}]) of
-        {match, [Module, Function, Arity]} ->
-            {list_to_atom(Module), list_to_atom(Function), list_to_integer(Arity)};
-        nomatch -> throw(Word ++ " isn't a function; it is written module:function/2")
+read(Read, Word) ->
+    case Read(Word) of
+        {ok, Result} -> Result;
+        {error, Text} -> throw(Text)
     end.
 
 label(Word) ->
@@ -209,10 +215,20 @@ collect(ok, #{nodes := Nodes} = Start, Wait) ->
 how_long(infinity) -> "until Ctrl-C";
 how_long(Milliseconds) -> io_lib:format("for ~b s", [Milliseconds div 1000]).
 
-advice(#{trigger := #{function := {Module, Function, Arity}}}) ->
-    io_lib:format("; calls of ~ts:~ts/~b set the token~n", [Module, Function, Arity]);
+advice(#{trigger := #{functions := Functions, calls := Calls}}) ->
+    io_lib:format("; ~tscalls of ~ts set the token~n",
+                  [case Calls of
+                       infinity -> "";
+                       {Most, second} -> io_lib:format("in each second the first ~b ", [Most]);
+                       Most -> io_lib:format("the first ~b ", [Most])
+                   end,
+                   lists:join(", ", [io_lib:format("~ts:~ts/~b~ts", [Module, Function, Arity, conditions(Clauses)])
+                                     || {{Module, Function, Arity}, Clauses} <- Functions])]);
 advice(_) ->
     "; set tokens there, as with\n  seqaudit_trace:with_trace(17, fun() -> .. end).\n".
+
+conditions([{'_', []}]) -> "";
+conditions(_) -> " that its condition allows".
 
 written({ok, #{events := Events, processes := Processes, notes := Notes, files := Files}}, _) ->
     io:format("~ts of ~ts: ~ts~n", [seqaudit_explain:count(Events, "event"),

@@ -27,7 +27,7 @@
 -define(FLAGS, [send, 'receive', print, timestamp, strict_monotonic_timestamp,
                 monotonic_timestamp]).
 %% Modules that another node needs: the collector, what it depends on, and this one for `with_trace'.
--define(MODULES, [seqaudit_spool, seqaudit_scribe, seqaudit_watch, seqaudit_collector, ?MODULE]).
+-define(MODULES, [seqaudit_spool, seqaudit_scribe, seqaudit_watch, seqaudit_trigger, seqaudit_collector, ?MODULE]).
 -define(REMOTE_MS, 15_000).
 %% A node that is out of reach is tried again in these steps.
 -define(REACH_MS, 500).
@@ -40,13 +40,13 @@
 
 -type options() :: #{nodes => [node()], name => file:filename(), limit => non_neg_integer(),
                      reset => boolean(), bytes => pos_integer(), folder => file:filename() | default,
-                     trigger => seqaudit_collector:trigger() | none, port => boolean()}.
+                     trigger => seqaudit_trigger:trigger() | none, port => boolean()}.
 %% `nodes': where to trace, this node alone if it isn't given; `name': the files' name without
 %% extension, `"seqaudit"' if it isn't given; `bytes': the total size of each node's files, 268,435,456
 %% if it isn't given; `limit': how many events of each node are kept, all if it isn't given; `reset':
 %% whether `seq_trace:reset_trace/0' is called on each node first, which takes the tokens of all its
 %% users; `folder': where each node makes the folder for its files, its folder for temporary files
-%% if it isn't given; `trigger': a function whose callers get a token; `port': whether a trace port
+%% if it isn't given; `trigger': functions whose callers get a token; `port': whether a trace port
 %% may be used, true if it isn't given.
 
 -type flag() :: send | 'receive' | print
@@ -93,9 +93,7 @@ is_valid(name, Name) -> io_lib:char_list(Name) andalso Name =/= [];
 is_valid(limit, Limit) -> Limit =:= infinity orelse is_integer(Limit) andalso Limit >= 0;
 is_valid(bytes, Bytes) -> is_integer(Bytes) andalso Bytes >= ?LEAST_BYTES;
 is_valid(folder, Folder) -> Folder =:= default orelse io_lib:char_list(Folder);
-is_valid(trigger, #{function := {M, F, A}, label := _, times := Times}) ->
-    is_atom(M) andalso is_atom(F) andalso is_integer(A) andalso A >= 0 andalso is_boolean(Times);
-is_valid(trigger, Trigger) -> Trigger =:= none;
+is_valid(trigger, Trigger) -> seqaudit_trigger:is_valid(Trigger);
 is_valid(Option, Value) when Option =:= reset; Option =:= port -> is_boolean(Value);
 is_valid(_, _) -> true.
 
@@ -176,9 +174,8 @@ format_error({otp, Release}) ->
     text("this Erlang is OTP ~ts, and collecting needs OTP ~b or later", [Release, ?LEAST_OTP]);
 format_error({node, Node, {otp, Release}}) ->
     text("node ~ts is OTP ~ts, and collecting needs OTP ~b or later", [Node, Release, ?LEAST_OTP]);
-format_error({node, Node, {no_function, {Module, Function, Arity}}}) ->
-    text("node ~ts has no function ~ts:~ts/~b; is its module loaded there, and is it spelled so?",
-         [Node, Module, Function, Arity]);
+format_error({node, Node, {trigger, Reason}}) ->
+    seqaudit_trigger:format_error(Node, Reason);
 format_error({node, Node, {file, File, Reason}}) ->
     text("node ~ts can't write to ~ts: ~ts; name another folder (--folder)",
          [Node, File, file:format_error(Reason)]);
@@ -204,7 +201,7 @@ allowed(name) -> "it is the name of a file";
 allowed(limit) -> "it is a whole number of events, 0 or more";
 allowed(bytes) -> text("it is a whole number of bytes, ~b or more", [?LEAST_BYTES]);
 allowed(folder) -> "it is the name of a folder";
-allowed(trigger) -> "it is a map with function, label and times";
+allowed(trigger) -> "it is a map with function or functions, label, times, and perhaps calls";
 allowed(_) -> "it is true or false".
 
 text(Format, Values) ->

@@ -124,7 +124,7 @@ collect_until_kill_test_() ->
         %% The node traced and did nothing else: only what collects is loaded there.
         Loaded = [Module || {Module, _} <- erpc:call(There, code, all_loaded, []),
                             string:prefix(atom_to_list(Module), "seqaudit_") =/= nomatch],
-        [] = Loaded -- [seqaudit_trace, seqaudit_collector, seqaudit_scribe, seqaudit_spool, seqaudit_watch,
+        [] = Loaded -- [seqaudit_trace, seqaudit_collector, seqaudit_scribe, seqaudit_spool, seqaudit_trigger, seqaudit_watch,
                          seqaudit_test_server]
     end).
 

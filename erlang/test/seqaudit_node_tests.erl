@@ -15,7 +15,7 @@ usage_test_() ->
              {0, Same} = command([Command, " x -h"]),
              [] = [Option || Option <- Options, binary:match(Its, Option) =:= nomatch]
          end || {Command, Options} <- [{<<"collect">>, [<<"--node">>, <<"-o">>, <<"--seconds">>, <<"--trigger">>, <<"--label">>,
-                                                        <<"--times">>, <<"--reset">>, <<"--bytes">>, <<"--limit">>, <<"--folder">>,
+                                                        <<"--calls">>, <<"--times">>, <<"--reset">>, <<"--bytes">>, <<"--limit">>, <<"--folder">>,
                                                         <<"--cookie-file">>, <<"--cookie ">>, <<"SEQAUDIT_COOKIE">>]},
                                        {<<"convert">>, [<<"FILE">>, <<"-o">>]},
                                        {<<"audit">>, [<<"--whole">>, <<"--parts">>, <<"--label">> | cuts()]},
@@ -189,7 +189,7 @@ collect(There) ->
     %% What the node was sent is what collects; what was collected is converted here.
     Loaded = [Module || Module <- erpc:call(There, erlang, loaded, []),
                         string:prefix(atom_to_list(Module), "seqaudit_") =/= nomatch],
-    [seqaudit_collector, seqaudit_scribe, seqaudit_spool, seqaudit_trace, seqaudit_watch] =
+    [seqaudit_collector, seqaudit_scribe, seqaudit_spool, seqaudit_trace, seqaudit_trigger, seqaudit_watch] =
         lists:sort(Loaded -- [?MODULE, seqaudit_test_server]),
     seqaudit_audits:fits(Name).
 
