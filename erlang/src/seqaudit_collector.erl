@@ -21,7 +21,7 @@
 
 -export([start/1, folder/1, stop_all/1, adopt/2, names/1]).
 -export([init/1, handle_continue/2, handle_call/3, handle_cast/2, handle_info/2, terminate/2]).
--export_type([options/0]).
+-export_type([options/0, use/0]).
 
 %% Trace messages that are on their way when the tracer is taken off come within this time.
 -define(SETTLE_MS, 50).
@@ -47,16 +47,22 @@
 
 -type options() :: #{owner := pid(), limit => non_neg_integer(), reset => boolean(),
                      bytes => pos_integer(), port => boolean(), folder => file:filename() | default,
-                     trigger => seqaudit_trigger:trigger() | none, grace => non_neg_integer()}.
+                     trigger => seqaudit_trigger:trigger() | none, grace => non_neg_integer(),
+                     take_over => boolean()}.
 %% `owner': the process whose end ends the collector; `limit': how many events are kept, if the
 %% collector itself is the tracer; `reset': whether `seq_trace:reset_trace/0' is called first, so
 %% that all clocks begin at 0; `bytes': the total size of the files; `port': whether to use a trace
 %% port, if there is one; `folder': in which folder the files' own folder is made; `grace': how many
-%% milliseconds an owner may be out of reach.
+%% milliseconds an owner may be out of reach; `take_over': whether a collector whose owner is out of
+%% reach is ended first.
+
+-type use() :: #{owner := node(), folder := file:filename(), left := non_neg_integer() | led}.
+%% For whose node a collector works, and how many milliseconds it still waits for it, if that is out of reach.
 
 -type tracer() :: pid() | port() | {module(), term()} | false.
 
 -record(state, {owner :: reference(),
+                owner_node :: node(),
                 folder :: file:filename(),
                 limit :: non_neg_integer() | infinity,
                 bytes :: pos_integer(),
@@ -83,10 +89,25 @@
 -type gone_on() :: {noreply, #state{}} | {noreply, #state{}, timeout()}.
 
 %% @doc Starts the collector of this node and makes it, or its port, the system tracer.
--spec start(options()) -> gen_server:start_ret().
+-spec start(options()) -> {ok, pid()} | {error, {in_use, use()} | term()}.
 start(Options) ->
-    gen_server:start({local, ?MODULE}, ?MODULE, Options,
-                     [{spawn_opt, [{message_queue_data, off_heap}]}]).
+    case gen_server:start({local, ?MODULE}, ?MODULE, Options, [{spawn_opt, [{message_queue_data, off_heap}]}]) of
+        {error, {already_started, Other}} -> start_beside(Other, Options);
+        Started -> Started
+    end.
+
+%% There is one already, or was when it was asked.
+start_beside(Other, Options) ->
+    Monitor = monitor(process, Other),
+    try gen_server:call(Other, {in_use, maps:get(take_over, Options, false)}) of
+        {in_use, Use} ->
+            demonitor(Monitor, [flush]),
+            {error, {in_use, Use}};
+        ends ->
+            receive {'DOWN', Monitor, process, _, _} -> start(Options) end
+    catch
+        exit:{noproc, _} -> start(Options)
+    end.
 
 %% @doc The folder to which the events go.
 -spec folder(pid()) -> file:filename().
@@ -132,7 +153,7 @@ init(#{owner := Owner} = Options) ->
     _ = seq_trace:set_token([]),
     case seqaudit_spool:create(maps:get(folder, Options, default)) of
         {ok, Folder} ->
-            State = #state{owner = monitor(process, Owner), folder = Folder,
+            State = #state{owner = monitor(process, Owner), owner_node = node(Owner), folder = Folder,
                            limit = maps:get(limit, Options, infinity),
                            bytes = maps:get(bytes, Options, ?BYTES),
                            grace = maps:get(grace, Options, ?GRACE_MS),
@@ -219,12 +240,20 @@ handle_continue(names, State) ->
 
 %% @private
 -spec handle_call(term(), gen_server:from(), #state{}) ->
-          {noreply, #state{}, timeout()} | {reply, term(), #state{}}.
+          {noreply, #state{}, timeout()} | {reply, term(), #state{}} | {stop, normal, ends, #state{}}.
 handle_call(folder, _From, State) ->
     {reply, State#state.folder, State};
 handle_call({adopt, Owner}, _From, State) ->
     demonitor(State#state.owner, [flush]),
-    {reply, ok, State#state{owner = monitor(process, Owner), lost = undefined}};
+    {reply, ok, State#state{owner = monitor(process, Owner), owner_node = node(Owner), lost = undefined}};
+handle_call({in_use, true}, _From, #state{lost = Lost} = State) when Lost =/= undefined ->
+    {stop, normal, ends, close(take_off(ended(taken_over, State)))};
+handle_call({in_use, _}, _From, #state{owner_node = Owner, folder = Folder, lost = Lost} = State) ->
+    Left = case Lost of
+               undefined -> led;
+               _ -> case erlang:read_timer(Lost) of false -> 0; Milliseconds -> Milliseconds end
+           end,
+    {reply, {in_use, #{owner => Owner, folder => Folder, left => Left}}, State};
 handle_call(stop, From, State) ->
     {noreply, (take_off(State))#state{asked = From}, ?SETTLE_MS};
 handle_call(_Stray, _From, State) ->

@@ -43,12 +43,12 @@ entry(Kind, {Number, Term}, Numbers) ->
 utf8(Characters) ->
     unicode:characters_to_binary(Characters).
 
-%% @doc Reads the file.
+%% @doc Reads the file. Control characters in it are escaped, so that names and terms may be shown as they are.
 -spec read(file:filename()) -> {ok, legend()} | {error, term()}.
 read(File) ->
     case file:read_file(File) of
         {ok, Text} ->
-            case binary:split(Text, <<"\n">>, [global, trim]) of
+            case binary:split(seqaudit_shown:escaped(Text), <<"\n">>, [global, trim]) of
                 [?HEADER | Lines] -> read_lines(Lines, 2, #{}, File);
                 _ -> {error, {not_terms, File, 1}}
             end;
@@ -109,7 +109,8 @@ brief_text(Text, [{Pattern, Parts} | Patterns]) ->
 %% this number.
 -spec find_label(string(), legend()) -> {ok, binary()} | {error, term()}.
 find_label(Text, Legend) ->
-    Spelled = [utf8(Text) | [utf8(seqaudit_terms:text(Term)) || Term <- parse(Text)]],
+    Spelled = [seqaudit_shown:escaped(utf8(Spelling))
+               || Spelling <- [Text | [seqaudit_terms:text(Term) || Term <- parse(Text)]]],
     Numbers = lists:usort([Number || {{label, Number}, Term} <- maps:to_list(Legend),
                                      lists:member(Term, Spelled)]),
     case Numbers of

@@ -19,8 +19,11 @@
 %% @doc Runs the command and halts with its status.
 -spec main([string()]) -> no_return().
 main(Words) ->
-    _ = io:setopts([{encoding, unicode}]),
-    halt(run(Words)).
+    %% What was collected is written even if nobody reads what is said of it.
+    ok = seqaudit_output:open(case Words of ["collect" | _] -> stop; _ -> halt end),
+    Status = run(Words),
+    ok = seqaudit_output:flush(),
+    halt(Status).
 
 %% @doc Runs the command, and returns its status.
 -spec run([string()]) -> ?FITS..?SYSTEM.
@@ -55,7 +58,7 @@ run({Command, Valued, Flags, Do}, Words) ->
 %% Each command with its options that have a value, and those that have none.
 commands() ->
     [{"collect", ["--node", "--cookie", "--cookie-file", "--seconds", "--bytes", "--limit", "--folder",
-                  "--trigger", "--label", "--calls", "-o"], ["--reset", "--times"], fun collect/1},
+                  "--trigger", "--label", "--calls", "-o"], ["--reset", "--times", "--take-over"], fun collect/1},
      {"convert", ["-o"], [], fun convert/1},
      {"audit", ?CUTS, ["--whole", "--parts"], fun(Options) -> answer(fun seqaudit_answer:audit/1, Options) end},
      {"chart", ["--svg", "--html" | ?CUTS], ["--parts"],
@@ -128,6 +131,7 @@ collect_options(Nodes, Options) ->
                end,
         Given = [{nodes, node_names(Nodes)},
                  {reset, is_map_key("--reset", Options)},
+                 {take_over, is_map_key("--take-over", Options)},
                  {trigger, trigger(Options)}]
             ++ [{limit, Limit} || Limit <- [whole("--limit", 0, Options)], Limit =/= none]
             ++ [{bytes, Bytes} || Bytes <- [whole("--bytes", 1, Options)], Bytes =/= none]
@@ -204,7 +208,9 @@ collect(ok, #{nodes := Nodes} = Start, Wait) ->
                        advice(Start)]),
             [io:format("  ~ts writes its events to ~ts~n", [Node, Folder])
              || {Node, Folder} <- seqaudit_trace:folders()],
+            Sight = seqaudit_sight:keep(Nodes, fun(Sentence) -> complain("~ts", [Sentence]) end),
             _ = seqaudit_signals:wait(Asked, Wait),
+            ok = seqaudit_sight:stop(Sight),
             written(seqaudit_trace:stop(), fun seqaudit_trace:format_error/1);
         {error, {node, Node, unreachable}} ->
             failed(?SYSTEM, seqaudit_reach:unreachable(Node));

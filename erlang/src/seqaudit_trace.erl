@@ -40,14 +40,16 @@
 
 -type options() :: #{nodes => [node()], name => file:filename(), limit => non_neg_integer(),
                      reset => boolean(), bytes => pos_integer(), folder => file:filename() | default,
-                     trigger => seqaudit_trigger:trigger() | none, port => boolean()}.
+                     trigger => seqaudit_trigger:trigger() | none, port => boolean(),
+                     take_over => boolean()}.
 %% `nodes': where to trace, this node alone if it isn't given; `name': the files' name without
 %% extension, `"seqaudit"' if it isn't given; `bytes': the total size of each node's files, 268,435,456
 %% if it isn't given; `limit': how many events of each node are kept, all if it isn't given; `reset':
 %% whether `seq_trace:reset_trace/0' is called on each node first, which takes the tokens of all its
 %% users; `folder': where each node makes the folder for its files, its folder for temporary files
 %% if it isn't given; `trigger': functions whose callers get a token; `port': whether a trace port
-%% may be used, true if it isn't given.
+%% may be used, true if it isn't given; `take_over': whether a collector whose leader is out of reach is
+%% ended first, false if it isn't given.
 
 -type flag() :: send | 'receive' | print
               | timestamp | strict_monotonic_timestamp | monotonic_timestamp.
@@ -74,7 +76,7 @@ start() ->
 start(Options) ->
     _ = seq_trace:set_token([]),
     Defaults = #{nodes => [node()], name => "seqaudit", limit => infinity, reset => false,
-                 bytes => ?BYTES, folder => default, trigger => none, port => true},
+                 bytes => ?BYTES, folder => default, trigger => none, port => true, take_over => false},
     All = maps:merge(Defaults, Options),
     Wrong = [{Option, Value} || {Option, Value} <- maps:to_list(All), not is_valid(Option, Value)],
     case {maps:keys(maps:without(maps:keys(Defaults), Options)), Wrong, left_over()} of
@@ -94,7 +96,7 @@ is_valid(limit, Limit) -> Limit =:= infinity orelse is_integer(Limit) andalso Li
 is_valid(bytes, Bytes) -> is_integer(Bytes) andalso Bytes >= ?LEAST_BYTES;
 is_valid(folder, Folder) -> Folder =:= default orelse io_lib:char_list(Folder);
 is_valid(trigger, Trigger) -> seqaudit_trigger:is_valid(Trigger);
-is_valid(Option, Value) when Option =:= reset; Option =:= port -> is_boolean(Value);
+is_valid(Option, Value) when Option =:= reset; Option =:= port; Option =:= take_over -> is_boolean(Value);
 is_valid(_, _) -> true.
 
 %% @doc Takes the collectors off and writes the files. Returns how many events were kept and
@@ -165,7 +167,7 @@ format_error(not_started) ->
     "no trace is being collected; begin one: seqaudit_trace:start()";
 format_error({unknown_options, Names}) ->
     text("start doesn't know the options ~0tp; it takes nodes, name, bytes, limit, reset, folder, "
-         "trigger and port", [Names]);
+         "trigger, port and take_over", [Names]);
 format_error({option, Option, Value}) ->
     text("~ts can't be ~0tP: ~ts", [Option, Value, 10, allowed(Option)]);
 format_error(left_over) ->
@@ -179,9 +181,13 @@ format_error({node, Node, {trigger, Reason}}) ->
 format_error({node, Node, {file, File, Reason}}) ->
     text("node ~ts can't write to ~ts: ~ts; name another folder (--folder)",
          [Node, File, file:format_error(Reason)]);
-format_error({node, Node, {already_started, _}}) ->
-    text("node ~ts already has a collector; end the trace that uses it, with "
-         "seqaudit_trace:stop() where it was started", [Node]);
+format_error({node, Node, {in_use, #{owner := Owner, folder := Folder, left := led}}}) ->
+    text("node ~ts is traced already, for ~ts (its events go to ~ts); end that first, by Ctrl-C or "
+         "seqaudit_trace:stop() there", [Node, Owner, Folder]);
+format_error({node, Node, {in_use, #{owner := Owner, folder := Folder, left := Left}}}) ->
+    text("node ~ts is still traced for ~ts, which can't be reached any more; that ends in ~b s, unless it comes back, and "
+         "leaves its events in ~ts there; with --take-over it ends now",
+         [Node, Owner, (Left + 999) div 1_000, Folder]);
 format_error({node, Node, unreachable}) ->
     text("node ~ts can't be reached; is it running, is its name spelled so, and is the cookie "
          "the same?", [Node]);
@@ -213,7 +219,7 @@ init({recover, #state{nodes = Nodes} = State}) ->
     {ok, State#state{nodes = [Node#node{monitor = monitor(process, Node#node.collector)}
                               || Node <- Nodes]}};
 init(#{nodes := Nodes, name := Name, limit := Limit} = Options) ->
-    Each = (maps:with([reset, bytes, folder, trigger, port, limit], Options))#{owner => self()},
+    Each = (maps:with([reset, bytes, folder, trigger, port, limit, take_over], Options))#{owner => self()},
     case {erlang:system_info(otp_release), seqaudit_events:writable(Name)} of
         {Release, ok} ->
             case is_enough(Release) andalso start_all(lists:usort(Nodes), Each, []) of
