@@ -12,7 +12,8 @@ all() ->
     "  convert   makes a trace from files of events\n"
     "  audit     says whether the events of a trace fit together, and what is missing\n"
     "  chart     prints the messages of a trace, or draws them\n"
-    "  why       says what caused an event, or what it caused\n\n"
+    "  why       says what caused an event, or what it caused\n"
+    "  times     says how long messages and labels took\n\n"
     "`seqaudit-node COMMAND --help' has the options of each.\n" ++ statuses().
 
 %% @doc How a command is called.
@@ -74,19 +75,32 @@ text("audit") ->
      "Says whether the events of a trace fit together, and what is missing. The run that shows it is kept\n"
      "in NAME.answer, which `seqaudit check' confirms.\n\n"
      "  --whole             print all events and the acts of the run as well\n"
-     "  --parts             if resets divide the trace, print all that was found out of each part\n" ++ cuts(label)};
+     "  --parts             if resets divide the trace, print all that was found out of each part\n"
+     "  --json              print the outcome as JSON\n" ++ cuts(label)};
 text("chart") ->
-    {"chart NAME --label TERM [OPTION ..]\n       seqaudit-node chart NAME --html FILE [OPTION ..]",
+    {"chart NAME --label TERM [OPTION ..]\n       seqaudit-node chart NAME --html FILE [OPTION ..]\n"
+     "       seqaudit-node chart NAME --mermaid FILE | --perfetto FILE | --otlp FILE [OPTION ..]",
      "Prints the messages of a label, with what caused each, and draws them; or makes a page of all labels.\n\n"
      "  --label TERM        the label\n"
      "  --svg FILE          draw it, for a document, up to 2,000 rows\n"
-     "  --html FILE         make a page for a browser, with all labels; it needs no --label\n" ++ cuts(no_label)};
+     "  --html FILE         make a page for a browser, with all labels; it needs no --label\n"
+     "  --mermaid FILE      write a sequence diagram of Mermaid, up to 500 events\n"
+     "  --perfetto FILE     write a trace for Perfetto or chrome://tracing; it needs times\n"
+     "  --otlp FILE         write OpenTelemetry's JSON, a span for each message below its cause; it needs times\n"
+     "                      These three take the one label, or all without --label.\n" ++ cuts(no_label)};
 text("why") ->
     {"why NAME --event PROCESS#NUMBER [OPTION ..]",
      "Says what caused an event, back to where the trace begins.\n\n"
      "  --event PROCESS#NUMBER\n"
      "                      the event, by its name in audits and charts, as shop#2\n"
-     "  --effects           say what the event caused instead\n" ++ cuts(label)}.
+     "  --effects           say what the event caused instead\n"
+     "  --json              print the events as JSON\n" ++ cuts(label)};
+text("times") ->
+    {"times NAME [OPTION ..]",
+     "Says how long messages took, by pair of processes and by kind of message, and how long labels took; the\n"
+     "slowest first. It needs NAME.times.\n\n"
+     "  --label TERM        this label alone, and what its last event waited for, step by step\n"
+     "  --json              print all of it as JSON, times in nanoseconds\n" ++ cuts(no_label)}.
 
 cuts(Label) ->
     "\nTo look at a part of the trace:\n" ++

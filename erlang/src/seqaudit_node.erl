@@ -60,11 +60,12 @@ commands() ->
     [{"collect", ["--node", "--cookie", "--cookie-file", "--seconds", "--bytes", "--limit", "--folder",
                   "--trigger", "--label", "--calls", "-o"], ["--reset", "--times", "--take-over"], fun collect/1},
      {"convert", ["-o"], [], fun convert/1},
-     {"audit", ?CUTS, ["--whole", "--parts"], fun(Options) -> answer(fun seqaudit_answer:audit/1, Options) end},
-     {"chart", ["--svg", "--html" | ?CUTS], ["--parts"],
+     {"audit", ?CUTS, ["--whole", "--parts", "--json"], fun(Options) -> answer(fun seqaudit_answer:audit/1, Options) end},
+     {"chart", ["--svg", "--html", "--mermaid", "--perfetto", "--otlp" | ?CUTS], ["--parts"],
       fun(Options) -> answer(fun seqaudit_answer:chart/1, Options) end},
-     {"why", ["--event" | ?CUTS], ["--effects"],
-      fun(Options) -> answer(fun seqaudit_answer:why/1, Options) end}].
+     {"why", ["--event" | ?CUTS], ["--effects", "--json"],
+      fun(Options) -> answer(fun seqaudit_answer:why/1, Options) end},
+     {"times", ?CUTS, ["--json"], fun(Options) -> answer(fun seqaudit_timing:times/1, Options) end}].
 
 %% The commands on a collected trace are in a module of their own.
 answer(Command, Options) ->

@@ -7,6 +7,8 @@
 
 -export([html/2, html/3, format_error/1]).
 
+-import(seqaudit_json, [object/1, array/1, text/1]).
+
 -define(NONCE_BYTES, 18).
 %% So many characters all messages of a page have together: a page is one file that a browser reads and
 %% keeps as a whole, and searches as a whole at each key.
@@ -216,36 +218,3 @@ time(Id, Times) ->
         #{Id := Time} -> integer_to_binary(Time);
         #{} -> <<"null">>
     end.
-
-%% Data as JSON
-
-object(Fields) ->
-    [${, lists:join($,, [[$", Name, $", $: | Value] || {Name, Value} <- Fields]), $}].
-
-array(Values) ->
-    [$[, lists:join($,, Values), $]].
-
-%% A text as JSON writes it, with a number for each character that a page or its reader could take
-%% for something else. A long one is made in one binary, as a list takes many times its size.
-text(Text) when is_binary(Text) -> append_text(Text, <<$">>);
-text(Text) -> text(unicode:characters_to_binary(Text)).
-
-append_text(<<C, Rest/binary>>, Before)
-  when C >= 16#20, C < 16#7F, C =/= $", C =/= $\\, C =/= $<, C =/= $>, C =/= $& ->
-    append_text(Rest, <<Before/binary, C>>);
-append_text(<<C/utf8, Rest/binary>>, Before) when C < 16#10000 ->
-    append_text(Rest, append_unit(C, Before));
-append_text(<<C/utf8, Rest/binary>>, Before) ->
-    First = append_unit(16#D800 + ((C - 16#10000) bsr 10), Before),
-    append_text(Rest, append_unit(16#DC00 + ((C - 16#10000) band 16#3FF), First));
-append_text(<<_, Rest/binary>>, Before) ->
-    append_text(Rest, append_unit(16#FFFD, Before));
-append_text(<<>>, Before) ->
-    <<Before/binary, $">>.
-
-append_unit(Unit, Before) ->
-    <<A:4, B:4, C:4, D:4>> = <<Unit:16>>,
-    <<Before/binary, "\\u", (digit(A)), (digit(B)), (digit(C)), (digit(D))>>.
-
-digit(N) when N < 10 -> $0 + N;
-digit(N) -> $a + N - 10.
