@@ -76,7 +76,9 @@ text("audit") ->
      "in NAME.answer, which `seqaudit check' confirms.\n\n"
      "  --whole             print all events and the acts of the run as well\n"
      "  --parts             if resets divide the trace, print all that was found out of each part\n"
-     "  --json              print the outcome as JSON\n" ++ cuts(label)};
+     "  --each-label        audit the events of each label by themselves, side by side, with a line for each; no\n"
+     "                      NAME.answer is kept\n"
+     "  --json              print the outcome as JSON; with --each-label a line for each label\n" ++ cuts(label)};
 text("chart") ->
     {"chart NAME --label TERM [OPTION ..]\n       seqaudit-node chart NAME --html FILE [OPTION ..]\n"
      "       seqaudit-node chart NAME --mermaid FILE | --perfetto FILE | --otlp FILE [OPTION ..]",

@@ -60,7 +60,10 @@ commands() ->
     [{"collect", ["--node", "--cookie", "--cookie-file", "--seconds", "--bytes", "--limit", "--folder",
                   "--trigger", "--label", "--calls", "-o"], ["--reset", "--times", "--take-over"], fun collect/1},
      {"convert", ["-o"], [], fun convert/1},
-     {"audit", ?CUTS, ["--whole", "--parts", "--json"], fun(Options) -> answer(fun seqaudit_answer:audit/1, Options) end},
+     {"audit", ?CUTS, ["--whole", "--parts", "--json", "--each-label"],
+      fun(#{"--each-label" := _} = Options) -> answer(fun seqaudit_each:audit/1, Options);
+         (Options) -> answer(fun seqaudit_answer:audit/1, Options)
+      end},
      {"chart", ["--svg", "--html", "--mermaid", "--perfetto", "--otlp" | ?CUTS], ["--parts"],
       fun(Options) -> answer(fun seqaudit_answer:chart/1, Options) end},
      {"why", ["--event" | ?CUTS], ["--effects", "--json"],

@@ -4,10 +4,11 @@
 -export([audit/1, why/4, clock/1]).
 
 %% @doc The outcome of an audit: what is missing, or why the events don't go together, with the parts between resets.
+%% `label' is in it if it is of one label alone.
 -spec audit(map()) -> iodata().
-audit(#{name := Name, cut := Cut, notes := Notes, outcome := Outcome, parts := Parts, legend := Legend}) ->
+audit(#{name := Name, cut := Cut, notes := Notes, outcome := Outcome, parts := Parts, legend := Legend} = Audited) ->
     Losses = [Note || Note <- Notes, seqaudit_explain:losses([Note]) =/= ""],
-    encode((outcome(Outcome, Legend))#{trace => utf8(Name), losses => Losses,
+    encode((maps:merge(maps:with([label], Audited), outcome(Outcome, Legend)))#{trace => utf8(Name), losses => Losses,
                                        cut => case Cut of "" -> null; _ -> line(Cut) end,
                                        parts => [outcome(Part, Legend) || {_, Part} <- Parts]}).
 

@@ -1,0 +1,92 @@
+%% @doc `audit --each-label': audits the events of each label by themselves, as if they had been traced alone, side by
+%% side on all schedulers. So a trace of many requests is looked through though it is too large for the programs as a
+%% whole, and one request that doesn't fit doesn't hide what is known of the others.
+-module(seqaudit_each).
+
+-export([audit/1, by_label/1]).
+
+-import(seqaudit_explain, [count/2, number/1]).
+
+-define(FITS, 0).
+-define(UNFIT, 1).
+-define(INPUT, 2).
+-define(SYSTEM, 4).
+%% Characters of a label in a line.
+-define(LABEL, 80).
+
+%% @doc Prints a line for each label, and how many of them fit.
+-spec audit(#{string() => [string()]}) -> 0..4 | {0..4, unicode:chardata()} | {usage, string()}.
+audit(#{"" := [_]} = Options) when is_map_key("--whole", Options); is_map_key("--parts", Options) ->
+    {usage, "--each-label goes with neither --whole nor --parts"};
+audit(#{"" := [Name]} = Options) ->
+    Wish = seqaudit_answer:wish(Options, [labels, processes, from, to]),
+    seqaudit_answer:with_trace(Name, Wish, fun(#{streams := Streams, cut := Cut} = Trace) ->
+        is_map_key("--json", Options) orelse io:put_chars(Cut),
+        Labels = by_label(Streams),
+        Makes = [fun() -> {Label, Own, seqaudit_outcome:ask(Own)} end || {Label, Own} <- Labels],
+        told(seqaudit_workers:fold(Makes, fun(Asked, Counts) -> tell(Asked, Trace, Options, Counts) end, #{}),
+             length(Labels), Trace, Options)
+    end);
+audit(_) ->
+    {usage, "audit needs the NAME of one trace"}.
+
+%% @doc The streams of each label, with the processes that its events name.
+-spec by_label(seqaudit_bundle:streams()) -> [{Label :: binary(), seqaudit_bundle:streams()}].
+by_label(Streams) ->
+    Places = maps:from_list([{Pid, Place} || {Place, {Pid, _}} <- lists:enumerate(Streams)]),
+    Found = lists:foldl(fun({Pid, Events}, Labels) -> lists:foldl(fun(Event, Sum) -> put_event(Pid, Event, Sum) end, Labels, Events) end,
+                        #{}, Streams),
+    [{Label, [{Pid, lists:reverse(Events)}
+              || {_, Pid, Events} <- lists:sort([{maps:get(Pid, Places, last), Pid, Events} || {Pid, Events} <- maps:to_list(Own)])]}
+     || {Label, Own} <- lists:sort(fun({A, _}, {B, _}) -> binary_to_integer(A) =< binary_to_integer(B) end, maps:to_list(Found))].
+
+put_event(Pid, #{label := Label, from := From, to := To} = Event, Labels) ->
+    Named = maps:from_keys([From | [To || To =/= none]], []),
+    Own = maps:merge(Named, maps:get(Label, Labels, #{})),
+    Labels#{Label => Own#{Pid => [Event | maps:get(Pid, Own, [])]}}.
+
+%% What isn't of this label is cut, and that may be the cause of something.
+tell({Label, _Own, {error, Reason}}, #{legend := Legend}, Options, Counts) ->
+    case Options of
+        #{"--json" := _} ->
+            io:put_chars([seqaudit_json:encode(#{label => seqaudit_legend:label(Label, Legend), said => <<"failed">>,
+                                                 headline => unicode:characters_to_binary(seqaudit_program:format_error(Reason))}), $\n]);
+        #{} -> say(Label, seqaudit_program:format_error(Reason), Legend)
+    end,
+    counted(failed, Counts);
+tell({Label, _Own, {ok, Outcome0}}, #{legend := Legend} = Trace, Options, Counts) ->
+    Outcome = Outcome0#{cut => true, lost => false},
+    case Options of
+        #{"--json" := _} ->
+            io:put_chars(seqaudit_report:audit(Trace#{label => seqaudit_legend:label(Label, Legend), outcome => Outcome,
+                                                      notes => [], parts => []}));
+        #{} ->
+            say(Label, seqaudit_explain:headline(Outcome, Legend), Legend)
+    end,
+    counted(maps:get(said, Outcome), Counts).
+
+say(Label, Sentence, Legend) ->
+    Shown = seqaudit_terms:short(unicode:characters_to_list(seqaudit_legend:label(Label, Legend)), ?LABEL),
+    io:put_chars([Shown, ": ", string:trim(unicode:characters_to_list(Sentence)), $\n]).
+
+counted(Said, Counts) ->
+    maps:update_with(Said, fun(Count) -> Count + 1 end, 1, Counts).
+
+told(Counts, Labels, #{notes := Notes}, Options) ->
+    Of = fun(Said) -> maps:get(Said, Counts, 0) end,
+    Others = maps:without([fits, completed], Counts),
+    Unknown = lists:sum(maps:values(maps:without([never, fault, failed], Others))),
+    is_map_key("--json", Options)
+        orelse io:put_chars([count(Labels, "label"), ": ", number(Of(fits) + Of(completed)), " fit",
+                             [[" (", number(Of(completed)), " of them with events that nobody reported or that have another label)"]
+                              || Of(completed) > 0],
+                             [[", ", number(Of(never)), " don't"] || Of(never) > 0],
+                             [[", of ", number(Unknown), " it isn't known"] || Unknown > 0],
+                             [[", ", number(Of(fault) + Of(failed)), " couldn't be audited"] || Of(fault) + Of(failed) > 0],
+                             $\n, seqaudit_explain:losses(Notes)]),
+    case Others of
+        #{failed := _} -> ?SYSTEM;
+        #{fault := _} -> ?INPUT;
+        #{} when map_size(Others) > 0 -> ?UNFIT;
+        #{} -> ?FITS
+    end.
