@@ -19,7 +19,7 @@
 -module(seqaudit_collector).
 -behaviour(gen_server).
 
--export([start/1, folder/1, stop_all/1, adopt/2, names/1]).
+-export([start/1, folder/1, rotate/1, stop_all/1, adopt/2, names/1]).
 -export([init/1, handle_continue/2, handle_call/3, handle_cast/2, handle_info/2, terminate/2]).
 -export_type([options/0, use/0]).
 
@@ -42,6 +42,8 @@
 -define(QUEUE_FACTOR, 8).
 %% It has so many bytes written at once.
 -define(BUFFER_BYTES, 65_536).
+%% A busy disk may take a while to take what is left.
+-define(ROTATE_MS, 60_000).
 %% The owner's node may come back within this time, as after a net split.
 -define(GRACE_MS, 60_000).
 
@@ -113,6 +115,11 @@ start_beside(Other, Options) ->
 -spec folder(pid()) -> file:filename().
 folder(Collector) ->
     gen_server:call(Collector, folder).
+
+%% @doc From now on events go to a new folder; the former one has all that came before. No event is lost between.
+-spec rotate(pid()) -> {ok, file:filename()} | {error, term()}.
+rotate(Collector) ->
+    gen_server:call(Collector, rotate, ?ROTATE_MS).
 
 %% @doc Takes the collectors off, all at the same time: each puts the former tracer back, waits for
 %% events on their way, and ends. Its facts are in its folder. In the place of a collector that is
@@ -254,6 +261,13 @@ handle_call({in_use, _}, _From, #state{owner_node = Owner, folder = Folder, lost
                _ -> case erlang:read_timer(Lost) of false -> 0; Milliseconds -> Milliseconds end
            end,
     {reply, {in_use, #{owner => Owner, folder => Folder, left => Left}}, State};
+handle_call(rotate, _From, #state{tracer = on, ended = no} = State) ->
+    case rotated(State) of
+        {ok, #state{folder = Folder} = Rotated} -> {reply, {ok, Folder}, Rotated};
+        {error, Reason} -> {reply, {error, Reason}, State}
+    end;
+handle_call(rotate, _From, State) ->
+    {reply, {error, ended}, State};
 handle_call(stop, From, State) ->
     {noreply, (take_off(State))#state{asked = From}, ?SETTLE_MS};
 handle_call(_Stray, _From, State) ->
@@ -477,6 +491,45 @@ put_back(Former) ->
             _ = seq_trace:set_system_tracer(false),
             gone
     end.
+
+%% The new files take the events from the moment at which the tracer is exchanged; what is on its way to the
+%% former port then still goes there. Known processes that live are noted again, and the others forgotten.
+rotated(#state{folder = Former} = State) ->
+    case seqaudit_spool:create(filename:dirname(Former)) of
+        {ok, Folder} ->
+            Begun = State#state{folder = Folder, paused = #{}, buffer = {0, []}, came = 0, kept = 0, written = 0,
+                                dropped = 0, strays = 0, look = {0, 0}},
+            try exchange(State, Begun) of
+                Rotated -> {ok, Rotated}
+            catch
+                error:{badmatch, {error, Fault}} ->
+                    _ = seqaudit_spool:remove(Folder),
+                    {error, {file, Folder, Fault}}
+            end;
+        {error, Reason} ->
+            {error, Reason}
+    end.
+
+exchange(#state{by = {port, Former}, watch = Watch} = State, Begun) ->
+    By = open(true, Begun),
+    ok = seqaudit_spool:note(Begun#state.folder, first_facts(By, Begun)),
+    {Behind, Paused} = seqaudit_watch:stop(Watch),
+    Is = seq_trace:get_system_tracer(),
+    _ = (Is =:= Former orelse Behind andalso Is =:= false)
+        andalso seq_trace:set_system_tracer(case By of {port, Port} -> Port; _ -> self() end),
+    receive after ?SETTLE_MS -> ok end,
+    _ = close(State#state{watch = none, paused = Paused, tracer = put_back}),
+    known_again(Begun#state{by = By, watch = watch(By, Begun)});
+exchange(State, Begun) ->
+    By = open(false, Begun),
+    ok = seqaudit_spool:note(Begun#state.folder, first_facts(By, Begun)),
+    #state{processes = Known} = close(State#state{tracer = put_back}),
+    known_again(Begun#state{by = By, processes = Known}).
+
+known_again(#state{processes = Known, folder = Folder} = State) ->
+    Living = maps:filter(fun(Pid, _) -> is_process_alive(Pid) end, Known),
+    _ = seqaudit_spool:note(Folder, #{processes => Living}),
+    State#state{processes = Living}.
 
 %% Closes the files and writes the last facts beside them.
 close(#state{by = closed, folder = Folder} = State) ->

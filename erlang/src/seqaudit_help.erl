@@ -9,6 +9,7 @@ all() ->
     "usage: seqaudit-node COMMAND ..\n"
     "Traces running Erlang nodes, and audits, draws and explains the traces.\n\n"
     "  collect   traces nodes, and writes what they report to files\n"
+    "  watch     traces nodes, and audits what came period by period\n"
     "  convert   makes a trace from files of events\n"
     "  audit     says whether the events of a trace fit together, and what is missing\n"
     "  chart     prints the messages of a trace, or draws them\n"
@@ -62,6 +63,15 @@ text("collect") ->
      "                      as for erl from ERL_FLAGS or ~/.erlang.cookie\n"
      "  --cookie COOKIE     the cookie, but all users of this machine can see it here\n\n"
      "The variable ERL_FLAGS has options of erl, as for TLS: -proto_dist inet_tls -ssl_dist_optfile FILE\n"};
+text("watch") ->
+    {"watch --node NAME@HOST .. --every SECONDS -o NAME [OPTION ..]",
+     "Traces nodes until Ctrl-C, and audits what came period by period, a line for each. A period that fits is\n"
+     "thrown away; one that doesn't is kept as NAME.NUMBER, and so are the ones before and after it. The period\n"
+     "that runs at the end isn't audited. Status 0 if all fitted.\n\n"
+     "  --every SECONDS     the length of a period; each is cut at its last moment without a message under way,\n"
+     "                      if there is one in its second half\n"
+     "  --keep PERIODS      how many periods stay, 100 if this isn't given; then the oldest are removed\n\n"
+     "The other options are those of collect, except --seconds and --limit.\n"};
 text("convert") ->
     {"convert FILE .. -o NAME",
      "Makes a trace from files of events: NAME.seqtrace; NAME.terms, what its numbers stand for; NAME.messages,\n"

@@ -20,7 +20,7 @@
 -spec main([string()]) -> no_return().
 main(Words) ->
     %% What was collected is written even if nobody reads what is said of it.
-    ok = seqaudit_output:open(case Words of ["collect" | _] -> stop; _ -> halt end),
+    ok = seqaudit_output:open(case Words of [Command | _] when Command =:= "collect"; Command =:= "watch" -> stop; _ -> halt end),
     Status = run(Words),
     ok = seqaudit_output:flush(),
     halt(Status).
@@ -59,6 +59,8 @@ run({Command, Valued, Flags, Do}, Words) ->
 commands() ->
     [{"collect", ["--node", "--cookie", "--cookie-file", "--seconds", "--bytes", "--limit", "--folder",
                   "--trigger", "--label", "--calls", "-o"], ["--reset", "--times", "--take-over"], fun collect/1},
+     {"watch", ["--node", "--cookie", "--cookie-file", "--every", "--keep", "--bytes", "--folder", "--trigger", "--label",
+                "--calls", "-o"], ["--reset", "--times", "--take-over"], fun watch/1},
      {"convert", ["-o"], [], fun convert/1},
      {"audit", ?CUTS, ["--whole", "--parts", "--json", "--each-label"],
       fun(#{"--each-label" := _} = Options) -> answer(fun seqaudit_each:audit/1, Options);
@@ -125,6 +127,35 @@ collect(#{"--node" := Nodes, "-o" := [Name]} = Options) when not is_map_key("", 
     end;
 collect(_) ->
     {usage, "collect needs --node and -o, and takes options alone"}.
+
+watch(#{"--node" := Nodes, "-o" := [Name], "--every" := _} = Options) when not is_map_key("", Options) ->
+    case collect_options(lists:reverse(Nodes), Options) of
+        {ok, _, #{nodes := [Node | _]} = Start} ->
+            try {whole("--every", 1, Options), whole("--keep", 1, Options)} of
+                {Every, Keep} ->
+                    Periods = maps:from_list([{name, Name}, {every, 1_000 * Every}] ++ [{keep, Keep} || Keep =/= none]),
+                    watch(seqaudit_reach:connect(Node, Options), Start#{name => Name}, Periods)
+            catch
+                throw:Text -> {usage, Text}
+            end;
+        {error, Text} ->
+            {usage, Text}
+    end;
+watch(_) ->
+    {usage, "watch needs --node, --every and -o, and takes options alone"}.
+
+watch({error, Reason}, _Start, _Periods) ->
+    failed(?SYSTEM, seqaudit_reach:format_error(Reason));
+watch(ok, Start, Periods) ->
+    started(Start, fun(Asked) ->
+        io:format("watching ~ts until Ctrl-C~ts", [node_list(Start), advice(Start)]),
+        case seqaudit_periods:watch(Periods, Asked, fun(Line) -> io:put_chars(Line) end) of
+            {Status, Text} -> failed(Status, Text);
+            Status -> Status
+        end
+    end).
+
+node_list(#{nodes := Nodes}) -> lists:join(", ", [atom_to_list(Node) || Node <- Nodes]).
 
 %% How long to collect, and what seqaudit_trace:start/1 takes.
 collect_options(Nodes, Options) ->
@@ -202,20 +233,25 @@ label(Word) ->
 
 collect({error, Reason}, _Start, _Wait) ->
     failed(?SYSTEM, seqaudit_reach:format_error(Reason));
-collect(ok, #{nodes := Nodes} = Start, Wait) ->
+collect(ok, Start, Wait) ->
+    started(Start, fun(Asked) ->
+        io:format("tracing ~ts ~ts~ts", [node_list(Start), how_long(Wait), advice(Start)]),
+        [io:format("  ~ts writes its events to ~ts~n", [Node, Folder])
+         || {Node, Folder} <- seqaudit_trace:folders()],
+        _ = seqaudit_signals:wait(Asked, Wait),
+        written(seqaudit_trace:stop(), fun seqaudit_trace:format_error/1)
+    end).
+
+%% Does something while the nodes are traced, and says meanwhile what becomes of them.
+started(#{nodes := Nodes} = Start, Do) ->
     %% A signal that comes while the collectors begin ends them as any other does.
     Asked = seqaudit_signals:listen(),
     case seqaudit_trace:start(Start) of
         ok ->
-            io:format("tracing ~ts ~ts~ts",
-                      [lists:join(", ", [atom_to_list(Node) || Node <- Nodes]), how_long(Wait),
-                       advice(Start)]),
-            [io:format("  ~ts writes its events to ~ts~n", [Node, Folder])
-             || {Node, Folder} <- seqaudit_trace:folders()],
             Sight = seqaudit_sight:keep(Nodes, fun(Sentence) -> complain("~ts", [Sentence]) end),
-            _ = seqaudit_signals:wait(Asked, Wait),
-            ok = seqaudit_sight:stop(Sight),
-            written(seqaudit_trace:stop(), fun seqaudit_trace:format_error/1);
+            try Do(Asked)
+            after seqaudit_sight:stop(Sight)
+            end;
         {error, {node, Node, unreachable}} ->
             failed(?SYSTEM, seqaudit_reach:unreachable(Node));
         {error, Reason} ->

@@ -28,6 +28,9 @@ monitored(Node) -> monitor(process, {seqaudit_collector, Node}).
 %% A node that is back has its collector yet, unless it was started anew.
 look(Collectors, Nodes, Say) ->
     receive
+        {'DOWN', _, process, _, normal} ->
+            %% The command has ended it.
+            look(Collectors, Nodes, Say);
         {'DOWN', Monitor, process, _, Reason} when is_map_key(Monitor, Collectors) ->
             {Node, Others} = maps:take(Monitor, Collectors),
             _ = Say(gone(Node, Reason)),

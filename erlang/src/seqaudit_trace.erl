@@ -17,7 +17,7 @@
 -module(seqaudit_trace).
 -behaviour(gen_server).
 
--export([start/0, start/1, stop/0, folders/0, with_trace/2, with_trace/3, format_error/1]).
+-export([start/0, start/1, stop/0, rotate/1, cancel/0, folders/0, with_trace/2, with_trace/3, format_error/1]).
 -export([init/1, handle_call/3, handle_cast/2, handle_info/2]).
 -export_type([options/0, flag/0]).
 
@@ -118,6 +118,19 @@ stop() ->
             demonitor(Leader, [flush]),
             recover(left_over())
     end.
+
+%% @doc Writes what came since the start, or since this was last called, while collecting goes on without a gap: a file
+%% of events for each node that can be reached, with this name, a number and `.events'.
+-spec rotate(file:filename()) -> [{node(), {ok, file:filename()} | {error, term()}}].
+rotate(Name) ->
+    gen_server:call(?MODULE, {rotate, Name}, infinity).
+
+%% @doc Takes the collectors off, and removes what came since {@link rotate/1} was last called.
+-spec cancel() -> ok.
+cancel() ->
+    Leader = monitor(process, ?MODULE),
+    ok = gen_server:call(?MODULE, cancel, infinity),
+    receive {'DOWN', Leader, process, _, _} -> ok end.
 
 recover(none) ->
     {error, not_started};
@@ -238,7 +251,7 @@ is_enough(Release) -> list_to_integer(Release) >= ?LEAST_OTP.
 
 %% @private
 -spec handle_call(term(), gen_server:from(), #state{}) ->
-          {stop, normal, {ok, seqaudit_convert:summary()}, #state{}}
+          {stop, normal, {ok, seqaudit_convert:summary()} | ok, #state{}}
         | {reply, term(), #state{}}.
 handle_call(stop, _From, State0) ->
     State = stopped(State0),
@@ -249,6 +262,17 @@ handle_call(stop, _From, State0) ->
         {error, Reason} ->
             {reply, {error, Reason}, State}
     end;
+handle_call({rotate, Name}, _From, #state{nodes = Nodes} = State) ->
+    {Rotated, Written} = lists:unzip([rotate(Node, Name ++ "." ++ integer_to_list(Number), State)
+                                      || {Number, Node} <- lists:enumerate(Nodes)]),
+    Now = State#state{nodes = Rotated},
+    ok = application:set_env(seqaudit, collection, Now),
+    {reply, Written, Now};
+handle_call(cancel, _From, State0) ->
+    #state{nodes = Nodes} = State = stopped(State0),
+    lists:foreach(fun remove/1, Nodes),
+    ok = application:unset_env(seqaudit, collection),
+    {stop, normal, ok, State};
 handle_call(folders, _From, #state{nodes = Nodes} = State) ->
     {reply, [{Node, Folder} || #node{node = Node, folder = Folder} <- Nodes], State};
 handle_call(_Stray, _From, State) ->
@@ -386,6 +410,30 @@ end_of(#node{monitor = Monitor}) ->
     after ?END_MS ->
         demonitor(Monitor, [flush]),
         noproc
+    end.
+
+%% A node's files go on; what they had so far is fetched and removed there.
+rotate(#node{node = Name, is = on, collector = Collector, folder = Former} = Node, File, #state{limit = Limit}) ->
+    try seqaudit_collector:rotate(Collector) of
+        {ok, Folder} ->
+            {Node#node{folder = Folder}, {Name, fetched(Node#node{folder = Former, is = {gone, normal}}, File, Limit)}};
+        {error, Reason} ->
+            {Node, {Name, {error, Reason}}}
+    catch
+        exit:{Reason, _} -> {Node, {Name, {error, Reason}}}
+    end;
+rotate(#node{node = Name} = Node, _File, _State) ->
+    {Node, {Name, {error, unreachable}}}.
+
+fetched(Node, File, Limit) ->
+    case seqaudit_events:open(File) of
+        {ok, Device} ->
+            _ = fetch(Node, Limit, Device),
+            ok = seqaudit_events:close(Device),
+            ok = remove(Node),
+            {ok, File ++ ".events"};
+        {error, Reason} ->
+            {error, Reason}
     end.
 
 %% Fetches what the collectors wrote, converts it, and removes it where it was.
