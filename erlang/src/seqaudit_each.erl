@@ -15,7 +15,7 @@
 -define(LABEL, 80).
 
 %% @doc Prints a line for each label, and how many of them fit.
--spec audit(#{string() => [string()]}) -> 0..4 | {0..4, unicode:chardata()} | {usage, string()}.
+-spec audit(#{string() => [string()]}) -> 0..2 | 4 | {0..4, unicode:chardata()} | {usage, string()}.
 audit(#{"" := [_]} = Options) when is_map_key("--whole", Options); is_map_key("--parts", Options) ->
     {usage, "--each-label goes with neither --whole nor --parts"};
 audit(#{"" := [Name]} = Options) ->

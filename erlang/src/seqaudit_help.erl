@@ -57,6 +57,7 @@ text("collect") ->
      "  --limit EVENTS      keep only the first so many events of each node\n"
      "  --folder FOLDER     each node makes the folder of its files in this one, or in that for temporary\n"
      "                      files if this isn't given\n"
+     "  --unload            at the end take the modules off the nodes that were loaded there\n"
      "  --take-over         if the node is still traced for a command that was killed, end that now; its\n"
      "                      events stay in its folder there\n\n"
      "  --cookie-file FILE  read the cookie from a file; else it comes from the variable SEQAUDIT_COOKIE, or\n"

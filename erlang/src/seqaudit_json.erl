@@ -20,12 +20,12 @@ encode(Fields) when is_map(Fields) ->
     object([{atom_to_list(Name), encode(Value)} || {Name, Value} <- lists:sort(maps:to_list(Fields))]).
 
 %% @doc An object of texts that are JSON already.
--spec object([{string(), iodata()}]) -> iodata().
+-spec object([{string(), iodata()}]) -> iolist().
 object(Fields) ->
     [${, lists:join($,, [[$", Name, $", $: | Value] || {Name, Value} <- Fields]), $}].
 
 %% @doc An array of them.
--spec array([iodata()]) -> iodata().
+-spec array([iodata()]) -> iolist().
 array(Values) ->
     [$[, lists:join($,, Values), $]].
 

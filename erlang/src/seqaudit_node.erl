@@ -58,9 +58,9 @@ run({Command, Valued, Flags, Do}, Words) ->
 %% Each command with its options that have a value, and those that have none.
 commands() ->
     [{"collect", ["--node", "--cookie", "--cookie-file", "--seconds", "--bytes", "--limit", "--folder",
-                  "--trigger", "--label", "--calls", "-o"], ["--reset", "--times", "--take-over"], fun collect/1},
+                  "--trigger", "--label", "--calls", "-o"], ["--reset", "--times", "--take-over", "--unload"], fun collect/1},
      {"watch", ["--node", "--cookie", "--cookie-file", "--every", "--keep", "--bytes", "--folder", "--trigger", "--label",
-                "--calls", "-o"], ["--reset", "--times", "--take-over"], fun watch/1},
+                "--calls", "-o"], ["--reset", "--times", "--take-over", "--unload"], fun watch/1},
      {"convert", ["-o"], [], fun convert/1},
      {"audit", ?CUTS, ["--whole", "--parts", "--json", "--each-label"],
       fun(#{"--each-label" := _} = Options) -> answer(fun seqaudit_each:audit/1, Options);
@@ -122,7 +122,7 @@ add(Option, Value, Options) ->
 collect(#{"--node" := Nodes, "-o" := [Name]} = Options) when not is_map_key("", Options) ->
     case collect_options(lists:reverse(Nodes), Options) of
         {ok, Wait, #{nodes := [Node | _]} = Start} ->
-            collect(seqaudit_reach:connect(Node, Options), Start#{name => Name}, Wait);
+            collect(seqaudit_reach:connect(Node, Options), Start#{name => Name}, {Wait, unload(Options)});
         {error, Text} -> {usage, Text}
     end;
 collect(_) ->
@@ -134,7 +134,7 @@ watch(#{"--node" := Nodes, "-o" := [Name], "--every" := _} = Options) when not i
             try {whole("--every", 1, Options), whole("--keep", 1, Options)} of
                 {Every, Keep} ->
                     Periods = maps:from_list([{name, Name}, {every, 1_000 * Every}] ++ [{keep, Keep} || Keep =/= none]),
-                    watch(seqaudit_reach:connect(Node, Options), Start#{name => Name}, Periods)
+                    watch(seqaudit_reach:connect(Node, Options), Start#{name => Name}, {Periods, unload(Options)})
             catch
                 throw:Text -> {usage, Text}
             end;
@@ -144,10 +144,10 @@ watch(#{"--node" := Nodes, "-o" := [Name], "--every" := _} = Options) when not i
 watch(_) ->
     {usage, "watch needs --node, --every and -o, and takes options alone"}.
 
-watch({error, Reason}, _Start, _Periods) ->
+watch({error, Reason}, _Start, _How) ->
     failed(?SYSTEM, seqaudit_reach:format_error(Reason));
-watch(ok, Start, Periods) ->
-    started(Start, fun(Asked) ->
+watch(ok, Start, {Periods, Unload}) ->
+    started(Start, Unload, fun(Asked) ->
         io:format("watching ~ts until Ctrl-C~ts", [node_list(Start), advice(Start)]),
         case seqaudit_periods:watch(Periods, Asked, fun(Line) -> io:put_chars(Line) end) of
             {Status, Text} -> failed(Status, Text);
@@ -231,10 +231,10 @@ label(Word) ->
         {error, _, _} -> throw(Word ++ " isn't an Erlang term")
     end.
 
-collect({error, Reason}, _Start, _Wait) ->
+collect({error, Reason}, _Start, _How) ->
     failed(?SYSTEM, seqaudit_reach:format_error(Reason));
-collect(ok, Start, Wait) ->
-    started(Start, fun(Asked) ->
+collect(ok, Start, {Wait, Unload}) ->
+    started(Start, Unload, fun(Asked) ->
         io:format("tracing ~ts ~ts~ts", [node_list(Start), how_long(Wait), advice(Start)]),
         [io:format("  ~ts writes its events to ~ts~n", [Node, Folder])
          || {Node, Folder} <- seqaudit_trace:folders()],
@@ -242,15 +242,19 @@ collect(ok, Start, Wait) ->
         written(seqaudit_trace:stop(), fun seqaudit_trace:format_error/1)
     end).
 
+unload(Options) -> is_map_key("--unload", Options).
+
 %% Does something while the nodes are traced, and says meanwhile what becomes of them.
-started(#{nodes := Nodes} = Start, Do) ->
+started(#{nodes := Nodes} = Start, Unload, Do) ->
     %% A signal that comes while the collectors begin ends them as any other does.
     Asked = seqaudit_signals:listen(),
     case seqaudit_trace:start(Start) of
         ok ->
             Sight = seqaudit_sight:keep(Nodes, fun(Sentence) -> complain("~ts", [Sentence]) end),
             try Do(Asked)
-            after seqaudit_sight:stop(Sight)
+            after
+                ok = seqaudit_sight:stop(Sight),
+                io:put_chars([seqaudit_loaded:say(Node, Unload) || Node <- Nodes])
             end;
         {error, {node, Node, unreachable}} ->
             failed(?SYSTEM, seqaudit_reach:unreachable(Node));

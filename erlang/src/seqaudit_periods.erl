@@ -149,6 +149,9 @@ outcome(Period, Events, Notes, How, Later) ->
     {ok, Legend} = seqaudit_legend:read(Period ++ ".terms"),
     {ok, Streams} = seqaudit_bundle:read(Period ++ ".seqtrace"),
     case seqaudit_outcome:ask(Streams) of
+        {ok, #{said := fault, fault := <<"fault too ", _/binary>>}} ->
+            {Verdict, Line} = each_label(Streams),
+            {ok, Verdict, [seqaudit_explain:count(Events, "event"), ", too many for the programs at once; ", Line, "; ", How], Later};
         {ok, Outcome} ->
             Lost = seqaudit_explain:losses([unicode:characters_to_binary(Note) || Note <- Notes]),
             Said = Outcome#{cut => true, lost => Lost =/= ""},
@@ -158,6 +161,22 @@ outcome(Period, Events, Notes, How, Later) ->
             {ok, unfit, [seqaudit_explain:count(Events, "event"), " couldn't be audited: ", seqaudit_program:format_error(Reason),
                          "; ", How], Later}
     end.
+
+%% A period that is too large as a whole may fit label by label.
+each_label(Streams) ->
+    Labels = seqaudit_each:by_label(Streams),
+    Fitting = seqaudit_workers:fold([fun() -> seqaudit_outcome:ask(Own) end || {_, Own} <- Labels],
+                                    fun({ok, Outcome}, Count) ->
+                                            case verdict(Outcome) of fits -> Count + 1; unfit -> Count end;
+                                       ({error, _}, Count) -> Count
+                                    end, 0),
+    {case length(Labels) of Fitting -> fits; _ -> unfit end,
+     text("of ~ts ~ts by themselves",
+          [seqaudit_explain:count(length(Labels), "label"),
+           case length(Labels) of
+               Fitting -> "all fit";
+               All -> text("~ts don't fit or couldn't be audited", [seqaudit_explain:number(All - Fitting)])
+           end])}.
 
 verdict(#{said := Said}) when Said =:= fits; Said =:= completed -> fits;
 verdict(_) -> unfit.

@@ -5,7 +5,7 @@
 
 %% @doc The outcome of an audit: what is missing, or why the events don't go together, with the parts between resets.
 %% `label' is in it if it is of one label alone.
--spec audit(map()) -> iodata().
+-spec audit(map()) -> iolist().
 audit(#{name := Name, cut := Cut, notes := Notes, outcome := Outcome, parts := Parts, legend := Legend} = Audited) ->
     Losses = [Note || Note <- Notes, seqaudit_explain:losses([Note]) =/= ""],
     encode((maps:merge(maps:with([label], Audited), outcome(Outcome, Legend)))#{trace => utf8(Name), losses => Losses,
@@ -44,7 +44,7 @@ counts(Counts, Legend) ->
     [#{process => seqaudit_legend:process(Pid, Legend), count => Count} || {Pid, Count} <- Counts].
 
 %% @doc A chain of causes, or the effects of an event: the events in turn, each with its cause and its times.
--spec why(seqaudit_bundle:place(), [seqaudit_causes:row()], unicode:chardata(), map()) -> iodata().
+-spec why(seqaudit_bundle:place(), [seqaudit_causes:row()], unicode:chardata(), map()) -> iolist().
 why(Place, Rows, Doubt, #{name := Name, legend := Legend, timed := Times}) ->
     encode(#{trace => utf8(Name), event => name(Place, Legend), doubt => line(Doubt),
              events => [row(Row, Legend, Times) || Row <- Rows]}).

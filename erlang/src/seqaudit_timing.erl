@@ -14,7 +14,7 @@
 -define(CHARACTERS, 80).
 
 %% @doc Prints the tables, and for each label that is asked for the path to its last event.
--spec times(#{string() => [string()]}) -> 0..4 | {0..4, unicode:chardata()} | {usage, string()}.
+-spec times(#{string() => [string()]}) -> 0..2 | 4 | {0..4, unicode:chardata()} | {usage, string()}.
 times(#{"" := [Name]} = Options) ->
     Wish = seqaudit_answer:wish(Options, [labels, processes, from, to]),
     seqaudit_answer:with_trace(Name, Wish, fun(#{timed := Times, legend := Legend} = Trace) ->

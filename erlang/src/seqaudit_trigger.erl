@@ -11,6 +11,9 @@
 -export([is_valid/1, pull/1, tick/1, release/1, format_error/2]).
 -export_type([trigger/0, pulled/0]).
 
+%% They are there from OTP 27 on, and called only then.
+-ignore_xref([{trace, session_create, 3}, {trace, session_destroy, 1}, {trace, function, 4}, {trace, process, 4}]).
+
 -import(seqaudit_errors, [text/2]).
 
 %% To ask a process who traces it wakes it, and a node may have millions.
