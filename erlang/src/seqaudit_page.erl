@@ -10,6 +10,8 @@
 -import(seqaudit_json, [object/1, array/1, text/1]).
 
 -define(NONCE_BYTES, 18).
+%% So many entries of a table of times are in a page.
+-define(DURATIONS, 200).
 %% So many characters all messages of a page have together: a page is one file that a browser reads and
 %% keeps as a whole, and searches as a whole at each key.
 -define(CHARACTERS, 32_000_000).
@@ -92,13 +94,41 @@ data(#{name := Name, legend := Legend, outcome := Outcome, parts := Parts} = Aud
         {ok, Texts, Most} ->
             Terms = [term(seqaudit_legend:brief(Value, Legend), maps:get(Value, Texts), Most) || Value <- Values],
             {ok, object(about(Audited, Resets)
-                        ++ [{"most", case Most of infinity -> <<"null">>; _ -> integer_to_binary(Most) end},
+                        ++ [{"begin", first(Audited)}, {"durations", array(durations(Shown, Audited))},
+                            {"most", case Most of infinity -> <<"null">>; _ -> integer_to_binary(Most) end},
                             {"limit", integer_to_binary(Limit)},
                             {"terms", array(Terms)}
                             | rows(Rows, lanes(hd(Shown), Rows), Values, Label, Audited)])};
         {error, Reason} ->
             {error, {messages, Reason}}
     end.
+
+%% When the first event happened, in microseconds since 1970, if the clock of the node is known.
+first(#{timed := #{start := Start, events := Events}}) when Start >= 0, map_size(Events) > 0 ->
+    integer_to_binary(Start div 1_000);
+first(_) ->
+    <<"null">>.
+
+%% How long messages took, by pair of processes and by kind.
+durations(Parts, #{timed := Times, legend := Legend}) ->
+    Streams = lists:append(Parts),
+    [table(Title, seqaudit_durations:messages(Streams, Times, Key))
+     || maps:size(maps:get(messages, Times)) > 0,
+        {Title, Key} <- [{"By processes", fun(#{from := From, to := To}) ->
+                              unicode:characters_to_binary([seqaudit_legend:process(From, Legend), " -> ",
+                                                            seqaudit_legend:process(To, Legend)])
+                          end},
+                         {"By kind of message", fun(#{value := Value}) ->
+                              unicode:characters_to_binary(seqaudit_durations:kind(seqaudit_legend:brief(Value, Legend)))
+                          end}]];
+durations(_Parts, _Audited) ->
+    [].
+
+table(Title, Entries) ->
+    object([{"title", text(Title)}, {"more", integer_to_binary(max(0, length(Entries) - ?DURATIONS))},
+            {"entries", array([array([text(Of) | [integer_to_binary(Number) || Number <- [Count, Median, Most, Greatest]]])
+                               || {Of, #{count := Count, median := Median, most := Most, greatest := Greatest}}
+                                      <- lists:sublist(Entries, ?DURATIONS)])}]).
 
 about(#{name := Name, legend := Legend, notes := Notes, cut := Cut, outcome := #{said := Said} = Outcome,
         parts := Parts}, Resets) ->

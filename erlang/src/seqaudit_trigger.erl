@@ -131,8 +131,7 @@ is_others({all, Known}) ->
     case lists:keyfind(match_spec, 1, Known) of
         {match_spec, [_ | _] = Specification} -> not lists:all(fun is_own/1, Specification);
         _ -> true
-    end;
-is_others({all, Known, _}) -> is_others({all, Known}).
+    end.
 
 is_own({_, _, Acts}) ->
     lists:last(Acts) =:= {message, false} andalso lists:keymember(set_seq_token, 1, Acts);
