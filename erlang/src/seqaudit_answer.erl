@@ -156,7 +156,8 @@ chart(#{"" := [Name], "--label" := [Label | _]} = Options) ->
         end
     end);
 chart(#{"" := [Name]} = Options) ->
-    case [Option || Option <- ["--html" | [Option || {Option, _} <- seqaudit_export:formats()]], is_map_key(Option, Options)] of
+    Drawn = ["--html" | [Option || {Option, _} <- seqaudit_export:formats()]],
+    case [Option || Option <- Drawn, is_map_key(Option, Options)] of
         [] -> chart(#{});
         _ ->
             with_trace(Name, wish(Options, [processes, from, to]), fun(Trace) ->

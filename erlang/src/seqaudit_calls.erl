@@ -27,7 +27,8 @@ captured(Word, Pattern) ->
         nomatch -> none
     end.
 
-%% A call with a guard is the head of a fun, so it is read as one, and made a match specification as `dbg:fun2ms/1' does.
+%% A call with a guard is the head of a fun, so it is read as one, and made a match specification as
+%% `dbg:fun2ms/1' does.
 with_condition(Module, Function, Condition, Word) ->
     case parsed("fun" ++ Condition ++ " -> true end.") of
         {ok, [{'fun', _, {clauses, [{clause, Place, Arguments, Guards, Body}]}}]} ->
@@ -39,7 +40,8 @@ with_condition(Module, Function, Condition, Word) ->
                     {error, text("~ts can't be a trigger: ~ts", [Word, reasons(Errors)])}
             end;
         _ ->
-            {error, text("~ts isn't a function with a condition; it is written module:function(A, B) when A > B", [Word])}
+            {error, text("~ts isn't a function with a condition; it is written module:function(A, B) when A > B",
+                         [Word])}
     end.
 
 list(Elements, Place) ->

@@ -14,12 +14,13 @@
                         greatest := nanoseconds(), slowest := seqaudit_bundle:place()}.
 %% `most': 99 % of the messages took at most this; `slowest': the receive of the message that took longest.
 
--type step() :: #{row := seqaudit_causes:row(), after_cause := nanoseconds() | unknown, is := under_way | waited | first}.
-%% An event of a path, and how long after its cause it came: `under_way' is the way of its message, and `waited' what its
-%% process did or waited for.
+-type step() :: #{row := seqaudit_causes:row(), after_cause := nanoseconds() | unknown,
+                  is := under_way | waited | first}.
+%% An event of a path, and how long after its cause it came: `under_way' is the way of its message, and `waited'
+%% what its process did or waited for.
 
-%% @doc The statistics of all messages of these streams whose send and receive have a time, by what the function makes of
-%% the receive; those that took longest in all come first.
+%% @doc The statistics of all messages of these streams whose send and receive have a time, by what the function
+%% makes of the receive; that with the slowest message comes first.
 -spec messages(seqaudit_bundle:streams(), seqaudit_times:times(), fun((seqaudit_bundle:event()) -> Key)) ->
           [{Key, statistics()}].
 messages(Streams, #{messages := Messages}, Key) ->
@@ -83,18 +84,20 @@ is(_Before, _Row) -> waited.
 %% @doc What kind of message this is: how it is sent, and its outermost part, as `call {order,..}'.
 -spec kind(unicode:chardata()) -> unicode:chardata().
 kind(Brief) ->
-    case re:run(Brief, "^((?:call|cast|reply|spawn|spawned) )?(.*)$", [unicode, dotall, {capture, all_but_first, binary}]) of
+    Options = [unicode, dotall, {capture, all_but_first, binary}],
+    case re:run(Brief, "^((?:call|cast|reply|spawn|spawned) )?(.*)$", Options) of
         {match, [How, Term]} -> [How, outermost(Term)];
         nomatch -> Brief
     end.
 
 -define(ATOM, "([a-z][A-Za-z0-9_@]*|'(?:[^'\\\\]|\\\\.)*')").
+-define(CALL, ?ATOM ":" ?ATOM "/[0-9]+").
 
 outermost(Term) ->
     Shapes = [{"^" ?ATOM "$", fun([Atom]) -> Atom end},
               {"^\\{" ?ATOM "\\}", fun([Atom]) -> ["{", Atom, "}"] end},
               {"^\\{" ?ATOM ",", fun([Atom]) -> ["{", Atom, ",..}"] end},
-              {"^" ?ATOM ":" ?ATOM "/([0-9]+)", fun([Module, Function, Arity]) -> [Module, ":", Function, "/", Arity] end},
+              {"^(" ?CALL ")", fun([Call | _]) -> Call end},
               {"^#" ?ATOM, fun([Record]) -> ["#", Record] end},
               {"^\\{", fun([]) -> "{..}" end},
               {"^\\[", fun([]) -> "[..]" end},

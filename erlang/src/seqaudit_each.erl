@@ -34,11 +34,15 @@ audit(_) ->
 -spec by_label(seqaudit_bundle:streams()) -> [{Label :: binary(), seqaudit_bundle:streams()}].
 by_label(Streams) ->
     Places = maps:from_list([{Pid, Place} || {Place, {Pid, _}} <- lists:enumerate(Streams)]),
-    Found = lists:foldl(fun({Pid, Events}, Labels) -> lists:foldl(fun(Event, Sum) -> put_event(Pid, Event, Sum) end, Labels, Events) end,
-                        #{}, Streams),
-    [{Label, [{Pid, lists:reverse(Events)}
-              || {_, Pid, Events} <- lists:sort([{maps:get(Pid, Places, last), Pid, Events} || {Pid, Events} <- maps:to_list(Own)])]}
-     || {Label, Own} <- lists:sort(fun({A, _}, {B, _}) -> binary_to_integer(A) =< binary_to_integer(B) end, maps:to_list(Found))].
+    Found = lists:foldl(fun({Pid, Event}, Labels) -> put_event(Pid, Event, Labels) end, #{},
+                        [{Pid, Event} || {Pid, Events} <- Streams, Event <- Events]),
+    Sorted = lists:sort([{binary_to_integer(Label), Label, Own} || {Label, Own} <- maps:to_list(Found)]),
+    [{Label, ordered(maps:to_list(Own), Places)} || {_, Label, Own} <- Sorted].
+
+%% The streams of a label are in the order of those of the trace, and have their events in order.
+ordered(Own, Places) ->
+    Placed = lists:sort([{maps:get(Pid, Places, last), Pid, Events} || {Pid, Events} <- Own]),
+    [{Pid, lists:reverse(Events)} || {_, Pid, Events} <- Placed].
 
 put_event(Pid, #{label := Label, from := From, to := To} = Event, Labels) ->
     Named = maps:from_keys([From | [To || To =/= none]], []),
@@ -47,11 +51,13 @@ put_event(Pid, #{label := Label, from := From, to := To} = Event, Labels) ->
 
 %% What isn't of this label is cut, and that may be the cause of something.
 tell({Label, _Own, {error, Reason}}, #{legend := Legend}, Options, Counts) ->
+    Sentence = seqaudit_program:format_error(Reason),
     case Options of
         #{"--json" := _} ->
-            io:put_chars([seqaudit_json:encode(#{label => seqaudit_legend:label(Label, Legend), said => <<"failed">>,
-                                                 headline => unicode:characters_to_binary(seqaudit_program:format_error(Reason))}), $\n]);
-        #{} -> say(Label, seqaudit_program:format_error(Reason), Legend)
+            Known = #{label => seqaudit_legend:label(Label, Legend), said => <<"failed">>,
+                      headline => unicode:characters_to_binary(Sentence)},
+            io:put_chars([seqaudit_json:encode(Known), $\n]);
+        #{} -> say(Label, Sentence, Legend)
     end,
     counted(failed, Counts);
 tell({Label, _Own, {ok, Outcome0}}, #{legend := Legend} = Trace, Options, Counts) ->
@@ -76,14 +82,15 @@ told(Counts, Labels, #{notes := Notes}, Options) ->
     Of = fun(Said) -> maps:get(Said, Counts, 0) end,
     Others = maps:without([fits, completed], Counts),
     Unknown = lists:sum(maps:values(maps:without([never, fault, failed], Others))),
-    is_map_key("--json", Options)
-        orelse io:put_chars([count(Labels, "label"), ": ", number(Of(fits) + Of(completed)), " fit",
-                             [[" (", number(Of(completed)), " of them with events that nobody reported or that have another label)"]
-                              || Of(completed) > 0],
-                             [[", ", number(Of(never)), " don't"] || Of(never) > 0],
-                             [[", of ", number(Unknown), " it isn't known"] || Unknown > 0],
-                             [[", ", number(Of(fault) + Of(failed)), " couldn't be audited"] || Of(fault) + Of(failed) > 0],
-                             $\n, seqaudit_explain:losses(Notes)]),
+    Refused = Of(fault) + Of(failed),
+    Summary = [count(Labels, "label"), ": ", number(Of(fits) + Of(completed)), " fit",
+               [[" (", number(Of(completed)), " of them with events that nobody reported or that have another label)"]
+                || Of(completed) > 0],
+               [[", ", number(Of(never)), " don't"] || Of(never) > 0],
+               [[", of ", number(Unknown), " it isn't known"] || Unknown > 0],
+               [[", ", number(Refused), " couldn't be audited"] || Refused > 0],
+               $\n, seqaudit_explain:losses(Notes)],
+    is_map_key("--json", Options) orelse io:put_chars(Summary),
     case Others of
         #{failed := _} -> ?SYSTEM;
         #{fault := _} -> ?INPUT;

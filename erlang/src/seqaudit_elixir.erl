@@ -1,7 +1,8 @@
 %% @doc Terms as Elixir writes them, made of the texts that Erlang prints: `:ok', `Shop.Order', `"text"' for a binary,
 %% `%Shop.Order{item: "apple"}', `%{a: 1}', `#PID<0.80.0>'.
 %%
-%% It works word by word, so a text that is cut is translated as far as it goes. What Elixir writes as Erlang does stays.
+%% It works word by word, so a text that is cut is translated as far as it goes. What Elixir writes as Erlang does
+%% stays.
 -module(seqaudit_elixir).
 
 -export([is_elixir/1, name/1, text/1]).
@@ -25,7 +26,8 @@ text(Text) ->
 words(<<>>, Words) ->
     lists:reverse(Words);
 words(Text, Words) ->
-    {Kind, Size} = word(Text, [{struct, "^#\\{(?:'__exception__' => true,)?'__struct__' => '(?:Elixir\\.)?[^']*'(?:,|(?=\\}))"},
+    {Kind, Size} = word(Text, [{struct, "^#\\{(?:'__exception__' => true,)?'__struct__' => '(?:Elixir\\.)?[^']*'"
+                                        "(?:,|(?=\\}))"},
                                {text, "^<<\"(?:[^\"\\\\]|\\\\.)*\"(?:/utf8)?>>"},
                                {list, "^\"(?:[^\"\\\\]|\\\\.)*\""},
                                {module, "^'Elixir\\.[^']*'"},

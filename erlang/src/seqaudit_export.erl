@@ -44,7 +44,8 @@ mermaid(Rows, #{legend := Legend}) ->
     Lanes = maps:from_list([{Pid, ["p", integer_to_list(N)]} || {N, Pid} <- lists:enumerate(Pids)]),
     Received = received(Rows),
     utf8(["sequenceDiagram\n",
-          [["    participant ", maps:get(Pid, Lanes), " as ", plain(seqaudit_legend:process(Pid, Legend)), $\n] || Pid <- Pids],
+          [["    participant ", maps:get(Pid, Lanes), " as ", plain(seqaudit_legend:process(Pid, Legend)), $\n]
+           || Pid <- Pids],
           [["    ", arrow(Row, Lanes, Received, Legend)] || Row <- Rows]]).
 
 %% The sends whose receives are among the rows.
@@ -54,13 +55,15 @@ received(Rows) ->
 %% A message has one arrow, at its receive; one that nobody is known to have received ends in a cross.
 arrow(#{event := #{kind := print, from := From}} = Row, Lanes, _Received, Legend) ->
     ["Note over ", maps:get(From, Lanes), ": prints ", message(Row, Legend), $\n];
-arrow(#{event := #{kind := 'receive', from := From, to := To}, cause := {sent, Send}} = Row, Lanes, _Received, Legend) ->
+arrow(#{event := #{kind := 'receive', from := From, to := To}, cause := {sent, Send}} = Row, Lanes, _Received,
+      Legend) ->
     Arrow = case is_reported(Row) andalso is_reported(#{id => Send}) of true -> "->>"; false -> "-->>" end,
     [maps:get(From, Lanes), Arrow, maps:get(To, Lanes), ": ", message(Row, Legend), $\n];
 arrow(#{id := Id, event := #{from := From, to := To}} = Row, Lanes, Received, Legend) ->
     case is_map_key(Id, Received) of
         true -> ["%% ", plain(name(Row, Legend)), " is sent\n"];
-        false -> [maps:get(From, Lanes), "--x", maps:get(To, Lanes), ": ", message(Row, Legend), " (no reported receive)\n"]
+        false -> [maps:get(From, Lanes), "--x", maps:get(To, Lanes), ": ", message(Row, Legend),
+                  " (no reported receive)\n"]
     end.
 
 message(#{invented := true}, _Legend) -> "(an unknown message)";
@@ -89,12 +92,17 @@ perfetto(Rows, #{legend := Legend, timed := #{start := Start} = Times}) ->
          traceEvents =>
              [#{ph => <<"M">>, name => <<"thread_name">>, pid => 1, tid => Lane,
                 args => #{name => seqaudit_legend:process(Pid, Legend)}} || {Pid, Lane} <- maps:to_list(Lanes)]
-             ++ [(place(Row, At, Lanes))#{ph => <<"X">>, dur => 0, name => utf8(named(Row, Legend)), cat => label(Row, Legend),
-                                          args => #{event => utf8(name(Row, Legend)), message => value(Row, Legend)}}
-                 || {Row, At} <- Shown]
-             ++ lists:append([[From#{ph => <<"s">>, id => Number, name => <<"message">>, cat => <<"message">>},
-                               To#{ph => <<"f">>, bp => <<"e">>, id => Number, name => <<"message">>, cat => <<"message">>}]
-                              || {Number, From, To} <- Flows])}), $\n].
+             ++ [slice(Row, place(Row, At, Lanes), Legend) || {Row, At} <- Shown]
+             ++ lists:append([flow(Number, From, To) || {Number, From, To} <- Flows])}), $\n].
+
+slice(Row, Place, Legend) ->
+    Place#{ph => <<"X">>, dur => 0, name => utf8(named(Row, Legend)), cat => label(Row, Legend),
+           args => #{event => utf8(name(Row, Legend)), message => value(Row, Legend)}}.
+
+%% An arrow from slice to slice.
+flow(Number, From, To) ->
+    Message = #{id => Number, name => <<"message">>, cat => <<"message">>},
+    [maps:merge(From, Message#{ph => <<"s">>}), maps:merge(To, Message#{ph => <<"f">>, bp => <<"e">>})].
 
 %% Where and when, in microseconds.
 place(#{actor := Pid}, At, Lanes) ->
@@ -109,14 +117,16 @@ named(#{event := #{kind := Kind}} = Row, Legend) -> [atom_to_list(Kind), " ", me
 otlp(Rows, #{name := Name, legend := Legend, timed := Times}) ->
     Index = seqaudit_causes:index(Rows),
     Received = maps:from_list([{Send, Row} || #{cause := {sent, Send}} = Row <- Rows]),
-    Spans = [span(Row, Index, Received, Legend, Times) || #{event := #{kind := Kind}} = Row <- Rows, Kind =/= 'receive'],
+    Spans = [Span || #{event := #{kind := Kind}} = Row <- Rows, Kind =/= 'receive',
+                     Span <- [span(Row, Index, Received, Legend, Times)], Span =/= none],
     [seqaudit_json:encode(
        #{resourceSpans =>
              [#{resource => #{attributes => [attribute("service.name", utf8(filename:basename(Name)))]},
-                scopeSpans => [#{scope => #{name => <<"seqaudit">>}, spans => [Span || Span <- Spans, Span =/= none]}]}]}), $\n].
+                scopeSpans => [#{scope => #{name => <<"seqaudit">>}, spans => Spans}]}]}), $\n].
 
 %% A span for each send, and for each print, which takes no time. What has no time has no span.
-span(#{id := Id, cause := Cause, event := #{label := Label}} = Row, Index, Received, Legend, #{start := Start} = Times) ->
+span(#{id := Id, cause := Cause, event := #{label := Label}} = Row, Index, Received, Legend, Times) ->
+    #{start := Start} = Times,
     Receive = maps:get(Id, Received, none),
     case {times_of(Id, Times), times_of(id(Receive), Times)} of
         {[], []} -> none;
@@ -202,10 +212,11 @@ utf8(Text) -> unicode:characters_to_binary(Text).
 %% @doc A reason of this module in words, with what to do about it.
 -spec format_error(term()) -> string().
 format_error({rows, Rows}) ->
-    text("a Mermaid diagram takes up to ~b events, and these are ~b; choose a label, or cut the trace", [?MERMAID_ROWS, Rows]);
+    text("a Mermaid diagram takes up to ~b events, and these are ~b; choose a label, or cut the trace",
+         [?MERMAID_ROWS, Rows]);
 format_error(no_times) ->
     "no event has a time; trace with the flag for timestamps (collect --trigger .. --times)";
 format_error(no_clock) ->
     "the events came without the clock of their node, which OpenTelemetry needs; collect them with seqaudit-node";
 format_error(resets) ->
-    "there are resets in this trace, and times on both sides of each can't be drawn as one; cut it with --from and --to".
+    "there are resets in this trace, and its parts can't be drawn as one; cut it with --from and --to".

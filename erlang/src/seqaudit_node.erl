@@ -20,7 +20,10 @@
 -spec main([string()]) -> no_return().
 main(Words) ->
     %% What was collected is written even if nobody reads what is said of it.
-    ok = seqaudit_output:open(case Words of [Command | _] when Command =:= "collect"; Command =:= "watch" -> stop; _ -> halt end),
+    ok = seqaudit_output:open(case Words of
+                                  [Command | _] when Command =:= "collect"; Command =:= "watch" -> stop;
+                                  _ -> halt
+                              end),
     Status = run(Words),
     ok = seqaudit_output:flush(),
     halt(Status).
@@ -58,9 +61,11 @@ run({Command, Valued, Flags, Do}, Words) ->
 %% Each command with its options that have a value, and those that have none.
 commands() ->
     [{"collect", ["--node", "--cookie", "--cookie-file", "--seconds", "--bytes", "--limit", "--folder",
-                  "--trigger", "--label", "--calls", "-o"], ["--reset", "--times", "--take-over", "--unload"], fun collect/1},
-     {"watch", ["--node", "--cookie", "--cookie-file", "--every", "--keep", "--bytes", "--folder", "--trigger", "--label",
-                "--calls", "-o"], ["--reset", "--times", "--take-over", "--unload"], fun watch/1},
+                  "--trigger", "--label", "--calls", "-o"],
+      ["--reset", "--times", "--take-over", "--unload"], fun collect/1},
+     {"watch", ["--node", "--cookie", "--cookie-file", "--every", "--keep", "--bytes", "--folder", "--trigger",
+                "--label", "--calls", "-o"],
+      ["--reset", "--times", "--take-over", "--unload"], fun watch/1},
      {"convert", ["-o"], [], fun convert/1},
      {"audit", ?CUTS, ["--whole", "--parts", "--json", "--each-label"],
       fun(#{"--each-label" := _} = Options) -> answer(fun seqaudit_each:audit/1, Options);

@@ -80,7 +80,8 @@ closed(stop, _) ->
 closed(halt, epipe) ->
     halt(?BROKEN_PIPE, [{flush, false}]);
 closed(halt, Reason) ->
-    _ = (catch io:format(standard_error, "seqaudit-node: the output can't be written: ~ts~n", [file:format_error(Reason)])),
+    _ = (catch io:format(standard_error, "seqaudit-node: the output can't be written: ~ts~n",
+                         [file:format_error(Reason)])),
     halt(?SYSTEM).
 
 reply({put_chars, Encoding, Characters}, Port) -> write(unicode:characters_to_binary(Characters, Encoding), Port);

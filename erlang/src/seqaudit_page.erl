@@ -119,16 +119,18 @@ durations(Parts, #{timed := Times, legend := Legend}) ->
                                                             seqaudit_legend:process(To, Legend)])
                           end},
                          {"By kind of message", fun(#{value := Value}) ->
-                              unicode:characters_to_binary(seqaudit_durations:kind(seqaudit_legend:brief(Value, Legend)))
+                              Kind = seqaudit_durations:kind(seqaudit_legend:brief(Value, Legend)),
+                              unicode:characters_to_binary(Kind)
                           end}]];
 durations(_Parts, _Audited) ->
     [].
 
 table(Title, Entries) ->
     object([{"title", text(Title)}, {"more", integer_to_binary(max(0, length(Entries) - ?DURATIONS))},
-            {"entries", array([array([text(Of) | [integer_to_binary(Number) || Number <- [Count, Median, Most, Greatest]]])
-                               || {Of, #{count := Count, median := Median, most := Most, greatest := Greatest}}
-                                      <- lists:sublist(Entries, ?DURATIONS)])}]).
+            {"entries", array([entry(Entry) || Entry <- lists:sublist(Entries, ?DURATIONS)])}]).
+
+entry({Of, #{count := Count, median := Median, most := Most, greatest := Greatest}}) ->
+    array([text(Of) | [integer_to_binary(Number) || Number <- [Count, Median, Most, Greatest]]]).
 
 about(#{name := Name, legend := Legend, notes := Notes, cut := Cut, outcome := #{said := Said} = Outcome,
         parts := Parts}, Resets) ->

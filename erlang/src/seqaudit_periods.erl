@@ -1,9 +1,9 @@
 %% @doc The command `watch': traces nodes for as long as it runs, and audits what came period by period.
 %%
-%% At the end of each period the nodes' events are fetched while collecting goes on without a gap, cut at the last moment
-%% at which no message was under way, converted and audited. What fits is thrown away; what doesn't is kept, with the
-%% periods before and after it. So disk and memory stay bounded: a node has the events of the period that runs, and here
-%% are those of three, and of the last periods that are kept.
+%% At the end of each period the nodes' events are fetched while collecting goes on without a gap, cut at the last
+%% moment at which no message was under way, converted and audited. What fits is thrown away; what doesn't is kept,
+%% with the periods before and after it. So disk and memory stay bounded: a node has the events of the period that
+%% runs, and here are those of three, and of the last periods that are kept.
 -module(seqaudit_periods).
 
 -export([watch/3]).
@@ -105,7 +105,8 @@ joined(Files, Period) ->
 
 %% Files are called NAME.PERIOD.NODE.events, and what is left of one NAME.PERIOD.NODE.rest.events.
 number(File) ->
-    [Number | _] = [Word || Word <- tl(lists:reverse(string:split(filename:basename(File), ".", all))), Word =/= "rest"],
+    [_ | Words] = lists:reverse(string:split(filename:basename(File), ".", all)),
+    [Number | _] = [Word || Word <- Words, Word =/= "rest"],
     list_to_integer(Number).
 
 join([], _Period, Joined) ->
@@ -151,32 +152,36 @@ outcome(Period, Events, Notes, How, Later) ->
     case seqaudit_outcome:ask(Streams) of
         {ok, #{said := fault, fault := <<"fault too ", _/binary>>}} ->
             {Verdict, Line} = each_label(Streams),
-            {ok, Verdict, [seqaudit_explain:count(Events, "event"), ", too many for the programs at once; ", Line, "; ", How], Later};
+            Many = seqaudit_explain:count(Events, "event"),
+            {ok, Verdict, [Many, ", too many for the programs at once; ", Line, "; ", How], Later};
         {ok, Outcome} ->
             Lost = seqaudit_explain:losses([unicode:characters_to_binary(Note) || Note <- Notes]),
             Said = Outcome#{cut => true, lost => Lost =/= ""},
-            {ok, verdict(Said), [string:trim(unicode:characters_to_list(seqaudit_explain:headline(Said, Legend))),
-                                 [["; the collectors lost events (", Period, ".notes)"] || Lost =/= ""], "; ", How], Later};
+            Headline = string:trim(unicode:characters_to_list(seqaudit_explain:headline(Said, Legend))),
+            Losses = [["; the trace isn't whole (", Period, ".notes)"] || Lost =/= ""],
+            {ok, verdict(Said), [Headline, Losses, "; ", How], Later};
         {error, Reason} ->
-            {ok, unfit, [seqaudit_explain:count(Events, "event"), " couldn't be audited: ", seqaudit_program:format_error(Reason),
-                         "; ", How], Later}
+            Sentence = seqaudit_program:format_error(Reason),
+            {ok, unfit, [seqaudit_explain:count(Events, "event"), " couldn't be audited: ", Sentence, "; ", How], Later}
     end.
 
 %% A period that is too large as a whole may fit label by label.
 each_label(Streams) ->
     Labels = seqaudit_each:by_label(Streams),
-    Fitting = seqaudit_workers:fold([fun() -> seqaudit_outcome:ask(Own) end || {_, Own} <- Labels],
-                                    fun({ok, Outcome}, Count) ->
-                                            case verdict(Outcome) of fits -> Count + 1; unfit -> Count end;
-                                       ({error, _}, Count) -> Count
-                                    end, 0),
-    {case length(Labels) of Fitting -> fits; _ -> unfit end,
-     text("of ~ts ~ts by themselves",
-          [seqaudit_explain:count(length(Labels), "label"),
-           case length(Labels) of
-               Fitting -> "all fit";
-               All -> text("~ts don't fit or couldn't be audited", [seqaudit_explain:number(All - Fitting)])
-           end])}.
+    Counts = seqaudit_workers:fold([fun() -> seqaudit_outcome:ask(Own) end || {_, Own} <- Labels],
+                                   fun(Asked, Known) ->
+                                           maps:update_with(label_verdict(Asked), fun(N) -> N + 1 end, 1, Known)
+                                   end, #{}),
+    Of = fun(Verdict) -> maps:get(Verdict, Counts, 0) end,
+    {case length(Labels) =:= Of(fits) of true -> fits; false -> unfit end,
+     ["of ", seqaudit_explain:count(length(Labels), "label"), $\s, seqaudit_explain:number(Of(fits)),
+      " fit by themselves",
+      [[", ", seqaudit_explain:number(Of(unfit)), " don't or aren't known to"] || Of(unfit) > 0],
+      [[", ", seqaudit_explain:number(Of(failed)), " couldn't be audited"] || Of(failed) > 0]]}.
+
+label_verdict({ok, #{said := fault}}) -> failed;
+label_verdict({ok, Outcome}) -> verdict(Outcome);
+label_verdict({error, _}) -> failed.
 
 verdict(#{said := Said}) when Said =:= fits; Said =:= completed -> fits;
 verdict(_) -> unfit.

@@ -84,7 +84,8 @@ moved(Ends, Half, Messages, Moves) ->
     case lists:foldl(fun move/2, Ends, Messages) of
         Ends -> tuple_to_list(Ends);
         Earlier ->
-            case lists:all(fun({End, Least}) -> End >= Least end, lists:zip(tuple_to_list(Earlier), tuple_to_list(Half))) of
+            Pairs = lists:zip(tuple_to_list(Earlier), tuple_to_list(Half)),
+            case lists:all(fun({End, Least}) -> End >= Least end, Pairs) of
                 true -> moved(Earlier, Half, Messages, Moves - 1);
                 false -> none
             end
@@ -105,7 +106,8 @@ end_at({Number, Place}, Ends) -> setelement(Number, Ends, Place).
 %% What is known of the collection as a whole, as how many bytes came, goes with the first part; what processes are
 %% called, and the clock of their node, with both.
 split(File, Count, Before, Behind) ->
-    case {file:read_file(File), seqaudit_events:open(filename:rootname(Before)), seqaudit_events:open(filename:rootname(Behind))} of
+    Open = fun(Name) -> seqaudit_events:open(filename:rootname(Name)) end,
+    case {file:read_file(File), Open(Before), Open(Behind)} of
         {{ok, Bytes}, {ok, First}, {ok, Second}} ->
             [_, Entries] = binary:split(Bytes, <<"\n">>),
             {Former, Later} = entries(Entries, Count, [], []),
@@ -142,5 +144,6 @@ lasting(Bytes) ->
 lasting_pairs(other) -> [];
 lasting_pairs(Pairs) ->
     Kept = maps:to_list(maps:with([<<"node">>, <<"clock">>, <<"collector">>, <<"processes">>], Pairs)),
-    Term = iolist_to_binary([<<131, 116, (length(Kept)):32>>, [[seqaudit_external:atom(Key), Value] || {Key, Value} <- Kept]]),
+    Term = iolist_to_binary([<<131, 116, (length(Kept)):32>>
+                             | [[seqaudit_external:atom(Key), Value] || {Key, Value} <- Kept]]),
     [<<?FACTS, (byte_size(Term)):32>>, Term].

@@ -93,7 +93,8 @@ of_file(File) ->
 of_user() ->
     Files = [filename:join(Folder, ".erlang.cookie")
              || Home <- [os:getenv("HOME")], Home =/= false,
-                Folder <- [Home, filename:join(os:getenv("XDG_CONFIG_HOME", filename:join(Home, ".config")), "erlang")]],
+                Configuration <- [os:getenv("XDG_CONFIG_HOME", filename:join(Home, ".config"))],
+                Folder <- [Home, filename:join(Configuration, "erlang")]],
     case [File || File <- Files, filelib:is_regular(File)] of
         [File | _] -> of_file(File);
         [] -> {error, none}
@@ -114,11 +115,12 @@ unreachable(Node) ->
 host_says(Name, Host, {ok, Nodes}) ->
     case {lists:keymember(Name, 1, Nodes), Nodes} of
         {true, _} ->
-            text("the name server (epmd) of ~ts knows it, but it doesn't let this command in; is the cookie the same, is "
-                 "the way to its port open, and if it speaks TLS, does this command (ERL_FLAGS)?", [Host]);
+            text("the name server (epmd) of ~ts knows it, but it doesn't let this command in; is the cookie the same, "
+                 "is the way to its port open, and if it speaks TLS, does this command (ERL_FLAGS)?", [Host]);
         {false, []} -> text("the name server (epmd) of ~ts knows no node at all; is it running?", [Host]);
         {false, _} ->
-            text("the name server (epmd) of ~ts knows no ~ts, but ~ts", [Host, Name, lists:join(", ", [One || {One, _} <- Nodes])])
+            text("the name server (epmd) of ~ts knows no ~ts, but ~ts",
+                 [Host, Name, lists:join(", ", [One || {One, _} <- Nodes])])
     end;
 host_says(_Name, Host, {error, address}) ->
     text("no name server (epmd) can be reached on ~ts; is a node running there, and is the way to it open?", [Host]);
@@ -128,7 +130,8 @@ host_says(_Name, Host, {error, Reason}) ->
 %% @doc A reason of {@link connect/2} in words, with what to do about it.
 -spec format_error({cookie | distribution, term()}) -> string().
 format_error({cookie, none}) ->
-    "there is no cookie; put it into a file (--cookie-file FILE, or ~/.erlang.cookie) or into the variable SEQAUDIT_COOKIE";
+    "there is no cookie; put it into a file (--cookie-file FILE, or ~/.erlang.cookie) or into the variable "
+        "SEQAUDIT_COOKIE";
 format_error({cookie, {file, File, Reason}}) ->
     text("the cookie can't be used: ~ts: ~ts", [File, file:format_error(Reason)]);
 format_error({cookie, {length, From}}) ->

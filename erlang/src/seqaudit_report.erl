@@ -31,8 +31,10 @@ outcome(#{said := Said, streams := Streams} = Outcome, Legend) ->
 %% What nobody reported, and which messages have no reported receive.
 missing(Streams, Legend) ->
     #{waiting := Waiting, silent := Silent, jumps := Jumps} = seqaudit_gaps:find(Streams),
-    #{unreported => [#{event => utf8(seqaudit_why:name(Id, Legend)), what => utf8(seqaudit_explain:sentence(Row, Legend))}
-                     || #{id := Id, hidden := Hidden} = Row <- seqaudit_causes:rows(Streams), Hidden orelse is_added(Id)],
+    #{unreported => [#{event => utf8(seqaudit_why:name(Id, Legend)),
+                       what => utf8(seqaudit_explain:sentence(Row, Legend))}
+                     || #{id := Id, hidden := Hidden} = Row <- seqaudit_causes:rows(Streams),
+                        Hidden orelse is_added(Id)],
       waiting => [#{event => name(Id, Legend), to => seqaudit_legend:process(To, Legend)}
                   || #{id := Id, event := #{to := To}} <- Waiting],
       silent_stamps => counts(Silent, Legend), jumps => counts(Jumps, Legend)}.

@@ -19,7 +19,8 @@ escaped(Text, Done, []) ->
     [binary:part(Text, Done, byte_size(Text) - Done)];
 escaped(Text, Done, [{Place, Size} | Found]) ->
     <<Character/utf8>> = binary:part(Text, Place, Size),
-    [binary:part(Text, Done, Place - Done), "\\x{", integer_to_list(Character, 16), $} | escaped(Text, Place + Size, Found)].
+    [binary:part(Text, Done, Place - Done), "\\x{", integer_to_list(Character, 16), $}
+     | escaped(Text, Place + Size, Found)].
 
 %% Compiled once for each Erlang, as it is asked for each line that is written.
 controls() ->

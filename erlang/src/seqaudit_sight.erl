@@ -48,9 +48,11 @@ look(Collectors, Nodes, Say) ->
     end.
 
 gone(Node, noconnection) ->
-    text("~ts: node ~ts can't be reached any more; if it still runs, collecting goes on there for a minute", [now_text(), Node]);
+    text("~ts: node ~ts can't be reached any more; if it still runs, collecting goes on there for a minute",
+         [now_text(), Node]);
 gone(Node, noproc) ->
-    text("~ts: node ~ts has no collector any more; what came before is read from its disk at the end", [now_text(), Node]);
+    text("~ts: node ~ts has no collector any more; what came before is read from its disk at the end",
+         [now_text(), Node]);
 gone(Node, Reason) ->
     text("~ts: the collector of node ~ts ended (~0tP); what came before is read from its disk at the end",
          [now_text(), Node, Reason, 10]).

@@ -20,7 +20,8 @@ times(#{"" := [Name]} = Options) ->
     seqaudit_answer:with_trace(Name, Wish, fun(#{timed := Times, legend := Legend} = Trace) ->
         case {maps:size(maps:get(events, Times)), labels(Options, Legend)} of
             {0, _} ->
-                {?UNFIT, ["no event of ", Name, " has a time; trace with the flag for timestamps (collect --trigger .. --times)"]};
+                {?UNFIT, ["no event of ", Name, " has a time; trace with the flag for timestamps "
+                          "(collect --trigger .. --times)"]};
             {_, {error, Reason}} ->
                 {?UNFIT, seqaudit_legend:format_error(Reason)};
             {_, []} ->
@@ -76,9 +77,10 @@ table(_Title, [], _Legend) ->
     "no message has a time for both its send and its receive\n";
 table(Title, Entries, Legend) ->
     rows([Title, "count", "median", "99 %", "greatest", "which"],
-         [[Of, integer_to_list(Count), seqaudit_times:span(Median), seqaudit_times:span(Most), seqaudit_times:span(Greatest),
-           seqaudit_bundle:name(Pid, At, Legend)]
-          || {Of, #{count := Count, median := Median, most := Most, greatest := Greatest, slowest := {Pid, At}}} <- Entries]).
+         [[Of, integer_to_list(Count)]
+          ++ [seqaudit_times:span(maps:get(Which, Known)) || Which <- [median, most, greatest]]
+          ++ [seqaudit_bundle:name(Pid, At, Legend)]
+          || {Of, #{count := Count, slowest := {Pid, At}} = Known} <- Entries]).
 
 label_table(Labels) ->
     rows(["slowest labels", "events", "took", "from"],
@@ -120,7 +122,9 @@ sentence(_Row, #{kind := Kind, from := From, to := To, value := Value}, Legend) 
                               seqaudit_legend:brief(Value, Legend)).
 
 sums(Steps) ->
-    Sum = fun(Which) -> lists:sum([Time || #{is := Is, after_cause := Time} <- Steps, Is =:= Which, is_integer(Time)]) end,
+    Sum = fun(Which) -> lists:sum([Time || #{is := Is, after_cause := Time} <- Steps, Is =:= Which,
+                                           is_integer(Time)])
+          end,
     case [Step || #{after_cause := unknown, is := Is} = Step <- Steps, Is =/= first] of
         [] -> text(" (~ts under way, ~ts in processes)",
                    [seqaudit_times:span(Sum(under_way)), seqaudit_times:span(Sum(waited))]);

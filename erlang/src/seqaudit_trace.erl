@@ -198,8 +198,8 @@ format_error({node, Node, {in_use, #{owner := Owner, folder := Folder, left := l
     text("node ~ts is traced already, for ~ts (its events go to ~ts); end that first, by Ctrl-C or "
          "seqaudit_trace:stop() there", [Node, Owner, Folder]);
 format_error({node, Node, {in_use, #{owner := Owner, folder := Folder, left := Left}}}) ->
-    text("node ~ts is still traced for ~ts, which can't be reached any more; that ends in ~b s, unless it comes back, and "
-         "leaves its events in ~ts there; with --take-over it ends now",
+    text("node ~ts is still traced for ~ts, which can't be reached any more; that ends in ~b s, unless it comes back, "
+         "and leaves its events in ~ts there; with --take-over it ends now",
          [Node, Owner, (Left + 999) div 1_000, Folder]);
 format_error({node, Node, unreachable}) ->
     text("node ~ts can't be reached; is it running, is its name spelled so, and is the cookie "

@@ -42,7 +42,8 @@
 -spec is_valid(term()) -> boolean().
 is_valid(none) -> true;
 is_valid(#{label := _, times := Times} = Trigger) ->
-    is_boolean(Times) andalso functions(Trigger) =/= [] andalso lists:all(fun is_function_with_clauses/1, functions(Trigger))
+    is_boolean(Times) andalso functions(Trigger) =/= []
+        andalso lists:all(fun is_function_with_clauses/1, functions(Trigger))
         andalso is_limit(maps:get(calls, Trigger, infinity));
 is_valid(_) -> false.
 
@@ -66,7 +67,8 @@ pull(Trigger) ->
     Functions = [{Function, specification(Clauses, Trigger, Calls)} || {Function, Clauses} <- functions(Trigger)],
     _ = [code:ensure_loaded(Module) || {{Module, _, _}, _} <- Functions],
     HasSessions = erlang:function_exported(trace, session_create, 3),
-    case [Reason || not HasSessions, Reason <- in_use([Function || {Function, _} <- Functions])] ++ word_in_use(Calls) of
+    Others = [Reason || not HasSessions, Reason <- in_use([Function || {Function, _} <- Functions])],
+    case Others ++ word_in_use(Calls) of
         [] ->
             Tracer = spawn_link(fun() -> receive stop -> ok end end),
             set(#pulled{functions = Functions, tracer = Tracer, session = session(HasSessions, Tracer), calls = Calls,
@@ -213,14 +215,14 @@ format_error(Node, {no_function, {Module, Function, Arity}}) ->
 format_error(Node, {no_match_specification, {Module, Function, Arity}}) ->
     text("node ~ts doesn't take this condition on the arguments of ~ts:~ts/~b", [Node, Module, Function, Arity]);
 format_error(Node, {function_in_use, {Module, Function, Arity}, Owners}) ->
-    text("on node ~ts ~ts:~ts/~b is traced already~ts; before OTP 27 a function can be traced only once, so ask them to "
-         "end it, or trigger on another function", [Node, Module, Function, Arity, by(Owners)]);
+    text("on node ~ts ~ts:~ts/~b is traced already~ts; before OTP 27 a function can be traced only once, so ask them "
+         "to end it, or trigger on another function", [Node, Module, Function, Arity, by(Owners)]);
 format_error(Node, {tracer_in_use, Owners}) ->
-    text("on node ~ts calls are traced already~ts; before OTP 27 each process has one tracer, so ask them to end it, or "
-         "set tokens without --trigger", [Node, by(Owners)]);
+    text("on node ~ts calls are traced already~ts; before OTP 27 each process has one tracer, so ask them to end it, "
+         "or set tokens without --trigger", [Node, by(Owners)]);
 format_error(Node, {word_in_use, Word}) ->
-    text("on node ~ts somebody uses the trace control word (it is ~b), in which calls are counted; leave out --calls, or "
-         "if a killed collector left it, call erlang:system_flag(trace_control_word, 0) there", [Node, Word]).
+    text("on node ~ts somebody uses the trace control word (it is ~b), in which calls are counted; leave out --calls, "
+         "or if a killed collector left it, call erlang:system_flag(trace_control_word, 0) there", [Node, Word]).
 
 by([]) -> "";
 by(Owners) ->
