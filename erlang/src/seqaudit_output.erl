@@ -76,7 +76,7 @@ drained(Port) ->
     end.
 
 closed(stop, _) ->
-    gen_event:notify(erl_signal_server, sigterm);
+    seqaudit_signals:output_closed();
 closed(halt, epipe) ->
     halt(?BROKEN_PIPE, [{flush, false}]);
 closed(halt, Reason) ->

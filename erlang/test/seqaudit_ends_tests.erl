@@ -1,7 +1,7 @@
 %% How commands end: killed, without their nodes, without a reader, and with what a terminal can't show.
 -module(seqaudit_ends_tests).
 
--export([killed_test_/0, node_down_test_/0, closed_output_test_/0, full_device_test_/0, unicode_errors_test_/0,
+-export([killed_test_/0, node_down_test_/0, closed_output_test_/0, closed_collect_test_/0, full_device_test_/0, unicode_errors_test_/0,
          control_characters_test_/0, escaped_test/0]).
 
 -import(seqaudit_test_shell, [node_command/0, cookie/0, run/1, run/2, begin_run/2, ended/0]).
@@ -86,6 +86,21 @@ closed_output_test_() ->
         %% So it is if nobody reads its errors.
         {0, <<>>} = run(["cd ", Folder, "; { ", node_command(), " frobnicate 2>&1; echo $? >status; } | true"]),
         {ok, <<"141\n">>} = file:read_file(filename:join(Folder, "status"))
+    end}.
+
+%% What was collected is written though nobody reads what the command says, and nothing is left on the node.
+closed_collect_test_() ->
+    {timeout, 120, fun() ->
+        seqaudit_test_nodes:with_second("a collection without a reader", fun(There) ->
+            Name = seqaudit_audits:file("closed_collect"),
+            _ = [file:delete(Name ++ Suffix) || Suffix <- [".status", ".seqtrace"]],
+            _ = begin_run(["{ ", node_command(), " collect --node ", atom_to_list(There), " --seconds 60 -o ", Name,
+                           "; echo $? >", Name, ".status; } 2>&1 | true"], cookie()),
+            {0, <<>>} = ended(),
+            {ok, <<"0\n">>} = file:read_file(Name ++ ".status"),
+            {ok, <<"seqtrace 1\n">>} = file:read_file(Name ++ ".seqtrace"),
+            false = erpc:call(There, seq_trace, get_system_tracer, [])
+        end)
     end}.
 
 full_device_test_() ->
