@@ -146,24 +146,26 @@ part(File, Which) -> filename:rootname(File) ++ "." ++ Which ++ ".events".
 
 outcome(_Period, 0, _Notes, How, Later) ->
     {ok, fits, ["nothing came", [["; ", One] || One <- tl(How)]], Later};
-outcome(Period, Events, Notes, How, Later) ->
+outcome(Period, _Events, Notes, How, Later) ->
     {ok, Legend} = seqaudit_legend:read(Period ++ ".terms"),
     {ok, Streams} = seqaudit_bundle:read(Period ++ ".seqtrace"),
-    case seqaudit_outcome:ask(Streams) of
-        {ok, #{said := fault, fault := <<"fault too ", _/binary>>}} ->
-            {Verdict, Line} = each_label(Streams),
-            Many = seqaudit_explain:count(Events, "event"),
-            {ok, Verdict, [Many, ", too many for the programs at once; ", Line, "; ", How], Later};
-        {ok, Outcome} ->
-            Lost = seqaudit_explain:losses([unicode:characters_to_binary(Note) || Note <- Notes]),
-            Said = Outcome#{cut => true, lost => Lost =/= ""},
-            Headline = string:trim(unicode:characters_to_list(seqaudit_explain:headline(Said, Legend))),
-            Losses = [["; the trace isn't whole (", Period, ".notes)"] || Lost =/= ""],
-            {ok, verdict(Said), [Headline, Losses, "; ", How], Later};
-        {error, Reason} ->
-            Sentence = seqaudit_program:format_error(Reason),
-            {ok, unfit, [seqaudit_explain:count(Events, "event"), " couldn't be audited: ", Sentence, "; ", How], Later}
-    end.
+    %% What the programs don't take is audited label by label, and isn't lost.
+    Lost = [Note || Note <- Notes, string:find(Note, "won't take") =:= nomatch,
+                    seqaudit_explain:losses([unicode:characters_to_binary(Note)]) =/= ""],
+    {Verdict, Line} = said(seqaudit_outcome:ask(Streams), Streams, Lost =/= [], Legend),
+    Losses = [["; the trace isn't whole (", Period, ".notes)"] || Lost =/= []],
+    {ok, Verdict, [Line, Losses, "; ", How], Later}.
+
+said({ok, #{said := fault, fault := <<"fault too ", _/binary>>}}, Streams, _IsLost, _Legend) ->
+    {Verdict, Line} = each_label(Streams),
+    {Verdict, [count(Streams), ", too many for the programs at once; ", Line]};
+said({ok, Outcome}, _Streams, IsLost, Legend) ->
+    Said = Outcome#{cut => true, lost => IsLost},
+    {verdict(Said), string:trim(unicode:characters_to_list(seqaudit_explain:headline(Said, Legend)))};
+said({error, Reason}, Streams, _IsLost, _Legend) ->
+    {unfit, [count(Streams), " couldn't be audited: ", seqaudit_program:format_error(Reason)]}.
+
+count(Streams) -> seqaudit_explain:count(seqaudit_bundle:events(Streams), "event").
 
 %% A period that is too large as a whole may fit label by label.
 each_label(Streams) ->

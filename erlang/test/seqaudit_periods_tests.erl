@@ -1,7 +1,7 @@
 %% Collecting goes on without a gap while it is looked at, period by period.
 -module(seqaudit_periods_tests).
 
--export([rotate_test_/0, quiet_test/0, never_quiet_test/0, watch_test_/0]).
+-export([rotate_test_/0, quiet_test/0, never_quiet_test/0, watch_test_/0, too_many_test_/0]).
 %% Called by name.
 -export([serve/0, answer/0, request/2]).
 
@@ -89,24 +89,29 @@ never_quiet_test() ->
 
 %% A node under load is watched: what fits goes, a reset is kept with the periods beside it, and the command ends at once.
 watch_test_() ->
+    with_watch("w", fun(Auditor) -> Auditor end, fun watched/4).
+
+with_watch(Name, Auditor, Test) ->
     {timeout, 240, fun() ->
         case {seqaudit_program:find("seqaudit"), seqaudit_program:find("seqtool")} of
-            {{ok, Auditor}, {ok, Tool}} ->
-                seqaudit_test_nodes:with_second("watch", fun(There) -> watched(There, [{"SEQAUDIT", Auditor}, {"SEQTOOL", Tool}]) end);
+            {{ok, Program}, {ok, Tool}} ->
+                seqaudit_test_nodes:with_second("watch", fun(There) ->
+                    begun(There, Name, [{"SEQAUDIT", Auditor(Program)}, {"SEQTOOL", Tool}], Test)
+                end);
             _ -> io:format(user, "watch: skipped, the programs aren't built~n", [])
         end
     end}.
 
-watched(There, Programs) ->
+%% The command watches a node with a service, and what it says goes to a file.
+begun(There, Name, Programs, Test) ->
     {_, Binary, File} = code:get_object_code(?MODULE),
     {module, _} = erpc:call(There, code, load_binary, [?MODULE, File, Binary]),
-    Folder = seqaudit_audits:file("watched"),
+    Folder = seqaudit_audits:file("watched_" ++ Name),
     _ = file:del_dir_r(Folder),
     ok = file:make_dir(Folder),
-    Name = filename:join(Folder, "w"),
     Said = filename:join(Folder, "said"),
     _ = seqaudit_test_shell:begin_run(["echo $$ >", Folder, "/pid; exec ", seqaudit_test_shell:node_command(), " watch --node ",
-                                       atom_to_list(There), " --every 2 -o ", Name, " >", Said, " 2>&1"],
+                                       atom_to_list(There), " --every 2 -o ", filename:join(Folder, Name), " >", Said, " 2>&1"],
                                       seqaudit_test_shell:cookie() ++ Programs),
     seqaudit_test_nodes:until(fun() -> seqaudit_test_nodes:is_traced(There) end),
     Service = erpc:call(There, erlang, spawn, [?MODULE, serve, []]),
@@ -114,28 +119,51 @@ watched(There, Programs) ->
                    {ok, Text} = file:read_file(Said),
                    case re:run(Text, Pattern, [global, {capture, all, list}]) of {match, Found} -> Found; nomatch -> [] end
            end,
+    End = fun() ->
+                  {ok, Pid} = file:read_file(filename:join(Folder, "pid")),
+                  [] = os:cmd("kill -TERM " ++ string:trim(binary_to_list(Pid))),
+                  {Status, _} = seqaudit_test_shell:ended(),
+                  false = erpc:call(There, seq_trace, get_system_tracer, []),
+                  Status
+          end,
+    Test(There, filename:join(Folder, Name), Says, End),
+    exit(Service, kill).
+
+watched(There, Name, Says, End) ->
     seqaudit_test_nodes:until(fun() -> length(Says("period [0-9]+: fits: .* not kept")) >= 3 end),
     _ = erpc:call(There, seq_trace, reset_trace, []),
     seqaudit_test_nodes:until(fun() -> Says("period [0-9]+: doesn't fit: ") =/= [] end),
     seqaudit_test_nodes:until(fun() -> Says("doesn't fit: .*\n.*period [0-9]+: fits: .*; kept as ") =/= [] end),
     seqaudit_test_nodes:until(fun() -> length(Says("period [0-9]+: fits: .* not kept")) >= 5 end),
-    {ok, Pid} = file:read_file(filename:join(Folder, "pid")),
     Ended = erlang:monotonic_time(millisecond),
-    [] = os:cmd("kill -TERM " ++ string:trim(binary_to_list(Pid))),
-    {1, _} = seqaudit_test_shell:ended(),
+    1 = End(),
     Took = erlang:monotonic_time(millisecond) - Ended,
     io:format(user, "watch: ended in ~b ms~n", [Took]),
     %% On a machine with other work it may take longer than the second that it is to take.
     true = Took < 10_000,
-    false = erpc:call(There, seq_trace, get_system_tracer, []),
     [[_, Unfit]] = Says("period ([0-9]+): doesn't fit: "),
-    Around = [integer_to_list(list_to_integer(Unfit) + N) || N <- [-1, 0, 1]],
-    Around = lists:sort(fun(A, B) -> list_to_integer(A) =< list_to_integer(B) end,
-                        [Number || One <- filelib:wildcard(Name ++ ".*.seqtrace"),
+    Around = lists:sort([integer_to_list(list_to_integer(Unfit) + N) || N <- [-1, 0, 1]]),
+    Around = lists:sort([Number || One <- filelib:wildcard(Name ++ ".*.seqtrace"),
                                    ["w", Number, "seqtrace"] <- [string:split(filename:basename(One), ".", all)]]),
     [_ | _] = Says("cut at a quiet moment"),
-    [[_]] = Says("[0-9]+ periods audited, 3 kept; period [0-9]+, which was running, isn't audited\n"),
-    exit(Service, kill).
+    [[_]] = Says("[0-9]+ periods audited, 3 kept; period [0-9]+, which was running, isn't audited\n").
+
+%% A period with more processes than the program takes is audited label by label. This one takes three.
+too_many_test_() ->
+    with_watch("many", fun(Auditor) ->
+        Script = seqaudit_audits:file("few_processes.sh"),
+        ok = file:write_file(Script, ["#!/bin/sh\ninput=$(cat)\n"
+                                      "if [ \"$(echo \"$input\" | grep -c ^process)\" -gt 3 ]; then\n"
+                                      "echo fault too many processes; exit 2; fi\n"
+                                      "echo \"$input\" | ", Auditor, " \"$@\"\n"]),
+        ok = file:change_mode(Script, 8#755),
+        Script
+    end, fun(_There, Name, Says, End) ->
+        Fits = "period [0-9]+: [0-9]+ events, too many for the programs at once; of ([0-9]+) labels \\1 fit by themselves; cut .*; not kept",
+        seqaudit_test_nodes:until(fun() -> length(Says(Fits)) >= 2 end),
+        0 = End(),
+        [] = filelib:wildcard(Name ++ ".*")
+    end).
 
 %% Some twenty requests a second, each with a process and a label of its own; whoever makes them has no token.
 serve() ->
