@@ -78,7 +78,9 @@ say(Label, Sentence, Legend) ->
 counted(Said, Counts) ->
     maps:update_with(Said, fun(Count) -> Count + 1 end, 1, Counts).
 
-told(Counts, Labels, #{notes := Notes}, Options) ->
+told(Counts, Labels, #{notes := AllNotes}, Options) ->
+    %% What the programs don't take as a whole doesn't matter here.
+    Notes = [Note || Note <- AllNotes, binary:match(Note, <<"won't take">>) =:= nomatch],
     Of = fun(Said) -> maps:get(Said, Counts, 0) end,
     Others = maps:without([fits, completed], Counts),
     Unknown = lists:sum(maps:values(maps:without([never, fault, failed], Others))),

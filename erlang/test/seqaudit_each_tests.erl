@@ -37,7 +37,11 @@ each_label(Program) ->
     {1, Json} = command(["audit ", Name, " --each-label --json"], Variables),
     21 = length(binary:matches(Json, <<"\"label\":">>)),
     {_, _} = binary:match(Json, <<"\"label\":\"torn\"">>),
-    {3, _} = command(["audit ", Name, " --each-label --whole"], Variables).
+    {3, _} = command(["audit ", Name, " --each-label --whole"], Variables),
+    %% What was lost is said; that the whole is too large for the programs is no loss here.
+    ok = file:write_file(Name ++ ".notes", "seqaudit won't take this bundle\na@h: 2 events were dropped\n"),
+    {1, Lost} = command(["audit ", Name, " --each-label"], Variables),
+    {match, _} = re:run(Lost, "1 don't\nThe trace isn't whole:\n  a@h: 2 events were dropped\n$").
 
 %% A process of its own for each request, as a service has it.
 messages(N) ->
