@@ -2,6 +2,8 @@
 -module(seqaudit_answer).
 
 -export([audit/1, chart/1, why/1]).
+%% What other commands on a trace need too.
+-export([with_trace/3, with_outcome/2, wish/2, shown/1, doubt/2, keep/3]).
 
 %% Exit statuses, as those of `seqaudit'.
 -define(FITS, 0).
@@ -16,7 +18,8 @@
 -type status() :: ?FITS..?INPUT | ?SYSTEM.
 -type result() :: status() | {status() | ?USAGE, Complaint :: unicode:chardata()} | {usage, string()}.
 
-%% What `audit', `chart' and `why' have of a trace, once it is cut as was asked.
+%% @doc What the commands have of a trace, once it is cut as was asked.
+-spec with_trace(file:filename(), map(), fun((map()) -> result())) -> result().
 with_trace(Name, Wish, Do) ->
     with_file(seqaudit_legend:read(Name ++ ".terms"), fun seqaudit_legend:format_error/1, fun(Legend) ->
         with_file(seqaudit_bundle:read(Name ++ ".seqtrace"), fun seqaudit_bundle:format_error/1, fun(Streams) ->
@@ -50,7 +53,8 @@ times(Name) ->
         Read -> Read
     end.
 
-%% What the options cut the trace to.
+%% @doc What the options cut the trace to.
+-spec wish(options(), [labels | processes | from | to]) -> map().
 wish(Options, Cuts) ->
     maps:from_list([{Cut, Words} || {Option, Cut, Which} <- [{"--label", labels, all},
                                                              {"--process", processes, all},
@@ -62,7 +66,8 @@ wish(Options, Cuts) ->
                                                  last -> [hd(Given)]
                                              end]).
 
-%% The outcome of the audit, and of each part between resets if there are any.
+%% @doc The outcome of the audit, and of each part between resets if there are any.
+-spec with_outcome(map(), fun((map()) -> result())) -> result().
 with_outcome(#{streams := Streams} = Trace, Do) ->
     case ask(Streams, Trace) of
         {ok, Outcome} ->
@@ -108,15 +113,14 @@ audit(_) ->
     {usage, "audit needs the NAME of one trace"}.
 
 audit(#{name := Name, legend := Legend, notes := Notes, cut := Cut, outcome := Outcome,
-        parts := Parts, streams := Streams, timed := Times}, Options) ->
+        parts := Parts, streams := Streams, timed := Times} = Audited, Options) ->
     #{said := Said, answer := Answer} = Outcome,
-    io:put_chars([Cut, seqaudit_explain:outcome(Outcome, Notes, Legend),
-                  seqaudit_times:summary(Streams, Times),
-                  audited_parts(Parts, Options, Legend),
-                  case Options of
-                      #{"--whole" := _} -> seqaudit_explain:whole(Outcome, Legend);
-                      #{} -> ""
-                  end]),
+    io:put_chars(case Options of
+                     #{"--json" := _} -> seqaudit_report:audit(Audited);
+                     #{} -> [Cut, seqaudit_explain:outcome(Outcome, Notes, Legend),
+                             seqaudit_times:summary(Streams, Times), audited_parts(Parts, Options, Legend),
+                             [seqaudit_explain:whole(Outcome, Legend) || is_map_key("--whole", Options)]]
+                 end),
     ok = seqaudit_convert:remove_answers(Name),
     Kept = [{Name ++ ".answer", Answer}
             | [{seqaudit_convert:part_answer(Name, Which), PartAnswer}
@@ -151,15 +155,20 @@ chart(#{"" := [Name], "--label" := [Label | _]} = Options) ->
             {error, Reason} -> {?UNFIT, seqaudit_legend:format_error(Reason)}
         end
     end);
-chart(#{"" := [Name], "--html" := _} = Options) ->
-    with_trace(Name, wish(Options, [processes, from, to]), fun(Trace) ->
-        with_outcome(Trace, fun(Audited) ->
-            io:put_chars(charted(Audited)),
-            page(Audited, Options, <<"">>, ?FITS)
-        end)
-    end);
+chart(#{"" := [Name]} = Options) ->
+    Drawn = ["--html" | [Option || {Option, _} <- seqaudit_export:formats()]],
+    case [Option || Option <- Drawn, is_map_key(Option, Options)] of
+        [] -> chart(#{});
+        _ ->
+            with_trace(Name, wish(Options, [processes, from, to]), fun(Trace) ->
+                with_outcome(Trace, fun(Audited) ->
+                    io:put_chars(charted(Audited)),
+                    files(Audited, Options, <<"">>, ?FITS)
+                end)
+            end)
+    end;
 chart(_) ->
-    {usage, "chart needs the NAME of one trace, and --label or --html"}.
+    {usage, "chart needs the NAME of one trace, and --label, --html, --mermaid, --perfetto or --otlp"}.
 
 %% A trace that the programs don't take as a whole may be taken when it is cut to the label.
 chart_label(Number, Label, #{streams := Streams, legend := Legend, times := Times} = Trace, Options) ->
@@ -191,7 +200,7 @@ charts(Number, #{parts := Parts, outcome := #{streams := Streams}} = Audited, Op
                  [Complaint | _] -> Complaint;
                  [] -> lists:min(Statuses)
              end,
-    page(Audited, Options, Number, Status).
+    files(Audited, Options, Number, Status).
 
 %% The lines above a chart.
 charted(#{cut := Cut, outcome := Outcome, notes := Notes, parts := Parts, legend := Legend}) ->
@@ -246,6 +255,21 @@ part_file(File, "") -> File;
 part_file(File, Which) ->
     filename:rootname(File) ++ "-" ++ Which ++ filename:extension(File).
 
+%% The page, and what other programs draw.
+files(Audited, Options, Label, Status) ->
+    Paged = page(Audited, Options, Label, Status),
+    Exported = [export(Format, File, Label, Audited, Status)
+                || {Option, Format} <- seqaudit_export:formats(), #{Option := [File | _]} <- [Options]],
+    hd([Complaint || {_, _} = Complaint <- [Paged | Exported]] ++ [Paged]).
+
+export(Format, File, Label, Audited, Status) ->
+    Which = case Label of <<"">> -> all; _ -> Label end,
+    Rows = [seqaudit_causes:rows(Streams) || Streams <- shown(Audited)],
+    case seqaudit_export:text(Format, Which, Rows, Audited) of
+        {ok, Text} -> keep(File, Text, Status);
+        {error, Reason} -> {?INPUT, seqaudit_export:format_error(Reason)}
+    end.
+
 page(_Audited, Options, _Label, Status) when not is_map_key("--html", Options) ->
     Status;
 page(Audited, #{"--html" := [File | _]}, Label, Status) ->
@@ -259,41 +283,51 @@ page(Audited, #{"--html" := [File | _]}, Label, Status) ->
 why(#{"" := [Name], "--event" := [Event | _]} = Options) ->
     with_trace(Name, wish(Options, [labels, processes, from, to]), fun(#{legend := Legend} = Trace) ->
         with_outcome(Trace, fun(#{cut := Cut, outcome := Outcome} = Audited) ->
-            io:put_chars([Cut, doubt(Outcome, Legend)]),
+            is_map_key("--json", Options) orelse io:put_chars([Cut, doubt(Outcome, Legend)]),
             why(Event, shown(Audited), Options, Audited)
         end)
     end);
 why(_) ->
     {usage, "why needs the NAME of one trace, and --event"}.
 
-why(Event, Shown, Options, #{legend := Legend, timed := Times}) ->
+why(Event, Shown, Options, #{legend := Legend} = Audited) ->
     Found = [{Place, Streams} || Streams <- Shown,
                                  {ok, Place} <- [seqaudit_bundle:find(Event, Streams, Legend)]],
     case Found of
         [{Place, Streams} | _] ->
-            Rows = seqaudit_causes:rows(Streams),
-            Tell = case Options of
-                       #{"--effects" := _} -> fun seqaudit_why:effects/4;
-                       #{} -> fun seqaudit_why:chain/4
-                   end,
-            io:put_chars(Tell(Place, Rows, Legend, Times)),
+            io:put_chars(told(Place, seqaudit_causes:rows(Streams), Options, Audited)),
             ?FITS;
         [] ->
             {error, Reason} = seqaudit_bundle:find(Event, lists:append(Shown), Legend),
             {?UNFIT, seqaudit_bundle:format_error(Reason)}
     end.
 
-%% The streams that are shown: the whole, or each part between resets.
+told(Place, Rows, #{"--json" := _} = Options, #{cut := Cut, outcome := Outcome, legend := Legend} = Audited) ->
+    Told = case Options of
+               #{"--effects" := _} -> seqaudit_causes:effects(Place, Rows);
+               #{} -> seqaudit_causes:back(Place, seqaudit_causes:index(Rows))
+           end,
+    seqaudit_report:why(Place, Told, [Cut, doubt(Outcome, Legend)], Audited);
+told(Place, Rows, #{"--effects" := _}, #{legend := Legend, timed := Times}) ->
+    seqaudit_why:effects(Place, Rows, Legend, Times);
+told(Place, Rows, _Options, #{legend := Legend, timed := Times}) ->
+    seqaudit_why:chain(Place, Rows, Legend, Times).
+
+%% @doc The streams that are shown: the whole, or each part between resets.
+-spec shown(map()) -> [seqaudit_bundle:streams()].
 shown(#{parts := [], outcome := #{streams := Streams}}) -> [Streams];
 shown(#{parts := Parts}) -> [Streams || {_, #{streams := Streams}} <- Parts].
 
-%% For a trace that doesn't fit, the doubt comes before the causes.
+%% @doc For a trace that doesn't fit, the doubt comes before the causes.
+-spec doubt(seqaudit_outcome:outcome(), seqaudit_legend:legend()) -> unicode:chardata().
 doubt(Outcome, Legend) ->
     case fits(Outcome) of
         true -> "";
         false -> seqaudit_explain:headline(Outcome, Legend)
     end.
 
+%% @doc Writes what was asked for, for its owner alone.
+-spec keep(file:filename(), iodata(), status()) -> result().
 keep(File, Text, Status) ->
     case seqaudit_convert:write_own(File, Text) of
         ok -> Status;

@@ -134,6 +134,8 @@ why(Why) ->
         [{atom, <<"unwatched">>}, _] ->
             text("the process that bounds the memory of the trace port ended (~ts)",
                  [reason(lists:last(parts(Why)))]);
+        [{atom, <<"taken_over">>}] ->
+            "whoever led the collection couldn't be reached, and somebody else took the node over (--take-over)";
         [{atom, <<"owner_out_of_reach">>}] ->
             "the node that led the collection was out of reach for too long";
         [{atom, <<"owner">>}, _] ->

@@ -20,7 +20,8 @@
           answer := binary(),
           finding => finding(),
           fault => binary(),
-          cut => boolean()}.
+          cut => boolean(),
+          lost => boolean()}.
 %% What is said:
 %% <dl>
 %% <dt>`fits'</dt><dd>a run has the streams, and `answer' is the bundle that shows it</dd>
@@ -32,8 +33,8 @@
 %% <dt>`fault'</dt><dd>a program didn't take the bundle</dd>
 %% </dl>
 %% `answer' is otherwise what the program said. `renumbered' says whether counts were replaced, `tool'
-%% whether `seqtool' was there and did what it was asked, and `cut' whether the streams are what a cut
-%% left of others.
+%% whether `seqtool' was there and did what it was asked, `cut' whether the streams are what a cut
+%% left of others, and `lost' whether the collectors lost events.
 
 -define(FITS, 0).
 -define(UNFIT, 1).

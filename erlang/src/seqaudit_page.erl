@@ -7,7 +7,11 @@
 
 -export([html/2, html/3, format_error/1]).
 
+-import(seqaudit_json, [object/1, array/1, text/1]).
+
 -define(NONCE_BYTES, 18).
+%% So many entries of a table of times are in a page.
+-define(DURATIONS, 200).
 %% So many characters all messages of a page have together: a page is one file that a browser reads and
 %% keeps as a whole, and searches as a whole at each key.
 -define(CHARACTERS, 32_000_000).
@@ -90,13 +94,43 @@ data(#{name := Name, legend := Legend, outcome := Outcome, parts := Parts} = Aud
         {ok, Texts, Most} ->
             Terms = [term(seqaudit_legend:brief(Value, Legend), maps:get(Value, Texts), Most) || Value <- Values],
             {ok, object(about(Audited, Resets)
-                        ++ [{"most", case Most of infinity -> <<"null">>; _ -> integer_to_binary(Most) end},
+                        ++ [{"begin", first(Audited)}, {"durations", array(durations(Shown, Audited))},
+                            {"most", case Most of infinity -> <<"null">>; _ -> integer_to_binary(Most) end},
                             {"limit", integer_to_binary(Limit)},
                             {"terms", array(Terms)}
                             | rows(Rows, lanes(hd(Shown), Rows), Values, Label, Audited)])};
         {error, Reason} ->
             {error, {messages, Reason}}
     end.
+
+%% When the first event happened, in microseconds since 1970, if the clock of the node is known.
+first(#{timed := #{start := Start, events := Events}}) when Start >= 0, map_size(Events) > 0 ->
+    integer_to_binary(Start div 1_000);
+first(_) ->
+    <<"null">>.
+
+%% How long messages took, by pair of processes and by kind.
+durations(Parts, #{timed := Times, legend := Legend}) ->
+    Streams = lists:append(Parts),
+    [table(Title, seqaudit_durations:messages(Streams, Times, Key))
+     || maps:size(maps:get(messages, Times)) > 0,
+        {Title, Key} <- [{"By processes", fun(#{from := From, to := To}) ->
+                              unicode:characters_to_binary([seqaudit_legend:process(From, Legend), " -> ",
+                                                            seqaudit_legend:process(To, Legend)])
+                          end},
+                         {"By kind of message", fun(#{value := Value}) ->
+                              Kind = seqaudit_durations:kind(seqaudit_legend:brief(Value, Legend)),
+                              unicode:characters_to_binary(Kind)
+                          end}]];
+durations(_Parts, _Audited) ->
+    [].
+
+table(Title, Entries) ->
+    object([{"title", text(Title)}, {"more", integer_to_binary(max(0, length(Entries) - ?DURATIONS))},
+            {"entries", array([entry(Entry) || Entry <- lists:sublist(Entries, ?DURATIONS)])}]).
+
+entry({Of, #{count := Count, median := Median, most := Most, greatest := Greatest}}) ->
+    array([text(Of) | [integer_to_binary(Number) || Number <- [Count, Median, Most, Greatest]]]).
 
 about(#{name := Name, legend := Legend, notes := Notes, cut := Cut, outcome := #{said := Said} = Outcome,
         parts := Parts}, Resets) ->
@@ -216,36 +250,3 @@ time(Id, Times) ->
         #{Id := Time} -> integer_to_binary(Time);
         #{} -> <<"null">>
     end.
-
-%% Data as JSON
-
-object(Fields) ->
-    [${, lists:join($,, [[$", Name, $", $: | Value] || {Name, Value} <- Fields]), $}].
-
-array(Values) ->
-    [$[, lists:join($,, Values), $]].
-
-%% A text as JSON writes it, with a number for each character that a page or its reader could take
-%% for something else. A long one is made in one binary, as a list takes many times its size.
-text(Text) when is_binary(Text) -> append_text(Text, <<$">>);
-text(Text) -> text(unicode:characters_to_binary(Text)).
-
-append_text(<<C, Rest/binary>>, Before)
-  when C >= 16#20, C < 16#7F, C =/= $", C =/= $\\, C =/= $<, C =/= $>, C =/= $& ->
-    append_text(Rest, <<Before/binary, C>>);
-append_text(<<C/utf8, Rest/binary>>, Before) when C < 16#10000 ->
-    append_text(Rest, append_unit(C, Before));
-append_text(<<C/utf8, Rest/binary>>, Before) ->
-    First = append_unit(16#D800 + ((C - 16#10000) bsr 10), Before),
-    append_text(Rest, append_unit(16#DC00 + ((C - 16#10000) band 16#3FF), First));
-append_text(<<_, Rest/binary>>, Before) ->
-    append_text(Rest, append_unit(16#FFFD, Before));
-append_text(<<>>, Before) ->
-    <<Before/binary, $">>.
-
-append_unit(Unit, Before) ->
-    <<A:4, B:4, C:4, D:4>> = <<Unit:16>>,
-    <<Before/binary, "\\u", (digit(A)), (digit(B)), (digit(C)), (digit(D))>>.
-
-digit(N) when N < 10 -> $0 + N;
-digit(N) -> $a + N - 10.

@@ -5,7 +5,7 @@
          printing/0, unproved_test/0]).
 
 usage_test_() ->
-    {timeout, 60, fun() ->
+    {timeout, 180, fun() ->
         {0, Help} = command("--help"),
         {_, _} = binary:match(Help, <<"usage: seqaudit-node COMMAND">>),
         %% Each command is in the help, and has its own, with all of its options.
@@ -15,12 +15,16 @@ usage_test_() ->
              {0, Same} = command([Command, " x -h"]),
              [] = [Option || Option <- Options, binary:match(Its, Option) =:= nomatch]
          end || {Command, Options} <- [{<<"collect">>, [<<"--node">>, <<"-o">>, <<"--seconds">>, <<"--trigger">>, <<"--label">>,
-                                                        <<"--times">>, <<"--reset">>, <<"--bytes">>, <<"--limit">>, <<"--folder">>,
+                                                        <<"--calls">>, <<"--take-over">>, <<"--unload">>, <<"--times">>, <<"--reset">>, <<"--bytes">>, <<"--limit">>, <<"--folder">>,
                                                         <<"--cookie-file">>, <<"--cookie ">>, <<"SEQAUDIT_COOKIE">>]},
                                        {<<"convert">>, [<<"FILE">>, <<"-o">>]},
-                                       {<<"audit">>, [<<"--whole">>, <<"--parts">>, <<"--label">> | cuts()]},
-                                       {<<"chart">>, [<<"--svg">>, <<"--html">>, <<"--label">> | cuts()]},
-                                       {<<"why">>, [<<"--event">>, <<"--effects">>, <<"--label">> | cuts()]}]],
+                                       {<<"watch">>, [<<"--node">>, <<"--every">>, <<"-o">>, <<"--keep">>]},
+                                       {<<"audit">>, [<<"--whole">>, <<"--parts">>, <<"--each-label">>, <<"--json">>,
+                                                      <<"--label">> | cuts()]},
+                                       {<<"chart">>, [<<"--svg">>, <<"--html">>, <<"--mermaid">>, <<"--perfetto">>,
+                                                      <<"--otlp">>, <<"--label">> | cuts()]},
+                                       {<<"why">>, [<<"--event">>, <<"--effects">>, <<"--json">>, <<"--label">> | cuts()]},
+                                       {<<"times">>, [<<"--label">>, <<"--json">> | cuts()]}]],
         [{_, _} = binary:match(Said, Sentence)
          || {Words, Sentence} <- [{"audit x --frob", <<"audit has no option --frob\nusage: seqaudit-node audit NAME">>},
                                   {"why x --event", <<"--event needs a value\nusage: seqaudit-node why NAME">>},
@@ -28,7 +32,8 @@ usage_test_() ->
             {3, Said} <- [command(Words)]],
         [{3, _} = command(Words)
          || Words <- ["", "frobnicate", "audit", "audit a b", "audit a --label", "chart a", "why a",
-                      "convert x", "collect --node a@h", "collect -o x", "convert -o"]],
+                      "convert x", "collect --node a@h", "collect -o x", "convert -o", "times", "watch --node a@h -o x",
+                      "watch --every 1 -o x", "audit a --each-label --whole"]],
         {3, Text} = command("collect --node a@h --seconds ten -o x"),
         {_, _} = binary:match(Text, <<"--seconds can't be ten; it takes a whole number, 1 or more">>)
     end}.
@@ -189,7 +194,7 @@ collect(There) ->
     %% What the node was sent is what collects; what was collected is converted here.
     Loaded = [Module || Module <- erpc:call(There, erlang, loaded, []),
                         string:prefix(atom_to_list(Module), "seqaudit_") =/= nomatch],
-    [seqaudit_collector, seqaudit_scribe, seqaudit_spool, seqaudit_trace, seqaudit_watch] =
+    [seqaudit_collector, seqaudit_scribe, seqaudit_spool, seqaudit_trace, seqaudit_trigger, seqaudit_watch] =
         lists:sort(Loaded -- [?MODULE, seqaudit_test_server]),
     seqaudit_audits:fits(Name).
 
