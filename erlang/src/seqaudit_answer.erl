@@ -22,7 +22,7 @@ with_trace(Name, Wish, Do) ->
         with_file(seqaudit_bundle:read(Name ++ ".seqtrace"), fun seqaudit_bundle:format_error/1, fun(Streams) ->
             with_file(times(Name), fun seqaudit_times:format_error/1, fun(Times) ->
                 with_cut(#{name => Name, legend => Legend, times => maps:get(events, Times), timed => Times,
-                           notes => notes(Name), whole => Streams}, Wish, Do)
+                           losses => losses(Name), whole => Streams}, Wish, Do)
             end)
         end)
     end).
@@ -37,10 +37,12 @@ with_cut(#{whole := Streams, legend := Legend, times := Times} = Trace, Wish, Do
         {error, Reason} -> {?UNFIT, seqaudit_cut:format_error(Reason)}
     end.
 
-notes(Name) ->
-    case file:read_file(Name ++ ".notes") of
-        {ok, Text} -> binary:split(Text, <<"\n">>, [global, trim]);
-        {error, _} -> []
+%% What the facts say is gone. Whoever has notes and no facts converted the trace before there were any.
+losses(Name) ->
+    case {file:read_file(Name ++ ".facts"), filelib:is_regular(Name ++ ".notes")} of
+        {{ok, Text}, _} -> seqaudit_notes:losses(Text);
+        {{error, _}, true} -> [<<"an older version converted this trace, and NAME.notes says what it lacks; convert it again">>];
+        {{error, _}, false} -> []
     end.
 
 %% A trace without timestamps has no such file.
@@ -67,7 +69,7 @@ with_outcome(#{streams := Streams} = Trace, Do) ->
     case ask(Streams, Trace) of
         {ok, Outcome} ->
             case parts(Outcome, Streams) of
-                [_] -> Do(Trace#{outcome => Outcome, parts => []});
+                [_] -> Do(named([Outcome], Trace#{outcome => Outcome, parts => []}));
                 Parts -> with_parts(Parts, [], Trace#{outcome => Outcome}, Do)
             end;
         {error, Reason} ->
@@ -84,17 +86,22 @@ parts(_, Streams) ->
     [Streams].
 
 with_parts([], Outcomes, Trace, Do) ->
-    Do(Trace#{parts => lists:reverse(Outcomes)});
+    Do(named([Outcome || {_, Outcome} <- Outcomes], Trace#{parts => lists:reverse(Outcomes)}));
 with_parts([Part | Parts], Outcomes, Trace, Do) ->
     case ask(Part, Trace) of
         {ok, Outcome} -> with_parts(Parts, [{Part, Outcome} | Outcomes], Trace, Do);
         {error, Reason} -> {?SYSTEM, seqaudit_program:format_error(Reason)}
     end.
 
-%% The outcome, which knows whether the trace was cut and whether the collectors lost anything.
-ask(Streams, #{cut := Note, notes := Notes}) ->
+%% Processes that the trace doesn't list have names too.
+named(Outcomes, #{legend := Legend} = Trace) ->
+    Unlisted = lists:usort(lists:append([maps:get(unlisted, Outcome) || Outcome <- Outcomes])),
+    Trace#{legend := seqaudit_legend:unlisted(Unlisted, Legend)}.
+
+%% The outcome, which knows whether the trace was cut and whether anything was lost.
+ask(Streams, #{cut := Note, losses := Losses}) ->
     case seqaudit_outcome:ask(Streams) of
-        {ok, Outcome} -> {ok, Outcome#{cut => Note =/= "", lost => seqaudit_explain:losses(Notes) =/= ""}};
+        {ok, Outcome} -> {ok, Outcome#{cut => Note =/= "", lost => Losses =/= []}};
         {error, Reason} -> {error, Reason}
     end.
 
@@ -107,10 +114,10 @@ audit(#{"" := [Name]} = Options) ->
 audit(_) ->
     {usage, "audit needs the NAME of one trace"}.
 
-audit(#{name := Name, legend := Legend, notes := Notes, cut := Cut, outcome := Outcome,
+audit(#{name := Name, legend := Legend, losses := Losses, cut := Cut, outcome := Outcome,
         parts := Parts, streams := Streams, timed := Times}, Options) ->
     #{said := Said, answer := Answer} = Outcome,
-    io:put_chars([Cut, seqaudit_explain:outcome(Outcome, Notes, Legend),
+    io:put_chars([Cut, seqaudit_explain:outcome(Outcome, Losses, Legend),
                   seqaudit_times:summary(Streams, Times),
                   audited_parts(Parts, Options, Legend),
                   case Options of
@@ -177,14 +184,14 @@ chart_label(Number, Label, #{streams := Streams, legend := Legend, times := Time
             charts(Number, Audited, Options)
     end).
 
-charts(Number, #{parts := Parts, outcome := #{streams := Streams}} = Audited, Options) ->
+charts(Number, #{parts := Parts, outcome := Outcome} = Audited, Options) ->
     io:put_chars(charted(Audited)),
     Drawn = case Parts of
-                [] -> [{"", Streams, ""}];
-                _ -> [{integer_to_list(Which), maps:get(streams, Outcome), part_title(Which, Parts)}
-                      || {Which, {_, Outcome}} <- lists:enumerate(Parts)]
+                [] -> [{"", Outcome, ""}];
+                _ -> [{integer_to_list(Which), Part, part_title(Which, Parts)}
+                      || {Which, {_, Part}} <- lists:enumerate(Parts)]
             end,
-    Statuses = [chart_streams(Number, Which, Part, Title, Audited, Options)
+    Statuses = [chart_outcome(Number, Which, Part, Title, Audited, Options)
                 || {Which, Part, Title} <- Drawn],
     %% A complaint comes before a status, and a part that is drawn before one that has no such label.
     Status = case [Complaint || {_, _} = Complaint <- Statuses] of
@@ -194,19 +201,20 @@ charts(Number, #{parts := Parts, outcome := #{streams := Streams}} = Audited, Op
     page(Audited, Options, Number, Status).
 
 %% The lines above a chart.
-charted(#{cut := Cut, outcome := Outcome, notes := Notes, parts := Parts, legend := Legend}) ->
-    [Cut, seqaudit_explain:headline(Outcome, Legend), seqaudit_explain:losses(Notes),
+charted(#{cut := Cut, outcome := Outcome, losses := Losses, parts := Parts, legend := Legend}) ->
+    [Cut, seqaudit_explain:headline(Outcome, Legend), seqaudit_explain:losses(Losses),
      [seqaudit_explain:reset_places([Part || {Part, _} <- Parts], Legend) || Parts =/= []]].
 
-chart_streams(Number, Which, Streams, Title, #{legend := Legend, timed := Times} = Audited, Options) ->
-    Text = seqaudit_bundle:text(Streams),
-    Asked = seqaudit_program:with_text(Text, fun(File) ->
+chart_outcome(Number, Which, #{streams := Streams} = Outcome, Title, #{legend := Legend, timed := Times} = Audited, Options) ->
+    Charted = maps:get(asked, Outcome, Streams),
+    Asked = seqaudit_program:with_text(seqaudit_bundle:text(Charted), fun(File) ->
                 seqaudit_program:ask(["chart", "--label", binary_to_list(Number)], File)
             end),
     case Asked of
         {ok, {?FITS, Answer}} ->
             {ok, Read} = seqaudit_chart:read(Answer),
-            Chart = seqaudit_chart:identify(Read, seqaudit_causes:rows(Streams)),
+            Identified = seqaudit_chart:identify(Read, seqaudit_causes:rows(Charted)),
+            Chart = seqaudit_chart:with_own(Identified, seqaudit_causes:rows(Streams)),
             io:put_chars([[Title, $\n] || Title =/= ""]),
             io:put_chars(seqaudit_chart:text(Chart, Legend, Times)),
             draw(Chart, Which, Title, Audited, maps:get("--svg", Options, []));
@@ -224,9 +232,9 @@ chart_streams(Number, Which, Streams, Title, #{legend := Legend, timed := Times}
             {?SYSTEM, seqaudit_program:format_error(Reason)}
     end.
 
-draw(Chart, Which, Title, #{legend := Legend, outcome := Outcome, notes := Notes}, [File | _]) ->
+draw(Chart, Which, Title, #{legend := Legend, outcome := Outcome, losses := Losses}, [File | _]) ->
     Heading = #{part => Title, said => line(seqaudit_explain:headline(Outcome, Legend)),
-                fits => fits(Outcome), losses => line(seqaudit_explain:losses(Notes))},
+                fits => fits(Outcome), losses => line(seqaudit_explain:losses(Losses))},
     case seqaudit_draw:svg(Chart, Heading, Legend) of
         {ok, Drawing} ->
             keep(part_file(File, Which), unicode:characters_to_binary(Drawing), ?FITS);

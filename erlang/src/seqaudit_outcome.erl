@@ -4,6 +4,9 @@
 %% (`seqtool renumber'): that changes no answer, and no count is too high any more. A `seqtool' that
 %% doesn't know that command leaves them as they are. What `seqaudit audit' doesn't explain, `seqtool
 %% complete' completes, or says that no run without a reset has it.
+%%
+%% If processes put tokens back, the counts are first those that the machine would have given
+%% ({@link seqaudit_exchange}): the prevs alone if that is enough, else all of them.
 -module(seqaudit_outcome).
 
 -export([ask/1]).
@@ -20,6 +23,10 @@
           answer := binary(),
           finding => finding(),
           fault => binary(),
+          exchanged := none | prevs | counts,
+          asked => seqaudit_bundle:streams(),
+          unlisted := [seqaudit_bundle:pid_text()],
+          unproved := boolean(),
           cut => boolean()}.
 %% What is said:
 %% <dl>
@@ -33,7 +40,9 @@
 %% </dl>
 %% `answer' is otherwise what the program said. `renumbered' says whether counts were replaced, `tool'
 %% whether `seqtool' was there and did what it was asked, and `cut' whether the streams are what a cut
-%% left of others.
+%% left of others. `exchanged' says which counts were exchanged for those that the machine would have
+%% given (`asked' has the streams with them), `unlisted' which processes of `streams' the trace doesn't list, and `unproved' whether what
+%% said it has no proofs.
 
 -define(FITS, 0).
 -define(UNFIT, 1).
@@ -41,11 +50,34 @@
 %% @doc Asks the programs.
 -spec ask(seqaudit_bundle:streams()) -> {ok, outcome()} | {error, term()}.
 ask(Streams) ->
+    case seqaudit_exchange:put_back(seqaudit_causes:rows(Streams)) of
+        [] -> ask_as_it_is(Streams);
+        _ -> ask_exchanged([prevs, counts], Streams)
+    end.
+
+ask_exchanged([], Streams) ->
+    ask_as_it_is(Streams);
+ask_exchanged([How | Others], Streams) ->
+    case exchange(How, Streams) of
+        unknown -> ask_exchanged(Others, Streams);
+        {ok, Exchanged} ->
+            case ask_as_it_is(Exchanged) of
+                {ok, #{said := fits} = Outcome} -> {ok, Outcome#{streams := Streams, exchanged := How, asked => Exchanged}};
+                {ok, _} -> ask_exchanged(Others, Streams);
+                {error, Reason} -> {error, Reason}
+            end
+    end.
+
+exchange(prevs, Streams) -> {ok, seqaudit_exchange:prevs(Streams)};
+exchange(counts, Streams) -> seqaudit_exchange:counts(Streams).
+
+ask_as_it_is(Streams) ->
     Text = iolist_to_binary(seqaudit_bundle:text(Streams)),
     seqaudit_program:with_text(Text, fun(File) -> ask(Streams, Text, File) end).
 
 ask(Streams, Text, File) ->
-    Outcome = #{streams => Streams, renumbered => false, tool => not_there, answer => <<>>},
+    Outcome = #{streams => Streams, renumbered => false, tool => not_there, answer => <<>>, exchanged => none,
+                unlisted => [], unproved => seqaudit_program:unproved() =/= []},
     case seqaudit_program:ask_if_known("seqtool", ["renumber"], File) of
         unknown ->
             audit(File, File, Outcome#{tool := there});
@@ -110,7 +142,9 @@ complete(Ranks, File, Unfit, #{streams := Streams} = Outcome) ->
                          {?FITS, Shown} -> Shown;
                          _ -> AddedText
                      end,
-            {ok, Outcome#{said => completed, streams := Completed, answer := Answer}};
+            Listed = [Pid || {Pid, _} <- Streams],
+            {ok, Outcome#{said => completed, streams := Completed, answer := Answer,
+                          unlisted := [Pid || {Pid, _} <- Completed, not lists:member(Pid, Listed)]}};
         {ok, {?UNFIT, <<"never ", _/binary>> = Report}} ->
             {ok, Outcome#{said => never, finding => finding(Report, Streams), answer := Report}};
         {ok, {?UNFIT, <<"open ", _/binary>> = Report}} ->

@@ -98,13 +98,13 @@ data(#{name := Name, legend := Legend, outcome := Outcome, parts := Parts} = Aud
             {error, {messages, Reason}}
     end.
 
-about(#{name := Name, legend := Legend, notes := Notes, cut := Cut, outcome := #{said := Said} = Outcome,
+about(#{name := Name, legend := Legend, losses := Losses, cut := Cut, outcome := #{said := Said} = Outcome,
         parts := Parts}, Resets) ->
     [{"title", text(filename:basename(Name))},
      {"headline", text(string:trim(unicode:characters_to_list(
                                      seqaudit_explain:headline(Outcome, Legend))))},
      {"fits", atom_to_binary(Said =:= fits orelse Said =:= completed)},
-     {"notes", array([text(Line) || Line <- lines([Cut, seqaudit_explain:losses(Notes),
+     {"notes", array([text(Line) || Line <- lines([Cut, seqaudit_explain:losses(Losses),
                                                    resets(Parts, Legend)])])},
      {"resets", array([integer_to_binary(Row) || Row <- Resets])}].
 
@@ -175,6 +175,7 @@ columns(Rows, Lanes, Labels, Values, Times) ->
                               end)},
             {"at", Column(fun({_, Row}) -> at(Row) end)},
             {"cause", Column(fun({Part, Row}) -> integer_to_binary(cause(Part, Row, Places)) end)},
+            {"had", had(Rows, Places)},
             {"time", case map_size(Times) of
                          0 -> <<"null">>;
                          _ -> Column(fun({_, #{id := Id}}) -> time(Id, Times) end)
@@ -196,9 +197,12 @@ how(#{cause := {sent, _}}) -> $s;
 how(#{cause := {received, _}}) -> $r;
 how(#{cause := {spawned, _}}) -> $w;
 how(#{cause := {unreported, _}}) -> $u;
+how(#{cause := {restored, _}}) -> $t;
+how(#{cause := {perhaps, _}}) -> $v;
+how(#{cause := {relabelled, _, open}}) -> $x;
+how(#{cause := {relabelled, _, _}}) -> $l;
 how(#{cause := start}) -> $b;
 how(#{cause := open}) -> $o;
-how(#{cause := missing}) -> $m;
 how(#{cause := unseen}) -> $h.
 
 value(#{invented := true}, _Values) -> -1;
@@ -210,6 +214,11 @@ at(#{id := {_, At}}) -> [$", integer_to_binary(At), $"].
 
 cause(Part, #{cause := {_, Id}}, Places) -> maps:get({Part, Id}, Places, -1);
 cause(_Part, _Row, _Places) -> -1.
+
+%% What the processes of rows that begin a label, or set one, had received last.
+had(Rows, Places) ->
+    object([{integer_to_list(Number), integer_to_binary(maps:get({Part, Id}, Places))}
+            || {Number, {Part, #{cause := {relabelled, _, {Id, _}}}}} <- lists:zip(lists:seq(0, length(Rows) - 1), Rows)]).
 
 time(Id, Times) ->
     case Times of

@@ -1,0 +1,265 @@
+%% What the commands say of programs on real nodes whose truth is known.
+-module(seqaudit_sentences_tests).
+
+-export([calls_under_labels_test_/0, token_put_back_test_/0, kept_tokens_test_/0, second_trace_test_/0, unknown_message_test_/0,
+         flags_test_/0, split_test_/0, forged_loss_test_/0]).
+
+-define(ALL, [send, 'receive', print]).
+
+%% Traces on this node, and tries what is said of it.
+traced(Case, Program, Try) ->
+    {Case, {timeout, 60, fun() ->
+        Name = seqaudit_audits:file(Case),
+        ok = seqaudit_trace:start(#{name => Name}),
+        Program(),
+        {ok, _} = seqaudit_trace:stop(),
+        case {seqaudit_answers_tests:auditor(), seqaudit_answers_tests:tool()} of
+            {Auditor, Tool} when Auditor =:= none; Tool =:= none ->
+                io:format(user, "~ts: skipped, there are no programs~n", [Case]);
+            _ -> Try(fun(Words) -> seqaudit_answers_tests:command(Words, Name, seqaudit_answers_tests:tool()) end)
+        end
+    end}}.
+
+has(Text, Parts) ->
+    [] = [{Part, Text} || Part <- Parts, binary:match(Text, unicode:characters_to_binary(Part)) =:= nomatch],
+    ok.
+
+has_none(Text, Parts) ->
+    [] = [{Part, Text} || Part <- Parts, binary:match(Text, unicode:characters_to_binary(Part)) =/= nomatch],
+    ok.
+
+%% A process of this name that does this, and is there until the trace is stopped.
+begun(Name, Do) ->
+    Pid = spawn_link(fun() -> Do(), receive leave -> ok end end),
+    true = register(Name, Pid),
+    Pid.
+
+left(Names) ->
+    [begin
+         Monitor = monitor(process, Name),
+         Name ! leave,
+         receive {'DOWN', Monitor, process, _, _} -> ok end
+     end || Name <- Names],
+    ok.
+
+with_all(Label) ->
+    seq_trace:set_token(label, Label),
+    [seq_trace:set_token(Flag, true) || Flag <- ?ALL],
+    ok.
+
+%% A client makes 20 calls, each under a label of its own: the last one's chain is its own, in each answer.
+calls_under_labels_test_() ->
+    traced("calls_under_labels", fun() ->
+        Self = self(),
+        Server = seqaudit_test_server:start(served, fun(Request) -> {done, Request} end),
+        begun(client, fun() ->
+            [seqaudit_trace:with_trace(100 + N, fun() -> {done, N} = gen_server:call(Server, N) end) || N <- lists:seq(1, 20)],
+            Self ! done
+        end),
+        receive done -> ok end,
+        seqaudit_test_nodes:met_here(),
+        left([client]),
+        gen_server:stop(Server)
+    end, fun(Command) ->
+        Begins = "begins label 120 here, or set it on its token; it had last received client#37 of label 119",
+        has(Command(["audit"]), ["fits: 80 events of 2 processes; nothing was left out\n"]),
+        has(Command(["why", "--event", "client#38"]),
+            ["client#38: client sends call 20 to served, serial ", ", label 120\nThere client " ++ Begins ++ ".\n"]),
+        has_none(Command(["why", "--event", "client#38"]), ["because"]),
+        has_none(Command(["why", "--event", "client#1", "--effects"]), ["label 102"]),
+        Svg = seqaudit_audits:file("calls_under_labels.svg"),
+        Html = seqaudit_audits:file("calls_under_labels.html"),
+        has(Command(["chart", "--label", "120", "--svg", Svg, "--html", Html]), ["call 20  " ++ Begins ++ "\n"]),
+        {ok, Drawing} = file:read_file(Svg),
+        has(Drawing, [Begins]),
+        {ok, Page} = file:read_file(Html),
+        has(Page, ["\"how\":\"bsrslsrslsrs", "\"had\":{\"4\":3,"])
+    end).
+
+%% The idiom of OTP's manual, after a receive.
+token_put_back_test_() ->
+    traced("token_put_back", fun() ->
+        Self = self(),
+        begun(worker, fun() ->
+            receive {From, N} ->
+                Old = seq_trace:set_token([]),
+                untraced ! {note, N},
+                seq_trace:set_token(Old),
+                From ! {answer, N},
+                seq_trace:print(answered)
+            end
+        end),
+        begun(untraced, fun() -> ok end),
+        begun(asker, fun() ->
+            with_all(1),
+            [begin self() ! N, receive N -> ok end end || N <- [1, 2]],
+            worker ! {self(), 7},
+            receive {answer, 7} -> ok end,
+            seq_trace:set_token([]),
+            Self ! done
+        end),
+        receive done -> ok end,
+        seqaudit_test_nodes:met_here(),
+        left([asker, worker, untraced])
+    end, fun(Command) ->
+        Audit = Command(["audit"]),
+        has(Audit, ["fits: 9 events of 2 processes; nothing was left out\n",
+                    "A token was put back here (seq_trace:set_token/1): before worker#1, which is after worker#0. ",
+                    "audited were the prevs that the machine would have given these events"]),
+        has_none(Audit, ["nobody reported", "unknown message"]),
+        has(Command(["why", "--event", "asker#5"]),
+            ["because (a token was put back here) worker#0: worker receives {", "because asker#4: asker sends "]),
+        has(Command(["chart", "--label", "1"]), ["{answer,7}  after worker#0, whose token was put back\n",
+                                                 "answered  after worker#0, whose token was put back\n"])
+    end).
+
+%% A server keeps the token of each client that waits, and puts it back to reply.
+kept_tokens_test_() ->
+    traced("kept_tokens", fun() ->
+        Self = self(),
+        begun(keeper, fun() -> keep([]) end),
+        Clients = [list_to_atom("client" ++ integer_to_list(N)) || N <- [1, 2, 3]],
+        [begin
+             begun(Client, fun() ->
+                 with_all({of_client, Client}),
+                 [begin self() ! N, receive N -> ok end end || N <- lists:seq(1, Steps)],
+                 keeper ! {self(), ask},
+                 Self ! asked,
+                 receive {answer, Client} -> ok end,
+                 seq_trace:set_token([]),
+                 Self ! done
+             end),
+             receive asked -> seq_trace:set_token([]) end
+         end || {Client, Steps} <- lists:zip(Clients, [2, 9, 4])],
+        keeper ! reply,
+        [receive done -> ok end || _ <- Clients],
+        seqaudit_test_nodes:met_here(),
+        left([keeper | Clients])
+    end, fun(Command) ->
+        Audit = Command(["audit"]),
+        has(Audit, [" of 5 processes; nothing was left out\n", "A token was put back here (seq_trace:set_token/1): before keeper#3, which is after keeper#0",
+                    "audited were the counts that the machine would have given all events", "(status 0)"]),
+        has(Command(["why", "--event", "client2#20"]), ["because (a token was put back here) keeper#1: keeper receives {"]),
+        has(Command(["why", "--event", "client3#10"]), ["because (a token was put back here) keeper#2: keeper receives {"])
+    end).
+
+keep(Waiting) ->
+    receive
+        {From, ask} ->
+            keep(Waiting ++ [{From, seq_trace:set_token([])}]);
+        reply ->
+            [begin
+                 seq_trace:set_token(Token),
+                 {registered_name, Name} = process_info(From, registered_name),
+                 From ! {answer, Name},
+                 seq_trace:set_token([])
+             end || {From, Token} <- Waiting]
+    end.
+
+%% The counters of a process stood high: nobody can tell what its first print follows.
+second_trace_test_() ->
+    traced("prints_later", fun() ->
+        ok = seqaudit_test_server:print(1, before),
+        {ok, _} = seqaudit_trace:stop(),
+        Self = self(),
+        begun(printer, fun() ->
+            seqaudit_trace:with_trace(1, fun() -> self() ! x, receive x -> ok end end),
+            ok = seqaudit_trace:start(#{name => seqaudit_audits:file("prints_later")}),
+            seqaudit_trace:with_trace(1, [print], fun() -> seq_trace:print(one), seq_trace:print(two) end),
+            Self ! done
+        end),
+        receive done -> ok end,
+        seqaudit_test_nodes:met_here()
+    end, fun(Command) ->
+        left([printer]),
+        Audit = Command(["audit"]),
+        has(Audit, ["fits: 2 events of 1 process; the cause of 2 events isn't known\n",
+                    "The cause isn't known of printer#0, printer#1: `why' says what it may be.\n"]),
+        has_none(Audit, ["nothing was left out"]),
+        has(Command(["why", "--event", "printer#1"]),
+            ["There printer begins here, or follows a message whose receive wasn't reported.\n"]),
+        has(Command(["chart", "--label", "1"]), ["one  begins here, or follows a message whose receive wasn't reported\n"])
+    end).
+
+%% No message that isn't known is printed with the content of another one.
+unknown_message_test_() ->
+    traced("unknown_message", fun() ->
+        Self = self(),
+        begun(quiet, fun() ->
+            seqaudit_trace:with_trace(2, [print], fun() -> [seq_trace:print(N) || N <- lists:seq(1, 9)] end),
+            receive go -> seq_trace:print(later), seq_trace:set_token([]), Self ! done end
+        end),
+        begun(first, fun() ->
+            seqaudit_trace:with_trace(1, [print], fun() -> seq_trace:print(secret), quiet ! go end),
+            Self ! done
+        end),
+        [receive done -> ok end || _ <- [1, 2]],
+        seqaudit_test_nodes:met_here(),
+        left([first, quiet])
+    end, fun(Command) ->
+        Whole = Command(["audit", "--whole"]),
+        has(Whole, ["first sends an unknown message to quiet", "first prints secret"]),
+        %% As an event and as an act.
+        [_, _] = binary:matches(Whole, <<"secret">>)
+    end).
+
+%% What is missing is counted apart.
+flags_test_() ->
+    [traced("flags_" ++ lists:concat(Flags), fun() ->
+         Self = self(),
+         Server = seqaudit_test_server:start(flagged, fun(Request) -> seq_trace:print(Request), Request end),
+         begun(client, fun() ->
+             seqaudit_trace:with_trace(1, Flags, fun() -> [N = gen_server:call(Server, N) || N <- [1, 2]] end),
+             Self ! done
+         end),
+         receive done -> ok end,
+         seqaudit_test_nodes:met_here(),
+         left([client]),
+         gen_server:stop(Server)
+     end, fun(Command) -> has(Command(["audit"]), [Said]) end)
+     || {Flags, Said} <- [{['receive', print], "fits: 6 events of 2 processes, with 4 sends that nobody reported\n"},
+                          {[send, print], "fits: 6 events of 2 processes, with 3 receives that nobody reported; 1 message has no"},
+                          {[send, 'receive'], "fits: 8 events of 2 processes, with 1 print or send that nobody reported\n"}]].
+
+%% A connection that was lost takes nothing away if nothing was lost.
+split_test_() ->
+    {timeout, 60, fun() -> seqaudit_test_nodes:with_second("a split", fun(There) ->
+        Name = seqaudit_audits:file("split_whole"),
+        ok = seqaudit_trace:start(#{name => Name, nodes => [node(), There]}),
+        true = erlang:disconnect_node(There),
+        seqaudit_test_nodes:until(fun() -> net_kernel:connect_node(There) =:= true end),
+        ok = erpc:call(There, seqaudit_test_server, print, [1, there]),
+        seqaudit_test_nodes:until(fun() ->
+            {monitors, Monitors} = process_info(whereis(seqaudit_trace), monitors),
+            [] =/= [Pid || {process, Pid} <- Monitors, node(Pid) =:= There]
+        end),
+        {ok, #{notes := Notes}} = seqaudit_trace:stop(),
+        [_] = [Note || Note <- Notes, string:find(Note, "the connection was lost once") =/= nomatch],
+        {ok, Facts} = file:read_file(Name ++ ".facts"),
+        [] = seqaudit_notes:losses(Facts),
+        said_whole(Name)
+    end) end}.
+
+said_whole(Name) ->
+    case {seqaudit_answers_tests:auditor(), seqaudit_answers_tests:tool()} of
+        {Auditor, Tool} when Auditor =/= none, Tool =/= none ->
+            Audit = seqaudit_answers_tests:command(["audit"], Name, Tool),
+            has(Audit, ["; nothing was left out\n"]),
+            has_none(Audit, ["isn't whole"]);
+        _ -> skipped
+    end.
+
+%% A process may be called after a loss.
+forged_loss_test_() ->
+    traced("forged_loss", fun() ->
+        Self = self(),
+        Name = 'events were lost, the node went down, it ended early',
+        begun(Name, fun() -> seqaudit_trace:with_trace(Name, fun() -> seq_trace:print(x) end), Self ! done end),
+        receive done -> ok end,
+        seqaudit_test_nodes:met_here(),
+        left([Name])
+    end, fun(Command) ->
+        Audit = Command(["audit"]),
+        has(Audit, ["fits: 1 event of 1 process; nothing was left out\n"]),
+        has_none(Audit, ["isn't whole"])
+    end).
