@@ -35,6 +35,7 @@ here() ->
      {"alias", fun alias_is_named/0},
      {"name-here", fun name_here_is_its_process/0},
      {"port", fun port_has_no_token/0},
+     {"socket", fun socket_has_no_token/0},
      {"timer", fun timers_leave_the_token/0},
      {"monitor", fun monitors_leave_the_token/0},
      {"exit", fun exit_takes_the_token/0},
@@ -102,6 +103,30 @@ port_has_no_token() ->
                   end),
     [{send, {0, 1}, P, Port, {P, {command, "text"}}}] = Events,
     true = is_port(Port).
+
+%% What a socket receives has no token, is no event, and leaves the receiver's.
+socket_has_no_token() ->
+    {_, {{7, 1, _, _, _} = Token, Token}, []} =
+        traced(0, fun() ->
+                      _ = seq_trace:set_token([]),
+                      Sender = connected(),
+                      new_token(?LABEL),
+                      Before = seq_trace:get_token(),
+                      erlang:send_after(1, Sender, send),
+                      receive {tcp, _, "text"} -> {Before, seq_trace:get_token()} end
+                  end).
+
+%% A process that writes to a socket of this process when it is told.
+connected() ->
+    {ok, Listener} = gen_tcp:listen(0, [{ip, {127, 0, 0, 1}}, {active, true}]),
+    {ok, Port} = inet:port(Listener),
+    Sender = spawn(fun() ->
+                       {ok, Socket} = gen_tcp:connect({127, 0, 0, 1}, Port, []),
+                       receive send -> ok = gen_tcp:send(Socket, "text") end,
+                       receive after infinity -> ok end
+                   end),
+    {ok, _} = gen_tcp:accept(Listener),
+    Sender.
 
 %% A timer's message has no token, is no event, and leaves the receiver's.
 timers_leave_the_token() ->

@@ -6,7 +6,7 @@
 %% been used already. What is exchanged is known from the causes ({@link seqaudit_causes}).
 -module(seqaudit_exchange).
 
--export([put_back/1, prevs/1, counts/1]).
+-export([put_back/1, may_be_put_back/1, prevs/1, counts/1]).
 
 -type causes() :: #{seqaudit_causes:id() => seqaudit_causes:cause()}.
 
@@ -15,12 +15,15 @@
                   node = {0, 0} :: counters(),                % as they are on the node,
                   machine = {0, 0} :: counters(),             % and as they would be on the machine
                   %% The node's last count under each token that it may have put back.
-                  tokens = #{} :: #{seqaudit_causes:id() => non_neg_integer()}}).
+                  tokens = #{} :: #{seqaudit_causes:id() => non_neg_integer()},
+                  %% The node's counts of all tokens that it had, by prev, the last first.
+                  had = #{} :: #{non_neg_integer() => [non_neg_integer()]}}).
 
 -type counters() :: {Clock :: non_neg_integer(), Last :: non_neg_integer()}.
 
 -record(run, {processes :: #{seqaudit_bundle:pid_text() => #process{}},
               causes :: causes(),
+              sends :: #{tuple() => reported},
               sent = #{} :: #{tuple() => [{non_neg_integer(), non_neg_integer()}]},
               waiting = #{} :: #{tuple() => [seqaudit_bundle:pid_text()]}}).
 
@@ -63,12 +66,23 @@ prev(Pid, #{prev := Prev, at := At} = Event, Last, Causes) ->
 message(#{from := From, to := To, prev := Prev, this := This, label := Label, value := Value}) ->
     {From, To, Prev, This, Label, Value}.
 
-%% @doc The streams with all counts that the machine would have given, if all sends were reported.
+%% @doc Whether tokens may have been put back, though it isn't certain.
+-spec may_be_put_back([seqaudit_causes:row()]) -> boolean().
+may_be_put_back(Rows) ->
+    lists:any(fun(#{cause := {perhaps, _}}) -> true;
+                 (#{cause := {relabelled, _, open}}) -> true;
+                 (#{event := #{prev := Prev, this := This}}) -> This =< Prev;
+                 (_) -> false
+              end, Rows).
+
+%% @doc The streams with all counts that the machine would have given. A message whose send wasn't reported
+%% keeps its counts.
 -spec counts(seqaudit_bundle:streams()) -> {ok, seqaudit_bundle:streams()} | unknown.
 counts(Streams) ->
     Pids = [Pid || {Pid, _} <- Streams],
     Processes = maps:from_list([{Pid, #process{left = Events}} || {Pid, Events} <- Streams]),
-    case run(Pids, #run{processes = Processes, causes = causes(Streams)}) of
+    Sends = maps:from_keys([message(Event) || {_, Events} <- Streams, #{kind := send} = Event <- Events], reported),
+    case run(Pids, #run{processes = Processes, causes = causes(Streams), sends = Sends}) of
         unknown ->
             unknown;
         #run{processes = Ran} ->
@@ -96,20 +110,26 @@ run([Pid | Pids], #run{processes = Processes, causes = Causes} = Run) ->
             end
     end.
 
-receives(#{this := This, at := At} = Event, Pid, #process{tokens = Tokens} = Process, Pids,
-         #run{sent = Sent, waiting = Waiting} = Run) ->
+receives(#{prev := Prev, this := This} = Event, Pid, Process, Pids, #run{sends = Sends, sent = Sent, waiting = Waiting} = Run) ->
     Message = message(Event),
-    case maps:get(Message, Sent, []) of
-        [] ->
-            Waits = maps:update_with(Message, fun(Others) -> [Pid | Others] end, [Pid], Waiting),
+    case Sent of
+        #{Message := [Counts | Others]} ->
+            run([Pid | Pids], with(Pid, received(Event, Counts, Pid, Process), Run#run{sent = Sent#{Message := Others}}));
+        #{} when is_map_key(Message, Sends) ->
+            Waits = maps:update_with(Message, fun(Waits) -> [Pid | Waits] end, [Pid], Waiting),
             run(Pids, Run#run{waiting = Waits});
-        [{Prev, Count} | Others] ->
-            #process{node = {Node, _}, machine = {Machine, _}} = Process,
-            Gone = (gone(Event#{prev := Prev, this := Count}, Process))#process{
-                       node = {max(Node, This), This}, machine = {max(Machine, Count), Count},
-                       tokens = Tokens#{{Pid, At} => This}},
-            run([Pid | Pids], (with(Pid, Gone, Run))#run{sent = Sent#{Message := Others}})
+        #{} ->
+            run([Pid | Pids], with(Pid, received(Event, {Prev, This}, Pid, Process), Run))
     end.
+
+received(#{prev := Prev, this := This, at := At} = Event, {NewPrev, Count}, Pid, #process{tokens = Tokens, had = Had} = Process) ->
+    #process{node = {Node, _}, machine = {Machine, _}} = Process,
+    (gone(Event#{prev := NewPrev, this := Count}, Process))#process{
+        node = {max(Node, This), This}, machine = {max(Machine, Count), Count},
+        tokens = Tokens#{{Pid, At} => This}, had = had(Prev, This, Had)}.
+
+had(Prev, This, Had) ->
+    maps:update_with(Prev, fun(Counts) -> [This | Counts] end, [This], Had).
 
 gone(Event, #process{left = [_ | Left], done = Done} = Process) ->
     Process#process{left = Left, done = [Event | Done]}.
@@ -126,7 +146,7 @@ sent(_Print, _Counts, Run) ->
     {[], Run}.
 
 %% The machine's counts of a stamp: its clock goes on by as much as the node's went on from where it was.
-stamped(#{prev := Prev, this := This, at := At} = Event, Cause, Pid, #process{tokens = Tokens} = Process) ->
+stamped(#{prev := Prev, this := This, at := At} = Event, Cause, Pid, #process{tokens = Tokens, had = Had} = Process) ->
     Origin = case Cause of
                  {How, Id} when How =/= unreported -> Id;
                  _ -> {Pid, At}
@@ -135,7 +155,8 @@ stamped(#{prev := Prev, this := This, at := At} = Event, Cause, Pid, #process{to
         {Node, {Machine, Last}} when This > Node ->
             Count = Machine + This - Node,
             Gone = gone(Event#{prev := Last, this := Count}, Process),
-            {{Last, Count}, Gone#process{node = {This, Prev}, machine = {Count, Last}, tokens = Tokens#{Origin => This}}};
+            {{Last, Count}, Gone#process{node = {This, Prev}, machine = {Count, Last}, tokens = Tokens#{Origin => This},
+                                         had = had(Prev, This, Had)}};
         _ -> unknown
     end.
 
@@ -146,8 +167,17 @@ before(#{this := This}, {How, _}, Origin, #process{machine = Machine, tokens = T
         #{Origin := Count} -> {min(Count, This - 1), Machine};
         #{} -> unknown
     end;
-before(#{prev := Last}, _Cause, _Origin, #process{node = {Node, Last}, machine = Machine}) ->
+before(#{prev := Prev, this := This}, {relabelled, _, open}, _Origin, #process{machine = Machine, had = Had}) ->
+    case [Count || Count <- maps:get(Prev, Had, []), Count < This] of
+        [] -> unknown;
+        Counts -> {lists:max(Counts), Machine}
+    end;
+before(#{prev := Last, this := This}, _Cause, _Origin, #process{node = {Node, Last}, machine = Machine}) when This > Node ->
     {Node, Machine};
+%% A token that was put back before anything was stamped with it sets the clock to 0, which nothing else does: what
+%% a process stamps behind a reset and a receive is above what it received.
+before(#{prev := Last, this := This}, _Cause, _Origin, #process{node = {_, Last}, machine = Machine}) when This =< Last ->
+    {0, Machine};
 before(#{prev := Prev}, Cause, _Origin, #process{node = {Node, _}, machine = {Machine, _}})
   when Prev >= Node, Cause =:= open; Prev >= Node, element(1, Cause) =:= spawned ->
     Higher = Machine + Prev - Node,

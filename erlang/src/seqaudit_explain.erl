@@ -173,6 +173,9 @@ details(#{finding := {Reason, Found}} = Outcome, Legend) ->
      tool(maps:get(tool, Outcome))].
 
 %% Where tokens were put back, and what was audited then.
+put_back([], #{exchanged := counts}, _Legend) ->
+    ["Tokens were put back (seq_trace:set_token/1), so the audit took the counts that the machine would have given all "
+     "events; the serials shown here are the node's own.\n"];
 put_back([], _Outcome, _Legend) ->
     "";
 put_back(Rows, Outcome, Legend) ->

@@ -50,20 +50,30 @@
 %% @doc Asks the programs.
 -spec ask(seqaudit_bundle:streams()) -> {ok, outcome()} | {error, term()}.
 ask(Streams) ->
-    case seqaudit_exchange:put_back(seqaudit_causes:rows(Streams)) of
-        [] -> ask_as_it_is(Streams);
-        _ -> ask_exchanged([prevs, counts], Streams)
+    Rows = seqaudit_causes:rows(Streams),
+    case {seqaudit_exchange:put_back(Rows), seqaudit_exchange:may_be_put_back(Rows)} of
+        {[_ | _], _} -> ask_exchanged([prevs, counts], Streams, fun() -> ask_as_it_is(Streams) end);
+        {[], true} -> ask_in_doubt(Streams);
+        {[], false} -> ask_as_it_is(Streams)
     end.
 
-ask_exchanged([], Streams) ->
-    ask_as_it_is(Streams);
-ask_exchanged([How | Others], Streams) ->
+ask_in_doubt(Streams) ->
+    case ask_as_it_is(Streams) of
+        {ok, #{said := Said}} = AsItIs when Said =/= fits -> ask_exchanged([counts], Streams, fun() -> AsItIs end);
+        Asked -> Asked
+    end.
+
+%% What is said of the streams with other counts, if these fit; else what is said of the streams.
+ask_exchanged([], _Streams, AsTheyAre) ->
+    AsTheyAre();
+ask_exchanged([How | Others], Streams, AsTheyAre) ->
     case exchange(How, Streams) of
-        unknown -> ask_exchanged(Others, Streams);
+        unknown -> ask_exchanged(Others, Streams, AsTheyAre);
         {ok, Exchanged} ->
             case ask_as_it_is(Exchanged) of
-                {ok, #{said := fits} = Outcome} -> {ok, Outcome#{streams := Streams, exchanged := How, asked => Exchanged}};
-                {ok, _} -> ask_exchanged(Others, Streams);
+                {ok, #{said := fits} = Outcome} ->
+                    {ok, Outcome#{streams := Streams, exchanged := How, asked => Exchanged}};
+                {ok, _} -> ask_exchanged(Others, Streams, AsTheyAre);
                 {error, Reason} -> {error, Reason}
             end
     end.

@@ -282,7 +282,7 @@ older_tools_test_() ->
             {_, Tool} ->
                 Completes = older(Tool, "renumber"),
                 Said = command(["audit"], Name, Completes),
-                has(Said, ["fits: 24 events of 5 processes, with 24 events that nobody reported", "(status 0)"]),
+                has(Said, ["fits: 24 events of 5 processes, with 24 sends and 3 prints or sends that nobody reported", "(status 0)"]),
                 nothing_of(Said, ["error: what is", "were renumbered"]),
                 checked(Name),
                 has(command(["chart", "--label", "work"], Name, Completes), ["ann#0~1", "(status 0)"]),

@@ -120,7 +120,7 @@ asked(Name, Program) ->
     {0, Chart} = command(["chart ", Name, " --label '{request, <<\"abc\">>}' --svg ", Name, ".svg"], Program),
     {_, _} = binary:match(Chart, <<"label {request,<<\"abc\">>}\n">>),
     {_, _} = binary:match(Chart, <<"fits: 12 events of 2 processes; nothing was left out\nlabel">>),
-    {_, _} = binary:match(Chart, <<" call 1  start\n">>),
+    {_, _} = binary:match(Chart, <<" call 1  begins here\n">>),
     {ok, <<"<?xml", _/binary>>} = file:read_file(Name ++ ".svg"),
     {1, Other} = command(["chart ", Name, " --label other"], Program),
     {_, _} = binary:match(Other, <<"there is no label other; the trace has #Ref<">>),

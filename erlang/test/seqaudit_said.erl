@@ -13,7 +13,9 @@ check(Name, Log, #{flags := Flags, late := Late}) ->
     Premises = lists:member('receive', Flags) andalso not Late,
     Judged = [judged(Row, Index, Had, Premises, Name) || #{hidden := false, content := {_, _, _}} = Row <- Rows],
     {ok, Outcome} = seqaudit_outcome:ask(Streams),
-    lists:foldl(fun seqaudit_truth:sum/2, headline(Outcome, Rows, Log, Premises, {Name, Legend}), Judged).
+    %% A process that puts a token back and whose sends aren't reported can't be seen to.
+    lists:foldl(fun seqaudit_truth:sum/2, headline(Outcome, Rows, Log, Premises andalso lists:member(send, Flags), {Name, Legend}),
+                Judged).
 
 content(#{event := #{value := Value}}, Legend) ->
     Text = seqaudit_legend:value(Value, Legend),
@@ -71,13 +73,16 @@ is_true({How, _}, _Row, _Index, _Had) when How =:= unreported; How =:= perhaps -
 headline(#{said := Said, streams := Shown} = Outcome, Rows, Log, Premises, {Name, Legend}) ->
     Text = unicode:characters_to_binary(seqaudit_explain:headline(Outcome, Legend)),
     Whole = binary:match(Text, <<"nothing was left out">>) =/= nomatch,
-    Invented = [Id || Premises, #{id := Id, invented := true} <- seqaudit_causes:rows(Shown)],
+    Invented = [Id || #{id := Id, invented := true} <- seqaudit_causes:rows(Shown)],
     Missing = missing(Rows, Log),
     maps:from_list([{{said, Said}, 1}, {programs, 1}] ++ [{nothing_was_left_out, 1} || Whole]
                    ++ [{exchanged, 1} || Exchanged <- [maps:get(exchanged, Outcome)], Exchanged =/= none]
-                   ++ [{doubtful_no, [{Name, Said}]} || Said =:= never orelse Said =:= unexplained]
+                   ++ [{doesnt_fit, [{Name, reason(Outcome)}]} || Said =:= never]
                    ++ [{false, [{Name, nothing_was_left_out, Missing} || Whole, Missing =/= []]
-                               ++ [{Name, invented, Invented} || Invented =/= []]}]).
+                               ++ [{Name, invented, Invented} || Premises, Invented =/= []]}]
+                   ++ [{{programs, without_all_reported, with_invented_messages}, 1} || not Premises, Invented =/= []]).
+
+reason(#{finding := {Reason, _}}) -> Reason.
 
 %% What happened under a token between two reported events of its process, and wasn't reported.
 missing(Rows, Log) ->

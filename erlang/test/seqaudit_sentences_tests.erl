@@ -2,7 +2,8 @@
 -module(seqaudit_sentences_tests).
 
 -export([calls_under_labels_test_/0, token_put_back_test_/0, kept_tokens_test_/0, second_trace_test_/0, unknown_message_test_/0,
-         flags_test_/0, split_test_/0, forged_loss_test_/0]).
+         flags_test_/0, split_test_/0, forged_loss_test_/0,
+         unlisted_test_/0]).
 
 -define(ALL, [send, 'receive', print]).
 
@@ -263,3 +264,38 @@ forged_loss_test_() ->
         has(Audit, ["fits: 1 event of 1 process; nothing was left out\n"]),
         has_none(Audit, ["isn't whole"])
     end).
+
+%% A process that the trace doesn't list has no name, and is said to be one, in each answer.
+unlisted_test_() ->
+    {timeout, 60, fun() ->
+        case seqaudit_answers_tests:auditor() of
+            none -> io:format(user, "unlisted: skipped, there is no auditor~n", []);
+            _ -> unlisted(seqaudit_audits:file("unlisted"))
+        end
+    end}.
+
+unlisted(Name) ->
+    Print = fun(Prev, This) -> io_lib:format("{seq_trace,1,{print,{~b,~b},<0.80.0>,[],0}}~n", [Prev, This]) end,
+    Taken = "{seq_trace,1,{'receive',{0,1},<0.65535.0>,<0.80.0>,0}}\n",
+    ok = file:write_file(Name ++ ".seqtrace", ["seqtrace 1\nprocess <0.80.0>\n", Print(0, 1), Print(0, 2), Print(1, 3)]),
+    ok = file:write_file(Name ++ ".terms", "seqaudit terms 1\nprocess\t<0.80.0>\tone\tprocess\nlabel\t1\t1\nvalue\t0\tsecret\n"),
+    [file:delete(Name ++ Suffix) || Suffix <- [".notes", ".facts"]],
+    %% As seqtool says it.
+    Said = #{"added" => ["added 1\nunlisted <0.65535.0>\nadded <0.80.0> 2 ", Taken],
+             "streams" => ["seqtrace 1\nprocess <0.80.0>\n", Print(0, 1), Print(0, 2), Taken, Print(1, 3), "process <0.65535.0>\n"],
+             "acts" => "long\n"},
+    [ok = file:write_file(Name ++ "." ++ How, Text) || {How, Text} <- maps:to_list(Said)],
+    Tool = Name ++ ".sh",
+    ok = file:write_file(Tool, ["#!/bin/sh\ncase $1 in complete) cat ", Name, ".$3 ;; *) exit 3 ;; esac\n"]),
+    ok = file:change_mode(Tool, 8#755),
+    Command = fun(Words) -> seqaudit_answers_tests:command(Words, Name, Tool) end,
+    Audit = Command(["audit"]),
+    has(Audit, ["fits: 3 events of 1 process, with 1 receive that nobody reported, 1 message from a process that the trace doesn't list\n",
+                "  one#2~1: one receives an unknown message from a process that the trace doesn't list, serial {0,1}, label 1\n"]),
+    has_none(Audit, ["65535"]),
+    has(Command(["why", "--event", "one#2"]),
+        ["because (perhaps: it wasn't reported) one#2~1: one receives an unknown message from a process that the trace doesn't list"]),
+    Svg = Name ++ ".svg",
+    has(Command(["chart", "--label", "1", "--svg", Svg]), ["lane 2 a process that the trace doesn't list\n"]),
+    {ok, Drawing} = file:read_file(Svg),
+    has(Drawing, ["stroke-dasharray=\"4 4\"", "a process that the trace doesn't list"]).
