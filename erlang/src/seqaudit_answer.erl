@@ -41,7 +41,8 @@ with_cut(#{whole := Streams, legend := Legend, times := Times} = Trace, Wish, Do
 losses(Name) ->
     case {file:read_file(Name ++ ".facts"), filelib:is_regular(Name ++ ".notes")} of
         {{ok, Text}, _} -> seqaudit_notes:losses(Text);
-        {{error, _}, true} -> [<<"an older version converted this trace, and NAME.notes says what it lacks; convert it again">>];
+        {{error, _}, true} -> [<<"an older version converted this trace, and NAME.notes says what it lacks; convert it "
+                                 "again">>];
         {{error, _}, false} -> []
     end.
 
@@ -205,7 +206,8 @@ charted(#{cut := Cut, outcome := Outcome, losses := Losses, parts := Parts, lege
     [Cut, seqaudit_explain:headline(Outcome, Legend), seqaudit_explain:losses(Losses),
      [seqaudit_explain:reset_places([Part || {Part, _} <- Parts], Legend) || Parts =/= []]].
 
-chart_outcome(Number, Which, #{streams := Streams} = Outcome, Title, #{legend := Legend, timed := Times} = Audited, Options) ->
+chart_outcome(Number, Which, #{streams := Streams} = Outcome, Title,
+              #{legend := Legend, timed := Times} = Audited, Options) ->
     Charted = maps:get(asked, Outcome, Streams),
     Asked = seqaudit_program:with_text(seqaudit_bundle:text(Charted), fun(File) ->
                 seqaudit_program:ask(["chart", "--label", binary_to_list(Number)], File)

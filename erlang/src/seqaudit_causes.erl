@@ -49,7 +49,8 @@
 rows(Streams) ->
     Ranks = maps:from_list(lists:zip([Pid || {Pid, _} <- Streams],
                                      lists:seq(1, length(Streams)))),
-    Sends = maps:from_list([Known || {Pid, Events} <- Streams, #{kind := send, from := From, this := This, at := At} = Send <- Events,
+    Sends = maps:from_list([Known || {Pid, Events} <- Streams,
+                                     #{kind := send, from := From, this := This, at := At} = Send <- Events,
                                      Known <- [{message(Send), {Pid, At}}, {{From, This}, {Pid, At}}]]),
     Unpaired = unpaired(Streams),
     Keyed = lists:append([keyed(Stream, Ranks, Sends, Unpaired) || Stream <- Streams]),
@@ -72,7 +73,8 @@ message(#{from := From, to := To, prev := Prev, this := This, label := Label, va
 
 %% The sends that no reported receive is of, with their labels, by receiver and count.
 unpaired(Streams) ->
-    Received = maps:from_keys([message(Event) || {_, Events} <- Streams, #{kind := 'receive'} = Event <- Events], received),
+    Received = maps:from_keys([message(Event) || {_, Events} <- Streams, #{kind := 'receive'} = Event <- Events],
+                              received),
     lists:foldr(fun({Key, Send}, Sends) ->
                         maps:update_with(Key, fun(Others) -> [Send | Others] end, [Send], Sends)
                 end, #{},
@@ -160,7 +162,8 @@ stamp_cause(Pid, #{prev := Prev, label := Label} = Event, #{newest := Newest, ro
 
 without_token(#{prev := Prev, label := Label}, none, {Other, Prev, _, _, _}, _) when Other =/= Label ->
     {relabelled, Label, none};
-without_token(#{prev := Prev, label := Label}, {_, Had, Id}, {Other, Prev, _, _, _}, _) when Other =/= Label, Had =/= Label ->
+without_token(#{prev := Prev, label := Label}, {_, Had, Id}, {Other, Prev, _, _, _}, _)
+  when Other =/= Label, Had =/= Label ->
     {relabelled, Label, {Id, Had}};
 without_token(#{prev := 0}, none, _Row, _Known) ->
     start;

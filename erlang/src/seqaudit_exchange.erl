@@ -110,11 +110,13 @@ run([Pid | Pids], #run{processes = Processes, causes = Causes} = Run) ->
             end
     end.
 
-receives(#{prev := Prev, this := This} = Event, Pid, Process, Pids, #run{sends = Sends, sent = Sent, waiting = Waiting} = Run) ->
+receives(#{prev := Prev, this := This} = Event, Pid, Process, Pids,
+         #run{sends = Sends, sent = Sent, waiting = Waiting} = Run) ->
     Message = message(Event),
     case Sent of
         #{Message := [Counts | Others]} ->
-            run([Pid | Pids], with(Pid, received(Event, Counts, Pid, Process), Run#run{sent = Sent#{Message := Others}}));
+            Left = Run#run{sent = Sent#{Message := Others}},
+            run([Pid | Pids], with(Pid, received(Event, Counts, Pid, Process), Left));
         #{} when is_map_key(Message, Sends) ->
             Waits = maps:update_with(Message, fun(Waits) -> [Pid | Waits] end, [Pid], Waiting),
             run(Pids, Run#run{waiting = Waits});
@@ -122,8 +124,8 @@ receives(#{prev := Prev, this := This} = Event, Pid, Process, Pids, #run{sends =
             run([Pid | Pids], with(Pid, received(Event, {Prev, This}, Pid, Process), Run))
     end.
 
-received(#{prev := Prev, this := This, at := At} = Event, {NewPrev, Count}, Pid, #process{tokens = Tokens, had = Had} = Process) ->
-    #process{node = {Node, _}, machine = {Machine, _}} = Process,
+received(#{prev := Prev, this := This, at := At} = Event, {NewPrev, Count}, Pid, Process) ->
+    #process{node = {Node, _}, machine = {Machine, _}, tokens = Tokens, had = Had} = Process,
     (gone(Event#{prev := NewPrev, this := Count}, Process))#process{
         node = {max(Node, This), This}, machine = {max(Machine, Count), Count},
         tokens = Tokens#{{Pid, At} => This}, had = had(Prev, This, Had)}.
@@ -155,8 +157,9 @@ stamped(#{prev := Prev, this := This, at := At} = Event, Cause, Pid, #process{to
         {Node, {Machine, Last}} when This > Node ->
             Count = Machine + This - Node,
             Gone = gone(Event#{prev := Last, this := Count}, Process),
-            {{Last, Count}, Gone#process{node = {This, Prev}, machine = {Count, Last}, tokens = Tokens#{Origin => This},
-                                         had = had(Prev, This, Had)}};
+            {{Last, Count},
+             Gone#process{node = {This, Prev}, machine = {Count, Last}, tokens = Tokens#{Origin => This},
+                          had = had(Prev, This, Had)}};
         _ -> unknown
     end.
 
@@ -172,11 +175,13 @@ before(#{prev := Prev, this := This}, {relabelled, _, open}, _Origin, #process{m
         [] -> unknown;
         Counts -> {lists:max(Counts), Machine}
     end;
-before(#{prev := Last, this := This}, _Cause, _Origin, #process{node = {Node, Last}, machine = Machine}) when This > Node ->
+before(#{prev := Last, this := This}, _Cause, _Origin, #process{node = {Node, Last}, machine = Machine})
+  when This > Node ->
     {Node, Machine};
 %% A token that was put back before anything was stamped with it sets the clock to 0, which nothing else does: what
 %% a process stamps behind a reset and a receive is above what it received.
-before(#{prev := Last, this := This}, _Cause, _Origin, #process{node = {_, Last}, machine = Machine}) when This =< Last ->
+before(#{prev := Last, this := This}, _Cause, _Origin, #process{node = {_, Last}, machine = Machine})
+  when This =< Last ->
     {0, Machine};
 before(#{prev := Prev}, Cause, _Origin, #process{node = {Node, _}, machine = {Machine, _}})
   when Prev >= Node, Cause =:= open; Prev >= Node, element(1, Cause) =:= spawned ->

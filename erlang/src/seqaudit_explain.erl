@@ -48,12 +48,12 @@ unreported_or_cut(#{cut := true}) -> "nobody reported or that the cut took away"
 unreported_or_cut(#{}) -> "nobody reported".
 
 what_is_missing(#{said := completed} = Outcome) ->
-    [seldom(Outcome), ", in the run that was found:\n"];
+    [what_nobody_reported(Outcome), ", in the run that was found:\n"];
 what_is_missing(Outcome) ->
-    [seldom(Outcome), ":\n"].
+    [what_nobody_reported(Outcome), ":\n"].
 
-seldom(#{cut := true}) -> "What nobody reported, or what the cut took away";
-seldom(#{}) -> "What nobody reported".
+what_nobody_reported(#{cut := true}) -> "What nobody reported, or what the cut took away";
+what_nobody_reported(#{}) -> "What nobody reported".
 
 what_waits(#{cut := true}) -> "Messages without a receive here: ";
 what_waits(#{}) -> "Messages without a reported receive: ".
@@ -61,24 +61,26 @@ what_waits(#{}) -> "Messages without a reported receive: ".
 %% The unreported events, how many there are of each kind, and the events whose cause isn't known.
 missing(#{said := Said, streams := Streams} = Outcome) ->
     Rows = seqaudit_causes:rows(Streams),
-    #{hidden := Hidden, unreceived := Unreceived, silent := Silent, jumps := Jumps} = Gaps = seqaudit_gaps:find(Rows, Streams),
-    Added = case Said of
-                completed -> [Row || #{hidden := false, id := {_, {_, _}}} = Row <- Rows];
-                _ -> []
-            end,
-    Unlisted = maps:from_keys(unlisted(Outcome), unlisted),
-    Kinds = [Kind || #{event := #{kind := Kind, from := From}} <- Added ++ Hidden,
-                     Kind =/= send orelse not is_map_key(From, Unlisted)]
-        ++ ['receive' || _ <- Unreceived],
-    Gaps#{events => [{added, Row} || Row <- Added] ++ [{hidden, Row} || Row <- Hidden]
+    #{hidden := Hidden, unreceived := Unreceived, silent := Silent, jumps := Jumps} = Gaps =
+        seqaudit_gaps:find(Rows, Streams),
+    Strangers = maps:from_keys(unlisted(Outcome), unlisted),
+    Sends = [Row || #{actor := Actor} = Row <- Hidden, not is_map_key(Actor, Strangers)],
+    Added = [Row || Said =:= completed, #{hidden := false, id := {_, {_, _}}} = Row <- Rows],
+    Gaps#{events => [{added, Row} || Row <- Added] ++ [{hidden, Row} || Row <- Sends]
               ++ [{unreceived, Row, Send} || {Row, Send} <- Unreceived],
-          kinds => [{length([Kind || Kind <- Kinds, Kind =:= One]), Thing}
-                    || {One, Thing} <- [{send, "send"}, {'receive', "receive"}, {print, "print"}]]
-              ++ [{lists:sum([Count || {_, Count} <- Silent]), "print or send"}],
-          strangers => length([Row || #{event := #{kind := 'receive', from := From}} = Row <- Added, is_map_key(From, Unlisted)]),
-          open => [Row || #{hidden := false, id := {_, At}, cause := Cause} = Row <- Rows, is_integer(At), is_open(Cause)],
+          kinds => kinds([Row || #{actor := Actor} = Row <- Added ++ Sends, not is_map_key(Actor, Strangers)],
+                         length(Unreceived), lists:sum([Count || {_, Count} <- Silent])),
+          strangers => length([Row || #{event := #{kind := 'receive', from := From}} = Row <- Added,
+                                      is_map_key(From, Strangers)]),
+          open => [Row || #{hidden := false, id := {_, At}, cause := Cause} = Row <- Rows,
+                          is_integer(At), is_open(Cause)],
           put_back => seqaudit_exchange:put_back(Rows),
           leaps => lists:sum([Count || {_, Count} <- Jumps])}.
+
+%% How many events of each kind nobody reported.
+kinds(Rows, Unreceived, Silent) ->
+    Of = fun(Kind) -> length([Row || #{event := #{kind := One}} = Row <- Rows, One =:= Kind]) end,
+    [{Of(send), "send"}, {Of('receive') + Unreceived, "receive"}, {Silent, "print or send"}].
 
 is_open(open) -> true;
 is_open({relabelled, _, open}) -> true;
@@ -97,7 +99,8 @@ left_out(#{events := [], kinds := Kinds, leaps := 0, waiting := [], open := []} 
 left_out(Missing, Outcome) ->
     what_is_left_out(Missing, Outcome).
 
-what_is_left_out(#{kinds := Kinds, strangers := Strangers, leaps := Leaps, waiting := Waiting, open := Open}, Outcome) ->
+what_is_left_out(#{kinds := Kinds, strangers := Strangers, leaps := Leaps, waiting := Waiting, open := Open},
+                 Outcome) ->
     Unreported = [count(Count, Thing) || {Count, Thing} <- Kinds, Count > 0],
     Missing = [[and_listed(Unreported), " that ", unreported_or_cut(Outcome)] || Unreported =/= []]
         ++ [[count(Strangers, "message"), " from ", strangers(unlisted(Outcome))] || Strangers > 0]
@@ -180,15 +183,17 @@ put_back([], _Outcome, _Legend) ->
     "";
 put_back(Rows, Outcome, Legend) ->
     ["A token was put back here (seq_trace:set_token/1): ",
-     listed(fun(#{id := {Pid, At}, cause := {_, Origin}}) ->
-                    ["before ", seqaudit_bundle:name(Pid, At, Legend), ", which is after ", seqaudit_why:name(Origin, Legend)]
+     listed(fun(#{id := Id, cause := {_, Origin}}) ->
+                    ["before ", seqaudit_why:name(Id, Legend), ", which is after ", seqaudit_why:name(Origin, Legend)]
             end, Rows, fun(More) -> ["and ", number(More), " more"] end),
      ". That moves the counters of a standard node, and not those of the machine", exchanged(Outcome), ".\n"].
 
 exchanged(#{exchanged := prevs}) ->
-    ": audited were the prevs that the machine would have given these events; the serials shown here are the node's own";
+    ": audited were the prevs that the machine would have given these events; the serials shown here are the node's "
+        "own";
 exchanged(#{exchanged := counts}) ->
-    ": audited were the counts that the machine would have given all events; the serials shown here are the node's own";
+    ": audited were the counts that the machine would have given all events; the serials shown here are the node's "
+        "own";
 exchanged(#{}) ->
     ", and the counts that the machine would have given aren't known: audited were the node's own".
 

@@ -41,8 +41,8 @@
 %% `answer' is otherwise what the program said. `renumbered' says whether counts were replaced, `tool'
 %% whether `seqtool' was there and did what it was asked, and `cut' whether the streams are what a cut
 %% left of others. `exchanged' says which counts were exchanged for those that the machine would have
-%% given (`asked' has the streams with them), `unlisted' which processes of `streams' the trace doesn't list, and `unproved' whether what
-%% said it has no proofs.
+%% given (`asked' has the streams with them), `unlisted' which processes of `streams' the trace doesn't
+%% list, and `unproved' whether what said it has no proofs.
 
 -define(FITS, 0).
 -define(UNFIT, 1).

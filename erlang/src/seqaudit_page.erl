@@ -218,7 +218,7 @@ cause(_Part, _Row, _Places) -> -1.
 %% What the processes of rows that begin a label, or set one, had received last.
 had(Rows, Places) ->
     object([{integer_to_list(Number), integer_to_binary(maps:get({Part, Id}, Places))}
-            || {Number, {Part, #{cause := {relabelled, _, {Id, _}}}}} <- lists:zip(lists:seq(0, length(Rows) - 1), Rows)]).
+            || {Number, {Part, #{cause := {relabelled, _, {Id, _}}}}} <- lists:enumerate(0, Rows)]).
 
 time(Id, Times) ->
     case Times of

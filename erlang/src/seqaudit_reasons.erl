@@ -23,10 +23,10 @@ allows_reset(Reason) ->
 %% @doc What a reason means, and what to look at.
 -spec explain(binary()) -> {Meaning :: string(), Look :: string()}.
 explain(<<"prevnotbefore">>) ->
-    {"the first number of an event's serial isn't below its second, so the counter of its process went back behind what "
-     "the process had received.",
-     "a token that set_token/1 puts back before anything was sent with it, which sets the counter of a standard node to "
-     "0; a token's serial that was set by hand; a file that was changed."};
+    {"the first number of an event's serial isn't below its second, so the counter of its process went back behind "
+     "what the process had received.",
+     "a token that set_token/1 puts back before anything was sent with it, which sets the counter of a standard node "
+     "to 0; a token's serial that was set by hand; a file that was changed."};
 explain(<<"notrising">>) ->
     {"one process stamped both events, and the later one has no higher count: its counter went back.",
      ?COUNTER_WENT_BACK};

@@ -5,8 +5,8 @@
 
 %% So many effects are listed; the rest are counted.
 -define(LISTED, 1_000).
--define(PREMISES, "This holds if each receive of a token was reported, and if no process took its token off and set one of "
-                  "the same label again, but where it's said.\n").
+-define(PREMISES, "This holds if each receive of a token was reported, and if no process took its token off and set "
+                  "one of the same label again, but where it's said.\n").
 
 %% @doc The chain from an event back to where it begins, a line each, and what it rests on.
 -spec chain(seqaudit_bundle:place(), [seqaudit_causes:row()], seqaudit_legend:legend(),
@@ -84,8 +84,8 @@ cause({_, Id}, Legend) -> ["after ", name(Id, Legend)];
 cause({relabelled, Label, none}, Legend) ->
     ["begins label ", seqaudit_legend:label(Label, Legend), " here, or set it on its token"];
 cause({relabelled, Label, open}, Legend) ->
-    ["begins label ", seqaudit_legend:label(Label, Legend), " here, or set it on a token that was put back, or follows a "
-     "message whose receive wasn't reported"];
+    ["begins label ", seqaudit_legend:label(Label, Legend), " here, or set it on a token that was put back, or follows "
+     "a message whose receive wasn't reported"];
 cause({relabelled, _, {Id, Other}} = Cause, Legend) ->
     [cause(setelement(3, Cause, none), Legend), "; it had last received ", name(Id, Legend), " of label ",
      seqaudit_legend:label(Other, Legend)];

@@ -9,7 +9,8 @@ check(Name, Log, #{flags := Flags, late := Late}) ->
     {ok, Streams} = seqaudit_bundle:read(Name ++ ".seqtrace"),
     Rows = [Row#{content => content(Row, Legend)} || Row <- seqaudit_causes:rows(Streams)],
     Index = seqaudit_causes:index(Rows),
-    Had = maps:from_keys([{Actor, Number} || #{actor := Actor, event := #{kind := 'receive'}, content := {Number, _, _}} <- Rows], had),
+    Had = maps:from_keys([{Actor, Number} || #{actor := Actor, event := #{kind := 'receive'},
+                                               content := {Number, _, _}} <- Rows], had),
     Premises = lists:member('receive', Flags) andalso not Late,
     Judged = [judged(Row, Index, Had, Premises, Name) || #{hidden := false, content := {_, _, _}} = Row <- Rows],
     {ok, Outcome} = seqaudit_outcome:ask(Streams),
@@ -49,7 +50,8 @@ is_of_counts(Sentence) ->
 is_true({sent, Send}, #{content := Content}, Index, _Had) ->
     case Index of
         #{Send := #{hidden := true}} ->
-            [] =:= [Id || #{id := Id, hidden := false, event := #{kind := send}, content := Other} <- maps:values(Index), Other =:= Content];
+            [] =:= [Id || #{id := Id, hidden := false, event := #{kind := send}, content := Other} <- maps:values(Index),
+                          Other =:= Content];
         #{Send := #{content := Other}} -> Other =:= Content
     end;
 is_true({How, Id}, #{content := {_, True, _}}, Index, _Had) when How =:= received; How =:= spawned; How =:= restored ->
@@ -66,7 +68,8 @@ is_true({relabelled, _, _}, #{content := {_, _, Own}}, _Index, _Had) -> Own;
 is_true(start, #{content := {_, True, _}}, _Index, _Had) -> True =:= <<"begins">>;
 is_true(open, #{content := {_, <<"begins">>, _}}, _Index, _Had) -> true;
 is_true(open, #{actor := Actor, content := {_, <<"spawned">>, _}}, Index, _Had) ->
-    [] =:= [Id || #{id := Id, actor := One, content := spawn_request, event := #{kind := 'receive'}} <- maps:values(Index), One =:= Actor];
+    [] =:= [Id || #{id := Id, actor := One, content := spawn_request, event := #{kind := 'receive'}} <- maps:values(Index),
+                  One =:= Actor];
 is_true(open, #{actor := Actor, content := {_, True, _}}, _Index, Had) -> not is_map_key({Actor, True}, Had);
 is_true({How, _}, _Row, _Index, _Had) when How =:= unreported; How =:= perhaps -> not_said.
 
@@ -86,10 +89,12 @@ reason(#{finding := {Reason, _}}) -> Reason.
 
 %% What happened under a token between two reported events of its process, and wasn't reported.
 missing(Rows, Log) ->
-    Reported = maps:from_list([{{kind(Kind), Number}, reported} || #{hidden := false, event := #{kind := Kind}, content := {Number, _, _}} <- Rows]),
+    Reported = maps:from_keys([{kind(Kind), Number} || #{hidden := false, event := #{kind := Kind},
+                                                         content := {Number, _, _}} <- Rows], reported),
     ByPid = maps:groups_from_list(fun({_, Pid, _, _}) -> Pid end, lists:sort(Log)),
     lists:append([begin
-                      Told = [{is_map_key({Kind, integer_to_binary(Number)}, Reported), {Kind, Number}} || {_, _, Kind, Number} <- Entries],
+                      Told = [{is_map_key({Kind, integer_to_binary(Number)}, Reported), {Kind, Number}}
+                              || {_, _, Kind, Number} <- Entries],
                       From = lists:dropwhile(fun({Is, _}) -> not Is end, Told),
                       To = lists:dropwhile(fun({Is, _}) -> not Is end, lists:reverse(From)),
                       [What || {false, What} <- To]

@@ -7,7 +7,7 @@
 -module(seqaudit_truth).
 -behaviour(gen_server).
 
--export([run/3, sum/2, begin_log/0, child/3, play/3, start_server/2, init/1, handle_call/3, handle_cast/2]).
+-export([run/3, sum/2, begin_log/0, child/1, play/3, start_server/1, init/1, handle_call/3, handle_cast/2]).
 
 -define(ALL, [send, 'receive', print]).
 
@@ -17,7 +17,7 @@ run(Seed, #{nodes := Nodes, flags := Flags, late := Late} = How, Name) ->
     _ = rand:seed(exsss, {Seed, 5, 51}),
     Logs = [erpc:call(Node, ?MODULE, begin_log, []) || Node <- Nodes],
     Late orelse (ok = seqaudit_trace:start(#{name => Name, nodes => Nodes})),
-    Servers = [began(Node, start_server, [lists:nth(rand:uniform(4), [at_once, later, delegated, kept]), self()])
+    Servers = [began(Node, start_server, [lists:nth(rand:uniform(4), [at_once, later, delegated, kept])])
                || Node <- Nodes, _ <- [1, 2]],
     {Players, Steps} = steps(2 + rand:uniform(4), 30 + rand:uniform(60), Servers),
     Pids = [spawn(lists:nth(1 + N rem length(Nodes), Nodes), ?MODULE, play, [N, self(), Flags]) || N <- Players],
@@ -88,7 +88,6 @@ step(K, Players, Servers, Open) ->
 
 %% A player. What it knows of its token: the message that gave it, and whether it set the label itself.
 play(Number, Boss, Flags) ->
-    put(boss, Boss),
     know(none),
     player(Number, Boss, Flags).
 
@@ -130,19 +129,20 @@ act(put, _, _, _, _) ->
     end;
 act(timer, _, _, _, _) -> erlang:send_after(1, self(), timeout), receive timeout -> ok end;
 act(spawn, _, _, _, _) ->
-    Child = spawn(?MODULE, child, [self(), get(boss), 0]),
-    receive {Child, Content} -> got(Content) end;
+    case rand:uniform(2) of
+        1 -> spawn(?MODULE, child, [none]);
+        2 -> Child = spawn(?MODULE, child, [self()]), receive {Child, Content} -> got(Content) end
+    end;
 act({call, Which}, Me, Flags, Numbered, Servers) ->
     [act({begins, 2_000_000 + erlang:unique_integer([positive])}, Me, Flags, Numbered, Servers)
      || seq_trace:get_token() =:= [], rand:uniform(5) > 1],
     got(gen_server:call(lists:nth(Which, Servers), content(sent), 15_000)).
 
 %% A child has its token from the request to spawn it.
-child(Parent, Boss, _) ->
-    put(boss, Boss),
+child(Parent) ->
     know(case seq_trace:get_token() of [] -> none; _ -> {spawned, false} end),
     seq_trace:print(content(printed)),
-    Parent ! {self(), content(sent)}.
+    Parent =/= none andalso (Parent ! {self(), content(sent)}).
 
 know(Known) -> put(known, Known).
 
@@ -163,15 +163,14 @@ got({m, Number, _, _}) -> log(received, Number), know({Number, false}).
 
 %% Servers
 
-start_server(How, Boss) ->
-    {ok, Server} = gen_server:start(?MODULE, {How, Boss}, []),
+start_server(How) ->
+    {ok, Server} = gen_server:start(?MODULE, How, []),
     Server.
 
-init({How, Boss}) ->
-    put(boss, Boss),
+init(How) ->
     know(none),
     {ok, Worker} = case How of
-                       delegated -> gen_server:start_link(?MODULE, {at_once, Boss}, []);
+                       delegated -> gen_server:start_link(?MODULE, at_once, []);
                        _ -> {ok, none}
                    end,
     {ok, {How, Worker, []}}.

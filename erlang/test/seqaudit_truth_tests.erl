@@ -13,11 +13,11 @@ truth_test_() ->
         case {seqaudit_answers_tests:auditor(), seqaudit_answers_tests:tool()} of
             {Auditor, Tool} when Auditor =:= none; Tool =:= none ->
                 io:format(user, "truth: skipped, there are no programs~n", []);
-            {_, Tool} -> seqaudit_truth_tests_with(Tool)
+            {_, Tool} -> with_tool(Tool)
         end
     end}.
 
-seqaudit_truth_tests_with(Tool) ->
+with_tool(Tool) ->
     Before = os:getenv("SEQTOOL"),
     true = os:putenv("SEQTOOL", Tool),
     try
@@ -42,7 +42,8 @@ all(Nodes) ->
     Said = lists:foldl(fun(Seed, Sum) -> seqaudit_truth:sum(seqaudit_truth:run(Seed, how(Seed, Nodes), name(Seed)), Sum) end,
                        #{false => []}, lists:seq(1, Programs)),
     [io:format(user, "  ~0tp: ~b~n", [What, Count]) || {What, Count} <- lists:sort(maps:to_list(Said)), is_integer(Count)],
-    [io:format(user, "  ~0tp: ~0tp~n", [What, lists:sublist(List, 5)]) || {What, List} <- maps:to_list(Said), is_list(List), List =/= []],
+    [io:format(user, "  ~0tp: ~0tp~n", [What, lists:sublist(List, 5)])
+     || {What, List} <- maps:to_list(Said), is_list(List), List =/= []],
     #{false := []} = Said,
     ok.
 
