@@ -163,7 +163,8 @@ stamped(#{prev := Prev, this := This, at := At} = Event, Cause, Pid, #process{to
         _ -> unknown
     end.
 
-%% The node's clock before a stamp, and the machine's counters. Behind what wasn't reported both stand higher.
+%% The node's clock before a stamp, and the machine's counters. Behind what wasn't reported both stand higher, and so
+%% they do behind the answer of a spawn, with which OTP moves both to 16 T + 15.
 before(#{this := This}, {How, _}, Origin, #process{machine = Machine, tokens = Tokens})
   when How =:= restored; How =:= perhaps ->
     case Tokens of
@@ -183,8 +184,8 @@ before(#{prev := Last, this := This}, _Cause, _Origin, #process{node = {Node, La
 before(#{prev := Last, this := This}, _Cause, _Origin, #process{node = {_, Last}, machine = Machine})
   when This =< Last ->
     {0, Machine};
-before(#{prev := Prev}, Cause, _Origin, #process{node = {Node, _}, machine = {Machine, _}})
-  when Prev >= Node, Cause =:= open; Prev >= Node, element(1, Cause) =:= spawned ->
+before(#{prev := Prev}, Cause, _Origin, #process{node = {Node, Last}, machine = {Machine, _}})
+  when Prev >= Node, Cause =:= open; Prev >= Node, Prev =:= 16 * Last + 15 ->
     Higher = Machine + Prev - Node,
     {Prev, {Higher, Higher}};
 before(_Event, _Cause, _Origin, _Process) ->

@@ -2,8 +2,8 @@
 %% random runs of a machine whose resets are known.
 -module(seqaudit_causes_tests).
 
--export([as_the_charts_test_/0, spawned_test/0, unreported_test/0, beginnings_test/0, labels_test/0, put_back_test/0, resets_test/0,
-         hidden_reset_test/0, no_reset_test/0, completed_test_/0]).
+-export([as_the_charts_test_/0, spawned_test/0, unreported_test/0, beginnings_test/0, labels_test/0, put_back_test/0,
+         resets_test/0, no_tokens_test_/0, hidden_reset_test/0, no_reset_test/0, completed_test_/0]).
 
 streams(Text) ->
     {ok, Streams} = seqaudit_bundle:parse(iolist_to_binary(Text)),
@@ -124,6 +124,22 @@ resets_test() ->
     %% Where the clocks of the first run stayed low, the second may go on from it as well.
     Exact = length([exact || exact <- Found]),
     {true, _} = {Exact >= 290, Exact}.
+
+%% A reset never passes for a token that was put back.
+no_tokens_test_() ->
+    {timeout, 120, fun() ->
+        case {seqaudit_program:find("seqaudit"), seqaudit_program:find("seqtool")} of
+            {{ok, _}, {ok, _}} ->
+                _ = rand:seed(exsss, {10, 11, 12}),
+                [begin
+                     {Before, After} = {run([all, all]), run([all, all])},
+                     Both = [{Pid, Events ++ proplists:get_value(Pid, After)} || {Pid, Events} <- Before],
+                     {ok, #{exchanged := none}} = seqaudit_outcome:ask(streams(text(Both)))
+                 end || _ <- lists:seq(1, 20)];
+            _ ->
+                io:format(user, "no tokens: skipped, the programs aren't built~n", [])
+        end
+    end}.
 
 right([Before, _After], Sizes) ->
     case [Pid || {Pid, Events} <- Before, length(Events) =/= maps:get(Pid, Sizes)] of

@@ -56,10 +56,12 @@ is_true({sent, Send}, #{content := Content}, Index, _Had) ->
     end;
 is_true({How, Id}, #{content := {_, True, _}}, Index, _Had) when How =:= received; How =:= spawned; How =:= restored ->
     case maps:get(Id, Index) of
-        #{content := spawn_reply} -> true;
-        #{content := spawn_request} -> True =:= <<"spawned">>;
+        #{content := spawn_reply, event := #{kind := 'receive'}} -> true;
+        #{content := spawn_request, event := #{kind := 'receive'}} -> True =:= <<"spawned">>;
         #{content := {Number, _, _}, event := #{kind := 'receive'}} -> Number =:= True;
         #{content := {_, Cause, _}} -> Cause =:= True;
+        %% What its own request to spawn a process follows isn't in that.
+        #{event := #{kind := send}} -> not_said;
         _ -> false
     end;
 is_true({relabelled, _, open}, #{content := {_, _, true}}, _Index, _Had) -> true;

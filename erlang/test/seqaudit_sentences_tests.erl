@@ -186,12 +186,14 @@ second_trace_test_() ->
 unknown_message_test_() ->
     traced("unknown_message", fun() ->
         Self = self(),
-        begun(quiet, fun() ->
-            seqaudit_trace:with_trace(2, [print], fun() -> [seq_trace:print(N) || N <- lists:seq(1, 9)] end),
-            receive go -> seq_trace:print(later), seq_trace:set_token([]), Self ! done end
-        end),
         begun(first, fun() ->
-            seqaudit_trace:with_trace(1, [print], fun() -> seq_trace:print(secret), quiet ! go end),
+            seqaudit_trace:with_trace(1, [print], fun() -> seq_trace:print(secret) end),
+            begun(quiet, fun() ->
+                seqaudit_trace:with_trace(2, [print], fun() -> [seq_trace:print(N) || N <- lists:seq(1, 9)] end),
+                receive go -> seq_trace:print(later), seq_trace:set_token([]), Self ! done end
+            end),
+            seqaudit_test_nodes:until(fun() -> process_info(whereis(quiet), status) =:= {status, waiting} end),
+            seqaudit_trace:with_trace(1, [print], fun() -> quiet ! go end),
             Self ! done
         end),
         [receive done -> ok end || _ <- [1, 2]],
@@ -250,20 +252,16 @@ said_whole(Name) ->
         _ -> skipped
     end.
 
-%% A process may be called after a loss.
+%% A node may be called after a loss.
 forged_loss_test_() ->
-    traced("forged_loss", fun() ->
-        Self = self(),
-        Name = 'events were lost, the node went down, it ended early',
-        begun(Name, fun() -> seqaudit_trace:with_trace(Name, fun() -> seq_trace:print(x) end), Self ! done end),
-        receive done -> ok end,
-        seqaudit_test_nodes:met_here(),
-        left([Name])
-    end, fun(Command) ->
-        Audit = Command(["audit"]),
-        has(Audit, ["fits: 1 event of 1 process; nothing was left out\n"]),
-        has_none(Audit, ["isn't whole"])
-    end).
+    {timeout, 60, fun() ->
+        Name = seqaudit_audits:file("forged_loss"),
+        Event = {seq_trace, 1, {print, {0, 1}, self(), [], x}},
+        {ok, #{notes := [Note]}} =
+            seqaudit_convert:files([#{node => 'lost@down', events => [Event], strays => 1}], Name),
+        "lost@down: the collector got 1 message besides trace events" = Note,
+        said_whole(Name)
+    end}.
 
 %% A process that the trace doesn't list has no name, and is said to be one, in each answer.
 unlisted_test_() ->
