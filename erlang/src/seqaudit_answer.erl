@@ -277,11 +277,11 @@ why(_) ->
     {usage, "why needs the NAME of one trace, and --event"}.
 
 why(Event, Shown, Options, #{legend := Legend, timed := Times}) ->
-    Found = [{Place, Streams} || Streams <- Shown,
+    Found = [{Place, Outcome} || #{streams := Streams} = Outcome <- Shown,
                                  {ok, Place} <- [seqaudit_bundle:find(Event, Streams, Legend)]],
     case Found of
-        [{Place, Streams} | _] ->
-            Rows = seqaudit_causes:rows(Streams),
+        [{Place, Outcome} | _] ->
+            Rows = seqaudit_outcome:rows(Outcome),
             Tell = case Options of
                        #{"--effects" := _} -> fun seqaudit_why:effects/4;
                        #{} -> fun seqaudit_why:chain/4
@@ -289,13 +289,14 @@ why(Event, Shown, Options, #{legend := Legend, timed := Times}) ->
             io:put_chars(Tell(Place, Rows, Legend, Times)),
             ?FITS;
         [] ->
-            {error, Reason} = seqaudit_bundle:find(Event, lists:append(Shown), Legend),
+            All = lists:append([Streams || #{streams := Streams} <- Shown]),
+            {error, Reason} = seqaudit_bundle:find(Event, All, Legend),
             {?UNFIT, seqaudit_bundle:format_error(Reason)}
     end.
 
-%% The streams that are shown: the whole, or each part between resets.
-shown(#{parts := [], outcome := #{streams := Streams}}) -> [Streams];
-shown(#{parts := Parts}) -> [Streams || {_, #{streams := Streams}} <- Parts].
+%% What is shown: the outcome of the whole, or of each part between resets.
+shown(#{parts := [], outcome := Outcome}) -> [Outcome];
+shown(#{parts := Parts}) -> [Outcome || {_, Outcome} <- Parts].
 
 %% For a trace that doesn't fit, the doubt comes before the causes.
 doubt(Outcome, Legend) ->

@@ -9,7 +9,7 @@
 %% ({@link seqaudit_exchange}): the prevs alone if that is enough, else all of them.
 -module(seqaudit_outcome).
 
--export([ask/1]).
+-export([ask/1, rows/1]).
 -export_type([outcome/0, finding/0]).
 
 -type finding() :: {Reason :: binary(), [{seqaudit_bundle:place(), seqaudit_bundle:event()}]}.
@@ -56,6 +56,15 @@ ask(Streams) ->
         {[], true} -> ask_in_doubt(Streams);
         {[], false} -> ask_as_it_is(Streams)
     end.
+
+%% @doc The rows of the streams that are shown, in an order in which no event comes before its cause. The
+%% node's own counts don't give one if a token was put back.
+-spec rows(outcome()) -> [seqaudit_causes:row()].
+rows(#{streams := Streams, asked := Asked}) ->
+    Own = seqaudit_causes:index(seqaudit_causes:rows(Streams)),
+    [maps:get(Id, Own) || #{id := Id} <- seqaudit_causes:rows(Asked)];
+rows(#{streams := Streams}) ->
+    seqaudit_causes:rows(Streams).
 
 ask_in_doubt(Streams) ->
     case ask_as_it_is(Streams) of

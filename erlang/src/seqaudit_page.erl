@@ -79,10 +79,10 @@ format_error({file, File, Reason}) ->
 
 data(#{name := Name, legend := Legend, outcome := Outcome, parts := Parts} = Audited, Label, Limit) ->
     Shown = case Parts of
-                [] -> [maps:get(streams, Outcome)];
-                _ -> [Streams || {_, #{streams := Streams}} <- Parts]
+                [] -> [Outcome];
+                _ -> [Part || {_, Part} <- Parts]
             end,
-    PartRows = [seqaudit_causes:rows(Streams) || Streams <- Shown],
+    PartRows = [seqaudit_outcome:rows(Part) || Part <- Shown],
     Resets = lists:droplast(sums([length(Rows) || Rows <- PartRows], 0)),
     Rows = lists:append([[{Part, Row} || Row <- Rows] || {Part, Rows} <- lists:enumerate(PartRows)]),
     Values = distinct([Value || {_, #{event := #{value := Value}, invented := false}} <- Rows]),
@@ -93,7 +93,7 @@ data(#{name := Name, legend := Legend, outcome := Outcome, parts := Parts} = Aud
                         ++ [{"most", case Most of infinity -> <<"null">>; _ -> integer_to_binary(Most) end},
                             {"limit", integer_to_binary(Limit)},
                             {"terms", array(Terms)}
-                            | rows(Rows, lanes(hd(Shown), Rows), Values, Label, Audited)])};
+                            | rows(Rows, lanes(maps:get(streams, hd(Shown)), Rows), Values, Label, Audited)])};
         {error, Reason} ->
             {error, {messages, Reason}}
     end.

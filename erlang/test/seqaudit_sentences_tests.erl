@@ -35,6 +35,16 @@ begun(Name, Do) ->
     true = register(Name, Pid),
     Pid.
 
+%% A client does this with a server of this name.
+with_client(Name, Serve, Do) ->
+    Self = self(),
+    Server = seqaudit_test_server:start(Name, Serve),
+    begun(client, fun() -> Do(Server), Self ! done end),
+    receive done -> ok end,
+    seqaudit_test_nodes:met_here(),
+    left([client]),
+    gen_server:stop(Server).
+
 left(Names) ->
     [begin
          Monitor = monitor(process, Name),
@@ -51,16 +61,10 @@ with_all(Label) ->
 %% A client makes 20 calls, each under a label of its own: the last one's chain is its own, in each answer.
 calls_under_labels_test_() ->
     traced("calls_under_labels", fun() ->
-        Self = self(),
-        Server = seqaudit_test_server:start(served, fun(Request) -> {done, Request} end),
-        begun(client, fun() ->
-            [seqaudit_trace:with_trace(100 + N, fun() -> {done, N} = gen_server:call(Server, N) end) || N <- lists:seq(1, 20)],
-            Self ! done
-        end),
-        receive done -> ok end,
-        seqaudit_test_nodes:met_here(),
-        left([client]),
-        gen_server:stop(Server)
+        with_client(served, fun(Request) -> {done, Request} end, fun(Server) ->
+            [seqaudit_trace:with_trace(100 + N, fun() -> {done, N} = gen_server:call(Server, N) end)
+             || N <- lists:seq(1, 20)]
+        end)
     end, fun(Command) ->
         Begins = "begins label 120 here, or set it on its token; it had last received client#37 of label 119",
         has(Command(["audit"]), ["fits: 80 events of 2 processes; nothing was left out\n"]),
@@ -141,8 +145,22 @@ kept_tokens_test_() ->
         has(Audit, [" of 5 processes; nothing was left out\n", "A token was put back here (seq_trace:set_token/1): before keeper#3, which is after keeper#0",
                     "audited were the counts that the machine would have given all events", "(status 0)"]),
         has(Command(["why", "--event", "client2#20"]), ["because (a token was put back here) keeper#1: keeper receives {"]),
+        {ok, Streams} = seqaudit_bundle:read(seqaudit_audits:file("kept_tokens") ++ ".seqtrace"),
+        case seqaudit_outcome:ask(Streams) of
+            {ok, Outcome} -> ordered(seqaudit_outcome:rows(Outcome), #{});
+            {error, {no_program, _, _}} -> skipped
+        end,
         has(Command(["why", "--event", "client3#10"]), ["because (a token was put back here) keeper#2: keeper receives {"])
     end).
+
+%% No event comes before its cause.
+ordered([], _) -> ok;
+ordered([#{id := Id, cause := Cause} | Rows], Before) ->
+    case Cause of
+        {_, Earlier} -> true = is_map_key(Earlier, Before);
+        _ -> ok
+    end,
+    ordered(Rows, Before#{Id => before}).
 
 keep(Waiting) ->
     receive
@@ -209,16 +227,9 @@ unknown_message_test_() ->
 %% What is missing is counted apart.
 flags_test_() ->
     [traced("flags_" ++ lists:concat(Flags), fun() ->
-         Self = self(),
-         Server = seqaudit_test_server:start(flagged, fun(Request) -> seq_trace:print(Request), Request end),
-         begun(client, fun() ->
-             seqaudit_trace:with_trace(1, Flags, fun() -> [N = gen_server:call(Server, N) || N <- [1, 2]] end),
-             Self ! done
-         end),
-         receive done -> ok end,
-         seqaudit_test_nodes:met_here(),
-         left([client]),
-         gen_server:stop(Server)
+         with_client(flagged, fun(Request) -> seq_trace:print(Request), Request end, fun(Server) ->
+             seqaudit_trace:with_trace(1, Flags, fun() -> [N = gen_server:call(Server, N) || N <- [1, 2]] end)
+         end)
      end, fun(Command) -> has(Command(["audit"]), [Said]) end)
      || {Flags, Said} <- [{['receive', print], "fits: 6 events of 2 processes, with 4 sends that nobody reported\n"},
                           {[send, print], "fits: 6 events of 2 processes, with 3 receives that nobody reported; 1 message has no"},
