@@ -1,11 +1,11 @@
 %% No sentence that is said as a fact is false: random programs whose messages carry their true cause.
 %%
-%% The variable TRUTH says how many programs are run in place of 300.
+%% The variable TRUTH says which programs are run in place of the first 300: 301-700, or those up to a number.
 -module(seqaudit_truth_tests).
 
 -export([truth_test_/0]).
 
--define(PROGRAMS, 300).
+-define(PROGRAMS, "1-300").
 -define(ALL, [send, 'receive', print]).
 
 truth_test_() ->
@@ -35,12 +35,12 @@ with_tool(Tool) ->
 all(Nodes) ->
     [{module, _} = erpc:call(Node, code, load_binary, [Module, File, Binary])
      || Node <- tl(Nodes), Module <- [seqaudit_truth], {_, Binary, File} <- [code:get_object_code(Module)]],
-    Programs = case os:getenv("TRUTH") of
-                   false -> ?PROGRAMS;
-                   Given -> list_to_integer(Given)
-               end,
+    [From, To] = case string:lexemes(os:getenv("TRUTH", ?PROGRAMS), "-") of
+                     [Last] -> [1, list_to_integer(Last)];
+                     Range -> lists:map(fun list_to_integer/1, Range)
+                 end,
     Said = lists:foldl(fun(Seed, Sum) -> seqaudit_truth:sum(seqaudit_truth:run(Seed, how(Seed, Nodes), name(Seed)), Sum) end,
-                       #{false => []}, lists:seq(1, Programs)),
+                       #{false => []}, lists:seq(From, To)),
     [io:format(user, "  ~0tp: ~b~n", [What, Count]) || {What, Count} <- lists:sort(maps:to_list(Said)), is_integer(Count)],
     [io:format(user, "  ~0tp: ~0tp~n", [What, lists:sublist(List, 5)])
      || {What, List} <- maps:to_list(Said), is_list(List), List =/= []],
