@@ -124,16 +124,26 @@ origin(_Cause, Stamp, _Event, _Row) -> Stamp.
 
 %% Of the tokens with one label, prev and origin the first stands for all.
 had_token(#{label := Label, prev := Prev, this := This}, Origin, #{tokens := Tokens, prevs := Prevs} = Known) ->
-    Had = maps:get({Label, Prev}, Tokens, []),
-    case lists:keymember(Origin, 2, Had) of
-        true -> Known;
-        false -> Known#{tokens := Tokens#{{Label, Prev} => [{This, Origin} | Had]},
-                        prevs := maps:update_with(Prev, fun(Least) -> min(Least, This) end, This, Prevs)}
+    Key = {Label, Prev},
+    case Tokens of
+        #{{Key, Origin} := _} -> Known;
+        #{} ->
+            Had = maps:get(Key, Tokens, gb_sets:new()),
+            Known#{tokens := Tokens#{Key => gb_sets:add({-This, Origin}, Had), {Key, Origin} => had},
+                   prevs := maps:update_with(Prev, fun(Least) -> min(Least, This) end, This, Prevs)}
     end.
 
-%% The tokens of this label and prev that the process had before and may have put back, the nearest first.
+%% The tokens of this label and prev that the process had before and may have put back: the nearest, and one more if
+%% there are several. They are sorted by falling counts.
 put_back(#{label := Label, prev := Prev, this := This}, #{tokens := Tokens}) ->
-    lists:reverse(lists:sort([Token || {Count, _} = Token <- maps:get({Label, Prev}, Tokens, []), Count < This])).
+    case Tokens of
+        #{{Label, Prev} := Had} -> nearest(2, gb_sets:next(gb_sets:iterator_from({1 - This, none}, Had)));
+        #{} -> []
+    end.
+
+nearest(0, _) -> [];
+nearest(_, none) -> [];
+nearest(Left, {{Count, Origin}, More}) -> [{-Count, Origin} | nearest(Left - 1, gb_sets:next(More))].
 
 %% After an answered spawn OTP puts the counters to 16 T + 15, T being the answer's count.
 stamp_cause(_Pid, #{prev := Prev, label := Label} = Event, #{newest := {Count, Other, Id}} = Known, _)

@@ -16,8 +16,8 @@
                   machine = {0, 0} :: counters(),             % and as they would be on the machine
                   %% The node's last count under each token that it may have put back.
                   tokens = #{} :: #{seqaudit_causes:id() => non_neg_integer()},
-                  %% The node's counts of all tokens that it had, by prev, the last first.
-                  had = #{} :: #{non_neg_integer() => [non_neg_integer()]}}).
+                  %% The node's counts of all tokens that it had, by prev, negative so that the greatest comes first.
+                  had = #{} :: #{non_neg_integer() => gb_sets:set(integer())}}).
 
 -type counters() :: {Clock :: non_neg_integer(), Last :: non_neg_integer()}.
 
@@ -131,7 +131,7 @@ received(#{prev := Prev, this := This, at := At} = Event, {NewPrev, Count}, Pid,
         tokens = Tokens#{{Pid, At} => This}, had = had(Prev, This, Had)}.
 
 had(Prev, This, Had) ->
-    maps:update_with(Prev, fun(Counts) -> [This | Counts] end, [This], Had).
+    Had#{Prev => gb_sets:add(-This, maps:get(Prev, Had, gb_sets:new()))}.
 
 gone(Event, #process{left = [_ | Left], done = Done} = Process) ->
     Process#process{left = Left, done = [Event | Done]}.
@@ -172,9 +172,9 @@ before(#{this := This}, {How, _}, Origin, #process{machine = Machine, tokens = T
         #{} -> unknown
     end;
 before(#{prev := Prev, this := This}, {relabelled, _, open}, _Origin, #process{machine = Machine, had = Had}) ->
-    case [Count || Count <- maps:get(Prev, Had, []), Count < This] of
-        [] -> unknown;
-        Counts -> {lists:max(Counts), Machine}
+    case gb_sets:next(gb_sets:iterator_from(1 - This, maps:get(Prev, Had, gb_sets:new()))) of
+        none -> unknown;
+        {Count, _} -> {-Count, Machine}
     end;
 before(#{prev := Last, this := This}, _Cause, _Origin, #process{node = {Node, Last}, machine = Machine})
   when This > Node ->
