@@ -266,7 +266,7 @@ losses_test() ->
     Text = unicode:characters_to_binary(seqaudit_explain:losses(Losses)),
     <<"The trace isn't whole:\n  a@h: its", _/binary>> = Text,
     has(Text, ["dropped 7 events beyond", "the oldest 9 bytes"]),
-    [nomatch, nomatch, nomatch] = [binary:match(Text, Part) || Part <- [<<"alias">>, <<"labels">>, <<"connection">>]],
+    [nomatch, nomatch, nomatch] = [binary:match(Text, Part) || Part <- [<<"alias">>, <<"labels">>, <<"205 ms">>]],
     [] = seqaudit_notes:losses(<<"no such file\n">>).
 
 chart() ->
