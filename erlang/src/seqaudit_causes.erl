@@ -49,9 +49,8 @@
 rows(Streams) ->
     Ranks = maps:from_list(lists:zip([Pid || {Pid, _} <- Streams],
                                      lists:seq(1, length(Streams)))),
-    Sends = maps:from_list([Known || {Pid, Events} <- Streams,
-                                     #{kind := send, from := From, this := This, at := At} = Send <- Events,
-                                     Known <- [{message(Send), {Pid, At}}, {{From, This}, {Pid, At}}]]),
+    Sends = maps:from_list([{Key, {Pid, At}} || {Pid, Events} <- Streams, #{kind := send, at := At} = Send <- Events,
+                                                Key <- [message(Send), setelement(2, message(Send), anybody)]]),
     Unpaired = unpaired(Streams),
     Keyed = lists:append([keyed(Stream, Ranks, Sends, Unpaired) || Stream <- Streams]),
     mark_invented([Row || {_, Row} <- lists:keysort(1, Keyed)]).
@@ -98,7 +97,9 @@ keyed_event(#{kind := 'receive', from := From, this := This, label := Label, at 
             {Pid, Position}, #{clock := Clock} = Known, {Ranks, Sends, _}) ->
     Height = max(Clock, This),
     Id = {Pid, At},
-    Send = maps:get(message(Event), Sends, maps:get({From, This}, Sends, {sent_to, Id})),
+    %% An alias or a name that isn't resolved stands for its receiver.
+    ToAnybody = maps:get(setelement(2, message(Event), anybody), Sends, {sent_to, Id}),
+    Send = maps:get(message(Event), Sends, ToAnybody),
     Row = row(Id, Event, Pid, {sent, Send}),
     Hidden = [{{This, 0, maps:get(From, Ranks, 0), 0},
                (row(Send, Event#{kind := send}, From, unseen))#{hidden := true}}
