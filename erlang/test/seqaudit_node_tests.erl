@@ -128,6 +128,11 @@ asked(Name, Program) ->
     {_, _} = binary:match(Gone, <<"askedx.terms: no such file or directory; `seqaudit-node convert'">>),
     Unfit = Name ++ "_unfit",
     {0, _} = command(["convert ", capture("exclude_idiom_after_receive"), " -o ", Unfit]),
+    {0, PutBack} = command(["audit ", Unfit], Program),
+    {_, _} = binary:match(PutBack, <<"A token was put back here">>),
+    ok = file:write_file(Unfit ++ ".seqtrace",
+                         ["seqtrace 1\nprocess <0.80.0>\n",
+                          [["{seq_trace,1,{print,{", Serial, "},<0.80.0>,[],0}}\n"] || Serial <- ["0,1", "0,2", "1,3"]]]),
     {1, Why} = command(["audit ", Unfit], Program),
     {_, _} = binary:match(Why, <<"(uncaused)">>),
     {_, _} = binary:match(Why, <<"seqtool would say what the trace lacks, but it isn't there">>).
