@@ -79,15 +79,27 @@
     return self + " " + VERBS[rows.kind[row]] + " " + brief(row) + link;
   };
 
+  // In the words of charts, drawings and `why'.
   const causeText = row => {
-    const before = rows.cause[row] >= 0 ? eventName(rows.cause[row]) : "";
-    return { s: "the receive of " + before, r: "after " + before,
-             w: "after " + before + ", a spawn's answer, at which OTP moves the counter on",
-             u: "after " + before + ", whose receive nobody reported", b: "the trace begins here",
-             o: "the trace begins here, or the cause wasn't reported", m: "the cause wasn't reported",
-             h: "nobody reported it, so its cause isn't known" }[rows.how[row]]
-      + (isPlain(row) || rows.kind[row] === "h" ? "" : " (unreported: nobody reported this event)");
+    const cause = rows.cause[row], before = cause >= 0 ? eventName(cause) : "", had = rows.had[row];
+    const after = cause >= 0 && !isPlain(cause) ? "perhaps after " + before + ", which wasn't reported" : "after " + before;
+    return { s: cause >= 0 && rows.kind[cause] === "h" ? "its send wasn't reported"
+                : "after " + before + (cause >= 0 && !isPlain(cause) ? ", which wasn't reported" : ""),
+             r: after, w: "after " + before + ", a spawn's answer",
+             t: "after " + before + ", whose token was put back",
+             v: "perhaps after " + before + ", whose token was put back",
+             u: "perhaps after " + before + ", whose receive wasn't reported",
+             l: "begins label " + visible(labels[rows.label[row]]) + " here, or set it on its token"
+                + (had === undefined ? "" : "; it had last received " + eventName(had) + " of label " + visible(labels[rows.label[had]])),
+             x: "begins label " + visible(labels[rows.label[row]]) + " here, or set it on a token that was put back, or follows a "
+                + "message whose receive wasn't reported",
+             b: "begins here", o: "begins here, or follows a message whose receive wasn't reported",
+             h: "it wasn't reported, so its cause isn't known" }[rows.how[row]]
+      + (isPlain(row) || rows.kind[row] === "h" ? "" : " (this event wasn't reported)");
   };
+
+  // Whether what is said of the cause isn't certain.
+  const isDoubtful = row => "ouvx".includes(rows.how[row]) || rows.how[row] === "r" && !isPlain(rows.cause[row]);
 
   // Which rows and lanes are shown, and where.
 
@@ -258,7 +270,7 @@
     const [first, last] = sight();
     for (const row of [chosen, ...causes, ...effects]) {
       const before = rows.cause[row];
-      if (!"rw".includes(rows.how[row]) || before < 0 || place[row] < 0 || place[before] < 0
+      if (!"rwtv".includes(rows.how[row]) || before < 0 || place[row] < 0 || place[before] < 0
           || !isLit(before) || place[row] < first || place[before] > last) continue;
       stroke(pen, effects.has(row) ? INK.effect : INK.cause, 4, []);
       pen.beginPath();
@@ -351,7 +363,7 @@
     pen.setLineDash([]);
     if (row === chosen) { pen.strokeStyle = INK.text; pen.lineWidth = 2; pen.strokeRect(cx - 9, cy - 9, 18, 18); }
     // Right above the mark neither a term nor a tip stands.
-    if ("omu".includes(rows.how[row])) writeOver(pen, "?", cx, cy - size - 3, "center", INK.unreported);
+    if (isDoubtful(row)) writeOver(pen, "?", cx, cy - size - 3, "center", INK.unreported);
     if (rowHeight >= 14 && laneWidth >= 60 && rows.kind[row] !== "r") drawTerm(pen, row, cx, isReset(at) ? cy - 1 : cy - 5);
   }
 
@@ -669,7 +681,9 @@
       "arrow: a message, from its send to its receive; time runs downwards",
       "a line that ends in a bar: a message whose receive isn't in the trace",
       "dashed: unreported; it happened, but nobody reported it",
-      "?: what the event follows may be unreported",
+      "?: what the event follows may be something else, or may not have been reported",
+      "a cause holds if each receive of a token was reported, and if no process took its token off and set one of the same "
+        + "label again, but where it's said",
       "\u25cf the chosen event; \u2191 its causes, blue; \u2193 its effects, orange",
       "double line: a reset, or another run, begins below it",
       "arrow keys, Page Up and Down, Home, End: go to another event",

@@ -3,7 +3,7 @@
 
 -export([audit/1, chart/1, why/1]).
 %% What other commands on a trace need too.
--export([with_trace/3, with_outcome/2, wish/2, shown/1, doubt/2, keep/3]).
+-export([with_trace/3, with_outcome/2, wish/2, losses/1, shown/1, doubt/2, keep/3]).
 
 %% Exit statuses, as those of `seqaudit'.
 -define(FITS, 0).
@@ -25,7 +25,7 @@ with_trace(Name, Wish, Do) ->
         with_file(seqaudit_bundle:read(Name ++ ".seqtrace"), fun seqaudit_bundle:format_error/1, fun(Streams) ->
             with_file(times(Name), fun seqaudit_times:format_error/1, fun(Times) ->
                 with_cut(#{name => Name, legend => Legend, times => maps:get(events, Times), timed => Times,
-                           notes => notes(Name), whole => Streams}, Wish, Do)
+                           losses => losses(Name), whole => Streams}, Wish, Do)
             end)
         end)
     end).
@@ -40,10 +40,14 @@ with_cut(#{whole := Streams, legend := Legend, times := Times} = Trace, Wish, Do
         {error, Reason} -> {?UNFIT, seqaudit_cut:format_error(Reason)}
     end.
 
-notes(Name) ->
-    case file:read_file(Name ++ ".notes") of
-        {ok, Text} -> binary:split(Text, <<"\n">>, [global, trim]);
-        {error, _} -> []
+%% @doc What the facts say is gone. Whoever has notes and no facts converted the trace before there were any.
+-spec losses(file:filename()) -> [binary()].
+losses(Name) ->
+    case {file:read_file(Name ++ ".facts"), filelib:is_regular(Name ++ ".notes")} of
+        {{ok, Text}, _} -> seqaudit_notes:losses(Text);
+        {{error, _}, true} -> [<<"an older version converted this trace, and NAME.notes says what it lacks; convert it "
+                                 "again">>];
+        {{error, _}, false} -> []
     end.
 
 %% A trace without timestamps has no such file.
@@ -72,7 +76,7 @@ with_outcome(#{streams := Streams} = Trace, Do) ->
     case ask(Streams, Trace) of
         {ok, Outcome} ->
             case parts(Outcome, Streams) of
-                [_] -> Do(Trace#{outcome => Outcome, parts => []});
+                [_] -> Do(named([Outcome], Trace#{outcome => Outcome, parts => []}));
                 Parts -> with_parts(Parts, [], Trace#{outcome => Outcome}, Do)
             end;
         {error, Reason} ->
@@ -89,17 +93,22 @@ parts(_, Streams) ->
     [Streams].
 
 with_parts([], Outcomes, Trace, Do) ->
-    Do(Trace#{parts => lists:reverse(Outcomes)});
+    Do(named([Outcome || {_, Outcome} <- Outcomes], Trace#{parts => lists:reverse(Outcomes)}));
 with_parts([Part | Parts], Outcomes, Trace, Do) ->
     case ask(Part, Trace) of
         {ok, Outcome} -> with_parts(Parts, [{Part, Outcome} | Outcomes], Trace, Do);
         {error, Reason} -> {?SYSTEM, seqaudit_program:format_error(Reason)}
     end.
 
-%% The outcome, which knows whether the trace was cut and whether the collectors lost anything.
-ask(Streams, #{cut := Note, notes := Notes}) ->
+%% Processes that the trace doesn't list have names too.
+named(Outcomes, #{legend := Legend} = Trace) ->
+    Unlisted = lists:usort(lists:append([maps:get(unlisted, Outcome) || Outcome <- Outcomes])),
+    Trace#{legend := seqaudit_legend:unlisted(Unlisted, Legend)}.
+
+%% The outcome, which knows whether the trace was cut and whether anything was lost.
+ask(Streams, #{cut := Note, losses := Losses}) ->
     case seqaudit_outcome:ask(Streams) of
-        {ok, Outcome} -> {ok, Outcome#{cut => Note =/= "", lost => seqaudit_explain:losses(Notes) =/= ""}};
+        {ok, Outcome} -> {ok, Outcome#{cut => Note =/= "", lost => Losses =/= []}};
         {error, Reason} -> {error, Reason}
     end.
 
@@ -112,12 +121,12 @@ audit(#{"" := [Name]} = Options) ->
 audit(_) ->
     {usage, "audit needs the NAME of one trace"}.
 
-audit(#{name := Name, legend := Legend, notes := Notes, cut := Cut, outcome := Outcome,
+audit(#{name := Name, legend := Legend, losses := Losses, cut := Cut, outcome := Outcome,
         parts := Parts, streams := Streams, timed := Times} = Audited, Options) ->
     #{said := Said, answer := Answer} = Outcome,
     io:put_chars(case Options of
                      #{"--json" := _} -> seqaudit_report:audit(Audited);
-                     #{} -> [Cut, seqaudit_explain:outcome(Outcome, Notes, Legend),
+                     #{} -> [Cut, seqaudit_explain:outcome(Outcome, Losses, Legend),
                              seqaudit_times:summary(Streams, Times), audited_parts(Parts, Options, Legend),
                              [seqaudit_explain:whole(Outcome, Legend) || is_map_key("--whole", Options)]]
                  end),
@@ -186,14 +195,14 @@ chart_label(Number, Label, #{streams := Streams, legend := Legend, times := Time
             charts(Number, Audited, Options)
     end).
 
-charts(Number, #{parts := Parts, outcome := #{streams := Streams}} = Audited, Options) ->
+charts(Number, #{parts := Parts, outcome := Outcome} = Audited, Options) ->
     io:put_chars(charted(Audited)),
     Drawn = case Parts of
-                [] -> [{"", Streams, ""}];
-                _ -> [{integer_to_list(Which), maps:get(streams, Outcome), part_title(Which, Parts)}
-                      || {Which, {_, Outcome}} <- lists:enumerate(Parts)]
+                [] -> [{"", Outcome, ""}];
+                _ -> [{integer_to_list(Which), Part, part_title(Which, Parts)}
+                      || {Which, {_, Part}} <- lists:enumerate(Parts)]
             end,
-    Statuses = [chart_streams(Number, Which, Part, Title, Audited, Options)
+    Statuses = [chart_outcome(Number, Which, Part, Title, Audited, Options)
                 || {Which, Part, Title} <- Drawn],
     %% A complaint comes before a status, and a part that is drawn before one that has no such label.
     Status = case [Complaint || {_, _} = Complaint <- Statuses] of
@@ -203,19 +212,21 @@ charts(Number, #{parts := Parts, outcome := #{streams := Streams}} = Audited, Op
     files(Audited, Options, Number, Status).
 
 %% The lines above a chart.
-charted(#{cut := Cut, outcome := Outcome, notes := Notes, parts := Parts, legend := Legend}) ->
-    [Cut, seqaudit_explain:headline(Outcome, Legend), seqaudit_explain:losses(Notes),
+charted(#{cut := Cut, outcome := Outcome, losses := Losses, parts := Parts, legend := Legend}) ->
+    [Cut, seqaudit_explain:headline(Outcome, Legend), seqaudit_explain:losses(Losses),
      [seqaudit_explain:reset_places([Part || {Part, _} <- Parts], Legend) || Parts =/= []]].
 
-chart_streams(Number, Which, Streams, Title, #{legend := Legend, timed := Times} = Audited, Options) ->
-    Text = seqaudit_bundle:text(Streams),
-    Asked = seqaudit_program:with_text(Text, fun(File) ->
+chart_outcome(Number, Which, #{streams := Streams} = Outcome, Title,
+              #{legend := Legend, timed := Times} = Audited, Options) ->
+    Charted = maps:get(asked, Outcome, Streams),
+    Asked = seqaudit_program:with_text(seqaudit_bundle:text(Charted), fun(File) ->
                 seqaudit_program:ask(["chart", "--label", binary_to_list(Number)], File)
             end),
     case Asked of
         {ok, {?FITS, Answer}} ->
             {ok, Read} = seqaudit_chart:read(Answer),
-            Chart = seqaudit_chart:identify(Read, seqaudit_causes:rows(Streams)),
+            Identified = seqaudit_chart:identify(Read, seqaudit_causes:rows(Charted)),
+            Chart = seqaudit_chart:with_own(Identified, seqaudit_causes:rows(Streams)),
             io:put_chars([[Title, $\n] || Title =/= ""]),
             io:put_chars(seqaudit_chart:text(Chart, Legend, Times)),
             draw(Chart, Which, Title, Audited, maps:get("--svg", Options, []));
@@ -233,9 +244,9 @@ chart_streams(Number, Which, Streams, Title, #{legend := Legend, timed := Times}
             {?SYSTEM, seqaudit_program:format_error(Reason)}
     end.
 
-draw(Chart, Which, Title, #{legend := Legend, outcome := Outcome, notes := Notes}, [File | _]) ->
+draw(Chart, Which, Title, #{legend := Legend, outcome := Outcome, losses := Losses}, [File | _]) ->
     Heading = #{part => Title, said => line(seqaudit_explain:headline(Outcome, Legend)),
-                fits => fits(Outcome), losses => line(seqaudit_explain:losses(Notes))},
+                fits => fits(Outcome), losses => line(seqaudit_explain:losses(Losses))},
     case seqaudit_draw:svg(Chart, Heading, Legend) of
         {ok, Drawing} ->
             keep(part_file(File, Which), unicode:characters_to_binary(Drawing), ?FITS);
@@ -264,7 +275,7 @@ files(Audited, Options, Label, Status) ->
 
 export(Format, File, Label, Audited, Status) ->
     Which = case Label of <<"">> -> all; _ -> Label end,
-    Rows = [seqaudit_causes:rows(Streams) || Streams <- shown(Audited)],
+    Rows = [seqaudit_outcome:rows(Shown) || Shown <- shown(Audited)],
     case seqaudit_export:text(Format, Which, Rows, Audited) of
         {ok, Text} -> keep(File, Text, Status);
         {error, Reason} -> {?INPUT, seqaudit_export:format_error(Reason)}
@@ -291,14 +302,15 @@ why(_) ->
     {usage, "why needs the NAME of one trace, and --event"}.
 
 why(Event, Shown, Options, #{legend := Legend} = Audited) ->
-    Found = [{Place, Streams} || Streams <- Shown,
+    Found = [{Place, Outcome} || #{streams := Streams} = Outcome <- Shown,
                                  {ok, Place} <- [seqaudit_bundle:find(Event, Streams, Legend)]],
     case Found of
-        [{Place, Streams} | _] ->
-            io:put_chars(told(Place, seqaudit_causes:rows(Streams), Options, Audited)),
+        [{Place, Outcome} | _] ->
+            io:put_chars(told(Place, seqaudit_outcome:rows(Outcome), Options, Audited)),
             ?FITS;
         [] ->
-            {error, Reason} = seqaudit_bundle:find(Event, lists:append(Shown), Legend),
+            All = lists:append([Streams || #{streams := Streams} <- Shown]),
+            {error, Reason} = seqaudit_bundle:find(Event, All, Legend),
             {?UNFIT, seqaudit_bundle:format_error(Reason)}
     end.
 
@@ -313,10 +325,10 @@ told(Place, Rows, #{"--effects" := _}, #{legend := Legend, timed := Times}) ->
 told(Place, Rows, _Options, #{legend := Legend, timed := Times}) ->
     seqaudit_why:chain(Place, Rows, Legend, Times).
 
-%% @doc The streams that are shown: the whole, or each part between resets.
--spec shown(map()) -> [seqaudit_bundle:streams()].
-shown(#{parts := [], outcome := #{streams := Streams}}) -> [Streams];
-shown(#{parts := Parts}) -> [Streams || {_, #{streams := Streams}} <- Parts].
+%% @doc What is shown: the outcome of the whole, or of each part between resets.
+-spec shown(map()) -> [seqaudit_outcome:outcome()].
+shown(#{parts := [], outcome := Outcome}) -> [Outcome];
+shown(#{parts := Parts}) -> [Outcome || {_, Outcome} <- Parts].
 
 %% @doc For a trace that doesn't fit, the doubt comes before the causes.
 -spec doubt(seqaudit_outcome:outcome(), seqaudit_legend:legend()) -> unicode:chardata().

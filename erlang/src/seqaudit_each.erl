@@ -60,12 +60,13 @@ tell({Label, _Own, {error, Reason}}, #{legend := Legend}, Options, Counts) ->
         #{} -> say(Label, Sentence, Legend)
     end,
     counted(failed, Counts);
-tell({Label, _Own, {ok, Outcome0}}, #{legend := Legend} = Trace, Options, Counts) ->
-    Outcome = Outcome0#{cut => true, lost => false},
+tell({Label, _Own, {ok, Outcome0}}, #{legend := Legend0} = Trace, Options, Counts) ->
+    #{unlisted := Unlisted} = Outcome = Outcome0#{cut => true, lost => false},
+    Legend = seqaudit_legend:unlisted(Unlisted, Legend0),
     case Options of
         #{"--json" := _} ->
             io:put_chars(seqaudit_report:audit(Trace#{label => seqaudit_legend:label(Label, Legend), outcome => Outcome,
-                                                      notes => [], parts => []}));
+                                                      legend => Legend, losses => [], parts => []}));
         #{} ->
             say(Label, seqaudit_explain:headline(Outcome, Legend), Legend)
     end,
@@ -78,9 +79,7 @@ say(Label, Sentence, Legend) ->
 counted(Said, Counts) ->
     maps:update_with(Said, fun(Count) -> Count + 1 end, 1, Counts).
 
-told(Counts, Labels, #{notes := AllNotes}, Options) ->
-    %% What the programs don't take as a whole doesn't matter here.
-    Notes = [Note || Note <- AllNotes, binary:match(Note, <<"won't take">>) =:= nomatch],
+told(Counts, Labels, #{losses := Losses}, Options) ->
     Of = fun(Said) -> maps:get(Said, Counts, 0) end,
     Others = maps:without([fits, completed], Counts),
     Unknown = lists:sum(maps:values(maps:without([never, fault, failed], Others))),
@@ -91,7 +90,7 @@ told(Counts, Labels, #{notes := AllNotes}, Options) ->
                [[", ", number(Of(never)), " don't"] || Of(never) > 0],
                [[", of ", number(Unknown), " it isn't known"] || Unknown > 0],
                [[", ", number(Refused), " couldn't be audited"] || Refused > 0],
-               $\n, seqaudit_explain:losses(Notes)],
+               $\n, seqaudit_explain:losses(Losses)],
     is_map_key("--json", Options) orelse io:put_chars(Summary),
     case Others of
         #{failed := _} -> ?SYSTEM;

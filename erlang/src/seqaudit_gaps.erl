@@ -1,7 +1,7 @@
 %% @doc What streams leave out, as far as counts tell.
 -module(seqaudit_gaps).
 
--export([find/1]).
+-export([find/2]).
 -export_type([gaps/0]).
 
 -type counted() :: [{seqaudit_bundle:pid_text(), pos_integer()}].
@@ -23,9 +23,8 @@
 %% </dl>
 
 %% @doc What they leave out; unreported events in the streams count as theirs.
--spec find(seqaudit_bundle:streams()) -> gaps().
-find(Streams) ->
-    Rows = seqaudit_causes:rows(Streams),
+-spec find([seqaudit_causes:row()], seqaudit_bundle:streams()) -> gaps().
+find(Rows, Streams) ->
     Index = seqaudit_causes:index(Rows),
     Received = maps:from_keys([Send || #{cause := {How, Send}} <- Rows, How =:= sent orelse How =:= unreported],
                               received),

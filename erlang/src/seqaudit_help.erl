@@ -76,8 +76,8 @@ text("watch") ->
 text("convert") ->
     {"convert FILE .. -o NAME",
      "Makes a trace from files of events: NAME.seqtrace; NAME.terms, what its numbers stand for; NAME.messages,\n"
-     "the whole texts of long messages; NAME.notes, what was decided or left out; and NAME.times, if the\n"
-     "events have timestamps.\n\n"
+     "the whole texts of long messages; NAME.notes and NAME.facts, what was decided or left out; and\n"
+     "NAME.times, if the events have timestamps.\n\n"
      "  FILE                a NAME.events, the folder of a collector, term_to_binary of a list of events,\n"
      "                      a trace file of dbg or ttb, or events as text, as a log has them\n"
      "  -o NAME             the name of the trace\n"};

@@ -5,7 +5,7 @@
 %% the text of a bundle and in what `seqaudit' writes.
 -module(seqaudit_legend).
 
--export([text/4, read/1, process/2, about/2, label/2, value/2, brief/2]).
+-export([text/4, read/1, unlisted/2, is_unlisted/2, process/2, about/2, label/2, value/2, brief/2]).
 -export([find_label/2, format_error/1]).
 -export_type([legend/0]).
 
@@ -25,7 +25,7 @@
                 {"^\\{spawn_reply,#Ref<[0-9.]*>,ok,(.*)\\}$", ["spawned ", 1]},
                 {"^\\{" ?TAG ",(.*)\\}$", ["reply ", 1]}]).
 
--opaque legend() :: #{{process | about | label | value, binary()} => binary(), style => binary()}.
+-opaque legend() :: #{{process | about | unlisted | label | value, binary()} => binary(), style => binary()}.
 
 %% @doc The text of the file: the processes by pid, with a short name and all that is known of each,
 %% then the labels and the values by number, with the processes in them by their numbers.
@@ -79,6 +79,21 @@ read_lines([Line | Lines], Number, Legend, File) ->
         _ ->
             {error, {not_terms, File, Number}}
     end.
+
+%% @doc The legend with names for processes that the trace doesn't list.
+-spec unlisted([binary()], legend()) -> legend().
+unlisted(Pids, Legend) ->
+    Several = length(Pids) > 1,
+    lists:foldl(fun({Number, Pid}, Known) ->
+                        Name = iolist_to_binary(["a process that the trace doesn't list",
+                                                 [[$\s, integer_to_list(Number)] || Several]]),
+                        Known#{{process, Pid} => Name, {unlisted, Pid} => <<>>,
+                               {about, Pid} => <<"it reported nothing, and no event names it">>}
+                end, Legend, lists:enumerate(Pids)).
+
+%% @doc Whether the trace doesn't list the process.
+-spec is_unlisted(binary(), legend()) -> boolean().
+is_unlisted(Pid, Legend) -> is_map_key({unlisted, Pid}, Legend).
 
 %% @doc The short name of a process, its pid if the legend hasn't it.
 -spec process(binary(), legend()) -> binary().

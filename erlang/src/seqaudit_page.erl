@@ -83,10 +83,10 @@ format_error({file, File, Reason}) ->
 
 data(#{name := Name, legend := Legend, outcome := Outcome, parts := Parts} = Audited, Label, Limit) ->
     Shown = case Parts of
-                [] -> [maps:get(streams, Outcome)];
-                _ -> [Streams || {_, #{streams := Streams}} <- Parts]
+                [] -> [Outcome];
+                _ -> [Part || {_, Part} <- Parts]
             end,
-    PartRows = [seqaudit_causes:rows(Streams) || Streams <- Shown],
+    PartRows = [seqaudit_outcome:rows(Part) || Part <- Shown],
     Resets = lists:droplast(sums([length(Rows) || Rows <- PartRows], 0)),
     Rows = lists:append([[{Part, Row} || Row <- Rows] || {Part, Rows} <- lists:enumerate(PartRows)]),
     Values = distinct([Value || {_, #{event := #{value := Value}, invented := false}} <- Rows]),
@@ -98,7 +98,7 @@ data(#{name := Name, legend := Legend, outcome := Outcome, parts := Parts} = Aud
                             {"most", case Most of infinity -> <<"null">>; _ -> integer_to_binary(Most) end},
                             {"limit", integer_to_binary(Limit)},
                             {"terms", array(Terms)}
-                            | rows(Rows, lanes(hd(Shown), Rows), Values, Label, Audited)])};
+                            | rows(Rows, lanes(maps:get(streams, hd(Shown)), Rows), Values, Label, Audited)])};
         {error, Reason} ->
             {error, {messages, Reason}}
     end.
@@ -110,8 +110,8 @@ first(_) ->
     <<"null">>.
 
 %% How long messages took, by pair of processes and by kind.
-durations(Parts, #{timed := Times, legend := Legend}) ->
-    Streams = lists:append(Parts),
+durations(Shown, #{timed := Times, legend := Legend}) ->
+    Streams = lists:append([Streams || #{streams := Streams} <- Shown]),
     [table(Title, seqaudit_durations:messages(Streams, Times, Key))
      || maps:size(maps:get(messages, Times)) > 0,
         {Title, Key} <- [{"By processes", fun(#{from := From, to := To}) ->
@@ -122,7 +122,7 @@ durations(Parts, #{timed := Times, legend := Legend}) ->
                               Kind = seqaudit_durations:kind(seqaudit_legend:brief(Value, Legend)),
                               unicode:characters_to_binary(Kind)
                           end}]];
-durations(_Parts, _Audited) ->
+durations(_Shown, _Audited) ->
     [].
 
 table(Title, Entries) ->
@@ -132,13 +132,13 @@ table(Title, Entries) ->
 entry({Of, #{count := Count, median := Median, most := Most, greatest := Greatest}}) ->
     array([text(Of) | [integer_to_binary(Number) || Number <- [Count, Median, Most, Greatest]]]).
 
-about(#{name := Name, legend := Legend, notes := Notes, cut := Cut, outcome := #{said := Said} = Outcome,
+about(#{name := Name, legend := Legend, losses := Losses, cut := Cut, outcome := #{said := Said} = Outcome,
         parts := Parts}, Resets) ->
     [{"title", text(filename:basename(Name))},
      {"headline", text(string:trim(unicode:characters_to_list(
                                      seqaudit_explain:headline(Outcome, Legend))))},
      {"fits", atom_to_binary(Said =:= fits orelse Said =:= completed)},
-     {"notes", array([text(Line) || Line <- lines([Cut, seqaudit_explain:losses(Notes),
+     {"notes", array([text(Line) || Line <- lines([Cut, seqaudit_explain:losses(Losses),
                                                    resets(Parts, Legend)])])},
      {"resets", array([integer_to_binary(Row) || Row <- Resets])}].
 
@@ -209,6 +209,7 @@ columns(Rows, Lanes, Labels, Values, Times) ->
                               end)},
             {"at", Column(fun({_, Row}) -> at(Row) end)},
             {"cause", Column(fun({Part, Row}) -> integer_to_binary(cause(Part, Row, Places)) end)},
+            {"had", had(Rows, Places)},
             {"time", case map_size(Times) of
                          0 -> <<"null">>;
                          _ -> Column(fun({_, #{id := Id}}) -> time(Id, Times) end)
@@ -230,9 +231,12 @@ how(#{cause := {sent, _}}) -> $s;
 how(#{cause := {received, _}}) -> $r;
 how(#{cause := {spawned, _}}) -> $w;
 how(#{cause := {unreported, _}}) -> $u;
+how(#{cause := {restored, _}}) -> $t;
+how(#{cause := {perhaps, _}}) -> $v;
+how(#{cause := {relabelled, _, open}}) -> $x;
+how(#{cause := {relabelled, _, _}}) -> $l;
 how(#{cause := start}) -> $b;
 how(#{cause := open}) -> $o;
-how(#{cause := missing}) -> $m;
 how(#{cause := unseen}) -> $h.
 
 value(#{invented := true}, _Values) -> -1;
@@ -244,6 +248,11 @@ at(#{id := {_, At}}) -> [$", integer_to_binary(At), $"].
 
 cause(Part, #{cause := {_, Id}}, Places) -> maps:get({Part, Id}, Places, -1);
 cause(_Part, _Row, _Places) -> -1.
+
+%% What the processes of rows that begin a label, or set one, had received last.
+had(Rows, Places) ->
+    object([{integer_to_list(Number), integer_to_binary(maps:get({Part, Id}, Places))}
+            || {Number, {Part, #{cause := {relabelled, _, {Id, _}}}}} <- lists:enumerate(0, Rows)]).
 
 time(Id, Times) ->
     case Times of

@@ -89,7 +89,7 @@ audited(#state{name = Name, number = Number, rest = Rest}) ->
         {ok, Joined} ->
             {Own, Later, How} = cut(Joined, Period),
             case seqaudit_convert:from_files(Own, Period) of
-                {ok, #{events := Events, notes := Notes}} -> outcome(Period, Events, Notes, [How | Failed], Later);
+                {ok, #{events := Events}} -> outcome(Period, Events, [How | Failed], Later);
                 {error, Reason} -> {error, seqaudit_events:format_error(Reason)}
             end;
         {error, Reason} ->
@@ -144,14 +144,12 @@ cut(Files, _Period) ->
 
 part(File, Which) -> filename:rootname(File) ++ "." ++ Which ++ ".events".
 
-outcome(_Period, 0, _Notes, How, Later) ->
+outcome(_Period, 0, How, Later) ->
     {ok, fits, ["nothing came", [["; ", One] || One <- tl(How)]], Later};
-outcome(Period, _Events, Notes, How, Later) ->
+outcome(Period, _Events, How, Later) ->
     {ok, Legend} = seqaudit_legend:read(Period ++ ".terms"),
     {ok, Streams} = seqaudit_bundle:read(Period ++ ".seqtrace"),
-    %% What the programs don't take is audited label by label, and isn't lost.
-    Lost = [Note || Note <- Notes, string:find(Note, "won't take") =:= nomatch,
-                    seqaudit_explain:losses([unicode:characters_to_binary(Note)]) =/= ""],
+    Lost = seqaudit_answer:losses(Period),
     {Verdict, Line} = said(seqaudit_outcome:ask(Streams), Streams, Lost =/= [], Legend),
     Losses = [["; the trace isn't whole (", Period, ".notes)"] || Lost =/= []],
     {ok, Verdict, [Line, Losses, "; ", How], Later}.

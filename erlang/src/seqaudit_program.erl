@@ -65,11 +65,12 @@ find(Name) ->
         [] -> {error, {no_program, Name, Beside}}
     end.
 
-%% @doc The programs that are asked and that `make quick' built, without their proofs.
+%% @doc The programs that are asked and have no proofs: `make quick' built them, or they are the slow
+%% models in Python.
 -spec unproved() -> [file:filename()].
 unproved() ->
     [File || Name <- ["seqaudit", "seqtool"], {ok, File} <- [find(Name)],
-             lists:suffix(["bin", "quick", Name], filename:split(File))].
+             lists:suffix(["bin", "quick", Name], filename:split(File)) orelse filename:extension(File) =:= ".py"].
 
 %% @doc Runs a program with these words on this file: its exit status and what it wrote.
 -spec run(file:filename(), [string()], file:filename()) ->

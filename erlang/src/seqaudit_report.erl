@@ -6,17 +6,16 @@
 %% @doc The outcome of an audit: what is missing, or why the events don't go together, with the parts between resets.
 %% `label' is in it if it is of one label alone.
 -spec audit(map()) -> iolist().
-audit(#{name := Name, cut := Cut, notes := Notes, outcome := Outcome, parts := Parts, legend := Legend} = Audited) ->
-    Losses = [Note || Note <- Notes, seqaudit_explain:losses([Note]) =/= ""],
+audit(#{name := Name, cut := Cut, losses := Losses, outcome := Outcome, parts := Parts, legend := Legend} = Audited) ->
     encode((maps:merge(maps:with([label], Audited), outcome(Outcome, Legend)))#{trace => utf8(Name), losses => Losses,
                                        cut => case Cut of "" -> null; _ -> line(Cut) end,
                                        parts => [outcome(Part, Legend) || {_, Part} <- Parts]}).
 
-outcome(#{said := Said, streams := Streams} = Outcome, Legend) ->
+outcome(#{said := Said, streams := Streams, unlisted := Unlisted} = Outcome, Legend) ->
     Fits = Said =:= fits orelse Said =:= completed,
     Known = #{fits => Fits, said => atom_to_binary(Said), headline => line(seqaudit_explain:headline(Outcome, Legend)),
               events => length([Event || {_, Events} <- Streams, #{at := At} = Event <- Events, is_integer(At)]),
-              processes => length(Streams), renumbered => maps:get(renumbered, Outcome, false)},
+              processes => length(Streams) - length(Unlisted), renumbered => maps:get(renumbered, Outcome, false)},
     case Outcome of
         #{finding := {Reason, Found}} when not Fits ->
             {Meaning, Look} = seqaudit_reasons:explain(Reason),
@@ -30,11 +29,15 @@ outcome(#{said := Said, streams := Streams} = Outcome, Legend) ->
 
 %% What nobody reported, and which messages have no reported receive.
 missing(Streams, Legend) ->
-    #{waiting := Waiting, silent := Silent, jumps := Jumps} = seqaudit_gaps:find(Streams),
+    Rows = seqaudit_causes:rows(Streams),
+    #{waiting := Waiting, unreceived := Unreceived, silent := Silent, jumps := Jumps} = seqaudit_gaps:find(Rows, Streams),
     #{unreported => [#{event => utf8(seqaudit_why:name(Id, Legend)),
                        what => utf8(seqaudit_explain:sentence(Row, Legend))}
-                     || #{id := Id, hidden := Hidden} = Row <- seqaudit_causes:rows(Streams),
-                        Hidden orelse is_added(Id)],
+                     || #{id := Id, hidden := Hidden} = Row <- Rows, Hidden orelse is_added(Id)],
+      unreceived => [#{event => name(Send, Legend), before => name(Id, Legend)}
+                     || {#{id := Id}, #{id := Send}} <- Unreceived],
+      cause_unknown => [name(Id, Legend) || #{hidden := false, id := {_, At} = Id, cause := Cause} <- Rows,
+                                            is_integer(At), seqaudit_explain:is_open(Cause)],
       waiting => [#{event => name(Id, Legend), to => seqaudit_legend:process(To, Legend)}
                   || #{id := Id, event := #{to := To}} <- Waiting],
       silent_stamps => counts(Silent, Legend), jumps => counts(Jumps, Legend)}.

@@ -53,7 +53,7 @@ tables(#{streams := Streams, timed := Times, legend := Legend}) ->
 
 %% A label of a trace with resets has the path of the part in which its last event is.
 paths(Labels, #{timed := Times} = Audited) ->
-    Parts = [seqaudit_causes:rows(Streams) || Streams <- seqaudit_answer:shown(Audited)],
+    Parts = [seqaudit_outcome:rows(Shown) || Shown <- seqaudit_answer:shown(Audited)],
     [{Label, case [Path || Rows <- Parts, Path <- [seqaudit_durations:path(Label, Rows, Times)], Path =/= none] of
                  [] -> none;
                  Paths -> lists:last(Paths)

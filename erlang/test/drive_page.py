@@ -158,7 +158,7 @@ def chain(browser, checks):
     checks.same("causes", browser.texts("#list .row.cause .event"), ["alice#0", "bob#0", "bob#1"])
     checks.same("effects", browser.texts("#list .row.effect .event"), ["carol#1", "bob#2", "bob#3", "alice#1"])
     panel = browser.ask("document.querySelector('#panel').textContent")
-    for part in ("carol#0", "carol receives {take,apple} from bob", "the receive of bob#1", "{1,3}", "{order,7}",
+    for part in ("carol#0", "carol receives {take,apple} from bob", "after bob#1", "{1,3}", "{order,7}",
                  "0.000300 s", "Under way"):
         checks.true(f"the panel has {part}: {panel}", part in panel)
     # Keys: the row below, its cause, its first effect.

@@ -182,7 +182,7 @@ file_modes_test() ->
     8#700 = seqaudit_audits:mode(Folder),
     seqaudit_trace:with_trace(1, [print, timestamp], fun() -> seq_trace:print(x) end),
     {ok, #{files := Files}} = seqaudit_trace:stop(),
-    5 = length(Files),
+    6 = length(Files),
     [8#600 = seqaudit_audits:mode(File) || File <- Files].
 
 %% What can't be understood is said in a sentence, without a stack.

@@ -125,7 +125,7 @@ asked(Name, Program) ->
     {0, Chart} = command(["chart ", Name, " --label '{request, <<\"abc\">>}' --svg ", Name, ".svg"], Program),
     {_, _} = binary:match(Chart, <<"label {request,<<\"abc\">>}\n">>),
     {_, _} = binary:match(Chart, <<"fits: 12 events of 2 processes; nothing was left out\nlabel">>),
-    {_, _} = binary:match(Chart, <<" call 1  start\n">>),
+    {_, _} = binary:match(Chart, <<" call 1  begins here\n">>),
     {ok, <<"<?xml", _/binary>>} = file:read_file(Name ++ ".svg"),
     {1, Other} = command(["chart ", Name, " --label other"], Program),
     {_, _} = binary:match(Other, <<"there is no label other; the trace has #Ref<">>),
@@ -133,6 +133,11 @@ asked(Name, Program) ->
     {_, _} = binary:match(Gone, <<"askedx.terms: no such file or directory; `seqaudit-node convert'">>),
     Unfit = Name ++ "_unfit",
     {0, _} = command(["convert ", capture("exclude_idiom_after_receive"), " -o ", Unfit]),
+    {0, PutBack} = command(["audit ", Unfit], Program),
+    {_, _} = binary:match(PutBack, <<"A token was put back here">>),
+    ok = file:write_file(Unfit ++ ".seqtrace",
+                         ["seqtrace 1\nprocess <0.80.0>\n",
+                          [["{seq_trace,1,{print,{", Serial, "},<0.80.0>,[],0}}\n"] || Serial <- ["0,1", "0,2", "1,3"]]]),
     {1, Why} = command(["audit ", Unfit], Program),
     {_, _} = binary:match(Why, <<"(uncaused)">>),
     {_, _} = binary:match(Why, <<"seqtool would say what the trace lacks, but it isn't there">>).
@@ -210,5 +215,8 @@ command(Words) ->
 
 %% Its status and what it wrote, errors too; `Program' stands for seqaudit.
 command(Words, Program) ->
-    seqaudit_test_shell:run([seqaudit_test_shell:node_command(), $\s, Words],
-                            [{"SEQAUDIT", Program}, {"SEQTOOL", "/no/such/seqtool"}]).
+    {Status, Said} = seqaudit_test_shell:run([seqaudit_test_shell:node_command(), $\s, Words],
+                                             [{"SEQAUDIT", Program}, {"SEQTOOL", "/no/such/seqtool"}]),
+    %% Whatever programs these are.
+    {Status, re:replace(Said, "^seqaudit-node: built without proofs: .*\\n| \\(by programs without proofs\\)", "",
+                        [global, multiline, {return, binary}])}.

@@ -68,7 +68,7 @@ audited(Name, Bundle, Names, Labels, Values, Times) ->
                                                     Labels, Values, #{})),
     {ok, Legend} = seqaudit_legend:read(File),
     {ok, Streams} = seqaudit_bundle:parse(iolist_to_binary(Bundle)),
-    #{name => Name, legend => Legend, times => Times, notes => [], cut => "", parts => [],
+    #{name => Name, legend => Legend, times => Times, losses => [], cut => "", parts => [],
       outcome => #{said => fits, streams => Streams, renumbered => false, tool => there, answer => <<>>}}.
 
 driven(Check, Name, Audited) ->
@@ -156,7 +156,7 @@ long_messages(Name) ->
     8#600 = seqaudit_audits:mode(Bundle ++ ".messages"),
     {ok, Legend} = seqaudit_legend:read(Bundle ++ ".terms"),
     {ok, Streams} = seqaudit_bundle:read(Bundle ++ ".seqtrace"),
-    #{name => Bundle, legend => Legend, times => #{}, notes => [], cut => "", parts => [],
+    #{name => Bundle, legend => Legend, times => #{}, losses => [], cut => "", parts => [],
       outcome => #{said => fits, streams => Streams, renumbered => false, tool => there, answer => <<>>}}.
 
 %% The longest texts are cut to the greatest length at which all fit, and none if they fit.
