@@ -16,7 +16,7 @@
 %% A reason's word, and the events that it is about.
 
 -type outcome() ::
-        #{said := fits | completed | never | open | unexplained | fault,
+        #{said := fits | completed | never | unexplained | fault,
           streams := seqaudit_bundle:streams(),
           renumbered := boolean(),
           tool := there | not_there | {failed, Fault :: binary()},
@@ -35,7 +35,6 @@
 %% <dt>`completed'</dt><dd>a run has them, with unreported events, which are in `streams'; `answer'
 %% is the bundle that shows it, or the list of the events if it has too many acts for one</dd>
 %% <dt>`never'</dt><dd>no run without a reset has them; `finding' says why</dd>
-%% <dt>`open'</dt><dd>it isn't known; `finding' is an event that no choice was found for</dd>
 %% <dt>`unexplained'</dt><dd>`seqaudit' found no run, and there is no `seqtool' to ask</dd>
 %% <dt>`fault'</dt><dd>a program didn't take the bundle</dd>
 %% </dl>
@@ -153,27 +152,33 @@ complete(Ranks, File, Unfit, #{streams := Streams} = Outcome) ->
         unknown ->
             {ok, unfit(Unfit, Outcome#{tool := {failed, <<"it doesn't know `complete'">>}})};
         {ok, {?FITS, AddedText}} ->
-            {ok, {?FITS, AllText}} =
-                seqaudit_program:ask("seqtool", ["complete", "--as", "streams"], File),
-            {ok, All} = seqaudit_bundle:parse(AllText),
-            Completed = seqaudit_bundle:complete(Streams, {All, added(AddedText)}),
-            {ok, Acts} = seqaudit_program:ask("seqtool", ["complete", "--as", "acts"], Ranks),
-            Answer = case Acts of
-                         {?FITS, Shown} -> Shown;
-                         _ -> AddedText
-                     end,
-            Listed = [Pid || {Pid, _} <- Streams],
-            {ok, Outcome#{said => completed, streams := Completed, answer := Answer,
-                          unlisted := [Pid || {Pid, _} <- Completed, not lists:member(Pid, Listed)]}};
+            case seqaudit_program:ask("seqtool", ["complete", "--as", "streams"], File) of
+                {ok, {?FITS, AllText}} ->
+                    completed(AddedText, AllText, Ranks, Outcome);
+                {ok, {_, Fault}} ->
+                    {ok, unfit(Unfit, Outcome#{tool := {failed, line(Fault)}})};
+                {error, Reason} ->
+                    {error, Reason}
+            end;
         {ok, {?UNFIT, <<"never ", _/binary>> = Report}} ->
             {ok, Outcome#{said => never, finding => finding(Report, Streams), answer := Report}};
-        {ok, {?UNFIT, <<"open ", _/binary>> = Report}} ->
-            {ok, Outcome#{said => open, finding => finding(Report, Streams), answer := Report}};
         {error, Reason} ->
             {error, Reason};
         {ok, {_, Fault}} ->
             {ok, unfit(Unfit, Outcome#{tool := {failed, line(Fault)}})}
     end.
+
+completed(AddedText, AllText, Ranks, #{streams := Streams} = Outcome) ->
+    {ok, All} = seqaudit_bundle:parse(AllText),
+    Completed = seqaudit_bundle:complete(Streams, {All, added(AddedText)}),
+    {ok, Acts} = seqaudit_program:ask("seqtool", ["complete", "--as", "acts"], Ranks),
+    Answer = case Acts of
+                 {?FITS, Shown} -> Shown;
+                 _ -> AddedText
+             end,
+    Listed = [Pid || {Pid, _} <- Streams],
+    {ok, Outcome#{said => completed, streams := Completed, answer := Answer,
+                  unlisted := [Pid || {Pid, _} <- Completed, not lists:member(Pid, Listed)]}}.
 
 added(Text) ->
     [begin
@@ -185,10 +190,7 @@ added(Text) ->
 %% the node's own counts.
 finding(Report, Streams) ->
     [First | Lines] = binary:split(Report, <<"\n">>, [global, trim]),
-    Reason = case binary:split(First, <<" ">>, [global]) of
-                 [_, _, _, Word | _] -> Word;
-                 _ -> <<"open">>
-             end,
+    [_, _, _, Reason | _] = binary:split(First, <<" ">>, [global]),
     {Reason, [found(Line, Streams) || <<"event ", _/binary>> = Line <- Lines]}.
 
 found(Line, Streams) ->

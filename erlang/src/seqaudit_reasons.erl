@@ -47,17 +47,8 @@ explain(<<"late">>) ->
      ?COUNTER_WENT_BACK};
 explain(<<"unfounded">>) ->
     {"by its serial the event follows nothing, but the process that sent or printed it had received a message of a "
-     "trace before.",
+     "trace before, or had sent or printed something that follows one.",
      ?PUT_BACK "; files of two runs converted as one; seq_trace:reset_trace/0 before the event."};
-explain(<<"unsent">>) ->
-    {"more events follow messages with this count than there are processes in the trace that can have sent one, as "
-     "each process uses a count once.",
-     "processes that took part and aren't in the trace (they reported nothing, --process or --label cut them, or "
-     "their node was lost); " ?PUT_BACK "; seq_trace:reset_trace/0."};
-explain(<<"open">>) ->
-    {"sends weren't reported, and seqtool found neither places for them at which all events fit nor a "
-     "reason why there are none.",
-     "the send flag: with it on, seqtool always decides. A cut to fewer processes or labels may help too."};
 explain(<<"uncaused">>) ->
     {"the event follows something that its process received and that isn't in the trace. That "
      "needn't be a fault: by itself, seqaudit doesn't look for unreported receives.",

@@ -191,7 +191,7 @@ thinned(Streams) ->
 
 completed(Streams) ->
     {ok, #{said := Said, streams := Shown}} = seqaudit_outcome:ask(Streams),
-    true = Said =:= fits orelse Said =:= completed orelse Said =:= open,
+    true = Said =:= fits orelse Said =:= completed,
     Said =:= completed andalso
         begin
             {ok, {0, <<"added 0\n">>}} = seqaudit_program:with_text(seqaudit_bundle:text(Shown), fun(File) ->

@@ -237,8 +237,7 @@ reasons_test() ->
      || {Said, Begin, Reasons} <- [{never, "doesn't fit: no run reports this trace, because of", [<<"prevnotbefore">>]},
                                    {never, "doesn't fit: no run without a reset reports this trace, because of",
                                     [<<"notrising">>, <<"repeated">>, <<"mismatch">>,
-                                     <<"late">>, <<"unfounded">>, <<"unsent">>]},
-                                   {open, "not known: no run was found", [<<"open">>]},
+                                     <<"late">>, <<"unfounded">>]},
                                    {unexplained, "not explained: no run was found",
                                     [<<"uncaused">>, <<"toowide">>, <<"notreplayed">>]}],
         Reason <- Reasons].
