@@ -69,7 +69,7 @@ damaged_test_() ->
              ok = file:delete(Name ++ Suffix),
              case Suffix of
                  ".times" ->
-                     [{0, <<"fits: ", _/binary>>} = command(["audit ", Name], Program)
+                     [{0, <<"fits", _/binary>>} = command(["audit ", Name], Program)
                       || Program <- seqaudit_audits:model() ++ built()];
                  _ ->
                      {4, Gone} = command(["audit ", Name]),
