@@ -84,9 +84,9 @@ unpaired(Streams) ->
 
 %% What is known at an event of what its process did before: the greatest count, the last receive with its
 %% count and label, the last stamp if no receive came behind it, the tokens that it had, by label and prev, with
-%% their counts and what they came from, and the least count of those with each prev.
+%% their counts and what they came from, the least count of those with each prev, and the receives by label and count.
 keyed({Pid, Events}, Ranks, Sends, Unpaired) ->
-    Start = #{clock => 0, newest => none, row => none, tokens => #{}, prevs => #{}},
+    Start = #{clock => 0, newest => none, row => none, tokens => #{}, prevs => #{}, received => #{}},
     {Rows, _} = lists:mapfoldl(
                   fun({Position, Event}, Known) ->
                           keyed_event(Event, {Pid, Position}, Known, {Ranks, Sends, Unpaired})
@@ -94,7 +94,7 @@ keyed({Pid, Events}, Ranks, Sends, Unpaired) ->
     lists:append(Rows).
 
 keyed_event(#{kind := 'receive', from := From, this := This, label := Label, at := At} = Event,
-            {Pid, Position}, #{clock := Clock} = Known, {Ranks, Sends, _}) ->
+            {Pid, Position}, #{clock := Clock, received := Received} = Known, {Ranks, Sends, _}) ->
     Height = max(Clock, This),
     Id = {Pid, At},
     %% An alias or a name that isn't resolved stands for its receiver.
@@ -105,7 +105,8 @@ keyed_event(#{kind := 'receive', from := From, this := This, label := Label, at 
                (row(Send, Event#{kind := send}, From, unseen))#{hidden := true}}
               || {sent_to, _} <- [Send]],
     {[{{Height, 1, maps:get(Pid, Ranks), Position}, Row} | Hidden],
-     (had_token(Event, Id, Known))#{clock := Height, newest := {This, Label, Id}, row := none}};
+     (had_token(Event, Id, Known))#{clock := Height, newest := {This, Label, Id}, row := none,
+                                    received := Received#{{Label, This} => Id, This => Id}}};
 keyed_event(#{this := This, prev := Prev, label := Label, at := At} = Event, {Pid, Position},
             #{clock := Clock, row := Row} = Known, {Ranks, _, Unpaired}) ->
     Id = {Pid, At},
@@ -178,10 +179,13 @@ without_token(#{prev := Prev, label := Label}, {_, Had, Id}, {Other, Prev, _, _,
     {relabelled, Label, {Id, Had}};
 without_token(#{prev := 0}, none, _Row, _Known) ->
     start;
-without_token(#{prev := Prev, label := Label, this := This}, _Newest, _Row, #{prevs := Prevs}) ->
-    case Prevs of
-        #{Prev := Count} when Count < This -> {relabelled, Label, open};
-        #{} -> open
+without_token(#{prev := Prev, label := Label, this := This}, _Newest, _Row, #{prevs := Prevs, received := Received}) ->
+    %% What a message gave may be put back behind a stamp that wasn't reported.
+    case {Prevs, Received} of
+        {#{Prev := Count}, _} when Count < This -> {relabelled, Label, open};
+        {_, #{{Label, Prev} := Id}} -> {perhaps, Id};
+        {_, #{Prev := _}} -> {relabelled, Label, open};
+        {_, _} -> open
     end.
 
 %% @doc The rows by what they are called.
