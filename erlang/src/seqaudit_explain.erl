@@ -2,7 +2,8 @@
 %% what to look at.
 -module(seqaudit_explain).
 
--export([count/2, number/1, headline/2, outcome/3, parts/3, whole/2, sentence/2, sentence/4, reset_places/2, losses/1, is_open/1]).
+-export([count/2, number/1, headline/2, outcome/3, parts/3, whole/2, sentence/2, sentence/4, reset_places/2, losses/1,
+         is_open/1]).
 
 -import(seqaudit_legend, [process/2, label/2]).
 
@@ -23,9 +24,6 @@ headline(#{said := never, finding := {Reason, Found}}, Legend) ->
                 true -> " without a reset";
                 false -> ""
             end, about(", because of ", Found, Legend), Reason]);
-headline(#{said := open, finding := {_, Found}}, Legend) ->
-    format("not known: no run was found that reports this trace, and no reason why there is none~ts~n",
-           [about("; the search ended at ", Found, Legend)]);
 headline(#{said := unexplained, finding := {Reason, Found}}, Legend) ->
     format("not explained: no run was found that reports this trace~ts (~ts)~n",
            [about("; the search ended at ", Found, Legend), Reason]);
@@ -91,9 +89,12 @@ is_open(_) -> false.
 
 %% What is known to be gone, by a cut or from the collectors' facts, was left out though no event tells of it. So was a
 %% receive that nobody reported, or it is still to come.
-left_out(#{events := [], kinds := Kinds, leaps := 0, waiting := [], open := []} = Missing, Outcome) ->
+left_out(#{events := [], kinds := Kinds, leaps := 0, behind := Behind, waiting := [], open := []} = Missing, Outcome) ->
     case {Outcome, [Kind || {Count, _} = Kind <- Kinds, Count > 0]} of
         {#{streams := []}, _} -> "";
+        {#{}, []} when Behind =/= [] ->
+            ["; ", count(length(Behind), "process"), " may have sent or printed something unreported before the first "
+             "send or print here"];
         {#{cut := Cut, lost := Lost}, []} when Cut; Lost -> "; nothing is missing between them";
         {#{}, []} -> "; nothing was left out";
         _ -> what_is_left_out(Missing, Outcome)

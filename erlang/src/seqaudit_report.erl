@@ -30,7 +30,8 @@ outcome(#{said := Said, streams := Streams, unlisted := Unlisted} = Outcome, Leg
 %% What nobody reported, and which messages have no reported receive.
 missing(Streams, Legend) ->
     Rows = seqaudit_causes:rows(Streams),
-    #{waiting := Waiting, unreceived := Unreceived, silent := Silent, jumps := Jumps} = seqaudit_gaps:find(Rows, Streams),
+    #{waiting := Waiting, unreceived := Unreceived, silent := Silent, jumps := Jumps, behind := Behind} =
+        seqaudit_gaps:find(Rows, Streams),
     #{unreported => [#{event => utf8(seqaudit_why:name(Id, Legend)),
                        what => utf8(seqaudit_explain:sentence(Row, Legend))}
                      || #{id := Id, hidden := Hidden} = Row <- Rows, Hidden orelse is_added(Id)],
@@ -40,7 +41,8 @@ missing(Streams, Legend) ->
                                             is_integer(At), seqaudit_explain:is_open(Cause)],
       waiting => [#{event => name(Id, Legend), to => seqaudit_legend:process(To, Legend)}
                   || #{id := Id, event := #{to := To}} <- Waiting],
-      silent_stamps => counts(Silent, Legend), jumps => counts(Jumps, Legend)}.
+      silent_stamps => counts(Silent, Legend), jumps => counts(Jumps, Legend),
+      counter_before => counts(Behind, Legend)}.
 
 is_added({_, {_, _}}) -> true;
 is_added(_) -> false.
