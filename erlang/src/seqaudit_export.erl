@@ -140,12 +140,13 @@ span(#{id := Id, cause := Cause, event := #{label := Label}} = Row, Index, Recei
             below(parent(Cause, Index), Label, Index, Legend, Start, Known)
     end.
 
-%% A parent has the same trace; a cause with another label is linked.
+%% A parent has the same trace. What perhaps caused a span, and what its process had received last where it began
+%% another label, is linked.
 below(none, _Label, _Index, _Legend, _Start, Span) ->
     Span;
-below(Parent, Label, Index, Legend, Start, Span) ->
+below({How, Parent}, Label, Index, Legend, Start, Span) ->
     case Index of
-        #{Parent := #{event := #{label := Label}}} -> Span#{parentSpanId => span_id(Parent, Start)};
+        #{Parent := #{event := #{label := Label}}} when How =:= caused -> Span#{parentSpanId => span_id(Parent, Start)};
         #{Parent := #{event := #{label := Other}}} ->
             Span#{links => [#{traceId => trace_id(Other, Legend, Start), spanId => span_id(Parent, Start)}]};
         #{} -> Span
@@ -155,13 +156,17 @@ id(none) -> none;
 id(#{id := Id}) -> Id.
 
 %% The send of the message that caused this one.
-parent({unreported, Send}, _Index) -> Send;
-parent({_, Receive}, Index) ->
-    case Index of
-        #{Receive := #{cause := {sent, Send}}} -> Send;
-        #{} -> none
-    end;
+parent({unreported, Send}, _Index) -> {linked, Send};
+parent({perhaps, Receive}, Index) -> sent(linked, Receive, Index);
+parent({_, Receive}, Index) -> sent(caused, Receive, Index);
+parent({relabelled, _, {Receive, _}}, Index) -> sent(linked, Receive, Index);
 parent(_, _Index) -> none.
+
+sent(How, Receive, Index) ->
+    case Index of
+        #{Receive := #{cause := {sent, Send}}} -> {How, Send};
+        #{} -> none
+    end.
 
 span_name(#{event := #{kind := print, from := From}} = Row, Legend) ->
     [seqaudit_legend:process(From, Legend), " prints ", kind(Row, Legend)];
@@ -175,7 +180,8 @@ attributes(#{event := #{from := From, to := To}} = Row, Receive, Legend) ->
     [attribute("erlang.from", seqaudit_legend:process(From, Legend))]
         ++ [attribute("erlang.to", seqaudit_legend:process(To, Legend)) || To =/= none]
         ++ [attribute("erlang.message", value(Row, Legend)), attribute("erlang.label", label(Row, Legend)),
-            attribute("seqaudit.event", utf8(name(Row, Legend)))]
+            attribute("seqaudit.event", utf8(name(Row, Legend))),
+            attribute("seqaudit.cause", utf8(seqaudit_why:cause(maps:get(cause, Row), Legend)))]
         ++ [attribute("seqaudit.send_reported", is_reported(Row)) || To =/= none]
         ++ [attribute("seqaudit.receive_reported", Receive =/= none andalso is_reported(Receive)) || To =/= none].
 

@@ -112,7 +112,11 @@ since(#{after_cause := unknown}) -> "?";
 since(#{after_cause := Time}) -> seqaudit_times:span(Time).
 
 does(#{row := #{id := Id, event := Event} = Row, is := Is}, Legend) ->
-    [case Is of under_way -> "under way to "; waited -> "until "; first -> "from " end,
+    [case Row of
+         #{cause := {How, _}} when Is =/= first, How =:= perhaps orelse How =:= unreported -> "perhaps ";
+         #{} -> ""
+     end,
+     case Is of under_way -> "under way to "; waited -> "until "; first -> "from " end,
      seqaudit_why:name(Id, Legend), ": ",
      seqaudit_terms:short(unicode:characters_to_list(sentence(Row, Event, Legend)), ?CHARACTERS)].
 
