@@ -58,7 +58,7 @@ mix(Mix, Program, Folder) ->
     nomatch = binary:match(Built, <<"warning">>),
     {0, Chart} = Run("seqaudit chart traced --label '{Shop,7}'"),
     {_, _} = binary:match(Chart, <<"lane 2 Shop\n">>),
-    {_, _} = binary:match(Chart, <<" call %Shop.Order{item: \"apple\",n: 3}  start\n">>),
+    {_, _} = binary:match(Chart, <<" call %Shop.Order{item: \"apple\",n: 3}  begins here\n">>),
     {_, _} = binary:match(Chart, <<" reply {:ok,3,\"sold\",nil}  after Shop#0\n">>),
     {0, Why} = Run("seqaudit why traced --event Shop#1"),
     {_, _} = binary:match(Why, <<"Shop#1: Shop sends reply {:ok,3,\"sold\",nil} to ">>),
