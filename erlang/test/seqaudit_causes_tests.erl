@@ -109,7 +109,10 @@ put_back_test() ->
         causes([{'receive', 7, 2, 3}, {print, 7, 3, 4}, {'receive', 8, 5, 9}, {print, 7, 3, 5}]),
     %% With one label and one prev it isn't certain which.
     [{restored, {P, 0}}, {perhaps, {P, 1}}] =
-        causes([{'receive', 7, 0, 3}, {'receive', 7, 0, 9}, {print, 7, 0, 4}, {print, 7, 0, 10}]).
+        causes([{'receive', 7, 0, 3}, {'receive', 7, 0, 9}, {print, 7, 0, 4}, {print, 7, 0, 10}]),
+    %% Perhaps a token was put back behind a send that wasn't reported; it may have got another label too.
+    [{perhaps, {P, 0}}] = causes([{'receive', 7, 2, 8}, {'receive', 7, 9, 10}, {print, 7, 8, 11}]),
+    [{relabelled, <<"6">>, open}] = causes([{'receive', 7, 2, 8}, {'receive', 7, 9, 10}, {print, 6, 8, 11}]).
 
 %% Where all is reported, the parts begin exactly where the reset stood, for each process for which
 %% an event tells; and what isn't told by any is never cut off a message that it belongs to.

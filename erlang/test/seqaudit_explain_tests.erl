@@ -107,6 +107,12 @@ fits_test() ->
         said(outcome(fits, streams("seqtrace 1\nprocess <0.30.0>\n"
                                    "{seq_trace,17,{send,{0,1},<0.30.0>,<0.31.0>,7}}\nprocess <0.31.0>\n"
                                    "{seq_trace,17,{'receive',{0,1},<0.30.0>,<0.31.0>,7}}\n"))),
+    %% Nor is it said if a counter stood higher than what was received.
+    Higher = streams("seqtrace 1\nprocess <0.30.0>\n{seq_trace,17,{'receive',{0,1},<0.31.0>,<0.30.0>,7}}\n"
+                     "{seq_trace,17,{print,{1,3},<0.30.0>,[],7}}\nprocess <0.31.0>\n"
+                     "{seq_trace,17,{send,{0,1},<0.31.0>,<0.30.0>,7}}\n"),
+    has(said(outcome(fits, Higher)), ["fits: 3 events of 2 processes; 1 process may have sent or printed something unreported "
+                                      "before the first send or print here\n", "the counter of alice stood at 2.\n"]),
     %% Nothing says so of a trace that was cut, or of which something was lost, or that has no events.
     Print = streams("seqtrace 1\nprocess <0.30.0>\n{seq_trace,17,{print,{0,1},<0.30.0>,[],7}}\n"),
     [<<"fits: 1 event of 1 process; nothing is missing between them\n">> =
