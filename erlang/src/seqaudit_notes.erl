@@ -82,7 +82,7 @@ facts(#{collections := Collections, counts := Counts, listed := Listed, labels :
 of_kind(Kind, Sentences) -> [{Kind, Sentence} || Sentence <- Sentences].
 
 %% @doc The text of `NAME.facts'.
--spec facts_text([fact()]) -> iodata().
+-spec facts_text([fact()]) -> iolist().
 facts_text(Facts) ->
     [?HEADER, $\n,
      [[atom_to_binary(Kind), $\t, unicode:characters_to_binary(Sentence), $\n] || {Kind, Sentence} <- Facts]].
