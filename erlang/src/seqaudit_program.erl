@@ -68,11 +68,16 @@ find(Name) ->
         [] -> {error, {no_program, Name, Beside}}
     end.
 
-%% @doc The programs that are asked and aren't proved, with what they are instead.
+%% @doc The programs that are asked and aren't proved, with what they are instead: plain Rust, what
+%% `make quick' built, or the slow models in Python.
 -spec unproved() -> [{string(), file:filename()}].
 unproved() ->
-    [{What, File} || Name <- ["seqaudit", "seqtool"], {ok, File} <- [find(Name)], {Folder, What} <- ?UNPROVED,
-                     lists:suffix(["bin", Folder, Name], filename:split(File))].
+    [{What, File} || Name <- ["seqaudit", "seqtool"], {ok, File} <- [find(Name)], What <- unproved_as(Name, File)].
+
+unproved_as(Name, File) ->
+    InFolder = [What || {Folder, What} <- ?UNPROVED, lists:suffix(["bin", Folder, Name], filename:split(File))],
+    IsModel = filename:extension(File) =:= ".py",
+    InFolder ++ ["a slow model in Python" || IsModel].
 
 %% @doc Runs a program with these words on this file: its exit status and what it wrote.
 -spec run(file:filename(), [string()], file:filename()) ->
