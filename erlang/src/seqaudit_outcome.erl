@@ -96,7 +96,7 @@ ask_as_it_is(Streams) ->
 
 ask(Streams, Text, File) ->
     Outcome = #{streams => Streams, renumbered => false, tool => not_there, answer => <<>>, exchanged => none,
-                unlisted => [], unproved => seqaudit_program:unproved() =/= []},
+                unlisted => [], unproved => seqaudit_program:lacks_proofs()},
     case seqaudit_program:ask_if_known("seqtool", ["renumber"], File) of
         unknown ->
             audit(File, File, Outcome#{tool := there});

@@ -1,7 +1,7 @@
 %% @doc Runs the programs `seqaudit' and `seqtool'.
 -module(seqaudit_program).
 
--export([ask/2, ask/3, ask_if_known/3, find/0, find/1, unproved/0, run/3, with_text/2, format_error/1]).
+-export([ask/2, ask/3, ask_if_known/3, find/0, find/1, unproved/0, lacks_proofs/0, run/3, with_text/2, format_error/1]).
 
 -import(seqaudit_errors, [text/2]).
 
@@ -68,16 +68,19 @@ find(Name) ->
         [] -> {error, {no_program, Name, Beside}}
     end.
 
-%% @doc The programs that are asked and aren't proved, with what they are instead: plain Rust, what
-%% `make quick' built, or the slow models in Python.
+%% @doc The programs that are asked and aren't proved, with what they are instead.
 -spec unproved() -> [{string(), file:filename()}].
 unproved() ->
-    [{What, File} || Name <- ["seqaudit", "seqtool"], {ok, File} <- [find(Name)], What <- unproved_as(Name, File)].
+    [{What, File} || {Name, File} <- asked(), {Folder, What} <- ?UNPROVED,
+                     lists:suffix(["bin", Folder, Name], filename:split(File))].
 
-unproved_as(Name, File) ->
-    InFolder = [What || {Folder, What} <- ?UNPROVED, lists:suffix(["bin", Folder, Name], filename:split(File))],
-    IsModel = filename:extension(File) =:= ".py",
-    InFolder ++ ["a slow model in Python" || IsModel].
+%% @doc Whether a program that is asked isn't proved: one of these, or a slow model in Python.
+-spec lacks_proofs() -> boolean().
+lacks_proofs() ->
+    unproved() =/= [] orelse lists:any(fun({_, File}) -> filename:extension(File) =:= ".py" end, asked()).
+
+asked() ->
+    [{Name, File} || Name <- ["seqaudit", "seqtool"], {ok, File} <- [find(Name)]].
 
 %% @doc Runs a program with these words on this file: its exit status and what it wrote.
 -spec run(file:filename(), [string()], file:filename()) ->
