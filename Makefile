@@ -9,55 +9,68 @@ FILE ?= examples/collected.txt
 
 # What a program is made of, and what of it runs.
 SOURCES := crates.txt $(shell find crates -path '*/out' -prune -o -type f -print)
-CODE := crates.txt $(filter %.rt,$(SOURCES))
+CODE := crates.txt .ci/quick .ci/quick-clang $(filter %.rt,$(SOURCES))
 
-.PHONY: help quick try program demo install test wrong-bodies layout layers docs test-program test-erlang test-conformance bench hostile clean distclean
+.PHONY: help quick try program demo install uninstall test wrong-bodies layout layers docs test-program test-erlang test-conformance test-rust rust dist bench hostile clean distclean
 .DELETE_ON_ERROR:
 
 help:
 	@awk -F ':.*## ' '/^[a-z-]+:.*## / { printf "make %-18s%s\n", $$1, $$2 }' $(MAKEFILE_LIST)
 
-quick: $(PROGRAMS:%=bin/quick/%) ## builds both programs without proofs, slow ones for small traces, in bin/quick/ (1 to 2 minutes)
+# A build takes one processor, and up to 2 GB.
+QUICK_AT_ONCE = $(shell awk '/^MemAvailable/ { print ($$2 < 5000000 ? 1 : 2) }' /proc/meminfo)
+
+quick: ## builds both programs without their proofs, in bin/quick/ (2 to 3 minutes)
+	@$(MAKE) --no-print-directory -j$(QUICK_AT_ONCE) $(PROGRAMS:%=bin/quick/%)
 
 bin/quick/%: $(CODE)
-	@echo "$* is built without its proofs, in about a minute." >&2
+	@echo "$* is built without its proofs, in 2 to 3 minutes." >&2
 	@.ci/quick $* $@
 
 # What isn't the program's output goes to standard error. If the program fails, make says `Error` and the program's exit
 # status, and ends with 2 itself, as it always does; the command that is printed ends with the program's.
-try: bin/quick/seqaudit ## runs the unproved seqaudit: COMMAND=.. FILE=.. (at once; 1 minute the first time)
+try: bin/quick/seqaudit ## runs the unproved seqaudit: COMMAND=.. FILE=.. (at once; 2 minutes the first time)
 	@echo 'bin/quick/seqaudit $(COMMAND) < $(FILE)' >&2
 	@echo 'An unproved run: "make program" proves seqaudit.' >&2
 	@bin/quick/seqaudit $(COMMAND) < $(FILE)
 
-program: ## proves both programs and all below them, and builds them in bin/ (30 to 40 minutes; after an edit less)
+program: ## proves both programs and all below them, and builds them in bin/ (up to 50 minutes; after an edit less)
 	@.ci/prove $(PROGRAMS)
-	@$(MAKE) --no-print-directory $(PROGRAMS:%=bin/%)
 
 bin/%: $(SOURCES)
 	@.ci/prove $*
-	cd crates/$* && rt run -- $$(cat args) < stdin
-	@mkdir -p bin
-	cp crates/$*/out/$* $@
 
 demo: bin/seqaudit bin/seqtool ## runs the proved programs on examples/ and compares what they write (seconds, after program)
 	@examples/demo bin/seqaudit
 	@examples/demo-seqtool bin/seqtool
 
-SHARE = $(DESTDIR)$(PREFIX)/share
+# The sources without their contracts, as cargo builds them: rust/README.md.
+rust: ## writes both programs as plain Rust, not proved, and builds them in bin/rust/ (1 to 2 minutes; needs cargo and Python)
+	@rust/build bin/rust
+
+dist: ## packs the same with docs, man pages and erlang/ as bin/gemshowal-VERSION.tar.gz (at once)
+	@rust/dist
+
+BIN = $(DESTDIR)$(PREFIX)/bin
+MAN = $(DESTDIR)$(PREFIX)/share/man/man1
+BASH_COMPLETIONS = $(DESTDIR)$(PREFIX)/share/bash-completion/completions
+ZSH_COMPLETIONS = $(DESTDIR)$(PREFIX)/share/zsh/site-functions
 
 install: $(PROGRAMS:%=bin/%) ## copies the proved programs, man pages and completions to PREFIX (at once, after program)
-	install -D -t $(DESTDIR)$(PREFIX)/bin $^
-	install -D -m 644 -t $(SHARE)/man/man1 man/seqaudit.1 man/seqtool.1
-	install -D -m 644 completions/seqtool.bash $(SHARE)/bash-completion/completions/seqtool
-	install -D -m 644 completions/seqtool.bash $(SHARE)/bash-completion/completions/seqaudit
-	install -D -m 644 -t $(SHARE)/zsh/site-functions completions/_seqtool
+	install -D -t $(BIN) $^
+	install -D -m 644 -t $(MAN) $(PROGRAMS:%=man/%.1)
+	for program in $(PROGRAMS); do install -D -m 644 completions/seqtool.bash $(BASH_COMPLETIONS)/$$program || exit; done
+	install -D -m 644 -t $(ZSH_COMPLETIONS) completions/_seqtool
+
+uninstall: ## removes from PREFIX what install copied there (at once)
+	rm -f $(PROGRAMS:%=$(BIN)/%) $(PROGRAMS:%=$(MAN)/%.1) $(PROGRAMS:%=$(BASH_COMPLETIONS)/%) $(ZSH_COMPLETIONS)/_seqtool
 
 test: layout layers docs ## the merge gate: all proofs from nothing, the wrong bodies of must-fail/, the tests (more than an hour on four processors)
 	rt ci
 	@$(MAKE) --no-print-directory test-program
 	@$(MAKE) --no-print-directory test-erlang
 	@$(MAKE) --no-print-directory test-conformance
+	@$(MAKE) --no-print-directory test-rust
 
 # The gate tries the wrong bodies that tell most, since each takes a check of its own.
 wrong-bodies: ## tries all wrong bodies, many in one check (an hour or more, after program)
@@ -80,11 +93,11 @@ BUILT_TOOL = $(firstword $(wildcard $(CURDIR)/crates/seqtool/out/seqtool $(CURDI
 
 # What no proof sees: the built programs on examples/, their statuses and words, random traces beside a slow model, a
 # million acts and events, and faults. Python's seeds are fixed.
-test-program: ## the programs that were built last: examples/, random traces, a million acts, faults (2 minutes)
+test-program: ## the programs that were built last: examples/, random traces, a million acts, faults (3 minutes)
 	@.ci/program $(BUILT)
 	@examples/demo-seqtool $(BUILT_TOOL)
-	@if command -v python3 >/dev/null; then .ci/seqtool $(BUILT_TOOL) && bench/hostile $(BUILT); \
-	else echo "There is no python3 here: seqtool's words and the faults are skipped."; fi
+	@if command -v python3 >/dev/null; then .ci/seqtool $(BUILT_TOOL) && bench/completions/small.py $(BUILT_TOOL) 2000 && bench/hostile --tool $(BUILT_TOOL) $(BUILT); \
+	else echo "There is no python3 here: seqtool's words, its small streams and the faults are skipped."; fi
 
 # Traces of a real Erlang node, if there is one, by the program that was built last.
 test-erlang: ## the tests of erlang/, with the programs that were built last (3 to 5 minutes; needs erl; some need runtime_tools)
@@ -97,10 +110,15 @@ test-conformance: ## compares 200 random scripts with a real node (1 minute; nee
 	SEQAUDIT=$(BUILT) $(MAKE) --no-print-directory -C erlang conformance conformance-broken RUNS=200; \
 	else echo "There is no erl or no python3 here: the comparison with a real node is skipped."; fi
 
+# What `make rust` builds, beside the programs that were built last.
+test-rust: ## plain Rust: its own tests, and each output beside the programs' (3 to 4 minutes; needs cargo and Python)
+	@if command -v python3 >/dev/null; then rust/test $(BUILT) $(BUILT_TOOL); \
+	else echo "There is no python3 here: the plain Rust is skipped."; fi
+
 bench: bin/seqaudit ## times the commands on bundles of 600,000 events, beside plain Rust (5 minutes, after program; needs rustc)
 	bench/run
 
-hostile: bin/seqaudit ## faults, tampered text and inputs at the limits, docs/HOSTILE.md (1 minute, after program)
+hostile: bin/seqaudit bin/seqtool ## faults, tampered text and inputs at the limits, docs/HOSTILE.md (2 minutes, after program)
 	bench/hostile
 
 clean: ## removes what was built; keeps the proofs

@@ -1,9 +1,10 @@
 #!/usr/bin/env python3
-"""Times the commands of two programs on the bundles that bench/run made: measure.py PROGRAM PLAIN ROUNDS.
+"""Times the commands of programs on the bundles that bench/run made: measure.py ROUNDS PROGRAM PLAIN [SAME_SOURCE].
 
 The programs run in turn. Each cell is the program's median in seconds, the plain one's, the first as a part of the
-second, and the peaks of memory of both in megabytes. What both write must be the same, but for `drive`, whose run is the
-scheduler's choice; that output is only written."""
+second, and the peaks of memory of both in megabytes; then the median and the peak of the program's own source in plain
+Rust (rust/README.md), if there is one. What all write must be the same, but for `drive`, whose run is the scheduler's
+choice; that output is only written."""
 
 import filecmp
 import statistics
@@ -41,18 +42,25 @@ def commonest_label(path):
 
 
 def compare(programs, words, source, rounds):
-    """The medians and the greatest peaks of both programs."""
+    """The medians and the greatest peaks of the programs."""
     runs = {program: [] for program in programs}
     for _ in range(rounds):
         for place, program in enumerate(programs):
             runs[program].append(measured([program, *words], source, f"bin/bench/{place}.written"))
-    if words != ["drive"] and not filecmp.cmp("bin/bench/0.written", "bin/bench/1.written", shallow=False):
+    others = range(1, len(programs)) if words != ["drive"] else ()
+    if not all(filecmp.cmp("bin/bench/0.written", f"bin/bench/{place}.written", shallow=False) for place in others):
         sys.exit(f"{' '.join(words)} < {source}: the programs write different texts")
     return [(statistics.median(seconds for seconds, _ in done), max(peak for _, peak in done)) for done in runs.values()]
 
 
+def cell(ours, plain, *same_source):
+    """What a cell says of the medians and peaks."""
+    said = f"{ours[0]:.2f} / {plain[0]:.2f} s = {ours[0] / plain[0]:.2f}, {ours[1]} / {plain[1]} MB"
+    return said + "".join(f"; {seconds:.2f} s, {peak} MB" for seconds, peak in same_source)
+
+
 def main():
-    program, plain, rounds = sys.argv[1:]
+    rounds, *programs = sys.argv[1:]
     print(f"| {int(rounds)} rounds | " + " | ".join(COMMANDS) + " |")
     print("|---|" + "---|" * len(COMMANDS))
     for name, title in BUNDLES.items():
@@ -60,8 +68,7 @@ def main():
         for command, kind in COMMANDS.items():
             source = f"bin/bench/{name}.{kind}"
             label = ["--label", commonest_label(source)] if command == "chart" else []
-            (ours, peak), (theirs, least) = compare([program, plain], [command, *label], source, int(rounds))
-            cells.append(f"{ours:.2f} / {theirs:.2f} s = {ours / theirs:.2f}, {peak} / {least} MB")
+            cells.append(cell(*compare(programs, [command, *label], source, int(rounds))))
         print(f"| {title} | " + " | ".join(cells) + " |", flush=True)
 
 

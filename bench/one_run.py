@@ -5,16 +5,25 @@ of its own, this file as a script, and what that takes is told from what the pro
 
     one_run.py SECONDS INPUT OUTPUT PROGRAM WORD ..     prints the status, the seconds, those of the processor, the bytes
 
-The program has no environment, and writes errors into the output too. After so many seconds it is killed. The script
-imports little, so that it stays small."""
+The program has no environment, and writes errors into the output too. After so many seconds of the processor it is killed,
+and so it is if it hangs. The script imports little, so that it stays small."""
 
 import _thread
 import os
+import resource
 import sys
 import time
 
 # How often the memory of a program is looked up that doesn't take more than the starter.
 LOOK_SECONDS = 0.002
+# Bounds are of processor time, which a busy machine changes little. The clock runs on until a program may be taken to hang.
+CLOCK_FOR_PROCESSOR = 30
+
+
+def limit_processor(process, seconds):
+    """The system kills the process once it has used the processor for so long."""
+    whole = -int(-seconds // 1)
+    resource.prlimit(process, resource.RLIMIT_CPU, (whole, whole))
 
 
 def peak_of(process):
@@ -27,7 +36,7 @@ def peak_of(process):
 
 
 def watch(child, until, ended, seen):
-    """Looks up the peak as long as the child runs, and kills it when its time is over."""
+    """Looks up the peak as long as the child runs, and kills it when it hangs."""
     while not ended:
         seen[0] = max(seen[0], peak_of(child))
         if time.monotonic() > until and not ended:
@@ -44,8 +53,9 @@ def start(seconds, given, written, words):
     ended = []
     begin = time.perf_counter()
     child = os.posix_spawn(words[0], words, {}, file_actions=streams)
+    limit_processor(child, seconds)
     seen = [peak_of(child)]
-    _thread.start_new_thread(watch, (child, time.monotonic() + seconds, ended, seen))
+    _thread.start_new_thread(watch, (child, time.monotonic() + CLOCK_FOR_PROCESSOR * seconds, ended, seen))
     _, status, used = os.wait4(child, 0)
     taken = time.perf_counter() - begin
     ended.append(True)

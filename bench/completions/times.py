@@ -2,8 +2,9 @@
 """Times `seqtool complete` on a million events that a trace of one sort has, and says how many bytes an event it takes:
 bench/completions/times.py SEQAUDIT SEQTOOL [EVENTS [ROUNDS]].
 
-Each row is compared with `seqaudit audit` of a full trace with as many events and processes, whose medians the first
-rows give: the two programs run in turn, and the last columns are the medians' ratio and the peak of memory."""
+Each row is compared with `seqaudit audit` of a full trace with as many events and processes: the two programs run in
+turn, and the columns have the medians of processor time, their ratio and the peak of memory. The exit status is 1 if a
+row is above a bound or says something else than it should."""
 
 import statistics
 import sys
@@ -15,19 +16,10 @@ sys.dont_write_bytecode = True
 sys.path.insert(0, str(Path(__file__).resolve().parent.parent))
 
 from one_run import run_once  # noqa: E402
-from traces import needs, prints, receives, ring, sends, stretch, written  # noqa: E402
+from traces import SORTS, ring, written  # noqa: E402
 
-SORTS = (
-    ("receives alone, one process", receives, 1),
-    ("receives alone, 1,000 processes", receives, 1000),
-    ("sends alone, one process", sends, 1),
-    ("sends alone, 1,000 processes", sends, 1000),
-    ("prints alone, one process", prints, 1),
-    ("prints alone, 1,000 processes", prints, 1000),
-    ("prints whose causes aren't reported, one process", needs, 1),
-    ("prints whose causes aren't reported, 1,000 processes", needs, 1000),
-    ("one stretch of receives and of hidden sends", stretch, 2),
-)
+MOST_RATIO = 1.5
+MOST_BYTES = 300  # An event.
 
 
 def first_line(path):
@@ -49,20 +41,22 @@ def compare(programs, sources, room, rounds):
 
 
 def main(seqaudit, seqtool, events="1000000", rounds="3"):
-    count, begin = int(events), time.monotonic()
+    count, begin, failed = int(events), time.monotonic(), 0
     print("| Trace | events | complete | audit of a full trace | ratio | bytes an event | it writes |")
     print("|---|---|---|---|---|---|---|")
     with tempfile.TemporaryDirectory() as room:
-        for title, sort, processes in SORTS:
-            real = written(sort(processes, count), f"{room}/sort")
+        for title, sort, word, processes in SORTS:
+            real = written(sort(count), f"{room}/sort")
             written(ring(max(processes, 2), count), f"{room}/full")
             programs = [[seqaudit, "audit"], [seqtool, "complete"]]
-            medians, peak, said = compare(programs, [f"{room}/full", f"{room}/sort"], room, int(rounds))
-            of_audit, of_complete = medians
-            print(f"| {title} | {real:,} | {of_complete:.2f} s | {of_audit:.2f} s | {of_complete / of_audit:.2f} | "
+            (of_audit, of_complete), peak, said = compare(programs, [f"{room}/full", f"{room}/sort"], room, int(rounds))
+            ratio = of_complete / of_audit
+            failed += ratio > MOST_RATIO or peak > MOST_BYTES * real or not said.startswith(f"{word} ")
+            print(f"| {title} | {real:,} | {of_complete:.2f} s | {of_audit:.2f} s | {ratio:.2f} | "
                   f"{peak // real} | `{said}` |", flush=True)
-    print(f"{time.monotonic() - begin:.0f} seconds in all", file=sys.stderr)
+    print(f"{failed} above a bound or wrong, {time.monotonic() - begin:.0f} seconds in all", file=sys.stderr)
+    return 1 if failed else 0
 
 
 if __name__ == "__main__":
-    main(*sys.argv[1:])
+    sys.exit(main(*sys.argv[1:]))

@@ -1,6 +1,7 @@
 """The traces that the measurements of `seqtool complete` take: of each process the lines of its events."""
 
 import random
+from functools import partial
 
 FIRST = 30  # The number of the first process.
 
@@ -35,10 +36,12 @@ class Run:
         self.queues = [[] for _ in self.clocks]
         self.streams = [[] for _ in self.clocks]
         self.seed = random.Random(2026)
+        self.told = 0
 
     def tell(self, kind, me, serial, sender, receiver, value):
         if kind in self.reported:
             self.streams[me].append(event(kind, serial, sender, receiver, value))
+            self.told += 1
 
     def stamp(self, me):
         self.clocks[me] += 1
@@ -61,15 +64,24 @@ class Run:
     def go(self, acts):
         """Acts of all kinds, by processes at random; the streams."""
         for _ in range(acts):
-            me = self.seed.randrange(len(self.clocks))
-            kind = self.seed.randrange(8)
-            if kind == 7:
-                self.print(me)
-            elif kind < 4 and self.queues[me]:
-                self.receive(me)
-            else:
-                self.send(me, self.seed.randrange(len(self.clocks)))
+            self.act()
         return self.streams
+
+    def go_until(self, events):
+        """The same, until so many events are reported."""
+        while self.told < events:
+            self.act()
+        return self.streams
+
+    def act(self):
+        me = self.seed.randrange(len(self.clocks))
+        kind = self.seed.randrange(8)
+        if kind == 7:
+            self.print(me)
+        elif kind < 4 and self.queues[me]:
+            self.receive(me)
+        else:
+            self.send(me, self.seed.randrange(len(self.clocks)))
 
 
 def ring(processes, events):
@@ -82,21 +94,9 @@ def ring(processes, events):
     return streams
 
 
-def receives(processes, events):
-    """Each process receives from the next one what no process is reported to have sent."""
-    return [[event("'receive'", (0, n + 1), (me + 1) % processes, me, n) for n in range(events // processes)]
-            for me in range(processes)]
-
-
-def sends(processes, events):
-    """Each process sends to the next one, and no receive is reported."""
-    return [[event("send", (0, n + 1), me, (me + 1) % processes, n) for n in range(events // processes)]
-            for me in range(processes)]
-
-
-def prints(processes, events):
-    """Each process prints, and no more is reported."""
-    return [[event("print", (0, n + 1), me, None, n) for n in range(events // processes)] for me in range(processes)]
+def run_of(reported, processes, events):
+    """Of a run of such processes these kinds of events are reported."""
+    return Run(processes, reported).go_until(events)
 
 
 def needs(processes, events):
@@ -105,7 +105,42 @@ def needs(processes, events):
             for me in range(processes)]
 
 
-def stretch(_, events):
-    """Half as many receives as events stand before one print, and their sends are hidden in the same stretch."""
+def asked(times, events):
+    """One process prints after messages that nobody reports, of which there are so many of each count."""
+    of_two = 2 * times
+    return [[event("print", (2 * (n // of_two) + 1 + n % 2 if n else 0, events + n), 0, None, n) for n in range(events)]]
+
+
+def stretch(events):
+    """Two processes receive from each other half of the events each. No send is reported, nor anything else, so that each
+    has all of its receives and hidden sends in one stretch."""
     return [[event("'receive'", (n, n + 1), 1, 0, n) for n in range(events // 2)],
             [event("'receive'", (0, n + 1), 0, 1, n) for n in range(events // 2)]]
+
+
+def damaged(prev, events):
+    """The same with another prev at the event in the middle of the first process."""
+    streams = stretch(events)
+    middle = events // 4
+    streams[0][middle] = event("'receive'", (prev(middle), middle + 1), 1, 0, middle)
+    return streams
+
+
+NO_SENDS, NO_RECEIVES, PRINTS = ("'receive'", "print"), ("send", "print"), ("print",)
+PROCESSES = 1024  # As many as `seqaudit` reads.
+
+# Each sort of trace with what `complete` says of it, and the processes of the full trace that `audit` has beside it.
+SORTS = (
+    ("no sends, 1 process", partial(run_of, NO_SENDS, 1), "added", 1),
+    ("no sends, 1,024 processes", partial(run_of, NO_SENDS, PROCESSES), "added", PROCESSES),
+    ("no receives, 1 process", partial(run_of, NO_RECEIVES, 1), "added", 1),
+    ("no receives, 1,024 processes", partial(run_of, NO_RECEIVES, PROCESSES), "added", PROCESSES),
+    ("prints alone, 1 process", partial(run_of, PRINTS, 1), "added", 1),
+    ("prints alone, 1,024 processes", partial(run_of, PRINTS, PROCESSES), "added", PROCESSES),
+    ("each print after an unreported receive, 1 process", partial(needs, 1), "added", 1),
+    ("each print after an unreported receive, 1,024 processes", partial(needs, PROCESSES), "added", PROCESSES),
+    ("one stretch, half receives and half hidden sends", stretch, "added", 2),
+    ("the same, one prev lowered by 3", partial(damaged, lambda prev: prev - 3), "added", 2),
+    ("the same, one prev 0", partial(damaged, lambda prev: 0), "never", 2),
+    ("each count asked for nine times", partial(asked, 9), "added", 1),
+)

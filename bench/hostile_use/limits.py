@@ -114,10 +114,10 @@ def measured(program, cases, seconds):
         if not program.knows(words):
             yield Check(f"limits: {name}: {' '.join(words)} isn't there", skipped=True)
             continue
-        got, taken, megabytes = program.measure(words, [text], seconds)
+        got, taken, _, megabytes = program.measure(words, [text], seconds)
         note = f"{' '.join(words)}, {len(text) / 1e6:.1f} MB in, {len(got.output) / 1e6:.1f} MB out: " \
                f"{taken:.2f} s, peak {megabytes} MB"
         if got.status == -9:
-            yield Check(f"limits: {name}", f"no output in {seconds} s", note)
+            yield Check(f"limits: {name}", f"no output in {seconds} s of the processor", note)
         else:
             yield expect(f"limits: {name}", wanted, got, text, note)

@@ -7,7 +7,7 @@ from .program import FAULT_MEMORY, Answer, Check, expect
 FAULT_THREAD = Answer(4, b"fault thread\n")
 SCRIPTS = 4  # Of `FOUR_SCRIPTS`, each of which has a thread.
 LONG_SCRIPT = 100_000  # So many receives that walk a queue as long take a minute (docs/HOSTILE.md).
-STOPPED_WITHIN = 10  # Seconds, of which reading the script takes less than one.
+STOPPED_WITHIN = 10  # Seconds of the processor, of which reading the script takes less than one.
 MOST_REQUESTS = 10_000  # Far more than the short inputs need: a program that never ends is noticed.
 
 
@@ -56,7 +56,7 @@ def others_are_stopped(program, library):
     acts = b"send <0.0.0> <0.0.0> 1\n" * LONG_SCRIPT + b"receive <0.0.0> value 2\n" * LONG_SCRIPT
     text = b"seqtrace 1\nprocess <0.0.0>\nprocess <0.1.0>\nacts\n" + acts
     got, came = shim.run(program, library, ("drive",), text, seconds=STOPPED_WITHIN, refuse_thread=2)
-    yield Check(f"memory: a script of a minute beside a thread that is refused ends within {STOPPED_WITHIN} s",
+    yield Check(f"memory: a script of a minute beside a thread that is refused ends within {STOPPED_WITHIN} s of the processor",
                 None if came and got == FAULT_THREAD else f"expected {FAULT_THREAD}\ngot {got}")
 
 

@@ -1,11 +1,12 @@
 """The built program, one run of it, and one check of what a run gave."""
 
 import os
+import signal
 import subprocess
 import tempfile
 from dataclasses import dataclass
 
-from one_run import run_once
+from one_run import CLOCK_FOR_PROCESSOR, limit_processor, run_once
 
 USAGE = b"usage: seqaudit check|audit|replay|drive|chart --label N\n"
 COMMANDS = (("check",), ("audit",), ("replay",), ("drive",), ("chart", "--label", "17"))
@@ -56,24 +57,30 @@ class Program:
     path: str
 
     def run(self, words, given=b"", *, stdin=None, stdout=subprocess.PIPE, before=(), env=None, seconds=30):
-        """Runs it on the given bytes, or on the file `stdin`; `before` are the words of a command that executes it."""
-        how = {"stdin": stdin} if stdin is not None else {"input": given}
-        try:
-            ended = subprocess.run([*before, self.path, *words], stdout=stdout, stderr=subprocess.PIPE,
-                                   env=env or {}, timeout=seconds, **how)
-        except subprocess.TimeoutExpired:
-            return Answer(-9, b"", f"ended after {seconds} s without an answer".encode())
-        return Answer(ended.returncode, ended.stdout or b"", ended.stderr)
+        """Runs it on the given bytes, or on the file `stdin`, for so many seconds of the processor at most; `before` are the
+        words of a command that executes it."""
+        given = given if stdin is None else None
+        with subprocess.Popen([*before, self.path, *words], stdin=subprocess.PIPE if stdin is None else stdin,
+                              stdout=stdout, stderr=subprocess.PIPE, env=env or {}) as ran:
+            limit_processor(ran.pid, seconds)
+            try:
+                output, complaint = ran.communicate(given, CLOCK_FOR_PROCESSOR * seconds)
+            except subprocess.TimeoutExpired:
+                ran.kill()
+        if ran.returncode == -signal.SIGKILL:
+            return Answer(-9, b"", f"killed: no answer in {seconds} s of the processor, or it hung".encode())
+        return Answer(ran.returncode, output or b"", complaint)
 
     def knows(self, words):
         return self.run(words) != Answer(3, USAGE)
 
     def measure(self, words, pieces, seconds):
-        """Runs it on the bytes of these pieces, from disk to disk: the output, the seconds, the peak in megabytes."""
+        """Runs it on the bytes of these pieces, from disk to disk, for so many seconds of the processor at most: the
+        output, the seconds that it took, those of the processor, the peak in megabytes."""
         with tempfile.TemporaryDirectory() as folder:
             given, written = os.path.join(folder, "given"), os.path.join(folder, "written")
             with open(given, "wb") as file:
                 file.writelines(pieces)
-            status, taken, _, peak = run_once([self.path, *words], given, written, seconds)
+            status, taken, processor, peak = run_once([self.path, *words], given, written, seconds)
             with open(written, "rb") as file:
-                return Answer(status, file.read()), taken, peak >> 20
+                return Answer(status, file.read()), taken, processor, peak >> 20

@@ -5,7 +5,8 @@ its mailbox is full."""
 from .program import Answer, Check
 
 SMALL, GREAT = 10_000, 1_000_000
-# The seconds that so many messages may take: a message is found in time that grows as the logarithm of its queue's length.
+# The seconds of the processor that so many messages may take: a message is found in time that grows as the logarithm of its
+# queue's length.
 BOUND = {SMALL: 1, GREAT: 10}
 # The most memory that a command takes for a message, in bytes, and `drive` for one that nobody takes: it keeps the queue
 # beside the log of both acts. Beside that a program takes some megabytes for any input.
@@ -15,7 +16,7 @@ LEAST_MEGABYTES = 20
 # A server with so many waiting messages makes so many calls, and takes the messages after that.
 WAITING, CALLS, BACKLOG_BOUND = 199_000, 149_000, 8
 
-# Acts on a node with as many processes as the reader takes, and the seconds that they may take.
+# Acts on a node with as many processes as the reader takes, and the seconds of the processor that they may take.
 PROCESSES, ACTS_ON_NODE, NODE_BOUND = 1_024, 3_200_000, 3
 
 
@@ -59,17 +60,17 @@ WANTS = {
 
 def timed(program, name, words, pieces, is_right, bound, count, bytes_each=BYTES):
     """The check of one input with so many messages: what the program writes, in time and memory."""
-    got, taken, megabytes = program.measure(words, pieces, 6 * bound)
+    got, taken, processor, megabytes = program.measure(words, pieces, 6 * bound)
     most = LEAST_MEGABYTES + bytes_each * count // 1_000_000
     if got.status == -9:
-        return Check(name, f"no output in {6 * bound} s")
+        return Check(name, f"no output in {6 * bound} s of the processor")
     if not is_right(got):
         return Check(name, f"a wrong output: {got}")
-    if taken >= bound:
-        return Check(name, f"{taken:.2f} s, and less than {bound} s is promised")
+    if processor >= bound:
+        return Check(name, f"{processor:.2f} s of the processor, and less than {bound} s is promised")
     if megabytes >= most:
         return Check(name, f"a peak of {megabytes} MB, and less than {most} MB is promised")
-    return Check(name, note=f"{taken:.2f} s, peak {megabytes} MB")
+    return Check(name, note=f"{taken:.2f} s, {processor:.2f} s of the processor, peak {megabytes} MB")
 
 
 def waited(program, command, kind, count):

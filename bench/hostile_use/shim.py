@@ -22,8 +22,8 @@ def build(folder):
 
 
 def run(program, library, words, given, seconds=30, **faults):
-    """The output under these faults within so many seconds, and whether one came; what the library says of it isn't
-    part of the output."""
+    """The output under these faults within so many seconds of the processor, and whether one came; what the library says of
+    it isn't part of the output."""
     env = {"LD_PRELOAD": library} | {name.upper(): str(value) for name, value in faults.items()}
     got = program.run(words, given, env=env, seconds=seconds)
     came = got.complaint.startswith(SAID)

@@ -35,6 +35,7 @@ here() ->
      {"alias", fun alias_is_named/0},
      {"name-here", fun name_here_is_its_process/0},
      {"port", fun port_has_no_token/0},
+     {"socket", fun socket_has_no_token/0},
      {"timer", fun timers_leave_the_token/0},
      {"monitor", fun monitors_leave_the_token/0},
      {"exit", fun exit_takes_the_token/0},
@@ -46,7 +47,12 @@ here() ->
 
 there() ->
     [{"name-there", fun name_there_is_named/1},
-     {"spawn-there", fun spawn_there_is_two_sends/1}].
+     {"spawn-there", fun spawn_there_is_two_sends/1},
+     {"monitor-there", fun monitors_there_may_take_the_token/1},
+     {"erpc-there", fun erpc_may_take_the_token/1},
+     {"rpc-there", fun only_the_first_rpc_is_traced/1},
+     {"exit-there", fun linked_end_there_gives_its_token/1},
+     {"fun-there", fun fun_arrives_as_it_was/1}].
 
 %% The count after the greatest one is the least negative one.
 counts_wrap() ->
@@ -97,6 +103,30 @@ port_has_no_token() ->
                   end),
     [{send, {0, 1}, P, Port, {P, {command, "text"}}}] = Events,
     true = is_port(Port).
+
+%% What a socket receives has no token, is no event, and leaves the receiver's.
+socket_has_no_token() ->
+    {_, {{7, 1, _, _, _} = Token, Token}, []} =
+        traced(0, fun() ->
+                      _ = seq_trace:set_token([]),
+                      Sender = connected(),
+                      new_token(?LABEL),
+                      Before = seq_trace:get_token(),
+                      erlang:send_after(1, Sender, send),
+                      receive {tcp, _, "text"} -> {Before, seq_trace:get_token()} end
+                  end).
+
+%% A process that writes to a socket of this process when it is told.
+connected() ->
+    {ok, Listener} = gen_tcp:listen(0, [{ip, {127, 0, 0, 1}}, {active, true}]),
+    {ok, Port} = inet:port(Listener),
+    Sender = spawn(fun() ->
+                       {ok, Socket} = gen_tcp:connect({127, 0, 0, 1}, Port, []),
+                       receive send -> ok = gen_tcp:send(Socket, "text") end,
+                       receive after infinity -> ok end
+                   end),
+    {ok, _} = gen_tcp:accept(Listener),
+    Sender.
 
 %% A timer's message has no token, is no event, and leaves the receiver's.
 timers_leave_the_token() ->
@@ -161,6 +191,59 @@ spawn_there_is_two_sends(There) ->
     [{send, {0, 1}, P, There, Request}, {send, {0, 2}, P, There, []},
      {'receive', {1, 2}, Child, P, Answer}, {print, {2, 3}, P, [], parent}] = Events,
     {spawn_request, spawn_reply} = {element(1, Request), element(1, Answer)}.
+
+%% A monitor's message from another node takes the token away up to OTP 25, and leaves it from OTP 27 on. (OTP 26 wasn't
+%% measured.)
+monitors_there_may_take_the_token(There) ->
+    Other = spawn(There, erlang, self, []),
+    by_release(fun() -> erlang:monitor(process, Other), receive {'DOWN', _, _, Other, _} -> ok end end).
+
+%% The answer of erpc is such a message.
+erpc_may_take_the_token(There) ->
+    by_release(fun() -> There = erpc:call(There, erlang, node, []) end).
+
+by_release(Fun) ->
+    {_, {Before, After}, _} = traced(0, fun() -> Before = seq_trace:get_token(), Fun(), {Before, seq_trace:get_token()} end),
+    {7, 1, _, _, _} = Before,
+    case release() of
+        Early when Early =< 25 -> [] = After;
+        Late when Late >= 27 -> {7, 1, _, _, _} = After;
+        _ -> not_measured
+    end.
+
+release() -> list_to_integer(erlang:system_info(otp_release)).
+
+%% So of several calls by rpc or erpc only the first one is traced up to OTP 25.
+only_the_first_rpc_is_traced(There) ->
+    {P, _, Events} = traced(2, fun() -> [There = rpc:call(There, erlang, node, []) || _ <- [1, 2]] end),
+    Requests = [Request || {send, _, From, To, Request} <- Events, From =:= P, To =:= There, is_tuple(Request)],
+    case {release(), length(Requests)} of
+        {Early, Count} when Early =< 25 -> 1 = Count;
+        {Late, Count} when Late >= 27 -> 2 = Count;
+        _ -> not_measured
+    end.
+
+%% A linked process of another node that ends with a token gives it with its EXIT message, which is a receive here.
+linked_end_there_gives_its_token(There) ->
+    {P, {Child, {7, 1, _, Child, _}}, Events} =
+        traced(0, fun() ->
+                      process_flag(trap_exit, true),
+                      Child = spawn_link(There, erlang, exit, [reason]),
+                      receive {'EXIT', Child, reason} -> {Child, seq_trace:get_token()} end
+                  end),
+    [_] = [received || {'receive', _, From, To, {'EXIT', Left, reason}} <- Events, From =:= Child, To =:= P, Left =:= Child].
+
+%% A fun that goes to another node and back is the same term, whatever its bytes are on the way.
+fun_arrives_as_it_was(There) ->
+    X = make_ref(),
+    Fun = fun() -> X end,
+    Fun = erpc:call(There, erlang, hd, [[Fun]]),
+    Same = term_to_binary(Fun) =:= erpc:call(There, erlang, term_to_binary, [Fun]),
+    case release() of
+        Early when Early =< 25 -> true = Same;
+        Late when Late >= 27 -> false = Same;
+        _ -> not_measured
+    end.
 
 %% Stamps go on as they were, and nobody is told; who asks is told that there is no tracer.
 dead_tracer_is_silent() ->

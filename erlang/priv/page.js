@@ -9,8 +9,12 @@
   const byId = id => document.getElementById(id);
 
   // What is drawn. Each colour has a shape or a dash of its own beside it.
-  const INK = { message: "#333333", cause: "#0072b2", effect: "#d55e00", unreported: "#7a3e9d",
-                dim: "#c8c8c8", life: "#b5b5b5", reset: "#aa0000" };
+  const LIGHT = { message: "#333333", cause: "#0072b2", effect: "#d55e00", unreported: "#7a3e9d", dim: "#c8c8c8",
+                  life: "#b5b5b5", reset: "#aa0000", paper: "#ffffff", odd: "#f7f7f7", text: "#111111", faint: "#767676" };
+  const DARK = { message: "#d0d0d0", cause: "#56b4e9", effect: "#f5955a", unreported: "#c79be8", dim: "#4a4a4a",
+                 life: "#5c5c5c", reset: "#ff7b72", paper: "#16181b", odd: "#1c1f23", text: "#e8e8e8", faint: "#8a8a8a" };
+  const darkness = matchMedia("(prefers-color-scheme: dark)");
+  let INK = darkness.matches ? DARK : LIGHT;
   // A message is put into the panel in pieces, of which a browser lays out those in sight, and so many in a frame.
   const PIECE = 16384, PIECES = 4;
   const LIST = 330, ABOVE = 10, MOST_ARROWS = 3000, MOST_LISTED = 500;
@@ -40,6 +44,13 @@
   const brief = row => rows.term[row] < 0 ? "(an unknown message)" : visible(terms[rows.term[row]][0]);
   const isPlain = row => rows.plain[row] === "1";
   const seconds = nanos => (nanos / 1e9).toFixed(6) + " s";
+  // By the clock of the node, in UTC. It is known in microseconds; a date has milliseconds alone.
+  const clock = nanos => {
+    const micros = data.begin + Math.floor(nanos / 1000), rest = ((micros % 1000) + 1000) % 1000;
+    return new Date((micros - rest) / 1000).toISOString().replace("Z", String(rest).padStart(3, "0") + "Z");
+  };
+  const span = nanos => nanos < 1e4 ? nanos + " ns" : nanos < 1e7 ? Math.floor(nanos / 1e3) + " us"
+    : nanos < 1e10 ? Math.floor(nanos / 1e6) + " ms" : Math.floor(nanos / 1e9) + " s";
   const number = many => many.toLocaleString("en");
   const counted = (many, one, several = one + "s") => number(many) + " " + (many === 1 ? one : several);
 
@@ -68,15 +79,27 @@
     return self + " " + VERBS[rows.kind[row]] + " " + brief(row) + link;
   };
 
+  // In the words of charts, drawings and `why'.
   const causeText = row => {
-    const before = rows.cause[row] >= 0 ? eventName(rows.cause[row]) : "";
-    return { s: "the receive of " + before, r: "after " + before,
-             w: "after " + before + ", a spawn's answer, at which OTP moves the counter on",
-             u: "after " + before + ", whose receive nobody reported", b: "the trace begins here",
-             o: "the trace begins here, or the cause wasn't reported", m: "the cause wasn't reported",
-             h: "nobody reported it, so its cause isn't known" }[rows.how[row]]
-      + (isPlain(row) || rows.kind[row] === "h" ? "" : " (unreported: nobody reported this event)");
+    const cause = rows.cause[row], before = cause >= 0 ? eventName(cause) : "", had = rows.had[row];
+    const after = cause >= 0 && !isPlain(cause) ? "perhaps after " + before + ", which wasn't reported" : "after " + before;
+    return { s: cause >= 0 && rows.kind[cause] === "h" ? "its send wasn't reported"
+                : "after " + before + (cause >= 0 && !isPlain(cause) ? ", which wasn't reported" : ""),
+             r: after, w: "after " + before + ", a spawn's answer",
+             t: "after " + before + ", whose token was put back",
+             v: "perhaps after " + before + ", whose token was put back",
+             u: "perhaps after " + before + ", whose receive wasn't reported",
+             l: "begins label " + visible(labels[rows.label[row]]) + " here, or set it on its token"
+                + (had === undefined ? "" : "; it had last received " + eventName(had) + " of label " + visible(labels[rows.label[had]])),
+             x: "begins label " + visible(labels[rows.label[row]]) + " here, or set it on a token that was put back, or follows a "
+                + "message whose receive wasn't reported",
+             b: "begins here", o: "begins here, or follows a message whose receive wasn't reported",
+             h: "it wasn't reported, so its cause isn't known" }[rows.how[row]]
+      + (isPlain(row) || rows.kind[row] === "h" ? "" : " (this event wasn't reported)");
   };
+
+  // Whether what is said of the cause isn't certain.
+  const isDoubtful = row => "ouvx".includes(rows.how[row]) || rows.how[row] === "r" && !isPlain(rows.cause[row]);
 
   // Which rows and lanes are shown, and where.
 
@@ -218,7 +241,7 @@
   }
 
   function drawGround(pen, first, last, inSight, width, height) {
-    pen.fillStyle = "#f7f7f7";
+    pen.fillStyle = INK.odd;
     for (let at = first; at <= last; at++)
       if (at % 2 === 1) pen.fillRect(listWidth(), y(at) - rowHeight / 2, width, rowHeight);
     pen.strokeStyle = INK.life;
@@ -247,7 +270,7 @@
     const [first, last] = sight();
     for (const row of [chosen, ...causes, ...effects]) {
       const before = rows.cause[row];
-      if (!"rw".includes(rows.how[row]) || before < 0 || place[row] < 0 || place[before] < 0
+      if (!"rwtv".includes(rows.how[row]) || before < 0 || place[row] < 0 || place[before] < 0
           || !isLit(before) || place[row] < first || place[before] > last) continue;
       stroke(pen, effects.has(row) ? INK.effect : INK.cause, 4, []);
       pen.beginPath();
@@ -333,22 +356,22 @@
       pen.moveTo(cx, cy - size); pen.lineTo(cx + size, cy); pen.lineTo(cx, cy + size); pen.lineTo(cx - size, cy);
       pen.closePath();
     } else pen.arc(cx, cy, size, 0, 2 * Math.PI);
-    pen.fillStyle = rows.kind[row] === "r" || rows.kind[row] === "p" ? ink(row) : "#ffffff";
-    if (!isPlain(row)) pen.fillStyle = "#ffffff";
+    pen.fillStyle = rows.kind[row] === "r" || rows.kind[row] === "p" ? ink(row) : INK.paper;
+    if (!isPlain(row)) pen.fillStyle = INK.paper;
     pen.fill();
     pen.stroke();
     pen.setLineDash([]);
-    if (row === chosen) { pen.strokeStyle = "#111"; pen.lineWidth = 2; pen.strokeRect(cx - 9, cy - 9, 18, 18); }
+    if (row === chosen) { pen.strokeStyle = INK.text; pen.lineWidth = 2; pen.strokeRect(cx - 9, cy - 9, 18, 18); }
     // Right above the mark neither a term nor a tip stands.
-    if ("omu".includes(rows.how[row])) writeOver(pen, "?", cx, cy - size - 3, "center", INK.unreported);
+    if (isDoubtful(row)) writeOver(pen, "?", cx, cy - size - 3, "center", INK.unreported);
     if (rowHeight >= 14 && laneWidth >= 60 && rows.kind[row] !== "r") drawTerm(pen, row, cx, isReset(at) ? cy - 1 : cy - 5);
   }
 
-  // Text on a white edge, so that lines under it don't cross it.
+  // Text on an edge of the ground's colour, so that lines under it don't cross it.
   function writeOver(pen, text, textX, textY, align, colour) {
     pen.textAlign = align;
     pen.lineWidth = 3;
-    pen.strokeStyle = "#ffffff";
+    pen.strokeStyle = INK.paper;
     pen.strokeText(text, textX, textY);
     pen.fillStyle = colour;
     pen.fillText(text, textX, textY);
@@ -361,7 +384,7 @@
     const most = Math.max(8, Math.floor(laneWidth / 6.2)), text = brief(row);
     const cut = text.length > most ? text.slice(0, most - 1) + "\u2026" : text;
     writeOver(pen, cut, cx + (leftwards ? -9 : 9), base, leftwards ? "right" : "left",
-              chosen >= 0 && !isLit(row) ? "#767676" : "#111111");
+              chosen >= 0 && !isLit(row) ? INK.faint : INK.text);
   }
 
   function element(tag, attributes, ...children) {
@@ -479,6 +502,7 @@
     fact("Serial", "{" + rows.serial[row] + "}");
     if (rows.time !== null && rows.time[row] !== null) {
       fact("Time", seconds(rows.time[row]));
+      if (data.begin !== null) fact("Clock", clock(rows.time[row]));
       if (before >= 0 && rows.time[before] !== null)
         fact(rows.how[row] === "s" ? "Under way" : "Since its cause", seconds(rows.time[row] - rows.time[before]));
     }
@@ -560,7 +584,7 @@
     const button = byId(name + "-button"), section = byId(name);
     button.addEventListener("click", () => {
       const open = section.hidden;
-      for (const other of ["labels", "lanes", "help"]) {
+      for (const other of ["labels", "lanes", "times", "help"]) {
         byId(other).hidden = true;
         byId(other + "-button").setAttribute("aria-expanded", "false");
       }
@@ -641,6 +665,15 @@
     section.querySelector("ul").before(element("button", { type: "button", id: "by-first",
       onclick: () => { orderByFirst(); fillLanes(section); } }, "Order by first event"));
   });
+  // How long messages took; what a table leaves out is counted below it.
+  byId("times-button").hidden = data.durations.length === 0;
+  drawer("times", section => section.replaceChildren(...data.durations.flatMap(table => [
+    element("h2", {}, table.title),
+    element("table", {},
+      element("tr", {}, ...["", "count", "median", "99 %", "greatest"].map(title => element("th", { scope: "col" }, title))),
+      ...table.entries.map(([of, many, ...times]) => element("tr", {}, element("td", {}, visible(of)), element("td", {}, number(many)),
+                                                             ...times.map(time => element("td", {}, span(time)))))),
+    ...(table.more > 0 ? [element("p", {}, "and " + number(table.more) + " more")] : [])])));
   drawer("help", section => section.replaceChildren(
     element("h2", {}, "Legend"),
     element("ul", {}, ...[
@@ -648,7 +681,9 @@
       "arrow: a message, from its send to its receive; time runs downwards",
       "a line that ends in a bar: a message whose receive isn't in the trace",
       "dashed: unreported; it happened, but nobody reported it",
-      "?: what the event follows may be unreported",
+      "?: what the event follows may be something else, or may not have been reported",
+      "a cause holds if each receive of a token was reported, and if no process took its token off and set one of the same "
+        + "label again, but where it's said",
       "\u25cf the chosen event; \u2191 its causes, blue; \u2193 its effects, orange",
       "double line: a reset, or another run, begins below it",
       "arrow keys, Page Up and Down, Home, End: go to another event",
@@ -728,6 +763,8 @@
     chainOnly = !chainOnly;
     byId("chain").setAttribute("aria-pressed", String(chainOnly));
     layOut();
+    // Its lanes stand side by side, and fill the window.
+    refitLanes(true);
     if (chosen >= 0) reveal(chosen);
   });
   byId("view").addEventListener("scroll", redraw, { passive: true });
@@ -735,6 +772,7 @@
     if (event.ctrlKey) { event.preventDefault(); zoom(event.deltaY < 0 ? 1.1 : 1 / 1.1); }
   }, { passive: false });
   document.addEventListener("keydown", onKey);
+  darkness.addEventListener("change", () => { INK = darkness.matches ? DARK : LIGHT; redraw(); });
   window.addEventListener("resize", () => { refitLanes(true); redraw(); });
 
   byId("title").textContent = visible(data.title);

@@ -2,6 +2,8 @@
 -module(seqaudit_answer).
 
 -export([audit/1, chart/1, why/1]).
+%% What other commands on a trace need too.
+-export([with_trace/3, with_outcome/2, wish/2, losses/1, shown/1, doubt/2, keep/3]).
 
 %% Exit statuses, as those of `seqaudit'.
 -define(FITS, 0).
@@ -16,13 +18,14 @@
 -type status() :: ?FITS..?INPUT | ?SYSTEM.
 -type result() :: status() | {status() | ?USAGE, Complaint :: unicode:chardata()} | {usage, string()}.
 
-%% What `audit', `chart' and `why' have of a trace, once it is cut as was asked.
+%% @doc What the commands have of a trace, once it is cut as was asked.
+-spec with_trace(file:filename(), map(), fun((map()) -> result())) -> result().
 with_trace(Name, Wish, Do) ->
     with_file(seqaudit_legend:read(Name ++ ".terms"), fun seqaudit_legend:format_error/1, fun(Legend) ->
         with_file(seqaudit_bundle:read(Name ++ ".seqtrace"), fun seqaudit_bundle:format_error/1, fun(Streams) ->
             with_file(times(Name), fun seqaudit_times:format_error/1, fun(Times) ->
                 with_cut(#{name => Name, legend => Legend, times => maps:get(events, Times), timed => Times,
-                           notes => notes(Name), whole => Streams}, Wish, Do)
+                           losses => losses(Name), whole => Streams}, Wish, Do)
             end)
         end)
     end).
@@ -37,10 +40,14 @@ with_cut(#{whole := Streams, legend := Legend, times := Times} = Trace, Wish, Do
         {error, Reason} -> {?UNFIT, seqaudit_cut:format_error(Reason)}
     end.
 
-notes(Name) ->
-    case file:read_file(Name ++ ".notes") of
-        {ok, Text} -> binary:split(Text, <<"\n">>, [global, trim]);
-        {error, _} -> []
+%% @doc What the facts say is gone. Whoever has notes and no facts converted the trace before there were any.
+-spec losses(file:filename()) -> [binary()].
+losses(Name) ->
+    case {file:read_file(Name ++ ".facts"), filelib:is_regular(Name ++ ".notes")} of
+        {{ok, Text}, _} -> seqaudit_notes:losses(Text);
+        {{error, _}, true} -> [<<"an older version converted this trace, and NAME.notes says what it lacks; convert it "
+                                 "again">>];
+        {{error, _}, false} -> []
     end.
 
 %% A trace without timestamps has no such file.
@@ -50,7 +57,8 @@ times(Name) ->
         Read -> Read
     end.
 
-%% What the options cut the trace to.
+%% @doc What the options cut the trace to.
+-spec wish(options(), [labels | processes | from | to]) -> map().
 wish(Options, Cuts) ->
     maps:from_list([{Cut, Words} || {Option, Cut, Which} <- [{"--label", labels, all},
                                                              {"--process", processes, all},
@@ -62,12 +70,13 @@ wish(Options, Cuts) ->
                                                  last -> [hd(Given)]
                                              end]).
 
-%% The outcome of the audit, and of each part between resets if there are any.
+%% @doc The outcome of the audit, and of each part between resets if there are any.
+-spec with_outcome(map(), fun((map()) -> result())) -> result().
 with_outcome(#{streams := Streams} = Trace, Do) ->
     case ask(Streams, Trace) of
         {ok, Outcome} ->
             case parts(Outcome, Streams) of
-                [_] -> Do(Trace#{outcome => Outcome, parts => []});
+                [_] -> Do(named([Outcome], Trace#{outcome => Outcome, parts => []}));
                 Parts -> with_parts(Parts, [], Trace#{outcome => Outcome}, Do)
             end;
         {error, Reason} ->
@@ -84,17 +93,22 @@ parts(_, Streams) ->
     [Streams].
 
 with_parts([], Outcomes, Trace, Do) ->
-    Do(Trace#{parts => lists:reverse(Outcomes)});
+    Do(named([Outcome || {_, Outcome} <- Outcomes], Trace#{parts => lists:reverse(Outcomes)}));
 with_parts([Part | Parts], Outcomes, Trace, Do) ->
     case ask(Part, Trace) of
         {ok, Outcome} -> with_parts(Parts, [{Part, Outcome} | Outcomes], Trace, Do);
         {error, Reason} -> {?SYSTEM, seqaudit_program:format_error(Reason)}
     end.
 
-%% The outcome, which knows whether the trace was cut and whether the collectors lost anything.
-ask(Streams, #{cut := Note, notes := Notes}) ->
+%% Processes that the trace doesn't list have names too.
+named(Outcomes, #{legend := Legend} = Trace) ->
+    Unlisted = lists:usort(lists:append([maps:get(unlisted, Outcome) || Outcome <- Outcomes])),
+    Trace#{legend := seqaudit_legend:unlisted(Unlisted, Legend)}.
+
+%% The outcome, which knows whether the trace was cut and whether anything was lost.
+ask(Streams, #{cut := Note, losses := Losses}) ->
     case seqaudit_outcome:ask(Streams) of
-        {ok, Outcome} -> {ok, Outcome#{cut => Note =/= "", lost => seqaudit_explain:losses(Notes) =/= ""}};
+        {ok, Outcome} -> {ok, Outcome#{cut => Note =/= "", lost => Losses =/= []}};
         {error, Reason} -> {error, Reason}
     end.
 
@@ -107,16 +121,15 @@ audit(#{"" := [Name]} = Options) ->
 audit(_) ->
     {usage, "audit needs the NAME of one trace"}.
 
-audit(#{name := Name, legend := Legend, notes := Notes, cut := Cut, outcome := Outcome,
-        parts := Parts, streams := Streams, timed := Times}, Options) ->
+audit(#{name := Name, legend := Legend, losses := Losses, cut := Cut, outcome := Outcome,
+        parts := Parts, streams := Streams, timed := Times} = Audited, Options) ->
     #{said := Said, answer := Answer} = Outcome,
-    io:put_chars([Cut, seqaudit_explain:outcome(Outcome, Notes, Legend),
-                  seqaudit_times:summary(Streams, Times),
-                  audited_parts(Parts, Options, Legend),
-                  case Options of
-                      #{"--whole" := _} -> seqaudit_explain:whole(Outcome, Legend);
-                      #{} -> ""
-                  end]),
+    io:put_chars(case Options of
+                     #{"--json" := _} -> seqaudit_report:audit(Audited);
+                     #{} -> [Cut, seqaudit_explain:outcome(Outcome, Losses, Legend),
+                             seqaudit_times:summary(Streams, Times), audited_parts(Parts, Options, Legend),
+                             [seqaudit_explain:whole(Outcome, Legend) || is_map_key("--whole", Options)]]
+                 end),
     ok = seqaudit_convert:remove_answers(Name),
     Kept = [{Name ++ ".answer", Answer}
             | [{seqaudit_convert:part_answer(Name, Which), PartAnswer}
@@ -151,15 +164,20 @@ chart(#{"" := [Name], "--label" := [Label | _]} = Options) ->
             {error, Reason} -> {?UNFIT, seqaudit_legend:format_error(Reason)}
         end
     end);
-chart(#{"" := [Name], "--html" := _} = Options) ->
-    with_trace(Name, wish(Options, [processes, from, to]), fun(Trace) ->
-        with_outcome(Trace, fun(Audited) ->
-            io:put_chars(charted(Audited)),
-            page(Audited, Options, <<"">>, ?FITS)
-        end)
-    end);
+chart(#{"" := [Name]} = Options) ->
+    Drawn = ["--html" | [Option || {Option, _} <- seqaudit_export:formats()]],
+    case [Option || Option <- Drawn, is_map_key(Option, Options)] of
+        [] -> chart(#{});
+        _ ->
+            with_trace(Name, wish(Options, [processes, from, to]), fun(Trace) ->
+                with_outcome(Trace, fun(Audited) ->
+                    io:put_chars(charted(Audited)),
+                    files(Audited, Options, <<"">>, ?FITS)
+                end)
+            end)
+    end;
 chart(_) ->
-    {usage, "chart needs the NAME of one trace, and --label or --html"}.
+    {usage, "chart needs the NAME of one trace, and --label, --html, --mermaid, --perfetto or --otlp"}.
 
 %% A trace that the programs don't take as a whole may be taken when it is cut to the label.
 chart_label(Number, Label, #{streams := Streams, legend := Legend, times := Times} = Trace, Options) ->
@@ -177,36 +195,38 @@ chart_label(Number, Label, #{streams := Streams, legend := Legend, times := Time
             charts(Number, Audited, Options)
     end).
 
-charts(Number, #{parts := Parts, outcome := #{streams := Streams}} = Audited, Options) ->
+charts(Number, #{parts := Parts, outcome := Outcome} = Audited, Options) ->
     io:put_chars(charted(Audited)),
     Drawn = case Parts of
-                [] -> [{"", Streams, ""}];
-                _ -> [{integer_to_list(Which), maps:get(streams, Outcome), part_title(Which, Parts)}
-                      || {Which, {_, Outcome}} <- lists:enumerate(Parts)]
+                [] -> [{"", Outcome, ""}];
+                _ -> [{integer_to_list(Which), Part, part_title(Which, Parts)}
+                      || {Which, {_, Part}} <- lists:enumerate(Parts)]
             end,
-    Statuses = [chart_streams(Number, Which, Part, Title, Audited, Options)
+    Statuses = [chart_outcome(Number, Which, Part, Title, Audited, Options)
                 || {Which, Part, Title} <- Drawn],
     %% A complaint comes before a status, and a part that is drawn before one that has no such label.
     Status = case [Complaint || {_, _} = Complaint <- Statuses] of
                  [Complaint | _] -> Complaint;
                  [] -> lists:min(Statuses)
              end,
-    page(Audited, Options, Number, Status).
+    files(Audited, Options, Number, Status).
 
 %% The lines above a chart.
-charted(#{cut := Cut, outcome := Outcome, notes := Notes, parts := Parts, legend := Legend}) ->
-    [Cut, seqaudit_explain:headline(Outcome, Legend), seqaudit_explain:losses(Notes),
+charted(#{cut := Cut, outcome := Outcome, losses := Losses, parts := Parts, legend := Legend}) ->
+    [Cut, seqaudit_explain:headline(Outcome, Legend), seqaudit_explain:losses(Losses),
      [seqaudit_explain:reset_places([Part || {Part, _} <- Parts], Legend) || Parts =/= []]].
 
-chart_streams(Number, Which, Streams, Title, #{legend := Legend, timed := Times} = Audited, Options) ->
-    Text = seqaudit_bundle:text(Streams),
-    Asked = seqaudit_program:with_text(Text, fun(File) ->
+chart_outcome(Number, Which, #{streams := Streams} = Outcome, Title,
+              #{legend := Legend, timed := Times} = Audited, Options) ->
+    Charted = maps:get(asked, Outcome, Streams),
+    Asked = seqaudit_program:with_text(seqaudit_bundle:text(Charted), fun(File) ->
                 seqaudit_program:ask(["chart", "--label", binary_to_list(Number)], File)
             end),
     case Asked of
         {ok, {?FITS, Answer}} ->
             {ok, Read} = seqaudit_chart:read(Answer),
-            Chart = seqaudit_chart:identify(Read, seqaudit_causes:rows(Streams)),
+            Identified = seqaudit_chart:identify(Read, seqaudit_causes:rows(Charted)),
+            Chart = seqaudit_chart:with_own(Identified, seqaudit_causes:rows(Streams)),
             io:put_chars([[Title, $\n] || Title =/= ""]),
             io:put_chars(seqaudit_chart:text(Chart, Legend, Times)),
             draw(Chart, Which, Title, Audited, maps:get("--svg", Options, []));
@@ -224,9 +244,9 @@ chart_streams(Number, Which, Streams, Title, #{legend := Legend, timed := Times}
             {?SYSTEM, seqaudit_program:format_error(Reason)}
     end.
 
-draw(Chart, Which, Title, #{legend := Legend, outcome := Outcome, notes := Notes}, [File | _]) ->
+draw(Chart, Which, Title, #{legend := Legend, outcome := Outcome, losses := Losses}, [File | _]) ->
     Heading = #{part => Title, said => line(seqaudit_explain:headline(Outcome, Legend)),
-                fits => fits(Outcome), losses => line(seqaudit_explain:losses(Notes))},
+                fits => fits(Outcome), losses => line(seqaudit_explain:losses(Losses))},
     case seqaudit_draw:svg(Chart, Heading, Legend) of
         {ok, Drawing} ->
             keep(part_file(File, Which), unicode:characters_to_binary(Drawing), ?FITS);
@@ -246,6 +266,21 @@ part_file(File, "") -> File;
 part_file(File, Which) ->
     filename:rootname(File) ++ "-" ++ Which ++ filename:extension(File).
 
+%% The page, and what other programs draw.
+files(Audited, Options, Label, Status) ->
+    Paged = page(Audited, Options, Label, Status),
+    Exported = [export(Format, File, Label, Audited, Status)
+                || {Option, Format} <- seqaudit_export:formats(), #{Option := [File | _]} <- [Options]],
+    hd([Complaint || {_, _} = Complaint <- [Paged | Exported]] ++ [Paged]).
+
+export(Format, File, Label, Audited, Status) ->
+    Which = case Label of <<"">> -> all; _ -> Label end,
+    Rows = [seqaudit_outcome:rows(Shown) || Shown <- shown(Audited)],
+    case seqaudit_export:text(Format, Which, Rows, Audited) of
+        {ok, Text} -> keep(File, Text, Status);
+        {error, Reason} -> {?INPUT, seqaudit_export:format_error(Reason)}
+    end.
+
 page(_Audited, Options, _Label, Status) when not is_map_key("--html", Options) ->
     Status;
 page(Audited, #{"--html" := [File | _]}, Label, Status) ->
@@ -259,41 +294,52 @@ page(Audited, #{"--html" := [File | _]}, Label, Status) ->
 why(#{"" := [Name], "--event" := [Event | _]} = Options) ->
     with_trace(Name, wish(Options, [labels, processes, from, to]), fun(#{legend := Legend} = Trace) ->
         with_outcome(Trace, fun(#{cut := Cut, outcome := Outcome} = Audited) ->
-            io:put_chars([Cut, doubt(Outcome, Legend)]),
+            is_map_key("--json", Options) orelse io:put_chars([Cut, doubt(Outcome, Legend)]),
             why(Event, shown(Audited), Options, Audited)
         end)
     end);
 why(_) ->
     {usage, "why needs the NAME of one trace, and --event"}.
 
-why(Event, Shown, Options, #{legend := Legend, timed := Times}) ->
-    Found = [{Place, Streams} || Streams <- Shown,
+why(Event, Shown, Options, #{legend := Legend} = Audited) ->
+    Found = [{Place, Outcome} || #{streams := Streams} = Outcome <- Shown,
                                  {ok, Place} <- [seqaudit_bundle:find(Event, Streams, Legend)]],
     case Found of
-        [{Place, Streams} | _] ->
-            Rows = seqaudit_causes:rows(Streams),
-            Tell = case Options of
-                       #{"--effects" := _} -> fun seqaudit_why:effects/4;
-                       #{} -> fun seqaudit_why:chain/4
-                   end,
-            io:put_chars(Tell(Place, Rows, Legend, Times)),
+        [{Place, Outcome} | _] ->
+            io:put_chars(told(Place, seqaudit_outcome:rows(Outcome), Options, Audited)),
             ?FITS;
         [] ->
-            {error, Reason} = seqaudit_bundle:find(Event, lists:append(Shown), Legend),
+            All = lists:append([Streams || #{streams := Streams} <- Shown]),
+            {error, Reason} = seqaudit_bundle:find(Event, All, Legend),
             {?UNFIT, seqaudit_bundle:format_error(Reason)}
     end.
 
-%% The streams that are shown: the whole, or each part between resets.
-shown(#{parts := [], outcome := #{streams := Streams}}) -> [Streams];
-shown(#{parts := Parts}) -> [Streams || {_, #{streams := Streams}} <- Parts].
+told(Place, Rows, #{"--json" := _} = Options, #{cut := Cut, outcome := Outcome, legend := Legend} = Audited) ->
+    Told = case Options of
+               #{"--effects" := _} -> seqaudit_causes:effects(Place, Rows);
+               #{} -> seqaudit_causes:back(Place, seqaudit_causes:index(Rows))
+           end,
+    seqaudit_report:why(Place, Told, [Cut, doubt(Outcome, Legend)], Audited);
+told(Place, Rows, #{"--effects" := _}, #{legend := Legend, timed := Times}) ->
+    seqaudit_why:effects(Place, Rows, Legend, Times);
+told(Place, Rows, _Options, #{legend := Legend, timed := Times}) ->
+    seqaudit_why:chain(Place, Rows, Legend, Times).
 
-%% For a trace that doesn't fit, the doubt comes before the causes.
+%% @doc What is shown: the outcome of the whole, or of each part between resets.
+-spec shown(map()) -> [seqaudit_outcome:outcome()].
+shown(#{parts := [], outcome := Outcome}) -> [Outcome];
+shown(#{parts := Parts}) -> [Outcome || {_, Outcome} <- Parts].
+
+%% @doc For a trace that doesn't fit, the doubt comes before the causes.
+-spec doubt(seqaudit_outcome:outcome(), seqaudit_legend:legend()) -> unicode:chardata().
 doubt(Outcome, Legend) ->
     case fits(Outcome) of
         true -> "";
         false -> seqaudit_explain:headline(Outcome, Legend)
     end.
 
+%% @doc Writes what was asked for, for its owner alone.
+-spec keep(file:filename(), iodata(), status()) -> result().
 keep(File, Text, Status) ->
     case seqaudit_convert:write_own(File, Text) of
         ok -> Status;

@@ -1,7 +1,7 @@
 %% @doc Reads the text of a chart, as `seqaudit chart' writes it, and prints it with names and terms.
 -module(seqaudit_chart).
 
--export([read/1, row/1, identify/2, text/3, lane/2, other/1, term/2]).
+-export([read/1, row/1, identify/2, with_own/2, text/3, lane/2, other/1, term/2]).
 -export_type([chart/0, row/0]).
 
 %% Characters of a term in a row, and of an event's name.
@@ -60,6 +60,16 @@ identify(#{lanes := Lanes, rows := Rows} = Chart, Known) ->
     Index = maps:from_list([{key(Event), Row} || #{event := Event} = Row <- Known]),
     Pids = list_to_tuple(Lanes),
     Chart#{rows := [Row#{shown => maps:get(row_key(Row, Pids), Index)} || Row <- Rows]}.
+
+%% @doc The same chart with the rows, and so the serials, of the streams as they were before their counts were
+%% exchanged.
+-spec with_own(chart(), [seqaudit_causes:row()]) -> chart().
+with_own(#{rows := Rows} = Chart, Own) ->
+    Index = seqaudit_causes:index(Own),
+    Chart#{rows := [begin
+                        #{event := #{prev := Prev, this := This}} = Known = maps:get(Id, Index),
+                        Row#{shown := Known, serial := iolist_to_binary(io_lib:format("{~b,~b}", [Prev, This]))}
+                    end || #{shown := #{id := Id}} = Row <- Rows]}.
 
 key(#{kind := 'receive', from := From, this := This}) -> {received, From, This};
 key(#{from := From, this := This}) -> {stamped, From, This}.

@@ -19,9 +19,9 @@
 -module(seqaudit_collector).
 -behaviour(gen_server).
 
--export([start/1, folder/1, stop_all/1, adopt/2, names/1]).
+-export([start/1, folder/1, rotate/1, stop_all/1, adopt/2, names/1]).
 -export([init/1, handle_continue/2, handle_call/3, handle_cast/2, handle_info/2, terminate/2]).
--export_type([options/0, trigger/0]).
+-export_type([options/0, use/0]).
 
 %% Trace messages that are on their way when the tracer is taken off come within this time.
 -define(SETTLE_MS, 50).
@@ -42,29 +42,34 @@
 -define(QUEUE_FACTOR, 8).
 %% It has so many bytes written at once.
 -define(BUFFER_BYTES, 65_536).
+%% A busy disk may take a while to take what is left.
+-define(ROTATE_MS, 60_000).
 %% The owner's node may come back within this time, as after a net split.
 -define(GRACE_MS, 60_000).
 
--type trigger() :: #{function := mfa(), label := term(), times := boolean()}.
-%% Whoever calls the function gets a token with this label.
-
 -type options() :: #{owner := pid(), limit => non_neg_integer(), reset => boolean(),
                      bytes => pos_integer(), port => boolean(), folder => file:filename() | default,
-                     trigger => trigger() | none, grace => non_neg_integer()}.
+                     trigger => seqaudit_trigger:trigger() | none, grace => non_neg_integer(),
+                     take_over => boolean()}.
 %% `owner': the process whose end ends the collector; `limit': how many events are kept, if the
 %% collector itself is the tracer; `reset': whether `seq_trace:reset_trace/0' is called first, so
 %% that all clocks begin at 0; `bytes': the total size of the files; `port': whether to use a trace
 %% port, if there is one; `folder': in which folder the files' own folder is made; `grace': how many
-%% milliseconds an owner may be out of reach.
+%% milliseconds an owner may be out of reach; `take_over': whether a collector whose owner is out of
+%% reach is ended first.
+
+-type use() :: #{owner := node(), folder := file:filename(), left := non_neg_integer() | led}.
+%% For whose node a collector works, and how many milliseconds it still waits for it, if that is out of reach.
 
 -type tracer() :: pid() | port() | {module(), term()} | false.
 
 -record(state, {owner :: reference(),
+                owner_node :: node(),
                 folder :: file:filename(),
                 limit :: non_neg_integer() | infinity,
                 bytes :: pos_integer(),
                 grace :: non_neg_integer(),
-                trigger :: trigger() | none,
+                trigger :: seqaudit_trigger:trigger() | none | {pulled, seqaudit_trigger:pulled()},
                 former :: tracer(),
                 by :: {port, port()} | {scribe, seqaudit_scribe:scribe()} | closed,
                 watch = none :: none | seqaudit_watch:watch(),
@@ -86,15 +91,35 @@
 -type gone_on() :: {noreply, #state{}} | {noreply, #state{}, timeout()}.
 
 %% @doc Starts the collector of this node and makes it, or its port, the system tracer.
--spec start(options()) -> gen_server:start_ret().
+-spec start(options()) -> {ok, pid()} | {error, {in_use, use()} | term()}.
 start(Options) ->
-    gen_server:start({local, ?MODULE}, ?MODULE, Options,
-                     [{spawn_opt, [{message_queue_data, off_heap}]}]).
+    case gen_server:start({local, ?MODULE}, ?MODULE, Options, [{spawn_opt, [{message_queue_data, off_heap}]}]) of
+        {error, {already_started, Other}} -> start_beside(Other, Options);
+        Started -> Started
+    end.
+
+%% There is one already, or was when it was asked.
+start_beside(Other, Options) ->
+    Monitor = monitor(process, Other),
+    try gen_server:call(Other, {in_use, maps:get(take_over, Options, false)}) of
+        {in_use, Use} ->
+            demonitor(Monitor, [flush]),
+            {error, {in_use, Use}};
+        ends ->
+            receive {'DOWN', Monitor, process, _, _} -> start(Options) end
+    catch
+        exit:{noproc, _} -> start(Options)
+    end.
 
 %% @doc The folder to which the events go.
 -spec folder(pid()) -> file:filename().
 folder(Collector) ->
     gen_server:call(Collector, folder).
+
+%% @doc From now on events go to a new folder; the former one has all that came before. No event is lost between.
+-spec rotate(pid()) -> {ok, file:filename()} | {error, term()}.
+rotate(Collector) ->
+    gen_server:call(Collector, rotate, ?ROTATE_MS).
 
 %% @doc Takes the collectors off, all at the same time: each puts the former tracer back, waits for
 %% events on their way, and ends. Its facts are in its folder. In the place of a collector that is
@@ -135,7 +160,7 @@ init(#{owner := Owner} = Options) ->
     _ = seq_trace:set_token([]),
     case seqaudit_spool:create(maps:get(folder, Options, default)) of
         {ok, Folder} ->
-            State = #state{owner = monitor(process, Owner), folder = Folder,
+            State = #state{owner = monitor(process, Owner), owner_node = node(Owner), folder = Folder,
                            limit = maps:get(limit, Options, infinity),
                            bytes = maps:get(bytes, Options, ?BYTES),
                            grace = maps:get(grace, Options, ?GRACE_MS),
@@ -154,9 +179,9 @@ begin_tracing(#state{folder = Folder} = State, Options) ->
         _ = seq_trace:set_system_tracer(case By of {port, Port} -> Port; _ -> self() end),
         Opened = State#state{by = By, watch = watch(By, State)},
         case pull_trigger(State#state.trigger) of
-            ok ->
+            {ok, Trigger} ->
                 erlang:send_after(?TICK_MS, self(), tick),
-                {ok, Opened, {continue, names}};
+                {ok, Opened#state{trigger = Trigger}, {continue, names}};
             {error, Reason} ->
                 _ = close(take_off(Opened)),
                 _ = seqaudit_spool:remove(Folder),
@@ -194,30 +219,21 @@ open(false, #state{folder = Folder}) ->
 watch({port, Port}, #state{folder = Folder}) -> seqaudit_watch:start(Port, Folder);
 watch({scribe, _}, _State) -> none.
 
-%% Sets the token by a match specification, which sends no message. Calls are traced for this process,
-%% so that a killed collector leaves nothing that acts.
 pull_trigger(none) ->
-    ok;
-pull_trigger(#{function := {Module, _, _} = Function, label := Label, times := Times}) ->
-    _ = code:ensure_loaded(Module),
-    Flags = [send, 'receive', print] ++ [strict_monotonic_timestamp || Times],
-    Acts = [{set_seq_token, label, {const, Label}} | [{set_seq_token, Flag, true} || Flag <- Flags]],
-    case erlang:trace_pattern(Function, [{'_', [], Acts ++ [{message, false}]}], [local]) of
-        0 ->
-            {error, {no_function, Function}};
-        _ ->
-            _ = erlang:trace(all, true, [call]),
-            ok
+    {ok, none};
+pull_trigger(Trigger) ->
+    case seqaudit_trigger:pull(Trigger) of
+        {ok, Pulled} -> {ok, {pulled, Pulled}};
+        {error, Reason} -> {error, Reason}
     end.
 
 %% Tokens that the trigger set would stay with their processes; if nobody else traces, all are
 %% taken off.
-release_trigger(#state{trigger = none}) ->
-    ok;
-release_trigger(#state{trigger = #{function := Function}, former = Former}) ->
-    _ = erlang:trace(all, false, [call]),
-    _ = erlang:trace_pattern(Function, false, [local]),
+release_trigger(#state{trigger = {pulled, Pulled}, former = Former}) ->
+    ok = seqaudit_trigger:release(Pulled),
     _ = Former =:= false andalso seq_trace:reset_trace(),
+    ok;
+release_trigger(_State) ->
     ok.
 
 %% @private
@@ -231,12 +247,27 @@ handle_continue(names, State) ->
 
 %% @private
 -spec handle_call(term(), gen_server:from(), #state{}) ->
-          {noreply, #state{}, timeout()} | {reply, term(), #state{}}.
+          {noreply, #state{}, timeout()} | {reply, term(), #state{}} | {stop, normal, ends, #state{}}.
 handle_call(folder, _From, State) ->
     {reply, State#state.folder, State};
 handle_call({adopt, Owner}, _From, State) ->
     demonitor(State#state.owner, [flush]),
-    {reply, ok, State#state{owner = monitor(process, Owner), lost = undefined}};
+    {reply, ok, State#state{owner = monitor(process, Owner), owner_node = node(Owner), lost = undefined}};
+handle_call({in_use, true}, _From, #state{lost = Lost} = State) when Lost =/= undefined ->
+    {stop, normal, ends, close(take_off(ended(taken_over, State)))};
+handle_call({in_use, _}, _From, #state{owner_node = Owner, folder = Folder, lost = Lost} = State) ->
+    Left = case Lost of
+               undefined -> led;
+               _ -> case erlang:read_timer(Lost) of false -> 0; Milliseconds -> Milliseconds end
+           end,
+    {reply, {in_use, #{owner => Owner, folder => Folder, left => Left}}, State};
+handle_call(rotate, _From, #state{tracer = on, ended = no} = State) ->
+    case rotated(State) of
+        {ok, #state{folder = Folder} = Rotated} -> {reply, {ok, Folder}, Rotated};
+        {error, Reason} -> {reply, {error, Reason}, State}
+    end;
+handle_call(rotate, _From, State) ->
+    {reply, {error, ended}, State};
 handle_call(stop, From, State) ->
     {noreply, (take_off(State))#state{asked = From}, ?SETTLE_MS};
 handle_call(_Stray, _From, State) ->
@@ -260,7 +291,7 @@ handle_info(timeout, #state{asked = From} = State) when From =/= undefined ->
     {stop, normal, Closed#state{asked = undefined}};
 handle_info(tick, State) ->
     erlang:send_after(?TICK_MS, self(), tick),
-    go_on(tick(State));
+    go_on(tick(count_calls(State)));
 handle_info({'DOWN', Owner, process, _, noconnection}, #state{owner = Owner} = State) ->
     go_on(State#state{lost = erlang:start_timer(State#state.grace, self(), owner)});
 handle_info({timeout, Lost, owner}, #state{lost = Lost} = State) ->
@@ -341,6 +372,11 @@ look_at_queue(#state{tracer = on, by = {scribe, Scribe}} = State) ->
         false -> State
     end;
 look_at_queue(State) ->
+    State.
+
+count_calls(#state{trigger = {pulled, Pulled}} = State) ->
+    State#state{trigger = {pulled, seqaudit_trigger:tick(Pulled)}};
+count_calls(State) ->
     State.
 
 %% What the port has goes to the disk, so that a node that is killed leaves it there.
@@ -455,6 +491,45 @@ put_back(Former) ->
             _ = seq_trace:set_system_tracer(false),
             gone
     end.
+
+%% The new files take the events from the moment at which the tracer is exchanged; what is on its way to the
+%% former port then still goes there. Known processes that live are noted again, and the others forgotten.
+rotated(#state{folder = Former} = State) ->
+    case seqaudit_spool:create(filename:dirname(Former)) of
+        {ok, Folder} ->
+            Begun = State#state{folder = Folder, paused = #{}, buffer = {0, []}, came = 0, kept = 0, written = 0,
+                                dropped = 0, strays = 0, look = {0, 0}},
+            try exchange(State, Begun) of
+                Rotated -> {ok, Rotated}
+            catch
+                error:{badmatch, {error, Fault}} ->
+                    _ = seqaudit_spool:remove(Folder),
+                    {error, {file, Folder, Fault}}
+            end;
+        {error, Reason} ->
+            {error, Reason}
+    end.
+
+exchange(#state{by = {port, Former}, watch = Watch} = State, Begun) ->
+    By = open(true, Begun),
+    ok = seqaudit_spool:note(Begun#state.folder, first_facts(By, Begun)),
+    {Behind, Paused} = seqaudit_watch:stop(Watch),
+    Is = seq_trace:get_system_tracer(),
+    _ = (Is =:= Former orelse Behind andalso Is =:= false)
+        andalso seq_trace:set_system_tracer(case By of {port, Port} -> Port; _ -> self() end),
+    receive after ?SETTLE_MS -> ok end,
+    _ = close(State#state{watch = none, paused = Paused, tracer = put_back}),
+    known_again(Begun#state{by = By, watch = watch(By, Begun)});
+exchange(State, Begun) ->
+    By = open(false, Begun),
+    ok = seqaudit_spool:note(Begun#state.folder, first_facts(By, Begun)),
+    #state{processes = Known} = close(State#state{tracer = put_back}),
+    known_again(Begun#state{by = By, processes = Known}).
+
+known_again(#state{processes = Known, folder = Folder} = State) ->
+    Living = maps:filter(fun(Pid, _) -> is_process_alive(Pid) end, Known),
+    _ = seqaudit_spool:note(Folder, #{processes => Living}),
+    State#state{processes = Living}.
 
 %% Closes the files and writes the last facts beside them.
 close(#state{by = closed, folder = Folder} = State) ->

@@ -6,6 +6,8 @@
 %% <dt>`NAME.messages'</dt><dd>the whole texts of the messages that are cut there, if any are
 %% ({@link seqaudit_messages})</dd>
 %% <dt>`NAME.notes'</dt><dd>what was decided, dropped or can't be represented, a line each</dd>
+%% <dt>`NAME.facts'</dt><dd>the same with the kind of each, from which the answers are computed
+%% ({@link seqaudit_notes})</dd>
 %% <dt>`NAME.times'</dt><dd>when each event happened, if the events say it
 %% ({@link seqaudit_times})</dd>
 %% </dl>
@@ -77,8 +79,8 @@ convert(Collections) ->
     alone(fun() ->
         {Parts, Facts} = parts(taken(Collections)),
         Texts = maps:map(fun(_, Part) -> iolist_to_binary(text(Part)) end, maps:with([seqtrace, terms], Parts)),
-        {Sizes, Notes} = notes(byte_size(maps:get(seqtrace, Texts)), Facts),
-        maps:merge(Texts, Sizes#{notes => Notes})
+        {Sizes, Noted} = noted(byte_size(maps:get(seqtrace, Texts)), Facts),
+        maps:merge(Texts, Sizes#{notes => [Note || {_, Note} <- Noted]})
     end).
 
 taken(Collections) ->
@@ -118,12 +120,13 @@ write(Build, Name) ->
         {ok, Files} ->
             _ = [file:delete(Name ++ ".times") || not is_map_key(times, Parts)],
             ok = remove_answers(Name),
-            {Sizes, Notes} = notes(filelib:file_size(Name ++ ".seqtrace"), Facts),
-            NotesFile = Name ++ ".notes",
-            Lines = unicode:characters_to_binary([[Note, $\n] || Note <- Notes]),
-            case write_file(NotesFile, fun(Out) -> Out(Lines) end) of
-                ok -> {ok, Sizes#{notes => Notes, files => Files ++ [NotesFile]}};
-                {error, Reason} -> {error, Reason}
+            {Sizes, Noted} = noted(filelib:file_size(Name ++ ".seqtrace"), Facts),
+            Notes = [Note || {_, Note} <- Noted],
+            Kept = [{Name ++ ".notes", unicode:characters_to_binary([[Note, $\n] || Note <- Notes])},
+                    {Name ++ ".facts", seqaudit_notes:facts_text(Noted)}],
+            case [Reason || {File, Text} <- Kept, {error, Reason} <- [write_own(File, Text)]] of
+                [] -> {ok, Sizes#{notes => Notes, files => Files ++ [File || {File, _} <- Kept]}};
+                [Reason | _] -> {error, Reason}
             end;
         {error, Reason} ->
             {error, Reason}
@@ -228,11 +231,11 @@ parts(#build{actors = Actors, others = Others} = Build) ->
      #{collections => lists:reverse(Build#build.collections), counts => Counts, listed => Sorted,
        labels => ByLabel, events => Placed, kept => Kept}}.
 
-notes(Bytes, #{listed := Listed, collections := Collections, counts := Counts} = Facts) ->
+noted(Bytes, #{listed := Listed, collections := Collections, counts := Counts} = Facts) ->
     Sizes = #{bytes => Bytes, processes => length(Listed), events => maps:get(events, Facts)},
     Dropped = seqaudit_notes:dropped(Collections, Counts, maps:get(kept, Facts)),
     {#{events => maps:get(events, Facts), processes => length(Listed), dropped => Dropped},
-     seqaudit_notes:notes(Facts, Sizes)}.
+     seqaudit_notes:facts(Facts, Sizes)}.
 
 %% The parties that events name, in the order of their first events.
 used(Packed, {Actors, Others}) ->

@@ -3,7 +3,7 @@
 %% A lane for each process under its name, time downwards by the chart's rows, each under the name of
 %% its event. An arrow goes from each send, a ring, to its receive, a disc; what nobody reported is
 %% dashed, and an arrow ends in a bar if the chart has no receive. Prints are diamonds. An event whose cause
-%% wasn't reported has a question mark. What is shortened beside a mark is whole in its tooltip, with
+%% wasn't reported, or isn't certain, has a question mark. What is shortened beside a mark is whole in its tooltip, with
 %% the serial and the cause.
 -module(seqaudit_draw).
 
@@ -68,7 +68,7 @@ svg(#{label := Label, lanes := Lanes, rows := Rows}, Heading, Legend) ->
                        seqaudit_explain:count(length(Lanes), "process")]),
      key(Rows, Arrivals),
      zebra(length(Rows), Width),
-     [life_line(Lane, Height) || Lane <- lists:seq(1, length(Lanes))],
+     [life_line(Lane, seqaudit_legend:is_unlisted(Pid, Legend), Height) || {Lane, Pid} <- lists:enumerate(Lanes)],
      %% Texts and names come last, so that no arrow hides them.
      [tipped(Row, Legend, mark(Number, Row, Arrivals)) || {Number, Row} <- Numbered],
      [tipped(Row, Legend, text(Number, Row, Legend)) || {Number, Row} <- Numbered],
@@ -123,7 +123,11 @@ key(Rows, Arrivals) ->
      ["<g class=\"s\"><path d=\"M592 62H628\" marker-end=\"url(#x)\"/></g>"
       "<text x=\"640\" y=\"66\">a message whose receive isn't in the chart</text>\n" || Unreceived =/= []]].
 
-is_doubtful(Cause) -> is_guessed(Cause) orelse Cause =:= open orelse Cause =:= missing.
+is_doubtful({received, {_, {_, _}}}) -> true;
+is_doubtful({perhaps, _}) -> true;
+is_doubtful(open) -> true;
+is_doubtful({relabelled, _, open}) -> true;
+is_doubtful(Cause) -> is_guessed(Cause).
 
 %% Whether it follows a receive that nobody reported.
 is_guessed({unreported, _}) -> true;
@@ -140,8 +144,13 @@ zebra(Rows, Width) ->
             [y(First) - ?ROW div 2, Width, 5 * ?ROW])
      || First <- lists:seq(5, max(5, Rows - 1), 10), First < Rows].
 
-life_line(Lane, Height) ->
-    format("<path class=\"l\" d=\"M~b ~bV~b\"/>\n", [x(Lane), ?TOP - ?ROW, Height - ?ROW]).
+%% That of a process that the trace doesn't list is dashed.
+life_line(Lane, Unlisted, Height) ->
+    Dashed = case Unlisted of
+                 true -> " stroke-dasharray=\"4 4\"";
+                 false -> ""
+             end,
+    format("<path class=\"l\"~ts d=\"M~b ~bV~b\"/>\n", [Dashed, x(Lane), ?TOP - ?ROW, Height - ?ROW]).
 
 %% The names of all lanes above a block of rows.
 names(Block, Lanes, Legend) ->

@@ -204,8 +204,14 @@ fold_term(File, Term, Do, Acc) ->
                     {error, {not_events, File}}
             end;
         _ ->
-            {error, {not_events, File}}
+            {error, {case is_version_1(Term) of true -> damaged_version_1; false -> not_events end, File}}
     end.
+
+%% The name of its form comes first, in a tuple of two.
+is_version_1(<<104, 2, Rest/binary>>) ->
+    binary:match(binary:part(Rest, 0, min(byte_size(Rest), 3 + byte_size(?FORMAT_1))), ?FORMAT_1) =/= nomatch;
+is_version_1(_) ->
+    false.
 
 fold_version_1({atom, ?FORMAT_1}, Collections, _File, Do, Acc) ->
     {ok, lists:foldl(fun(Collection, Sum) ->
@@ -486,6 +492,8 @@ format_error({file, File, Reason}) ->
 format_error({not_events, File}) ->
     text("~ts has no list of events; give NAME.events, term_to_binary of a list of what the system "
          "tracer got, a trace file of dbg or ttb, or the events as text", [File]);
+format_error({damaged_version_1, File}) ->
+    text("~ts is of version 1.0 of this application, and is cut or damaged; nothing in it can be read", [File]);
 format_error({{unpacks, Size}, File}) ->
     text("~ts says that it unpacks to ~b bytes, too many for its size; unpack it first", [File, Size]);
 format_error({no_spool, Folder}) ->

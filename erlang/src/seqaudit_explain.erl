@@ -2,7 +2,8 @@
 %% what to look at.
 -module(seqaudit_explain).
 
--export([count/2, number/1, headline/2, outcome/3, parts/3, whole/2, sentence/2, sentence/4, reset_places/2, losses/1]).
+-export([count/2, number/1, headline/2, outcome/3, parts/3, whole/2, sentence/2, sentence/4, reset_places/2, losses/1,
+         is_open/1]).
 
 -import(seqaudit_legend, [process/2, label/2]).
 
@@ -14,8 +15,8 @@
 %% @doc The outcome in one line.
 -spec headline(seqaudit_outcome:outcome(), seqaudit_legend:legend()) -> unicode:chardata().
 headline(#{said := Said, streams := Streams} = Outcome, _Legend) when Said =:= fits; Said =:= completed ->
-    [format("fits: ~ts of ~ts", [count(length(reported(Streams)), "event"),
-                                 count(length(Streams), "process")]),
+    [format("fits~ts: ~ts of ~ts", [by(Outcome), count(length(reported(Streams)), "event"),
+                                    count(length(Streams) - length(unlisted(Outcome)), "process")]),
      left_out(missing(Outcome), Outcome), $\n];
 headline(#{said := never, finding := {Reason, Found}}, Legend) ->
     format("doesn't fit: no run~ts reports this trace~ts (~ts)~n",
@@ -23,14 +24,16 @@ headline(#{said := never, finding := {Reason, Found}}, Legend) ->
                 true -> " without a reset";
                 false -> ""
             end, about(", because of ", Found, Legend), Reason]);
-headline(#{said := open, finding := {_, Found}}, Legend) ->
-    format("not known: no run was found that reports this trace, and no reason why there is none~ts~n",
-           [about("; the search ended at ", Found, Legend)]);
 headline(#{said := unexplained, finding := {Reason, Found}}, Legend) ->
     format("not explained: no run was found that reports this trace~ts (~ts)~n",
            [about("; the search ended at ", Found, Legend), Reason]);
 headline(#{said := fault, fault := Fault}, _Legend) ->
     format("~ts: ~ts~n", [Fault, fault(Fault)]).
+
+by(#{unproved := true}) -> " (by programs without proofs)";
+by(#{}) -> "".
+
+unlisted(Outcome) -> maps:get(unlisted, Outcome, []).
 
 reported(Streams) ->
     [Event || {_, Events} <- Streams, #{at := At} = Event <- Events, is_integer(At)].
@@ -42,43 +45,78 @@ about(Words, [{{Pid, At}, _} | _], Legend) -> [Words, seqaudit_bundle:name(Pid, 
 unreported_or_cut(#{cut := true}) -> "nobody reported or that the cut took away";
 unreported_or_cut(#{}) -> "nobody reported".
 
-what_is_missing(#{cut := true}) -> "What nobody reported, or what the cut took away:\n";
-what_is_missing(#{}) -> "What nobody reported:\n".
+what_is_missing(#{said := completed} = Outcome) ->
+    [what_nobody_reported(Outcome), ", in the run that was found:\n"];
+what_is_missing(Outcome) ->
+    [what_nobody_reported(Outcome), ":\n"].
+
+what_nobody_reported(#{cut := true}) -> "What nobody reported, or what the cut took away";
+what_nobody_reported(#{}) -> "What nobody reported".
 
 what_waits(#{cut := true}) -> "Messages without a receive here: ";
 what_waits(#{}) -> "Messages without a reported receive: ".
 
-%% The unreported events, each as a function of the legend, and how many stamps more.
-missing(#{said := Said, streams := Streams}) ->
+%% The unreported events, how many there are of each kind, and the events whose cause isn't known.
+missing(#{said := Said, streams := Streams} = Outcome) ->
+    Rows = seqaudit_causes:rows(Streams),
     #{hidden := Hidden, unreceived := Unreceived, silent := Silent, jumps := Jumps} = Gaps =
-        seqaudit_gaps:find(Streams),
-    Added = case Said of
-                completed -> unreported(Streams);
-                _ -> []
-            end,
-    Gaps#{events => Added ++ [{hidden, Row} || Row <- Hidden]
+        seqaudit_gaps:find(Rows, Streams),
+    Strangers = maps:from_keys(unlisted(Outcome), unlisted),
+    Sends = [Row || #{actor := Actor} = Row <- Hidden, not is_map_key(Actor, Strangers)],
+    Added = [Row || Said =:= completed, #{hidden := false, id := {_, {_, _}}} = Row <- Rows],
+    Gaps#{events => [{added, Row} || Row <- Added] ++ [{hidden, Row} || Row <- Sends]
               ++ [{unreceived, Row, Send} || {Row, Send} <- Unreceived],
-          stamps => lists:sum([Count || {_, Count} <- Silent]),
+          kinds => kinds([Row || #{actor := Actor} = Row <- Added ++ Sends, not is_map_key(Actor, Strangers)],
+                         length(Unreceived), lists:sum([Count || {_, Count} <- Silent])),
+          strangers => length([Row || #{event := #{kind := 'receive', from := From}} = Row <- Added,
+                                      is_map_key(From, Strangers)]),
+          open => [Row || #{hidden := false, id := {_, At}, cause := Cause} = Row <- Rows,
+                          is_integer(At), is_open(Cause)],
+          put_back => seqaudit_exchange:put_back(Rows),
           leaps => lists:sum([Count || {_, Count} <- Jumps])}.
 
-%% The events that were added.
-unreported(Streams) ->
-    [{added, Row} || #{hidden := false, id := {_, {_, _}}} = Row <- seqaudit_causes:rows(Streams)].
+%% How many events of each kind nobody reported.
+kinds(Rows, Unreceived, Silent) ->
+    Of = fun(Kind) -> length([Row || #{event := #{kind := One}} = Row <- Rows, One =:= Kind]) end,
+    [{Of(send), "send"}, {Of('receive') + Unreceived, "receive"}, {Silent, "print or send"}].
 
-%% What is known to be gone, by a cut or from the collectors' notes, was left out though no event tells of it. So was a
+%% @doc Whether the cause of an event isn't known.
+-spec is_open(seqaudit_causes:cause()) -> boolean().
+is_open(open) -> true;
+is_open({relabelled, _, open}) -> true;
+is_open({perhaps, _}) -> true;
+is_open(_) -> false.
+
+%% What is known to be gone, by a cut or from the collectors' facts, was left out though no event tells of it. So was a
 %% receive that nobody reported, or it is still to come.
-left_out(#{events := [], stamps := 0, leaps := 0, waiting := []}, Outcome) ->
-    case Outcome of
-        #{streams := []} -> "";
-        #{cut := Cut, lost := Lost} when Cut; Lost -> "; nothing is missing between them";
-        #{} -> "; nothing was left out"
+left_out(#{events := [], kinds := Kinds, leaps := 0, behind := Behind, waiting := [], open := []} = Missing, Outcome) ->
+    case {Outcome, [Kind || {Count, _} = Kind <- Kinds, Count > 0]} of
+        {#{streams := []}, _} -> "";
+        {#{}, []} when Behind =/= [] ->
+            ["; ", count(length(Behind), "process"), " may have sent or printed something unreported before the first "
+             "send or print here"];
+        {#{cut := Cut, lost := Lost}, []} when Cut; Lost -> "; nothing is missing between them";
+        {#{}, []} -> "; nothing was left out";
+        _ -> what_is_left_out(Missing, Outcome)
     end;
-left_out(#{events := Events, stamps := Stamps, leaps := Leaps, waiting := Waiting}, Outcome) ->
-    Missing = [[count(length(Events), "event"), " that ", unreported_or_cut(Outcome)] || Events =/= []]
-        ++ [count(Stamps, "silent stamp") || Stamps > 0]
+left_out(Missing, Outcome) ->
+    what_is_left_out(Missing, Outcome).
+
+what_is_left_out(#{kinds := Kinds, strangers := Strangers, leaps := Leaps, waiting := Waiting, open := Open},
+                 Outcome) ->
+    Unreported = [count(Count, Thing) || {Count, Thing} <- Kinds, Count > 0],
+    Missing = [[and_listed(Unreported), " that ", unreported_or_cut(Outcome)] || Unreported =/= []]
+        ++ [[count(Strangers, "message"), " from ", strangers(unlisted(Outcome))] || Strangers > 0]
         ++ [count(Leaps, "jump of a counter") || Leaps > 0],
     [[[", with ", lists:join(", ", Missing)] || Missing =/= []],
+     [["; the cause of ", count(length(Open), "event"), " isn't known"] || Open =/= []],
      [["; ", not_received(length(Waiting), Outcome)] || Waiting =/= []]].
+
+and_listed([One]) -> One;
+and_listed(Several) -> [lists:join(", ", lists:droplast(Several)), " and ", lists:last(Several)].
+
+strangers([_]) -> "a process that the trace doesn't list";
+strangers(Several) -> [number(length(Several)), " processes that the trace doesn't list"].
 
 not_received(Count, Outcome) ->
     [count(Count, "message"), case Count of 1 -> " has"; _ -> " have" end,
@@ -93,6 +131,7 @@ count(1, Thing) -> "1 " ++ Thing;
 count(N, "process") -> number(N) ++ " processes";
 count(N, "entry") -> number(N) ++ " entries";
 count(N, "jump of a counter") -> number(N) ++ " jumps of counters";
+count(N, "print or send") -> number(N) ++ " prints or sends";
 count(N, Thing) -> number(N) ++ " " ++ Thing ++ "s".
 
 %% @doc A number with commas between thousands.
@@ -101,23 +140,27 @@ number(N) when N < 1000 -> integer_to_list(N);
 number(N) -> number(N div 1000) ++ lists:flatten(io_lib:format(",~3..0b", [N rem 1000])).
 
 %% @doc The outcome with all that an engineer asks next: what wasn't reported, which events don't go
-%% together and why, what to look at, and what the collectors lost (the notes of the conversion).
+%% together and why, what to look at, and what is gone, by the facts of the conversion.
 -spec outcome(seqaudit_outcome:outcome(), [binary()], seqaudit_legend:legend()) ->
           unicode:chardata().
-outcome(Outcome, Notes, Legend) ->
-    [headline(Outcome, Legend), details(Outcome, Legend), losses(Notes)].
+outcome(Outcome, Losses, Legend) ->
+    [headline(Outcome, Legend), details(Outcome, Legend), losses(Losses)].
 
 details(#{said := Said} = Outcome, Legend) when Said =:= fits; Said =:= completed ->
-    #{events := Events, silent := Silent, before := Before, spawns := Spawns, jumps := Jumps, waiting := Waiting} =
-        missing(Outcome),
+    #{events := Events, silent := Silent, before := Before, spawns := Spawns, jumps := Jumps, waiting := Waiting,
+      open := Open, put_back := PutBack} = missing(Outcome),
     [[what_is_missing(Outcome) || Events =/= []],
      [["  ", missing_event(Event, Legend), $\n] || Event <- lists:sublist(Events, ?LISTED)],
      [["  and ", number(length(Events) - ?LISTED), " more\n"] || length(Events) > ?LISTED],
      ["Nobody knows what the unknown messages were, or whether other processes sent them.\n"
       || lists:any(fun is_invented/1, Events)],
      [[what_waits(Outcome), messages(Waiting, Legend), ".\n"] || Waiting =/= []],
-     [["Silent stamps are counts that no event here has: ", counted(Silent, Legend),
-       ". They were prints, or sends whose receives weren't reported either.\n"] || Silent =/= []],
+     [["Counts that no event here has, of prints, or of sends whose receives weren't reported either: ",
+       counted(Silent, Legend), ".\n"] || Silent =/= []],
+     [["The cause isn't known of ", listed(fun(#{id := {Pid, At}}) -> seqaudit_bundle:name(Pid, At, Legend) end, Open,
+                                           fun(More) -> ["and ", number(More), " more"] end),
+       ": `why' says what it may be.\n"] || Open =/= []],
+     put_back(PutBack, Outcome, Legend),
      [["A counter jumps if it stands higher than anything reported explains: ", often(Jumps, Legend),
        ". Something was received or stamped there that wasn't reported.\n"] || Jumps =/= []],
      [["Counters go on from trace to trace, and count what isn't reported too. Before the first send or "
@@ -131,14 +174,37 @@ details(#{finding := {Reason, Found}} = Outcome, Legend) ->
     {Meaning, Look} = seqaudit_reasons:explain(Reason),
     [[["  ", found(One, Legend), $\n] || One <- Found],
      format("What it means: ~ts~nWhat to look at: ~ts~n", [Meaning, Look]),
+     put_back(seqaudit_exchange:put_back(seqaudit_causes:rows(maps:get(streams, Outcome))), Outcome, Legend),
      renumbered(Outcome),
      tool(maps:get(tool, Outcome))].
+
+%% Where tokens were put back, and what was audited then.
+put_back([], #{exchanged := counts}, _Legend) ->
+    ["Tokens were put back (seq_trace:set_token/1), so the audit took the counts that the machine would have given all "
+     "events; the serials shown here are the node's own.\n"];
+put_back([], _Outcome, _Legend) ->
+    "";
+put_back(Rows, Outcome, Legend) ->
+    ["A token was put back here (seq_trace:set_token/1): ",
+     listed(fun(#{id := Id, cause := {_, Origin}}) ->
+                    ["before ", seqaudit_why:name(Id, Legend), ", which is after ", seqaudit_why:name(Origin, Legend)]
+            end, Rows, fun(More) -> ["and ", number(More), " more"] end),
+     ". That moves the counters of a standard node, and not those of the machine", exchanged(Outcome), ".\n"].
+
+exchanged(#{exchanged := prevs}) ->
+    ": audited were the prevs that the machine would have given these events; the serials shown here are the node's "
+        "own";
+exchanged(#{exchanged := counts}) ->
+    ": audited were the counts that the machine would have given all events; the serials shown here are the node's "
+        "own";
+exchanged(#{}) ->
+    ", and the counts that the machine would have given aren't known: audited were the node's own".
 
 tool(there) ->
     "";
 tool(not_there) ->
-    "seqtool would say what the trace lacks, but it isn't there: `make program' builds it (`make quick' "
-    "unproved), and the variable SEQTOOL says where it is.\n";
+    "seqtool would say what the trace lacks, but it isn't there: `make program' builds it (`make rust' "
+    "as plain Rust, not proved), and the variable SEQTOOL says where it is.\n";
 tool({failed, Fault}) ->
     format("seqtool can't say what the trace lacks: ~ts~n", [Fault]).
 
@@ -212,19 +278,10 @@ sentence(send, From, To, Term) -> [From, " sends ", Term, " to ", To];
 sentence('receive', From, To, Term) -> [To, " receives ", Term, " from ", From];
 sentence(print, From, _, Term) -> [From, " prints ", Term].
 
-%% @doc What the collectors lost, out of the notes of the conversion.
+%% @doc What is gone, by the facts of the conversion.
 -spec losses([binary()]) -> unicode:chardata().
-losses(Notes) ->
-    case [Note || Note <- Notes, is_loss(Note)] of
-        [] -> "";
-        Lost -> ["The trace isn't whole:\n", [["  ", Note, $\n] || Note <- Lost]]
-    end.
-
-%% Names and labels, which may say anything, are in notes of their own.
-is_loss(Note) ->
-    re:run(Note, "^(labels that|no processes, or|nodes are numbered)", [unicode]) =:= nomatch
-        andalso re:run(Note, "dropped|lost|went down|ended early|written over|cut or damaged|"
-                       "took the collector's place|won't take|no events came", [unicode]) =/= nomatch.
+losses([]) -> "";
+losses(Losses) -> ["The trace isn't whole:\n", [["  ", Loss, $\n] || Loss <- Losses]].
 
 %% @doc Where the resets between the parts are, and the outcome of each part.
 -spec parts([seqaudit_outcome:outcome()], [seqaudit_bundle:streams()], seqaudit_legend:legend()) ->
@@ -239,10 +296,9 @@ parts(Outcomes, Parts, Legend) ->
 reset_places(Parts, Legend) ->
     case seqaudit_parts:places(Parts) of
         [Places] ->
-            ["A reset explains it, or two runs in one trace. The reset came ",
-             reset_at(Places, Legend), ".\n"];
+            ["A reset would explain it, as two runs in one trace would: ", reset_at(Places, Legend), ".\n"];
         Several ->
-            ["Resets explain it, or several runs in one trace. They came\n",
+            ["Resets would explain it, as several runs in one trace would:\n",
              [format("  ~b. ~ts~n", [Which, reset_at(Places, Legend)])
               || {Which, Places} <- lists:enumerate(Several)]]
     end.
@@ -254,14 +310,16 @@ reset_at(Places, Legend) ->
     end.
 
 reset_place({Pid, Last, First}, Legend) ->
-    ["after ", seqaudit_bundle:name(Pid, Last, Legend), " and before ",
+    ["between ", seqaudit_bundle:name(Pid, Last, Legend), " and ",
      seqaudit_bundle:name(Pid, First, Legend)].
 
 %% @doc All events, a line each, and the acts that show them as the certificate has them.
 -spec whole(seqaudit_outcome:outcome(), seqaudit_legend:legend()) -> unicode:chardata().
 whole(#{streams := Streams, answer := Answer}, Legend) ->
+    Index = seqaudit_causes:index(seqaudit_causes:rows(Streams)),
     [[[process(Pid, Legend), ":\n",
-       [["  ", found({{Pid, At}, Event}, Legend), $\n] || #{at := At} = Event <- Events]]
+       [["  ", seqaudit_bundle:name(Pid, At, Legend), ": ", sentence(maps:get({Pid, At}, Index), Legend), $\n]
+        || #{at := At} <- Events]]
       || {Pid, Events} <- Streams],
      seqaudit_acts:explain(Answer, Legend)].
 

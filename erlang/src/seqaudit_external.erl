@@ -42,10 +42,15 @@
 -define(SMALL_ATOM_UTF8, 119).
 -define(V4_PORT, 120).
 
-%% Maps up to this many pairs, and this many maps deep, have their pairs sorted. What is sorted is
-%% held in lists for a while; a file could make these far larger than itself.
+%% So many pairs of a map are sorted as a list, which takes far more memory than their bytes; larger
+%% maps are merged of parts that are.
 -define(SORTED_PAIRS, 10_000).
--define(SORTED_DEPTH, 32).
+%% Maps that are so many maps deep have their pairs sorted. Each copies what is in it, and a file could
+%% have millions, one in another.
+-define(SORTED_DEPTH, 1_000).
+%% What the one form of a fun has for its size, which Erlang doesn't look at, and for a process.
+-define(NO_SIZE, 0).
+-define(NO_PROCESS, ?NEW_PID, ?ATOM, 0:16, 0:96).
 %% An atom has at most this many characters.
 -define(ATOM_CHARACTERS, 255).
 %% Whole numbers of more bytes are printed as their size.
@@ -209,9 +214,8 @@ walk(<<?NEWER_REFERENCE, Words:16, Rest0/binary>>, Left, Depth, Done) when Words
                  <<Done/binary, ?NEWER_REFERENCE, Words:16, Node/binary, Numbers/binary>>);
         _ -> throw(damaged)
     end;
-walk(<<?MAP, Pairs:32, Rest/binary>>, Left, Depth, Done)
-  when Pairs > 1, Pairs =< ?SORTED_PAIRS, Depth < ?SORTED_DEPTH ->
-    {Sorted, After} = sorted_pairs(Pairs, Rest, Depth + 1, []),
+walk(<<?MAP, Pairs:32, Rest/binary>>, Left, Depth, Done) when Pairs > 1, Depth < ?SORTED_DEPTH ->
+    {Sorted, After} = sorted_pairs(Pairs, Rest, Depth + 1),
     walk(After, Left - 1, Depth, <<Done/binary, ?MAP, Pairs:32, Sorted/binary>>);
 walk(<<?MAP, Pairs:32, Rest/binary>>, Left, Depth, Done) ->
     walk(Rest, Left - 1 + 2 * Pairs, Depth, <<Done/binary, ?MAP, Pairs:32>>);
@@ -221,13 +225,14 @@ walk(<<?LARGE_TUPLE, Arity:32, Rest/binary>>, Left, Depth, Done) ->
     walk(Rest, Left - 1 + Arity, Depth, <<Done/binary, ?LARGE_TUPLE, Arity:32>>);
 walk(<<?NEW_FLOAT, Bytes:8/binary, Rest/binary>>, Left, Depth, Done) ->
     walk(Rest, Left - 1, Depth, <<Done/binary, ?NEW_FLOAT, Bytes/binary>>);
-walk(<<?NEW_FUN, Size:32, Rest0/binary>>, Left, Depth, Done) when Size >= 4 ->
-    Inner = Size - 4,
-    case Rest0 of
-        <<Bytes:Inner/binary, Rest/binary>> ->
-            walk(Rest, Left - 1, Depth, <<Done/binary, ?NEW_FUN, Size:32, Bytes/binary>>);
-        _ -> throw(damaged)
-    end;
+walk(<<?NEW_FUN, _Size:32, Fixed:21/binary, Free:32, Rest0/binary>>, Left, Depth, Done) ->
+    {Module, Rest1} = take_atom(Rest0),
+    {Index, Rest2} = take_integer(Rest1),
+    {Unique, Rest3} = take_integer(Rest2),
+    Rest = behind_process(Rest3),
+    walk(Rest, Left - 1 + Free, Depth,
+         <<Done/binary, ?NEW_FUN, ?NO_SIZE:32, Fixed/binary, Free:32, Module/binary, Index/binary, Unique/binary,
+           ?NO_PROCESS>>);
 walk(<<?EXPORT, Rest/binary>>, Left, Depth, Done) ->
     walk(Rest, Left + 2, Depth, <<Done/binary, ?EXPORT>>);
 walk(<<Bytes/binary>>, Left, Depth, Done) ->
@@ -281,6 +286,20 @@ take_atom(<<?SMALL_ATOM_UTF8, Size, Name:Size/binary, Rest/binary>>) -> {utf8_at
 take_atom(<<?ATOM_UTF8, Size:16, Name:Size/binary, Rest/binary>>) -> {utf8_atom(Name), Rest};
 take_atom(_) -> throw(damaged).
 
+take_integer(<<?SMALL_INTEGER, N, Rest/binary>>) -> {<<?SMALL_INTEGER, N>>, Rest};
+take_integer(<<?INTEGER, N:32, Rest/binary>>) -> {<<?INTEGER, N:32>>, Rest};
+take_integer(_) -> throw(damaged).
+
+behind_process(<<?NEW_PID, Rest/binary>>) -> behind_numbers(take_atom(Rest), 12);
+behind_process(<<?PID, Rest/binary>>) -> behind_numbers(take_atom(Rest), 9);
+behind_process(_) -> throw(damaged).
+
+behind_numbers({_Node, Bytes}, Size) ->
+    case Bytes of
+        <<_:Size/binary, Rest/binary>> -> Rest;
+        _ -> throw(damaged)
+    end.
+
 latin1_atom(Name) when byte_size(Name) > ?ATOM_CHARACTERS -> throw(damaged);
 latin1_atom(Name) ->
     case is_ascii(Name) of
@@ -302,12 +321,44 @@ is_utf8(<<>>, _Left) -> true;
 is_utf8(<<_/utf8, Rest/binary>>, Left) when Left > 0 -> is_utf8(Rest, Left - 1);
 is_utf8(_, _) -> false.
 
-sorted_pairs(0, Rest, _Depth, Pairs) ->
-    {iolist_to_binary([[Key, Value] || {Key, Value} <- lists:sort(Pairs)]), Rest};
-sorted_pairs(Left, Bytes, Depth, Pairs) ->
+sorted_pairs(Pairs, Bytes, Depth) when Pairs =< ?SORTED_PAIRS ->
+    {Sorted, Rest} = sorted(Pairs, Bytes, Depth, []),
+    {iolist_to_binary([[Key, Value] || {Key, Value} <- Sorted]), Rest};
+sorted_pairs(Pairs, Bytes, Depth) ->
+    {Runs, Rest} = runs(Pairs, Bytes, Depth, []),
+    {<< <<Pair/binary>> || <<Size:32, _:32, Pair:Size/binary>> <= merged(Runs) >>, Rest}.
+
+sorted(0, Rest, _Depth, Pairs) ->
+    {lists:sort(Pairs), Rest};
+sorted(Left, Bytes, Depth, Pairs) ->
     {Key, Rest0} = part(Bytes, Depth),
     {Value, Rest} = part(Rest0, Depth),
-    sorted_pairs(Left - 1, Rest, Depth, [{Key, Value} | Pairs]).
+    sorted(Left - 1, Rest, Depth, [{Key, Value} | Pairs]).
+
+%% Sorted parts of the pairs, each pair behind its size and that of its key.
+runs(0, Rest, _Depth, Runs) ->
+    {Runs, Rest};
+runs(Left, Bytes, Depth, Runs) ->
+    Count = min(Left, ?SORTED_PAIRS),
+    {Sorted, Rest} = sorted(Count, Bytes, Depth, []),
+    Run = << <<(byte_size(Key) + byte_size(Value)):32, (byte_size(Key)):32, Key/binary, Value/binary>>
+             || {Key, Value} <- Sorted >>,
+    runs(Left - Count, Rest, Depth, [Run | Runs]).
+
+merged([Run]) -> Run;
+merged(Runs) -> merged(by_twos(Runs)).
+
+by_twos([One, Other | Runs]) -> [merge(One, Other, <<>>) | by_twos(Runs)];
+by_twos(Runs) -> Runs.
+
+merge(<<>>, Other, Done) -> <<Done/binary, Other/binary>>;
+merge(One, <<>>, Done) -> <<Done/binary, One/binary>>;
+merge(<<Size:32, KeySize:32, Pair:Size/binary, Rest/binary>> = One,
+      <<OtherSize:32, OtherKey:32, OtherPair:OtherSize/binary, OtherRest/binary>> = Other, Done) ->
+    case binary:part(Pair, 0, KeySize) =< binary:part(OtherPair, 0, OtherKey) of
+        true -> merge(Rest, Other, <<Done/binary, Size:32, KeySize:32, Pair/binary>>);
+        false -> merge(One, OtherRest, <<Done/binary, OtherSize:32, OtherKey:32, OtherPair/binary>>)
+    end.
 
 part(Bytes, Depth) ->
     case skip(Bytes, 1) of

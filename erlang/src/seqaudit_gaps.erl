@@ -1,7 +1,7 @@
 %% @doc What streams leave out, as far as counts tell.
 -module(seqaudit_gaps).
 
--export([find/1]).
+-export([find/2]).
 -export_type([gaps/0]).
 
 -type counted() :: [{seqaudit_bundle:pid_text(), pos_integer()}].
@@ -9,7 +9,7 @@
 -type gaps() :: #{hidden := [seqaudit_causes:row()],
                   unreceived := [{Event :: seqaudit_causes:row(), Send :: seqaudit_causes:row()}],
                   waiting := [seqaudit_causes:row()],
-                  before := counted(), spawns := counted(), silent := counted(),
+                  before := counted(), behind := counted(), spawns := counted(), silent := counted(),
                   jumps := counted()}.
 %% <dl>
 %% <dt>`hidden'</dt><dd>the sends that only their receives tell of</dd>
@@ -17,15 +17,16 @@
 %% and the send of that message</dd>
 %% <dt>`waiting'</dt><dd>the sends of the other messages whose receive wasn't reported: these may still wait</dd>
 %% <dt>`before'</dt><dd>the counter of a process before its first stamp, if it wasn't 0</dd>
+%% <dt>`behind'</dt><dd>the same, if it had received something before that stamp, so that something unreported may
+%% stand between the two</dd>
 %% <dt>`spawns'</dt><dd>how often OTP moved a counter on as it answered a spawn</dd>
 %% <dt>`silent'</dt><dd>how many stamps came between a process's events and were not reported</dd>
 %% <dt>`jumps'</dt><dd>how often a counter was higher than any reported event shows</dd>
 %% </dl>
 
 %% @doc What they leave out; unreported events in the streams count as theirs.
--spec find(seqaudit_bundle:streams()) -> gaps().
-find(Streams) ->
-    Rows = seqaudit_causes:rows(Streams),
+-spec find([seqaudit_causes:row()], seqaudit_bundle:streams()) -> gaps().
+find(Rows, Streams) ->
     Index = seqaudit_causes:index(Rows),
     Received = maps:from_keys([Send || #{cause := {How, Send}} <- Rows, How =:= sent orelse How =:= unreported],
                               received),
@@ -35,7 +36,7 @@ find(Streams) ->
                      || #{cause := {unreported, Send}} = Row
                             <- firsts([Row || #{cause := {unreported, _}} = Row <- Rows])],
       waiting => [Row || #{id := Id, event := #{kind := send}} = Row <- Rows, not is_map_key(Id, Received)],
-      before => counted(before, Counted), spawns => counted(spawns, Counted),
+      before => counted(before, Counted), behind => counted(behind, Counted), spawns => counted(spawns, Counted),
       silent => counted(silent, Counted),
       jumps => counted(jumps, Counted)}.
 
@@ -57,7 +58,7 @@ counters(Pid, Events, Index) ->
                         #{cause := Cause} = maps:get({Pid, At}, Index),
                         counter(Event, Cause, Known)
                 end, #{clock => 0, stamped => false, answers => [],
-                       before => 0, spawns => 0, silent => 0, jumps => 0}, Events).
+                       before => 0, behind => 0, spawns => 0, silent => 0, jumps => 0}, Events).
 
 counter(#{kind := 'receive', this := This}, _Cause, #{clock := Clock, answers := Answers} = Known) ->
     Known#{clock := max(Clock, This), answers := [This | Answers]};
@@ -74,8 +75,8 @@ gap(Stood, Clock, _Prev, _Spawned, Known) when Stood =< Clock ->
     Known;
 gap(_Stood, _Clock, _Prev, true, #{spawns := Spawns} = Known) ->
     Known#{spawns := Spawns + 1};
-gap(Stood, _Clock, _Prev, false, #{stamped := false} = Known) ->
-    Known#{before := Stood};
+gap(Stood, Clock, _Prev, false, #{stamped := false} = Known) ->
+    Known#{before := Stood, behind := case Clock of 0 -> 0; _ -> Stood end};
 gap(Stood, Clock, Prev, false, #{silent := Silent, jumps := Jumps} = Known) when Prev > Clock ->
     Known#{silent := Silent + Stood - Prev, jumps := Jumps + 1};
 gap(Stood, Clock, _Prev, false, #{silent := Silent} = Known) ->

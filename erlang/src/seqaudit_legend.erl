@@ -5,7 +5,7 @@
 %% the text of a bundle and in what `seqaudit' writes.
 -module(seqaudit_legend).
 
--export([text/4, read/1, process/2, about/2, label/2, value/2, brief/2]).
+-export([text/4, read/1, unlisted/2, is_unlisted/2, process/2, about/2, label/2, value/2, brief/2]).
 -export([find_label/2, format_error/1]).
 -export_type([legend/0]).
 
@@ -25,7 +25,7 @@
                 {"^\\{spawn_reply,#Ref<[0-9.]*>,ok,(.*)\\}$", ["spawned ", 1]},
                 {"^\\{" ?TAG ",(.*)\\}$", ["reply ", 1]}]).
 
--opaque legend() :: #{{process | about | label | value, binary()} => binary()}.
+-opaque legend() :: #{{process | about | unlisted | label | value, binary()} => binary(), style => binary()}.
 
 %% @doc The text of the file: the processes by pid, with a short name and all that is known of each,
 %% then the labels and the values by number, with the processes in them by their numbers.
@@ -43,18 +43,27 @@ entry(Kind, {Number, Term}, Numbers) ->
 utf8(Characters) ->
     unicode:characters_to_binary(Characters).
 
-%% @doc Reads the file.
+%% @doc Reads the file. Control characters in it are escaped, so that names and terms may be shown as they are.
 -spec read(file:filename()) -> {ok, legend()} | {error, term()}.
 read(File) ->
     case file:read_file(File) of
         {ok, Text} ->
-            case binary:split(Text, <<"\n">>, [global, trim]) of
-                [?HEADER | Lines] -> read_lines(Lines, 2, #{}, File);
+            case binary:split(seqaudit_shown:escaped(Text), <<"\n">>, [global, trim]) of
+                [?HEADER | Lines] -> styled(read_lines(Lines, 2, #{}, File), seqaudit_elixir:is_elixir(Text));
                 _ -> {error, {not_terms, File, 1}}
             end;
         {error, Reason} ->
             {error, {file, File, Reason}}
     end.
+
+%% If modules of Elixir are named, names and labels are shown as Elixir writes them, and messages when they are asked.
+styled({ok, Legend}, true) ->
+    {ok, maps:map(fun({Kind, _}, Text) when Kind =:= process; Kind =:= about -> seqaudit_elixir:name(Text);
+                     ({label, _}, Text) -> seqaudit_elixir:text(Text);
+                     (_, Text) -> Text
+                  end, Legend#{style => <<"elixir">>})};
+styled(Read, _IsElixir) ->
+    Read.
 
 read_lines([], _Number, Legend, _File) ->
     {ok, Legend};
@@ -71,6 +80,21 @@ read_lines([Line | Lines], Number, Legend, File) ->
             {error, {not_terms, File, Number}}
     end.
 
+%% @doc The legend with names for processes that the trace doesn't list.
+-spec unlisted([binary()], legend()) -> legend().
+unlisted(Pids, Legend) ->
+    Several = length(Pids) > 1,
+    lists:foldl(fun({Number, Pid}, Known) ->
+                        Name = iolist_to_binary(["a process that the trace doesn't list",
+                                                 [[$\s, integer_to_list(Number)] || Several]]),
+                        Known#{{process, Pid} => Name, {unlisted, Pid} => <<>>,
+                               {about, Pid} => <<"it reported nothing, and no event names it">>}
+                end, Legend, lists:enumerate(Pids)).
+
+%% @doc Whether the trace doesn't list the process.
+-spec is_unlisted(binary(), legend()) -> boolean().
+is_unlisted(Pid, Legend) -> is_map_key({unlisted, Pid}, Legend).
+
 %% @doc The short name of a process, its pid if the legend hasn't it.
 -spec process(binary(), legend()) -> binary().
 process(Pid, Legend) -> maps:get({process, Pid}, Legend, Pid).
@@ -85,31 +109,37 @@ label(Number, Legend) -> maps:get({label, Number}, Legend, Number).
 
 %% @doc The term of a message, its number after a number sign if the legend hasn't it.
 -spec value(binary(), legend()) -> binary().
-value(Number, Legend) -> maps:get({value, Number}, Legend, <<"#", Number/binary>>).
+value(Number, Legend) -> shown(erlang_value(Number, Legend), Legend).
+
+erlang_value(Number, Legend) -> maps:get({value, Number}, Legend, <<"#", Number/binary>>).
+
+shown(Text, #{style := _}) -> seqaudit_elixir:text(Text);
+shown(Text, _Legend) -> Text.
 
 %% @doc The term of a message without what every call and reply of OTP's servers has.
 -spec brief(binary(), legend()) -> binary().
 brief(Number, Legend) ->
-    brief_text(value(Number, Legend), ?BRIEF).
+    brief_text(erlang_value(Number, Legend), ?BRIEF, Legend).
 
-brief_text(Text, []) ->
-    Text;
-brief_text(Text, [{Pattern, Parts} | Patterns]) ->
+brief_text(Text, [], Legend) ->
+    shown(Text, Legend);
+brief_text(Text, [{Pattern, Parts} | Patterns], Legend) ->
     case re:run(Text, Pattern, [unicode, dotall, {capture, all_but_first, binary}]) of
         {match, Captured} ->
             iolist_to_binary([case is_integer(Part) of
-                                  true -> lists:nth(Part, Captured);
+                                  true -> shown(lists:nth(Part, Captured), Legend);
                                   false -> Part
                               end || Part <- Parts]);
         nomatch ->
-            brief_text(Text, Patterns)
+            brief_text(Text, Patterns, Legend)
     end.
 
 %% @doc The number of the label that is printed so, or is the term that this text spells, or has
 %% this number.
 -spec find_label(string(), legend()) -> {ok, binary()} | {error, term()}.
 find_label(Text, Legend) ->
-    Spelled = [utf8(Text) | [utf8(seqaudit_terms:text(Term)) || Term <- parse(Text)]],
+    Spelled = [seqaudit_shown:escaped(utf8(Spelling))
+               || Spelling <- [Text | [seqaudit_terms:text(Term) || Term <- parse(Text)]]],
     Numbers = lists:usort([Number || {{label, Number}, Term} <- maps:to_list(Legend),
                                      lists:member(Term, Spelled)]),
     case Numbers of

@@ -19,8 +19,14 @@
 %% @doc Runs the command and halts with its status.
 -spec main([string()]) -> no_return().
 main(Words) ->
-    _ = io:setopts([{encoding, unicode}]),
-    halt(run(Words)).
+    %% What was collected is written even if nobody reads what is said of it.
+    ok = seqaudit_output:open(case Words of
+                                  [Command | _] when Command =:= "collect"; Command =:= "watch" -> stop;
+                                  _ -> halt
+                              end),
+    Status = run(Words),
+    ok = seqaudit_output:flush(),
+    halt(Status).
 
 %% @doc Runs the command, and returns its status.
 -spec run([string()]) -> ?FITS..?SYSTEM.
@@ -55,21 +61,28 @@ run({Command, Valued, Flags, Do}, Words) ->
 %% Each command with its options that have a value, and those that have none.
 commands() ->
     [{"collect", ["--node", "--cookie", "--cookie-file", "--seconds", "--bytes", "--limit", "--folder",
-                  "--trigger", "--label", "-o"], ["--reset", "--times"], fun collect/1},
+                  "--trigger", "--label", "--calls", "-o"],
+      ["--reset", "--times", "--take-over", "--unload"], fun collect/1},
+     {"watch", ["--node", "--cookie", "--cookie-file", "--every", "--keep", "--bytes", "--folder", "--trigger",
+                "--label", "--calls", "-o"],
+      ["--reset", "--times", "--take-over", "--unload"], fun watch/1},
      {"convert", ["-o"], [], fun convert/1},
-     {"audit", ?CUTS, ["--whole", "--parts"], fun(Options) -> answer(fun seqaudit_answer:audit/1, Options) end},
-     {"chart", ["--svg", "--html" | ?CUTS], ["--parts"],
+     {"audit", ?CUTS, ["--whole", "--parts", "--json", "--each-label"],
+      fun(#{"--each-label" := _} = Options) -> answer(fun seqaudit_each:audit/1, Options);
+         (Options) -> answer(fun seqaudit_answer:audit/1, Options)
+      end},
+     {"chart", ["--svg", "--html", "--mermaid", "--perfetto", "--otlp" | ?CUTS], ["--parts"],
       fun(Options) -> answer(fun seqaudit_answer:chart/1, Options) end},
-     {"why", ["--event" | ?CUTS], ["--effects"],
-      fun(Options) -> answer(fun seqaudit_answer:why/1, Options) end}].
+     {"why", ["--event" | ?CUTS], ["--effects", "--json"],
+      fun(Options) -> answer(fun seqaudit_answer:why/1, Options) end},
+     {"times", ?CUTS, ["--json"], fun(Options) -> answer(fun seqaudit_timing:times/1, Options) end}].
 
 %% The commands on a collected trace are in a module of their own.
 answer(Command, Options) ->
-    case seqaudit_program:unproved() of
-        [] -> ok;
-        Unproved -> complain("built without proofs: ~ts; `make program' builds what is proved",
-                             [lists:join(" and ", Unproved)])
-    end,
+    Unproved = seqaudit_program:unproved(),
+    [complain("~ts: ~ts; `make program' builds what is proved",
+              [What, lists:join(" and ", [File || {Is, File} <- Unproved, Is =:= What])])
+     || What <- lists:usort([What || {What, _} <- Unproved])],
     case Command(Options) of
         {usage, Text} -> {usage, Text};
         {Status, Complaint} -> failed(Status, Complaint);
@@ -112,11 +125,41 @@ add(Option, Value, Options) ->
 
 collect(#{"--node" := Nodes, "-o" := [Name]} = Options) when not is_map_key("", Options) ->
     case collect_options(lists:reverse(Nodes), Options) of
-        {ok, Wait, Start} -> collect(connect(hd(Nodes), Options), Start#{name => Name}, Wait);
+        {ok, Wait, #{nodes := [Node | _]} = Start} ->
+            collect(seqaudit_reach:connect(Node, Options), Start#{name => Name}, {Wait, unload(Options)});
         {error, Text} -> {usage, Text}
     end;
 collect(_) ->
     {usage, "collect needs --node and -o, and takes options alone"}.
+
+watch(#{"--node" := Nodes, "-o" := [Name], "--every" := _} = Options) when not is_map_key("", Options) ->
+    case collect_options(lists:reverse(Nodes), Options) of
+        {ok, _, #{nodes := [Node | _]} = Start} ->
+            try {whole("--every", 1, Options), whole("--keep", 1, Options)} of
+                {Every, Keep} ->
+                    Periods = maps:from_list([{name, Name}, {every, 1_000 * Every}] ++ [{keep, Keep} || Keep =/= none]),
+                    watch(seqaudit_reach:connect(Node, Options), Start#{name => Name}, {Periods, unload(Options)})
+            catch
+                throw:Text -> {usage, Text}
+            end;
+        {error, Text} ->
+            {usage, Text}
+    end;
+watch(_) ->
+    {usage, "watch needs --node, --every and -o, and takes options alone"}.
+
+watch({error, Reason}, _Start, _How) ->
+    failed(?SYSTEM, seqaudit_reach:format_error(Reason));
+watch(ok, Start, {Periods, Unload}) ->
+    started(Start, Unload, fun(Asked) ->
+        io:format("watching ~ts until Ctrl-C~ts", [node_list(Start), advice(Start)]),
+        case seqaudit_periods:watch(Periods, Asked, fun(Line) -> io:put_chars(Line) end) of
+            {Status, Text} -> failed(Status, Text);
+            Status -> Status
+        end
+    end).
+
+node_list(#{nodes := Nodes}) -> lists:join(", ", [atom_to_list(Node) || Node <- Nodes]).
 
 %% How long to collect, and what seqaudit_trace:start/1 takes.
 collect_options(Nodes, Options) ->
@@ -125,8 +168,9 @@ collect_options(Nodes, Options) ->
                    none -> infinity;
                    Seconds -> 1000 * Seconds
                end,
-        Given = [{nodes, [node_name(Node) || Node <- Nodes]},
+        Given = [{nodes, node_names(Nodes)},
                  {reset, is_map_key("--reset", Options)},
+                 {take_over, is_map_key("--take-over", Options)},
                  {trigger, trigger(Options)}]
             ++ [{limit, Limit} || Limit <- [whole("--limit", 0, Options)], Limit =/= none]
             ++ [{bytes, Bytes} || Bytes <- [whole("--bytes", 1, Options)], Bytes =/= none]
@@ -148,26 +192,37 @@ whole(Option, Least, Options) ->
     end.
 
 %% The words of the command line may become atoms: there are few of them, and they are the user's own.
-node_name(Word) ->
-    case {string:split(Word, "@", all), length(Word) =< 255} of
-        {[[_ | _], [_ | _]], true} -> list_to_atom(Word);
-        _ -> throw(Word ++ " isn't the name of a node; it is written name@host")
+node_names(Words) ->
+    Nodes = [case seqaudit_reach:is_node_name(Word) of
+                 true -> list_to_atom(Word);
+                 false -> throw(Word ++ " isn't the name of a node; it is written name@host")
+             end || Word <- Words],
+    case lists:usort([seqaudit_reach:kind(Node) || Node <- Nodes]) of
+        [_] -> Nodes;
+        [_, _] -> throw("some of these nodes have long names, with a dot in the host, and some short ones; one command "
+                        "reaches either")
     end.
 
-trigger(#{"--trigger" := [Function | _], "--label" := [Label | _]} = Options) ->
-    #{function => function(Function), label => label(Label), times => is_map_key("--times", Options)};
+trigger(#{"--trigger" := Functions, "--label" := [Label | _]} = Options) ->
+    #{functions => [read(fun seqaudit_calls:function/1, Function) || Function <- lists:reverse(Functions)],
+      label => label(Label), times => is_map_key("--times", Options),
+      calls => case Options of
+                   #{"--calls" := [Calls | _]} -> read(fun seqaudit_calls:limit/1, Calls);
+                   #{} -> infinity
+               end};
 trigger(Options) when is_map_key("--trigger", Options); is_map_key("--label", Options) ->
     throw("--trigger and --label go together");
 trigger(#{"--times" := _}) ->
     throw("--times goes with --trigger; a program that sets tokens gives them the flag for timestamps itself");
+trigger(#{"--calls" := _}) ->
+    throw("--calls goes with --trigger");
 trigger(_) ->
     none.
 
-function(Word) ->
-    case re:run(Word, "^([^:]+):([^:]+)/([0-9]{1,3})$", [unicode, {capture, all_but_first, list}]) of
-        {match, [Module, Function, Arity]} ->
-            {list_to_atom(Module), list_to_atom(Function), list_to_integer(Arity)};
-        nomatch -> throw(Word ++ " isn't a function; it is written module:function/2")
+read(Read, Word) ->
+    case Read(Word) of
+        {ok, Result} -> Result;
+        {error, Text} -> throw(Text)
     end.
 
 label(Word) ->
@@ -180,23 +235,33 @@ label(Word) ->
         {error, _, _} -> throw(Word ++ " isn't an Erlang term")
     end.
 
-collect({error, {cookie, Reason}}, _Start, _Wait) ->
-    failed(?SYSTEM, ["the cookie can't be used: ", Reason]);
-collect({error, Reason}, _Start, _Wait) ->
-    failed(?SYSTEM, io_lib:format("this Erlang can't take part in distribution; it needs a home "
-                                  "folder for its cookie, and epmd: ~0tp", [Reason]));
-collect(ok, #{nodes := Nodes} = Start, Wait) ->
+collect({error, Reason}, _Start, _How) ->
+    failed(?SYSTEM, seqaudit_reach:format_error(Reason));
+collect(ok, Start, {Wait, Unload}) ->
+    started(Start, Unload, fun(Asked) ->
+        io:format("tracing ~ts ~ts~ts", [node_list(Start), how_long(Wait), advice(Start)]),
+        [io:format("  ~ts writes its events to ~ts~n", [Node, Folder])
+         || {Node, Folder} <- seqaudit_trace:folders()],
+        _ = seqaudit_signals:wait(Asked, Wait),
+        written(seqaudit_trace:stop(), fun seqaudit_trace:format_error/1)
+    end).
+
+unload(Options) -> is_map_key("--unload", Options).
+
+%% Does something while the nodes are traced, and says meanwhile what becomes of them.
+started(#{nodes := Nodes} = Start, Unload, Do) ->
     %% A signal that comes while the collectors begin ends them as any other does.
     Asked = seqaudit_signals:listen(),
     case seqaudit_trace:start(Start) of
         ok ->
-            io:format("tracing ~ts ~ts~ts",
-                      [lists:join(", ", [atom_to_list(Node) || Node <- Nodes]), how_long(Wait),
-                       advice(Start)]),
-            [io:format("  ~ts writes its events to ~ts~n", [Node, Folder])
-             || {Node, Folder} <- seqaudit_trace:folders()],
-            _ = seqaudit_signals:wait(Asked, Wait),
-            written(seqaudit_trace:stop(), fun seqaudit_trace:format_error/1);
+            Sight = seqaudit_sight:keep(Nodes, fun(Sentence) -> complain("~ts", [Sentence]) end),
+            try Do(Asked)
+            after
+                ok = seqaudit_sight:stop(Sight),
+                io:put_chars([seqaudit_loaded:say(Node, Unload) || Node <- Nodes])
+            end;
+        {error, {node, Node, unreachable}} ->
+            failed(?SYSTEM, seqaudit_reach:unreachable(Node));
         {error, Reason} ->
             failed(?SYSTEM, seqaudit_trace:format_error(Reason))
     end.
@@ -204,50 +269,20 @@ collect(ok, #{nodes := Nodes} = Start, Wait) ->
 how_long(infinity) -> "until Ctrl-C";
 how_long(Milliseconds) -> io_lib:format("for ~b s", [Milliseconds div 1000]).
 
-advice(#{trigger := #{function := {Module, Function, Arity}}}) ->
-    io_lib:format("; calls of ~ts:~ts/~b set the token~n", [Module, Function, Arity]);
+advice(#{trigger := #{functions := Functions, calls := Calls}}) ->
+    io_lib:format("; ~tscalls of ~ts set the token~n",
+                  [case Calls of
+                       infinity -> "";
+                       {Most, second} -> io_lib:format("in each second the first ~b ", [Most]);
+                       Most -> io_lib:format("the first ~b ", [Most])
+                   end,
+                   lists:join(", ", [io_lib:format("~ts:~ts/~b~ts", [Module, Function, Arity, conditions(Clauses)])
+                                     || {{Module, Function, Arity}, Clauses} <- Functions])]);
 advice(_) ->
     "; set tokens there, as with\n  seqaudit_trace:with_trace(17, fun() -> .. end).\n".
 
-%% Makes this a hidden node that listens to nobody, in the name domain of the node.
-connect(Node, Options) ->
-    case cookie(Options) of
-        {error, Reason} -> {error, {cookie, Reason}};
-        Cookie -> connect_with(Node, Cookie)
-    end.
-
-connect_with(Node, Cookie) ->
-    [_ | Host] = string:split(Node, "@"),
-    Domain = case lists:member($., lists:append(Host)) of
-                 true -> longnames;
-                 false -> shortnames
-             end,
-    Own = list_to_atom("seqaudit_" ++ os:getpid()),
-    case is_alive() orelse net_kernel:start(Own, #{name_domain => Domain, dist_listen => false,
-                                                   hidden => true}) of
-        {error, Reason} ->
-            {error, Reason};
-        _ ->
-            Cookie =:= none orelse erlang:set_cookie(list_to_atom(Cookie)),
-            ok
-    end.
-
-%% Words of a command line are seen by all users of the machine; a file and a variable aren't.
-cookie(#{"--cookie" := [Cookie | _]}) ->
-    checked(Cookie);
-cookie(#{"--cookie-file" := [File | _]}) ->
-    case file:read_file(File) of
-        {ok, Text} -> checked(string:trim(unicode:characters_to_list(Text)));
-        {error, Reason} -> {error, [File, ": ", file:format_error(Reason)]}
-    end;
-cookie(_) ->
-    case os:getenv("SEQAUDIT_COOKIE") of
-        false -> none;
-        Cookie -> checked(Cookie)
-    end.
-
-checked([_ | _] = Cookie) when length(Cookie) =< 255 -> Cookie;
-checked(_) -> {error, "it is empty, or longer than 255 characters"}.
+conditions([{'_', []}]) -> "";
+conditions(_) -> " that its condition allows".
 
 written({ok, #{events := Events, processes := Processes, notes := Notes, files := Files}}, _) ->
     io:format("~ts of ~ts: ~ts~n", [seqaudit_explain:count(Events, "event"),

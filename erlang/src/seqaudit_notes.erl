@@ -1,7 +1,12 @@
 %% @doc `NAME.notes': what the conversion decided, what it left out, and what `seqaudit' won't take.
+%%
+%% `NAME.facts' has the same sentences, each behind the kind of fact that it says: below the line `seqaudit
+%% facts 1' a line each, with a tab between. What a trace lacks is computed from the kinds, as a name
+%% in a sentence may be any word.
 -module(seqaudit_notes).
 
--export([notes/2, dropped/3]).
+-export([facts/2, facts_text/1, losses/1, dropped/3]).
+-export_type([fact/0]).
 
 -import(seqaudit_errors, [text/2]).
 
@@ -15,6 +20,12 @@
 -define(REASON, 200).
 %% A byte that says what it is, and four with the size.
 -define(BEFORE_EVENT, 5).
+
+-define(HEADER, <<"seqaudit facts 1">>).
+%% What is gone if there is a fact of this kind.
+-define(LOSSES, [nothing, lost, ended, dropped, left, pauses, written_over, taken, nameless]).
+
+-type fact() :: {Kind :: atom(), Sentence :: string()}.
 
 -type sizes() :: #{bytes | processes | events => non_neg_integer()}.
 
@@ -52,20 +63,36 @@ over(#{facts := #{by := port, written := Written, came := Came, kept := Kept, ke
 over(_) ->
     {0, 0}.
 
-%% @doc The notes, a line each; nothing if there is nothing to say.
--spec notes(#{collections := [seqaudit_build:collected()], counts := #{atom() => non_neg_integer()},
+%% @doc The facts, of which each sentence is a note; nothing if there is nothing to say.
+-spec facts(#{collections := [seqaudit_build:collected()], counts := #{atom() => non_neg_integer()},
               listed := [{seqaudit_processes:pid_number(), seqaudit_processes:party()}],
               labels := [{non_neg_integer(), seqaudit_external:encoded()}], atom() => term()},
-            sizes()) -> [string()].
-notes(#{collections := Collections, counts := Counts, listed := Listed, labels := Labels}, Sizes) ->
-    lists:append([nothing(Sizes),
+            sizes()) -> [fact()].
+facts(#{collections := Collections, counts := Counts, listed := Listed, labels := Labels}, Sizes) ->
+    lists:append([of_kind(nothing, nothing(Sizes)),
                   lists:append([collected(Collection) || Collection <- Collections]),
                   converted(Counts),
-                  limits(Sizes),
-                  several("nodes are numbered by name: ", nodes_of(Listed)),
-                  several("no processes, or their number was taken, so they have free numbers: ",
-                          renumbered(Listed)),
-                  several("labels that aren't numbers from 0 to 4294967295 have numbers: ", labels(Labels))]).
+                  of_kind(limits, limits(Sizes)),
+                  of_kind(nodes, several("nodes are numbered by name: ", nodes_of(Listed))),
+                  of_kind(renumbered, several("no processes, or their number was taken, so they have free numbers: ",
+                                              renumbered(Listed))),
+                  of_kind(labels, several("labels that aren't numbers from 0 to 4294967295 have numbers: ",
+                                          labels(Labels)))]).
+
+of_kind(Kind, Sentences) -> [{Kind, Sentence} || Sentence <- Sentences].
+
+%% @doc The text of `NAME.facts'.
+-spec facts_text([fact()]) -> iolist().
+facts_text(Facts) ->
+    [?HEADER, $\n,
+     [[atom_to_binary(Kind), $\t, unicode:characters_to_binary(Sentence), $\n] || {Kind, Sentence} <- Facts]].
+
+%% @doc What is gone by these facts, a sentence each.
+-spec losses(binary()) -> [binary()].
+losses(Text) ->
+    Kinds = [atom_to_binary(Kind) || Kind <- ?LOSSES],
+    [Sentence || Line <- binary:split(Text, <<"\n">>, [global, trim]),
+                 [Kind, Sentence] <- [binary:split(Line, <<"\t">>)], lists:member(Kind, Kinds)].
 
 nothing(#{events := 0}) ->
     ["no events came; set a token while the tracer is on, as seqaudit_trace:with_trace/2 does"];
@@ -74,8 +101,9 @@ nothing(_) ->
 
 collected(#{facts := Facts} = Collection) ->
     Node = seqaudit_terms:plain(maps:get(node, Facts, <<"a node">>)),
-    lost(Node, Facts) ++ ended(Node, Facts) ++ split(Node, Facts)
-        ++ [text(Format, [Node, seqaudit_explain:count(known(Kind, Collection), Thing)])
+    Tracer = maps:get(tracer, Facts, put_back),
+    of_kind(lost, lost(Node, Facts)) ++ of_kind(ended, ended(Node, Facts)) ++ of_kind(split, split(Node, Facts))
+        ++ [{Kind, text(Format, [Node, seqaudit_explain:count(known(Kind, Collection), Thing)])}
             || {Kind, Thing, Format} <-
                    [{dropped, "event", "~ts: the collector dropped ~ts beyond the limit; raise the limit "
                      "or trace for a shorter time"},
@@ -83,9 +111,9 @@ collected(#{facts := Facts} = Collection) ->
                     {strays, "message", "~ts: the collector got ~ts besides trace events"},
                     {left, "byte", "~ts: convert left out ~ts of the file, which is cut or damaged there"}],
                known(Kind, Collection) > 0]
-        ++ pauses(Node, Facts)
-        ++ written_over(Node, Collection)
-        ++ tracer(Node, maps:get(tracer, Facts, put_back)).
+        ++ of_kind(pauses, pauses(Node, Facts))
+        ++ of_kind(written_over, written_over(Node, Collection))
+        ++ of_kind(Tracer, tracer(Node, Tracer)).
 
 %% A collector that wrote its last facts ended as it should, though nobody asked it.
 lost(_Node, #{lost := _, tracer := _}) ->
@@ -134,6 +162,8 @@ why(Why) ->
         [{atom, <<"unwatched">>}, _] ->
             text("the process that bounds the memory of the trace port ended (~ts)",
                  [reason(lists:last(parts(Why)))]);
+        [{atom, <<"taken_over">>}] ->
+            "whoever led the collection couldn't be reached, and somebody else took the node over (--take-over)";
         [{atom, <<"owner_out_of_reach">>}] ->
             "the node that led the collection was out of reach for too long";
         [{atom, <<"owner">>}, _] ->
@@ -201,7 +231,7 @@ tracer(Node, gone) ->
     [text("~ts: the former system tracer is gone, so the node has none now", [Node])].
 
 converted(Counts) ->
-    [text(Format, [seqaudit_explain:count(count(Kind, Counts), thing(Kind))])
+    [{Kind, text(Format, [seqaudit_explain:count(count(Kind, Counts), thing(Kind))])}
      || {Kind, Format} <-
             [{by_receive, "~ts to an alias or a name: the receive of each says which process that is"},
              {by_request, "~ts to an alias: the request that handed it out says whose it is"},

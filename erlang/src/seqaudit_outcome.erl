@@ -4,36 +4,45 @@
 %% (`seqtool renumber'): that changes no answer, and no count is too high any more. A `seqtool' that
 %% doesn't know that command leaves them as they are. What `seqaudit audit' doesn't explain, `seqtool
 %% complete' completes, or says that no run without a reset has it.
+%%
+%% If processes put tokens back, the counts are first those that the machine would have given
+%% ({@link seqaudit_exchange}): the prevs alone if that is enough, else all of them.
 -module(seqaudit_outcome).
 
--export([ask/1]).
+-export([ask/1, rows/1]).
 -export_type([outcome/0, finding/0]).
 
 -type finding() :: {Reason :: binary(), [{seqaudit_bundle:place(), seqaudit_bundle:event()}]}.
 %% A reason's word, and the events that it is about.
 
 -type outcome() ::
-        #{said := fits | completed | never | open | unexplained | fault,
+        #{said := fits | completed | never | unexplained | fault,
           streams := seqaudit_bundle:streams(),
           renumbered := boolean(),
           tool := there | not_there | {failed, Fault :: binary()},
           answer := binary(),
           finding => finding(),
           fault => binary(),
-          cut => boolean()}.
+          exchanged := none | prevs | counts,
+          asked => seqaudit_bundle:streams(),
+          unlisted := [seqaudit_bundle:pid_text()],
+          unproved := boolean(),
+          cut => boolean(),
+          lost => boolean()}.
 %% What is said:
 %% <dl>
 %% <dt>`fits'</dt><dd>a run has the streams, and `answer' is the bundle that shows it</dd>
 %% <dt>`completed'</dt><dd>a run has them, with unreported events, which are in `streams'; `answer'
 %% is the bundle that shows it, or the list of the events if it has too many acts for one</dd>
 %% <dt>`never'</dt><dd>no run without a reset has them; `finding' says why</dd>
-%% <dt>`open'</dt><dd>it isn't known; `finding' is an event that no choice was found for</dd>
 %% <dt>`unexplained'</dt><dd>`seqaudit' found no run, and there is no `seqtool' to ask</dd>
 %% <dt>`fault'</dt><dd>a program didn't take the bundle</dd>
 %% </dl>
 %% `answer' is otherwise what the program said. `renumbered' says whether counts were replaced, `tool'
-%% whether `seqtool' was there and did what it was asked, and `cut' whether the streams are what a cut
-%% left of others.
+%% whether `seqtool' was there and did what it was asked, `cut' whether the streams are what a cut left of
+%% others, and `lost' whether the collectors lost events. `exchanged' says which counts were exchanged for
+%% those that the machine would have given (`asked' has the streams with them), `unlisted' which processes
+%% of `streams' the trace doesn't list, and `unproved' whether what said it has no proofs.
 
 -define(FITS, 0).
 -define(UNFIT, 1).
@@ -41,11 +50,53 @@
 %% @doc Asks the programs.
 -spec ask(seqaudit_bundle:streams()) -> {ok, outcome()} | {error, term()}.
 ask(Streams) ->
+    Rows = seqaudit_causes:rows(Streams),
+    case {seqaudit_exchange:put_back(Rows), seqaudit_exchange:may_be_put_back(Rows)} of
+        {[_ | _], _} -> ask_exchanged([prevs, counts], Streams, fun() -> ask_as_it_is(Streams) end);
+        {[], true} -> ask_in_doubt(Streams);
+        {[], false} -> ask_as_it_is(Streams)
+    end.
+
+%% @doc The rows of the streams that are shown, in an order in which no event comes before its cause. The
+%% node's own counts don't give one if a token was put back.
+-spec rows(outcome()) -> [seqaudit_causes:row()].
+rows(#{streams := Streams, asked := Asked}) ->
+    Own = seqaudit_causes:index(seqaudit_causes:rows(Streams)),
+    [maps:get(Id, Own) || #{id := Id} <- seqaudit_causes:rows(Asked)];
+rows(#{streams := Streams}) ->
+    seqaudit_causes:rows(Streams).
+
+ask_in_doubt(Streams) ->
+    case ask_as_it_is(Streams) of
+        {ok, #{said := Said}} = AsItIs when Said =/= fits -> ask_exchanged([counts], Streams, fun() -> AsItIs end);
+        Asked -> Asked
+    end.
+
+%% What is said of the streams with other counts, if these fit; else what is said of the streams.
+ask_exchanged([], _Streams, AsTheyAre) ->
+    AsTheyAre();
+ask_exchanged([How | Others], Streams, AsTheyAre) ->
+    case exchange(How, Streams) of
+        unknown -> ask_exchanged(Others, Streams, AsTheyAre);
+        {ok, Exchanged} ->
+            case ask_as_it_is(Exchanged) of
+                {ok, #{said := fits} = Outcome} ->
+                    {ok, Outcome#{streams := Streams, exchanged := How, asked => Exchanged}};
+                {ok, _} -> ask_exchanged(Others, Streams, AsTheyAre);
+                {error, Reason} -> {error, Reason}
+            end
+    end.
+
+exchange(prevs, Streams) -> {ok, seqaudit_exchange:prevs(Streams)};
+exchange(counts, Streams) -> seqaudit_exchange:counts(Streams).
+
+ask_as_it_is(Streams) ->
     Text = iolist_to_binary(seqaudit_bundle:text(Streams)),
     seqaudit_program:with_text(Text, fun(File) -> ask(Streams, Text, File) end).
 
 ask(Streams, Text, File) ->
-    Outcome = #{streams => Streams, renumbered => false, tool => not_there, answer => <<>>},
+    Outcome = #{streams => Streams, renumbered => false, tool => not_there, answer => <<>>, exchanged => none,
+                unlisted => [], unproved => seqaudit_program:lacks_proofs()},
     case seqaudit_program:ask_if_known("seqtool", ["renumber"], File) of
         unknown ->
             audit(File, File, Outcome#{tool := there});
@@ -101,25 +152,33 @@ complete(Ranks, File, Unfit, #{streams := Streams} = Outcome) ->
         unknown ->
             {ok, unfit(Unfit, Outcome#{tool := {failed, <<"it doesn't know `complete'">>}})};
         {ok, {?FITS, AddedText}} ->
-            {ok, {?FITS, AllText}} =
-                seqaudit_program:ask("seqtool", ["complete", "--as", "streams"], File),
-            {ok, All} = seqaudit_bundle:parse(AllText),
-            Completed = seqaudit_bundle:complete(Streams, {All, added(AddedText)}),
-            {ok, Acts} = seqaudit_program:ask("seqtool", ["complete", "--as", "acts"], Ranks),
-            Answer = case Acts of
-                         {?FITS, Shown} -> Shown;
-                         _ -> AddedText
-                     end,
-            {ok, Outcome#{said => completed, streams := Completed, answer := Answer}};
+            case seqaudit_program:ask("seqtool", ["complete", "--as", "streams"], File) of
+                {ok, {?FITS, AllText}} ->
+                    completed(AddedText, AllText, Ranks, Outcome);
+                {ok, {_, Fault}} ->
+                    {ok, unfit(Unfit, Outcome#{tool := {failed, line(Fault)}})};
+                {error, Reason} ->
+                    {error, Reason}
+            end;
         {ok, {?UNFIT, <<"never ", _/binary>> = Report}} ->
             {ok, Outcome#{said => never, finding => finding(Report, Streams), answer := Report}};
-        {ok, {?UNFIT, <<"open ", _/binary>> = Report}} ->
-            {ok, Outcome#{said => open, finding => finding(Report, Streams), answer := Report}};
         {error, Reason} ->
             {error, Reason};
         {ok, {_, Fault}} ->
             {ok, unfit(Unfit, Outcome#{tool := {failed, line(Fault)}})}
     end.
+
+completed(AddedText, AllText, Ranks, #{streams := Streams} = Outcome) ->
+    {ok, All} = seqaudit_bundle:parse(AllText),
+    Completed = seqaudit_bundle:complete(Streams, {All, added(AddedText)}),
+    {ok, Acts} = seqaudit_program:ask("seqtool", ["complete", "--as", "acts"], Ranks),
+    Answer = case Acts of
+                 {?FITS, Shown} -> Shown;
+                 _ -> AddedText
+             end,
+    Listed = [Pid || {Pid, _} <- Streams],
+    {ok, Outcome#{said => completed, streams := Completed, answer := Answer,
+                  unlisted := [Pid || {Pid, _} <- Completed, not lists:member(Pid, Listed)]}}.
 
 added(Text) ->
     [begin
@@ -131,10 +190,7 @@ added(Text) ->
 %% the node's own counts.
 finding(Report, Streams) ->
     [First | Lines] = binary:split(Report, <<"\n">>, [global, trim]),
-    Reason = case binary:split(First, <<" ">>, [global]) of
-                 [_, _, _, Word | _] -> Word;
-                 _ -> <<"open">>
-             end,
+    [_, _, _, Reason | _] = binary:split(First, <<" ">>, [global]),
     {Reason, [found(Line, Streams) || <<"event ", _/binary>> = Line <- Lines]}.
 
 found(Line, Streams) ->

@@ -7,7 +7,11 @@
 
 -export([html/2, html/3, format_error/1]).
 
+-import(seqaudit_json, [object/1, array/1, text/1]).
+
 -define(NONCE_BYTES, 18).
+%% So many entries of a table of times are in a page.
+-define(DURATIONS, 200).
 %% So many characters all messages of a page have together: a page is one file that a browser reads and
 %% keeps as a whole, and searches as a whole at each key.
 -define(CHARACTERS, 32_000_000).
@@ -79,10 +83,10 @@ format_error({file, File, Reason}) ->
 
 data(#{name := Name, legend := Legend, outcome := Outcome, parts := Parts} = Audited, Label, Limit) ->
     Shown = case Parts of
-                [] -> [maps:get(streams, Outcome)];
-                _ -> [Streams || {_, #{streams := Streams}} <- Parts]
+                [] -> [Outcome];
+                _ -> [Part || {_, Part} <- Parts]
             end,
-    PartRows = [seqaudit_causes:rows(Streams) || Streams <- Shown],
+    PartRows = [seqaudit_outcome:rows(Part) || Part <- Shown],
     Resets = lists:droplast(sums([length(Rows) || Rows <- PartRows], 0)),
     Rows = lists:append([[{Part, Row} || Row <- Rows] || {Part, Rows} <- lists:enumerate(PartRows)]),
     Values = distinct([Value || {_, #{event := #{value := Value}, invented := false}} <- Rows]),
@@ -90,21 +94,51 @@ data(#{name := Name, legend := Legend, outcome := Outcome, parts := Parts} = Aud
         {ok, Texts, Most} ->
             Terms = [term(seqaudit_legend:brief(Value, Legend), maps:get(Value, Texts), Most) || Value <- Values],
             {ok, object(about(Audited, Resets)
-                        ++ [{"most", case Most of infinity -> <<"null">>; _ -> integer_to_binary(Most) end},
+                        ++ [{"begin", first(Audited)}, {"durations", array(durations(Shown, Audited))},
+                            {"most", case Most of infinity -> <<"null">>; _ -> integer_to_binary(Most) end},
                             {"limit", integer_to_binary(Limit)},
                             {"terms", array(Terms)}
-                            | rows(Rows, lanes(hd(Shown), Rows), Values, Label, Audited)])};
+                            | rows(Rows, lanes(maps:get(streams, hd(Shown)), Rows), Values, Label, Audited)])};
         {error, Reason} ->
             {error, {messages, Reason}}
     end.
 
-about(#{name := Name, legend := Legend, notes := Notes, cut := Cut, outcome := #{said := Said} = Outcome,
+%% When the first event happened, in microseconds since 1970, if the clock of the node is known.
+first(#{timed := #{start := Start, events := Events}}) when Start >= 0, map_size(Events) > 0 ->
+    integer_to_binary(Start div 1_000);
+first(_) ->
+    <<"null">>.
+
+%% How long messages took, by pair of processes and by kind.
+durations(Shown, #{timed := Times, legend := Legend}) ->
+    Streams = lists:append([Streams || #{streams := Streams} <- Shown]),
+    [table(Title, seqaudit_durations:messages(Streams, Times, Key))
+     || maps:size(maps:get(messages, Times)) > 0,
+        {Title, Key} <- [{"By processes", fun(#{from := From, to := To}) ->
+                              unicode:characters_to_binary([seqaudit_legend:process(From, Legend), " -> ",
+                                                            seqaudit_legend:process(To, Legend)])
+                          end},
+                         {"By kind of message", fun(#{value := Value}) ->
+                              Kind = seqaudit_durations:kind(seqaudit_legend:brief(Value, Legend)),
+                              unicode:characters_to_binary(Kind)
+                          end}]];
+durations(_Shown, _Audited) ->
+    [].
+
+table(Title, Entries) ->
+    object([{"title", text(Title)}, {"more", integer_to_binary(max(0, length(Entries) - ?DURATIONS))},
+            {"entries", array([entry(Entry) || Entry <- lists:sublist(Entries, ?DURATIONS)])}]).
+
+entry({Of, #{count := Count, median := Median, most := Most, greatest := Greatest}}) ->
+    array([text(Of) | [integer_to_binary(Number) || Number <- [Count, Median, Most, Greatest]]]).
+
+about(#{name := Name, legend := Legend, losses := Losses, cut := Cut, outcome := #{said := Said} = Outcome,
         parts := Parts}, Resets) ->
     [{"title", text(filename:basename(Name))},
      {"headline", text(string:trim(unicode:characters_to_list(
                                      seqaudit_explain:headline(Outcome, Legend))))},
      {"fits", atom_to_binary(Said =:= fits orelse Said =:= completed)},
-     {"notes", array([text(Line) || Line <- lines([Cut, seqaudit_explain:losses(Notes),
+     {"notes", array([text(Line) || Line <- lines([Cut, seqaudit_explain:losses(Losses),
                                                    resets(Parts, Legend)])])},
      {"resets", array([integer_to_binary(Row) || Row <- Resets])}].
 
@@ -175,6 +209,7 @@ columns(Rows, Lanes, Labels, Values, Times) ->
                               end)},
             {"at", Column(fun({_, Row}) -> at(Row) end)},
             {"cause", Column(fun({Part, Row}) -> integer_to_binary(cause(Part, Row, Places)) end)},
+            {"had", had(Rows, Places)},
             {"time", case map_size(Times) of
                          0 -> <<"null">>;
                          _ -> Column(fun({_, #{id := Id}}) -> time(Id, Times) end)
@@ -196,9 +231,12 @@ how(#{cause := {sent, _}}) -> $s;
 how(#{cause := {received, _}}) -> $r;
 how(#{cause := {spawned, _}}) -> $w;
 how(#{cause := {unreported, _}}) -> $u;
+how(#{cause := {restored, _}}) -> $t;
+how(#{cause := {perhaps, _}}) -> $v;
+how(#{cause := {relabelled, _, open}}) -> $x;
+how(#{cause := {relabelled, _, _}}) -> $l;
 how(#{cause := start}) -> $b;
 how(#{cause := open}) -> $o;
-how(#{cause := missing}) -> $m;
 how(#{cause := unseen}) -> $h.
 
 value(#{invented := true}, _Values) -> -1;
@@ -211,41 +249,13 @@ at(#{id := {_, At}}) -> [$", integer_to_binary(At), $"].
 cause(Part, #{cause := {_, Id}}, Places) -> maps:get({Part, Id}, Places, -1);
 cause(_Part, _Row, _Places) -> -1.
 
+%% What the processes of rows that begin a label, or set one, had received last.
+had(Rows, Places) ->
+    object([{integer_to_list(Number), integer_to_binary(maps:get({Part, Id}, Places))}
+            || {Number, {Part, #{cause := {relabelled, _, {Id, _}}}}} <- lists:enumerate(0, Rows)]).
+
 time(Id, Times) ->
     case Times of
         #{Id := Time} -> integer_to_binary(Time);
         #{} -> <<"null">>
     end.
-
-%% Data as JSON
-
-object(Fields) ->
-    [${, lists:join($,, [[$", Name, $", $: | Value] || {Name, Value} <- Fields]), $}].
-
-array(Values) ->
-    [$[, lists:join($,, Values), $]].
-
-%% A text as JSON writes it, with a number for each character that a page or its reader could take
-%% for something else. A long one is made in one binary, as a list takes many times its size.
-text(Text) when is_binary(Text) -> append_text(Text, <<$">>);
-text(Text) -> text(unicode:characters_to_binary(Text)).
-
-append_text(<<C, Rest/binary>>, Before)
-  when C >= 16#20, C < 16#7F, C =/= $", C =/= $\\, C =/= $<, C =/= $>, C =/= $& ->
-    append_text(Rest, <<Before/binary, C>>);
-append_text(<<C/utf8, Rest/binary>>, Before) when C < 16#10000 ->
-    append_text(Rest, append_unit(C, Before));
-append_text(<<C/utf8, Rest/binary>>, Before) ->
-    First = append_unit(16#D800 + ((C - 16#10000) bsr 10), Before),
-    append_text(Rest, append_unit(16#DC00 + ((C - 16#10000) band 16#3FF), First));
-append_text(<<_, Rest/binary>>, Before) ->
-    append_text(Rest, append_unit(16#FFFD, Before));
-append_text(<<>>, Before) ->
-    <<Before/binary, $">>.
-
-append_unit(Unit, Before) ->
-    <<A:4, B:4, C:4, D:4>> = <<Unit:16>>,
-    <<Before/binary, "\\u", (digit(A)), (digit(B)), (digit(C)), (digit(D))>>.
-
-digit(N) when N < 10 -> $0 + N;
-digit(N) -> $a + N - 10.

@@ -1,13 +1,15 @@
 %% @doc Runs the programs `seqaudit' and `seqtool'.
 -module(seqaudit_program).
 
--export([ask/2, ask/3, ask_if_known/3, find/0, find/1, unproved/0, run/3, with_text/2, format_error/1]).
+-export([ask/2, ask/3, ask_if_known/3, find/0, find/1, unproved/0, lacks_proofs/0, run/3, with_text/2, format_error/1]).
 
 -import(seqaudit_errors, [text/2]).
 
 %% The file goes to the program's standard input, which a port can't close.
 -define(SHELL, "exec \"$0\" \"$@\" <\"$SEQAUDIT_INPUT\"").
 -define(QUIET_SHELL, ?SHELL " 2>/dev/null").
+%% The folders of programs that aren't proved, best first, and what these are.
+-define(UNPROVED, [{"rust", "plain Rust, not proved"}, {"quick", "built without proofs"}]).
 %% The exit status of a program that doesn't understand the words.
 -define(USAGE, 3).
 
@@ -50,13 +52,14 @@ find() ->
     find("seqaudit").
 
 %% @doc Where a program is: where the variable of its name in capitals says, beside this application
-%% (in its folder, or in `bin' or `bin/quick' beside that), or on the path.
+%% (in its folder, or in `bin', `bin/rust' or `bin/quick' beside that), or on the path.
 -spec find(string()) -> {ok, file:filename()} | {error, {no_program, string(), [file:filename()]}
                                                        | {missing, string(), file:filename()}}.
 find(Name) ->
     Home = filename:dirname(filename:dirname(filename:absname(code:which(?MODULE)))),
     Bin = filename:join(filename:dirname(Home), "bin"),
-    Beside = [filename:join(Home, Name), filename:join(Bin, Name), filename:join([Bin, "quick", Name])],
+    Unproved = [filename:join(Bin, Folder) || {Folder, _} <- ?UNPROVED],
+    Beside = [filename:join(Folder, Name) || Folder <- [Home, Bin | Unproved]],
     Said = [File || File <- [os:getenv(string:uppercase(Name))], File =/= false],
     OnPath = [File || File <- [os:find_executable(Name)], File =/= false],
     case [File || File <- Said ++ Beside ++ OnPath, filelib:is_regular(File)] of
@@ -65,11 +68,19 @@ find(Name) ->
         [] -> {error, {no_program, Name, Beside}}
     end.
 
-%% @doc The programs that are asked and that `make quick' built, without their proofs.
--spec unproved() -> [file:filename()].
+%% @doc The programs that are asked and aren't proved, with what they are instead.
+-spec unproved() -> [{string(), file:filename()}].
 unproved() ->
-    [File || Name <- ["seqaudit", "seqtool"], {ok, File} <- [find(Name)],
-             lists:suffix(["bin", "quick", Name], filename:split(File))].
+    [{What, File} || {Name, File} <- asked(), {Folder, What} <- ?UNPROVED,
+                     lists:suffix(["bin", Folder, Name], filename:split(File))].
+
+%% @doc Whether a program that is asked isn't proved: one of these, or a slow model in Python.
+-spec lacks_proofs() -> boolean().
+lacks_proofs() ->
+    unproved() =/= [] orelse lists:any(fun({_, File}) -> filename:extension(File) =:= ".py" end, asked()).
+
+asked() ->
+    [{Name, File} || Name <- ["seqaudit", "seqtool"], {ok, File} <- [find(Name)]].
 
 %% @doc Runs a program with these words on this file: its exit status and what it wrote.
 -spec run(file:filename(), [string()], file:filename()) ->
@@ -133,8 +144,8 @@ format_error({cut, Program}) ->
 format_error({missing, Name, Program}) ->
     text("there is no ~ts, which the variable ~ts names", [Program, string:uppercase(Name)]);
 format_error({no_program, Name, Beside}) ->
-    text("there is no ~ts on the path, nor at ~ts; `make quick' in the repository builds it unproved in a minute "
-         "or two, and `make program' proved; or say where it is in the variable ~ts",
+    text("there is no ~ts on the path, nor at ~ts; `make rust' in the repository builds it as plain Rust, and "
+         "`make program' proved; or say where it is in the variable ~ts",
          [Name, lists:join(" or ", Beside), string:uppercase(Name)]);
 format_error({file, File, Reason}) ->
     seqaudit_errors:unread(File, Reason).

@@ -3,10 +3,12 @@
 
 -export([is_final/1, allows_reset/1, explain/1]).
 
-%% What to look at if a process's counter went back between two of its events.
+%% What to look at if a process's counter went back between two of its events; the likelier comes first.
+-define(PUT_BACK,
+        "a token that set_token/1 puts back (Old = seq_trace:set_token([]), .., seq_trace:set_token(Old)): that moves "
+        "the counter of a standard node back to what the token had").
 -define(COUNTER_WENT_BACK,
-        "seq_trace:reset_trace/0 between the two; a token that set_token/1 puts back, which moves the "
-        "counter of a standard node; files of two runs converted as one.").
+        ?PUT_BACK "; files of two runs converted as one; seq_trace:reset_trace/0 between the two.").
 
 %% @doc Whether no run without a reset is left if `seqaudit audit' gives this reason.
 -spec is_final(binary()) -> boolean().
@@ -21,41 +23,32 @@ allows_reset(Reason) ->
 %% @doc What a reason means, and what to look at.
 -spec explain(binary()) -> {Meaning :: string(), Look :: string()}.
 explain(<<"prevnotbefore">>) ->
-    {"the first number of an event's serial isn't below its second. No run does that: the file was "
-     "changed, or a token's serial was set by hand.",
-     "seq_trace:set_token/2 with serial, and tokens that set_token/1 puts back."};
+    {"the first number of an event's serial isn't below its second, so the counter of its process went back behind "
+     "what the process had received.",
+     "a token that set_token/1 puts back before anything was sent with it, which sets the counter of a standard node "
+     "to 0; a token's serial that was set by hand; a file that was changed."};
 explain(<<"notrising">>) ->
-    {"one process stamped both events, and the later one has no higher count: its counter went back. "
-     "Only a reset does that.",
+    {"one process stamped both events, and the later one has no higher count: its counter went back.",
      ?COUNTER_WENT_BACK};
 explain(<<"repeated">>) ->
-    {"two messages were received that have the same sender and the same count. Only a reset at the sender's node "
-     "lets it send a count again.",
-     "seq_trace:reset_trace/0; events that were collected twice, by a second tracer or by files of "
-     "the same run; a send to an alias or a name that was taken for one to the wrong process (NAME.notes)."};
+    {"two messages were received that have the same sender and the same count, so the sender's counter went back "
+     "between them, or one message is here twice.",
+     "events that were collected twice, by a second tracer or by files of the same run; " ?PUT_BACK "; files of two "
+     "runs converted as one; seq_trace:reset_trace/0; a send to an alias or a name that was taken for one to the "
+     "wrong process (NAME.notes)."};
 explain(<<"mismatch">>) ->
-    {"what was received isn't what its sender sent with this count. Only a reset lets it use a count "
-     "again.",
-     "files of two runs converted as one; seq_trace:reset_trace/0; sends to aliases and names, which "
-     "may be taken for sends to the wrong process (NAME.notes)."};
+    {"what was received isn't what its sender sent with this count, so these are two messages, and the sender's "
+     "counter went back between them.",
+     ?PUT_BACK "; files of two runs converted as one; seq_trace:reset_trace/0; sends to aliases and names, which may "
+     "be taken for sends to the wrong process (NAME.notes)."};
 explain(<<"late">>) ->
-    {"the process had received a message with this count or a higher one before, and its counter never "
-     "falls behind what it received. Only a reset puts it back.",
+    {"the process had received a message with this count or a higher one before, and its counter is at least as high "
+     "as what it received, until it goes back.",
      ?COUNTER_WENT_BACK};
 explain(<<"unfounded">>) ->
-    {"by its serial the event follows nothing, but the process that sent or printed it had received a "
-     "message of a trace before. Only a reset makes a process forget that.",
-     "seq_trace:reset_trace/0 before the event; a token that set_token/1 puts back; files of two "
-     "runs converted as one."};
-explain(<<"unsent">>) ->
-    {"more events follow messages with this count than there are processes that can have sent one, "
-     "as each process uses a count once. Only a reset lets it use a count again.",
-     "seq_trace:reset_trace/0; a token that set_token/1 puts back; processes that took part and "
-     "aren't in the trace (--process or --label cut them, or their node was lost)."};
-explain(<<"open">>) ->
-    {"sends weren't reported, and seqtool found neither places for them at which all events fit nor a "
-     "reason why there are none.",
-     "the send flag: with it on, seqtool always decides. A cut to fewer processes or labels may help too."};
+    {"by its serial the event follows nothing, but the process that sent or printed it had received a message of a "
+     "trace before, or had sent or printed something that follows one.",
+     ?PUT_BACK "; files of two runs converted as one; seq_trace:reset_trace/0 before the event."};
 explain(<<"uncaused">>) ->
     {"the event follows something that its process received and that isn't in the trace. That "
      "needn't be a fault: by itself, seqaudit doesn't look for unreported receives.",

@@ -5,7 +5,7 @@
 -module(seqaudit_signals).
 -behaviour(gen_event).
 
--export([listen/0, wait/2]).
+-export([listen/0, wait/2, output_closed/0]).
 -export([init/1, handle_event/2, handle_call/2]).
 
 %% @doc From now on a signal is kept for {@link wait/2}.
@@ -25,6 +25,11 @@ wait(Asked, Time) ->
         elapsed
     end.
 
+%% @doc Ends the wait since nobody reads any more what the command writes; unlike a signal, any number of times.
+-spec output_closed() -> ok.
+output_closed() ->
+    gen_event:notify(erl_signal_server, output_closed).
+
 %% @private
 -spec init({{pid(), reference()}, term()}) -> {ok, {pid(), reference()} | asked}.
 init({Waiting, _Former}) ->
@@ -37,6 +42,10 @@ handle_event(sigterm, {Waiting, Asked}) ->
     {ok, asked};
 handle_event(sigterm, asked) ->
     halt(143, [{flush, false}]);
+%% Standard output and standard error may be closed both.
+handle_event(output_closed, {Waiting, Asked}) ->
+    Waiting ! Asked,
+    {ok, asked};
 handle_event(_Signal, State) ->
     {ok, State}.
 

@@ -12,12 +12,14 @@
 
 -include("seqaudit_packed.hrl").
 
--export([none/0, write/4, read/1, at/2, took/2, summary/1, summary/2, format_error/1]).
+-export([none/0, write/4, read/1, at/2, took/2, clock/1, span/1, summary/1, summary/2, format_error/1]).
 -export_type([times/0]).
 
 -import(seqaudit_errors, [text/2]).
 
 -define(HEADER, <<"seqaudit times 1">>).
+%% The end of the year 9999, in microseconds from 1970.
+-define(LAST_US, 253_402_300_799_999_999).
 
 -type event() :: {Process :: binary(), I :: non_neg_integer()}.
 -type times() :: #{start := integer(), events := #{event() => integer()},
@@ -109,12 +111,26 @@ read_lines([Line | Lines], Number, #{events := Events, messages := Messages} = T
         error:_ -> {error, {not_times, File, Number}}
     end.
 
-%% @doc When an event happened, in seconds after the first, or `none'.
+%% @doc When an event happened, by the clock of its node and in seconds after the first event, or `none'.
 -spec at(seqaudit_causes:id(), times()) -> string() | none.
-at(Event, #{events := Events}) ->
+at(Event, #{start := Start, events := Events}) ->
     case Events of
-        #{Event := Time} -> seconds(Time);
+        #{Event := Time} -> time_of_day(Start + Time) ++ seconds(Time);
         #{} -> none
+    end.
+
+%% @doc A time in nanoseconds since 1970 as `2026-11-27T01:22:18.123456Z'; `none' if it is before that. Then the events
+%% came without the clock of their node, and count from far below.
+-spec clock(integer()) -> string() | none.
+clock(Nanoseconds) when Nanoseconds < 0 -> none;
+clock(Nanoseconds) ->
+    calendar:system_time_to_rfc3339(min(?LAST_US, Nanoseconds div 1_000), [{unit, microsecond}, {offset, "Z"}]).
+
+%% Where the clock isn't known nothing is said of it.
+time_of_day(Nanoseconds) ->
+    case clock(Nanoseconds) of
+        none -> "";
+        Clock -> lists:nth(2, string:split(Clock, "T")) ++ " "
     end.
 
 %% @doc How many seconds the message of a receive was under way, or `none'.
@@ -136,12 +152,13 @@ summary(Streams, #{events := Events, messages := Messages} = Times) ->
         Some ->
             First = lists:min(maps:values(Some)),
             Since = maps:map(fun(_, Time) -> Time - First end, Some),
-            summary(Times#{events := Since, messages := maps:with(Shown, Messages)}) ++ "\n"
+            #{start := Start} = Times,
+            summary(Times#{start := Start + First, events := Since, messages := maps:with(Shown, Messages)}) ++ "\n"
     end.
 
 %% @doc Over which time the events stretch, and how long messages took, in a line.
 -spec summary(times()) -> string().
-summary(#{events := Events, messages := Messages}) ->
+summary(#{start := Start, events := Events, messages := Messages}) ->
     Last = lists:max([0 | maps:values(Events)]),
     Took = lists:sort([Time || {_, Time} <- maps:values(Messages)]),
     text("~ts from the first event to the last", [span(Last)])
@@ -150,8 +167,14 @@ summary(#{events := Events, messages := Messages}) ->
                _ -> text("; of ~b messages half took at most ~ts, the slowest ~ts",
                          [length(Took), span(lists:nth(length(Took) div 2 + 1, Took)),
                           span(lists:last(Took))])
+           end
+        ++ case clock(Start) of
+               none -> "";
+               Clock -> text("; the first at ~ts", [Clock])
            end.
 
+%% @doc How long something took, in the unit that shows it best.
+-spec span(integer()) -> string().
 span(Nanoseconds) when Nanoseconds < 10_000 -> text("~b ns", [Nanoseconds]);
 span(Nanoseconds) when Nanoseconds < 10_000_000 -> text("~b us", [Nanoseconds div 1_000]);
 span(Nanoseconds) when Nanoseconds < 10_000_000_000 -> text("~b ms", [Nanoseconds div 1_000_000]);

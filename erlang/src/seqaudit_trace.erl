@@ -17,7 +17,7 @@
 -module(seqaudit_trace).
 -behaviour(gen_server).
 
--export([start/0, start/1, stop/0, folders/0, with_trace/2, with_trace/3, format_error/1]).
+-export([start/0, start/1, stop/0, rotate/1, cancel/0, folders/0, with_trace/2, with_trace/3, format_error/1]).
 -export([init/1, handle_call/3, handle_cast/2, handle_info/2]).
 -export_type([options/0, flag/0]).
 
@@ -27,7 +27,7 @@
 -define(FLAGS, [send, 'receive', print, timestamp, strict_monotonic_timestamp,
                 monotonic_timestamp]).
 %% Modules that another node needs: the collector, what it depends on, and this one for `with_trace'.
--define(MODULES, [seqaudit_spool, seqaudit_scribe, seqaudit_watch, seqaudit_collector, ?MODULE]).
+-define(MODULES, [seqaudit_spool, seqaudit_scribe, seqaudit_watch, seqaudit_trigger, seqaudit_collector, ?MODULE]).
 -define(REMOTE_MS, 15_000).
 %% A node that is out of reach is tried again in these steps.
 -define(REACH_MS, 500).
@@ -40,14 +40,16 @@
 
 -type options() :: #{nodes => [node()], name => file:filename(), limit => non_neg_integer(),
                      reset => boolean(), bytes => pos_integer(), folder => file:filename() | default,
-                     trigger => seqaudit_collector:trigger() | none, port => boolean()}.
+                     trigger => seqaudit_trigger:trigger() | none, port => boolean(),
+                     take_over => boolean()}.
 %% `nodes': where to trace, this node alone if it isn't given; `name': the files' name without
 %% extension, `"seqaudit"' if it isn't given; `bytes': the total size of each node's files, 268,435,456
 %% if it isn't given; `limit': how many events of each node are kept, all if it isn't given; `reset':
 %% whether `seq_trace:reset_trace/0' is called on each node first, which takes the tokens of all its
 %% users; `folder': where each node makes the folder for its files, its folder for temporary files
-%% if it isn't given; `trigger': a function whose callers get a token; `port': whether a trace port
-%% may be used, true if it isn't given.
+%% if it isn't given; `trigger': functions whose callers get a token; `port': whether a trace port
+%% may be used, true if it isn't given; `take_over': whether a collector whose leader is out of reach is
+%% ended first, false if it isn't given.
 
 -type flag() :: send | 'receive' | print
               | timestamp | strict_monotonic_timestamp | monotonic_timestamp.
@@ -74,7 +76,7 @@ start() ->
 start(Options) ->
     _ = seq_trace:set_token([]),
     Defaults = #{nodes => [node()], name => "seqaudit", limit => infinity, reset => false,
-                 bytes => ?BYTES, folder => default, trigger => none, port => true},
+                 bytes => ?BYTES, folder => default, trigger => none, port => true, take_over => false},
     All = maps:merge(Defaults, Options),
     Wrong = [{Option, Value} || {Option, Value} <- maps:to_list(All), not is_valid(Option, Value)],
     case {maps:keys(maps:without(maps:keys(Defaults), Options)), Wrong, left_over()} of
@@ -93,10 +95,8 @@ is_valid(name, Name) -> io_lib:char_list(Name) andalso Name =/= [];
 is_valid(limit, Limit) -> Limit =:= infinity orelse is_integer(Limit) andalso Limit >= 0;
 is_valid(bytes, Bytes) -> is_integer(Bytes) andalso Bytes >= ?LEAST_BYTES;
 is_valid(folder, Folder) -> Folder =:= default orelse io_lib:char_list(Folder);
-is_valid(trigger, #{function := {M, F, A}, label := _, times := Times}) ->
-    is_atom(M) andalso is_atom(F) andalso is_integer(A) andalso A >= 0 andalso is_boolean(Times);
-is_valid(trigger, Trigger) -> Trigger =:= none;
-is_valid(Option, Value) when Option =:= reset; Option =:= port -> is_boolean(Value);
+is_valid(trigger, Trigger) -> seqaudit_trigger:is_valid(Trigger);
+is_valid(Option, Value) when Option =:= reset; Option =:= port; Option =:= take_over -> is_boolean(Value);
 is_valid(_, _) -> true.
 
 %% @doc Takes the collectors off and writes the files. Returns how many events were kept and
@@ -118,6 +118,19 @@ stop() ->
             demonitor(Leader, [flush]),
             recover(left_over())
     end.
+
+%% @doc Writes what came since the start, or since this was last called, while collecting goes on without a gap: a file
+%% of events for each node that can be reached, with this name, a number and `.events'.
+-spec rotate(file:filename()) -> [{node(), {ok, file:filename()} | {error, term()}}].
+rotate(Name) ->
+    gen_server:call(?MODULE, {rotate, Name}, infinity).
+
+%% @doc Takes the collectors off, and removes what came since {@link rotate/1} was last called.
+-spec cancel() -> ok.
+cancel() ->
+    Leader = monitor(process, ?MODULE),
+    ok = gen_server:call(?MODULE, cancel, infinity),
+    receive {'DOWN', Leader, process, _, _} -> ok end.
 
 recover(none) ->
     {error, not_started};
@@ -167,7 +180,7 @@ format_error(not_started) ->
     "no trace is being collected; begin one: seqaudit_trace:start()";
 format_error({unknown_options, Names}) ->
     text("start doesn't know the options ~0tp; it takes nodes, name, bytes, limit, reset, folder, "
-         "trigger and port", [Names]);
+         "trigger, port and take_over", [Names]);
 format_error({option, Option, Value}) ->
     text("~ts can't be ~0tP: ~ts", [Option, Value, 10, allowed(Option)]);
 format_error(left_over) ->
@@ -176,15 +189,18 @@ format_error({otp, Release}) ->
     text("this Erlang is OTP ~ts, and collecting needs OTP ~b or later", [Release, ?LEAST_OTP]);
 format_error({node, Node, {otp, Release}}) ->
     text("node ~ts is OTP ~ts, and collecting needs OTP ~b or later", [Node, Release, ?LEAST_OTP]);
-format_error({node, Node, {no_function, {Module, Function, Arity}}}) ->
-    text("node ~ts has no function ~ts:~ts/~b; is its module loaded there, and is it spelled so?",
-         [Node, Module, Function, Arity]);
+format_error({node, Node, {trigger, Reason}}) ->
+    seqaudit_trigger:format_error(Node, Reason);
 format_error({node, Node, {file, File, Reason}}) ->
     text("node ~ts can't write to ~ts: ~ts; name another folder (--folder)",
          [Node, File, file:format_error(Reason)]);
-format_error({node, Node, {already_started, _}}) ->
-    text("node ~ts already has a collector; end the trace that uses it, with "
-         "seqaudit_trace:stop() where it was started", [Node]);
+format_error({node, Node, {in_use, #{owner := Owner, folder := Folder, left := led}}}) ->
+    text("node ~ts is traced already, for ~ts (its events go to ~ts); end that first, by Ctrl-C or "
+         "seqaudit_trace:stop() there", [Node, Owner, Folder]);
+format_error({node, Node, {in_use, #{owner := Owner, folder := Folder, left := Left}}}) ->
+    text("node ~ts is still traced for ~ts, which can't be reached any more; that ends in ~b s, unless it comes back, "
+         "and leaves its events in ~ts there; with --take-over it ends now",
+         [Node, Owner, (Left + 999) div 1_000, Folder]);
 format_error({node, Node, unreachable}) ->
     text("node ~ts can't be reached; is it running, is its name spelled so, and is the cookie "
          "the same?", [Node]);
@@ -204,7 +220,7 @@ allowed(name) -> "it is the name of a file";
 allowed(limit) -> "it is a whole number of events, 0 or more";
 allowed(bytes) -> text("it is a whole number of bytes, ~b or more", [?LEAST_BYTES]);
 allowed(folder) -> "it is the name of a folder";
-allowed(trigger) -> "it is a map with function, label and times";
+allowed(trigger) -> "it is a map with function or functions, label, times, and perhaps calls";
 allowed(_) -> "it is true or false".
 
 text(Format, Values) ->
@@ -216,7 +232,7 @@ init({recover, #state{nodes = Nodes} = State}) ->
     {ok, State#state{nodes = [Node#node{monitor = monitor(process, Node#node.collector)}
                               || Node <- Nodes]}};
 init(#{nodes := Nodes, name := Name, limit := Limit} = Options) ->
-    Each = (maps:with([reset, bytes, folder, trigger, port, limit], Options))#{owner => self()},
+    Each = (maps:with([reset, bytes, folder, trigger, port, limit, take_over], Options))#{owner => self()},
     case {erlang:system_info(otp_release), seqaudit_events:writable(Name)} of
         {Release, ok} ->
             case is_enough(Release) andalso start_all(lists:usort(Nodes), Each, []) of
@@ -235,7 +251,7 @@ is_enough(Release) -> list_to_integer(Release) >= ?LEAST_OTP.
 
 %% @private
 -spec handle_call(term(), gen_server:from(), #state{}) ->
-          {stop, normal, {ok, seqaudit_convert:summary()}, #state{}}
+          {stop, normal, {ok, seqaudit_convert:summary()} | ok, #state{}}
         | {reply, term(), #state{}}.
 handle_call(stop, _From, State0) ->
     State = stopped(State0),
@@ -246,6 +262,17 @@ handle_call(stop, _From, State0) ->
         {error, Reason} ->
             {reply, {error, Reason}, State}
     end;
+handle_call({rotate, Name}, _From, #state{nodes = Nodes} = State) ->
+    {Rotated, Written} = lists:unzip([rotate(Node, Name ++ "." ++ integer_to_list(Number), State)
+                                      || {Number, Node} <- lists:enumerate(Nodes)]),
+    Now = State#state{nodes = Rotated},
+    ok = application:set_env(seqaudit, collection, Now),
+    {reply, Written, Now};
+handle_call(cancel, _From, State0) ->
+    #state{nodes = Nodes} = State = stopped(State0),
+    lists:foreach(fun remove/1, Nodes),
+    ok = application:unset_env(seqaudit, collection),
+    {stop, normal, ok, State};
 handle_call(folders, _From, #state{nodes = Nodes} = State) ->
     {reply, [{Node, Folder} || #node{node = Node, folder = Folder} <- Nodes], State};
 handle_call(_Stray, _From, State) ->
@@ -383,6 +410,30 @@ end_of(#node{monitor = Monitor}) ->
     after ?END_MS ->
         demonitor(Monitor, [flush]),
         noproc
+    end.
+
+%% A node's files go on; what they had so far is fetched and removed there.
+rotate(#node{node = Name, is = on, collector = Collector, folder = Former} = Node, File, #state{limit = Limit}) ->
+    try seqaudit_collector:rotate(Collector) of
+        {ok, Folder} ->
+            {Node#node{folder = Folder}, {Name, fetched(Node#node{folder = Former, is = {gone, normal}}, File, Limit)}};
+        {error, Reason} ->
+            {Node, {Name, {error, Reason}}}
+    catch
+        exit:{Reason, _} -> {Node, {Name, {error, Reason}}}
+    end;
+rotate(#node{node = Name} = Node, _File, _State) ->
+    {Node, {Name, {error, unreachable}}}.
+
+fetched(Node, File, Limit) ->
+    case seqaudit_events:open(File) of
+        {ok, Device} ->
+            _ = fetch(Node, Limit, Device),
+            ok = seqaudit_events:close(Device),
+            ok = remove(Node),
+            {ok, File ++ ".events"};
+        {error, Reason} ->
+            {error, Reason}
     end.
 
 %% Fetches what the collectors wrote, converts it, and removes it where it was.

@@ -5,8 +5,10 @@
 
 %% So many effects are listed; the rest are counted.
 -define(LISTED, 1_000).
+-define(PREMISES, "This holds if each receive of a token was reported, and if no process took its token off and set "
+                  "one of the same label again, but where it's said.\n").
 
-%% @doc The chain from an event back to where it begins, a line each.
+%% @doc The chain from an event back to where it begins, a line each, and what it rests on.
 -spec chain(seqaudit_bundle:place(), [seqaudit_causes:row()], seqaudit_legend:legend(),
             seqaudit_times:times()) -> unicode:chardata().
 chain(Place, Rows, Legend, Times) ->
@@ -14,7 +16,8 @@ chain(Place, Rows, Legend, Times) ->
     [line("", Row, Legend, Times),
      [line(["because ", by(Cause)], One, Legend, Times)
       || {#{cause := Cause}, One} <- lists:zip(lists:droplast(Chain), Before)],
-     ending(lists:last(Chain))].
+     ending(lists:last(Chain), Legend),
+     [?PREMISES || lists:any(fun is_of_counts/1, Chain)]].
 
 line(Begin, #{id := Id} = Row, Legend, Times) ->
     [Begin, name(Id, Legend), ": ", seqaudit_explain:sentence(Row, Legend), time(Id, Times), $\n].
@@ -26,22 +29,25 @@ time(Id, Times) ->
     end.
 
 by({spawned, _}) -> "(OTP moved the counter when it answered a spawn) ";
-by({unreported, _}) -> "(by a receive that nobody reported) ";
-by({_, {sent_to, _}}) -> "(nobody reported it) ";
-by({_, {_, {_, _}}}) -> "(nobody reported it) ";
+by({restored, _}) -> "(a token was put back here) ";
+by({perhaps, _}) -> "(perhaps: a token may have been put back here) ";
+by({unreported, _}) -> "(perhaps: its receive wasn't reported) ";
+by({received, {_, {_, _}}}) -> "(perhaps: it wasn't reported) ";
+by({_, {sent_to, _}}) -> "(it wasn't reported) ";
+by({_, {_, {_, _}}}) -> "(it wasn't reported) ";
 by(_) -> "".
 
-ending(#{cause := start}) ->
-    "There the trace begins.\n";
-ending(#{cause := open, event := #{prev := Prev}}) ->
-    io_lib:format("There the trace begins, with the counter at ~b, or the event follows something that "
-                  "nobody reported.~n", [Prev]);
-ending(#{cause := missing}) ->
-    "Nobody reported what this event follows.\n";
-ending(#{cause := unseen}) ->
-    "Nobody reported that send, so nobody knows what it follows.\n";
-ending(_) ->
-    "There the chain runs into itself: these events don't fit.\n".
+%% What is said of a send's or print's cause goes by its counts.
+is_of_counts(#{cause := {sent, _}}) -> false;
+is_of_counts(#{cause := unseen}) -> false;
+is_of_counts(_) -> true.
+
+ending(#{cause := {_, _}}, _Legend) ->
+    "There the chain runs into itself: these events don't fit.\n";
+ending(#{cause := unseen}, _Legend) ->
+    "That send wasn't reported, so its cause isn't known.\n";
+ending(#{cause := Cause, event := #{from := From}}, Legend) ->
+    ["There ", seqaudit_legend:process(From, Legend), $\s, cause(Cause, Legend), ".\n"].
 
 %% @doc What an event caused, at one remove or more, a line each.
 -spec effects(seqaudit_bundle:place(), [seqaudit_causes:row()], seqaudit_legend:legend(),
@@ -56,8 +62,8 @@ effects(Place, Rows, Legend, Times) ->
              [["  ", name(Id, Legend), ": ", seqaudit_explain:sentence(Row, Legend), time(Id, Times),
                ", ", cause(Cause, Legend), $\n]
               || #{id := Id, cause := Cause} = Row <- lists:sublist(Effects, ?LISTED)],
-             [io_lib:format("  and ~b more~n", [length(Effects) - ?LISTED])
-              || length(Effects) > ?LISTED]]
+             [io_lib:format("  and ~b more~n", [length(Effects) - ?LISTED]) || length(Effects) > ?LISTED],
+             [?PREMISES || lists:any(fun is_of_counts/1, Effects)]]
     end.
 
 %% @doc What a row is called.
@@ -67,12 +73,22 @@ name({Pid, At}, Legend) -> seqaudit_bundle:name(Pid, At, Legend).
 
 %% @doc What a row follows, in a few words.
 -spec cause(seqaudit_causes:cause(), seqaudit_legend:legend()) -> unicode:chardata().
-cause({sent, {sent_to, _}}, _Legend) -> "after an unreported send";
+cause({sent, {sent_to, _}}, _Legend) -> "its send wasn't reported";
 cause({spawned, Id}, Legend) -> ["after ", name(Id, Legend), ", a spawn's answer"];
-cause({unreported, Id}, Legend) -> ["after ", name(Id, Legend), ", whose receive is unreported"];
-cause({_, {_, {_, _}} = Id}, Legend) -> ["after ", name(Id, Legend), ", unreported"];
+cause({restored, Id}, Legend) -> ["after ", name(Id, Legend), ", whose token was put back"];
+cause({perhaps, Id}, Legend) -> ["perhaps after ", name(Id, Legend), ", whose token was put back"];
+cause({unreported, Id}, Legend) -> ["perhaps after ", name(Id, Legend), ", whose receive wasn't reported"];
+cause({received, {_, {_, _}} = Id}, Legend) -> ["perhaps after ", name(Id, Legend), ", which wasn't reported"];
+cause({_, {_, {_, _}} = Id}, Legend) -> ["after ", name(Id, Legend), ", which wasn't reported"];
 cause({_, Id}, Legend) -> ["after ", name(Id, Legend)];
-cause(start, _Legend) -> "start";
-cause(open, _Legend) -> "start, or cause unreported";
-cause(missing, _Legend) -> "cause unreported";
-cause(unseen, _Legend) -> "unreported".
+cause({relabelled, Label, none}, Legend) ->
+    ["begins label ", seqaudit_legend:label(Label, Legend), " here, or set it on its token"];
+cause({relabelled, Label, open}, Legend) ->
+    ["begins label ", seqaudit_legend:label(Label, Legend), " here, or set it on a token that was put back, or follows "
+     "a message whose receive wasn't reported"];
+cause({relabelled, _, {Id, Other}} = Cause, Legend) ->
+    [cause(setelement(3, Cause, none), Legend), "; it had last received ", name(Id, Legend), " of label ",
+     seqaudit_legend:label(Other, Legend)];
+cause(start, _Legend) -> "begins here";
+cause(open, _Legend) -> "begins here, or follows a message whose receive wasn't reported";
+cause(unseen, _Legend) -> "it wasn't reported, so its cause isn't known".

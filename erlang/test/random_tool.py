@@ -5,8 +5,8 @@
 
 Each number from FIRST to LAST makes three traces: of a run without a reset some reports are lost; of a run of any kind
 one to three damages are made; and a few events are put together of which pairing takes most. Then there are the traces
-of `CHOSEN`, which chance makes seldom. The program and the model must have the same status and say the same, but for what `slow_seqtool.py` lists.
-A completion of either must have the trace's events in their order, lack nothing more to the other, and its acts must pass
+of `CHOSEN`, which chance makes seldom. The program and the model must have the same status and write the same, but for
+acts. A completion must have the trace's events in their order and lack nothing more, and the acts of each must pass
 `seqaudit check`. A run without a reset must have a completion. Of 1,000 numbers or more each answer must have come at
 least once."""
 
@@ -66,65 +66,42 @@ def invented_below(count):
             THIRD: [Event(1, "print", 0, count + 1, THIRD, None, 0), Event(1, "print", count, count + 2, THIRD, None, 0)]}
 
 
-# In the first four a stretch asks for two scarce counts: no run has the first two, and some run the others.
+# The first two have a run only with a process that isn't listed.
 CHOSEN = (own_receives((0, 2), (0, 1), (1, 3), (2, 4)), own_receives((0, 3), (0, 1), (1, 4), (3, 5)),
           own_receives((0, 1), (0, 2), (1, 3), (2, 4)), own_receives((0, 2), (0, 1), (2, 3), (1, 4)), invented_below(2))
 
 
 def word_of(lines):
-    """What an output says: a completion, the reason of a `never`, or `open`."""
+    """What an output says: a completion, or the reason of a `never`."""
     word, *rest = lines[0].split(" ")
-    return {"added": "whole", "never": rest[-1] if word != "never" else rest[2], "open": "open"}[word]
+    return {"added": "whole", "never": rest[-1] if word != "never" else rest[2]}[word]
 
 
 class Trace:
-    """Streams, and what the rules say of them that the model alone doesn't."""
+    """Streams, and what the model says of them."""
 
     def __init__(self, streams):
         self.streams, self.text = streams, text(model.write(streams, None))
         self.lines, self.status = tool.answer(["complete"], self.text)
         self.word = word_of(self.lines)
+        self.unlisted = [model.parse_pid(line.split(" ")[1]) for line in self.lines if line.startswith("unlisted ")]
 
     def has_hidden(self):
         return None in model.pair(self.streams).values()
 
-    def asks_for_two(self):
-        source = model.pair(self.streams)
-        hidden, messages = tool.hidden_sends(self.streams, source), tool.Messages(self.streams, source)
-        return tool.asks_for_two(self.streams, hidden, tool.scarce_counts(self.streams, hidden, messages))
-
-    def is_unsent(self, pid, i):
-        """Whether there are too few messages for the event: by the reported events, or at the best places."""
-        source, event = model.pair(self.streams), self.streams[pid][i]
-        hidden, messages = tool.hidden_sends(self.streams, source), tool.Messages(self.streams, source)
-        needed = {one: tool.needs(events) for one, events in self.streams.items()}
-        if tool.is_need([*tool.lefts(self.streams[pid])][i][0], event) \
-                and not messages.suffice(event.prev, lambda one: needed[one].count(event.prev)):
-            return True
-        return (tool.is_stamp(event) or source[pid, i] is None) \
-            and not tool.is_supplied_at_least(self.streams, hidden, messages, event.prev)
-
-    def allows(self, lines):
-        """Whether the program may say this though the model says something else."""
-        match lines[0].split(" "):
-            case ["added", *_]:
-                return self.word == "whole" and self.lines != ["added 0"]
-            case ["never", pid, i, "unsent"]:
-                return self.word == "unsent" and self.has_hidden() and self.is_unsent(model.parse_pid(pid), int(i))
-            case ["open", *_]:
-                return self.word in ("whole", "open") and self.has_hidden() and self.asks_for_two()
-        return False
-
-    def is_completed(self, added, whole):
-        """Whether these streams are the trace with what was added, and the other one adds nothing more."""
-        places = {(model.parse_pid(pid), int(i)) for word, pid, i, *_ in (line.split(" ") for line in added[1:])}
+    def is_completed(self, whole):
+        """Whether these streams are the trace with what was added, and nothing more is added to them."""
+        places = {(model.parse_pid(pid), int(i))
+                  for word, pid, i, *_ in (line.split(" ") for line in self.lines if line.startswith("added <"))}
         told = {pid: [event for k, event in enumerate(events) if (pid, k) not in places] for pid, events in whole.items()}
-        return told == self.streams and tool.answer(["complete"], text(model.write(whole, None))) == (["added 0"], 0)
+        return told == self.streams | {pid: [] for pid in self.unlisted} \
+            and tool.answer(["complete"], text(model.write(whole, None))) == (["added 0"], 0)
 
     def is_shown(self, acts):
-        """Whether these lines are the trace with acts that show it without a reset."""
-        return text(acts).startswith(self.text + "acts\n") and not any(line.startswith("reset ") for line in acts) \
-            and model.answer(["check"], text(acts))[1] == 0
+        """Whether these lines are the trace and the unlisted processes, with acts that show them without a reset."""
+        listed = dict(sorted({**{pid: [] for pid in self.unlisted}, **self.streams}.items()))
+        return text(acts).startswith(text(model.write(listed, None)) + "acts\n") \
+            and not any(line.startswith("reset ") for line in acts) and model.answer(["check"], text(acts))[1] == 0
 
 
 def lines_of(program, words, given):
@@ -144,23 +121,20 @@ def compare(seqaudit, seqtool, streams):
     """What the model and the program say of streams, in a few words."""
     trace = Trace(streams)
     said, status = lines_of(seqtool, ["complete"], trace.text)
-    assert said == trace.lines and status == trace.status or trace.allows(said), (trace.text, trace.lines, said)
-    if word_of(said) == "whole":
-        whole, _ = lines_of(seqtool, ["complete", "--as", "streams"], trace.text)
-        assert trace.is_completed(said, model.read(text(whole))[0]), (trace.text, whole)
+    assert (said, status) == (trace.lines, trace.status), (trace.text, trace.lines, said)
     if trace.word == "whole":
-        whole, _ = tool.answer(["complete", "--as", "streams"], trace.text)
+        whole, _ = lines_of(seqtool, ["complete", "--as", "streams"], trace.text)
+        assert trace.is_completed(model.read(text(whole))[0]), (trace.text, whole)
         assert ask(seqtool, ["complete"], text(whole)) == ("added 0\n", 0), (trace.text, whole)
-    if trace.word == word_of(said) == "whole":
         compare_acts(seqaudit, seqtool, trace)
-    assert status == (word_of(said) != "whole"), (trace.text, said)
-    hidden = ", sends hidden" if trace.word in ("whole", "unsent", "unfounded") and trace.has_hidden() else ""
-    other = "" if said == trace.lines else f", and the program otherwise ({word_of(said)})"
-    return trace.word, f"{trace.word}{hidden}{other}"
+    assert status == (trace.word != "whole"), (trace.text, said)
+    hidden = ", sends hidden" if trace.word in ("whole", "unfounded") and trace.has_hidden() else ""
+    others = ", with unlisted processes" if trace.unlisted else ""
+    return trace.word, f"{trace.word}{hidden}{others}"
 
 
 # All that may be said.
-ANSWERS = {"whole", "prevnotbefore", "notrising", "repeated", "mismatch", "late", "unfounded", "unsent", "open"}
+ANSWERS = {"whole", "prevnotbefore", "notrising", "repeated", "mismatch", "late", "unfounded"}
 ENOUGH = 1_000
 
 

@@ -107,6 +107,12 @@ fits_test() ->
         said(outcome(fits, streams("seqtrace 1\nprocess <0.30.0>\n"
                                    "{seq_trace,17,{send,{0,1},<0.30.0>,<0.31.0>,7}}\nprocess <0.31.0>\n"
                                    "{seq_trace,17,{'receive',{0,1},<0.30.0>,<0.31.0>,7}}\n"))),
+    %% Nor is it said if a counter stood higher than what was received.
+    Higher = streams("seqtrace 1\nprocess <0.30.0>\n{seq_trace,17,{'receive',{0,1},<0.31.0>,<0.30.0>,7}}\n"
+                     "{seq_trace,17,{print,{1,3},<0.30.0>,[],7}}\nprocess <0.31.0>\n"
+                     "{seq_trace,17,{send,{0,1},<0.31.0>,<0.30.0>,7}}\n"),
+    has(said(outcome(fits, Higher)), ["fits: 3 events of 2 processes; 1 process may have sent or printed something unreported "
+                                      "before the first send or print here\n", "the counter of alice stood at 2.\n"]),
     %% Nothing says so of a trace that was cut, or of which something was lost, or that has no events.
     Print = streams("seqtrace 1\nprocess <0.30.0>\n{seq_trace,17,{print,{0,1},<0.30.0>,[],7}}\n"),
     [<<"fits: 1 event of 1 process; nothing is missing between them\n">> =
@@ -128,7 +134,7 @@ fits_test() ->
         said((outcome(fits, streams(One)))#{cut => true, lost => false}),
     %% A receive that nobody reported, and that an event follows, is told among what nobody reported.
     has(said(outcome(completed, streams(Sends ++ "{seq_trace,17,{print,{1,3},<0.31.0>,[],7}}\n"))),
-        ["fits: 3 events of 2 processes, with 1 event that nobody reported; 1 message has no reported receive, "
+        ["fits: 3 events of 2 processes, with 1 receive that nobody reported; 1 message has no reported receive, "
          "and may still wait\n", "Messages without a reported receive: alice#1 to bob & <co>.\n"]),
     Gaps = "seqtrace 1\nprocess <0.30.0>\n"
            "{seq_trace,17,{print,{4999,5000},<0.30.0>,[],7}}\n"
@@ -137,16 +143,16 @@ fits_test() ->
            "{seq_trace,17,{'receive',{0,3},<0.30.0>,<0.31.0>,6}}\n"
            "{seq_trace,17,{send,{63,64},<0.31.0>,<0.30.0>,7}}\n",
     has(said((outcome(fits, streams(Gaps)))#{renumbered := true}),
-        ["fits: 5 events of 2 processes, with 1 event that nobody reported, 2 silent stamps, 1 jump of a counter",
+        ["fits: 5 events of 2 processes, with 1 send and 2 prints or sends that nobody reported, 1 jump of a counter; the cause of 3 events isn't known",
          "A counter jumps if it stands higher than anything reported explains: that of alice once.",
          "What nobody reported:\n",
          "  alice sends {ok,six} to bob & <co>, serial {0,3}, label 17, received as bob & <co>#0\n",
-         "counts that no event here has: 2 of alice",
+         "sends whose receives weren't reported either: 2 of alice.\n",
          "Before the first send or print here, the counter of alice stood at 4,999.\n",
          "it moves the counter of the process that asked for it: that of bob & <co> once.\n",
          "the serials shown here are the node's own"]),
     has(said((outcome(fits, streams(Gaps)))#{cut => true}),
-        ["with 1 event that nobody reported or that the cut took away, ", "What nobody reported, or what the cut took away:\n"]).
+        ["with 1 send and 2 prints or sends that nobody reported or that the cut took away, ", "What nobody reported, or what the cut took away:\n"]).
 
 %% Of many processes the first are named, and so are the places of a reset.
 many_test() ->
@@ -161,10 +167,10 @@ many_test() ->
          "Messages without a reported receive: alice#0 to alice, alice#1 to alice, ", ", alice#19 to alice, and 1,005 more.\n"]),
     Numbered = [{Pid, [Event#{at := 1} || Event <- Events]} || {Pid, Events} <- Many(1)],
     has(unicode:characters_to_binary(seqaudit_explain:reset_places([Many(1), Numbered], legend())),
-        ["The reset came after <0.101.0>#0 and before <0.101.0>#1, ", ", and so of 30 more processes.\n"]),
+        ["between <0.101.0>#0 and <0.101.0>#1, ", ", and so of 30 more processes.\n"]),
     [One, Other] = [[{<<"<0.30.0>">>, []}, {<<"<0.31.0>">>, []}] || _ <- [1, 2]],
     [{_, [Event]} | _] = Many(1),
-    <<"A reset explains it, or two runs in one trace. The reset came between events of different processes.\n">> =
+    <<"A reset would explain it, as two runs in one trace would: between events of different processes.\n">> =
         unicode:characters_to_binary(seqaudit_explain:reset_places(
             [lists:keyreplace(<<"<0.30.0>">>, 1, One, {<<"<0.30.0>">>, [Event]}),
              lists:keyreplace(<<"<0.31.0>">>, 1, Other, {<<"<0.31.0>">>, [Event]})], legend())).
@@ -191,7 +197,7 @@ completed_test() ->
     Completed = seqaudit_bundle:complete(Streams, {Added, [{<<"<0.30.0>">>, 1}, {<<"<0.31.0>">>, 1},
                                                            {<<"<0.31.0>">>, 3}]}),
     has(said(outcome(completed, Completed)),
-        ["fits: 3 events of 2 processes, with 3 events that nobody reported",
+        ["fits: 3 events of 2 processes, with 1 send and 2 receives that nobody reported",
          "  alice#1~1: alice sends an unknown message to bob & <co>, serial {0,2}, label 17\n",
          "  bob & <co>#1~1: bob & <co> receives start from alice, serial {0,1}, label 17\n",
          "  bob & <co>#2~1: bob & <co> receives an unknown message from alice",
@@ -237,8 +243,7 @@ reasons_test() ->
      || {Said, Begin, Reasons} <- [{never, "doesn't fit: no run reports this trace, because of", [<<"prevnotbefore">>]},
                                    {never, "doesn't fit: no run without a reset reports this trace, because of",
                                     [<<"notrising">>, <<"repeated">>, <<"mismatch">>,
-                                     <<"late">>, <<"unfounded">>, <<"unsent">>]},
-                                   {open, "not known: no run was found", [<<"open">>]},
+                                     <<"late">>, <<"unfounded">>]},
                                    {unexplained, "not explained: no run was found",
                                     [<<"uncaused">>, <<"toowide">>, <<"notreplayed">>]}],
         Reason <- Reasons].
@@ -255,16 +260,19 @@ faults_test() ->
 
 %% Notes that tell of losses stand in the answer.
 losses_test() ->
-    Lost = <<"a@h: its collector went down (noconnection), and all of its events are lost">>,
-    Text = unicode:characters_to_binary(
-             seqaudit_explain:losses([<<"4 sends to an alias: the request that handed it out says whose it is">>, Lost,
-                                      <<"labels that aren't numbers from 0 to 4294967295 have numbers: 1000000 is lost">>,
-                                      <<"no processes, or their number was taken, so they have free numbers: <0.9.0> is lost">>,
-                                      <<"a@h: more came than the files hold, and the oldest 9 bytes were written over">>,
-                                      <<"a@h: the collector dropped 7 events beyond the limit">>])),
+    Facts = [{by_request, "4 sends to an alias: the request that handed it out says whose it is"},
+             {lost, "a@h: its collector went down (noconnection), and all of its events are lost"},
+             {split, "a@h: the connection was lost once, for 205 ms in all; collecting went on"},
+             {labels, "labels that aren't numbers from 0 to 4294967295 have numbers: 1000000 is lost"},
+             {renumbered, "no processes, or their number was taken, so they have free numbers: <0.9.0> is lost"},
+             {written_over, "a@h: more came than the files hold, and the oldest 9 bytes were written over"},
+             {dropped, "a@h: the collector dropped 7 events beyond the limit"}],
+    Losses = seqaudit_notes:losses(iolist_to_binary(seqaudit_notes:facts_text(Facts))),
+    Text = unicode:characters_to_binary(seqaudit_explain:losses(Losses)),
     <<"The trace isn't whole:\n  a@h: its", _/binary>> = Text,
     has(Text, ["dropped 7 events beyond", "the oldest 9 bytes"]),
-    [nomatch, nomatch] = [binary:match(Text, Part) || Part <- [<<"alias">>, <<"labels">>]].
+    [nomatch, nomatch, nomatch] = [binary:match(Text, Part) || Part <- [<<"alias">>, <<"labels">>, <<"205 ms">>]],
+    [] = seqaudit_notes:losses(<<"no such file\n">>).
 
 chart() ->
     chart(<<"label 1000000\nlane 1 <0.30.0>\nlane 2 <0.31.0>\n"
@@ -293,11 +301,11 @@ chart(Text, Bundle) ->
 chart_test() ->
     Text = unicode:characters_to_binary(seqaudit_chart:text(chart(), legend(), seqaudit_times:none())),
     has(Text, ["label {order,7}\nlane 1 alice\nlane 2 bob & <co>\n",
-               "   H   .  unreported    hidden   {0,2} call {get,\"5 < 6\"}  unreported\n",
-               "   .   R  bob & <co>#0  receive  {0,2} call {get,\"5 < 6\"}  after an unreported send\n",
+               "   H   .  unreported    hidden   {0,2} call {get,\"5 < 6\"}  it wasn't reported, so its cause isn't known\n",
+               "   .   R  bob & <co>#0  receive  {0,2} call {get,\"5 < 6\"}  its send wasn't reported\n",
                "   .   S  bob & <co>#1  send     {2,3} {ok,six}  after bob & <co>#0\n",
                "   S   .  alice#3       send     {3,5} #9  after alice#1\n",
-               "   |   P  bob & <co>#2  print    {4,6} start  start, or cause unreported\n"]),
+               "   |   P  bob & <co>#2  print    {4,6} start  begins here, or follows a message whose receive wasn't reported\n"]),
     {error, {no_chart, <<"no label 18">>}} = seqaudit_chart:read(<<"no label 18\n">>),
     {error, {no_chart, <<"   P x">>}} = seqaudit_chart:read(<<"label 1\nlane 1 <0.30.0>\n   P x\n">>).
 
@@ -306,7 +314,7 @@ drawing_test() ->
     has(Drawing, ["label {order,7}: 8 rows, 2 processes, part 2 of 3<", ">alice<", "bob &amp; &lt;co&gt;",
                   ">call {get,&quot;5 &lt; 6&quot;}</text>", "registered as alice", "<text class=\"w\" x=\"12\" y=\"46\">the audit's line<", ">The trace isn't whole<",
                   "bob &amp; &lt;co&gt;#1: send {2,3}, after bob &amp; &lt;co&gt;#0\n{ok,six}",
-                  "unreported: hidden {0,2}, unreported\n", "what it follows may be unreported",
+                  "unreported: hidden {0,2}, it wasn't reported, so its cause isn't known\n", "what it follows may be unreported",
                   "a message whose receive isn't in the chart"]),
     %% One dashed arrow, one that arrives, and two whose receives nobody reported; one question mark. The legend has one more
     %% of the last two.

@@ -4,6 +4,9 @@
 
 -export([guide_test_/0, readme_test_/0]).
 
+%% Whatever program was built last.
+-define(UNPROVED, <<" (by programs without proofs)">>).
+
 guide_test_() ->
     with_programs("the guide", fun guide/1).
 
@@ -31,8 +34,10 @@ readme(Programs) ->
     [true = lists:any(fun({Command, _}) -> string:find(Command, Part) =/= nomatch end, Quoted)
      || Part <- ["seqaudit-node audit", "seqaudit-node chart", "seqaudit audit", "seqtool complete"]],
     [same(Command, Said, Folder, Programs) || {Command, Said} <- Quoted],
-    [{ok, Picture}, {ok, Picture}] =
-        [file:read_file(filename:join(Where)) || Where <- [[Folder, "shop.svg"], [Top, "docs", "shop.svg"]]].
+    [Picture, Picture] = [begin
+                              {ok, Drawing} = file:read_file(filename:join(Where)),
+                              binary:replace(Drawing, ?UNPROVED, <<>>)
+                          end || Where <- [[Folder, "shop.svg"], [Top, "docs", "shop.svg"]]].
 
 guide(Programs) ->
     Folder = seqaudit_audits:file("guide"),
@@ -140,4 +145,4 @@ fits(Quote, Line) ->
 %% Pids differ from run to run, and with them how names are aligned.
 normal(Text) ->
     lists:foldl(fun({Pattern, With}, Done) -> re:replace(Done, Pattern, With, [global, {return, binary}]) end,
-                Text, [{"<[0-9]+\\.[0-9]+\\.[0-9]+>", "<>"}, {" +", " "}]).
+                binary:replace(iolist_to_binary(Text), ?UNPROVED, <<>>, [global]), [{"<[0-9]+\\.[0-9]+\\.[0-9]+>", "<>"}, {" +", " "}]).

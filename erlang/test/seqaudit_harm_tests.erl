@@ -124,7 +124,7 @@ collect_until_kill_test_() ->
         %% The node traced and did nothing else: only what collects is loaded there.
         Loaded = [Module || {Module, _} <- erpc:call(There, code, all_loaded, []),
                             string:prefix(atom_to_list(Module), "seqaudit_") =/= nomatch],
-        [] = Loaded -- [seqaudit_trace, seqaudit_collector, seqaudit_scribe, seqaudit_spool, seqaudit_watch,
+        [] = Loaded -- [seqaudit_trace, seqaudit_collector, seqaudit_scribe, seqaudit_spool, seqaudit_trigger, seqaudit_watch,
                          seqaudit_test_server]
     end).
 
@@ -167,7 +167,7 @@ cookies_test_() ->
         {0, _} = run([Collect, " --cookie-file ", Name, ".cookie"], []),
         {0, _} = run([Collect, " --cookie ", Cookie], [{"SEQAUDIT_COOKIE", "wrong"}]),
         {4, Wrong} = run(Collect, [{"SEQAUDIT_COOKIE", "wrong"}]),
-        {_, _} = binary:match(Wrong, <<"is the cookie the same?">>),
+        {_, _} = binary:match(Wrong, <<"is the cookie the same">>),
         {4, NoFile} = run([Collect, " --cookie-file /no/such/file"], []),
         {_, _} = binary:match(NoFile, <<"the cookie can't be used: /no/such/file: no such file">>)
     end).
@@ -182,7 +182,7 @@ file_modes_test() ->
     8#700 = seqaudit_audits:mode(Folder),
     seqaudit_trace:with_trace(1, [print, timestamp], fun() -> seq_trace:print(x) end),
     {ok, #{files := Files}} = seqaudit_trace:stop(),
-    5 = length(Files),
+    6 = length(Files),
     [8#600 = seqaudit_audits:mode(File) || File <- Files].
 
 %% What can't be understood is said in a sentence, without a stack.

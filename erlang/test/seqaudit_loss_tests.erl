@@ -304,8 +304,9 @@ refused_options_test() ->
          true = is_list(seqaudit_trace:format_error(Reason)),
          undefined = whereis(seqaudit_trace)
      end || {Option, Value} <- [{limit, -5}, {limit, x}, {nodes, []}, {nodes, here}, {name, 17}, {name, ""},
-                                {bytes, 0}, {reset, yes}, {folder, 1}, {trigger, {a, b, 1}}]],
-    {error, {node, _, {no_function, {shop, nothing, 9}} = Missing}} =
+                                {bytes, 0}, {reset, yes}, {folder, 1}, {trigger, {a, b, 1}},
+                                {trigger, #{function => {a, b, 1}, label => 1, times => true, calls => 0}}]],
+    {error, {node, _, {trigger, {no_function, {shop, nothing, 9}}} = Missing}} =
         seqaudit_trace:start(#{name => seqaudit_audits:file("refused"),
                                trigger => #{function => {shop, nothing, 9}, label => 1, times => false}}),
     true = is_list(seqaudit_trace:format_error({node, node(), Missing})),

@@ -1,4 +1,4 @@
-%% The slow model of `seqtool complete' beside the program. `random_tool.py' has what they may say otherwise.
+%% The slow model of `seqtool complete' beside the program.
 -module(seqaudit_model_tests).
 
 -export([random_traces_test_/0, wrong_program_test_/0, files_test_/0]).
@@ -10,7 +10,8 @@ random_traces_test_() ->
         {0, Said} = compared(Auditor, Tool, 100),
         %% Among them were traces of each sort, and some with hidden sends.
         [] = [{Part, Said} || Part <- [<<" lossy: whole, sends hidden\n">>, <<" wild: notrising\n">>,
-                                       <<" few: unsent, sends hidden\n">>, <<" chosen: open">>],
+                                       <<" few: unfounded, sends hidden\n">>,
+                                       <<" chosen: whole, sends hidden, with unlisted processes\n">>],
                               binary:match(Said, Part) =:= nomatch]
     end).
 

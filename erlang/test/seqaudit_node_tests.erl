@@ -5,7 +5,7 @@
          printing/0, unproved_test/0]).
 
 usage_test_() ->
-    {timeout, 60, fun() ->
+    {timeout, 180, fun() ->
         {0, Help} = command("--help"),
         {_, _} = binary:match(Help, <<"usage: seqaudit-node COMMAND">>),
         %% Each command is in the help, and has its own, with all of its options.
@@ -15,12 +15,16 @@ usage_test_() ->
              {0, Same} = command([Command, " x -h"]),
              [] = [Option || Option <- Options, binary:match(Its, Option) =:= nomatch]
          end || {Command, Options} <- [{<<"collect">>, [<<"--node">>, <<"-o">>, <<"--seconds">>, <<"--trigger">>, <<"--label">>,
-                                                        <<"--times">>, <<"--reset">>, <<"--bytes">>, <<"--limit">>, <<"--folder">>,
+                                                        <<"--calls">>, <<"--take-over">>, <<"--unload">>, <<"--times">>, <<"--reset">>, <<"--bytes">>, <<"--limit">>, <<"--folder">>,
                                                         <<"--cookie-file">>, <<"--cookie ">>, <<"SEQAUDIT_COOKIE">>]},
                                        {<<"convert">>, [<<"FILE">>, <<"-o">>]},
-                                       {<<"audit">>, [<<"--whole">>, <<"--parts">>, <<"--label">> | cuts()]},
-                                       {<<"chart">>, [<<"--svg">>, <<"--html">>, <<"--label">> | cuts()]},
-                                       {<<"why">>, [<<"--event">>, <<"--effects">>, <<"--label">> | cuts()]}]],
+                                       {<<"watch">>, [<<"--node">>, <<"--every">>, <<"-o">>, <<"--keep">>]},
+                                       {<<"audit">>, [<<"--whole">>, <<"--parts">>, <<"--each-label">>, <<"--json">>,
+                                                      <<"--label">> | cuts()]},
+                                       {<<"chart">>, [<<"--svg">>, <<"--html">>, <<"--mermaid">>, <<"--perfetto">>,
+                                                      <<"--otlp">>, <<"--label">> | cuts()]},
+                                       {<<"why">>, [<<"--event">>, <<"--effects">>, <<"--json">>, <<"--label">> | cuts()]},
+                                       {<<"times">>, [<<"--label">>, <<"--json">> | cuts()]}]],
         [{_, _} = binary:match(Said, Sentence)
          || {Words, Sentence} <- [{"audit x --frob", <<"audit has no option --frob\nusage: seqaudit-node audit NAME">>},
                                   {"why x --event", <<"--event needs a value\nusage: seqaudit-node why NAME">>},
@@ -28,7 +32,8 @@ usage_test_() ->
             {3, Said} <- [command(Words)]],
         [{3, _} = command(Words)
          || Words <- ["", "frobnicate", "audit", "audit a b", "audit a --label", "chart a", "why a",
-                      "convert x", "collect --node a@h", "collect -o x", "convert -o"]],
+                      "convert x", "collect --node a@h", "collect -o x", "convert -o", "times", "watch --node a@h -o x",
+                      "watch --every 1 -o x", "audit a --each-label --whole"]],
         {3, Text} = command("collect --node a@h --seconds ten -o x"),
         {_, _} = binary:match(Text, <<"--seconds can't be ten; it takes a whole number, 1 or more">>)
     end}.
@@ -64,7 +69,7 @@ damaged_test_() ->
              ok = file:delete(Name ++ Suffix),
              case Suffix of
                  ".times" ->
-                     [{0, <<"fits: ", _/binary>>} = command(["audit ", Name], Program)
+                     [{0, <<"fits", _/binary>>} = command(["audit ", Name], Program)
                       || Program <- seqaudit_audits:model() ++ built()];
                  _ ->
                      {4, Gone} = command(["audit ", Name]),
@@ -91,15 +96,20 @@ audit_and_chart_test_() ->
         end
     end}.
 
-%% What `make quick' built isn't proved, and is named.
+%% What `make rust' and `make quick' built isn't proved, and is named.
 unproved_test() ->
-    File = filename:join([filename:dirname(seqaudit_audits:file("x")), "bin", "quick", "seqaudit"]),
+    "plain Rust, not proved" = what_is_said_of("rust"),
+    "built without proofs" = what_is_said_of("quick").
+
+what_is_said_of(Folder) ->
+    File = filename:join([filename:dirname(seqaudit_audits:file("x")), "bin", Folder, "seqaudit"]),
     ok = filelib:ensure_dir(File),
     ok = file:write_file(File, <<>>),
     Before = os:getenv("SEQAUDIT"),
     true = os:putenv("SEQAUDIT", File),
     try
-        [File] = [Program || Program <- seqaudit_program:unproved(), filename:basename(Program) =:= "seqaudit"]
+        [What] = [Is || {Is, Program} <- seqaudit_program:unproved(), Program =:= File],
+        What
     after
         case Before of
             false -> os:unsetenv("SEQAUDIT");
@@ -120,7 +130,7 @@ asked(Name, Program) ->
     {0, Chart} = command(["chart ", Name, " --label '{request, <<\"abc\">>}' --svg ", Name, ".svg"], Program),
     {_, _} = binary:match(Chart, <<"label {request,<<\"abc\">>}\n">>),
     {_, _} = binary:match(Chart, <<"fits: 12 events of 2 processes; nothing was left out\nlabel">>),
-    {_, _} = binary:match(Chart, <<" call 1  start\n">>),
+    {_, _} = binary:match(Chart, <<" call 1  begins here\n">>),
     {ok, <<"<?xml", _/binary>>} = file:read_file(Name ++ ".svg"),
     {1, Other} = command(["chart ", Name, " --label other"], Program),
     {_, _} = binary:match(Other, <<"there is no label other; the trace has #Ref<">>),
@@ -128,6 +138,11 @@ asked(Name, Program) ->
     {_, _} = binary:match(Gone, <<"askedx.terms: no such file or directory; `seqaudit-node convert'">>),
     Unfit = Name ++ "_unfit",
     {0, _} = command(["convert ", capture("exclude_idiom_after_receive"), " -o ", Unfit]),
+    {0, PutBack} = command(["audit ", Unfit], Program),
+    {_, _} = binary:match(PutBack, <<"A token was put back here">>),
+    ok = file:write_file(Unfit ++ ".seqtrace",
+                         ["seqtrace 1\nprocess <0.80.0>\n",
+                          [["{seq_trace,1,{print,{", Serial, "},<0.80.0>,[],0}}\n"] || Serial <- ["0,1", "0,2", "1,3"]]]),
     {1, Why} = command(["audit ", Unfit], Program),
     {_, _} = binary:match(Why, <<"(uncaused)">>),
     {_, _} = binary:match(Why, <<"seqtool would say what the trace lacks, but it isn't there">>).
@@ -189,7 +204,7 @@ collect(There) ->
     %% What the node was sent is what collects; what was collected is converted here.
     Loaded = [Module || Module <- erpc:call(There, erlang, loaded, []),
                         string:prefix(atom_to_list(Module), "seqaudit_") =/= nomatch],
-    [seqaudit_collector, seqaudit_scribe, seqaudit_spool, seqaudit_trace, seqaudit_watch] =
+    [seqaudit_collector, seqaudit_scribe, seqaudit_spool, seqaudit_trace, seqaudit_trigger, seqaudit_watch] =
         lists:sort(Loaded -- [?MODULE, seqaudit_test_server]),
     seqaudit_audits:fits(Name).
 
@@ -205,5 +220,8 @@ command(Words) ->
 
 %% Its status and what it wrote, errors too; `Program' stands for seqaudit.
 command(Words, Program) ->
-    seqaudit_test_shell:run([seqaudit_test_shell:node_command(), $\s, Words],
-                            [{"SEQAUDIT", Program}, {"SEQTOOL", "/no/such/seqtool"}]).
+    {Status, Said} = seqaudit_test_shell:run([seqaudit_test_shell:node_command(), $\s, Words],
+                                             [{"SEQAUDIT", Program}, {"SEQTOOL", "/no/such/seqtool"}]),
+    %% Whatever programs these are.
+    {Status, re:replace(Said, "^seqaudit-node: built without proofs: .*\\n| \\(by programs without proofs\\)", "",
+                        [global, multiline, {return, binary}])}.

@@ -1,7 +1,7 @@
 %% The application as rebar3 packages it, where there is a rebar3 (Debian has one).
 -module(seqaudit_package_tests).
 
--export([rebar3_test_/0, release_test/0]).
+-export([rebar3_test_/0, release_test/0, documented_test/0, unload_test_/0]).
 
 %% rebar3 compiles, tests, makes the pages of the modules and the escript, with nothing from the network.
 %% The escript does from another folder what the command does: it collects, converts, audits and makes a page.
@@ -19,7 +19,7 @@ packaged(Rebar, Folder) ->
     {0, _} = seqaudit_test_shell:run(["cd ", seqaudit_audits:home(), " && tar -c --exclude=test/out --exclude=test/ebin ",
                     "rebar.config seqaudit-node src priv test | tar -x -C ", Folder]),
     [{0, _} = seqaudit_test_shell:run(["cd ", Folder, " && HOME=", Folder, " ", Rebar, " ", Words])
-     || Words <- ["compile", "eunit", "edoc", "as escript escriptize"]],
+     || Words <- ["compile", "xref", "eunit", "edoc", "as escript escriptize"]],
     true = filelib:is_regular(filename:join([Folder, "doc", "index.html"])),
     Command = filename:join([Folder, "_build", "escript", "bin", "seqaudit-node"]),
     {0, <<"usage: seqaudit-node COMMAND", _/binary>>} = seqaudit_test_shell:run(["cd / && ", Command, " --help"]),
@@ -38,7 +38,8 @@ collected(There, Command, Folder) ->
 
 answered(Program, Command, Name) ->
     Variables = [{"SEQAUDIT", Program}, {"SEQTOOL", "/no/such/seqtool"}],
-    {0, <<"fits: 1 event of 1 process", _/binary>>} = seqaudit_test_shell:run(["cd / && ", Command, " audit ", Name], Variables),
+    {0, Fits} = seqaudit_test_shell:run(["cd / && ", Command, " audit ", Name], Variables),
+    {match, _} = re:run(Fits, "^fits( \\(by programs without proofs\\))?: 1 event of 1 process", [multiline]),
     {0, _} = seqaudit_test_shell:run(["cd / && ", Command, " chart ", Name, " --html ", Name, ".html"], Variables),
     {ok, <<"<!doctype html>", _/binary>>} = file:read_file(Name ++ ".html").
 
@@ -47,3 +48,41 @@ release_test() ->
     "this Erlang is OTP 24, and collecting needs OTP 25 or later" = seqaudit_trace:format_error({otp, "24"}),
     "node a@h is OTP 24, and collecting needs OTP 25 or later" =
         seqaudit_trace:format_error({node, 'a@h', {otp, "24"}}).
+
+%% Each function that another module may call says what it does, or that it is private.
+documented_test() ->
+    Sources = filelib:wildcard(filename:join([seqaudit_audits:home(), "src", "*.erl"])),
+    true = length(Sources) > 30,
+    [] = [{filename:basename(Source), Function} || Source <- Sources, Function <- undocumented(Source)].
+
+undocumented(Source) ->
+    {ok, Forms} = epp_dodger:parse_file(Source),
+    Exported = [atom_to_list(Name) || Form <- Forms, erl_syntax:type(Form) =:= attribute,
+                                      {export, Names} <- [exports(Form)], {Name, _} <- Names],
+    {ok, Text} = file:read_file(Source),
+    [Name || Name <- lists:usort(Exported),
+             re:run(Text, ["%% @(doc|private|equiv)[^\n]*\n(%%[^\n]*\n)*-spec ", Name, "\\("]) =:= nomatch].
+
+exports(Form) ->
+    try erl_syntax_lib:analyze_attribute(Form)
+    catch _:_ -> none
+    end.
+
+%% The command says which modules a node keeps, and takes them off if it is asked to.
+unload_test_() ->
+    {timeout, 120, fun() ->
+        seqaudit_test_nodes:with_second("unload", fun(There) ->
+            Collect = [seqaudit_test_shell:node_command(), " collect --node ", atom_to_list(There), " --seconds 1 -o ",
+                       seqaudit_audits:file("unload")],
+            {0, Kept} = seqaudit_test_shell:run(Collect, seqaudit_test_shell:cookie()),
+            {_, _} = binary:match(Kept, iolist_to_binary(["  ", atom_to_list(There), " keeps the modules seqaudit_collector, "])),
+            [_ | _] = ours(There),
+            {0, Gone} = seqaudit_test_shell:run([Collect, " --unload"], seqaudit_test_shell:cookie()),
+            nomatch = binary:match(Gone, <<"modules">>),
+            [] = ours(There)
+        end)
+    end}.
+
+ours(There) ->
+    [Module || Module <- erpc:call(There, erlang, loaded, []), Module =/= seqaudit_test_server,
+               string:prefix(atom_to_list(Module), "seqaudit_") =/= nomatch].

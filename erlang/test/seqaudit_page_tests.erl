@@ -1,7 +1,7 @@
 %% The page, driven in headless chromium where there is one.
 -module(seqaudit_page_tests).
 
--export([chain_test_/0, unreceived_test_/0, hostile_test_/0, large_test_/0, reset_test_/0, pictures_test_/0,
+-export([production_test_/0, chain_test_/0, unreceived_test_/0, hostile_test_/0, large_test_/0, reset_test_/0, pictures_test_/0,
          data_test/0, whole_test_/0, whole_text_test/0, limit_test_/0, most_test/0, damaged_messages_test/0]).
 
 chain_test_() ->
@@ -27,6 +27,26 @@ chain() ->
             [{0, {order, apple}}, {1, {take, apple}}, {2, {left, 7}}, {3, {done, 7}}, {4, last}],
             maps:from_list([{{list_to_binary(Pid), At}, Time} || {Pid, At, Time} <- Times])).
 
+%% A chain over three of sixty lanes, with times by the clock of the node.
+production_test_() ->
+    {timeout, 180, fun() ->
+        Pid = fun(N) -> io_lib:format("<0.~b.0>", [N]) end,
+        Bundle = ["seqtrace 1\n",
+                  "process <0.1.0>\n{seq_trace,7,{send,{0,1},<0.1.0>,<0.2.0>,0}}\n",
+                  "process <0.2.0>\n{seq_trace,7,{'receive',{0,1},<0.1.0>,<0.2.0>,0}}\n{seq_trace,7,{send,{1,2},<0.2.0>,<0.3.0>,1}}\n",
+                  "process <0.3.0>\n{seq_trace,7,{'receive',{1,2},<0.2.0>,<0.3.0>,1}}\n",
+                  [["process ", Pid(N), "\n{seq_trace,8,{print,{9,10},", Pid(N), ",[],2}}\n"] || N <- lists:seq(4, 60)]],
+        Names = [{lists:flatten(Pid(N)), lists:append(["process ", integer_to_list(N)])} || N <- lists:seq(1, 60)],
+        Events = maps:from_list([{{list_to_binary(Of), At}, Time} || {Of, At, Time} <-
+            [{"<0.1.0>", 0, 0}, {"<0.2.0>", 0, 200_000}, {"<0.2.0>", 1, 600_000}, {"<0.3.0>", 0, 900_000}]]),
+        Audited = audited("production", Bundle, Names, [{7, {order, 7}}, {8, other}],
+                          [{0, {order, apple}}, {1, {take, apple}}, {2, tick}], Events),
+        driven("production", "production",
+               Audited#{timed => #{start => 1_795_742_538_123_456_789, events => Events,
+                                   messages => #{{<<"<0.2.0>">>, 0} => {{<<"<0.1.0>">>, 0}, 200_000},
+                                                 {<<"<0.3.0>">>, 0} => {{<<"<0.2.0>">>, 1}, 300_000}}}})
+    end}.
+
 %% Messages whose receives nobody reported.
 unreceived_test_() ->
     {timeout, 180, fun() ->
@@ -48,7 +68,7 @@ audited(Name, Bundle, Names, Labels, Values, Times) ->
                                                     Labels, Values, #{})),
     {ok, Legend} = seqaudit_legend:read(File),
     {ok, Streams} = seqaudit_bundle:parse(iolist_to_binary(Bundle)),
-    #{name => Name, legend => Legend, times => Times, notes => [], cut => "", parts => [],
+    #{name => Name, legend => Legend, times => Times, losses => [], cut => "", parts => [],
       outcome => #{said => fits, streams => Streams, renumbered => false, tool => there, answer => <<>>}}.
 
 driven(Check, Name, Audited) ->
@@ -136,7 +156,7 @@ long_messages(Name) ->
     8#600 = seqaudit_audits:mode(Bundle ++ ".messages"),
     {ok, Legend} = seqaudit_legend:read(Bundle ++ ".terms"),
     {ok, Streams} = seqaudit_bundle:read(Bundle ++ ".seqtrace"),
-    #{name => Bundle, legend => Legend, times => #{}, notes => [], cut => "", parts => [],
+    #{name => Bundle, legend => Legend, times => #{}, losses => [], cut => "", parts => [],
       outcome => #{said => fits, streams => Streams, renumbered => false, tool => there, answer => <<>>}}.
 
 %% The longest texts are cut to the greatest length at which all fit, and none if they fit.

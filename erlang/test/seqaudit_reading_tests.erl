@@ -3,7 +3,7 @@
 
 -export([damaged_files_test_/0, swapped_files_test_/0, no_atoms_test/0, forged_names_test/0,
          log_lines_test/0, out_of_range_test/0, unpacked_size_test/0, old_release_test/0,
-         equal_maps_test/0, version_1_test/0, ttb_names_test_/0, long_text_test_/0, million_events_test_/0]).
+         equal_maps_test/0, version_1_test/0, damaged_version_1_test/0, before_events_test/0, ttb_names_test_/0, long_text_test_/0, million_events_test_/0]).
 
 %% 1,000 files with bytes flipped, cut, doubled or exchanged, by a fixed seed. Nothing crashes, no
 %% atom is made, and memory stays below ten times the file's size and 100 MB.
@@ -124,9 +124,10 @@ watch(Peak) ->
 swapped_files_test_() ->
     {timeout, 300, fun() ->
         Event = fun(Message) ->
-                        <<131, Rest/binary>> = term_to_binary({seq_trace, 1, {print, {0, 1}, self(), [], x}}),
-                        Size = byte_size(Rest) - 4,
-                        <<Head:Size/binary, 100, 1:16, $x>> = Rest,
+                        %% The message comes last; a small number has two bytes in each release of OTP.
+                        <<131, Rest/binary>> = term_to_binary({seq_trace, 1, {print, {0, 1}, self(), [], 17}}),
+                        Size = byte_size(Rest) - 2,
+                        <<Head:Size/binary, 97, 17>> = Rest,
                         Bytes = <<131, Head/binary, Message/binary>>,
                         <<0, (byte_size(Bytes)):32, Bytes/binary>>
                 end,
@@ -257,6 +258,50 @@ version_1_test() ->
     {ok, #{events := 2, dropped := 2}} = seqaudit_convert:from_files([File], Name),
     {ok, Legend} = seqaudit_legend:read(Name ++ ".terms"),
     <<"tester">> = seqaudit_legend:process(list_to_binary(pid_to_list(self())), Legend).
+
+%% One that is cut says that it is damaged, wherever it is cut.
+damaged_version_1_test() ->
+    File = seqaudit_audits:file("version_1_cut.events"),
+    Whole = term_to_binary({seqaudit_events_1, [#{node => node(), events => [{seq_trace, 1, {print, {0, 1}, self(), [], x}}]}]}),
+    [begin
+         ok = file:write_file(File, binary:part(Whole, 0, Size)),
+         {error, {damaged_version_1, File} = Reason} = seqaudit_convert:from_files([File], seqaudit_audits:file("x")),
+         true = string:find(seqaudit_events:format_error(Reason), "is cut or damaged") =/= nomatch
+     end || Size <- lists:seq(25, byte_size(Whole) - 1, 7)],
+    ok.
+
+%% What stands before an event in a file is a byte, and four with the event's size, the greatest first: so a trace port
+%% writes it, and so it is read and written here.
+before_events_test() ->
+    Name = seqaudit_audits:file("before_events"),
+    <<131, _/binary>> = Event = term_to_binary({seq_trace, 1, {print, {0, 1}, self(), [], lists:duplicate(300, x)}}),
+    Size = byte_size(Event),
+    [Third, Fourth] = [Size div 256, Size rem 256],
+    true = Third > 0 andalso Third =/= Fourth,
+    Entry = <<0, 0, 0, Third, Fourth, Event/binary>>,
+    ok = file:write_file(Name ++ ".trace", [Entry, Entry]),
+    {ok, #{events := 2}} = seqaudit_convert:from_files([Name ++ ".trace"], Name),
+    ok = file:write_file(Name ++ ".trace", <<0, Fourth, Third, 0, 0, Event/binary>>),
+    {error, {broken_trace, _, _}} = seqaudit_convert:from_files([Name ++ ".trace"], Name),
+    [begin
+         ok = seqaudit_trace:start(#{name => Name, port => Port}),
+         Long = lists:duplicate(300, x),
+         seqaudit_trace:with_trace(1, fun() -> seq_trace:print(Long) end),
+         {ok, #{events := 1}} = seqaudit_trace:stop(),
+         {ok, <<"seqaudit events 2\n", Entries/binary>>} = file:read_file(Name ++ ".events"),
+         [Written] = [Bytes || <<131, _/binary>> = Bytes <- by_size(Entries)],
+         {seq_trace, 1, {print, _, _, _, Long}} = binary_to_term(Written)
+     end || Port <- [true, false]],
+    ok.
+
+%% The events of these entries, by the four bytes of their sizes.
+by_size(<<0, A, B, C, D, Rest/binary>>) ->
+    {Event, Others} = split_binary(Rest, ((A * 256 + B) * 256 + C) * 256 + D),
+    [Event | by_size(Others)];
+by_size(<<_, A, B, C, D, Rest/binary>>) ->
+    {_, Others} = split_binary(Rest, ((A * 256 + B) * 256 + C) * 256 + D),
+    by_size(Others);
+by_size(<<>>) -> [].
 
 %% A trace of ttb has names beside it.
 ttb_names_test_() ->

@@ -2,7 +2,7 @@
 -module(seqaudit_test_nodes).
 
 -export([with_second/2, start/0, kill/1, on_port/2, clear/0, until/1, on_disk/2, met/2, await_collector/0,
-         keep_pace/0, is_traced/1, print_when_traced/1, peak/1]).
+         keep_pace/0, met_here/0, is_traced/1, print_when_traced/1, peak/1]).
 
 %% A machine that is busy takes a while for what is done at once otherwise.
 -define(DEADLINE_MS, 30_000).
@@ -111,6 +111,10 @@ keep_pace() ->
 %% Waits until a collector's folder has so many events.
 on_disk(Folder, Count) ->
     until(fun() -> in_folder(Folder, fun({event, _}, Sum) -> Sum + 1; (_, Sum) -> Sum end, 0) >= Count end).
+
+%% Waits until this node's collector has asked what its registered processes are called that reported something.
+met_here() ->
+    receive after 300 -> ok end.
 
 %% Waits until a collector has asked what these processes are called.
 met(Folder, Pids) ->

@@ -288,7 +288,7 @@ traced(Name, Options, Run) ->
     ok = seqaudit_trace:start(Options#{name => File}),
     Run(),
     {ok, #{events := Events, files := Files}} = seqaudit_trace:stop(),
-    4 = length([ok || Written <- Files, filelib:is_regular(Written)]),
+    5 = length([ok || Written <- Files, filelib:is_regular(Written)]),
     {ok, Legend} = seqaudit_legend:read(File ++ ".terms"),
     {Events, Legend}.
 

@@ -1,44 +1,42 @@
 #!/usr/bin/env python3
-"""A slow seqtool: a test model, made by the rules (crates/st_completions/README.md) and not by the program.
+"""A slow seqtool: a test model, made by the rules (docs/COMPLETIONS.md) and not by the program.
 
-    slow_seqtool.py renumber | complete [--as added|streams|acts]    [FILE]
+    slow_seqtool.py renumber | why PID I | complete [--as added|streams|acts]    [FILE]
 
-`renumber` writes what the program writes, and `complete` too, but for what differs on purpose:
+It writes what the program writes, but for what differs on purpose:
 
-- A completion that adds events may be another one, with other places of hidden sends and other senders of invented
-  messages. Its acts are others.
-- `never .. unsent` may name another event, if there are receives without their sends and several events show it.
-- `open` comes only if there is no completion, and names the first receive without its send. The program may say it of
-  streams that have one, if a stretch asks for two scarce counts.
-- `long` comes of the acts that are written here, which are more than the program's. A fault of the reader is only
-  `fault line N`, and may not be seen if it is in the acts or a limit. There are no other commands.
+- The acts of `complete --as acts` are others, and `long` comes of the acts that are written here, which are more than the
+  program's. Nothing goes to standard error if `seqaudit` doesn't read what is written.
+- A fault of the reader is only `fault line N`, and may not be seen if it is in the acts or a limit. There are no other
+  commands.
 """
 
+import re
 import signal
 import sys
+from bisect import bisect_left, bisect_right
 from collections import defaultdict
 from dataclasses import dataclass, replace
-from itertools import islice, product
+from itertools import islice, product, takewhile
 
 import slow_seqaudit as model
+import slow_why
 from slow_seqaudit import Event, NotABundle, Unfit, show
 
-MOST_ACTS = 4_000_000
-# So many choices of placings are tried if a stretch asks for two scarce counts.
-MOST_CHOICES = 100_000
+MOST_PROCESSES = 16_000
+MOST_ACTS = 64_000_000
 
 
 # Streams whose events may be unreported
 
-@dataclass
+@dataclass(eq=False)
 class Item:
     event: Event
     told: bool
-    at: tuple | None      # the place of the reported event, or of the receive that a hidden send is of
 
 
 class Reason(Exception):
-    """Why no run without a reset has the streams, or `open`."""
+    """Why no run without a reset has the streams, with whatever other processes."""
 
     def __init__(self, word, place, other=None):
         super().__init__(word)
@@ -46,7 +44,11 @@ class Reason(Exception):
 
 
 class Long(Exception):
-    """There are more acts than the reader takes."""
+    """There are more processes or acts than the reader of `seqtool check` takes."""
+
+
+class NoEvent(Exception):
+    """There is no event at this place."""
 
 
 def renumbered(streams):
@@ -61,22 +63,13 @@ def is_stamp(event):
     return event.kind != "receive"
 
 
-# What a process's events leave to its next one: the greatest count, and the prev of a stamp that goes on.
+# What a process's events leave to its next one: the greatest count (its clock), and the prev of a stamp that goes on.
 
 START = (0, 0)
 
 
 def after(left, event):
     return max(left[0], event.this), event.prev if is_stamp(event) else event.this
-
-
-def is_late(left, event):
-    return is_stamp(event) and event.this <= left[0]
-
-
-def is_need(left, event):
-    """Whether a receive of the event's prev is missing before it."""
-    return is_stamp(event) and event.prev != left[1] and event.prev < left[0]
 
 
 def lefts(events):
@@ -87,61 +80,29 @@ def lefts(events):
         left = after(left, event)
 
 
-def needs(events):
-    return [event.prev for left, event in lefts(events) if is_need(left, event)]
-
-
-# The reasons that one look at the events shows
+# The reasons beside those of pairing
 
 def late(streams):
     for pid, events in streams.items():
         for i, (left, event) in enumerate(lefts(events)):
-            if is_late(left, event):
+            if is_stamp(event) and event.this <= left[0]:
                 raise Reason("late", (pid, i), (pid, max(j for j in range(i) if events[j].this >= event.this)))
 
 
-def rootless(streams):
-    for pid, events in streams.items():
-        for i, (left, event) in enumerate(lefts(events)):
-            if is_need(left, event) and event.prev == 0:
-                raise Reason("unfounded", (pid, i))
-
-
-def zero_behind(streams):
-    """Two events that tell of stamps of one process, the lower one with a prev and the higher one without."""
+def unfounded(streams, source):
+    """At a stamp with prev 0 of a process that had a count before; at its receive, if only that tells of it."""
     lowest = {}
     for _, event in model.places(streams):
         if event.prev > 0:
             lowest[event.sender] = min(event.this, lowest.get(event.sender, event.this))
-    for place, event in model.places(streams):
-        if event.prev == 0 and lowest.get(event.sender, event.this) < event.this:
-            raise Reason("unfounded", place)
+    for (pid, i), event in model.places(streams):
+        if event.prev == 0 and (is_stamp(event) or source[pid, i] is None):
+            received = is_stamp(event) and not all(map(is_stamp, streams[pid][:i]))
+            if received or lowest.get(event.sender, event.this) < event.this:
+                raise Reason("unfounded", (pid, i))
 
 
-# Messages
-
-class Messages:
-    """Who may have sent a message of a count."""
-
-    def __init__(self, streams, source):
-        self.streams = streams
-        taken = {sent for sent in source.values() if sent}
-        self.told, self.own = defaultdict(set), defaultdict(list)
-        for place, event in model.places(streams):
-            self.told[event.this].add(event.sender)
-            if event.kind == "send" and place not in taken:
-                self.own[event.this, event.to].append(place)
-
-    def free(self, count):
-        """The processes of which nothing is told at the count."""
-        return [pid for pid in self.streams if pid not in self.told[count]]
-
-    def suffice(self, count, wanted):
-        """Whether there are enough messages of the count, if each process wants so many."""
-        return sum(max(0, wanted(pid) - len(self.own[count, pid])) for pid in self.streams) <= len(self.free(count))
-
-
-# Hidden sends and where they may stand
+# Hidden sends and where they stand
 
 def hidden_sends(streams, source):
     """Of each process the sends that only their receives tell of, by rising count."""
@@ -149,183 +110,200 @@ def hidden_sends(streams, source):
     for (pid, i), sent in source.items():
         if sent is None:
             event = streams[pid][i]
-            found[event.sender].append(Item(replace(event, kind="send"), False, (pid, i)))
-    return {pid: sorted(items, key=lambda item: item.event.this) for pid, items in found.items()}
+            found[event.sender].append(replace(event, kind="send"))
+    return {pid: sorted(sends, key=lambda send: send.this) for pid, sends in found.items()}
 
 
-def least_of(found):
-    """Those of the tuples that no other one is below."""
-    return {needed: items for needed, items in found.items()
-            if not any(other != needed and all(n <= m for n, m in zip(other, needed)) for other in found)}
+class Stretch:
+    """The receives between two reported stamps of a process, each of which may be missing, and the hidden sends whose
+    counts lie between theirs. A send at gap K stands behind K of the receives. A stamp costs nothing, that is, it isn't a
+    need, if what stands before it leaves its prev, or if its prev isn't below the clock."""
+
+    def __init__(self, before, receives, sends, stamp):
+        self.before, self.sends, self.stamp, self.end = before, sends, stamp, len(receives)
+        # The clock at each gap by what is reported, and the gaps behind receives of a count, and of a count and a label.
+        self.clocks, self.behind = [before.this if before else 0], defaultdict(list)
+        for gap, receive in enumerate(receives, 1):
+            self.clocks.append(max(self.clocks[-1], receive.this))
+            self.behind[receive.this].append(gap)
+            self.behind[receive.this, receive.label].append(gap)
+
+    def last_start(self, count):
+        """The last gap at which a trace can begin at this count: the clock isn't above it."""
+        return bisect_right(self.clocks, count) - 1
+
+    def next_behind(self, receive, gap, limit):
+        """The next gap behind a receive of this count, or count and label, if it is within the limit."""
+        gaps = self.behind[receive]
+        at = bisect_right(gaps, gap)
+        return gaps[at] if at < len(gaps) and gaps[at] <= limit else None
+
+    def limits(self):
+        """For each send the last gap at which what comes next can still cost nothing, if it can at all."""
+        found, following, limit = [], self.stamp, self.end
+        for send in reversed(self.sends):
+            if following and following.prev != send.prev:
+                limit = max(self.limits_before(send, following, limit), default=limit)
+            limit = min(limit, bisect_left(self.clocks, send.this) - 1)
+            found.append(limit)
+            following = send
+        return found[::-1]
+
+    def limits_before(self, send, following, limit):
+        """Last gaps of a send, if what follows it has another prev: right before a receive of that, or where that can
+        begin a trace. The stamp at the end has only one place."""
+        moves = following is not self.stamp
+        earlier = [gap for gap in self.behind[following.prev] if gap <= limit]
+        if earlier and (moves or earlier[-1] == limit):
+            yield earlier[-1] - 1
+        start = min(limit, self.last_start(following.prev))
+        if following.prev >= max(self.clocks[0], send.this) and (moves or start == limit):
+            yield start
+
+    def gaps(self):
+        """The gap of each send."""
+        found, gap, clock = [], 0, self.clocks[0]
+        left = (self.before.prev, self.before.label) if self.before else (0, None)
+        for send, limit in zip(self.sends, self.limits()):
+            gap = self.gap_of(send, left, clock, gap, limit)
+            found.append(gap)
+            left, clock = (send.prev, send.label), max(clock, self.clocks[gap], send.this)
+        if self.ends_in_own_trace():
+            count = len(list(takewhile(lambda send: send.prev == self.stamp.prev, reversed(self.sends))))
+            found[len(found) - count:] = [self.end] * count
+        return found
+
+    def gap_of(self, send, left, clock, gap, limit):
+        """Where a send goes from the gap of the one before it."""
+        if left == (send.prev, send.label):
+            return gap
+        behind = self.next_behind((send.prev, send.label), gap, limit)
+        if behind is None and send.prev not in (left[0], clock):
+            behind = self.next_behind(send.prev, gap, limit)
+            if behind is None and send.prev > clock:
+                # It begins a trace later, behind all that may be before it.
+                return max(gap, min(limit, self.last_start(send.prev)))
+        return gap if behind is None else behind
+
+    def ends_in_own_trace(self):
+        """Whether the last sends begin the trace of the stamp at the end, so that they go right before it."""
+        if not self.stamp or not self.sends or self.sends[-1].prev != self.stamp.prev:
+            return False
+        earlier = [send.this for send in self.sends if send.prev != self.stamp.prev]
+        high = max([self.clocks[self.end], *earlier[-1:]])
+        return self.behind[self.stamp.prev][-1:] != [self.end] and self.stamp.prev >= high
 
 
-def placings(told, hidden, counts):
-    """The placings of a process: its hidden sends among its events, in turn and with no stamp late. Only those that need
-    these counts least: how often they need each, and the items, linked from the last one back."""
-    fronts = {(0, 0): {START: {(0,) * len(counts): None}}}
-    here = {}
-    for i in range(len(told) + 1):
-        for j in range(len(hidden) + 1):
-            here = {left: least_of(found) for left, found in fronts.pop((i, j), {}).items()}
-            for to, items in ((i + 1, j), told[i:i + 1]), ((i, j + 1), hidden[j:j + 1]):
-                for item in items:
-                    for left, found in here.items():
-                        if not is_late(left, item.event):
-                            wanted = item.event.prev if is_need(left, item.event) else None
-                            behind = fronts.setdefault(to, {}).setdefault(after(left, item.event), {})
-                            for needed, before in found.items():
-                                more = tuple(n + (count == wanted) for n, count in zip(needed, counts))
-                                behind.setdefault(more, (before, item))
-    return least_of({needed: items for found in here.values() for needed, items in found.items()})
+def with_hidden(events, sends):
+    """A process's events and its hidden sends, stretch after stretch."""
+    items, begin, before = [], 0, None
+    for end in [i for i, event in enumerate(events) if is_stamp(event)] + [len(events)]:
+        stamp = events[end] if end < len(events) else None
+        own = [send for send in sends
+               if (not before or send.this > before.this) and (not stamp or send.this < stamp.this)]
+        gaps = Stretch(before, events[begin:end], own, stamp).gaps()
+        for gap, receive in enumerate([None, *events[begin:end]]):
+            items += [Item(receive, True)] if receive else []
+            items += [Item(send, False) for send, place in zip(own, gaps) if place == gap]
+        items += [Item(stamp, True)] if stamp else []
+        begin, before = end + 1, stamp
+    return items
 
 
-def unlinked(items):
-    found = []
-    while items:
-        items, item = items
-        found.append(item)
-    return found[::-1]
+# Receives that were lost, and messages that nobody reported
 
-
-def told_items(streams):
-    return {pid: [Item(event, True, (pid, i)) for i, event in enumerate(events)] for pid, events in streams.items()}
-
-
-def scarce_counts(streams, hidden, messages):
-    """The counts above 0 of which there are too few messages, should all stamps with this prev need one."""
-    asking = {pid: [event.prev for event in [*events, *(item.event for item in hidden[pid])] if is_stamp(event)]
-              for pid, events in streams.items()}
-    return [count for count in sorted({count for prevs in asking.values() for count in prevs} - {0})
-            if not messages.suffice(count, lambda pid: asking[pid].count(count))]
-
-
-def asks_for_two(streams, hidden, scarce):
-    """Whether some stretch has stamps with two scarce prevs: the hidden sends between two reported stamps of a process,
-    with the second of these."""
-    for pid, events in streams.items():
-        stamps = [(event, True) for event in events if is_stamp(event)] + [(item.event, False) for item in hidden[pid]]
-        asked = set()
-        for event, told in sorted(stamps, key=lambda stamp: stamp[0].this):
-            asked |= {event.prev} & set(scarce)
-            if len(asked) > 1:
-                return True
-            if told:
-                asked = set()
-    return False
-
-
-def fewest(told, hidden, count):
-    """How often a process needs the count at the best of its placings."""
-    [(needed,)] = placings(told, hidden, [count])
-    return needed
-
-
-def is_supplied_at_least(streams, hidden, messages, count):
-    told = told_items(streams)
-    return messages.suffice(count, lambda pid: fewest(told[pid], hidden[pid], count))
-
-
-def shortage(streams, source, hidden, messages, scarce):
-    """At the first event that asks for the least count that has too few messages at the best places."""
-    for count in scarce:
-        if not is_supplied_at_least(streams, hidden, messages, count):
-            raise Reason("unsent", next(place for place, event in model.places(streams)
-                                        if event.prev == count and (is_stamp(event) or source[place] is None)))
-
-
-def with_hidden(streams, source, hidden, messages):
-    """The streams with their hidden sends at places at which there are enough messages of each count."""
-    told = told_items(streams)
-    if not any(hidden.values()):
-        return told
-    zero_behind(streams)
-    scarce = scarce_counts(streams, hidden, messages)
-    shortage(streams, source, hidden, messages, scarce)
-    found = {pid: placings(told[pid], hidden[pid], [0, *scarce]) for pid in streams}
-    for choice in islice(product(*found.values()), MOST_CHOICES):
-        needed = dict(zip(found, choice))
-        if not any(zero for zero, *_ in choice) and \
-                all(messages.suffice(count, lambda pid: needed[pid][k]) for k, count in enumerate(scarce, 1)):
-            return {pid: unlinked(found[pid][needed[pid]]) for pid in streams}
-    raise Reason("open", next(place for place, sent in source.items() if sent is None))
-
-
-# The completion
-
-@dataclass(frozen=True)
-class Supply:
-    """A message that is received right before a need: its count, who receives it, who sent it, and the need's label."""
-    count: int
-    to: tuple
-    sender: tuple
-    label: int
-
-
-def supplies(whole, messages):
-    """For each need a message, of a reported send that nobody received, or else of a process of which nothing is told at
-    the count; by rising count, and then as the needs stand."""
-    wanted = sorted((item.event.prev, pid, k) for pid, items in whole.items()
-                    for k, (left, item) in enumerate(zip(lefts_of(items), items)) if is_need(left, item.event))
-    found = []
-    for count in sorted({count for count, _, _ in wanted}):
-        own = {pid: [sender for sender, _ in messages.own[count, pid]] for pid in whole}
-        free, short = messages.free(count), None
-        for _, pid, k in (need for need in wanted if need[0] == count):
-            item, senders = whole[pid][k], own[pid] or free
-            if senders:
-                found.append(Supply(count, pid, senders.pop(0), item.event.label))
-            else:
-                short = item.at
-        if short:
-            raise Reason("unsent", short)
+def unreceived_sends(streams, source):
+    """The reported sends that no reported receive took, by receiver and count, and then by rising sender."""
+    taken, found = set(source.values()), defaultdict(list)
+    for place, event in model.places(streams):
+        if event.kind == "send" and place not in taken:
+            found[event.to, event.this].append(event)
     return found
 
 
-def lefts_of(items):
-    return [left for left, _ in lefts(item.event for item in items)]
+def lost_receives(pid, asking, unreceived):
+    """Which stamps follow a reported send that no reported receive took. Those that ask come with how their prev lies to
+    the clock: needs take first, and for each sort those whose label is that of the send."""
+    found = {}
+    for sort, same_label in product((-1, 1), (True, False)):
+        for item, side in asking:
+            sends = unreceived[pid, item.event.prev]
+            send = next((send for send in sends if not same_label or send.label == item.event.label), None)
+            if side == sort and item not in found and send:
+                found[item] = replace(send, kind="receive")
+                sends.remove(send)
+    return found
 
 
-def stamp_of(whole, pid, count):
-    return next((item.event for item in whole[pid] if is_stamp(item.event) and item.event.this == count), None)
+def with_receives(pid, items, unreceived):
+    """A process's items with a receive right before each need, and before what would begin a trace though a message of
+    its prev was sent to the process. A receive without a sender needs one."""
+    asking = [(item, (event.prev > left[0]) - (event.prev < left[0]))
+              for item, (left, event) in zip(items, lefts(item.event for item in items))
+              if is_stamp(event) and event.prev != left[1]]
+    lost, needs = lost_receives(pid, asking, unreceived), {item for item, side in asking if side < 0}
+    found = []
+    for item in items:
+        if item in lost:
+            found.append(Item(lost[item], False))
+        elif item in needs:
+            found.append(Item(Event(item.event.label, "receive", 0, item.event.prev, None, pid, 0), False))
+        found.append(item)
+    return found
 
 
-def put_send(whole, supply):
-    """Before the first event that reaches the count. It goes on from what is left, or begins the next event's trace."""
-    items = whole[supply.sender]
-    place = next((k for k, item in enumerate(items) if item.event.this >= supply.count), len(items))
-    left = START
-    for item in items[:place]:
-        left = after(left, item.event)
-    prev = left[1]
-    for item in items[place:place + 1]:
-        if is_stamp(item.event) and item.event.prev != prev and left[0] <= item.event.prev < supply.count:
-            prev = item.event.prev
-    event = Event(supply.label, "send", prev, supply.count, supply.sender, supply.to, 0)
-    items.insert(place, Item(event, False, None))
+def unlisted_pids(listed):
+    """The pids that aren't listed: on the node of the least listed one from the last number down, then on the next."""
+    least = min(listed)[0]
+    every = (((least + k) % 65_536, number) for k in range(65_536) for number in reversed(range(65_536)))
+    return (pid for pid in every if pid not in listed)
 
 
-def put_receive(whole, supply):
-    """Right before the first need of the count."""
-    items = whole[supply.to]
-    place = next(k for k, (left, item) in enumerate(zip(lefts_of(items), items))
-                 if is_need(left, item.event) and item.event.prev == supply.count)
-    event = stamp_of(whole, supply.sender, supply.count)
-    items.insert(place, Item(replace(event, kind="receive"), False, None))
+def with_senders(whole):
+    """The completion with a sender for each receive that needs one: of each count the processes that stamp it nowhere, by
+    rising pid, and then as few others as are enough, of which each sends a count once."""
+    needs, stamping, sent = defaultdict(list), defaultdict(set), defaultdict(list)
+    for pid, items in whole.items():
+        for item in items:
+            if is_stamp(item.event):
+                stamping[item.event.this].add(pid)
+            elif item.event.sender is None:
+                needs[item.event.this].append(item)
+    short = max((len(some) + len(stamping[count]) - len(whole) for count, some in needs.items()), default=0)
+    unlisted = list(islice(unlisted_pids(whole), max(0, short))) if short > 0 else []
+    for count, some in sorted(needs.items()):
+        senders = [pid for pid in whole if pid not in stamping[count]] + unlisted
+        for need, sender in zip(some, senders):
+            sent[sender].append(need)
+    return {pid: with_invented(pid, whole.get(pid, []), sent[pid]) for pid in sorted([*whole, *unlisted])}
+
+
+def with_invented(pid, items, receives):
+    """A sender's items with the sends of these receives, which come by rising count: each before the first event that
+    reaches its count. It goes on from what is left, or begins the next event's trace. The receives get its serial."""
+    found, left, waiting = [], START, receives[:]
+    for item in [*items, None]:
+        while waiting and (item is None or waiting[0].event.this <= item.event.this):
+            receive = waiting.pop(0)
+            begins = item and is_stamp(item.event) and left[0] <= item.event.prev < receive.event.this
+            prev = item.event.prev if begins else left[1]
+            receive.event = replace(receive.event, sender=pid, prev=prev)
+            found.append(Item(replace(receive.event, kind="send"), False))
+            left = after(left, found[-1].event)
+        if item:
+            found.append(item)
+            left = after(left, item.event)
+    return found
 
 
 def completed(streams):
+    """All events of the completion, also those of the processes that the streams don't list."""
     source = model.pair(streams)
     late(streams)
-    rootless(streams)
-    messages = Messages(streams, source)
-    whole = with_hidden(streams, source, hidden_sends(streams, source), messages)
-    found = supplies(whole, messages)
-    for supply in found:
-        if not stamp_of(whole, supply.sender, supply.count):
-            put_send(whole, supply)
-    for supply in found:
-        put_receive(whole, supply)
-    return whole
+    unfounded(streams, source)
+    hidden, unreceived = hidden_sends(streams, source), unreceived_sends(streams, source)
+    return with_senders({pid: with_receives(pid, with_hidden(events, hidden[pid]), unreceived)
+                         for pid, events in streams.items()})
 
 
 class Builder(model.Builder):
@@ -377,29 +355,42 @@ def acts(whole):
 
 # What is written
 
+# A pid as a command's word, with its angle brackets or without.
+PID = re.compile(r"<?(\d+)\.(\d+)\.0>?")
+
+
+def pid_of(word):
+    found = PID.fullmatch(word)
+    return int(found[1]), int(found[2])
+
+
 def written(words, streams):
     """The lines of a command."""
     match words:
         case ["renumber"]:
             return list(model.write(renumbered(streams), None))
-        case ["complete"] | ["complete", "--as", "added"]:
-            lines = [f"added {show(pid)} {k} {item.event}" for pid, items in completed(streams).items()
-                     for k, item in enumerate(items) if not item.told]
-            return [f"added {len(lines)}", *lines]
-        case ["complete", "--as", "streams"]:
-            whole = {pid: [item.event for item in items] for pid, items in completed(streams).items()}
-            return list(model.write(whole, None))
-        case ["complete", "--as", "acts"]:
-            return list(model.write(streams, acts(completed(streams))))
+        case ["why", pid, index]:
+            lines = slow_why.why(streams, (pid_of(pid), int(index)), model.TOP, False)
+            if lines is None:
+                raise NoEvent(f"no event {show(pid_of(pid))} {index}")
+            return lines
+    whole = completed(streams)
+    if words[1:] not in ([], ["--as", "added"]) and len(whole) > MOST_PROCESSES:
+        raise Long
+    match words[1:]:
+        case ["--as", "streams"]:
+            return list(model.write({pid: [item.event for item in items] for pid, items in whole.items()}, None))
+        case ["--as", "acts"]:
+            return list(model.write({pid: streams.get(pid, []) for pid in whole}, acts(whole)))
+    added = [f"added {show(pid)} {k} {item.event}" for pid, items in whole.items()
+             for k, item in enumerate(items) if not item.told]
+    return [f"added {len(added)}", *(f"unlisted {show(pid)}" for pid in whole if pid not in streams), *added]
 
 
 def report(streams, unfit):
     named = [unfit.place] + ([unfit.other] if unfit.other else [])
     place = f"{show(unfit.place[0])} {unfit.place[1]}"
-    if unfit.word == "open":
-        yield f"open {place}"
-    else:
-        yield " ".join([f"never {place} {unfit.word}", *(f"{show(pid)} {i}" for pid, i in named[1:])])
+    yield " ".join([f"never {place} {unfit.word}", *(f"{show(pid)} {i}" for pid, i in named[1:])])
     for pid, i in named:
         yield f"event {show(pid)} {i} {streams[pid][i]}"
 
@@ -414,6 +405,8 @@ def answer(words, text):
         return [f"fault line {fault}"], 2
     except Long:
         return ["long"], 5
+    except NoEvent as none:
+        return [str(none)], 1
     except (Unfit, Reason) as unfit:
         return list(report(streams, unfit)), 1
 
@@ -423,6 +416,8 @@ def asked(words):
     match words:
         case ["renumber" | "complete" as command, *rest] if len(rest) < 2:
             return [command], *rest
+        case ["why", pid, index, *rest] if len(rest) < 2 and PID.fullmatch(pid) and index.isdecimal():
+            return ["why", pid, index], *rest
         case ["complete", "--as", "added" | "streams" | "acts" as form, *rest] if len(rest) < 2:
             return ["complete", "--as", form], *rest
         case _:
@@ -440,7 +435,7 @@ def main():
     signal.signal(signal.SIGPIPE, signal.SIG_DFL)
     words = asked(sys.argv[1:])
     if words is None:
-        print("usage: slow_seqtool.py renumber | complete [--as added|streams|acts]    [FILE]", file=sys.stderr)
+        print("usage: slow_seqtool.py renumber | why PID I | complete [--as added|streams|acts]    [FILE]", file=sys.stderr)
         sys.exit(3)
     command, *file = words
     try:

@@ -29,16 +29,23 @@ fn words_of(rt: &HostRuntime) -> io::Result<Vec<String>> {
 
 /// Does what the words ask for, on the file that they name or on standard input. A file that can't
 /// be opened is named on standard error, beside the output of a device that failed.
-fn serve<H: AllocGlobal + Files + Threads + Sync + Eprint, R: ByteSource, W: ByteSink>(
+fn serve<H, R, W, N>(
     rt: &H,
     request: &Request<'_>,
     input: &mut R,
     writer: &mut W,
-) -> u8 {
+    notes: &mut N,
+) -> u8
+where
+    H: AllocGlobal + Files + Threads + Sync + Eprint,
+    R: ByteSource,
+    W: ByteSink,
+    N: ByteSink,
+{
     match request.file {
-        None => run(rt, request.task, input, writer),
+        None => run(rt, request.task, input, writer, notes),
         Some(path) => match fs::open(rt, path) {
-            Ok(file) => run(rt, request.task, &mut ReadFrom::new(file), writer),
+            Ok(file) => run(rt, request.task, &mut ReadFrom::new(file), writer, notes),
             Err(error) => {
                 let _ = eprintln!(rt; "error: {path} can't be opened: {error}");
                 tell_no_device(writer)
@@ -86,7 +93,8 @@ fn main(rt: HostRuntime) -> ExitCode {
             Ok(request) => {
                 let mut input = ReadFrom::new(rt.stdin());
                 let mut writer = WriteTo::new(rt.stdout());
-                serve(&rt, &request, &mut input, &mut writer)
+                let mut notes = WriteTo::new(rt.stderr());
+                serve(&rt, &request, &mut input, &mut writer, &mut notes)
             }
             Err(error) => tell_error(&rt, &error),
         },

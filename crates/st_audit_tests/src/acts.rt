@@ -45,7 +45,7 @@ fn streams_of(alloc: Global, count: u16, events: &[(Pid, Event)]) -> Result<Stre
 fn completion_of(alloc: Global, streams: &Streams) -> Result<Completion, Fail> {
     match complete::<MOST>(alloc, streams)? {
         Answer::Whole(completion) => Ok(completion),
-        Answer::Never(..) | Answer::Open(..) => Err("not completed")?,
+        Answer::Never(..) => Err("not completed")?,
     }
 }
 

@@ -25,7 +25,6 @@ fn completion_of(rt: &impl Abort, alloc: Global, streams: &Streams) -> Result<Co
     match complete::<MOST>(alloc, streams)? {
         Answer::Whole(completion) => Ok(completion),
         Answer::Never(..) => panic!(rt; "never"),
-        Answer::Open(..) => panic!(rt; "open"),
     }
 }
 
@@ -45,7 +44,6 @@ fn assert_never(
             same(rt, &why, &reason);
         }
         Answer::Whole(_) => panic!(rt; "whole"),
-        Answer::Open(..) => panic!(rt; "open"),
     }
     Ok(())
 }

@@ -1,13 +1,11 @@
-//! Completions by the definition, as they were made by hand; hidden sends at the best places; needs of
-//! 0 that two events tell; and what a call does after memory ran out.
+//! Completions by the definition, as they were made by hand, with processes that aren't listed;
+//! stamps with prev 0 that two events tell; and what a call does after memory ran out.
 
 use crate::shared::same;
 use st_complete::{Answer, CompleteFault, Completion, Never, complete, renumbered};
 use st_core::{Draft, Event, Kind, Label, Pid, Serial, Streams};
-use st_hidden::answer_by_least;
-use st_needs::{
-    Flaw, complete_by_definition, find_flaw, find_hidden, find_unsent, find_zero_behind,
-};
+use st_fallback::complete_by_definition;
+use st_needs::{Flaw, find_flaw, find_unfounded};
 use st_pair::pair;
 use st_samples::{p30, p31};
 use std::alloc::{AllocError, Global};
@@ -49,30 +47,24 @@ fn needing_streams(alloc: Global, others: Option<&[Event]>) -> Result<Streams, F
     Ok(draft.close()?)
 }
 
-/// The completion by its definition, if no send is hidden and no reason holds of the streams.
-fn constructed_completion(
+/// The completion by its definition, if no reason holds of the streams.
+fn definition_completion(
     alloc: Global,
     streams: &Streams,
 ) -> Result<Option<Completion>, AllocError> {
     let Ok(pairing) = pair(alloc, streams) else {
         return Ok(None);
     };
-    if let Some(_) = find_hidden(streams, &pairing) {
-        return Ok(None);
-    }
     if let Some(_) = find_flaw(streams, Flaw::Late) {
         return Ok(None);
     }
-    if let Some(_) = find_flaw(streams, Flaw::Rootless) {
+    if let Some(_) = find_unfounded(alloc, streams, &pairing)? {
         return Ok(None);
     }
     if let Some(_) = find_flaw(streams, Flaw::TooHigh(MOST)) {
         return Ok(None);
     }
-    match find_unsent(alloc, streams)? {
-        Some(_) => Ok(None),
-        None => Ok(Some(complete_by_definition::<MOST>(alloc, streams)?)),
-    }
+    Ok(Some(complete_by_definition::<MOST>(alloc, streams, &pairing)?))
 }
 
 /// Asserts that the completion has this untold event, and so many.
@@ -85,7 +77,7 @@ fn assert_added(
     wanted: Event,
     added: u64,
 ) -> Result<(), Fail> {
-    let completion = constructed_completion(alloc, streams)?.ok_or("not completed")?;
+    let completion = definition_completion(alloc, streams)?.ok_or("not completed")?;
     same(rt, &completion.added(), &added);
     same(rt, &completion.told(pid, index), &Some(false));
     same(rt, &completion.streams().event(pid, index), &Some(wanted));
@@ -126,10 +118,18 @@ fn a_process_alone_sent_to_itself(rt: HostRuntime) -> Result<(), Fail> {
     assert_added(&rt, alloc, &streams, p30(), 2, wanted, 2)
 }
 
+/// Nobody who is listed is free to send.
 #[test]
-fn nobody_is_free_to_send(rt: HostRuntime) -> Result<(), Fail> {
+fn a_process_that_is_not_listed_sends(rt: HostRuntime) -> Result<(), Fail> {
     let streams = needing_streams(rt.alloc(), None)?;
-    assert!(rt; constructed_completion(rt.alloc(), &streams)?.is_none());
+    let Answer::Whole(completion) = complete::<MOST>(rt.alloc(), &streams)? else {
+        panic!(rt; "not completed");
+    };
+    let other = Pid::new(65_535);
+    assert_eq!(rt; completion.unlisted(), [other].as_slice());
+    same(&rt, &completion.told(other, 0), &Some(false));
+    let wanted = event(Kind::Send, 0, 3, other, Some(p30()), 0);
+    same(&rt, &completion.streams().event(other, 0), &Some(wanted));
     Ok(())
 }
 
@@ -152,14 +152,12 @@ fn own_receives(
 }
 
 #[test]
-fn a_hidden_send_lacks_a_message_wherever_it_stands(rt: HostRuntime) -> Result<(), Fail> {
+fn a_hidden_send_that_lacks_a_message_gets_it_from_another(rt: HostRuntime) -> Result<(), Fail> {
     let streams = own_receives(rt.alloc(), &[(0, 1), (0, 2)], &[(1, 3)])?;
-    let answer = complete::<MOST>(rt.alloc(), &streams)?;
-    let Answer::Never(pid, index, Never::Unsent) = answer else {
-        panic!(rt; "another answer");
+    let Answer::Whole(completion) = complete::<MOST>(rt.alloc(), &streams)? else {
+        panic!(rt; "not completed");
     };
-    same(&rt, &pid, &p30());
-    same(&rt, &index, &2);
+    assert_eq!(rt; completion.unlisted(), [Pid::new(65_535)].as_slice());
     Ok(())
 }
 
@@ -171,67 +169,25 @@ fn a_hidden_send_behind_its_cause_lacks_none(rt: HostRuntime) -> Result<(), Fail
     Ok(())
 }
 
-/// 1 and 2 could each be served, but not both.
+/// Of the listed process 1 and 2 could each be served, but not both.
 #[test]
-fn two_scarce_counts_in_a_stretch_stay_open(rt: HostRuntime) -> Result<(), Fail> {
+fn two_counts_of_one_stretch_take_one_process_more(rt: HostRuntime) -> Result<(), Fail> {
     let streams = own_receives(rt.alloc(), &[], &[(0, 2), (0, 1), (1, 3), (2, 4)])?;
-    let answer = complete::<MOST>(rt.alloc(), &streams)?;
-    assert!(rt; matches!(answer, Answer::Open(..)));
+    let Answer::Whole(completion) = complete::<MOST>(rt.alloc(), &streams)? else {
+        panic!(rt; "not completed");
+    };
+    same(&rt, &completion.unlisted().len(), &1);
     Ok(())
 }
 
-/// The answer by best places, if no event is late, needs a message of 0 or counts too high, no two
-/// events tell of a need of 0, and a send is hidden.
-fn best_answer(alloc: Global, streams: &Streams) -> Result<Option<Answer>, AllocError> {
-    let Ok(pairing) = pair(alloc, streams) else {
-        return Ok(None);
-    };
-    if let Some(_) = find_flaw(streams, Flaw::Late) {
-        return Ok(None);
-    }
-    if let Some(_) = find_flaw(streams, Flaw::Rootless) {
-        return Ok(None);
-    }
-    if let Some(_) = find_flaw(streams, Flaw::TooHigh(MOST)) {
-        return Ok(None);
-    }
-    if let Some(_) = find_zero_behind(alloc, streams)? {
-        return Ok(None);
-    }
-    let Some(receive) = find_hidden(streams, &pairing) else {
-        return Ok(None);
-    };
-    let answer = answer_by_least::<MOST>(alloc, streams, &pairing, None, receive)?;
-    Ok(Some(answer))
-}
-
+/// The definition has as many processes more as there are events.
 #[test]
-fn hidden_sends_are_placed_without_the_search(rt: HostRuntime) -> Result<(), Fail> {
+fn hidden_sends_are_placed_by_the_definition(rt: HostRuntime) -> Result<(), Fail> {
     let alloc = rt.alloc();
     let streams = own_receives(alloc, &[], &[(0, 1), (1, 2)])?;
-    let Some(Answer::Whole(completion)) = best_answer(alloc, &streams)? else {
-        panic!(rt; "no completion");
-    };
+    let completion = definition_completion(alloc, &streams)?.ok_or("not completed")?;
     same(&rt, &completion.added(), &2);
-    Ok(())
-}
-
-#[test]
-fn no_place_has_enough_messages(rt: HostRuntime) -> Result<(), Fail> {
-    let alloc = rt.alloc();
-    let streams = own_receives(alloc, &[(0, 1), (0, 2)], &[(1, 3)])?;
-    let answer = best_answer(alloc, &streams)?;
-    assert!(rt; matches!(answer, Some(Answer::Never(_, 2, Never::Unsent))));
-    Ok(())
-}
-
-/// The first receive is the place, if no other is named.
-#[test]
-fn two_scarce_counts_stay_open_at_any_place(rt: HostRuntime) -> Result<(), Fail> {
-    let alloc = rt.alloc();
-    let streams = own_receives(alloc, &[], &[(0, 2), (0, 1), (1, 3), (2, 4)])?;
-    let answer = best_answer(alloc, &streams)?;
-    assert!(rt; matches!(answer, Some(Answer::Open(_, 0))));
+    same(&rt, &completion.unlisted().len(), &4);
     Ok(())
 }
 
@@ -324,9 +280,9 @@ fn received_streams(rt: &impl Abort, alloc: Global) -> Streams {
 fn places_without_memory_may_be_asked_again(rt: HostRuntime) {
     let alloc = rt.alloc();
     let streams = received_streams(&rt, alloc);
-    let answer = match best_answer(alloc, &streams) {
-        Ok(Some(answer)) => Ok(Some(answer)),
-        _ => best_answer(alloc, &streams),
+    let answer = match definition_completion(alloc, &streams) {
+        Ok(Some(completion)) => Ok(Some(completion)),
+        _ => definition_completion(alloc, &streams),
     };
-    assert!(rt; matches!(answer, Ok(Some(Answer::Whole(_)))));
+    assert!(rt; matches!(answer, Ok(Some(_))));
 }

@@ -3,9 +3,10 @@
 //! The last receive whose count is the prev of a send or print is found once, in one pass over all
 //! events of a process; the rest is read from the streams and their pairing.
 
-ghost use Rattle.std.specs.Prelude.{◌≡◌, ◌+◌, ℕ, List, map, None, Some, IfOk, OnOk, nat_eq};
+ghost use Rattle.std.specs.Prelude.{◌≡◌, ◌+◌, ℕ, List, map, None, Some, IfOk, OnOk};
 ghost use Rattle.std.specs.Prelude.{slice_get, option_and_then};
-ghost use Rattle.indexmap.specs.IndexMap.{get};
+ghost use Rattle.std.specs.BTreeMap.{get};
+ghost use Rattle.std.specs.Ordering.{nat_cmp};
 ghost use Rattle.st_core.specs.Run.{Stream};
 ghost use Rattle.st_core.specs.declared.types.Event.{Event as EventValue};
 ghost use Rattle.st_core.specs.Streams.{events_of, IsStreams};
@@ -18,18 +19,18 @@ ghost use Rattle.st_chain.specs.Labels.{chain};
 use crate::cause::Cause;
 use crate::chain::Chain;
 use crate::label_table::{ChainKey, LabelTable};
-use indexmap::IndexMap;
 use st_core::{Event, Kind, Label, Pid, Sequence, Streams};
 use st_pair::{Pairing, Source};
 use std::alloc::{AllocError, Global};
+use std::collections::BTreeMap;
 use std::marker::Model;
 
 /// Notes, under its count, a receive's index.
-fn note(table: &mut IndexMap<u64, u64>, event: &Event, index: u64) -> Result<(), AllocError>
+fn note(table: &mut BTreeMap<u64, u64>, event: &Event, index: u64) -> Result<(), AllocError>
     ensures { (es : List EventValue) → slice_get es index ≡ Some event.now
-        → ((this : ℕ) → get nat_eq table.old this ≡ received_before es this index)
+        → ((this : ℕ) → get nat_cmp table.old this ≡ received_before es this index)
         → OnOk result ((this : ℕ)
-        → get nat_eq table.new this ≡ received_before es this (index + 1)) }
+        → get nat_cmp table.new this ≡ received_before es this (index + 1)) }
 {
     match event.kind {
         Kind::Send | Kind::Print => Ok(()),
@@ -47,7 +48,7 @@ fn note(table: &mut IndexMap<u64, u64>, event: &Event, index: u64) -> Result<(),
 fn backs(alloc: Global, events: &[Event]) -> Result<Vec<Option<u64>>, AllocError>
     ensures { IfOk result (λ v. v.items ≡ backs_from events.now 0 events.now) }
 {
-    let mut table = IndexMap::new(alloc);
+    let mut table = BTreeMap::new(alloc);
     let mut found = Vec::with_capacity(alloc, events.len())?;
     for (i, event) in events.iter().enumerate() {
         found.push(table.get(&event.serial.prev).copied())?;

@@ -1,20 +1,35 @@
 //! What a trace lacks, and the acts of what was found.
 //!
-//! `complete` finds a completion of streams, or an event and the reason why there is none.
-//! `certificate` writes the acts of a completion. `renumbered` makes the counts of streams small.
+//! `complete` decides whether streams have a run without a reset, with any processes that report
+//! nothing: it finds a completion, or an event and the reason why there is none. `certificate` writes
+//! the acts of a completion. `renumbered` makes the counts of streams small.
 #![tactic(auto)]
 
 mod answer;
+mod asks;
+mod assembly;
+mod candidate;
 mod certificates;
 mod climbs;
+mod decision;
+mod entries;
+mod hidden;
 mod homes;
 mod insertion;
+mod inventions;
+mod judge;
 mod lean;
+mod links;
+mod lost;
 mod marked;
+mod senders;
+mod stretch;
 #[cfg(test)]
 mod tests;
+mod unlisted;
+mod walk;
 
-pub use answer::{Certificate, CertificateFault};
+pub use answer::{Answer, Certificate, CertificateFault, CompleteFault, Never};
 pub use certificates::certificate;
-pub use st_needs::renumbered;
-pub use st_search::{Answer, CompleteFault, Completion, Never, complete};
+pub use decision::complete;
+pub use st_needs::{Completion, renumbered, with_silent};

@@ -2,8 +2,6 @@
 use Rattle.std.proofs.Common.{◌≡◌, ℕ, true, false, cond, List, [], ◌∷◌, drop, slice_get}
 use Rattle.std.proofs.Common.{refl, sym, ◌∙◌, ap, subst}
 use Rattle.std.proofs.lemmas.Option.{none-some, same_Some}
-use Rattle.st_core.specs.declared.types.Pid.{Pid}
-use Rattle.st_core.specs.declared.types.Event.{Event}
 use Rattle.st_core.specs.Run.{Stream}
 use Rattle.st_core.specs.Streams.{IsStreams}
 use Rattle.st_plan.specs.Marks.{all_streams, Marked, told_events, told_streams, Whole}
@@ -50,9 +48,6 @@ abbrev composed : List Whole → List Whole → List Whole
 composed [] us = []
 composed (w ∷ ws) [] = []
 composed (w ∷ ws) (u ∷ us) = record { pid = w.pid; marked = overlay w.marked u.marked } ∷ composed ws us
-
-abbrev streams_eq : Stream → Pid → List Event → Type 0
-streams_eq x p es = (x.pid ≡ p) × (x.events ≡ es)
 
 composed_all : (ws us : List Whole) → told_streams ws ≡ all_streams us → all_streams (composed ws us) ≡ all_streams ws
 composed_all [] us same = refl

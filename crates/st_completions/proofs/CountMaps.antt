@@ -1,7 +1,7 @@
 -- A map that keeps the order of counts: each test of one count against another comes out as before, the greatest of
 -- mapped events is the mapped greatest, and so it is of what events leave. So each event is late, or a need, exactly as
 -- it was.
-use Rattle.std.proofs.Common.{◌≡◌, ℕ, ◌<◌, ◌≤◌, ◌==◌, ◌&&◌, max, nat_lt, true, false, not}
+use Rattle.std.proofs.Common.{◌≡◌, ℕ, ◌≤◌, ◌==◌, ◌&&◌, max, nat_lt, true, false, not}
 use Rattle.std.proofs.Common.{List, [], ◌∷◌, map, refl, sym, ◌∙◌, ap, arith}
 use Rattle.std.proofs.lemmas.Bool.{eq-eqb, eqb-true, ltb-true, ltb-false, le-ltb}
 use Rattle.std.proofs.lemmas.Bool.Decides.{nat_tests}
@@ -30,9 +30,6 @@ module _ (f : ℕ → ℕ) (keeps : KeepsOrder f) where
     | true ↦ λ less. let up = keeps.rises m n (ltb-true m n less) in grind (arith, nat_tests)
     | false ↦ λ more. le-ltb (f m) (f n) (le_kept n m (ltb-false m n more))
   ] refl
-
-  pub lt_back : (m n : ℕ) → f m < f n → m < n
-  lt_back m n less = ltb-true m n (sym (lt_same m n) ∙ (let up = less in grind (arith, nat_tests)))
 
   pub le_back : (m n : ℕ) → f m ≤ f n → m ≤ n
   le_back m n le = ltb-false n m (sym (lt_same n m) ∙ le-ltb (f n) (f m) le)

@@ -1,18 +1,17 @@
--- Events in turn, taken apart into a front and what is behind: both are in turn, their needs add
--- up, and each stamp has a count above those before it. What is behind a stamp sees only this
--- stamp.
-use Rattle.std.proofs.Common.{◌≡◌, inl, inr, ℕ, ◌+◌, ◌<◌, ◌≤◌, ◌&&◌, max, nat_lt, true, false}
+-- Events in turn: each stamp has a count above those before it, what is behind a front is in turn
+-- too, and only a stamp asks for a count.
+use Rattle.std.proofs.Common.{◌≡◌, inl, inr, ℕ, ◌<◌, ◌≤◌, ◌&&◌, max, nat_lt, true, false}
 use Rattle.std.proofs.Common.{not, List, [], ◌∷◌, ◌++◌, append-nil, append_assoc, refl, sym}
 use Rattle.std.proofs.Common.{◌∙◌, ap, subst, arith}
 use Rattle.std.proofs.lemmas.Bool.{and_parts, cases_lt, false≢true, ltb-true}
 use Rattle.st_core.specs.declared.types.Event.{Event}
 use Rattle.st_core.specs.Laws.{greatest_count}
-use Rattle.st_core.proofs.ForCallers.{greatest_push, prev_push}
+use Rattle.st_core.proofs.ForCallers.{greatest_push}
 use Rattle.st_pair.specs.Places.{is_stamp}
 use Rattle.st_completions.specs.Needs.{is_late}
 use Rattle.st_completions.specs.Supply.{needs_from}
-use Rattle.st_completions.proofs.EventsBefore.{Alike, AreTimely, no_stamp}
-use Rattle.st_completions.proofs.Leasts.{Among}
+use Rattle.st_completions.proofs.EventsBefore.{AreTimely, no_stamp}
+use Rattle.st_completions.proofs.AmongPlacings.{Among}
 use Rattle.st_completions.proofs.Mixes.{among_at}
 use Rattle.st_completions.proofs.ReasonlessStreams.{need_of}
 
@@ -52,10 +51,6 @@ timely_high before (d ∷ es) timely e (inr rest) stamps =
 
 -- FRONT AND BACK
 
-pub timely_front : (before xs ys : List Event) → AreTimely before (xs ++ ys) → AreTimely before xs
-timely_front before [] ys timely = tt
-timely_front before (x ∷ xs) ys timely = (timely.0, timely_front (before ++ x ∷ []) xs ys timely.1)
-
 pub timely_back : (before xs ys : List Event) → AreTimely before (xs ++ ys) → AreTimely (before ++ xs) ys
 timely_back before [] ys timely = subst (λ zs. AreTimely zs ys) (sym (append-nil before)) timely
 timely_back before (x ∷ xs) ys timely =
@@ -69,24 +64,6 @@ timely_both before (x ∷ xs) ys front back = (
   timely_both (before ++ x ∷ []) xs ys front.1
       (subst (λ zs. AreTimely zs ys) (sym (append_assoc before (x ∷ []) xs)) back),
 )
-
-pub needs_append : (v : ℕ) (before xs ys : List Event)
-    → needs_from v before (xs ++ ys) ≡ needs_from v before xs + needs_from v (before ++ xs) ys
-needs_append v before [] ys =
-    let same = ap (λ zs. needs_from v zs ys) (append-nil before) in
-    omega arith
-needs_append v before (x ∷ xs) ys =
-    let rest = needs_append v (before ++ x ∷ []) xs ys in
-    let same = ap (λ zs. needs_from v zs ys) (append_assoc before (x ∷ []) xs) in
-    omega arith
-
--- behind a stamp that isn't late after either, the next event sees the same
-pub alike_behind : (xs ys : List Event) (e : Event) → greatest_count xs < e.serial.this
-    → greatest_count ys < e.serial.this → Alike (xs ++ e ∷ []) (ys ++ e ∷ [])
-alike_behind xs ys e low_first low_second =
-    let first = greatest_push xs e in
-    let second = greatest_push ys e in
-    record { greatest = omega arith; prev = prev_push xs e ∙ sym (prev_push ys e) }
 
 -- WHICH ASK FOR A COUNT
 
@@ -114,7 +91,7 @@ none_asks v before es none = elim (cases_lt 0 (needs_from v before es)) [
   | inr not_some ↦ omega arith
 ]
 
--- receives are neither late nor needs
+-- receives, which are never late
 abbrev pub AreReceives : List Event → Type 0
 AreReceives es = (e : Event) → Among e es → is_stamp e ≡ false
 
@@ -124,7 +101,3 @@ receives_timely before (e ∷ es) receive = (
   (no_stamp before e (receive e (inl refl))).0,
   receives_timely (before ++ e ∷ []) es (λ d among. receive d (inr among)),
 )
-
-pub receives_need_none : (v : ℕ) (before es : List Event) → AreReceives es → needs_from v before es ≡ 0
-receives_need_none v before es receive =
-    none_asks v before es (λ a. false≢true (sym (receive a.event a.among) ∙ a.stamps))

@@ -34,8 +34,8 @@ use Rattle.st_completions.proofs.Choices.{not_hidden}
 use Rattle.st_completions.proofs.Choices.{send_stamps, told_somewhere}
 use Rattle.st_completions.proofs.FedNeeds.{event_of_mark, events, told_at}
 use Rattle.st_completions.proofs.EventsBefore.{AreTimely}
-use Rattle.st_completions.proofs.Leasts.{Among}
-use Rattle.st_completions.proofs.Mixes.{among_at, at_among, IsMixed, placing_from}
+use Rattle.st_completions.proofs.AmongPlacings.{Among}
+use Rattle.st_completions.proofs.Mixes.{among_at, IsMixed, placing_from}
 use Rattle.st_completions.proofs.Needs.{at_mark, events_all}
 use Rattle.st_completions.proofs.InsertedEvents.{listed_at}
 use Rattle.st_completions.proofs.LongerStreams.{all_from, sound_of}
@@ -214,20 +214,6 @@ module _ (streams : List Stream) (rising : IsRising (pids_of streams)) (q : Pid)
               record { index = 0; at = sym here ∙ ap (hidden_send streams q) same ∙ is }
         ]
       ] refl
-
-  pub hidden_one : (f : Event) → Among f (hidden_sends streams q) → hidden_send streams q f.serial.this ≡ Some f
-  hidden_one f among =
-      let a = at_among (hidden_sends streams q) f among in
-      hidden_each 0 (suc (highest streams)) a.index f a.at
-
-  pub one_hidden : (f : Event) → hidden_send streams q f.serial.this ≡ Some f → Among f (hidden_sends streams q)
-  one_hidden f is =
-      let t = (hidden_is streams q f.serial.this f rising is).taken in
-      let here = count_at (events_of streams t.pid) t.index t.event t.at in
-      let among = greatest_among streams t.pid in
-      let count = t.count in
-      let s = hidden_found 0 (suc (highest streams)) f.serial.this f (omega arith) (omega arith) is in
-      among_at (hidden_sends streams q) s.index f s.at
 
 -- PLACED PROCESS BY PROCESS
 

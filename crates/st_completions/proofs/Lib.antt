@@ -40,23 +40,17 @@ pub mod Decision
 pub mod CompletionsOfCompletions
 pub mod Choices
 pub mod UntoldEvents
-pub mod Leasts
-pub mod ScarceNeeds
+pub mod AmongPlacings
+pub mod FreeSenders
 pub mod Zeros
 pub mod StampsTold
-pub mod ReportedSends
 pub mod FewestNeeds
 pub mod JointPlacings
 pub mod MergedPlacings
-pub mod BestChoices
 pub mod Mixes
 pub mod EventsInTurn
 pub mod ZeroFronts
-pub mod CombinedPlacings
-pub mod CombinedStretches
-pub mod BestPlacings
 pub mod ZeroFreePlacings
-pub mod ChosenPlacings
+pub mod SameStreams
 pub mod ForCallers
 mod Cases
-mod HiddenCases

@@ -20,8 +20,8 @@ use Rattle.st_completions.specs.HiddenSends.{placings}
 use Rattle.st_completions.specs.Needs.{HoldsOfNone, is_late}
 use Rattle.st_completions.proofs.Lookups.{none_stamped}
 use Rattle.st_completions.proofs.EventsBefore.{alike_late, alike_push, AreTimely, no_stamp}
-use Rattle.st_completions.proofs.Leasts.{Among, among_filter, among_left, among_map, among_right}
-use Rattle.st_completions.proofs.Leasts.{timely_is}
+use Rattle.st_completions.proofs.AmongPlacings.{Among, among_filter, among_left, among_map, among_right}
+use Rattle.st_completions.proofs.AmongPlacings.{timely_is}
 use Rattle.st_completions.proofs.ReasonlessStreams.{fit_together, timely_from}
 use Rattle.st_completions.proofs.Supplies.{highest}
 use Rattle.st_completions.proofs.JointPlacings.{hidden_count, hidden_each}

@@ -13,7 +13,7 @@ use Rattle.st_completions.specs.HiddenSends.{are_timely, hidden_sends, mixes, pl
 use Rattle.st_completions.specs.Needs.{is_late}
 use Rattle.st_completions.proofs.FedNeeds.{events}
 use Rattle.st_completions.proofs.EventsBefore.{AreTimely}
-use Rattle.st_completions.proofs.Leasts.{Among}
+use Rattle.st_completions.proofs.AmongPlacings.{Among}
 use Rattle.st_completions.proofs.UntoldEvents.{untold_events}
 
 -- AMONG LISTS
@@ -152,22 +152,6 @@ placing_from streams p xs among =
 
 -- AMONG MARKS
 
-pub among_told : (e : Event) (ms : List Marked) → Among e (told_events ms) → Among e (events ms)
-among_told e [] among = absurd among
-among_told e (m ∷ ms) among =
-    elim m.told as (λ b. Among e (cond b (m.event ∷ told_events ms) (told_events ms)) → Among e (events (m ∷ ms))) [
-      | true ↦ λ among. elim among [ inl same ↦ inl same | inr rest ↦ inr (among_told e ms rest) ]
-      | false ↦ λ among. inr (among_told e ms among)
-    ] among
-
-pub among_untold : (e : Event) (ms : List Marked) → Among e (untold_events ms) → Among e (events ms)
-among_untold e [] among = absurd among
-among_untold e (m ∷ ms) among =
-    elim m.told as (λ b. Among e (cond b (untold_events ms) (m.event ∷ untold_events ms)) → Among e (events (m ∷ ms))) [
-      | false ↦ λ among. elim among [ inl same ↦ inl same | inr rest ↦ inr (among_untold e ms rest) ]
-      | true ↦ λ among. inr (among_untold e ms among)
-    ] among
-
 pub among_marks : (e : Event) (ms : List Marked) → Among e (events ms)
     → Among e (told_events ms) ⊎ Among e (untold_events ms)
 among_marks e [] among = absurd among
@@ -184,14 +168,6 @@ among_marks e (m ∷ ms) among =
         | inr rest ↦ elim (among_marks e ms rest) [ inl first ↦ inl first | inr second ↦ inr (inr second) ]
       ]
     ]
-
--- the same told and untold events are the same events
-pub among_alike : (e : Event) (ms ns : List Marked) → told_events ms ≡ told_events ns
-    → untold_events ms ≡ untold_events ns → Among e (events ms) → Among e (events ns)
-among_alike e ms ns told untold among = elim (among_marks e ms among) [
-  | inl first ↦ among_told e ns (subst (Among e) told first)
-  | inr second ↦ among_untold e ns (subst (Among e) untold second)
-]
 
 pub told_append : (ms ns : List Marked) → told_events (ms ++ ns) ≡ told_events ms ++ told_events ns
 told_append [] ns = refl

@@ -70,10 +70,10 @@ module _ (test : List Event → Event → Bool) where
       ] refl
 
   -- in all streams
-  record IsSomewhere (streams : List Stream) : Type 0 where
-    pid : Pid
-    index : ℕ
-    holds : HoldsAt test streams pid index
+  pub record IsSomewhere (streams : List Stream) : Type 0 where
+    pub pid : Pid
+    pub index : ℕ
+    pub holds : HoldsAt test streams pid index
 
   seek_pids : (streams : List Stream) (ps : List Pid)
       → IsSomewhere streams ⊎ AllByRecursion (λ p. HoldsNowhere test [] (events_of streams p)) ps
@@ -100,7 +100,7 @@ module _ (test : List Event → Event → Bool) where
         | false ↦ λ _ among. nowhere_of streams ps p all.1 among
       ] refl among
 
-  seek_all : (streams : List Stream) → IsSomewhere streams ⊎ HoldsOfNone test streams
+  pub seek_all : (streams : List Stream) → IsSomewhere streams ⊎ HoldsOfNone test streams
   unfolding HoldsNowhere
   seek_all streams = elim (seek_pids streams (pids_of streams)) [
     | inl some ↦ inl some
@@ -153,7 +153,7 @@ module _ (streams : List Stream) where
 -- REASONS
 
 module _ (top : ℕ) (streams : List Stream) where
-  within_if : HoldsOfNone (is_too_high top) streams → (p : Pid) (i : ℕ) (e : Event) → event_at streams p i ≡ Some e
+  pub within_if : HoldsOfNone (is_too_high top) streams → (p : Pid) (i : ℕ) (e : Event) → event_at streams p i ≡ Some e
       → e.serial.this ≤ top
   within_if none p i e at = ltb-false top e.serial.this (none p i e at)
 

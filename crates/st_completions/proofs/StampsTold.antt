@@ -46,11 +46,11 @@ same_prev f e agree =
     eqb-true f.serial.prev e.serial.prev c.0
 
 -- a stamp of the process that the event is from
-record TellsOf (streams : List Stream) (e : Event) : Type 0 where
-  stamp : Event
-  of_it : IsStampOf streams e.from stamp
-  prev : stamp.serial.prev ≡ e.serial.prev
-  count : stamp.serial.this ≡ e.serial.this
+pub record TellsOf (streams : List Stream) (e : Event) : Type 0 where
+  pub stamp : Event
+  pub of_it : IsStampOf streams e.from stamp
+  pub prev : stamp.serial.prev ≡ e.serial.prev
+  pub count : stamp.serial.this ≡ e.serial.this
 
 taken_some : (streams : List Stream) (q : Pid) (v : ℕ) → IsTaken streams q v → is_some (receive_of streams q v) ≡ true
 taken_some streams q v t =
@@ -108,7 +108,7 @@ module _ (streams : List Stream) (sound : IsStreams streams) (fit : FitTogether 
             }
       ] refl
 
-  told : TellsOf streams e
+  pub told : TellsOf streams e
   told = elim (is_stamp e) as (λ b. is_stamp e ≡ b → TellsOf streams e) [
     | true ↦ own_told
     | false ↦ sent_told

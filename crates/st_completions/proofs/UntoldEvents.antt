@@ -1,11 +1,9 @@
--- In a choice that makes no stamp late the untold events of a process are its hidden sends, by
--- rising count: each is the send of a receive in the streams, of whose count they report no stamp,
--- and each such send is there. So all events of the process are one of its placings, and have as
--- many needs as the least of these, or more.
+-- In a choice the untold events of a process are its hidden sends: each is the send of a receive in
+-- the streams, of whose count they report no stamp, and each such send is there.
 use Rattle.std.proofs.Common.{◌≡◌, inl, inr, ℕ, zero, suc, ◌+◌, ◌<◌, ◌≤◌, ◌==◌, ◌&&◌, Bool, true, false, not}
-use Rattle.std.proofs.Common.{cond, List, [], ◌∷◌, ◌++◌, Option, Some, None, is_none, is_some, option_map}
+use Rattle.std.proofs.Common.{cond, List, [], ◌∷◌, Option, Some, None, is_none, is_some, option_map}
 use Rattle.std.proofs.Common.{option_and_then, slice_get, refl, sym, ◌∙◌, ap, subst, arith}
-use Rattle.std.proofs.lemmas.Bool.{and_parts, cases_lt, eqb-true, false≢true, ltb-true}
+use Rattle.std.proofs.lemmas.Bool.{and_parts, cases_lt, eqb-true, false≢true}
 use Rattle.std.proofs.lemmas.Option.{none-some, same_Some}
 use Rattle.st_core.specs.declared.types.Pid.{Pid}
 use Rattle.st_core.specs.declared.types.Kind.{Kind}
@@ -14,25 +12,22 @@ use Rattle.st_core.specs.declared.types.Event.{Event}
 use Rattle.st_core.specs.Laws.{greatest_count}
 use Rattle.st_core.specs.Pid.{pid_eq, IsRising}
 use Rattle.st_core.specs.Run.{Stream, pids_of}
-use Rattle.st_core.specs.Streams.{events_of}
-use Rattle.st_core.proofs.ForCallers.{greatest_push, pid_same}
+use Rattle.st_core.proofs.ForCallers.{pid_same}
 use Rattle.st_pair.specs.Places.{event_at, is_stamp}
 use Rattle.st_pair.specs.Pairing.{agrees, is_send, receive_of, stamp_of, to_eq}
 use Rattle.st_pair.proofs.ForCallers.{given_at, got_rule, paired}
 use Rattle.st_plan.specs.Marks.{all_streams, Marked, told_events, told_streams, Whole}
 use Rattle.st_completions.specs.Choice.{IsChoice, is_taken}
-use Rattle.st_completions.specs.HiddenSends.{hidden_from, hidden_send, hidden_sends}
+use Rattle.st_completions.specs.HiddenSends.{hidden_from, hidden_send}
 use Rattle.st_completions.specs.HiddenSends.{send_of}
 use Rattle.st_completions.specs.Needs.{marked_of}
 use Rattle.st_completions.proofs.AcceptedStreams.{FitTogether}
 use Rattle.st_completions.proofs.Lookups.{HasStamp, IsTaken, none_stamped, stamp_if}
 use Rattle.st_completions.proofs.Choices.{mark_at, told_somewhere}
-use Rattle.st_completions.proofs.FedNeeds.{events, told_at}
-use Rattle.st_completions.proofs.EventsBefore.{AreTimely}
+use Rattle.st_completions.proofs.FedNeeds.{told_at}
 use Rattle.st_completions.proofs.Needs.{at_mark, events_all, events_told}
 use Rattle.st_completions.proofs.InsertedReceives.{sent_from}
 use Rattle.st_completions.proofs.ReasonlessStreams.{fit_together, sent_if}
-use Rattle.st_completions.proofs.Supplies.{greatest_among, highest}
 use Rattle.st_completions.proofs.Suppliers.{given_unless, own_at}
 
 -- THE HIDDEN SEND OF A COUNT
@@ -321,26 +316,6 @@ above_if true true s h = refl
 above_if true false s h = sym h
 above_if false low s h = absurd (false≢true s)
 
-untold_rises : (before : List Event) (ms : List Marked) → AreTimely before (events ms)
-    → ((k : ℕ) (m : Marked) → slice_get ms k ≡ Some m → m.told ≡ false → is_stamp m.event ≡ true)
-    → RisesFrom (suc (greatest_count before)) (untold_events ms)
-untold_rises before [] timely stamps = tt
-untold_rises before (m ∷ ms) timely stamps =
-    let push = greatest_push before m.event in
-    let rest = untold_rises (before ++ m.event ∷ []) ms timely.1 (λ k n at told. stamps (suc k) n at told) in
-    elim m.told as (λ b. m.told ≡ b
-    → RisesFrom (suc (greatest_count before)) (cond b (untold_events ms) (m.event ∷ untold_events ms))) [
-      | true ↦ λ _. rises_lower (suc (greatest_count before)) (suc (greatest_count (before ++ m.event ∷ [])))
-          (untold_events ms) (omega arith) rest
-      | false ↦ λ told.
-          let high = ltb-true (greatest_count before) m.event.serial.this
-          (above_if (is_stamp m.event) _ (stamps 0 m refl told) timely.0) in (
-            omega arith,
-            rises_lower (suc m.event.serial.this) (suc (greatest_count (before ++ m.event ∷ []))) (untold_events ms)
-                (omega arith) rest,
-          )
-    ] refl
-
 pub untold_mark : (m : Marked) → m.told ≡ false → Some m ≡ Some (record { event = m.event; told = false })
 untold_mark m told = ap (λ b. let x : Marked = record { event = m.event; told = b } in Some x) told
 
@@ -505,22 +480,3 @@ module _ (streams : List Stream) (wholes : List Whole) (choice : IsChoice stream
   -- its receive is reported
   pub untold_within : (p : Pid) (f : Event) → IsUntoldAt (marked_of wholes p) f → IsTaken streams p f.serial.this
   untold_within p f u = (got_if streams p f.serial.this rising (untold_got p f u)).taken
-
-  untold_below : (p : Pid) (f : Event) → IsUntoldAt (marked_of wholes p) f → f.serial.this < suc (highest streams)
-  untold_below p f u =
-      let t = (got_if streams p f.serial.this rising (untold_got p f u)).taken in
-      let here = count_at (events_of streams t.pid) t.index t.event t.at in
-      let all = greatest_among streams t.pid in
-      let count = t.count in
-      omega arith
-
-  pub untold_hidden : (p : Pid) → AreTimely [] (events (marked_of wholes p))
-      → untold_events (marked_of wholes p) ≡ hidden_sends streams p
-  untold_hidden p timely =
-      let ms = marked_of wholes p in
-      hidden_all streams p 0 (suc (highest streams)) (untold_events ms)
-      (rises_lower 0 1 (untold_events ms) (omega arith) (untold_rises [] ms timely (λ k m at told.
-      send_stamps m.event (untold_sends p m.event (record { index = k; at = at ∙ untold_mark m told })))))
-      (λ k f at. let low = untold_below p f (untold_at ms k f at) in omega arith)
-      (λ k f at. untold_is p f (untold_at ms k f at))
-      (λ w f _ is. untold_has p w f is)

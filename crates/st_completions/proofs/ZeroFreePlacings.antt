@@ -3,7 +3,7 @@
 -- stamp with another prev and a lower count would tell of a need. If that stamp is reported, no
 -- receive stands before it, for it would be a need among the reported events; so it can go to the
 -- front, where 0 is left. The next one goes right behind it, and so on.
-use Rattle.std.proofs.Common.{◌≡◌, ◌⊎◌, inl, inr, ℕ, zero, suc, ◌+◌, ◌<◌, ◌≤◌, ◌==◌, ◌&&◌, Bool, true, false}
+use Rattle.std.proofs.Common.{◌≡◌, ◌⊎◌, inl, inr, ℕ, zero, suc, ◌<◌, ◌≤◌, ◌==◌, ◌&&◌, Bool, true, false}
 use Rattle.std.proofs.Common.{cond, List, [], ◌∷◌, ◌++◌, length, length-append, take, Some, None, slice_get}
 use Rattle.std.proofs.Common.{refl, sym, ◌∙◌, ap, subst, arith}
 use Rattle.std.proofs.lemmas.Bool.{and_from, and_parts, cases_lt, eq-eqb, eqb-true, false≢true}
@@ -25,7 +25,7 @@ use Rattle.st_completions.proofs.FedNeeds.{events}
 use Rattle.st_completions.proofs.EventsBefore.{AreTimely}
 use Rattle.st_completions.proofs.FewestNeeds.{best_placing}
 use Rattle.st_completions.proofs.ZeroFronts.{move_timely, no_cost, stamp_leaves}
-use Rattle.st_completions.proofs.Leasts.{Among, among_filter, among_left, mixed, smallest_low, timely_is}
+use Rattle.st_completions.proofs.AmongPlacings.{Among, among_filter, among_left, mixed, smallest_low, timely_is}
 use Rattle.st_completions.proofs.MergedPlacings.{above_not_late, some_placing}
 use Rattle.st_completions.proofs.Mixes.{among_at, among_marks, at_among, events_append, placing_from}
 use Rattle.st_completions.proofs.Mixes.{told_append, untold_append}

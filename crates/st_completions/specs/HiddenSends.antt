@@ -1,8 +1,7 @@
 -- The sends of a process that nobody reported, and where they may stand among its reported events.
-use Rattle.std.specs.Prelude.{◌≡◌, ℕ, zero, suc, ◌==◌, ◌&&◌, min, Bool, true, not, List, [], ◌∷◌}
+use Rattle.std.specs.Prelude.{◌≡◌, ℕ, zero, suc, ◌&&◌, min, Bool, true, not, List, [], ◌∷◌}
 use Rattle.std.specs.Prelude.{◌++◌, map, filter, Option, Some, None, slice_get, is_none, option_map}
 use Rattle.std.specs.Prelude.{option_and_then, if◌then◌else◌}
-use Rattle.std.specs.List.{count_by}
 use Rattle.st_core.specs.declared.types.Pid.{Pid}
 use Rattle.st_core.specs.declared.types.Kind.TheVariants as kind
 use Rattle.st_core.specs.declared.types.Event.{Event}
@@ -10,7 +9,7 @@ use Rattle.st_core.specs.Laws.{greatest_count}
 use Rattle.st_core.specs.Run.{Stream}
 use Rattle.st_core.specs.Streams.{events_of}
 use Rattle.st_order.specs.Items.{greatest}
-use Rattle.st_pair.specs.Places.{event_at, is_stamp}
+use Rattle.st_pair.specs.Places.{event_at}
 use Rattle.st_pair.specs.Pairing.{receive_of, stamp_of}
 use Rattle.st_completions.specs.Needs.{is_late}
 use Rattle.st_completions.specs.Supply.{needs_from}
@@ -41,11 +40,6 @@ hidden_from streams q v (suc n) = elim (hidden_send streams q v) [
 abbrev pub hidden_sends : List Stream → Pid → List Event
 hidden_sends streams q =
     hidden_from streams q 0 (suc (greatest (map (λ x. greatest_count x.events) streams)))
-
--- how many stamps of p have prev v, reported ones and hidden sends
-abbrev pub stamps_with : List Stream → ℕ → Pid → ℕ
-stamps_with streams v p =
-    count_by (λ e. is_stamp e && e.serial.prev == v) (events_of streams p ++ hidden_sends streams p)
 
 -- WHERE THEY MAY STAND
 

@@ -9,7 +9,5 @@ pub mod Reasons
 pub mod Choice
 pub mod HiddenSends
 pub mod FinalReasons
-pub mod Scarce
 pub mod Placed
-pub mod Stretches
 pub mod Completion

@@ -16,13 +16,12 @@ ghost use Rattle.st_pair.specs.Places.{event_at};
 ghost use Rattle.st_plan.specs.Full.{IsFull};
 ghost use Rattle.st_plan.specs.Marks.{all_streams, told_streams, Whole};
 ghost use Rattle.st_plan.specs.Plain.{IsSettled};
-ghost use Rattle.st_completions.specs.Choice.{HasChoice, IsChoice};
+ghost use Rattle.st_completions.specs.Choice.{HasChoice};
 ghost use Rattle.st_completions.specs.Completed.{IsCompleted, IsShownInOneTrace};
 ghost use Rattle.st_completions.specs.Completion.{completion};
-ghost use Rattle.st_completions.specs.FinalReasons.{FinalReason, HasNoFinalReason};
 ghost use Rattle.st_completions.specs.FinalReasons.{HasZeroBehindReceive, HasZeroBehindStamp};
-ghost use Rattle.st_completions.specs.FinalReasons.{IsZeroBehind, StandsAgainstAll};
-ghost use Rattle.st_completions.specs.HiddenSends.{HasBestPlacing, least, placings};
+ghost use Rattle.st_completions.specs.FinalReasons.{IsZeroBehind};
+ghost use Rattle.st_completions.specs.HiddenSends.{placings};
 ghost use Rattle.st_completions.specs.Local.{IsNeedless};
 ghost use Rattle.st_completions.specs.Needs.{is_late, is_need, is_rootless, HoldsOfNone, IsFedAt};
 ghost use Rattle.st_completions.specs.Needs.{marked_of};
@@ -31,9 +30,7 @@ ghost use Rattle.st_completions.specs.Renumbering.{count_of_rank, counts_of, Kee
 ghost use Rattle.st_completions.specs.Renumbering.{renumbered_streams, with_counts};
 ghost use Rattle.st_completions.specs.Reasons.{HasEachSend, HasNoReason, HasReason, Reason};
 ghost use Rattle.st_completions.specs.Reasons.{StandsAgainst};
-ghost use Rattle.st_completions.specs.Scarce.{IsBest};
-ghost use Rattle.st_completions.specs.Stretches.{HasBestForScarce, HasNoTwoScarce};
-ghost use Rattle.st_completions.specs.Supply.{IsSupplied, needs};
+ghost use Rattle.st_completions.specs.Supply.{IsSupplied};
 ghost use Rattle.st_completions.specs.Wholes.{wholes_of};
 
 /// Whatever acts without a reset report: all that they do, reported or not, is full streams, and
@@ -179,40 +176,8 @@ pub fn shown_exactly_if_hidden_sends_have_places()
         → (IsShownInOneTrace top streams ↔ HasChoice top streams) }
 {}
 
-/// Wherever hidden sends stand so that no stamp is late, each process needs each count as often as
-/// it does at the best of its placings, or more often.
-pub fn choices_need_the_least()
-    ensures { (streams : List Stream) (wholes : List Whole) → IsChoice streams wholes
-        → HoldsOfNone is_late (all_streams wholes) → (v : ℕ) (p : Pid)
-        → least streams v p ≤ needs (all_streams wholes) v p }
-{}
-
-/// And some placing has it: the least isn't below all of them.
-pub fn some_placing_needs_the_least()
-    ensures { (streams : List Stream) (v : ℕ) (p : Pid) → 0 < length (placings streams p)
-        → HasBestPlacing streams v p }
-{}
-
-/// If each receive has its send among the reported events, there is nothing to place: the least is
-/// the number of needs.
-pub fn without_hidden_sends_the_least_is_what_is_needed()
-    ensures { (streams : List Stream) → IsRising (pids_of streams) → HasEachSend streams
-        → HoldsOfNone is_late streams → (v : ℕ) (p : Pid) → least streams v p ≡ needs streams v p }
-{}
-
-/// So there are reasons that no place of a hidden send lifts: a late stamp, a need of 0 at each
-/// placing of a process, more needs of one prev than messages that may feed them even if each
-/// process has the least, and a count above TOP. If one of these holds of streams, no acts without
-/// a reset show them.
-pub fn reasons_against_all_choices_are_final()
-    ensures { (top : ℕ) (streams : List Stream) → IsRising (pids_of streams)
-        → (reason : FinalReason)
-        → StandsAgainstAll top streams reason → (acts : List Act) → NoReset acts
-        → ¬ Shows top streams acts }
-{}
-
-/// A need of 0 can be told without any placing: if a process has a stamp with prev 0, and a stamp
-/// of a lower count has another prev, or a receive stands before the reported stamp, no acts
+/// Some needs of 0 stay wherever hidden sends stand: if a process has a stamp with prev 0, and a
+/// stamp of a lower count has another prev, or a receive stands before the reported stamp, no acts
 /// without a reset show the streams.
 pub fn zeros_behind_others_are_final()
     ensures { (top : ℕ) (streams : List Stream) → IsRising (pids_of streams) → (p : Pid)
@@ -230,16 +195,7 @@ pub fn zeros_told_behind_others_are_final()
         → IsZeroBehind streams p i → (acts : List Act) → NoReset acts → ¬ Shows top streams acts }
 {}
 
-/// If none of the four final reasons holds of streams, and their hidden sends have places at which
-/// no stamp is late and each process needs 0 and each scarce count no more often than at the best
-/// of its placings, then acts without a reset show them. Of counts that aren't scarce there are
-/// enough messages wherever hidden sends stand.
-pub fn shown_if_placings_are_best()
-    ensures { (top : ℕ) (streams : List Stream) → HasNoFinalReason top streams
-        → (wholes : List Whole)
-        → IsBest streams wholes → IsShownInOneTrace top streams }
-{}
-
+/// A placing of a process is its hidden sends among its events, both in turn, with no stamp late.
 /// Each process can place its hidden sends by itself: if pairing accepts streams, and a placing is
 /// chosen for each process, then there is a choice of places for all of them in which each process
 /// has the events of its placing.
@@ -253,22 +209,4 @@ pub fn placings_together_are_a_choice()
 pub fn each_process_has_a_placing()
     ensures { (streams : List Stream) → IsStreams streams → refusal streams ≡ None
         → HoldsOfNone is_late streams → (p : Pid) → 0 < length (placings streams p) }
-{}
-
-/// So if none of the four final reasons holds of streams that pairing accepts, and each process,
-/// looked at by itself, has a placing that is best at once for 0 and for all scarce counts, then
-/// acts without a reset show them.
-pub fn shown_if_each_process_has_a_best_placing()
-    ensures { (top : ℕ) (streams : List Stream) → IsStreams streams → refusal streams ≡ None
-        → HasNoFinalReason top streams → ((p : Pid) → HasBestForScarce streams p)
-        → IsShownInOneTrace top streams }
-{}
-
-/// So the four final reasons decide once more if no process asks for two scarce counts in one
-/// stretch, which is its reported receives and hidden sends up to its next reported stamp: if
-/// pairing accepts such streams and none of the reasons holds of them, acts without a reset show
-/// them. With two scarce counts in a stretch there can be neither a reason nor a run.
-pub fn shown_if_no_stretch_has_two_scarce_counts()
-    ensures { (top : ℕ) (streams : List Stream) → IsStreams streams → refusal streams ≡ None
-        → HasNoFinalReason top streams → HasNoTwoScarce streams → IsShownInOneTrace top streams }
 {}

@@ -20,7 +20,7 @@ use Rattle.st_plan.specs.Marks.{all_streams, told_streams, Marked, Whole}
 use Rattle.st_completions.specs.Completion.{completion, count_of, place_below, place_of_need, put, receive_for}
 use Rattle.st_completions.specs.Completion.{send_among, Supply, told_wholes, with_receive_of, with_send_of}
 use Rattle.st_completions.specs.Needs.{is_need}
-use Rattle.st_needs.specs.Completions.{marked_with, wholes_with, Completes}
+use Rattle.st_needs.specs.Completions.{marked_with, wholes_with, IsCompletionOf}
 use Rattle.st_needs.proofs.Counted.{stream_here}
 use Rattle.st_needs.proofs.Ranking.{added_last}
 use Rattle.st_needs.proofs.Supplied.{has, stamp_found}
@@ -348,10 +348,11 @@ tells_back streams all lists ws tells are events marks =
     ∙ tells
 
 pub completes_back : (top : ℕ) (streams all : List Stream) (lists : List (List Bool)) (ws built : List Whole)
-    → Completes top streams (completion streams) → ws ≡ completion streams → all ≡ all_streams ws → lists ≡ marks_of ws
-    → built ≡ wholes_with all lists → Completes top streams built
+    → IsCompletionOf top streams (completion streams) → ws ≡ completion streams → all
+    ≡ all_streams ws → lists ≡ marks_of ws
+    → built ≡ wholes_with all lists → IsCompletionOf top streams built
 completes_back top streams all lists ws built completes are events marks is =
-    subst (Completes top streams) (sym (is
+    subst (IsCompletionOf top streams) (sym (is
     ∙ ap (λ xs. wholes_with xs lists) events
     ∙ ap (λ ls. wholes_with (all_streams ws) ls) marks
     ∙ wholes_back ws

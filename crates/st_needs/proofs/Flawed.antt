@@ -3,7 +3,7 @@ use Rattle.std.proofs.Common.{◌≡◌, ℕ, ◌+◌, ◌<◌, suc, Bool, true,
 use Rattle.std.proofs.Common.{length, get_or, max, take, drop, slice_get, Option, None, Some}
 use Rattle.std.proofs.Common.{option_and_then, refl, sym, ◌∙◌, ap, subst, arith, add-one}
 use Rattle.std.proofs.Common.{if◌then◌else◌}
-use Rattle.std.specs.Prelude.{IsSome}
+use Rattle.std.proofs.lemmas.Bool.{false≢true}
 use Rattle.std.proofs.lemmas.Option.{same_Some}
 use Rattle.st_core.specs.declared.types.Pid.{Pid}
 use Rattle.st_core.specs.declared.types.Event.{Event}
@@ -16,11 +16,12 @@ use Rattle.st_pair.specs.declared.answer.Source.{Source}
 use Rattle.st_pair.specs.declared.answer.Source.TheVariants as source
 use Rattle.st_pair.specs.Pairing.{source_at, source_of}
 use Rattle.st_pair.specs.Places.{event_at, first, first_from, is_stamp, or_else}
-use Rattle.st_pair.proofs.ForCallers.{event_none, first_from-at, first-loop, given_at, IsGiven}
+use Rattle.st_pair.proofs.ForCallers.{event_none, first_from-at, first_least, first-loop}
 use Rattle.st_completions.specs.Needs.{HoldsOfNone}
 use Rattle.st_needs.specs.declared.flaws.Left.{Left}
-use Rattle.st_needs.specs.Reasons.{HidesNone, HidesSend, HoldsThere}
-use Rattle.st_needs.specs.Places.{flaw_place, hides, place_where}
+use Rattle.st_completions.specs.Reasons.{HoldsAt}
+use Rattle.st_open.specs.OpenReasons.{IsLeastPlace}
+use Rattle.st_needs.specs.Places.{flaw_place, place_where}
 use Rattle.st_needs.specs.Flaws.{is_hidden_in, left_by}
 use Rattle.st_plan.proofs.ForCallers.{take_more}
 use Rattle.st_order.specs.Items.{is_hidden}
@@ -128,16 +129,17 @@ none_false : (b : Bool) (x : Pid × ℕ) → cond b (Some x) None ≡ None → b
 none_false true x is = absurd (none_some x (sym is))
 none_false false x is = refl
 
--- where a test gives a place, it holds there
-pub holds_there : (test : List Event → Event → Bool) (streams : List Stream) (p : Pid) (i : ℕ)
-    → IsGiven (flaw_place test streams) streams (p, i) → HoldsThere test streams p i
-holds_there test streams p i found =
-    let given = gives_true (test (take found.index (events_of streams found.pid)) found.event) p found.pid i found.index
-    found.gives in
-    subst (λ (x : Pid × ℕ). HoldsThere test streams x.0 x.1) given.1 (record {
-      event = found.event;
-      at = found.at;
-      holds = given.0;
+-- what a test gives first is the least place at which it holds
+pub least_there : (test : List Event → Event → Bool) (streams : List Stream) (p : Pid) (i : ℕ)
+    → IsRising (pids_of streams) → first (flaw_place test streams) streams ≡ Some (p, i)
+    → IsLeastPlace (HoldsAt test streams) p i
+least_there test streams p i rising is =
+    let l = first_least (flaw_place test streams) streams (p, i) rising is in
+    let given = gives_true (test (take l.index (events_of streams l.pid)) l.event) p l.pid i l.index l.gives in
+    subst (λ (x : Pid × ℕ). IsLeastPlace (HoldsAt test streams) x.0 x.1) given.1 (record {
+      holds = record { event = l.event; at = l.at; holds = given.0 };
+      least = λ q j earlier h. false≢true (sym (none_false (test (take j (events_of streams q)) h.event) (q, j)
+          (l.least q j h.event h.at earlier)) ∙ h.holds);
     })
 
 -- if it gives none, it holds of none
@@ -146,18 +148,3 @@ pub holds_of_none : (test : List Event → Event → Bool) (streams : List Strea
 holds_of_none test streams none = λ p i e at.
     none_false (test (take i (events_of streams p)) e) (p, i)
     (event_none (flaw_place test streams) streams none p i e at)
-
-pub hides_none : (streams : List Stream) → first (hides streams) streams ≡ None → HidesNone streams
-hides_none streams none = λ p i e at.
-    none_false (is_hidden streams e) (p, i) (event_none (hides streams) streams none p i e at)
-
--- where a place is given, the send of a receive is hidden, and an event is there
-pub hides_some : (streams : List Stream) (x : Pid × ℕ) → IsRising (pids_of streams)
-    → first (hides streams) streams ≡ Some x → HidesSend streams × IsSome (event_at streams x.0 x.1)
-hides_some streams x rising some =
-    let found = given_at (hides streams) streams x rising some in
-    let gives = gives_true (is_hidden streams found.event) x.0 found.pid x.1 found.index found.gives in (
-      record { pid = found.pid; index = found.index; event = found.event; at = found.at; hides = gives.0 },
-      subst (λ (y : Pid × ℕ). IsSome (event_at streams y.0 y.1)) gives.1
-          (subst (λ (o : Option Event). IsSome o) (sym found.at) refl),
-    )

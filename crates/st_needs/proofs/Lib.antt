@@ -7,7 +7,8 @@ pub mod Counted
 pub mod Ranking
 pub mod Supplied
 pub mod ZeroBehind
+pub mod Noted
+pub mod Merging
 pub mod Needed
 pub mod Constructed
-pub mod Reasonless
 pub mod ForCallers

@@ -1,20 +1,13 @@
--- Why the count of what may feed needs is right. A receive of a count is told of a process exactly
--- if the process is among those whose messages of this count are received. So what is told of each
--- process says whether it has an own message for a need, or none at all. What needs exceed their
--- own messages by is taken from the processes of which nothing is told, process by process; if one
--- exceeds what is left of these, all needs together exceed them. And if there are enough messages
--- for each need, there are of every count, since a count that no event needs is in excess nowhere.
-use Rattle.std.proofs.Common.{◌≡◌, ℕ, ◌+◌, ◌-◌, zero, suc, ◌<◌, ◌≤◌, ◌==◌, ◌&&◌, ◌||◌, not, Bool, true, false, cond}
-use Rattle.std.proofs.Common.{◌⊎◌, inl, inr}
-use Rattle.std.proofs.Common.{List, [], ◌∷◌, ◌++◌, map, find, length, drop, take, get_or, slice_get, Option, Some, None}
-use Rattle.std.proofs.Common.{is_none, is_some, option_map, sum_by, if◌then◌else◌, refl, sym, ◌∙◌, ap, subst, arith}
-use Rattle.std.specs.List.{count_by, list_any}
+-- Why what is told of one count is right. A receive of a count is told of a process exactly if the
+-- process is among those whose messages of this count are received. So what is told of each process
+-- says whether it has an own message for a need, or none at all.
+use Rattle.std.proofs.Common.{◌≡◌, ℕ, ◌+◌, suc, ◌<◌, ◌≤◌, ◌==◌, ◌&&◌, ◌||◌, not, Bool, true, false, cond}
+use Rattle.std.proofs.Common.{List, [], ◌∷◌, ◌++◌, find, length, drop, get_or, Option, Some, None}
+use Rattle.std.proofs.Common.{is_none, is_some, option_map, if◌then◌else◌, refl, sym, ◌∙◌, ap, arith}
+use Rattle.std.specs.List.{list_any}
 use Rattle.std.specs.Option.{option_map_or}
-use Rattle.std.proofs.lemmas.Bool.{cases_lt}
-use Rattle.std.proofs.lemmas.Option.{same_Some}
-use Rattle.std.proofs.lemmas.List.{append_assoc, drop_all, drop_more, take_more}
+use Rattle.std.proofs.lemmas.List.{append_assoc, drop_all, drop_more}
 use Rattle.std.proofs.lemmas.List.Folds.{list_any-append}
-use Rattle.std.proofs.lemmas.List.Sums.{sum_by-cons, sum_by-take-le, sum_by_more}
 use Rattle.st_core.specs.declared.types.Pid.{Pid}
 use Rattle.st_core.specs.declared.types.Event.{Event}
 use Rattle.st_core.specs.Pid.{pid_eq, IsRising}
@@ -23,11 +16,9 @@ use Rattle.st_core.specs.Streams.{events_of}
 use Rattle.st_pair.specs.Pairing.{is_send, receive_of, stamp_of, to_eq}
 use Rattle.st_pair.specs.Places.{first, first_from, is_stamp}
 use Rattle.st_pair.proofs.ForCallers.{blank}
-use Rattle.st_completions.specs.Needs.{is_need}
-use Rattle.st_completions.specs.Supply.{excess, is_free, is_own_supply, needs, needs_from, IsSupplied}
-use Rattle.st_completions.proofs.ForCallers.{need_of}
-use Rattle.st_needs.specs.declared.unsent.Told.{Told}
-use Rattle.st_needs.specs.Told.{is_untaken, is_unused, senders, senders_in, told_of, AllSupplied, AreSupplied}
+use Rattle.st_completions.specs.Supply.{is_free, is_own_supply}
+use Rattle.st_needs.specs.declared.told.Told.{Told}
+use Rattle.st_needs.specs.Told.{is_untaken, is_unused, senders, senders_in, told_of}
 use Rattle.st_needs.proofs.Counted.{drop_stream, stream_here}
 
 -- WHOSE MESSAGES ARE RECEIVED
@@ -151,71 +142,6 @@ untaken_here streams v p q =
     option_map_or to (option_map (λ (f : ℕ × Event). f.1) o) false ≡ option_map_or (λ (f : ℕ × Event). to f.1) o false)
     [ None ↦ refl | Some f ↦ refl ])
 
-count_same : {A B : Type 0} (f : A → B) (test : B → Bool) (other : A → Bool) → ((x : A) → test (f x) ≡ other x)
-    → (xs : List A) → count_by test (map f xs) ≡ count_by other xs
-count_same f test other same [] = refl
-count_same f test other same (x ∷ xs) =
-    sum_by-cons (λ y. cond (test y) 1 0) (f x) (map f xs)
-    ∙ ap (λ b. cond b 1 0 + count_by test (map f xs)) (same x)
-    ∙ ap (λ n. cond (other x) 1 0 + n) (count_same f test other same xs)
-    ∙ sym (sum_by-cons (λ y. cond (other y) 1 0) x xs)
-
-pub free_count : (streams : List Stream) (v : ℕ) (all : List Told) → all ≡ map (told_of streams v) (pids_of streams)
-    → count_by is_unused all ≡ count_by (is_free streams v) (pids_of streams)
-free_count streams v all are =
-    ap (count_by is_unused) are
-    ∙ count_same (told_of streams v) is_unused (is_free streams v) (unused_here streams v) (pids_of streams)
-
-pub own_count : (streams : List Stream) (v : ℕ) (p : Pid) (all : List Told)
-    → all ≡ map (told_of streams v) (pids_of streams)
-    → count_by (is_untaken p) all ≡ count_by (is_own_supply streams v p) (pids_of streams)
-own_count streams v p all are =
-    ap (count_by (is_untaken p)) are
-    ∙ count_same (told_of streams v) (is_untaken p) (is_own_supply streams v p) (untaken_here streams v p)
-    (pids_of streams)
-
--- NEEDS
-
--- one event more
-pub need_more : (v : ℕ) (es : List Event) (i : ℕ) → i < length es
-    → (let e = get_or es i blank in
-    needs_from v (take i es) (drop i es)
-    ≡ (if is_need (take i es) e && e.serial.prev == v then 1 else 0)
-    + needs_from v (take (i + 1) es) (drop (i + 1) es))
-need_more v es i within =
-    let e = get_or es i blank in
-    ap (needs_from v (take i es)) (drop_more es i blank within)
-    ∙ sym (ap (λ before. (if is_need (take i es) e && e.serial.prev == v then 1 else 0)
-    + needs_from v before (drop (i + 1) es)) (take_more es i blank within))
-
--- ALL PROCESSES
-
--- what a process's needs exceed its own messages by
-pub exceeds : (streams : List Stream) (v : ℕ) (p : Pid) (all : List Told) (es : List Event) (wanted untaken taken : ℕ)
-    → all ≡ map (told_of streams v) (pids_of streams) → es ≡ events_of streams p → wanted ≡ needs_from v [] es
-    → untaken ≡ count_by (is_untaken p) all → taken ≡ wanted - untaken → taken ≡ excess streams v p
-exceeds streams v p all es wanted untaken taken are own wants takes is =
-    is ∙ ap (λ n. n - untaken) (wants ∙ ap (needs_from v []) own)
-    ∙ ap (λ n. needs streams v p - n) (takes ∙ own_count streams v p all are)
-
--- one process more that is satisfied
-pub left_more : (f : Pid → ℕ) (qs ps : List Pid) (k free left next taken : ℕ) (d : Pid) → qs ≡ ps → k < length qs
-    → left + sum_by f (take k ps) ≡ free → taken ≡ f (get_or qs k d) → taken ≤ left → next ≡ left - taken
-    → next + sum_by f (take (k + 1) ps) ≡ free
-left_more f qs ps k free left next taken d are within is takes enough after =
-    let more = sum_by_more f ps k d (subst (λ rs. k < length rs) are within) in
-    let here : taken ≡ f (get_or ps k d) = takes ∙ ap (λ rs. f (get_or rs k d)) are in
-    omega (arith, is, here, enough, after, more)
-
--- one that isn't
-pub too_few : (f : Pid → ℕ) (qs ps : List Pid) (k free left taken : ℕ) (d : Pid) → qs ≡ ps → k < length qs
-    → left + sum_by f (take k ps) ≡ free → taken ≡ f (get_or qs k d) → left < taken → sum_by f ps ≤ free → ⊥
-too_few f qs ps k free left taken d are within is takes short enough =
-    let more = sum_by_more f ps k d (subst (λ rs. k < length rs) are within) in
-    let part = sum_by-take-le f ps (k + 1) in
-    let here : taken ≡ f (get_or ps k d) = takes ∙ ap (λ rs. f (get_or rs k d)) are in
-    omega (arith, is, here, short, enough, more, part)
-
 -- what is told of a process, from its stamp and the senders
 pub told_parts : (streams : List Stream) (v : ℕ) (q : Pid) (stamp : Option Event) (received : Bool) (es : List Event)
     (found : List Pid) → es ≡ events_of streams q → found ≡ senders v streams → stamp ≡ find (has v) es
@@ -227,57 +153,3 @@ told_parts streams v q stamp received es found own are is among =
     let taken : received ≡ is_some (receive_of streams q v) =
     among ∙ ap (list_any (is_of q)) are ∙ sym (sent v q streams) in
     λ i. record { stamp = first i; received = taken i }
-
--- NEEDS OF EVERY COUNT
-
--- one event more
-pub supplied_next : (streams : List Stream) (es : List Event) (i : ℕ) (d : Event) → slice_get es i ≡ Some d
-    → AreSupplied streams es i → (is_need (take i es) d ≡ true → IsSupplied streams d.serial.prev)
-    → AreSupplied streams es (i + 1)
-supplied_next streams es i d at before here = λ j e less there need. elim (cases_lt j i) [
-  | inl low ↦ before j e low there need
-  | inr high ↦
-      let same : j ≡ i = omega (arith, less, high) in
-      let is = same_Some d e (sym at ∙ ap (slice_get es) (sym same) ∙ there) in
-      subst (λ (x : Event). IsSupplied streams x.serial.prev) is
-      (here (ap (λ n. is_need (take n es) d) (sym same) ∙ ap (is_need (take j es)) is ∙ need))
-]
-
--- some term of a sum isn't 0
-pub record HasSome (f : Pid → ℕ) (ps : List Pid) : Type 0 where
-  pub index : ℕ
-  pub pid : Pid
-  pub at : slice_get ps index ≡ Some pid
-  pub some : 0 < f pid
-
--- else all are
-pub some_or_nothing : (f : Pid → ℕ) (ps : List Pid) → HasSome f ps ⊎ (sum_by f ps ≡ 0)
-some_or_nothing f [] = inr refl
-some_or_nothing f (p ∷ ps) = elim (cases_lt 0 (f p)) [
-  | inl less ↦ inl (record { index = 0; pid = p; at = refl; some = less })
-  | inr none ↦ elim (some_or_nothing f ps) [
-    | inl rest ↦ inl (record { index = suc rest.index; pid = rest.pid; at = rest.at; some = rest.some })
-    | inr nothing ↦ let sum = sum_by-cons f p ps in inr (omega (arith, sum, none, nothing))
-  ]
-]
-
-pub index_within : {X : Type 0} (xs : List X) (i : ℕ) (x : X) → slice_get xs i ≡ Some x → i < length xs
-index_within [] i x at = absurd (cc)
-index_within (y ∷ xs) zero x at = omega arith
-index_within (y ∷ xs) (suc i) x at = let rest = index_within xs i x at in omega (arith, rest)
-
--- so if each need has enough messages, every count has
-pub all_supplied : (streams : List Stream) (n : ℕ) → length (pids_of streams) ≤ n → AllSupplied streams n
-    → (v : ℕ) → IsSupplied streams v
-all_supplied streams n all each v = elim (some_or_nothing (excess streams v) (pids_of streams)) [
-  | inr nothing ↦ omega (arith, nothing)
-  | inl more ↦
-      let p = more.pid in
-      let es = events_of streams p in
-      let some = more.some in
-      let need = need_of v [] es (omega (arith, some)) in
-      let listed = index_within (pids_of streams) more.index p more.at in
-      subst (IsSupplied streams) need.prev
-      (each more.index p (omega (arith, listed, all)) more.at need.index need.event
-      (index_within es need.index need.event need.at) need.at need.need)
-]

@@ -15,7 +15,7 @@ use Rattle.st_core.proofs.ForCallers.{all_at}
 use Rattle.st_order.proofs.ForCallers.{all_found}
 use Rattle.st_plan.specs.Marks.{all_streams, told_events, told_streams, Marked, Whole}
 use Rattle.st_completions.specs.Local.{IsNeedless}
-use Rattle.st_needs.specs.Completions.{all_events, marked_with, wholes_with, Completes}
+use Rattle.st_needs.specs.Completions.{all_events, marked_with, wholes_with, IsCompletionOf}
 use Rattle.st_needs.proofs.Kept.{all_kept}
 use Rattle.st_needs.proofs.ToldEvents.{all_told, IsToldAt}
 
@@ -105,13 +105,13 @@ both_end now all ms n none so_far =
 
 -- so the completion of all is one of what is told
 pub completes_told : (top : ℕ) (streams all_done : List Stream) (ws : List Whole) (done : List (List Bool))
-    (both : List (List Bool)) (built : List Whole) → Completes top (all_streams ws) (wholes_with all_done done)
+    (both : List (List Bool)) (built : List Whole) → IsCompletionOf top (all_streams ws) (wholes_with all_done done)
     → told_streams ws ≡ streams → told_streams (wholes_with all_done both) ≡ told_streams ws
-    → built ≡ wholes_with all_done both → Completes top streams built
+    → built ≡ wholes_with all_done both → IsCompletionOf top streams built
 completes_told top streams all_done ws done both built completes told through is =
     let before = all_kept all_done done in
     let after = all_kept all_done both in
-    subst (Completes top streams) (sym is) (record {
+    subst (IsCompletionOf top streams) (sym is) (record {
       told = through ∙ told;
       sound = subst IsStreams (before ∙ sym after) completes.sound;
       needless = subst (IsNeedless top) (before ∙ sym after) completes.needless;

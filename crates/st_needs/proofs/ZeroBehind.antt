@@ -1,12 +1,11 @@
--- Why the events that are found tell of needs of 0. A count that is less than n is the lowest of some events exactly if
--- one of these events tells of one. So an event with prev 0 counts higher than the lowest of its process exactly if
--- some event tells of a lower count of this process with another prev.
-use Rattle.std.proofs.Common.{◌≡◌, ℕ, ◌+◌, zero, suc, ◌<◌, ◌==◌, ◌&&◌, ◌||◌, nat_lt, min, Bool, true, false, cond}
-use Rattle.std.proofs.Common.{List, [], ◌∷◌, map, length, drop, get_or, slice_get, Option, Some, None, is_some}
-use Rattle.std.proofs.Common.{if◌then◌else◌, refl, sym, ◌∙◌, ap, subst, arith}
+-- Which events are unfounded. A count that is less than n is the lowest of some events exactly if one
+-- of these events tells of one. So an event with prev 0 counts higher than the lowest of its process
+-- exactly if some event tells of a lower count of this process with another prev.
+use Rattle.std.proofs.Common.{◌≡◌, inl, inr, ℕ, ◌+◌, zero, suc, ◌<◌, ◌==◌, ◌&&◌, ◌||◌, nat_lt, min, Bool}
+use Rattle.std.proofs.Common.{true, false, not, cond, List, [], ◌∷◌, take, slice_get, Option, Some, None, is_some}
+use Rattle.std.proofs.Common.{if◌then◌else◌, refl, sym, ◌∙◌, ap, arith}
 use Rattle.std.proofs.lemmas.Bool.{and_from, and_parts, eq-eqb, eqb-true, false≢true, le-ltb, lt-ltb}
 use Rattle.std.proofs.lemmas.Bool.{ltb-false, ltb-true}
-use Rattle.std.proofs.lemmas.List.{drop_more}
 use Rattle.std.proofs.lemmas.Option.{none-some, same_Some}
 use Rattle.st_core.specs.declared.types.Pid.{Pid}
 use Rattle.st_core.specs.declared.types.Event.{Event}
@@ -14,37 +13,13 @@ use Rattle.st_core.specs.Pid.{pid_eq, IsRising}
 use Rattle.st_core.specs.Run.{Stream, pids_of}
 use Rattle.st_core.specs.Streams.{events_of}
 use Rattle.st_core.proofs.ForCallers.{pid_eq-refl, pid_same}
-use Rattle.st_pair.specs.Places.{first, first_from, or_else}
-use Rattle.st_pair.proofs.ForCallers.{blank, event_none, given_at}
-use Rattle.st_completions.specs.FinalReasons.{IsZeroBehind}
-use Rattle.st_needs.specs.Zeros.{is_below, is_zero_behind, lower_count, lowest_count, lowest_from, lowest_in, tells_of}
-use Rattle.st_needs.specs.Zeros.{zero_behind}
-use Rattle.st_needs.proofs.Counted.{drop_stream, stream_here}
-
--- ONE EVENT OR PROCESS MORE
-
-pub lowest_more : (q : Pid) (low : Option ℕ) (es : List Event) (i : ℕ) → i < length es
-    → (let e = get_or es i blank in lowest_in q low (drop i es)
-    ≡ lowest_in q (if tells_of q e then Some (lower_count low e.serial.this) else low) (drop (i + 1) es))
-lowest_more q low es i within = ap (lowest_in q low) (drop_more es i blank within)
-
-pub lowest_next : (q : Pid) (low next start : Option ℕ) (streams : List Stream) (pids : List Pid) (k : ℕ) (d : Pid)
-    (es : List Event) → IsRising (pids_of streams) → pids ≡ pids_of streams → k < length pids
-    → es ≡ events_of streams (get_or pids k d) → next ≡ lowest_in q low es
-    → lowest_from q low (drop k streams) ≡ start → lowest_from q next (drop (k + 1) streams) ≡ start
-lowest_next q low next start streams pids k d es rising are within is noted so_far =
-    let at = stream_here streams pids k d es rising are within is in
-    let more : suc k ≡ k + 1 = omega arith in
-    ap (λ l. lowest_from q l (drop (k + 1) streams)) noted
-    ∙ ap (λ n. lowest_from q (lowest_in q low es) (drop n streams)) (sym more)
-    ∙ sym (ap (lowest_from q low) (drop_stream streams k _ at))
-    ∙ so_far
-
-pub at_map : {A B : Type 0} (f : A → B) (xs : List A) (k : ℕ) (x : A) → slice_get xs k ≡ Some x
-    → slice_get (map f xs) k ≡ Some (f x)
-at_map f [] k x at = absurd (none-some x at)
-at_map f (y ∷ xs) zero x at = ap (λ z. Some (f z)) (same_Some y x at)
-at_map f (y ∷ xs) (suc k) x at = at_map f xs k x at
+use Rattle.st_pair.specs.Places.{event_at, first, first_from, is_stamp, or_else}
+use Rattle.st_pair.proofs.ForCallers.{event_none, given_at}
+use Rattle.st_order.specs.Items.{is_hidden}
+use Rattle.st_completions.specs.Reasons.{HoldsAt}
+use Rattle.st_open.specs.OpenReasons.{IsLeastPlace, IsUnfounded}
+use Rattle.st_needs.specs.Unfounded.{has_receive, is_below, is_unfounded, lower_count, lowest_count, lowest_from}
+use Rattle.st_needs.specs.Unfounded.{lowest_in, lowest_with, tells_of}
 
 -- A LOWER COUNT IS TOLD
 
@@ -97,7 +72,7 @@ in_below q p n i low [] = sym (or_false (is_below low n))
 in_below q p n i low (e ∷ es) =
     let here = tells_below q n e in
     let rest : Option (Pid × ℕ) = first_from (below q n) p (i + 1) es in
-    in_below q p n (i + 1) (cond (tells_of q e) (Some (lower_count low e.serial.this)) low) es
+    in_below q p n (i + 1) (lowest_with q low e) es
     ∙ ap (λ b. b || is_some rest) (below_step (tells_of q e) (nat_lt e.serial.this n) low e.serial.this n refl)
     ∙ or_assoc (is_below low n) here (is_some rest)
     ∙ sym (ap (λ b. is_below low n || b) (or_given (cond here (Some (p, i)) None) rest
@@ -116,7 +91,7 @@ all_below q n low (x ∷ rest) =
 
 -- WHAT IS FOUND
 
-pub gives_true : (b : Bool) (x y : Pid × ℕ) → cond b (Some y) None ≡ Some x → (b ≡ true) × (y ≡ x)
+gives_true : (b : Bool) (x y : Pid × ℕ) → cond b (Some y) None ≡ Some x → (b ≡ true) × (y ≡ x)
 gives_true true x y is = (refl, same_Some y x is)
 gives_true false x y is = absurd (none-some x is)
 
@@ -124,7 +99,7 @@ none_false : (b : Bool) (x : Pid × ℕ) → cond b (Some x) None ≡ None → b
 none_false true x is = absurd (none-some x (sym is))
 none_false false x is = refl
 
--- where an event counts higher than the lowest, one of the lower ones is there
+-- if a count is higher than the lowest, one of the lower ones is there
 lower_there : (streams : List Stream) (rising : IsRising (pids_of streams)) (q : Pid) (n : ℕ)
     → is_below (lowest_count streams q) n ≡ true → (x : Pid × ℕ) × (first (below q n) streams ≡ Some x)
 lower_there streams rising q n is =
@@ -133,52 +108,157 @@ lower_there streams rising q n is =
       | Some x ↦ λ _. (x, refl)
     ] (sym (all_below q n None streams) ∙ is)
 
-pub found_behind : (streams : List Stream) (x : Pid × ℕ) → IsRising (pids_of streams)
-    → first (zero_behind streams) streams ≡ Some x → IsZeroBehind streams x.0 x.1
-found_behind streams x rising is =
-    let g = given_at (zero_behind streams) streams x rising is in
-    let e = g.event in
-    let gives = gives_true (is_zero_behind streams e) x (g.pid, g.index) g.gives in
-    let parts = and_parts (e.serial.prev == 0) (is_below (lowest_count streams e.from) e.serial.this) gives.0 in
-    let there = lower_there streams rising e.from e.serial.this parts.1 in
-    let f = given_at (below e.from e.serial.this) streams there.0 rising there.1 in
-    let d = f.event in
-    let tells = gives_true (tells_below e.from e.serial.this d) there.0 (f.pid, f.index) f.gives in
-    let less = and_parts (tells_of e.from d) (nat_lt d.serial.this e.serial.this) tells.0 in
-    let of = and_parts (pid_eq d.from e.from) (nat_lt 0 d.serial.prev) less.0 in
-    subst (λ (y : Pid × ℕ). IsZeroBehind streams y.0 y.1) gives.1 (record {
-      event = e;
-      at = g.at;
-      is_zero = eqb-true e.serial.prev 0 parts.0;
-      pid = f.pid;
-      index = f.index;
-      first = d;
-      first_at = f.at;
-      same = pid_same d.from e.from of.0;
-      lower = ltb-true d.serial.this e.serial.this less.1;
-      above = ltb-true 0 d.serial.prev of.1;
-    })
+-- a receive among the first events
+record HasReceive (es : List Event) (i : ℕ) : Type 0 where
+  index : ℕ
+  event : Event
+  at : slice_get es index ≡ Some event
+  receives : is_stamp event ≡ false
+  before : index < i
 
-pub none_behind : (streams : List Stream) → first (zero_behind streams) streams ≡ None
-    → (p : Pid) (i : ℕ) → ¬ IsZeroBehind streams p i
-none_behind streams none p i z =
-    let e = z.event in
-    let d = z.first in
-    let not_here = none_false (is_zero_behind streams e) (p, i)
-    (event_none (zero_behind streams) streams none p i e z.at) in
-    let tells : tells_below e.from e.serial.this d ≡ true =
-    and_from (tells_of e.from d) (nat_lt d.serial.this e.serial.this)
-    (and_from (pid_eq d.from e.from) (nat_lt 0 d.serial.prev)
-    (ap (λ q. pid_eq q e.from) z.same ∙ pid_eq-refl e.from) (lt-ltb 0 d.serial.prev z.above))
-    (lt-ltb d.serial.this e.serial.this z.lower) in
-    let high : is_below (lowest_count streams e.from) e.serial.this ≡ true =
-    elim (first (below e.from e.serial.this) streams) as (λ o. first (below e.from e.serial.this) streams ≡ o
-    → is_below (lowest_count streams e.from) e.serial.this ≡ true) [
-      | None ↦ λ nobody. absurd (false≢true (sym (none_false (tells_below e.from e.serial.this d) (z.pid, z.index)
-          (event_none (below e.from e.serial.this) streams nobody z.pid z.index d z.first_at))
-          ∙ tells))
-      | Some x ↦ λ some. all_below e.from e.serial.this None streams
-          ∙ ap (λ (o : Option (Pid × ℕ)). is_some o) some
-    ] refl in
-    false≢true (sym not_here ∙ and_from (e.serial.prev == 0) (is_below (lowest_count streams e.from) e.serial.this)
-    (eq-eqb e.serial.prev 0 z.is_zero) high)
+not_stamp : (b : Bool) → not b ≡ true → b ≡ false
+not_stamp true h = absurd (false≢true h)
+not_stamp false h = refl
+
+receive_there : (es : List Event) (i : ℕ) → has_receive (take i es) ≡ true → HasReceive es i
+receive_there es zero has = absurd (false≢true has)
+receive_there [] (suc i) has = absurd (false≢true has)
+receive_there (d ∷ es) (suc i) has =
+    elim (not (is_stamp d)) as (λ b. not (is_stamp d) ≡ b → (b || has_receive (take i es)) ≡ true
+    → HasReceive (d ∷ es) (suc i)) [
+      | true ↦ λ here _. record {
+        index = 0;
+        event = d;
+        at = refl;
+        receives = not_stamp (is_stamp d) here;
+        before = omega arith;
+      }
+      | false ↦ λ _ later.
+          let rest = receive_there es i later in
+          let before = rest.before in
+          record {
+            index = suc rest.index;
+            event = rest.event;
+            at = rest.at;
+            receives = rest.receives;
+            before = omega arith;
+          }
+    ] refl has
+
+or_right : (b : Bool) → (b || true) ≡ true
+or_right true = refl
+or_right false = refl
+
+there_receive : (es : List Event) (i j : ℕ) (d : Event) → slice_get es j ≡ Some d → is_stamp d ≡ false → j < i
+    → has_receive (take i es) ≡ true
+there_receive es zero j d at receives before = absurd (omega arith)
+there_receive [] (suc i) j d at receives before = absurd (none-some d at)
+there_receive (e ∷ es) (suc i) zero d at receives before =
+    ap (λ b. not b || has_receive (take i es)) (ap is_stamp (same_Some e d at) ∙ receives)
+there_receive (e ∷ es) (suc i) (suc j) d at receives before =
+    ap (λ b. not (is_stamp e) || b) (there_receive es i j d at receives (omega arith))
+    ∙ or_right (not (is_stamp e))
+
+module _ (streams : List Stream) (rising : IsRising (pids_of streams)) where
+  pub found_unfounded : (p : Pid) (i : ℕ) → HoldsAt (is_unfounded streams) streams p i → IsUnfounded streams p i
+  found_unfounded p i h =
+      let e = h.event in
+      let before = take i (events_of streams p) in
+      let own = is_stamp e || is_hidden streams e in
+      let low = is_below (lowest_count streams e.from) e.serial.this in
+      let parts = and_parts (e.serial.prev == 0) ((is_stamp e && has_receive before) || (own && low)) h.holds in
+      let zero = eqb-true e.serial.prev 0 parts.0 in
+      elim (is_stamp e && has_receive before) as (λ b. (is_stamp e && has_receive before) ≡ b
+      → (b || (own && low)) ≡ true → IsUnfounded streams p i) [
+        | true ↦ λ here _.
+            let both = and_parts (is_stamp e) (has_receive before) here in
+            let r = receive_there (events_of streams p) i both.1 in
+            inl (record {
+              event = e;
+              at = h.at;
+              stamps = both.0;
+              is_zero = zero;
+              index = r.index;
+              received = r.event;
+              received_at = r.at;
+              receives = r.receives;
+              behind = r.before;
+            })
+        | false ↦ λ _ behind.
+            let both = and_parts own low behind in
+            let there = lower_there streams rising e.from e.serial.this both.1 in
+            let f = given_at (below e.from e.serial.this) streams there.0 rising there.1 in
+            let d = f.event in
+            let tells = gives_true (tells_below e.from e.serial.this d) there.0 (f.pid, f.index) f.gives in
+            let less = and_parts (tells_of e.from d) (nat_lt d.serial.this e.serial.this) tells.0 in
+            let of = and_parts (pid_eq d.from e.from) (nat_lt 0 d.serial.prev) less.0 in
+            inr (record {
+              zero = record {
+                event = e;
+                at = h.at;
+                is_zero = zero;
+                pid = f.pid;
+                index = f.index;
+                first = d;
+                first_at = f.at;
+                same = pid_same d.from e.from of.0;
+                lower = ltb-true d.serial.this e.serial.this less.1;
+                above = ltb-true 0 d.serial.prev of.1;
+              };
+              tells = both.0;
+            })
+      ] refl parts.1
+
+  low_told : (e d : Event) (p : Pid) (i : ℕ) → event_at streams p i ≡ Some d → d.from ≡ e.from
+      → d.serial.this < e.serial.this → 0 < d.serial.prev
+      → is_below (lowest_count streams e.from) e.serial.this ≡ true
+  low_told e d p i at same lower above =
+      let tells : tells_below e.from e.serial.this d ≡ true =
+      and_from (tells_of e.from d) (nat_lt d.serial.this e.serial.this)
+      (and_from (pid_eq d.from e.from) (nat_lt 0 d.serial.prev)
+      (ap (λ q. pid_eq q e.from) same ∙ pid_eq-refl e.from) (lt-ltb 0 d.serial.prev above))
+      (lt-ltb d.serial.this e.serial.this lower) in
+      elim (first (below e.from e.serial.this) streams) as (λ o. first (below e.from e.serial.this) streams ≡ o
+      → is_below (lowest_count streams e.from) e.serial.this ≡ true) [
+        | None ↦ λ nobody. absurd (false≢true (sym (none_false (tells_below e.from e.serial.this d) (p, i)
+            (event_none (below e.from e.serial.this) streams nobody p i d at)) ∙ tells))
+        | Some x ↦ λ some. all_below e.from e.serial.this None streams
+            ∙ ap (λ (o : Option (Pid × ℕ)). is_some o) some
+      ] refl
+
+  pub unfounded_found : (p : Pid) (i : ℕ) → IsUnfounded streams p i → HoldsAt (is_unfounded streams) streams p i
+  unfounded_found p i (inl z) =
+      let e = z.event in
+      let before = take i (events_of streams p) in
+      let behind = (is_stamp e || is_hidden streams e) && is_below (lowest_count streams e.from) e.serial.this in
+      let here : (is_stamp e && has_receive before) ≡ true =
+      and_from (is_stamp e) (has_receive before) z.stamps
+      (there_receive (events_of streams p) i z.index z.received z.received_at z.receives z.behind) in
+      record {
+        event = e;
+        at = z.at;
+        holds = and_from (e.serial.prev == 0) ((is_stamp e && has_receive before) || behind)
+            (eq-eqb e.serial.prev 0 z.is_zero) (ap (λ b. b || behind) here);
+      }
+  unfounded_found p i (inr t) =
+      let z = t.zero in
+      let e = z.event in
+      let before = take i (events_of streams p) in
+      let own = is_stamp e || is_hidden streams e in
+      let low = is_below (lowest_count streams e.from) e.serial.this in
+      let behind : (own && low) ≡ true = and_from own low t.tells
+      (low_told e z.first z.pid z.index z.first_at z.same z.lower z.above) in
+      record {
+        event = e;
+        at = z.at;
+        holds = and_from (e.serial.prev == 0) ((is_stamp e && has_receive before) || (own && low))
+            (eq-eqb e.serial.prev 0 z.is_zero)
+            (ap (λ b. (is_stamp e && has_receive before) || b) behind ∙ or_right (is_stamp e && has_receive before));
+      }
+
+  pub least_unfounded : (p : Pid) (i : ℕ) → IsLeastPlace (HoldsAt (is_unfounded streams) streams) p i
+      → IsLeastPlace (IsUnfounded streams) p i
+  least_unfounded p i is = record {
+    holds = found_unfounded p i is.holds;
+    least = λ q j earlier holds. is.least q j earlier (unfounded_found q j holds);
+  }

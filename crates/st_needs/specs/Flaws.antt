@@ -4,11 +4,11 @@ use Rattle.st_core.specs.declared.types.Event.{Event}
 use Rattle.st_core.specs.Laws.{greatest_count, prev_after}
 use Rattle.st_pair.specs.declared.answer.Source.{Source}
 use Rattle.st_pair.specs.declared.answer.Source.TheVariants as source
-use Rattle.st_completions.specs.Needs.{is_late, is_need, is_rootless}
+use Rattle.st_completions.specs.Needs.{is_late, is_need}
+use Rattle.st_completions.specs.Reasons.{is_too_high}
 use Rattle.st_needs.specs.declared.flaws.Flaw.{Flaw}
 use Rattle.st_needs.specs.declared.flaws.Flaw.TheVariants as flaw
 use Rattle.st_needs.specs.declared.flaws.Left.{Left}
-use Rattle.st_needs.specs.Reasons.{is_too_high}
 
 -- what events leave to the next
 abbrev pub left_by : List Event → Left
@@ -18,7 +18,6 @@ left_by es = record { greatest = greatest_count es; prev = prev_after es }
 abbrev pub test_of : Flaw → List Event → Event → Bool
 test_of flaw.Late es e = is_late es e
 test_of flaw.Need es e = is_need es e
-test_of flaw.Rootless es e = is_rootless es e
 test_of (flaw.TooHigh top) es e = is_too_high top es e
 
 -- the source of a receive is a hidden send

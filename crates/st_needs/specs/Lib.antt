@@ -1,11 +1,11 @@
--- What public contracts cite: what a completion is; what may be wrong with an event; which reasons
--- hold; and what is told of one count, process by process.
+-- What public contracts cite: what a completion is; what may be wrong with an event.
 pub mod Completions
 pub mod Flaws
-pub mod Reasons
-pub mod Told
--- For the parts alone: where a test holds first; counts as they stand; and needs of 0 that two
--- events tell.
+-- For the parts alone: where a test holds first; counts as they stand; what is told of one count,
+-- process by process; which stamps with prev 0 can't begin a trace; and
+-- streams with other processes among them.
 pub mod Places
 pub mod Counts
-pub mod Zeros
+pub mod Told
+pub mod Unfounded
+pub mod Merged

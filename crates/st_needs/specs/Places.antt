@@ -4,7 +4,6 @@ use Rattle.st_core.specs.declared.types.Pid.{Pid}
 use Rattle.st_core.specs.declared.types.Event.{Event}
 use Rattle.st_core.specs.Run.{Stream}
 use Rattle.st_core.specs.Streams.{events_of}
-use Rattle.st_order.specs.Items.{is_hidden}
 
 -- the place of an event of which the test holds
 abbrev pub place_where : (List Event → Event → Bool) → List Event → Pid → ℕ → Event
@@ -14,7 +13,3 @@ place_where test es p i e = if test (take i es) e then Some (p, i) else None
 abbrev pub flaw_place : (List Event → Event → Bool) → List Stream → Pid → ℕ → Event
     → Option (Pid × ℕ)
 flaw_place test streams p i e = place_where test (events_of streams p) p i e
-
--- the place of a receive of a hidden send
-abbrev pub hides : List Stream → Pid → ℕ → Event → Option (Pid × ℕ)
-hides streams p i e = if is_hidden streams e then Some (p, i) else None

@@ -1,17 +1,14 @@
 -- For the parts alone: what is told of one count, process by process.
-use Rattle.std.specs.Prelude.{◌≡◌, ℕ, ◌<◌, ◌==◌, ◌&&◌, Bool, true, false, not, List, [], ◌∷◌, ◌++◌}
+use Rattle.std.specs.Prelude.{ℕ, ◌==◌, ◌&&◌, Bool, false, not, List, [], ◌∷◌, ◌++◌}
 use Rattle.std.specs.Prelude.{Some, is_none, is_some}
-use Rattle.std.specs.Prelude.{length, option_map, slice_get, take, if◌then◌else◌}
+use Rattle.std.specs.Prelude.{option_map, if◌then◌else◌}
 use Rattle.std.specs.Option.{option_map_or}
 use Rattle.st_core.specs.declared.types.Pid.{Pid}
 use Rattle.st_core.specs.declared.types.Event.{Event}
-use Rattle.st_core.specs.Run.{Stream, pids_of}
-use Rattle.st_core.specs.Streams.{events_of}
+use Rattle.st_core.specs.Run.{Stream}
 use Rattle.st_pair.specs.Pairing.{is_send, receive_of, stamp_of, to_eq}
 use Rattle.st_pair.specs.Places.{is_stamp}
-use Rattle.st_completions.specs.Needs.{is_need}
-use Rattle.st_completions.specs.Supply.{IsSupplied}
-use Rattle.st_needs.specs.declared.unsent.Told.{Told}
+use Rattle.st_needs.specs.declared.told.Told.{Told}
 
 -- whose messages of this count these events receive
 abbrev pub senders_in : ℕ → List Event → List Pid
@@ -39,14 +36,3 @@ is_unused t = not t.received && is_none t.stamp
 abbrev pub is_untaken : Pid → Told → Bool
 is_untaken p t = not t.received
     && option_map_or (λ e. is_send e && to_eq e.to (Some p)) t.stamp false
-
--- of the prev of each need among the first so many of these events there are enough messages
-abbrev pub AreSupplied : List Stream → List Event → ℕ → Type 0
-AreSupplied streams es n = (i : ℕ) (e : Event) → i < n → slice_get es i ≡ Some e
-    → is_need (take i es) e ≡ true
-    → IsSupplied streams e.serial.prev
-
--- so it is of the needs of the first so many processes
-abbrev pub AllSupplied : List Stream → ℕ → Type 0
-AllSupplied streams n = (k : ℕ) (p : Pid) → k < n → slice_get (pids_of streams) k ≡ Some p
-    → AreSupplied streams (events_of streams p) (length (events_of streams p))

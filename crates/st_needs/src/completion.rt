@@ -3,6 +3,7 @@
 ghost use Rattle.std.specs.Prelude.{◌≡◌, length, option_map, slice_get, List, get_or, false, []};
 ghost use Rattle.st_core.specs.declared.types.Event.{Event as EventValue};
 ghost use Rattle.st_completions.specs.Needs.{marked_of};
+ghost use Rattle.st_open.specs.Silent.{with_silent};
 ghost use Rattle.st_plan.specs.Marks.{all_streams, marks_of, told_streams};
 ghost use Rattle.st_needs.specs.Completions.{added_in, marked_with, wholes_with};
 
@@ -10,38 +11,52 @@ use st_core::{Pid, Sequence, Streams};
 use st_plan::Tells;
 use std::marker::Model;
 
-/// All events of each process, and for each whether it is told, that is, whether it stands in the
-/// streams that were completed. It takes 1 byte an event more than the streams of all events.
+/// All events of each process, and for each whether it is told, that is, whether it is one of the
+/// streams that were completed; and which of the processes these don't list. It takes 1 byte an
+/// event more than the streams of all events.
 #[derive(Debug, Drop)]
 pub struct Completion {
     pub(crate) streams: Streams,
     /// The marks of each process, by its place; events past the end of the marks are untold.
     pub(crate) told: Vec<Sequence<bool>>,
+    /// The processes that the streams don't list, by rising pid.
+    pub(crate) unlisted: Vec<Pid>,
     /// How many events are untold.
     pub(crate) added: u64,
 }
 
 impl Model for Completion {
-    ghost use Rattle.std.specs.Prelude.{◌≡◌, List};
-    ghost use Rattle.st_plan.specs.Marks.{Whole};
-    ghost use Rattle.st_needs.specs.Completions.{added_in, wholes_with};
+    ghost use Rattle.std.specs.Prelude.{◌≡◌};
+    ghost use Rattle.st_needs.specs.Completions.{added_in, wholes_with, Completed};
 
-    ghost Value = { List Whole };
+    ghost Value = { Completed };
 
-    ghost view = { λ a. wholes_with a.streams a.told.items };
+    ghost view = { λ a. record {
+      wholes = wholes_with a.streams a.told.items;
+      unlisted = a.unlisted.items;
+    } };
 
     ghost invariant = { λ a. a.added ≡ added_in (wholes_with a.streams a.told.items) };
 }
 
-/// The completion of the streams with all these events and their marks. It copies no event.
-pub fn completion_of(streams: &Streams, all: Streams, lists: Vec<Sequence<bool>>) -> Completion
-    requires { told_streams (wholes_with all lists.items) ≡ streams.now }
-    ensures { result ≡ wholes_with all lists.items }
+/// The completion of the streams with all these events and their marks, and with these processes
+/// that the streams don't list. It copies no event.
+pub fn completion_of(
+    streams: &Streams,
+    all: Streams,
+    lists: Vec<Sequence<bool>>,
+    unlisted: Vec<Pid>,
+) -> Completion
+    requires { told_streams (wholes_with all lists.items)
+        ≡ with_silent streams.now unlisted.items }
+    ensures wholes { result.wholes ≡ wholes_with all lists.items }
+    ensures unlisted { result.unlisted ≡ unlisted.items }
 {
     let added = all.total().saturating_sub(streams.total());
     Completion {
         streams: all,
         told: lists,
+        unlisted,
         added,
     }
 }
@@ -80,21 +95,21 @@ fn mark_at(event_count: u64, marks: &[bool], index: u64) -> Option<bool>
 impl Completion {
     /// All events, told or not.
     pub fn streams(&self) -> &Streams
-        ensures { result.now ≡ all_streams self.now }
+        ensures { result.now ≡ all_streams self.now.wholes }
     {
         &self.streams
     }
 
     /// The marks of each process, by its place; events past the end of the marks are untold.
     pub fn marks(&self) -> &[Sequence<bool>]
-        ensures { wholes_with (all_streams self.now) result.now ≡ self.now }
+        ensures { wholes_with (all_streams self.now.wholes) result.now ≡ self.now.wholes }
     {
         &self.told
     }
 
     /// Whether the event at this index of the process is told; none if there is no event.
     pub fn told(&self, pid: Pid, index: u64) -> Option<bool>
-        ensures { result ≡ option_map (λ m. m.told) (slice_get (marked_of self.now pid) index) }
+        ensures { result ≡ option_map (λ m. m.told) (slice_get (marked_of self.now.wholes pid) index) }
     {
         match self.streams.place_of(pid) {
             None => None,
@@ -105,16 +120,24 @@ impl Completion {
         }
     }
 
+    /// The processes that take part and that the streams don't list, by rising pid. None of their
+    /// events is told.
+    pub fn unlisted(&self) -> &[Pid]
+        ensures { result.now ≡ self.now.unlisted }
+    {
+        &self.unlisted
+    }
+
     /// The number of untold events.
     pub fn added(&self) -> u64
-        ensures { result ≡ added_in self.now }
+        ensures { result ≡ added_in self.now.wholes }
     {
         self.added
     }
 }
 
 impl Tells for Completion {
-    ghost marks = { marks_of };
+    ghost marks = { λ c. marks_of c.wholes };
 
     fn is_told(&self, pid: Pid, index: u64) -> bool {
         self.told(pid, index) == Some(true)

@@ -12,14 +12,14 @@ ghost use Rattle.st_completions.specs.Completion.{prev_between, put, receive_for
 ghost use Rattle.st_completions.specs.Completion.{told_wholes, with_receive_of, with_receives};
 ghost use Rattle.st_completions.specs.Completion.{with_send_of, with_sends};
 ghost use Rattle.st_completions.specs.Reasons.{HasEachSend, HasNoReason};
-ghost use Rattle.st_needs.specs.Completions.{Completes};
+ghost use Rattle.st_needs.specs.Completions.{IsCompletionOf};
 ghost use Rattle.st_needs.specs.Flaws.{left_by};
 
 use crate::completion::{Completion, completion_of};
 use crate::flaws::Left;
 use crate::ranks::{add_own, close_draft, open_last};
 use crate::supplies::{Supply, supplies};
-use crate::unsent::stamp_in;
+use crate::told::stamp_in;
 use st_completions::laws::streams_without_a_reason_are_completed;
 use st_core::{Draft, Event, Kind, Pid, Sequence, Serial, Streams};
 use std::alloc::{AllocError, Global};
@@ -109,14 +109,14 @@ impl Whole {
     }
 
     /// Its pid.
-    pub(crate) fn pid(&self) -> Pid
+    pub fn pid(&self) -> Pid
         ensures { result ≡ self.now.pid }
     {
         self.pid
     }
 
     /// Its events with their marks.
-    pub(crate) fn marked(&self) -> &[Marked]
+    pub fn marked(&self) -> &[Marked]
         ensures { result.now ≡ self.now.marked }
     {
         &self.marked
@@ -339,7 +339,7 @@ fn wholes_of(alloc: Global, streams: &Streams) -> Result<Vec<Whole>, AllocError>
 }
 
 /// Adds a process that comes last, with these events.
-fn add_process(draft: &mut Draft, pid: Pid, events: &[Event]) -> Result<(), AllocError>
+pub(crate) fn add_process(draft: &mut Draft, pid: Pid, events: &[Event]) -> Result<(), AllocError>
     requires last { ComesLast draft.old pid }
     requires own { AllByRecursion (λ e. is_own pid e ≡ true) events.now }
     ensures { OnOk result (draft.new
@@ -381,7 +381,8 @@ fn marks_of(alloc: Global, wholes: &[Whole]) -> Result<Vec<Sequence<bool>>, Allo
 /// Builds the completion of streams in which no send is hidden and against which there is no
 /// reason.
 ///
-/// It is called only if the search made a mistake, and is slow: it looks at all events once for
+/// It is called only if the judge refuses a candidate, which no test has seen, and is slow: it
+/// looks at all events once for
 /// each count in the streams, and for each added event at all events of two processes. That takes a
 /// time quadratic in the events.
 pub(crate) fn construct<const TOP: u64>(
@@ -390,12 +391,12 @@ pub(crate) fn construct<const TOP: u64>(
 ) -> Result<Completion, AllocError>
     requires sends { HasEachSend streams.now }
     requires none { HasNoReason TOP streams.now }
-    ensures { IfOk result (Completes TOP streams.now) }
+    ensures { IfOk result (λ found. IsCompletionOf TOP streams.now found.wholes) }
 {
     streams_without_a_reason_are_completed();
     let _pids = streams.pids();
     let wholes = wholes_of(alloc, streams)?;
     let all = streams_of(alloc, &wholes)?;
     let lists = marks_of(alloc, &wholes)?;
-    Ok(completion_of(streams, all, lists))
+    Ok(completion_of(streams, all, lists, Vec::new(alloc)))
 }

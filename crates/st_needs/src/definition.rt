@@ -1,39 +1,17 @@
-//! Completions by st_completions's definition: of streams in which no send is hidden, and of what is
-//! told of such streams.
+//! What is told of whole streams, completed by st_completions's definition.
 
-ghost use Rattle.std.specs.Prelude.{◌≡◌, ◌<◌, ℕ, get_or, length, IfOk};
+ghost use Rattle.std.specs.Prelude.{◌≡◌, ◌<◌, get_or, length, IfOk};
 ghost use Rattle.st_core.specs.Streams.{IsStreams};
 ghost use Rattle.st_plan.specs.Marks.{Marked as MarkedValue};
 ghost use Rattle.st_plan.specs.Marks.{all_streams, told_events, told_streams};
-ghost use Rattle.st_completions.specs.Needs.{HoldsOfNone};
 ghost use Rattle.st_completions.specs.Reasons.{HasEachSend, HasNoReason};
-ghost use Rattle.st_completions.specs.Supply.{IsSupplied};
-ghost use Rattle.st_needs.specs.Completions.{all_events, marked_with, wholes_with, Completes};
-ghost use Rattle.st_needs.specs.Reasons.{is_too_high, HidesNone, IsRooted};
+ghost use Rattle.st_open.specs.Silent.{with_silent};
+ghost use Rattle.st_needs.specs.Completions.{all_events, marked_with, wholes_with, IsCompletionOf};
 
 use crate::completion::{Completion, completion_of, is_marked, marks_at};
 use crate::construction::{Marked, Whole, construct, streams_of};
-use st_core::{Event, Sequence, Streams};
+use st_core::{Event, Pid, Sequence, Streams};
 use std::alloc::{AllocError, Global};
-
-/// Builds the completion of streams in which no send is hidden, if no event is late, needs a message
-/// of 0 or counts too high, and there are enough messages of each count.
-///
-/// It looks at all events once for each count in the streams, and for each added event at all events
-/// of two processes. That takes a time quadratic in the events.
-pub fn complete_by_definition<const TOP: u64>(
-    alloc: Global,
-    streams: &Streams,
-) -> Result<Completion, AllocError>
-    requires rooted { IsRooted streams.now }
-    requires within { HoldsOfNone (is_too_high TOP) streams.now }
-    requires none { HidesNone streams.now }
-    requires supplied { (v : ℕ) → IsSupplied streams.now v }
-    ensures { IfOk result (Completes TOP streams.now) }
-{
-    let completed = construct::<TOP>(alloc, streams)?;
-    Ok(completed)
-}
 
 /// Whether the event at this index is told.
 fn told_at(marked: &[Marked], index: usize) -> bool
@@ -95,30 +73,37 @@ fn told_completion<const TOP: u64>(
     streams: &Streams,
     wholes: &[Whole],
     all: Completion,
+    unlisted: Vec<Pid>,
 ) -> Result<Completion, AllocError>
-    requires told { told_streams wholes.now ≡ streams.now }
-    requires all { Completes TOP (all_streams wholes.now) all }
-    ensures { IfOk result (Completes TOP streams.now) }
+    requires told { told_streams wholes.now ≡ with_silent streams.now unlisted.items }
+    requires all { IsCompletionOf TOP (all_streams wholes.now) all.wholes }
+    ensures is { IfOk result (λ found.
+        IsCompletionOf TOP (with_silent streams.now unlisted.items) found.wholes) }
+    ensures unlisted { IfOk result (λ found. found.unlisted ≡ unlisted.items) }
 {
     let both = all_told_through(alloc, &all.streams, &all.told, wholes)?;
-    Ok(completion_of(streams, all.streams, both))
+    Ok(completion_of(streams, all.streams, both, unlisted))
 }
 
-/// Builds the completion of the streams that are told of these whole streams, if no send is hidden in
-/// all events and no reason holds of them: all events are completed by the definition, and told
-/// is what is told of both. That takes a time quadratic in the events.
+/// Builds the completion of the streams that are told of these whole streams, beside unlisted
+/// processes of which nothing is told, if no send is hidden in all events and no reason holds of
+/// them: all events are completed by the definition, and told is what is told of both. That takes a
+/// time quadratic in the events.
 pub fn complete_told<const TOP: u64>(
     alloc: Global,
     streams: &Streams,
     wholes: &[Whole],
+    unlisted: Vec<Pid>,
 ) -> Result<Completion, AllocError>
-    requires told { told_streams wholes.now ≡ streams.now }
+    requires told { told_streams wholes.now ≡ with_silent streams.now unlisted.items }
     requires sound { IsStreams (all_streams wholes.now) }
     requires sends { HasEachSend (all_streams wholes.now) }
     requires none { HasNoReason TOP (all_streams wholes.now) }
-    ensures { IfOk result (Completes TOP streams.now) }
+    ensures is { IfOk result (λ found.
+        IsCompletionOf TOP (with_silent streams.now unlisted.items) found.wholes) }
+    ensures unlisted { IfOk result (λ found. found.unlisted ≡ unlisted.items) }
 {
     let all = streams_of(alloc, wholes)?;
     let completed = construct::<TOP>(alloc, &all)?;
-    told_completion::<TOP>(alloc, streams, wholes, completed)
+    told_completion::<TOP>(alloc, streams, wholes, completed, unlisted)
 }

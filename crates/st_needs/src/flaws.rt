@@ -1,20 +1,19 @@
 //! What may be wrong with an event after those of its process before it, and the first event with
 //! such a flaw.
 
-ghost use Rattle.std.specs.Prelude.{◌≡◌, ◌↔◌, [], ◌∷◌, ◌++◌, List, IfNone, IfSome, IsSome, IsTrue};
+ghost use Rattle.std.specs.Prelude.{◌≡◌, ◌↔◌, [], ◌∷◌, ◌++◌, List, IfNone, IfSome, IsTrue};
 ghost use Rattle.st_core.specs.declared.types.Event.{Event as EventValue};
-ghost use Rattle.st_core.specs.Streams.{events_of};
-ghost use Rattle.st_pair.specs.Links.{IsPairing};
-ghost use Rattle.st_pair.specs.Places.{event_at, first, first_from, is_stamp};
+ghost use Rattle.st_pair.specs.Places.{first, first_from, is_stamp};
 ghost use Rattle.st_core.specs.Laws.{greatest_count, prev_after};
 ghost use Rattle.st_completions.specs.Completion.{begins};
 ghost use Rattle.st_completions.specs.Needs.{HoldsOfNone};
 ghost use Rattle.st_needs.specs.Flaws.{is_hidden_in, left_by, test_of, GoesOnWithin};
-ghost use Rattle.st_needs.specs.Places.{flaw_place, hides, place_where};
-ghost use Rattle.st_needs.specs.Reasons.{HidesNone, HidesSend, HoldsThere};
+ghost use Rattle.st_completions.specs.Reasons.{HoldsAt};
+ghost use Rattle.st_open.specs.OpenReasons.{IsLeastPlace};
+ghost use Rattle.st_needs.specs.Places.{flaw_place, place_where};
 
 use st_core::{Event, Kind, Pid, Streams};
-use st_pair::{Pairing, Source};
+use st_pair::Source;
 
 /// What the events of a process leave to its next one. It is two numbers, so one pass over the
 /// events finds what is wrong with each.
@@ -35,8 +34,6 @@ pub enum Flaw {
     /// A send or print with a prev that they don't leave and no new trace has: a receive is
     /// missing.
     Need,
-    /// A need with prev 0, which no receive has as its count.
-    Rootless,
     /// An event that counts above this.
     TooHigh(u64),
 }
@@ -100,7 +97,6 @@ impl Left {
         match flaw {
             Flaw::Late => is_stamp(event) && self.greatest >= event.serial.this,
             Flaw::Need => self.lacks(event),
-            Flaw::Rootless => self.lacks(event) && event.serial.prev == 0,
             Flaw::TooHigh(top) => top < event.serial.this,
         }
     }
@@ -172,61 +168,15 @@ fn first_flaw(streams: &Streams, flaw: Flaw) -> Option<(Pid, u64)>
     None
 }
 
-/// The first receive of a process whose send is hidden.
-fn first_hidden_in(
-    streams: &Streams,
-    pairing: &Pairing,
-    pid: Pid,
-    events: &[Event],
-) -> Option<(Pid, u64)>
-    requires paired { IsPairing streams.now pairing.now }
-    requires own { events.now ≡ events_of streams.now pid }
-    ensures { result ≡ first_from (hides streams.now) pid 0 events.now }
-{
-    for (i, _) in events.iter().enumerate() {
-        if is_hidden_source(pairing.source(pid, i as u64)) {
-            return Some((pid, i as u64));
-        }
-    }
-    None
-}
-
-/// The least place of a receive whose send is hidden.
-fn first_hidden(streams: &Streams, pairing: &Pairing) -> Option<(Pid, u64)>
-    requires { IsPairing streams.now pairing.now }
-    ensures { result ≡ first (hides streams.now) streams.now }
-{
-    for &pid in streams.pids() {
-        if let Some(place) = first_hidden_in(streams, pairing, pid, streams.events(pid)) {
-            return Some(place);
-        }
-    }
-    None
-}
-
 /// The least place of an event with the flaw: the first process that has one, and its first such
 /// event. It looks at each event once.
 pub fn find_flaw(streams: &Streams, flaw: Flaw) -> Option<(Pid, u64)>
-    ensures some { IfSome result (λ at. HoldsThere (test_of flaw) streams.now at.0 at.1) }
+    ensures some { IfSome result
+        (λ at. IsLeastPlace (HoldsAt (test_of flaw) streams.now) at.0 at.1) }
     ensures none { IfNone result (HoldsOfNone (test_of flaw) streams.now) }
 {
     let is_streams = streams.pids();
     match first_flaw(streams, flaw) {
-        None => None,
-        Some(place) => Some(place),
-    }
-}
-
-/// The least place of a receive whose send is hidden: the first process that has one, and its first
-/// such receive.
-pub fn find_hidden(streams: &Streams, pairing: &Pairing) -> Option<(Pid, u64)>
-    requires { IsPairing streams.now pairing.now }
-    ensures none { IfNone result (HidesNone streams.now) }
-    ensures some { IfSome result (λ at. HidesSend streams.now) }
-    ensures there { IfSome result (λ at. IsSome (event_at streams.now at.0 at.1)) }
-{
-    let _pids = streams.pids();
-    match first_hidden(streams, pairing) {
         None => None,
         Some(place) => Some(place),
     }

@@ -10,16 +10,15 @@ mod construction;
 mod definition;
 mod flaws;
 mod ranks;
+mod silent;
 mod supplies;
-mod unsent;
-mod zeros;
+mod told;
+mod unfounded;
 
 pub use completion::{Completion, completion_of, is_marked, marks_at};
 pub use construction::{Marked, Whole};
-pub use definition::{complete_by_definition, complete_told};
-pub use flaws::{Flaw, Left, find_flaw, find_hidden, is_hidden_source, is_stamp, prev_left};
+pub use definition::complete_told;
+pub use flaws::{Flaw, Left, find_flaw, is_hidden_source, is_stamp, prev_left};
 pub use ranks::{counts_of, renumbered};
-pub use unsent::{
-    Told, find_unsent, is_unsent, need_count, told_of_each, untaken_count, unused_count,
-};
-pub use zeros::find_zero_behind;
+pub use silent::{is_unlisted, with_silent};
+pub use unfounded::find_unfounded;

@@ -17,6 +17,7 @@ pub use Rattle.st_pair.proofs.FullyShown.{shown_accepted, send_shown}
 pub use Rattle.st_pair.proofs.NotedRows.{or_none, or_assoc}
 pub use Rattle.st_pair.proofs.Firsts.{first_from-at, first_from-end, first-at, first-end, first-loop}
 pub use Rattle.st_pair.proofs.Converse.{IsGiven, given_from, given_at}
+pub use Rattle.st_pair.proofs.Leasts.{first_least}
 -- ---- streams and their pids
 pub use Rattle.st_pair.proofs.Firsts.{IsAt, is_at, at_get_or, events_in}
 pub use Rattle.st_pair.proofs.Stamps.{blank}

@@ -1,5 +1,5 @@
 -- The lemmas.
 pub mod Deliveries
 pub mod Rooms
-pub mod Backs
 pub mod Completions
+pub mod Meanings

@@ -1,27 +1,30 @@
 -- What `complete` makes of bytes: what the streams that they spell lack, or why no run without a
--- reset has them. The acts in the input are ignored.
-use Rattle.std.specs.Prelude.{◌≡◌, ℕ, ◌+◌, zero, suc, Bool, true, false, List, [], ◌++◌, Option}
+-- reset has them, whatever processes report nothing. The acts in the input are ignored.
+use Rattle.std.specs.Prelude.{◌≡◌, ℕ, zero, suc, Bool, true, false, List, [], ◌++◌, Option}
 use Rattle.std.specs.Prelude.{Some, None, codes, decimal, length, option_map}
 use Rattle.std.specs.Prelude.{slice_get}
-use Rattle.std.specs.List.{flat_map}
+use Rattle.std.specs.List.{flat_map, AllByRecursion}
 use Rattle.st_core.specs.declared.types.Pid.{Pid}
 use Rattle.st_core.specs.declared.types.Act.{Act}
 use Rattle.st_core.specs.declared.types.Event.{Event}
 use Rattle.st_core.specs.Laws.{NoReset}
 use Rattle.st_core.specs.Run.{Stream, Shows, pids_of}
-use Rattle.st_core.specs.Streams.{events_of}
+use Rattle.st_core.specs.Streams.{events_of, lists}
 use Rattle.st_text.specs.declared.fault.ReadFault.{ReadFault}
 use Rattle.st_text.specs.Fault.{fault}
 use Rattle.st_text.specs.Spelling.{ended_line}
 use Rattle.st_pair.specs.Places.{event_at}
-use Rattle.st_plan.specs.Marks.{all_streams, Whole}
+use Rattle.st_plan.specs.Marks.{all_streams, told_streams, Whole}
+use Rattle.st_completions.specs.Local.{IsNeedless}
 use Rattle.st_completions.specs.Needs.{marked_of}
-use Rattle.st_hidden.specs.declared.answer.Never.{Never}
-use Rattle.st_hidden.specs.declared.answer.Never.TheVariants as never
-use Rattle.st_hidden.specs.declared.answer.Answer.{Answer}
-use Rattle.st_hidden.specs.declared.answer.Answer.TheVariants as answer
-use Rattle.st_hidden.specs.Answers.{IsAnswer, IsNeverFinal}
-use Rattle.st_needs.specs.Completions.{added_in}
+use Rattle.st_open.specs.Silent.{with_silent}
+use Rattle.st_complete.specs.declared.answer.Never.{Never}
+use Rattle.st_complete.specs.declared.answer.Never.TheVariants as never
+use Rattle.st_complete.specs.declared.answer.Answer.{Answer}
+use Rattle.st_complete.specs.declared.answer.Answer.TheVariants as answer
+use Rattle.st_complete.specs.Answers.{IsAnswer, IsReason}
+use Rattle.st_needs.specs.Completions.{added_in, Completed}
+use Rattle.st_text.specs.Spelling as spelled
 use Rattle.st_chart.specs.Words.{place_words}
 use Rattle.st_chart.specs.Report.{event_line, event_words}
 use Rattle.st_commands.specs.Output.{Output, refused, bundled}
@@ -59,10 +62,15 @@ added_of wholes p = up_to (added_at wholes p) (length (events_of (all_streams wh
 abbrev pub count_line : ℕ → List ℕ
 count_line n = ended_line (codes "added " ++ decimal n)
 
--- how many events were added, and each of them, by pid and index
-abbrev pub added_text : List Whole → List ℕ
-added_text wholes =
-    count_line (added_in wholes) ++ flat_map (added_of wholes) (pids_of (all_streams wholes))
+-- a process that the streams don't list
+abbrev pub unlisted_line : Pid → List ℕ
+unlisted_line p = ended_line (codes "unlisted " ++ spelled.pid p)
+
+-- how many events were added; the processes that aren't listed; and each event, by pid and index
+abbrev pub added_text : Completed → List ℕ
+added_text c =
+    count_line (added_in c.wholes) ++ flat_map unlisted_line c.unlisted
+    ++ flat_map (added_of c.wholes) (pids_of (all_streams c.wholes))
 
 -- ---- no completion
 
@@ -74,7 +82,6 @@ never_words p (never.Repeated q j) = codes "repeated " ++ place_words q j
 never_words p (never.Mismatch q j) = codes "mismatch " ++ place_words q j
 never_words p (never.Late j) = codes "late " ++ place_words p j
 never_words p never.Unfounded = codes "unfounded"
-never_words p never.Unsent = codes "unsent"
 never_words p never.TooHigh = codes "toohigh"
 
 -- the event at the other place
@@ -85,7 +92,6 @@ other_line streams p (never.Repeated q j) = event_line streams q j
 other_line streams p (never.Mismatch q j) = event_line streams q j
 other_line streams p (never.Late j) = event_line streams p j
 other_line streams p never.Unfounded = []
-other_line streams p never.Unsent = []
 other_line streams p never.TooHigh = []
 
 abbrev pub never_line : Pid → ℕ → Never → List ℕ
@@ -95,48 +101,85 @@ never_line p i r = ended_line (codes "never " ++ place_words p i ++ codes " " ++
 abbrev pub never_text : List Stream → Pid → ℕ → Never → List ℕ
 never_text streams p i r = never_line p i r ++ event_line streams p i ++ other_line streams p r
 
-abbrev pub open_line : Pid → ℕ → List ℕ
-open_line p i = ended_line (codes "open " ++ place_words p i)
-
-abbrev pub open_text : List Stream → Pid → ℕ → List ℕ
-open_text streams p i = open_line p i ++ event_line streams p i
-
 -- ---- the output of streams
 
 abbrev pub text_of_status : List ℕ → ℕ → Output
 text_of_status text status = record { text = text; status = status }
 
--- the streams have a run, of more acts than the reader takes
+-- the streams have a run, of more acts or processes than the reader takes
 abbrev pub long : Output
 long = text_of_status (ended_line (codes "long")) 5
 
--- the output of an answer in a form; acts that are written show the streams, and none of them is a
--- reset
+-- the output of an answer in a form; acts that are written show the streams with the processes that
+-- they don't list, and none of them is a reset
 pub data Answers (f : Form) (streams : List Stream) : Answer → Output → Type 0 where
-  Adds : (wholes : List Whole) → f ≡ form.Added → Answers f streams (answer.Whole wholes)
-      (text_of_status (added_text wholes) 0)
-  Completes : (wholes : List Whole) → f ≡ form.Streams → Answers f streams (answer.Whole wholes)
-      (streams_output (all_streams wholes))
-  Certifies : (wholes : List Whole) (acts : List Act) → f ≡ form.Acts → Shows top streams acts
-      → NoReset acts
-      → Answers f streams (answer.Whole wholes) (bundled streams acts)
-  IsLong : (wholes : List Whole) → f ≡ form.Acts → Answers f streams (answer.Whole wholes) long
+  Adds : (c : Completed) → f ≡ form.Added → Answers f streams (answer.Whole c)
+      (text_of_status (added_text c) 0)
+  Completes : (c : Completed) → f ≡ form.Streams → Answers f streams (answer.Whole c)
+      (streams_output (all_streams c.wholes))
+  Certifies : (c : Completed) (acts : List Act) → f ≡ form.Acts
+      → Shows top (with_silent streams c.unlisted) acts → NoReset acts
+      → Answers f streams (answer.Whole c) (bundled (with_silent streams c.unlisted) acts)
+  IsLong : (c : Completed) → Answers f streams (answer.Whole c) long
   IsNever : (p : Pid) (i : ℕ) (r : Never) → Answers f streams (answer.Never p i r)
       (text_of_status (never_text streams p i r) 1)
-  IsOpen : (p : Pid) (i : ℕ)
-      → Answers f streams (answer.Open p i) (text_of_status (open_text streams p i) 1)
 
 -- ---- the output of bytes
 
--- the bytes spell streams, of which this is found, and a Never is final
+-- the bytes spell streams, of which this is found
 pub record HasAnswer (bytes : List ℕ) (streams : List Stream) (found : Answer) : Type 0 where
   pub given : Option (List Act)
   pub spelled : Spells bytes streams given
   pub is : IsAnswer top streams found
-  pub ruled_out : IsNeverFinal top streams found
 
 pub data IsCompleted (f : Form) : List ℕ → Output → Type 0 where
   Answered : (bytes : List ℕ) (streams : List Stream) (found : Answer) (out : Output)
       → HasAnswer bytes streams found
       → Answers f streams found out → IsCompleted f bytes out
   Faulty : (bytes : List ℕ) (x : ReadFault) → fault bytes ≡ Some x → IsCompleted f bytes (refused x)
+
+-- ---- what a completion and a reason mean, each as one record of plain facts
+
+-- the text of a completion in a form, of which these acts are
+abbrev pub completed_text : Form → List Stream → Completed → List Act → List ℕ
+completed_text form.Acts streams c acts = (bundled (with_silent streams c.unlisted) acts).text
+completed_text form.Streams streams c acts = (streams_output (all_streams c.wholes)).text
+completed_text form.Added streams c acts = added_text c
+
+-- a completion: status 0
+pub record MeansCompleted (f : Form) (bytes : List ℕ) (out : Output) : Type 0 where
+  pub streams : List Stream
+  pub given : Option (List Act)
+  pub completed : Completed
+  pub acts : List Act
+  -- the bytes spell streams, within the reader's limits; acts among them are ignored
+  pub spelled : Spells bytes streams given
+  -- the streams list none of the unlisted processes
+  pub apart : AllByRecursion (λ q. lists streams q ≡ false) completed.unlisted
+  -- acts show the streams, with the unlisted processes, of which each reports nothing
+  pub shows : Shows top (with_silent streams completed.unlisted) acts
+  -- and none of these acts is a reset
+  pub one_trace : NoReset acts
+  -- of all events of the completion the told ones are just those of the streams
+  pub told : told_streams completed.wholes ≡ with_silent streams completed.unlisted
+  -- and in all its events no send and no receive is missing
+  pub needless : IsNeedless top (all_streams completed.wholes)
+  -- the text is that of the streams with these acts, or of all events, or of those that were added
+  pub text : out.text ≡ completed_text f streams completed acts
+
+-- an event and a reason: status 1
+pub record MeansNever (bytes : List ℕ) (out : Output) : Type 0 where
+  pub streams : List Stream
+  pub given : Option (List Act)
+  pub pid : Pid
+  pub index : ℕ
+  pub reason : Never
+  -- the bytes spell streams, within the reader's limits; acts among them are ignored
+  pub spelled : Spells bytes streams given
+  -- whatever other processes report nothing, no acts without a reset show the streams with them
+  pub ruled_out : (others : List Pid) (acts : List Act) → NoReset acts
+      → ¬ Shows top (with_silent streams others) acts
+  -- the reason holds at the event, at no event before it, and no reason that comes before it holds
+  pub holds : IsReason top streams pid index reason
+  -- the text names the event and the reason
+  pub text : out.text ≡ never_text streams pid index reason

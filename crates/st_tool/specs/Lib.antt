@@ -1,6 +1,4 @@
--- What public contracts cite: what `why` writes, and what each command owes.
-pub mod Begun
-pub mod Why
+-- What public contracts cite: what each command owes.
 pub mod Renumber
 pub mod Complete
 -- For the parts alone: the functions that a command is made of.

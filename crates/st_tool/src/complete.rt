@@ -1,26 +1,33 @@
 //! The command `complete`: what the streams whose text the input is lack, or why no run without a
-//! reset has them. The acts in the input are ignored.
+//! reset has them, whatever processes report nothing. The acts in the input are ignored.
 
+ghost use Rattle.std.specs.Prelude.{◌≡◌};
 ghost use Rattle.st_commands.specs.Command.{Owes, Tells, call};
-ghost use Rattle.st_hidden.specs.Answers.{IsAnswer, IsNeverFinal};
-ghost use Rattle.st_tool.specs.Complete.{IsCompleted};
+ghost use Rattle.st_commands.specs.Meaning.{Says};
+ghost use Rattle.st_complete.specs.Answers.{IsAnswer, IsWhole};
+ghost use Rattle.st_open.specs.Silent.{with_silent};
+ghost use Rattle.st_tool.specs.Complete.{IsCompleted, MeansCompleted, MeansNever};
 ghost use Rattle.st_tool.specs.Parts.{CompletesTo};
 
 use crate::answer::tell_streams;
-use crate::completion_lines::{send_added, send_never, send_open};
+use crate::completion_lines::{send_added, send_never};
 use crate::lines::OutputLine;
 use st_commands::{status_of, tell_bundle, tell_fault, tell_line};
-use st_complete::{Answer, CertificateFault, CompleteFault, Completion, certificate, complete};
+use st_complete::{
+    Answer, CertificateFault, CompleteFault, Completion, certificate, complete, with_silent,
+};
 use st_core::{ByteSink, ByteSource, Streams};
-use st_text::{ReadFault, read};
+use st_text::{Limits, ReadFault, read};
 use std::alloc::Global;
 use std::thread::Threads;
 
 /// The greatest count that a clock of the program can have.
 const TOP: u64 = u64::MAX;
 
-/// The most acts that the reader takes.
-const MOST_ACTS: u64 = 4_000_000;
+/// The most acts and processes that the reader of the greater limits takes.
+const MOST_ACTS: u64 = 64_000_000;
+
+const MOST_PROCESSES: usize = 16_000;
 
 /// How a completion is written.
 #[derive(Clone, Copy, Debug, PartialEq, Eq)]
@@ -33,40 +40,104 @@ pub enum Form {
     Added,
 }
 
-/// Writes streams with acts that show them, which come from their completion.
-fn tell_acts<H: Threads + Sync, W: ByteSink>(
+/// How many events streams have.
+fn count_events(streams: &Streams) -> u64 {
+    streams
+        .pids()
+        .iter()
+        .map(|pid| streams.len(*pid))
+        .fold(0, u64::saturating_add)
+}
+
+/// Notes that `seqtool check` reads a bundle of these streams and so many acts, if `seqaudit`
+/// doesn't.
+fn note_reader<N: ByteSink>(notes: &mut N, streams: &Streams, acts: usize) {
+    let limits = Limits::STANDARD;
+    let is_more = streams.pids().len() > limits.processes as usize
+        || acts > limits.acts as usize
+        || count_events(streams) > limits.events as u64;
+    if is_more {
+        let _ = tell_line(notes, OutputLine::ForSeqtool, 0);
+    }
+}
+
+/// Writes the streams with their unlisted processes, which are these, and acts that show them.
+fn tell_shown<H: Threads + Sync, W: ByteSink, N: ByteSink>(
     rt: &H,
     alloc: Global,
     streams: &Streams,
+    more: &Streams,
     completion: &Completion,
     writer: &mut W,
+    notes: &mut N,
 ) -> u8
-    requires { IsAnswer TOP streams.now (Answer.Whole completion.now) }
+    requires whole { IsWhole TOP streams.now completion.now }
+    requires more { more.now ≡ with_silent streams.now completion.now.unlisted }
     ensures { Tells (call W.ByteSink writer.old writer.new)
         (CompletesTo Form.Acts streams.now) result }
 {
-    match certificate::<TOP>(rt, alloc, streams, completion, MOST_ACTS) {
-        Ok(found) => tell_bundle(writer, streams, found.acts.as_slice()),
+    let _streams = streams;
+    match certificate::<TOP>(rt, alloc, more, completion, MOST_ACTS) {
+        Ok(found) => {
+            note_reader(notes, more, found.acts.len());
+            tell_bundle(writer, more, found.acts.as_slice())
+        }
         Err(CertificateFault::TooMany) => tell_line(writer, OutputLine::Long, 5),
         Err(CertificateFault::Memory) => tell_fault(writer, ReadFault::Memory),
     }
 }
 
+/// Writes streams with acts that show them, which come from their completion.
+fn tell_acts<H: Threads + Sync, W: ByteSink, N: ByteSink>(
+    rt: &H,
+    alloc: Global,
+    streams: &Streams,
+    completion: &Completion,
+    writer: &mut W,
+    notes: &mut N,
+) -> u8
+    requires { IsWhole TOP streams.now completion.now }
+    ensures { Tells (call W.ByteSink writer.old writer.new)
+        (CompletesTo Form.Acts streams.now) result }
+{
+    let unlisted = completion.unlisted();
+    if unlisted.len() == 0 {
+        return tell_shown(rt, alloc, streams, streams, completion, writer, notes);
+    }
+    match with_silent(alloc, streams, unlisted) {
+        Ok(more) => tell_shown(rt, alloc, streams, &more, completion, writer, notes),
+        Err(_) => tell_fault(writer, ReadFault::Memory),
+    }
+}
+
+/// Whether the completion has more processes than the reader takes.
+fn is_long(completion: &Completion) -> bool {
+    completion.streams().pids().len() > MOST_PROCESSES
+}
+
 /// Writes a completion in this form.
-fn tell_completion<H: Threads + Sync, W: ByteSink>(
+fn tell_completion<H: Threads + Sync, W: ByteSink, N: ByteSink>(
     rt: &H,
     alloc: Global,
     streams: &Streams,
     completion: &Completion,
     form: Form,
     writer: &mut W,
+    notes: &mut N,
 ) -> u8
-    requires { IsAnswer TOP streams.now (Answer.Whole completion.now) }
+    requires { IsWhole TOP streams.now completion.now }
     ensures { Tells (call W.ByteSink writer.old writer.new) (CompletesTo form streams.now) result }
 {
+    if form != Form::Added && is_long(completion) {
+        return tell_line(writer, OutputLine::Long, 5);
+    }
     match form {
-        Form::Acts => tell_acts(rt, alloc, streams, completion, writer),
-        Form::Streams => tell_streams(writer, completion.streams()),
+        Form::Acts => tell_acts(rt, alloc, streams, completion, writer, notes),
+        Form::Streams => {
+            let whole = completion.streams();
+            note_reader(notes, whole, 0);
+            tell_streams(writer, whole)
+        }
         Form::Added => {
             let sent = send_added(writer, completion);
             status_of(sent, 0)
@@ -75,64 +146,71 @@ fn tell_completion<H: Threads + Sync, W: ByteSink>(
 }
 
 /// Writes what was found out about streams.
-fn tell_answer<H: Threads + Sync, W: ByteSink>(
+fn tell_answer<H: Threads + Sync, W: ByteSink, N: ByteSink>(
     rt: &H,
     alloc: Global,
     streams: &Streams,
     answer: &Answer,
     form: Form,
     writer: &mut W,
+    notes: &mut N,
 ) -> u8
-    requires is { IsAnswer TOP streams.now answer.now }
-    requires ruled_out { IsNeverFinal TOP streams.now answer.now }
+    requires { IsAnswer TOP streams.now answer.now }
     ensures { Tells (call W.ByteSink writer.old writer.new) (CompletesTo form streams.now) result }
 {
     match answer {
-        Answer::Whole(completion) => tell_completion(rt, alloc, streams, completion, form, writer),
+        Answer::Whole(completion) => tell_completion(
+            rt, alloc, streams, completion, form, writer, notes,
+        ),
         Answer::Never(pid, index, never) => {
             let sent = send_never(writer, streams, *pid, *index, *never);
-            status_of(sent, 1)
-        }
-        Answer::Open(pid, index) => {
-            let sent = send_open(writer, streams, *pid, *index);
             status_of(sent, 1)
         }
     }
 }
 
 /// Writes what streams lack.
-fn complete_streams<H: Threads + Sync, W: ByteSink>(
+fn complete_streams<H: Threads + Sync, W: ByteSink, N: ByteSink>(
     rt: &H,
     alloc: Global,
     streams: &Streams,
     form: Form,
     writer: &mut W,
+    notes: &mut N,
 ) -> u8
     ensures { Tells (call W.ByteSink writer.old writer.new) (CompletesTo form streams.now) result }
 {
     match complete::<TOP>(alloc, streams) {
-        Ok(answer) => tell_answer(rt, alloc, streams, &answer, form, writer),
+        Ok(answer) => tell_answer(rt, alloc, streams, &answer, form, writer, notes),
         Err(CompleteFault::Memory) => tell_fault(writer, ReadFault::Memory),
     }
 }
 
-/// Reads a bundle and writes what its streams lack, in this form, with status 0. If no run without
-/// a reset has them, it writes an event and the reason, and if it doesn't know, `open` and an
-/// event, both with status 1. If acts are asked for and there are more than the reader takes, it
-/// writes `long` with status 5. Faulty input is 2; running out of memory, and a reader or a writer
-/// that fails, are 4. It sorts on several threads.
-pub fn run_complete<H: Threads + Sync, R: ByteSource, W: ByteSink>(
+/// Reads a bundle and writes what its streams lack, in this form, with status 0. If no run without a
+/// reset has them, whatever processes report nothing, it writes an event and the reason, with status
+/// 1. If a bundle is asked for, and its acts or its processes are more than the reader of the greater
+/// limits takes, it writes `long` with status 5; if they are only more than `seqaudit` reads, a line in
+/// `notes` says who reads them, if it can be written. Faulty input is 2; running out of memory, and a
+/// reader or a writer that fails, are 4. It sorts on several threads.
+pub fn run_complete<H: Threads + Sync, R: ByteSource, W: ByteSink, N: ByteSink>(
     rt: &H,
     alloc: Global,
     reader: &mut R,
     writer: &mut W,
+    notes: &mut N,
     form: Form,
 ) -> u8
-    ensures { Tells (call W.ByteSink writer.old writer.new)
+    ensures told { Tells (call W.ByteSink writer.old writer.new)
         (Owes (call R.ByteSource reader.old reader.new) (IsCompleted form)) result }
+
+    // What that says of a completion and of a reason, in the machine's own words.
+    ensures completed { result ≡ 0 → Says (call R.ByteSource reader.old reader.new)
+        (call W.ByteSink writer.old writer.new) (MeansCompleted form) }
+    ensures never { result ≡ 1 → Says (call R.ByteSource reader.old reader.new)
+        (call W.ByteSink writer.old writer.new) MeansNever }
 {
     match read(alloc, reader) {
-        Ok(bundle) => complete_streams(rt, alloc, &bundle.streams, form, writer),
+        Ok(bundle) => complete_streams(rt, alloc, &bundle.streams, form, writer, notes),
         Err(fault) => tell_fault(writer, fault),
     }
 }

@@ -8,8 +8,8 @@ ghost use Rattle.st_text.specs.Spelling.{ended_line};
 ghost use Rattle.st_text.specs.Writing.{WritesOn, WritesText};
 ghost use Rattle.st_chart.specs.Words.{place_words};
 ghost use Rattle.st_chart.specs.Report.{event_line, event_words};
-ghost use Rattle.st_tool.specs.Complete.{added_at, added_of, added_text, never_text, open_text};
-ghost use Rattle.st_tool.specs.Complete.{other_line, place_line};
+ghost use Rattle.st_tool.specs.Complete.{added_at, added_of, added_text, never_text};
+ghost use Rattle.st_tool.specs.Complete.{other_line, place_line, unlisted_line};
 
 use crate::lines::OutputLine;
 use st_chart::put_place;
@@ -84,7 +84,7 @@ fn write_if_added<W: ByteSink>(
     pid: Pid,
     index: u64,
 ) -> Result<(), Device>
-    ensures { WritesOn W.puts W.failed (added_at completion.now pid index)
+    ensures { WritesOn W.puts W.failed (added_at completion.now.wholes pid index)
         writer.old writer.new buffer.old.items buffer.new.items result }
 {
     match completion.told(pid, index) {
@@ -104,7 +104,7 @@ fn write_added_of<W: ByteSink>(
     completion: &Completion,
     pid: Pid,
 ) -> Result<(), Device>
-    ensures { WritesOn W.puts W.failed (added_of completion.now pid)
+    ensures { WritesOn W.puts W.failed (added_of completion.now.wholes pid)
         writer.old writer.new buffer.old.items buffer.new.items result }
 {
     let count = completion.streams().len(pid);
@@ -121,7 +121,7 @@ fn write_added_by<W: ByteSink>(
     completion: &Completion,
     pids: &[Pid],
 ) -> Result<(), Device>
-    ensures { WritesOn W.puts W.failed (flat_map (added_of completion.now) pids.now)
+    ensures { WritesOn W.puts W.failed (flat_map (added_of completion.now.wholes) pids.now)
         writer.old writer.new buffer.old.items buffer.new.items result }
 {
     for pid in pids {
@@ -130,7 +130,23 @@ fn write_added_by<W: ByteSink>(
     Ok(())
 }
 
-/// Writes how many events were added, and a line for each.
+/// Writes a line for each process that the streams don't list.
+fn write_unlisted<W: ByteSink>(
+    writer: &mut W,
+    buffer: &mut Buffer,
+    pids: &[Pid],
+) -> Result<(), Device>
+    ensures { WritesOn W.puts W.failed (flat_map unlisted_line pids.now)
+        writer.old writer.new buffer.old.items buffer.new.items result }
+{
+    for pid in pids {
+        write_line(writer, buffer, OutputLine::Unlisted(*pid))?;
+    }
+    Ok(())
+}
+
+/// Writes how many events were added, the processes that the streams don't list, and a line for each
+/// event.
 fn write_added<W: ByteSink>(
     writer: &mut W,
     buffer: &mut Buffer,
@@ -140,10 +156,12 @@ fn write_added<W: ByteSink>(
         writer.old writer.new buffer.old.items buffer.new.items result }
 {
     write_line(writer, buffer, OutputLine::Added(completion.added()))?;
+    write_unlisted(writer, buffer, completion.unlisted())?;
     write_added_by(writer, buffer, completion, completion.streams().pids())
 }
 
-/// Sends how many events were added, and a line for each.
+/// Sends how many events were added, the processes that the streams don't list, and a line for each
+/// event.
 pub(crate) fn send_added<W: ByteSink>(writer: &mut W, completion: &Completion) -> Result<(), Device>
     ensures { WritesText W.puts W.failed (added_text completion.now) writer.old writer.new result }
 {
@@ -171,7 +189,6 @@ fn write_other<W: ByteSink>(
         Never::Mismatch(other, index) => write_event_line(writer, buffer, streams, other, index),
         Never::Late(index) => write_event_line(writer, buffer, streams, pid, index),
         Never::Unfounded => Ok(()),
-        Never::Unsent => Ok(()),
         Never::TooHigh => Ok(()),
     }
 }
@@ -206,35 +223,5 @@ pub(crate) fn send_never<W: ByteSink>(
 {
     let mut buffer = Buffer::new();
     write_never(writer, &mut buffer, streams, pid, index, never)?;
-    flush(writer, &mut buffer)
-}
-
-/// Writes that neither a completion nor a reason was found, with the event at this place.
-fn write_open<W: ByteSink>(
-    writer: &mut W,
-    buffer: &mut Buffer,
-    streams: &Streams,
-    pid: Pid,
-    index: u64,
-) -> Result<(), Device>
-    ensures { WritesOn W.puts W.failed (open_text streams.now pid index)
-        writer.old writer.new buffer.old.items buffer.new.items result }
-{
-    write_line(writer, buffer, OutputLine::Open(pid, index))?;
-    write_event_line(writer, buffer, streams, pid, index)
-}
-
-/// Sends that neither a completion nor a reason was found, with the event at this place.
-pub(crate) fn send_open<W: ByteSink>(
-    writer: &mut W,
-    streams: &Streams,
-    pid: Pid,
-    index: u64,
-) -> Result<(), Device>
-    ensures { WritesText W.puts W.failed
-        (open_text streams.now pid index) writer.old writer.new result }
-{
-    let mut buffer = Buffer::new();
-    write_open(writer, &mut buffer, streams, pid, index)?;
     flush(writer, &mut buffer)
 }

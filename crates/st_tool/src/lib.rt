@@ -1,7 +1,8 @@
 //! The commands of `seqtool` on any reader and writer: each reads all bytes, writes its output and
 //! returns the exit status.
 //!
-//! `specs/` defines what `complete`, `renumber` and `why` write. `st_words` reads the command line,
+//! `specs/` defines what `complete` and `renumber` write; `st_why` has the command `why`.
+//! `st_words` reads the command line,
 //! and runs the command that it asks for.
 #![tactic(auto)]
 
@@ -15,12 +16,9 @@ mod lint;
 mod renumber;
 mod say;
 mod scan;
-mod steps;
-mod why;
 
 pub use answer::{tell_no_device, tell_no_memory};
 pub use complete::{Form, run_complete};
 pub use explain::run_explain;
 pub use lint::run_lint;
 pub use renumber::run_renumber;
-pub use why::run_why;

@@ -3,6 +3,7 @@
 
 ghost use Rattle.std.specs.Prelude.{◌+◌, ◌++◌, codes, length};
 ghost use Rattle.st_text.specs.Room.{HasRoom, Puts};
+ghost use Rattle.st_text.specs.Spelling as spelled;
 ghost use Rattle.st_chart.specs.Words.{place_words};
 ghost use Rattle.st_chart.specs.Room.{place_room};
 ghost use Rattle.st_tool.specs.Complete.{never_words};
@@ -11,23 +12,23 @@ ghost use Rattle.st_tool.specs.Lines.{words_of, words_room};
 use st_chart::put_place;
 use st_complete::Never;
 use st_core::Pid;
-use st_text::{Buffer, TextLine, put_bytes, put_numbered};
+use st_text::{Buffer, TextLine, put_bytes, put_numbered, put_pid};
 
 /// A line that stands alone.
 #[derive(Clone, Copy, Debug)]
 pub(crate) enum OutputLine {
-    /// There is no event at this place.
-    NoEvent(Pid, u64),
     /// The input has no acts.
     NoActs,
-    /// The acts are more than the reader takes.
+    /// The acts, or the processes, are more than the reader takes.
     Long,
+    /// `seqaudit` doesn't read so much.
+    ForSeqtool,
     /// So many events were added.
     Added(u64),
     /// Why the event at this place rules out a run without a reset.
     Never(Pid, u64, Never),
-    /// Neither a completion nor a reason was found; this is one event of those in question.
-    Open(Pid, u64),
+    /// This process takes part in the completion, and the streams don't list it.
+    Unlisted(Pid),
 }
 
 /// Appends a word and a place.
@@ -52,7 +53,6 @@ fn put_never_words(buffer: &mut Buffer, pid: Pid, never: Never)
         Never::Mismatch(other, index) => put_other(buffer, b"mismatch ", other, index),
         Never::Late(index) => put_other(buffer, b"late ", pid, index),
         Never::Unfounded => put_bytes(buffer, b"unfounded"),
-        Never::Unsent => put_bytes(buffer, b"unsent"),
         Never::TooHigh => put_bytes(buffer, b"toohigh"),
     }
 }
@@ -70,17 +70,31 @@ fn put_never(buffer: &mut Buffer, pid: Pid, index: u64, never: Never)
     put_never_words(buffer, pid, never);
 }
 
+/// Appends the words of a process that isn't listed.
+fn put_unlisted(buffer: &mut Buffer, pid: Pid)
+    requires { HasRoom words_room buffer.old }
+    ensures { Puts words_room (codes "unlisted " ++ spelled.pid pid) buffer.old buffer.new }
+{
+    put_bytes(buffer, b"unlisted ");
+    put_pid(buffer, pid);
+}
+
 impl TextLine for OutputLine {
     ghost words = { words_of };
 
     fn put_words(self, buffer: &mut Buffer) {
         match self {
-            OutputLine::NoEvent(pid, index) => put_other(buffer, b"no event ", pid, index),
             OutputLine::NoActs => put_bytes(buffer, b"fault no acts"),
             OutputLine::Long => put_bytes(buffer, b"long"),
+            OutputLine::ForSeqtool => {
+                put_bytes(
+                    buffer,
+                    b"note: seqaudit doesn't read so much; seqtool check does",
+                )
+            }
             OutputLine::Added(count) => put_numbered(buffer, b"added ", count),
             OutputLine::Never(pid, index, never) => put_never(buffer, pid, index, never),
-            OutputLine::Open(pid, index) => put_other(buffer, b"open ", pid, index),
+            OutputLine::Unlisted(pid) => put_unlisted(buffer, pid),
         }
     }
 }

@@ -9,7 +9,7 @@ use Rattle.st_words.specs.declared.words.Task.{Task}
 use Rattle.st_words.specs.declared.words.Task.TheVariants as task
 use Rattle.st_tool.specs.Complete.{IsCompleted}
 use Rattle.st_tool.specs.Renumber.{IsRenumbered}
-use Rattle.st_tool.specs.Why.{IsWhy}
+use Rattle.st_why.specs.Why.{IsWhy}
 
 module _ {R W : Type 0} (reader : ReaderCall R) (writer : WriterCall W) where
   -- it read all bytes, and wrote the output that it owes of them
@@ -22,7 +22,7 @@ module _ {R W : Type 0} (reader : ReaderCall R) (writer : WriterCall W) where
 
   -- what each command does; of the words of `lint` and `explain` nothing is claimed
   abbrev pub Does : Task → ℕ → Type 0
-  Does (task.Why p i) status = TellsOf (IsWhy p i) status
+  Does (task.Why p i reach) status = TellsOf (IsWhy p i reach) status
   Does (task.Complete form) status = TellsOf (IsCompleted form) status
   Does task.Renumber status = TellsOf IsRenumbered status
   Does task.Check status = TellsOfGreater (IsCheckedWithin greater) status

@@ -39,13 +39,19 @@ pub(crate) const RENUMBER_EXAMPLE: &str =
 
 If what it writes has a run without a reset, so has the given trace.";
 
-pub(crate) const WHY: &str = "Shows what caused an event, back to where its trace starts";
+pub(crate) const WHY: &str =
+    "Shows what an event follows, and that, back to where its label begins";
 
 pub(crate) const WHY_EXAMPLE: &str = "Example:
   seqtool why 0.31.0 1 trace.txt
-  <0.31.0> 1  receive  {3,4} 4 after <0.32.0> 1, by its message
-  <0.32.0> 1  send     {3,4} 4 after <0.32.0> 0, by its prev
-  <0.32.0> 0  receive  {2,3} 3 after hidden, a send that was not reported
+  <0.31.0> 1  receive  {3,4} 4 after <0.32.0> 1
+  <0.32.0> 1  send     {3,4} 4 after <0.32.0> 0 (1, 2)
+  <0.32.0> 0  receive  {2,3} 3 its send wasn't reported
+  in a run without a reset; (1) if each receive of a token was reported; (2) if
+  no process cleared its token and began again under the same label; ..
+
+The numbers behind a line are the premises that it rests on; the last line has
+them. `here` is this event, or an earlier one of the same prev directly before.
 
 Status 1: there is no such event, or the trace can't be paired (docs/AUDIT.md).";
 

@@ -7,25 +7,27 @@ use crate::words::Task;
 use st_commands::{run_audit_within, run_check_within};
 use st_core::{ByteSink, ByteSource};
 use st_text::Limits;
-use st_tool::{run_complete, run_explain, run_lint, run_renumber, run_why};
+use st_tool::{run_complete, run_explain, run_lint, run_renumber};
+use st_why::run_why;
 use std::thread::Threads;
 
-/// Does what the task asks for, and returns the exit status.
-pub fn run<H: AllocGlobal + Threads + Sync, R: ByteSource, W: ByteSink>(
+/// Does what the task asks for, and returns the exit status. What isn't output goes to the notes.
+pub fn run<H: AllocGlobal + Threads + Sync, R: ByteSource, W: ByteSink, N: ByteSink>(
     rt: &H,
     task: Task,
     reader: &mut R,
     writer: &mut W,
+    notes: &mut N,
 ) -> u8
     ensures { Does (call R.ByteSource reader.old reader.new)
         (call W.ByteSink writer.old writer.new) task result }
 {
     match task {
-        Task::Complete(form) => run_complete(rt, rt.alloc(), reader, writer, form),
+        Task::Complete(form) => run_complete(rt, rt.alloc(), reader, writer, notes, form),
         Task::Renumber => run_renumber(rt.alloc(), reader, writer),
         Task::Lint => run_lint(rt.alloc(), reader, writer),
         Task::Explain => run_explain(rt.alloc(), reader, writer),
-        Task::Why(pid, index) => run_why(rt.alloc(), reader, writer, pid, index),
+        Task::Why(pid, index, reach) => run_why(rt.alloc(), reader, writer, pid, index, reach),
         Task::Check => run_check_within(rt.alloc(), reader, writer, Limits::GREATER),
         Task::Audit => run_audit_within(rt, rt.alloc(), reader, writer, Limits::GREATER),
     }

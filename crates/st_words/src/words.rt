@@ -3,9 +3,10 @@
 
 use crate::help;
 use clap::error::ErrorKind;
-use clap::{Arg, ArgMatches, Command, Error};
+use clap::{Arg, ArgAction, ArgMatches, Command, Error};
 use st_core::Pid;
 use st_tool::Form;
+use st_why::Reach;
 use std::alloc::{AllocError, Global};
 use std::convert::AsStr;
 
@@ -16,8 +17,8 @@ pub enum Task {
     Complete(Form),
     /// `renumber`: the streams with small counts.
     Renumber,
-    /// `why PID I`: what caused event I of this process?
-    Why(Pid, u64),
+    /// `why PID I`: what does event I of this process follow, and so on, so far back?
+    Why(Pid, u64, Reach),
     /// `lint`: why does the reader refuse the text?
     Lint,
     /// `explain`: why does `check` refuse the acts?
@@ -69,7 +70,7 @@ fn complete_command<'a>(alloc: Global) -> Result<Command<'a>, AllocError> {
         .arg(file_arg(alloc))
 }
 
-/// `why PID I [FILE]`.
+/// `why PID I [--depth N] [--label] [FILE]`.
 fn why_command<'a>(alloc: Global) -> Result<Command<'a>, AllocError> {
     let pid = Arg::new(alloc, "PID")
         .required(true)
@@ -78,11 +79,21 @@ fn why_command<'a>(alloc: Global) -> Result<Command<'a>, AllocError> {
         .required(true)
         .value_parser(clap::value_parser!(u64))
         .help("The number of the event among those of its process, from 0");
+    let depth = Arg::new(alloc, "N")
+        .long("depth")
+        .value_parser(clap::value_parser!(u64))
+        .help("At most so many events; all if it is left out");
+    let label = Arg::new(alloc, "label")
+        .long("label")
+        .action(ArgAction::SetTrue)
+        .help("Go on over a change of label");
     Command::new(alloc, "why")
         .about(help::WHY)
         .after_help(help::WHY_EXAMPLE)
         .arg(pid)?
         .arg(index)?
+        .arg(depth)?
+        .arg(label)?
         .arg(file_arg(alloc))
 }
 
@@ -144,7 +155,9 @@ fn pid_of(text: &str) -> Option<Pid> {
 fn why_of(found: &ArgMatches) -> Option<Task> {
     let pid = pid_of(found.get_str("PID")?)?;
     let index = found.get_one::<u64>("I")?;
-    Some(Task::Why(pid, index))
+    let most = found.get_one::<u64>("N").unwrap_or(Reach::LABEL.most);
+    let across = found.get_flag("label");
+    Some(Task::Why(pid, index, Reach { most, across }))
 }
 
 /// The command of this name, of whose own words `clap` found these.

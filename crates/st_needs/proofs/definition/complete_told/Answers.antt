@@ -1,7 +1,7 @@
 -- All events have a completion, and told of it is what is told of both.
 use Rattle.std.proofs.Common.{sym, subst}
 use Rattle.st_completions.specs.Reasons.{HasEachSend, HasNoReason}
-use Rattle.st_needs.specs.Completions.{Completes}
+use Rattle.st_needs.specs.Completions.{IsCompletionOf}
 use Rattle.st_needs.proofs.definition.complete_told.Goals as goal
 
 pub construct-requires-clause-sends : goal.construct-requires-clause-sends
@@ -12,4 +12,5 @@ construct-requires-clause-none g c = subst (HasNoReason g.row.TOP) (sym c.in_ok-
 
 pub told_completion-requires-clause-all : goal.told_completion-requires-clause-all
 told_completion-requires-clause-all g c =
-    subst (λ ss. Completes g.row.TOP ss c.in_ok-completed.completed) c.in_ok-all.ensures c.in_ok-completed.ensures
+    subst (λ ss. IsCompletionOf g.row.TOP ss c.in_ok-completed.completed.wholes) c.in_ok-all.ensures
+    c.in_ok-completed.ensures

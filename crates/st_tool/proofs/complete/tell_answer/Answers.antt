@@ -1,8 +1,8 @@
--- A completion has its form, and a reason and an open place are written with the event.
-use Rattle.st_hidden.specs.declared.answer.Answer.TheVariants as answer
+-- A completion has its form, and a reason is written with the event.
+use Rattle.st_complete.specs.declared.answer.Answer.TheVariants as answer
 use Rattle.st_commands.specs.Command.{call}
 use Rattle.st_commands.proofs.ForCallers.{delivers}
-use Rattle.st_tool.specs.Complete.{IsNever, IsOpen, never_text, open_text, text_of_status}
+use Rattle.st_tool.specs.Complete.{IsNever, never_text, text_of_status}
 use Rattle.st_tool.specs.Parts.{Finds}
 use Rattle.st_tool.proofs.complete.tell_answer.Goals as goal
 
@@ -14,20 +14,8 @@ returns-in-Never g c =
     let out = text_of_status (never_text c.args.streams.now p i r) 1 in
     record {
       output = out;
-      owed = Finds (answer.Never p i r) out (rw c.in-Never.is at c.requires.is)
-          (rw c.in-Never.is at c.requires.ruled_out) (IsNever p i r);
+      owed = Finds (answer.Never p i r) out (rw c.in-Never.is at c.requires)
+          (IsNever p i r);
       delivered = delivers (call g.W.ByteSink _ _) out c.send_never-sent.result _ c.send_never-sent.ensures
           c.status_of.ensures;
-    }
-
-pub returns-in-Open : goal.returns-in-Open
-returns-in-Open g c =
-    let p = c.in-Open.pid in
-    let i = c.in-Open.index in
-    let out = text_of_status (open_text c.args.streams.now p i) 1 in
-    record {
-      output = out;
-      owed = Finds (answer.Open p i) out (rw c.in-Open.is at c.requires.is) tt (IsOpen p i);
-      delivered = delivers (call g.W.ByteSink _ _) out c.send_open-sent.result _ c.send_open-sent.ensures
-          c.status_of-in-Open.ensures;
     }

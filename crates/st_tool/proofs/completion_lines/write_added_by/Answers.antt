@@ -9,16 +9,17 @@ loop-pid-init g c = goes_still g.W.ByteSink.puts g.W.ByteSink.failed
 
 pub loop-pid-preserved : goal.loop-pid-preserved
 loop-pid-preserved g c =
-    one_more g.W.ByteSink.puts g.W.ByteSink.failed (added_of c.args.completion.now) c.args.pids.now c.loop-pid.pid-index
+    one_more g.W.ByteSink.puts g.W.ByteSink.failed (added_of c.args.completion.now.wholes)
+    c.args.pids.now c.loop-pid.pid-index
     _ c.loop-pid-test.true c.loop-pid.invariant c.in_ok-write_added_of.ensures
 
 pub returns-in_err-write_added_of : goal.returns-in_err-write_added_of
 returns-in_err-write_added_of g c =
     on_err _ _ _ _ c.from_residual.ensures.0
-    (one_failed g.W.ByteSink.puts g.W.ByteSink.failed (added_of c.args.completion.now) c.args.pids.now
+    (one_failed g.W.ByteSink.puts g.W.ByteSink.failed (added_of c.args.completion.now.wholes) c.args.pids.now
     c.loop-pid.pid-index _ refl c.loop-pid-test.true c.loop-pid.invariant c.in_err-write_added_of.ensures)
 
 pub returns : goal.returns
 returns g c =
-    all_done g.W.ByteSink.puts g.W.ByteSink.failed (added_of c.args.completion.now) c.args.pids.now
+    all_done g.W.ByteSink.puts g.W.ByteSink.failed (added_of c.args.completion.now.wholes) c.args.pids.now
     c.loop-pid.pid-index refl c.loop-pid-test.false c.loop-pid.invariant

@@ -8,5 +8,5 @@ use Rattle.st_tool.proofs.completion_lines.write_added_by.Given as goal
 abbrev pub invariant-loop-pid : goal.invariant-loop-pid
 invariant-loop-pid g l =
     Goes g.W.ByteSink.puts g.W.ByteSink.failed
-    (flat_map (added_of l.completion) (take l.pid-index l.pids)) l.initial.writer l.writer
+    (flat_map (added_of l.completion.wholes) (take l.pid-index l.pids)) l.initial.writer l.writer
     l.initial.buffer.items l.buffer.items

@@ -5,5 +5,6 @@ use Rattle.st_tool.proofs.completion_lines.write_added_of.Given as goal
 
 abbrev pub invariant-loop-index : goal.invariant-loop-index
 invariant-loop-index g l =
-    Goes g.W.ByteSink.puts g.W.ByteSink.failed (up_to (added_at l.completion l.pid) l.index) l.initial.writer l.writer
+    Goes g.W.ByteSink.puts g.W.ByteSink.failed (up_to (added_at l.completion.wholes l.pid) l.index)
+    l.initial.writer l.writer
     l.initial.buffer.items l.buffer.items

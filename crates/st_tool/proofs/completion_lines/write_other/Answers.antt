@@ -1,4 +1,4 @@
--- Four reasons rest on the event alone, so there is nothing to add.
+-- Three reasons rest on the event alone, so there is nothing to add.
 use Rattle.std.proofs.Common.{ap}
 use Rattle.st_text.proofs.ForCallers.{goes_still}
 use Rattle.st_tool.specs.Complete.{other_line}
@@ -13,10 +13,6 @@ pub returns-in-Unfounded : goal.returns-in-Unfounded
 returns-in-Unfounded g c =
     rw (ap (other_line c.args.streams.now c.args.pid) c.in-Unfounded.is)
     (goes_still g.W.ByteSink.puts g.W.ByteSink.failed)
-
-pub returns-in-Unsent : goal.returns-in-Unsent
-returns-in-Unsent g c =
-    rw (ap (other_line c.args.streams.now c.args.pid) c.in-Unsent.is) (goes_still g.W.ByteSink.puts g.W.ByteSink.failed)
 
 pub returns-in-TooHigh : goal.returns-in-TooHigh
 returns-in-TooHigh g c =

@@ -1,7 +1,7 @@
 -- The events with these marks are the completion.
 use Rattle.std.proofs.Common.{sym, ◌∙◌, ap}
 use Rattle.st_plan.specs.Marks.{all_streams}
-use Rattle.st_needs.specs.Completions.{wholes_with}
+use Rattle.st_needs.specs.Completions.{wholes_with, Completed}
 use Rattle.st_needs.proofs.Kept.{all_kept}
 use Rattle.st_needs.proofs.completion.Completion.marks.Goals as goal
 
@@ -9,6 +9,6 @@ pub returns : goal.returns
 returns c =
     let streams = c.self.inside.streams in
     ap (λ ss. wholes_with ss c.deref.result.now)
-    (ap all_streams (sym c.self.view_is) ∙ all_kept streams c.self.inside.told.items)
+    (ap (λ (x : Completed). all_streams x.wholes) (sym c.self.view_is) ∙ all_kept streams c.self.inside.told.items)
     ∙ ap (wholes_with streams) c.deref.ensures.value
-    ∙ c.self.view_is
+    ∙ ap (λ (x : Completed). x.wholes) c.self.view_is

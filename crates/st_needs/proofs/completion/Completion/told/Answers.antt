@@ -3,7 +3,7 @@ use Rattle.std.proofs.Common.{ℕ, Bool, List, [], Option, option_map, slice_get
 use Rattle.st_core.specs.Streams.{events_of}
 use Rattle.st_plan.specs.Marks.{Marked}
 use Rattle.st_completions.specs.Needs.{marked_of}
-use Rattle.st_needs.specs.Completions.{marked_with}
+use Rattle.st_needs.specs.Completions.{marked_with, Completed}
 use Rattle.st_needs.proofs.Kept.{marked_kept, marked_missing}
 use Rattle.st_needs.proofs.completion.Completion.told.Goals as goal
 
@@ -14,7 +14,7 @@ pub returns-in-None : goal.returns-in-None
 returns-in-None c =
     ap (λ (ms : List Marked). option_map (λ (m : Marked). m.told) (slice_get ms c.args.index))
     (sym (marked_missing c.self.inside.streams c.self.inside.told.items c.args.pid c.in-None.ensures.missing)
-    ∙ ap (λ w. marked_of w c.args.pid) c.self.view_is)
+    ∙ ap (λ (x : Completed). marked_of x.wholes c.args.pid) c.self.view_is)
 
 pub returns-in-Some : goal.returns-in-Some
 returns-in-Some c =
@@ -27,4 +27,4 @@ returns-in-Some c =
     ∙ ap (λ (ms : List Marked). told_at ms c.args.index)
     (sym (marked_kept streams lists c.in-Some.place c.args.pid c.events.ensures.streams.draft.rising
     c.in-Some.ensures.found)
-    ∙ ap (λ w. marked_of w c.args.pid) c.self.view_is)
+    ∙ ap (λ (x : Completed). marked_of x.wholes c.args.pid) c.self.view_is)

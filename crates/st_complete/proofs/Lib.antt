@@ -1,0 +1,4 @@
+-- The lemmas. Upper crates cite none of them.
+pub mod Answered
+pub mod Judged
+pub mod Linked

@@ -1,0 +1,180 @@
+//! The whole streams of a candidate, put together from its parts.
+
+use crate::asks::{Ask, split_asks, split_hidden};
+use crate::candidate::{Candidate, items_from};
+use crate::entries::Entries;
+use crate::hidden::HiddenSend;
+use st_core::{Draft, Event, Pid, Sequence, Streams};
+use std::alloc::{AllocError, Global};
+use std::mem::replace;
+
+/// What is added to streams.
+#[derive(Debug, Drop)]
+pub(crate) struct Parts {
+    /// The hidden sends, by sender and count.
+    pub hidden: Vec<HiddenSend>,
+    /// The stamps that got messages, by process and index.
+    pub fed: Vec<Ask>,
+    /// The numbers of the stamps whose messages are invented, by sender and count of the messages.
+    pub invented: Vec<u32>,
+    /// The processes that the streams don't list, by rising pid.
+    pub unlisted: Vec<Pid>,
+}
+
+/// Whole streams that are being put together, with the parts that are left.
+#[derive(Debug, Drop)]
+struct Assembly<'a> {
+    streams: &'a Streams,
+    draft: Draft,
+    /// The marks of the process whose events are being added.
+    marks: Vec<bool>,
+    /// All stamps that got messages.
+    fed: &'a [Ask],
+    hidden_left: &'a [HiddenSend],
+    fed_left: &'a [Ask],
+    invented_left: &'a [u32],
+}
+
+/// All pids of the candidate, by rising pid.
+fn all_pids(alloc: Global, streams: &Streams, unlisted: &[Pid]) -> Result<Vec<Pid>, AllocError> {
+    let mut pids = Vec::new(alloc);
+    pids.extend_from_slice(streams.pids())?;
+    pids.extend_from_slice(unlisted)?;
+    pids.sort()?;
+    Ok(pids)
+}
+
+/// The invented sends of the processes up to this one, and the others.
+fn split_invented<'a>(fed: &[Ask], invented: &'a [u32], pid: Pid) -> (&'a [u32], &'a [u32]) {
+    let count = invented.partition_point(|number| {
+        let ask = fed.get(*number as usize);
+        ask.and_then(|ask| ask.sender())
+            .is_some_and(|sender| sender <= pid)
+    });
+    invented.split_at(count)
+}
+
+impl Assembly<'_> {
+    /// Adds an event of the process.
+    fn add(&mut self, pid: Pid, event: Event, told: bool) -> Result<(), AllocError> {
+        let Ok(()) = self.draft.add(pid, event) else {
+            return Err(AllocError);
+        };
+        self.marks.push(told)?;
+        Ok(())
+    }
+
+    /// Adds the invented sends, of these of the process, that count up to this. Returns the others.
+    fn add_sends<'b>(
+        &mut self,
+        pid: Pid,
+        sends: &'b [u32],
+        most: u64,
+    ) -> Result<&'b [u32], AllocError> {
+        let mut left = sends;
+        for number in sends {
+            let Some(ask) = self.fed.get(*number as usize) else {
+                return Ok(left);
+            };
+            if ask.count > most {
+                return Ok(left);
+            }
+            if let Some(sent) = ask.sent(self.streams) {
+                self.add(pid, sent, false)?;
+            }
+            left = items_from(left, 1);
+        }
+        Ok(left)
+    }
+
+    /// Adds the events of a process with its invented sends.
+    fn add_process(
+        &mut self,
+        pid: Pid,
+        entries: Entries<'_>,
+        sends: &[u32],
+    ) -> Result<(), AllocError> {
+        let mut left = sends;
+        for entry in entries {
+            left = self.add_sends(pid, left, entry.event.serial.this)?;
+            self.add(pid, entry.event, entry.told)?;
+        }
+        self.add_sends(pid, left, u64::MAX)?;
+        Ok(())
+    }
+
+    /// Adds all events of the next process, and returns their marks.
+    fn add_next(&mut self, alloc: Global, pid: Pid) -> Result<Vec<bool>, AllocError> {
+        let (hidden, hidden_left) = split_hidden(self.hidden_left, pid);
+        let (fed, fed_left) = split_asks(self.fed_left, pid);
+        let (sends, invented_left) = split_invented(self.fed, self.invented_left, pid);
+        self.hidden_left = hidden_left;
+        self.fed_left = fed_left;
+        self.invented_left = invented_left;
+        let entries = Entries::new(self.streams, self.streams.events(pid), hidden, fed);
+        self.add_process(pid, entries, sends)?;
+        Ok(replace(&mut self.marks, Vec::new(alloc)))
+    }
+
+    /// The draft of all that was added.
+    fn into_draft(self) -> Draft {
+        let Assembly {
+            streams: _,
+            draft,
+            marks: _,
+            fed: _,
+            hidden_left: _,
+            fed_left: _,
+            invented_left: _,
+        } = self;
+        draft
+    }
+}
+
+/// The draft of streams with these processes, without events.
+fn open_draft(alloc: Global, pids: &[Pid]) -> Result<Draft, AllocError> {
+    let mut draft = Draft::new(alloc);
+    for &pid in pids {
+        let Ok(()) = draft.open(pid) else {
+            return Err(AllocError);
+        };
+    }
+    Ok(draft)
+}
+
+/// The streams with what is added; nothing if the parts don't make streams.
+pub(crate) fn assemble(
+    alloc: Global,
+    streams: &Streams,
+    parts: Parts,
+) -> Result<Option<Candidate>, AllocError> {
+    let Parts {
+        hidden,
+        fed,
+        invented,
+        unlisted,
+    } = parts;
+    let pids = all_pids(alloc, streams, &unlisted)?;
+    let mut assembly = Assembly {
+        streams,
+        draft: open_draft(alloc, &pids)?,
+        marks: Vec::new(alloc),
+        fed: &fed,
+        hidden_left: &hidden,
+        fed_left: &fed,
+        invented_left: &invented,
+    };
+    let mut told = Vec::with_capacity(alloc, pids.len())?;
+    for &pid in &pids {
+        let marks = assembly.add_next(alloc, pid)?;
+        told.push(Sequence::from_vec(marks))?;
+    }
+    match assembly.into_draft().close() {
+        Err(_) => Ok(None),
+        Ok(streams) => Ok(Some(Candidate {
+            streams,
+            told,
+            unlisted,
+        })),
+    }
+}

@@ -1,0 +1,84 @@
+//! Whole streams that may be a completion: the streams, with what must have happened unreported.
+//!
+//! They are built if no reason holds of the streams, by rules that always give the same for the
+//! same streams, in nearly linear time:
+//!
+//! 1. Hidden sends get places among their process's receives (`walk`).
+//! 2. Messages that were sent and never received are given to stamps that ask for them (`lost`).
+//! 3. The needs that are left get messages that are invented, of listed processes that stamp their
+//!    count nowhere, then of processes that the streams don't list (`senders`, `inventions`).
+
+ghost use Rattle.std.specs.Prelude.{◌≡◌};
+ghost use Rattle.st_complete.specs.Links.{receipt_of};
+
+use crate::asks::Asks;
+use crate::assembly::{Parts, assemble};
+use crate::hidden::hidden_sends;
+use crate::inventions::invent;
+use crate::lost::give_lost;
+use crate::senders::give_senders;
+use crate::walk::place_hidden;
+use st_core::{Event, Kind, Pid, Sequence, Streams};
+use st_pair::Pairing;
+use std::alloc::{AllocError, Global};
+
+/// Whole streams that may be a completion.
+#[derive(Debug, Drop)]
+pub(crate) struct Candidate {
+    /// All events, of the listed processes and the unlisted ones.
+    pub streams: Streams,
+    /// For each process, by its place, whether each of its events is told.
+    pub told: Vec<Sequence<bool>>,
+    /// The processes that weren't listed, by rising pid.
+    pub unlisted: Vec<Pid>,
+}
+
+/// The receive of a send.
+pub(crate) fn receive_of(sent: &Event) -> Event
+    ensures { result ≡ receipt_of sent.now }
+{
+    Event {
+        kind: Kind::Receive,
+        ..*sent
+    }
+}
+
+/// The items from this index on.
+pub(crate) fn items_from<T>(items: &[T], index: usize) -> &[T] {
+    if index < items.len() {
+        return &items[index..];
+    }
+    &[]
+}
+
+/// The items from one index on and before another.
+pub(crate) fn items_between<T>(items: &[T], start: usize, end: usize) -> &[T] {
+    if start <= end && end <= items.len() {
+        return &items[start..end];
+    }
+    &[]
+}
+
+/// Builds the candidate of streams of which no reason holds: pairing accepts them, no event is
+/// late, none is unfounded, none counts too high. Nothing has to hold of what it builds: the judge
+/// looks at all of it. It returns none only if what it builds isn't streams, which never happens.
+pub(crate) fn build_candidate(
+    alloc: Global,
+    streams: &Streams,
+    pairing: &Pairing,
+) -> Result<Option<Candidate>, AllocError> {
+    let mut hidden = hidden_sends(alloc, streams, pairing)?;
+    place_hidden(alloc, streams, &mut hidden)?;
+    let mut asks = Asks::of(alloc, streams, &hidden)?;
+    give_lost(alloc, streams, pairing, &mut asks)?;
+    let unlisted = give_senders(alloc, streams, &hidden, &mut asks.needs)?;
+    let mut fed = asks.into_fed()?;
+    let invented = invent(alloc, streams, &hidden, &mut fed)?;
+    let parts = Parts {
+        hidden,
+        fed,
+        invented,
+        unlisted,
+    };
+    assemble(alloc, streams, parts)
+}

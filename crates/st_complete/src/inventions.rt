@@ -1,0 +1,139 @@
+//! The sends of the messages that are invented, and their prevs.
+
+use crate::asks::{Ask, Message, split_asks, split_hidden};
+use crate::entries::Entries;
+use crate::hidden::HiddenSend;
+use crate::links::short;
+use st_core::{Event, Pid, Streams};
+use st_needs::{Left, is_stamp};
+use std::alloc::{AllocError, Global};
+
+/// The send of an invented message. It stands before the first event of its sender that doesn't
+/// count lower, or at the end.
+#[derive(Clone, Copy, Debug)]
+struct Invention {
+    /// Its count.
+    count: u64,
+    /// Its prev.
+    prev: u64,
+    /// Its sender.
+    sender: Pid,
+    /// The number of the stamp that gets it, among those that got messages.
+    ask: u32,
+}
+
+/// The sends of the invented messages that these stamps got, by sender and count, with prev 0.
+fn inventions_of(alloc: Global, fed: &[Ask]) -> Result<Vec<Invention>, AllocError> {
+    let mut inventions = Vec::new(alloc);
+    for (number, ask) in fed.iter().enumerate() {
+        if let Message::Invented(sender, prev) = ask.message {
+            inventions.push(Invention {
+                count: ask.count,
+                prev,
+                sender,
+                ask: short(number),
+            })?;
+        }
+    }
+    inventions.sort_by_key(|invention| (invention.sender, invention.count))?;
+    Ok(inventions)
+}
+
+/// The prev of an invented send before an event: what stands before leaves, so that it costs
+/// nothing; or the event's own prev, if that lies between the clock and the send's count. Then the
+/// trace of the event begins before the invented send, and the event costs nothing behind it.
+fn prev_before(left: Left, count: u64, next: Option<&Event>) -> u64 {
+    match next {
+        Some(event)
+            if is_stamp(event) && left.greatest <= event.serial.prev && event.serial.prev < count =>
+            { event.serial.prev }
+        _ => left.prev,
+    }
+}
+
+/// The invented sends of one process, on a walk over its events.
+#[derive(Debug, Drop)]
+struct Inventor<'a> {
+    inventions: &'a mut [Invention],
+    /// How many of them have their prevs.
+    done: usize,
+    /// What stands before leaves.
+    left: Left,
+}
+
+impl Inventor<'_> {
+    /// Gives prevs to the sends that stand before this event, or to all if there is no more event.
+    fn come_to(&mut self, next: Option<&Event>) {
+        for number in self.done..self.inventions.len() {
+            let Some(invention) = self.inventions.get_mut(number) else {
+                return;
+            };
+            let count = invention.count;
+            if next.is_some_and(|event| event.serial.this < count) {
+                return;
+            }
+            invention.prev = prev_before(self.left, count, next);
+            self.left = Left {
+                greatest: self.left.greatest.max(count),
+                prev: invention.prev,
+            };
+            self.done = number.saturating_add(1);
+        }
+    }
+
+    /// Gives prevs to all sends.
+    fn walk(&mut self, entries: Entries<'_>) {
+        for entry in entries {
+            self.come_to(Some(&entry.event));
+            self.left = self.left.after(&entry.event);
+        }
+        self.come_to(None);
+    }
+}
+
+/// Gives their prevs to invented sends, which come by sender and count. A process that the streams
+/// don't list sends all of its messages with prev 0.
+fn give_prevs(streams: &Streams, hidden: &[HiddenSend], fed: &[Ask], inventions: &mut [Invention]) {
+    let mut hidden_left = hidden;
+    let mut fed_left = fed;
+    let mut left = inventions;
+    for &pid in streams.pids() {
+        let (own_hidden, later_hidden) = split_hidden(hidden_left, pid);
+        let (own_fed, later_fed) = split_asks(fed_left, pid);
+        let others = left.partition_point(|invention| invention.sender < pid);
+        let (_, listed) = left.split_at_mut(others);
+        let count = listed.partition_point(|invention| invention.sender <= pid);
+        let (own, later) = listed.split_at_mut(count);
+        if !own.is_empty() {
+            let mut inventor = Inventor {
+                inventions: own,
+                done: 0,
+                left: Left::by_none(),
+            };
+            inventor.walk(Entries::new(streams, streams.events(pid), own_hidden, own_fed));
+        }
+        hidden_left = later_hidden;
+        fed_left = later_fed;
+        left = later;
+    }
+}
+
+/// Gives the invented messages that these stamps got their prevs. Returns the numbers of these
+/// stamps by sender and count of their messages.
+pub(crate) fn invent(
+    alloc: Global,
+    streams: &Streams,
+    hidden: &[HiddenSend],
+    fed: &mut [Ask],
+) -> Result<Vec<u32>, AllocError> {
+    let mut inventions = inventions_of(alloc, fed)?;
+    give_prevs(streams, hidden, fed, &mut inventions);
+    let mut numbers = Vec::with_capacity(alloc, inventions.len())?;
+    for invention in &inventions {
+        if let Some(ask) = fed.get_mut(invention.ask as usize) {
+            ask.message = Message::Invented(invention.sender, invention.prev);
+        }
+        numbers.push(invention.ask)?;
+    }
+    Ok(numbers)
+}

@@ -1,8 +1,0 @@
--- Each process that was taken has its list.
-use Rattle.std.proofs.Common.{take}
-use Rattle.st_core.specs.Run.{pids_of}
-use Rattle.st_hidden.specs.Tables.{AreListsOf, AreReceivedOf}
-use Rattle.st_hidden.proofs.tables.all_received.Given as goal
-
-abbrev pub invariant-loop-pid : goal.invariant-loop-pid
-invariant-loop-pid l = AreListsOf (AreReceivedOf l.streams) (take l.pid-index (pids_of l.streams)) l.lists.items

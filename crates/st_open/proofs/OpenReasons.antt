@@ -1,0 +1,114 @@
+-- The reasons decide: if one holds it is final, with any processes that report nothing; and if none
+-- holds, enough such processes send what is needed.
+use Rattle.std.proofs.Common.{◌≡◌, ◌↔◌, ℕ, List, Some, None, sum_by}
+use Rattle.std.proofs.Common.{refl, sym, ◌∙◌, ap, arith, take, ◌≤◌}
+use Rattle.std.proofs.lemmas.Bool.{false≢true, ltb-true}
+use Rattle.std.proofs.lemmas.Option.{none-some}
+use Rattle.st_core.specs.declared.types.Pid.{Pid}
+use Rattle.st_core.specs.declared.types.Event.{Event}
+use Rattle.st_core.specs.Run.{Stream, pids_of}
+use Rattle.st_core.specs.Streams.{IsStreams}
+use Rattle.st_pair.specs.Pairing.{refusal}
+use Rattle.st_pair.proofs.ForCallers.{refused_never_shown}
+use Rattle.st_completions.specs.Completed.{IsShownInOneTrace}
+use Rattle.st_completions.proofs.ForCallers.{no_reason, zeros_final}
+use Rattle.st_open.specs.OpenReasons.{HasNoOpenReason, Late, OpenReason, Refused, StandsAgainstOpen, TooHigh, Unfounded}
+use Rattle.st_core.specs.declared.types.Act.{Act}
+use Rattle.st_core.specs.Laws.{NoReset}
+use Rattle.st_core.specs.Run.{Shows}
+use Rattle.st_open.specs.Silent.{IsShownWithOthers, with_silent}
+use Rattle.st_open.proofs.SilentStreams.{silent_sound}
+use Rattle.st_open.proofs.SameReasons.{here, least_as, none_as, refusal_as, silent_same, tell_back}
+use Rattle.st_open.proofs.EnoughSilent.{enough, roomy_enough, roomy_none, weight}
+use Rattle.st_open.proofs.Founded.{least_zero}
+use Rattle.st_open.proofs.Unfounded.{behind_of, unfounded_of}
+use Rattle.st_open.proofs.RoomyStreams.{roomy_shown}
+use Rattle.st_completions.specs.HiddenSends.{least}
+use Rattle.st_completions.specs.Needs.{HoldsOfNone, is_late}
+use Rattle.st_pair.specs.Places.{event_at}
+
+-- streams that acts without a reset show have none of the reasons
+pub shown_none : (top : ℕ) (streams : List Stream) → IsStreams streams → IsShownInOneTrace top streams
+    → HasNoOpenReason top streams
+shown_none top streams sound shown =
+    let none = no_reason top streams sound.draft.rising shown in
+    let accepted = elim (refusal streams) as (λ o. refusal streams ≡ o → o ≡ None) [
+      | None ↦ λ _. refl
+      | Some f ↦ λ is. absurd (refused_never_shown streams f is top shown.acts shown.one_trace shown.shows)
+    ] refl in
+    record {
+      accepted = accepted;
+      timely = none.timely;
+      founded = λ p i against.
+          let b = behind_of streams sound accepted p i against in
+          zeros_final top streams sound.draft.rising b.pid b.behind shown.acts shown.one_trace shown.shows;
+      within = none.within;
+    }
+
+pub same_none : (top : ℕ) (streams : List Stream) (others : List Pid) → IsStreams streams
+    → HasNoOpenReason top (with_silent streams others) ↔ HasNoOpenReason top streams
+same_none top streams others sound =
+    let same = silent_same streams others in (
+      none_as (with_silent streams others) streams same top,
+      none_as streams (with_silent streams others) (tell_back (with_silent streams others) streams same) top,
+    )
+
+pub shown_with_none : (top : ℕ) (streams : List Stream) → IsStreams streams → (others : List Pid)
+    → IsShownInOneTrace top (with_silent streams others) → HasNoOpenReason top streams
+shown_with_none top streams sound others shown =
+    (same_none top streams others sound).0
+    (shown_none top (with_silent streams others) (silent_sound streams sound others) shown)
+
+-- if none is seen among the events, there are enough processes
+pub seen_shown_with : (top : ℕ) (streams : List Stream) → IsStreams streams → refusal streams ≡ None
+    → HoldsOfNone is_late streams → ((p : Pid) → least streams 0 p ≡ 0)
+    → ((p : Pid) (i : ℕ) (e : Event) → event_at streams p i ≡ Some e → e.serial.this ≤ top)
+    → IsShownWithOthers top streams
+seen_shown_with top streams sound accepted timely zero low =
+    let n = sum_by (weight streams) (pids_of streams) in
+    let others = enough streams n in
+    let more = with_silent streams others in
+    let same = silent_same streams others in
+    record {
+      others = others;
+      shown = roomy_shown top n more (roomy_enough n streams (roomy_none streams sound) n)
+          (refusal_as more streams same ∙ accepted)
+          (λ p i e at. ap (λ es. is_late (take i es) e) (same.events p)
+          ∙ timely p i e (here more streams same p i e at))
+          (λ p. least_as more streams same 0 p ∙ zero p)
+          (λ p i e at. low p i e (here more streams same p i e at));
+    }
+
+pub none_shown_with : (top : ℕ) (streams : List Stream) → IsStreams streams → HasNoOpenReason top streams
+    → IsShownWithOthers top streams
+none_shown_with top streams sound none = seen_shown_with top streams sound none.accepted none.timely
+    (least_zero streams sound none.accepted (λ p behind.
+    let u = unfounded_of streams sound p behind in
+    none.founded u.pid u.index u.holds) none.timely) none.within
+
+pub open_decides : (top : ℕ) (streams : List Stream) → IsStreams streams
+    → IsShownWithOthers top streams ↔ HasNoOpenReason top streams
+open_decides top streams sound = (
+  λ with. shown_with_none top streams sound with.others with.shown,
+  none_shown_with top streams sound,
+)
+
+-- REASONS AT THEIR PLACES
+
+contradicts : (top : ℕ) (streams : List Stream) (reason : OpenReason) → StandsAgainstOpen top streams reason
+    → HasNoOpenReason top streams → ⊥
+contradicts top streams (Refused f) against none = none-some f (sym none.accepted ∙ against)
+contradicts top streams (Late p i) against none =
+    false≢true (sym (none.timely p i against.event against.at) ∙ against.holds)
+contradicts top streams (Unfounded p i) against none = none.founded p i against
+contradicts top streams (TooHigh p i) against none =
+    let high = ltb-true top against.event.serial.this against.holds in
+    let low = none.within p i against.event against.at in
+    absurd (omega arith)
+
+pub open_final : (top : ℕ) (streams : List Stream) → IsStreams streams → (reason : OpenReason)
+    → StandsAgainstOpen top streams reason → (others : List Pid) (acts : List Act) → NoReset acts
+    → ¬ Shows top (with_silent streams others) acts
+open_final top streams sound reason against others acts one_trace shows =
+    contradicts top streams reason against (shown_with_none top streams sound others
+    (record { acts = acts; shows = shows; one_trace = one_trace }))

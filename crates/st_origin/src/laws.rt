@@ -1,0 +1,91 @@
+//! What events tell of origins in all runs without a reset, as contracts of functions that do
+//! nothing: each clause is a theorem over the definitions of `specs/`, and a proof that calls the
+//! function may use it.
+
+ghost use Rattle.std.specs.Prelude.{◌≡◌, ◌≢◌, ◌≤◌, ◌⊎◌, ℕ, List, MatchOption, None, Some};
+ghost use Rattle.std.specs.Prelude.{slice_get, take};
+ghost use Rattle.st_core.specs.declared.types.Act.{Act};
+ghost use Rattle.st_core.specs.declared.types.Event.{Event};
+ghost use Rattle.st_core.specs.declared.types.Kind.TheVariants as kind;
+ghost use Rattle.st_core.specs.declared.types.Pid.{Pid};
+ghost use Rattle.st_core.specs.Laws.{NoReset, ReportsEvent, greatest_count};
+ghost use Rattle.st_core.specs.Run.{run, stream};
+ghost use Rattle.st_core.specs.Step.{Outcome};
+ghost use Rattle.st_core.specs.Pairs.{IsFollowing};
+ghost use Rattle.st_origin.specs.declared.told.Told.TheVariants as what;
+ghost use Rattle.st_origin.specs.Events.{row_start, told};
+ghost use Rattle.st_origin.specs.Origin.{Begins, ReportsReceives, origin};
+ghost use Rattle.st_origin.specs.Truth.{BeginsAfter, FollowsEvent, IsBeginning, IsTrue};
+ghost use Rattle.st_origin.specs.Truth.{IsTrueIfReported, NeverBeginsAgain, last_receive};
+
+/// If a process reports each receive of a token, the origin of its stamp is the last receive that
+/// it reported before, or a beginning after that one. If it reported no receive before, it began,
+/// or nothing came before.
+pub fn an_origin_is_the_last_receive_or_a_beginning()
+    ensures { (top : ℕ) (pids : List Pid) (acts : List Act) (os : List Outcome)
+        → run top pids acts ≡ Some os → NoReset acts → (p : Pid) → ReportsReceives pids acts os p
+        → (i n : ℕ) (e : Event) → ReportsEvent acts os p i e n → e.kind ≢ kind.Receive
+        → MatchOption (last_receive (stream acts os p) i)
+        (IsBeginning (origin pids acts os p n) ⊎ (origin pids acts os p n ≡ None))
+        (λ j. FollowsEvent acts os p j (origin pids acts os p n)
+        ⊎ BeginsAfter acts os p j (origin pids acts os p n)) }
+{}
+
+/// And if that receive has another count than the stamp's prev, the origin is a beginning.
+pub fn another_count_shows_a_beginning()
+    ensures { (top : ℕ) (pids : List Pid) (acts : List Act) (os : List Outcome)
+        → run top pids acts ≡ Some os → NoReset acts → (p : Pid) → ReportsReceives pids acts os p
+        → (i n : ℕ) (e : Event) → ReportsEvent acts os p i e n → e.kind ≢ kind.Receive
+        → (j : ℕ) (d : Event) → last_receive (stream acts os p) i ≡ Some j
+        → slice_get (stream acts os p) j ≡ Some d → d.serial.this ≢ e.serial.prev
+        → IsBeginning (origin pids acts os p n) }
+{}
+
+/// A beginning leaves the clock as the next prev: so if a stamp's origin is one, no event of its
+/// process before the row of sends and prints with its prev has a greater count than that prev.
+/// This holds whatever is reported.
+pub fn a_beginning_has_no_greater_count_before_its_row()
+    ensures { (top : ℕ) (pids : List Pid) (acts : List Act) (os : List Outcome)
+        → run top pids acts ≡ Some os → NoReset acts → (p : Pid) (i n m : ℕ) (e : Event)
+        → ReportsEvent acts os p i e n → e.kind ≢ kind.Receive
+        → origin pids acts os p n ≡ Some (Begins m)
+        → greatest_count (take (row_start e.serial.prev (stream acts os p) i) (stream acts os p))
+        ≤ e.serial.prev }
+{}
+
+/// What the events of a process tell of the origin of its stamp is true, whatever is reported.
+pub fn told_is_true()
+    ensures { (top : ℕ) (pids : List Pid) (acts : List Act) (os : List Outcome)
+        → run top pids acts ≡ Some os → NoReset acts → (p : Pid) (i n : ℕ) (e : Event)
+        → ReportsEvent acts os p i e n → e.kind ≢ kind.Receive
+        → IsTrue acts os p (told e.serial.prev (stream acts os p) i) (origin pids acts os p n) }
+{}
+
+/// And more of it if the process reports each receive of a token.
+pub fn told_is_true_if_receives_are_reported()
+    ensures { (top : ℕ) (pids : List Pid) (acts : List Act) (os : List Outcome)
+        → run top pids acts ≡ Some os → NoReset acts → (p : Pid) → ReportsReceives pids acts os p
+        → (i n : ℕ) (e : Event) → ReportsEvent acts os p i e n → e.kind ≢ kind.Receive
+        → IsTrueIfReported acts os p (told e.serial.prev (stream acts os p) i)
+        (origin pids acts os p n) }
+{}
+
+/// If, besides, the process never begins again under a label of its earlier events, a stamp follows
+/// the receive that it may follow, if both have one label.
+pub fn one_label_tells_the_receive()
+    ensures { (top : ℕ) (pids : List Pid) (acts : List Act) (os : List Outcome)
+        → run top pids acts ≡ Some os → NoReset acts → (p : Pid) → ReportsReceives pids acts os p
+        → NeverBeginsAgain pids acts os p → (i n : ℕ) (e : Event) → ReportsEvent acts os p i e n
+        → e.kind ≢ kind.Receive → (j : ℕ) (d : Event)
+        → told e.serial.prev (stream acts os p) i ≡ what.AfterOrBegins j
+        → slice_get (stream acts os p) j ≡ Some d → d.label ≡ e.label
+        → FollowsEvent acts os p j (origin pids acts os p n) }
+{}
+
+/// Of a receive: a reported stamp of its sender with its count is the very send that it took.
+pub fn a_count_names_the_send()
+    ensures { (top : ℕ) (pids : List Pid) (acts : List Act) (os : List Outcome)
+        → run top pids acts ≡ Some os → NoReset acts → (r s : ℕ) (follows : IsFollowing acts os r s)
+        → (j m : ℕ) (f : Event) → ReportsEvent acts os follows.event.from j f m
+        → f.kind ≢ kind.Receive → f.serial.this ≡ follows.event.serial.this → m ≡ s }
+{}

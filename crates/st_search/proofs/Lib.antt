@@ -1,4 +1,0 @@
--- The lemmas.
-pub mod Judged
-pub mod Answered
-pub mod Linked

@@ -1,0 +1,34 @@
+-- The acts show the streams with their unlisted processes; running out of memory has a line of its own.
+use Rattle.std.proofs.Common.{List, refl, subst}
+use Rattle.st_core.specs.Run.{Shows, Stream}
+use Rattle.st_commands.specs.Output.{no_memory, bundled}
+use Rattle.st_commands.specs.Checked.{top}
+use Rattle.st_complete.specs.declared.answer.Answer.TheVariants as answer
+use Rattle.st_open.specs.Silent.{with_silent}
+use Rattle.st_tool.specs.Complete.{Certifies, IsLong, long}
+use Rattle.st_tool.specs.Parts.{Finds, NoRoomToComplete}
+use Rattle.st_tool.proofs.complete.tell_shown.Goals as goal
+
+pub returns-in-Ok : goal.returns-in-Ok
+returns-in-Ok g c =
+    let acts = c.in-Ok.found.acts in
+    let more = with_silent c.args.streams.now c.args.completion.now.unlisted in
+    record {
+      output = bundled more acts;
+      owed = Finds (answer.Whole c.args.completion.now) (bundled more acts) c.requires.whole
+          (Certifies c.args.completion.now acts refl
+          (subst (λ (xs : List Stream). Shows top xs acts) c.requires.more c.in-Ok.ensures.shows)
+          c.in-Ok.ensures.one_trace);
+      delivered = rw (c.as_slice.ensures, c.requires.more) at c.tell_bundle.ensures;
+    }
+
+pub returns-in-Err-TooMany : goal.returns-in-Err-TooMany
+returns-in-Err-TooMany g c =
+    record {
+      output = long;
+      owed = Finds (answer.Whole c.args.completion.now) long c.requires.whole (IsLong c.args.completion.now);
+      delivered = c.tell_line.ensures;
+    }
+
+pub returns-in-Err-Memory : goal.returns-in-Err-Memory
+returns-in-Err-Memory g c = record { output = no_memory; owed = NoRoomToComplete; delivered = c.tell_fault.ensures }

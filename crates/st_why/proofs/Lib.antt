@@ -1,0 +1,5 @@
+-- The lemmas.
+pub mod Starts
+pub mod Kept
+pub mod Ways
+pub mod Deliveries

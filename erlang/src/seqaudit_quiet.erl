@@ -1,0 +1,149 @@
+%% @doc Cuts collected events at a moment when no message is under way, so that what comes before and what comes behind
+%% can be audited by themselves.
+%%
+%% Each file has the events of one node in their order. Such a moment is a number of first events of each, so that
+%% whatever is sent in them is received in them, and the other way round. The last such moment is taken, if it is in the
+%% second half of each file. Messages that were sent in the first half and not received at all are taken to wait for
+%% ever. Of a message whose send isn't there nothing is known, so it is under way nowhere.
+-module(seqaudit_quiet).
+
+-export([cut/3]).
+
+-define(EVENT, 0).
+-define(COLLECTION, 2).
+-define(FACTS, 3).
+%% So often the moment is moved before a message that is under way.
+-define(MOVES, 1_000).
+
+%% @doc Writes the events before the moment and those behind it, each with what is known of the node. `none' if there is
+%% no such moment; then nothing is written.
+-spec cut([file:filename()], [file:filename()], [file:filename()]) -> ok | none | {error, term()}.
+cut(Files, Before, Behind) ->
+    case read(Files, []) of
+        {ok, Read} ->
+            case moment(Read) of
+                none -> none;
+                Counts -> written(lists:zip(lists:zip(Files, Counts), lists:zip(Before, Behind)))
+            end;
+        {error, Reason} ->
+            {error, Reason}
+    end.
+
+written([]) -> ok;
+written([{{File, Count}, {Before, Behind}} | Others]) ->
+    case split(File, Count, Before, Behind) of
+        ok -> written(Others);
+        {error, Reason} -> {error, Reason}
+    end.
+
+%% How many events each file has, and where the ends of each message are.
+read([], Read) ->
+    {Counts, Messages} = lists:unzip(lists:reverse(Read)),
+    Ends = lists:foldl(fun({Number, Places}, Known) ->
+                               lists:foldl(fun({End, Key, Place}, Sum) -> put_end(End, Key, {Number, Place}, Sum) end,
+                                           Known, Places)
+                       end, #{}, lists:enumerate(Messages)),
+    {ok, {Counts, maps:values(Ends)}};
+read([File | Files], Read) ->
+    Item = fun({event, Event}, {Place, Places}) -> {Place + 1, message(Event, Place) ++ Places};
+              (_, Known) -> Known
+           end,
+    case seqaudit_events:fold(File, Item, {0, []}) of
+        {ok, Found} -> read(Files, [Found | Read]);
+        {error, Reason} -> {error, Reason}
+    end.
+
+put_end(End, Key, Place, Ends) ->
+    maps:update_with(Key, fun(Known) -> Known#{End => Place} end, #{End => Place}, Ends).
+
+%% A process stamps a count once, so that and the label say which message it is.
+message(Event, Place) ->
+    try
+        [_, Label, Info | _] = seqaudit_external:tuple(Event),
+        [Kind, Serial, From | _] = seqaudit_external:tuple(Info),
+        [{End, erlang:md5([Label, Serial, From]), Place} || End <- message_end(seqaudit_external:view(Kind))]
+    catch
+        error:{badmatch, _} -> []
+    end.
+
+message_end({atom, <<"send">>}) -> [sent];
+message_end({atom, <<"receive">>}) -> [received];
+message_end(_) -> [].
+
+%% The numbers of first events, moved back until nothing is under way.
+moment({Counts, Messages}) ->
+    Half = [Count div 2 || Count <- Counts],
+    Known = [{Sent, maps:get(received, Ends, none)}
+             || #{sent := {Number, Place} = Sent} = Ends <- Messages,
+                is_map_key(received, Ends) orelse Place >= lists:nth(Number, Half)],
+    moved(list_to_tuple(Counts), list_to_tuple(Half), Known, ?MOVES).
+
+moved(_Ends, _Half, _Messages, 0) ->
+    none;
+moved(Ends, Half, Messages, Moves) ->
+    case lists:foldl(fun move/2, Ends, Messages) of
+        Ends -> tuple_to_list(Ends);
+        Earlier ->
+            Pairs = lists:zip(tuple_to_list(Earlier), tuple_to_list(Half)),
+            case lists:all(fun({End, Least}) -> End >= Least end, Pairs) of
+                true -> moved(Earlier, Half, Messages, Moves - 1);
+                false -> none
+            end
+    end.
+
+move({Sent, Received}, Ends) ->
+    case {is_before(Sent, Ends), is_before(Received, Ends)} of
+        {true, false} -> end_at(Sent, Ends);
+        {false, true} -> end_at(Received, Ends);
+        {_, _} -> Ends
+    end.
+
+is_before(none, _Ends) -> false;
+is_before({Number, Place}, Ends) -> Place < element(Number, Ends).
+
+end_at({Number, Place}, Ends) -> setelement(Number, Ends, Place).
+
+%% What is known of the collection as a whole, as how many bytes came, goes with the first part; what processes are
+%% called, and the clock of their node, with both.
+split(File, Count, Before, Behind) ->
+    Open = fun(Name) -> seqaudit_events:open(filename:rootname(Name)) end,
+    case {file:read_file(File), Open(Before), Open(Behind)} of
+        {{ok, Bytes}, {ok, First}, {ok, Second}} ->
+            [_, Entries] = binary:split(Bytes, <<"\n">>),
+            {Former, Later} = entries(Entries, Count, [], []),
+            _ = {ok, ok} = {seqaudit_events:append(First, Former), seqaudit_events:append(Second, Later)},
+            case {seqaudit_events:close(First), seqaudit_events:close(Second)} of
+                {ok, ok} -> ok;
+                {{error, Reason}, _} -> {error, {file, Before, Reason}};
+                {_, {error, Reason}} -> {error, {file, Behind, Reason}}
+            end;
+        {{error, Reason}, _, _} -> {error, {file, File, Reason}};
+        {_, {error, Reason}, _} -> {error, Reason};
+        {_, _, {error, Reason}} -> {error, Reason}
+    end.
+
+entries(<<?EVENT, Size:32, Event:Size/binary, Rest/binary>>, 0, Former, Later) ->
+    entries(Rest, 0, Former, [[<<?EVENT, Size:32>>, Event] | Later]);
+entries(<<?EVENT, Size:32, Event:Size/binary, Rest/binary>>, Count, Former, Later) ->
+    entries(Rest, Count - 1, [[<<?EVENT, Size:32>>, Event] | Former], Later);
+entries(<<?COLLECTION, Size:32, Facts:Size/binary, Rest/binary>>, Count, Former, Later) ->
+    Entry = [<<?COLLECTION, Size:32>>, Facts],
+    entries(Rest, Count, [Entry | Former], [Entry | Later]);
+entries(<<?FACTS, Size:32, Facts:Size/binary, Rest/binary>>, Count, Former, Later) ->
+    entries(Rest, Count, [[<<?FACTS, Size:32>>, Facts] | Former], [lasting(Facts) | Later]);
+entries(Rest, _Count, Former, Later) ->
+    {lists:reverse([Rest | Former]), lists:reverse(Later)}.
+
+%% They stay bytes: this Erlang needn't have the atoms in them.
+lasting(Bytes) ->
+    case seqaudit_external:read(Bytes) of
+        {ok, Term} -> lasting_pairs(seqaudit_external:pairs(Term));
+        error -> []
+    end.
+
+lasting_pairs(other) -> [];
+lasting_pairs(Pairs) ->
+    Kept = maps:to_list(maps:with([<<"node">>, <<"clock">>, <<"collector">>, <<"processes">>], Pairs)),
+    Term = iolist_to_binary([<<131, 116, (length(Kept)):32>>
+                             | [[seqaudit_external:atom(Key), Value] || {Key, Value} <- Kept]]),
+    [<<?FACTS, (byte_size(Term)):32>>, Term].

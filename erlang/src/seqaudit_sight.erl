@@ -1,0 +1,62 @@
+%% @doc Says at once what becomes of the nodes that are traced: that one can't be reached any more, that it is back, or
+%% that its collector is gone.
+-module(seqaudit_sight).
+
+-export([keep/2, stop/1]).
+
+-import(seqaudit_errors, [text/2]).
+
+-type sight() :: pid().
+
+%% @doc Begins to look at these nodes, whose collectors are on, and hands on each sentence.
+-spec keep([node()], fun((string()) -> term())) -> sight().
+keep(Nodes, Say) ->
+    spawn_link(fun() ->
+                       ok = net_kernel:monitor_nodes(true, [{node_type, all}]),
+                       look(maps:from_list([{monitored(Node), Node} || Node <- Nodes]), Nodes, Say)
+               end).
+
+%% @doc Ends it.
+-spec stop(sight()) -> ok.
+stop(Sight) ->
+    unlink(Sight),
+    exit(Sight, kill),
+    ok.
+
+monitored(Node) -> monitor(process, {seqaudit_collector, Node}).
+
+%% A node that is back has its collector yet, unless it was started anew.
+look(Collectors, Nodes, Say) ->
+    receive
+        {'DOWN', _, process, _, normal} ->
+            %% The command has ended it.
+            look(Collectors, Nodes, Say);
+        {'DOWN', Monitor, process, _, Reason} when is_map_key(Monitor, Collectors) ->
+            {Node, Others} = maps:take(Monitor, Collectors),
+            _ = Say(gone(Node, Reason)),
+            look(Others, Nodes, Say);
+        {nodeup, Node, _} ->
+            case lists:member(Node, Nodes) andalso not lists:member(Node, maps:values(Collectors)) of
+                true ->
+                    _ = Say(text("~ts: node ~ts can be reached again", [now_text(), Node])),
+                    look(Collectors#{monitored(Node) => Node}, Nodes, Say);
+                false ->
+                    look(Collectors, Nodes, Say)
+            end;
+        _ ->
+            look(Collectors, Nodes, Say)
+    end.
+
+gone(Node, noconnection) ->
+    text("~ts: node ~ts can't be reached any more; if it still runs, collecting goes on there for a minute",
+         [now_text(), Node]);
+gone(Node, noproc) ->
+    text("~ts: node ~ts has no collector any more; what came before is read from its disk at the end",
+         [now_text(), Node]);
+gone(Node, Reason) ->
+    text("~ts: the collector of node ~ts ended (~0tP); what came before is read from its disk at the end",
+         [now_text(), Node, Reason, 10]).
+
+now_text() ->
+    {_, {Hour, Minute, Second}} = calendar:local_time(),
+    text("~2..0b:~2..0b:~2..0b", [Hour, Minute, Second]).

@@ -1,0 +1,185 @@
+%% Collecting goes on without a gap while it is looked at, period by period.
+-module(seqaudit_periods_tests).
+
+-export([rotate_test_/0, quiet_test/0, never_quiet_test/0, watch_test_/0, too_many_test_/0]).
+%% Called by name.
+-export([serve/0, answer/0, request/2]).
+
+%% No event is lost between two files, and processes keep their names.
+rotate_test_() ->
+    {timeout, 120, fun() ->
+        [rotated(Port) || Port <- [true, false]]
+    end}.
+
+rotated(Port) ->
+    Name = seqaudit_audits:file("rotated"),
+    ok = seqaudit_trace:start(#{name => Name, port => Port}),
+    Self = self(),
+    Printer = spawn_link(fun() ->
+                             true = register(printer, self()),
+                             seqaudit_trace:with_trace(1, fun() -> print(1, Self) end)
+                         end),
+    Files = [begin
+                 receive after 150 -> ok end,
+                 [{_, {ok, File}}] = seqaudit_trace:rotate(Name ++ "." ++ integer_to_list(N)),
+                 File
+             end || N <- lists:seq(1, 4)],
+    Printer ! stop,
+    receive {printed, Most} -> ok end,
+    {ok, _} = seqaudit_trace:stop(),
+    Printed = [numbers(File) || File <- Files ++ [Name ++ ".events"]],
+    [] = [empty || [] <- lists:droplast(Printed)],
+    true = lists:append(Printed) =:= lists:seq(1, Most),
+    {ok, _} = seqaudit_convert:from_files([lists:nth(3, Files)], Name),
+    {ok, Terms} = file:read_file(Name ++ ".terms"),
+    {_, _} = binary:match(Terms, <<"\tprinter\t">>).
+
+print(N, To) ->
+    seq_trace:print(N),
+    N rem 20 =:= 0 andalso receive after 1 -> ok end,
+    receive stop -> unregister(printer), To ! {printed, N}
+    after 0 -> print(N + 1, To)
+    end.
+
+numbers(File) ->
+    {ok, [#{events := Events}]} = seqaudit_events:read(File),
+    [N || {seq_trace, 1, {print, _, _, _, N}} <- Events].
+
+%% The last moment without a message under way is before the send of a message that nobody received yet; one that waits
+%% since long doesn't count, nor does one whose send isn't there.
+quiet_test() ->
+    [A, B] = [self(), spawn(fun() -> ok end)],
+    Send = fun(N) -> {seq_trace, 1, {send, {N - 1, N}, A, B, N}} end,
+    Receive = fun(N) -> {seq_trace, 1, {'receive', {N - 1, N}, A, B, N}} end,
+    Print = fun(N) -> {seq_trace, 1, {print, {N - 1, N}, A, [], N}} end,
+    {4, 2} = cut([[Send(1), Receive(1), Send(2), Receive(2), Send(3), Print(4)]]),
+    {6, 0} = cut([[Send(1), Send(2), Receive(2), Send(3), Receive(3), Print(4)]]),
+    {4, 0} = cut([[Receive(9), Send(2), Receive(2), Print(4)]]),
+    %% On two nodes: what was sent here wasn't received there yet.
+    {3, 1, 2, 0} = cut([[Send(1), Print(2), Print(3), Send(4)], [Receive(1), Print(5)]]).
+
+%% How many events each part of each file has.
+cut(Events) ->
+    Names = [write(N, Own) || {N, Own} <- lists:enumerate(Events)],
+    [Own, Rest] = [[seqaudit_audits:file(lists:append(["quiet", integer_to_list(N), Which, ".events"]))
+                    || N <- lists:seq(1, length(Names))] || Which <- ["_own", "_rest"]],
+    ok = seqaudit_quiet:cut(Names, Own, Rest),
+    list_to_tuple(lists:append([[count(First), count(Second)] || {First, Second} <- lists:zip(Own, Rest)])).
+
+write(N, Events) ->
+    Name = seqaudit_audits:file("quiet" ++ integer_to_list(N)),
+    {ok, Device} = seqaudit_events:open(Name),
+    ok = seqaudit_events:begin_collection(Device, #{node => node()}),
+    ok = seqaudit_events:append(Device, seqaudit_spool:entry(#{processes => #{self() => #{name => tester}}, written => 17})),
+    ok = seqaudit_events:append(Device, [[<<0, (byte_size(Bytes)):32>>, Bytes] || Event <- Events, Bytes <- [term_to_binary(Event)]]),
+    ok = seqaudit_events:close(Device),
+    Name ++ ".events".
+
+%% Each part knows the node and its processes.
+count(File) ->
+    {ok, [#{events := Events, processes := #{} = Processes}]} = seqaudit_events:read(File),
+    [#{name := tester}] = maps:values(Processes),
+    length(Events).
+
+never_quiet_test() ->
+    [A, B] = [self(), spawn(fun() -> ok end)],
+    Events = lists:append([[{seq_trace, 1, {send, {N, N + 1}, A, B, N}}, {seq_trace, 1, {'receive', {N - 1, N}, A, B, N - 1}}]
+                           || N <- lists:seq(1, 100)]),
+    none = seqaudit_quiet:cut([write(1, Events)], [seqaudit_audits:file("x_own")], [seqaudit_audits:file("x_rest")]).
+
+%% A node under load is watched: what fits goes, a reset is kept with the periods beside it, and the command ends at once.
+watch_test_() ->
+    with_watch("w", fun(Auditor) -> Auditor end, fun watched/4).
+
+with_watch(Name, Auditor, Test) ->
+    {timeout, 240, fun() ->
+        case {seqaudit_program:find("seqaudit"), seqaudit_program:find("seqtool")} of
+            {{ok, Program}, {ok, Tool}} ->
+                seqaudit_test_nodes:with_second("watch", fun(There) ->
+                    begun(There, Name, [{"SEQAUDIT", Auditor(Program)}, {"SEQTOOL", Tool}], Test)
+                end);
+            _ -> io:format(user, "watch: skipped, the programs aren't built~n", [])
+        end
+    end}.
+
+%% The command watches a node with a service, and what it says goes to a file.
+begun(There, Name, Programs, Test) ->
+    {_, Binary, File} = code:get_object_code(?MODULE),
+    {module, _} = erpc:call(There, code, load_binary, [?MODULE, File, Binary]),
+    Folder = seqaudit_audits:file("watched_" ++ Name),
+    _ = file:del_dir_r(Folder),
+    ok = file:make_dir(Folder),
+    Said = filename:join(Folder, "said"),
+    _ = seqaudit_test_shell:begin_run(["echo $$ >", Folder, "/pid; exec ", seqaudit_test_shell:node_command(), " watch --node ",
+                                       atom_to_list(There), " --every 2 -o ", filename:join(Folder, Name), " >", Said, " 2>&1"],
+                                      seqaudit_test_shell:cookie() ++ Programs),
+    seqaudit_test_nodes:until(fun() -> seqaudit_test_nodes:is_traced(There) end),
+    Service = erpc:call(There, erlang, spawn, [?MODULE, serve, []]),
+    Says = fun(Pattern) ->
+                   {ok, Text} = file:read_file(Said),
+                   case re:run(Text, Pattern, [global, {capture, all, list}]) of {match, Found} -> Found; nomatch -> [] end
+           end,
+    End = fun() ->
+                  {ok, Pid} = file:read_file(filename:join(Folder, "pid")),
+                  [] = os:cmd("kill -TERM " ++ string:trim(binary_to_list(Pid))),
+                  {Status, _} = seqaudit_test_shell:ended(),
+                  false = erpc:call(There, seq_trace, get_system_tracer, []),
+                  Status
+          end,
+    Test(There, filename:join(Folder, Name), Says, End),
+    exit(Service, kill).
+
+watched(There, Name, Says, End) ->
+    seqaudit_test_nodes:until(fun() -> length(Says("period [0-9]+: fits: .* not kept")) >= 3 end),
+    _ = erpc:call(There, seq_trace, reset_trace, []),
+    seqaudit_test_nodes:until(fun() -> Says("period [0-9]+: doesn't fit: ") =/= [] end),
+    seqaudit_test_nodes:until(fun() -> Says("doesn't fit: .*\n.*period [0-9]+: fits: .*; kept as ") =/= [] end),
+    seqaudit_test_nodes:until(fun() -> length(Says("period [0-9]+: fits: .* not kept")) >= 5 end),
+    Ended = erlang:monotonic_time(millisecond),
+    1 = End(),
+    Took = erlang:monotonic_time(millisecond) - Ended,
+    io:format(user, "watch: ended in ~b ms~n", [Took]),
+    %% On a machine with other work it may take longer than the second that it is to take.
+    true = Took < 10_000,
+    [[_, Unfit]] = Says("period ([0-9]+): doesn't fit: "),
+    Around = lists:sort([integer_to_list(list_to_integer(Unfit) + N) || N <- [-1, 0, 1]]),
+    Around = lists:sort([Number || One <- filelib:wildcard(Name ++ ".*.seqtrace"),
+                                   ["w", Number, "seqtrace"] <- [string:split(filename:basename(One), ".", all)]]),
+    [_ | _] = Says("cut at a quiet moment"),
+    [[_]] = Says("[0-9]+ periods audited, 3 kept; period [0-9]+, which was running, isn't audited\n").
+
+%% A period with more processes than the program takes is audited label by label. This one takes three.
+too_many_test_() ->
+    with_watch("many", fun(Auditor) ->
+        Script = seqaudit_audits:file("few_processes.sh"),
+        ok = file:write_file(Script, ["#!/bin/sh\ninput=$(cat)\n"
+                                      "if [ \"$(echo \"$input\" | grep -c ^process)\" -gt 3 ]; then\n"
+                                      "echo fault too many processes; exit 2; fi\n"
+                                      "echo \"$input\" | ", Auditor, " \"$@\"\n"]),
+        ok = file:change_mode(Script, 8#755),
+        Script
+    end, fun(_There, Name, Says, End) ->
+        Fits = "period [0-9]+: [0-9]+ events, too many for the programs at once; of ([0-9]+) labels \\1 fit by themselves; cut .*; not kept",
+        seqaudit_test_nodes:until(fun() -> length(Says(Fits)) >= 2 end),
+        0 = End(),
+        [] = filelib:wildcard(Name ++ ".*")
+    end).
+
+%% Some twenty requests a second, each with a process and a label of its own; whoever makes them has no token.
+serve() ->
+    Service = spawn_link(?MODULE, answer, []),
+    drive(Service, 0).
+
+drive(Service, N) ->
+    _ = spawn(?MODULE, request, [Service, N]),
+    receive after 40 -> drive(Service, N + 1) end.
+
+answer() ->
+    receive {Client, ask} -> Client ! {self(), answer} end,
+    answer().
+
+request(Service, N) ->
+    seqaudit_trace:with_trace({request, N}, fun() ->
+        Service ! {self(), ask},
+        receive {Service, answer} -> ok end
+    end).

@@ -1,0 +1,310 @@
+%% What the commands say of programs on real nodes whose truth is known.
+-module(seqaudit_sentences_tests).
+
+-export([calls_under_labels_test_/0, token_put_back_test_/0, kept_tokens_test_/0, second_trace_test_/0, unknown_message_test_/0,
+         flags_test_/0, split_test_/0, forged_loss_test_/0,
+         unlisted_test_/0]).
+
+-define(ALL, [send, 'receive', print]).
+
+%% Traces on this node, and tries what is said of it.
+traced(Case, Program, Try) ->
+    {Case, {timeout, 60, fun() ->
+        Name = seqaudit_audits:file(Case),
+        ok = seqaudit_trace:start(#{name => Name}),
+        Program(),
+        {ok, _} = seqaudit_trace:stop(),
+        case {seqaudit_answers_tests:auditor(), seqaudit_answers_tests:tool()} of
+            {Auditor, Tool} when Auditor =:= none; Tool =:= none ->
+                io:format(user, "~ts: skipped, there are no programs~n", [Case]);
+            _ -> Try(fun(Words) -> seqaudit_answers_tests:command(Words, Name, seqaudit_answers_tests:tool()) end)
+        end
+    end}}.
+
+has(Text, Parts) ->
+    [] = [{Part, Text} || Part <- Parts, binary:match(Text, unicode:characters_to_binary(Part)) =:= nomatch],
+    ok.
+
+has_none(Text, Parts) ->
+    [] = [{Part, Text} || Part <- Parts, binary:match(Text, unicode:characters_to_binary(Part)) =/= nomatch],
+    ok.
+
+%% A process of this name that does this, and is there until the trace is stopped.
+begun(Name, Do) ->
+    Pid = spawn_link(fun() -> Do(), receive leave -> ok end end),
+    true = register(Name, Pid),
+    Pid.
+
+%% A client does this with a server of this name.
+with_client(Name, Serve, Do) ->
+    Self = self(),
+    Server = seqaudit_test_server:start(Name, Serve),
+    begun(client, fun() -> Do(Server), Self ! done end),
+    receive done -> ok end,
+    seqaudit_test_nodes:met_here(),
+    left([client]),
+    gen_server:stop(Server).
+
+left(Names) ->
+    [begin
+         Monitor = monitor(process, Name),
+         Name ! leave,
+         receive {'DOWN', Monitor, process, _, _} -> ok end
+     end || Name <- Names],
+    ok.
+
+with_all(Label) ->
+    seq_trace:set_token(label, Label),
+    [seq_trace:set_token(Flag, true) || Flag <- ?ALL],
+    ok.
+
+%% A client makes 20 calls, each under a label of its own: the last one's chain is its own, in each answer.
+calls_under_labels_test_() ->
+    traced("calls_under_labels", fun() ->
+        with_client(served, fun(Request) -> {done, Request} end, fun(Server) ->
+            [seqaudit_trace:with_trace(100 + N, fun() -> {done, N} = gen_server:call(Server, N) end)
+             || N <- lists:seq(1, 20)]
+        end)
+    end, fun(Command) ->
+        Begins = "begins label 120 here, or set it on its token; it had last received client#37 of label 119",
+        has(Command(["audit"]), ["fits: 80 events of 2 processes; nothing was left out\n"]),
+        has(Command(["why", "--event", "client#38"]),
+            ["client#38: client sends call 20 to served, serial ", ", label 120\nThere client " ++ Begins ++ ".\n"]),
+        has_none(Command(["why", "--event", "client#38"]), ["because"]),
+        has_none(Command(["why", "--event", "client#1", "--effects"]), ["label 102"]),
+        Svg = seqaudit_audits:file("calls_under_labels.svg"),
+        Html = seqaudit_audits:file("calls_under_labels.html"),
+        has(Command(["chart", "--label", "120", "--svg", Svg, "--html", Html]), ["call 20  " ++ Begins ++ "\n"]),
+        {ok, Drawing} = file:read_file(Svg),
+        has(Drawing, [Begins]),
+        {ok, Page} = file:read_file(Html),
+        has(Page, ["\"how\":\"bsrslsrslsrs", "\"had\":{\"4\":3,"])
+    end).
+
+%% The idiom of OTP's manual, after a receive.
+token_put_back_test_() ->
+    traced("token_put_back", fun() ->
+        Self = self(),
+        begun(worker, fun() ->
+            receive {From, N} ->
+                Old = seq_trace:set_token([]),
+                untraced ! {note, N},
+                seq_trace:set_token(Old),
+                From ! {answer, N},
+                seq_trace:print(answered)
+            end
+        end),
+        begun(untraced, fun() -> ok end),
+        begun(asker, fun() ->
+            with_all(1),
+            [begin self() ! N, receive N -> ok end end || N <- [1, 2]],
+            worker ! {self(), 7},
+            receive {answer, 7} -> ok end,
+            seq_trace:set_token([]),
+            Self ! done
+        end),
+        receive done -> ok end,
+        seqaudit_test_nodes:met_here(),
+        left([asker, worker, untraced])
+    end, fun(Command) ->
+        Audit = Command(["audit"]),
+        has(Audit, ["fits: 9 events of 2 processes; nothing was left out\n",
+                    "A token was put back here (seq_trace:set_token/1): before worker#1, which is after worker#0. ",
+                    "audited were the prevs that the machine would have given these events"]),
+        has_none(Audit, ["nobody reported", "unknown message"]),
+        has(Command(["why", "--event", "asker#5"]),
+            ["because (a token was put back here) worker#0: worker receives {", "because asker#4: asker sends "]),
+        has(Command(["chart", "--label", "1"]), ["{answer,7}  after worker#0, whose token was put back\n",
+                                                 "answered  after worker#0, whose token was put back\n"])
+    end).
+
+%% A server keeps the token of each client that waits, and puts it back to reply.
+kept_tokens_test_() ->
+    traced("kept_tokens", fun() ->
+        Self = self(),
+        begun(keeper, fun() -> keep([]) end),
+        Clients = [list_to_atom("client" ++ integer_to_list(N)) || N <- [1, 2, 3]],
+        [begin
+             begun(Client, fun() ->
+                 with_all({of_client, Client}),
+                 [begin self() ! N, receive N -> ok end end || N <- lists:seq(1, Steps)],
+                 keeper ! {self(), ask},
+                 Self ! asked,
+                 receive {answer, Client} -> ok end,
+                 seq_trace:set_token([]),
+                 Self ! done
+             end),
+             receive asked -> seq_trace:set_token([]) end
+         end || {Client, Steps} <- lists:zip(Clients, [2, 9, 4])],
+        keeper ! reply,
+        [receive done -> ok end || _ <- Clients],
+        seqaudit_test_nodes:met_here(),
+        left([keeper | Clients])
+    end, fun(Command) ->
+        Audit = Command(["audit"]),
+        has(Audit, [" of 5 processes; nothing was left out\n", "A token was put back here (seq_trace:set_token/1): before keeper#3, which is after keeper#0",
+                    "audited were the counts that the machine would have given all events", "(status 0)"]),
+        has(Command(["why", "--event", "client2#20"]), ["because (a token was put back here) keeper#1: keeper receives {"]),
+        {ok, Streams} = seqaudit_bundle:read(seqaudit_audits:file("kept_tokens") ++ ".seqtrace"),
+        case seqaudit_outcome:ask(Streams) of
+            {ok, Outcome} -> ordered(seqaudit_outcome:rows(Outcome), #{});
+            {error, {no_program, _, _}} -> skipped
+        end,
+        has(Command(["why", "--event", "client3#10"]), ["because (a token was put back here) keeper#2: keeper receives {"])
+    end).
+
+%% No event comes before its cause.
+ordered([], _) -> ok;
+ordered([#{id := Id, cause := Cause} | Rows], Before) ->
+    case Cause of
+        {_, Earlier} -> true = is_map_key(Earlier, Before);
+        _ -> ok
+    end,
+    ordered(Rows, Before#{Id => before}).
+
+keep(Waiting) ->
+    receive
+        {From, ask} ->
+            keep(Waiting ++ [{From, seq_trace:set_token([])}]);
+        reply ->
+            [begin
+                 seq_trace:set_token(Token),
+                 {registered_name, Name} = process_info(From, registered_name),
+                 From ! {answer, Name},
+                 seq_trace:set_token([])
+             end || {From, Token} <- Waiting]
+    end.
+
+%% The counters of a process stood high: nobody can tell what its first print follows.
+second_trace_test_() ->
+    traced("prints_later", fun() ->
+        ok = seqaudit_test_server:print(1, before),
+        {ok, _} = seqaudit_trace:stop(),
+        Self = self(),
+        begun(printer, fun() ->
+            seqaudit_trace:with_trace(1, fun() -> self() ! x, receive x -> ok end end),
+            ok = seqaudit_trace:start(#{name => seqaudit_audits:file("prints_later")}),
+            seqaudit_trace:with_trace(1, [print], fun() -> seq_trace:print(one), seq_trace:print(two) end),
+            Self ! done
+        end),
+        receive done -> ok end,
+        seqaudit_test_nodes:met_here()
+    end, fun(Command) ->
+        left([printer]),
+        Audit = Command(["audit"]),
+        has(Audit, ["fits: 2 events of 1 process; the cause of 2 events isn't known\n",
+                    "The cause isn't known of printer#0, printer#1: `why' says what it may be.\n"]),
+        has_none(Audit, ["nothing was left out"]),
+        has(Command(["why", "--event", "printer#1"]),
+            ["There printer begins here, or follows a message whose receive wasn't reported.\n"]),
+        has(Command(["chart", "--label", "1"]), ["one  begins here, or follows a message whose receive wasn't reported\n"])
+    end).
+
+%% No message that isn't known is printed with the content of another one.
+unknown_message_test_() ->
+    traced("unknown_message", fun() ->
+        Self = self(),
+        begun(first, fun() ->
+            seqaudit_trace:with_trace(1, [print], fun() -> seq_trace:print(secret) end),
+            begun(quiet, fun() ->
+                seqaudit_trace:with_trace(2, [print], fun() -> [seq_trace:print(N) || N <- lists:seq(1, 9)] end),
+                receive go -> seq_trace:print(later), seq_trace:set_token([]), Self ! done end
+            end),
+            seqaudit_test_nodes:until(fun() -> process_info(whereis(quiet), status) =:= {status, waiting} end),
+            seqaudit_trace:with_trace(1, [print], fun() -> quiet ! go end),
+            Self ! done
+        end),
+        [receive done -> ok end || _ <- [1, 2]],
+        seqaudit_test_nodes:met_here(),
+        left([first, quiet])
+    end, fun(Command) ->
+        Whole = Command(["audit", "--whole"]),
+        has(Whole, ["first sends an unknown message to quiet", "first prints secret"]),
+        %% As an event and as an act.
+        [_, _] = binary:matches(Whole, <<"secret">>)
+    end).
+
+%% What is missing is counted apart.
+flags_test_() ->
+    [traced("flags_" ++ lists:concat(Flags), fun() ->
+         with_client(flagged, fun(Request) -> seq_trace:print(Request), Request end, fun(Server) ->
+             seqaudit_trace:with_trace(1, Flags, fun() -> [N = gen_server:call(Server, N) || N <- [1, 2]] end)
+         end)
+     end, fun(Command) -> has(Command(["audit"]), [Said]) end)
+     || {Flags, Said} <- [{['receive', print], "fits: 6 events of 2 processes, with 4 sends that nobody reported\n"},
+                          {[send, print], "fits: 6 events of 2 processes, with 3 receives that nobody reported; 1 message has no"},
+                          {[send, 'receive'], "fits: 8 events of 2 processes, with 1 print or send that nobody reported\n"}]].
+
+%% A connection that was lost takes nothing away if nothing was lost.
+split_test_() ->
+    {timeout, 60, fun() -> seqaudit_test_nodes:with_second("a split", fun(There) ->
+        Name = seqaudit_audits:file("split_whole"),
+        ok = seqaudit_trace:start(#{name => Name, nodes => [node(), There]}),
+        true = erlang:disconnect_node(There),
+        seqaudit_test_nodes:until(fun() -> net_kernel:connect_node(There) =:= true end),
+        ok = erpc:call(There, seqaudit_test_server, print, [1, there]),
+        seqaudit_test_nodes:until(fun() ->
+            {monitors, Monitors} = process_info(whereis(seqaudit_trace), monitors),
+            [] =/= [Pid || {process, Pid} <- Monitors, node(Pid) =:= There]
+        end),
+        {ok, #{notes := Notes}} = seqaudit_trace:stop(),
+        [_] = [Note || Note <- Notes, string:find(Note, "the connection was lost once") =/= nomatch],
+        {ok, Facts} = file:read_file(Name ++ ".facts"),
+        [] = seqaudit_notes:losses(Facts),
+        said_whole(Name)
+    end) end}.
+
+said_whole(Name) ->
+    case {seqaudit_answers_tests:auditor(), seqaudit_answers_tests:tool()} of
+        {Auditor, Tool} when Auditor =/= none, Tool =/= none ->
+            Audit = seqaudit_answers_tests:command(["audit"], Name, Tool),
+            has(Audit, ["; nothing was left out\n"]),
+            has_none(Audit, ["isn't whole"]);
+        _ -> skipped
+    end.
+
+%% A node may be called after a loss.
+forged_loss_test_() ->
+    {timeout, 60, fun() ->
+        Name = seqaudit_audits:file("forged_loss"),
+        Event = {seq_trace, 1, {print, {0, 1}, self(), [], x}},
+        {ok, #{notes := [Note]}} =
+            seqaudit_convert:files([#{node => 'lost@down', events => [Event], strays => 1}], Name),
+        "lost@down: the collector got 1 message besides trace events" = Note,
+        said_whole(Name)
+    end}.
+
+%% A process that the trace doesn't list has no name, and is said to be one, in each answer.
+unlisted_test_() ->
+    {timeout, 60, fun() ->
+        case seqaudit_answers_tests:auditor() of
+            none -> io:format(user, "unlisted: skipped, there is no auditor~n", []);
+            _ -> unlisted(seqaudit_audits:file("unlisted"))
+        end
+    end}.
+
+unlisted(Name) ->
+    Print = fun(Prev, This) -> io_lib:format("{seq_trace,1,{print,{~b,~b},<0.80.0>,[],0}}~n", [Prev, This]) end,
+    Taken = "{seq_trace,1,{'receive',{0,1},<0.65535.0>,<0.80.0>,0}}\n",
+    ok = file:write_file(Name ++ ".seqtrace", ["seqtrace 1\nprocess <0.80.0>\n", Print(0, 1), Print(0, 2), Print(1, 3)]),
+    ok = file:write_file(Name ++ ".terms", "seqaudit terms 1\nprocess\t<0.80.0>\tone\tprocess\nlabel\t1\t1\nvalue\t0\tsecret\n"),
+    [file:delete(Name ++ Suffix) || Suffix <- [".notes", ".facts"]],
+    %% As seqtool says it.
+    Said = #{"added" => ["added 1\nunlisted <0.65535.0>\nadded <0.80.0> 2 ", Taken],
+             "streams" => ["seqtrace 1\nprocess <0.80.0>\n", Print(0, 1), Print(0, 2), Taken, Print(1, 3), "process <0.65535.0>\n"],
+             "acts" => "long\n"},
+    [ok = file:write_file(Name ++ "." ++ How, Text) || {How, Text} <- maps:to_list(Said)],
+    Tool = Name ++ ".sh",
+    ok = file:write_file(Tool, ["#!/bin/sh\ncase $1 in complete) cat ", Name, ".$3 ;; *) exit 3 ;; esac\n"]),
+    ok = file:change_mode(Tool, 8#755),
+    Command = fun(Words) -> seqaudit_answers_tests:command(Words, Name, Tool) end,
+    Audit = Command(["audit"]),
+    has(Audit, ["fits: 3 events of 1 process, with 1 receive that nobody reported, 1 message from a process that the trace doesn't list\n",
+                "  one#2~1: one receives an unknown message from a process that the trace doesn't list, serial {0,1}, label 1\n"]),
+    has_none(Audit, ["65535"]),
+    has(Command(["why", "--event", "one#2"]),
+        ["because (perhaps: it wasn't reported) one#2~1: one receives an unknown message from a process that the trace doesn't list"]),
+    Svg = Name ++ ".svg",
+    has(Command(["chart", "--label", "1", "--svg", Svg]), ["lane 2 a process that the trace doesn't list\n"]),
+    {ok, Drawing} = file:read_file(Svg),
+    has(Drawing, ["stroke-dasharray=\"4 4\"", "a process that the trace doesn't list"]).

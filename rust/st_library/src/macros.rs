@@ -1,0 +1,38 @@
+//! The macros that take the runtime or the allocator before their own words. Each is Rust's own of the same name.
+
+/// Theirs is only for tests, as are `assert_eq` and `panic`.
+#[macro_export]
+macro_rules! assert {
+    ($rt:expr; $($rest:tt)*) => {{ let _ = &$rt; ::std::assert!($($rest)*) }};
+}
+
+/// See `assert`.
+#[macro_export]
+macro_rules! assert_eq {
+    ($rt:expr; $($rest:tt)*) => {{ let _ = &$rt; ::std::assert_eq!($($rest)*) }};
+}
+
+/// See `assert`.
+#[macro_export]
+macro_rules! panic {
+    ($rt:expr; $($rest:tt)*) => {{ let _ = &$rt; ::std::panic!($($rest)*) }};
+}
+
+/// Returns an error if the line can't be written, as theirs.
+#[macro_export]
+macro_rules! eprintln {
+    ($rt:expr; $($rest:tt)*) => { $crate::rt::Eprint::eprintln($rt, &::std::format!($($rest)*)) };
+}
+
+/// A list of n copies, or of these items. As theirs.
+#[macro_export]
+macro_rules! vec {
+    (in $alloc:expr; $item:expr; $n:expr) => { $crate::vec::Vec::filled($alloc, $item, $n) };
+    (in $alloc:expr; $($item:expr),+ $(,)?) => { $crate::vec::Vec::from_array($alloc, [$($item),+]) };
+}
+
+/// A text. Theirs returns an error if memory runs out, and this ends the program.
+#[macro_export]
+macro_rules! format {
+    (in $alloc:expr; $($rest:tt)*) => {{ let _ = &$alloc; $crate::fmt::written(::std::format!($($rest)*)) }};
+}

@@ -1,0 +1,3 @@
+//! As theirs.
+
+pub use ::memchr::memchr;

@@ -1,0 +1,12 @@
+//! What each file of the sources sees without naming it.
+
+pub use crate::iter::CollectIn;
+pub use crate::process::Expect;
+pub use crate::rt::{AllocGlobal, Eprint, HostRuntime};
+pub use crate::slice::{ArraySlice, SliceSort};
+pub use crate::vec::Vec;
+
+/// In Rattle a bound that a value may be let go. In Rust each value may.
+pub trait Drop {}
+
+impl<T: ?Sized> Drop for T {}

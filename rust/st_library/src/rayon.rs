@@ -1,0 +1,59 @@
+//! Work on several threads.
+
+/// What the sources import.
+pub mod prelude {
+    use crate::alloc::{AllocError, Global};
+    use crate::thread::Threads;
+    use ::rayon::iter::{IndexedParallelIterator, IntoParallelIterator, ParallelIterator};
+    use ::rayon::slice::ParallelSliceMut;
+    use std::ops::Range;
+
+    /// Sorts, equal items in their order. As theirs, but if memory runs out this ends the program.
+    pub fn par_sort<R: Threads, T: Ord + Send>(_: &R, _: Global, items: &mut [T]) -> Result<(), AllocError> {
+        items.par_sort();
+        Ok(())
+    }
+
+    /// Sorts by a key, equal items in their order. As `par_sort`.
+    pub fn par_sort_by_key<R, T, K, F>(_: &R, _: Global, items: &mut [T], key: F) -> Result<(), AllocError>
+    where
+        R: Threads,
+        T: Send,
+        K: Ord,
+        F: Fn(&T) -> K + Sync,
+    {
+        items.par_sort_by_key(key);
+        Ok(())
+    }
+
+    /// A range whose numbers several threads take.
+    pub trait IntoParIter {
+        /// As theirs.
+        fn into_par_iter(self) -> ParRange;
+    }
+
+    impl IntoParIter for Range<usize> {
+        fn into_par_iter(self) -> ParRange {
+            ParRange { range: self, least: 1 }
+        }
+    }
+
+    /// A range, and how many of its numbers a thread takes at least.
+    #[derive(Debug)]
+    pub struct ParRange {
+        range: Range<usize>,
+        least: usize,
+    }
+
+    impl ParRange {
+        /// As theirs.
+        pub fn with_min_len(self, least: usize) -> ParRange {
+            ParRange { least, ..self }
+        }
+
+        /// Whether it holds for each number. As theirs, which takes the runtime too.
+        pub fn all<R: Threads, F: Fn(usize) -> bool + Sync + Send>(self, _: &R, holds: F) -> bool {
+            IntoParallelIterator::into_par_iter(self.range).with_min_len(self.least).all(holds)
+        }
+    }
+}

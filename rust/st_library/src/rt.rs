@@ -1,0 +1,54 @@
+//! The runtime: what a function may do beside computing, each right a trait.
+
+use crate::alloc::Global;
+use crate::io::{self, Stderr, Stdin, Stdout};
+
+/// Theirs can't be made by the program, so that only what `main` hands out may be done. Here it is an empty value.
+#[derive(Clone, Copy, Debug, Default)]
+pub struct HostRuntime;
+
+impl HostRuntime {
+    /// Theirs has no such call: `main` and each test are given one.
+    pub fn new() -> HostRuntime {
+        HostRuntime
+    }
+
+    /// Standard input. As theirs.
+    pub fn stdin(&self) -> Stdin {
+        Stdin
+    }
+
+    /// Standard output. As theirs.
+    pub fn stdout(&self) -> Stdout {
+        Stdout
+    }
+
+    /// Standard error. As theirs.
+    pub fn stderr(&self) -> Stderr {
+        Stderr
+    }
+}
+
+/// The right to ask for memory.
+pub trait AllocGlobal {
+    /// The allocator.
+    fn alloc(&self) -> Global {
+        Global
+    }
+}
+
+/// The right to write to standard error.
+pub trait Eprint {
+    /// Writes a line. As theirs.
+    fn eprintln(&self, line: &str) -> io::Result<()> {
+        use io::Write;
+        writeln!(Stderr, "{line}")
+    }
+}
+
+/// The right to open files.
+pub trait Files {}
+
+impl AllocGlobal for HostRuntime {}
+impl Eprint for HostRuntime {}
+impl Files for HostRuntime {}

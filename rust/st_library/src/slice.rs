@@ -1,0 +1,9 @@
+//! What slices have beside Rust's own.
+
+/// `as_slice` of an array is as theirs.
+pub trait ArraySlice<T> {}
+impl<T, const N: usize> ArraySlice<T> for [T; N] {}
+
+/// Sorts.
+pub trait SliceSort<T> {}
+impl<T> SliceSort<T> for [T] {}
