@@ -91,12 +91,15 @@ docs: ## holds names, links and counts in the docs to the sources (2 seconds)
 BUILT = $(firstword $(wildcard $(CURDIR)/crates/seqaudit/out/seqaudit $(CURDIR)/bin/seqaudit))
 BUILT_TOOL = $(firstword $(wildcard $(CURDIR)/crates/seqtool/out/seqtool $(CURDIR)/bin/seqtool))
 
+# All parts of bench/hostile but the growth of times, which a busy machine could spoil: make hostile has that too.
+FAULTS = memory stacks calls devices tampering limits queues floods scripts completions
+
 # What no proof sees: the built programs on examples/, their statuses and words, random traces beside a slow model, a
 # million acts and events, and faults. Python's seeds are fixed.
 test-program: ## the programs that were built last: examples/, random traces, a million acts, faults (3 minutes)
 	@.ci/program $(BUILT)
 	@examples/demo-seqtool $(BUILT_TOOL)
-	@if command -v python3 >/dev/null; then .ci/seqtool $(BUILT_TOOL) && bench/completions/small.py $(BUILT_TOOL) 2000 && bench/hostile --tool $(BUILT_TOOL) $(BUILT); \
+	@if command -v python3 >/dev/null; then .ci/seqtool $(BUILT_TOOL) && bench/completions/small.py $(BUILT_TOOL) 2000 && bench/hostile --tool $(BUILT_TOOL) $(BUILT) $(FAULTS); \
 	else echo "There is no python3 here: seqtool's words, its small streams and the faults are skipped."; fi
 
 # Traces of a real Erlang node, if there is one, by the program that was built last.

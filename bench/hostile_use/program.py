@@ -56,6 +56,10 @@ def expect(name, wanted, got, given=b"", note=None):
 class Program:
     path: str
 
+    @property
+    def name(self):
+        return os.path.basename(self.path)
+
     def run(self, words, given=b"", *, stdin=None, stdout=subprocess.PIPE, before=(), env=None, seconds=30):
         """Runs it on the given bytes, or on the file `stdin`, for so many seconds of the processor at most; `before` are the
         words of a command that executes it."""

@@ -5,7 +5,7 @@
 %% something else, the case fails and its row in docs/MACHINE.md has to change.
 -module(conformance_cases).
 
--export([main/0]).
+-export([main/0, names/0]).
 
 -define(EVENTS_MS, 5_000).
 -define(LABEL, 1).
@@ -20,6 +20,10 @@ main() ->
     Failed = [Name || {Name, Case} <- Cases, not holds(Name, Case)],
     io:format("~b of ~b cases hold~n", [length(Cases) - length(Failed), length(Cases)]),
     halt(length(Failed)).
+
+%% The names of the cases, by which docs/MACHINE.md has their rows.
+names() ->
+    [Name || {Name, _} <- here()] ++ [Name || {Name, _} <- there()].
 
 holds(Name, Case) ->
     try Case() of
@@ -43,6 +47,7 @@ here() ->
      {"link-plain", fun plain_linked_end_takes_the_token/0},
      {"spawn-here", fun spawn_here_is_four_events/0},
      {"spawn-counts", fun spawn_here_sets_the_counts/0},
+     {"spawn-request", fun spawn_request_is_answered_as_any/0},
      {"dead-tracer", fun dead_tracer_is_silent/0}].
 
 there() ->
@@ -178,6 +183,20 @@ spawn_here_sets_the_counts() ->
     [Next] = [Serial || {print, Serial, From, _, _} <- Events, From =:= P],
     Next = {16 * T + 15, 16 * T + 16}.
 
+%% The answer to spawn_request is received like any other message, and sets token and counts as one.
+spawn_request_is_answered_as_any() ->
+    {P, {Child, {7, 1, T, Child, _}}, Events} =
+        traced(5, fun() ->
+                      Request = spawn_request(fun() -> ok end),
+                      Child = receive {spawn_reply, Request, ok, Pid} -> Pid end,
+                      Token = seq_trace:get_token(),
+                      seq_trace:print(parent),
+                      {Child, Token}
+                  end),
+    [T] = [This || {'receive', {_, This}, _, To, _} <- Events, To =:= P],
+    [{T, Next}] = [Serial || {print, Serial, From, _, _} <- Events, From =:= P],
+    Next = T + 1.
+
 %% The request is two sends to the node, the second with the arguments; the answer is a receive like
 %% any other, and sets token and counts as one.
 spawn_there_is_two_sends(There) ->
@@ -203,7 +222,8 @@ erpc_may_take_the_token(There) ->
     by_release(fun() -> There = erpc:call(There, erlang, node, []) end).
 
 by_release(Fun) ->
-    {_, {Before, After}, _} = traced(0, fun() -> Before = seq_trace:get_token(), Fun(), {Before, seq_trace:get_token()} end),
+    {_, {Before, After}, _} =
+        traced(0, fun() -> Before = seq_trace:get_token(), Fun(), {Before, seq_trace:get_token()} end),
     {7, 1, _, _, _} = Before,
     case release() of
         Early when Early =< 25 -> [] = After;
@@ -231,7 +251,8 @@ linked_end_there_gives_its_token(There) ->
                       Child = spawn_link(There, erlang, exit, [reason]),
                       receive {'EXIT', Child, reason} -> {Child, seq_trace:get_token()} end
                   end),
-    [_] = [received || {'receive', _, From, To, {'EXIT', Left, reason}} <- Events, From =:= Child, To =:= P, Left =:= Child].
+    [_] = [received || {'receive', _, From, To, {'EXIT', Left, reason}} <- Events,
+                       From =:= Child, To =:= P, Left =:= Child].
 
 %% A fun that goes to another node and back is the same term, whatever its bytes are on the way.
 fun_arrives_as_it_was(There) ->

@@ -65,7 +65,7 @@
   // Sends whose message arrives at an event here, and rows that follow an unreported receive as one before does.
   const arrived = new Uint8Array(count), again = new Uint8Array(count);
   for (let row = 0; row < count; row++)
-    if ("su".includes(rows.how[row]) && rows.cause[row] >= 0) {
+    if ("sua".includes(rows.how[row]) && rows.cause[row] >= 0) {
       again[row] = rows.how[row] === "u" ? arrived[rows.cause[row]] : 0;
       arrived[rows.cause[row]] = 1;
     }
@@ -85,6 +85,7 @@
     const after = cause >= 0 && !isPlain(cause) ? "perhaps after " + before + ", which wasn't reported" : "after " + before;
     return { s: cause >= 0 && rows.kind[cause] === "h" ? "its send wasn't reported"
                 : "after " + before + (cause >= 0 && !isPlain(cause) ? ", which wasn't reported" : ""),
+             a: "perhaps after " + before + ", or after another message like it",
              r: after, w: "after " + before + ", a spawn's answer",
              t: "after " + before + ", whose token was put back",
              v: "perhaps after " + before + ", whose token was put back",
@@ -99,7 +100,7 @@
   };
 
   // Whether what is said of the cause isn't certain.
-  const isDoubtful = row => "ouvx".includes(rows.how[row]) || rows.how[row] === "r" && !isPlain(rows.cause[row]);
+  const isDoubtful = row => "aouvx".includes(rows.how[row]) || rows.how[row] === "r" && !isPlain(rows.cause[row]);
 
   // Which rows and lanes are shown, and where.
 
@@ -160,7 +161,7 @@
   function sortArrows() {
     arrows = [];
     for (let row = 0; row < count; row++) {
-      if (!"su".includes(rows.how[row]) || place[row] < 0) continue;
+      if (!"sua".includes(rows.how[row]) || place[row] < 0) continue;
       const send = rows.cause[row];
       if (send < 0 || place[send] < 0) continue;
       const length = Math.max(1, place[row] - place[send]);
@@ -303,7 +304,7 @@
   }
 
   function drawArrow(pen, row) {
-    const send = rows.cause[row], dashed = !isPlain(row) || !isPlain(send) || rows.how[row] === "u";
+    const send = rows.cause[row], dashed = !isPlain(row) || !isPlain(send) || "ua".includes(rows.how[row]);
     const lit = isLit(row) && isLit(send);
     stroke(pen, lit ? (effects.has(row) ? INK.effect : INK.cause)
            : chosen >= 0 ? INK.dim : dashed ? INK.unreported : INK.message, lit ? 3 : 1.2, dashed ? [6, 4] : []);

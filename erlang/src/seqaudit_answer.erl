@@ -179,10 +179,10 @@ chart(#{"" := [Name]} = Options) ->
 chart(_) ->
     {usage, "chart needs the NAME of one trace, and --label, --html, --mermaid, --perfetto or --otlp"}.
 
-%% A trace that the programs don't take as a whole may be taken when it is cut to the label.
+%% A trace that `seqaudit' doesn't take as a whole may be taken when it is cut to the label.
 chart_label(Number, Label, #{streams := Streams, legend := Legend, times := Times} = Trace, Options) ->
     with_outcome(Trace, fun
-        (#{outcome := #{said := fault}}) ->
+        (#{outcome := #{said := Said} = Outcome}) when Said =:= fault; is_map_key(large, Outcome) ->
             case seqaudit_cut:cut(Streams, #{labels => [Label]}, Legend, Times) of
                 {ok, Cut, Note} ->
                     with_outcome(Trace#{streams := Cut, cut := Note}, fun(Audited) ->

@@ -19,12 +19,14 @@
 -type id() :: seqaudit_bundle:place() | {sent_to, seqaudit_bundle:place()}.
 %% An event, or the unreported send of a receive.
 
--type cause() :: {sent | received | spawned | restored | unreported | perhaps, id()}
+-type cause() :: {sent | alike | received | spawned | restored | unreported | perhaps, id()}
                | {relabelled, Label :: binary(), Had :: {id(), Label :: binary()} | none | open}
                | start | open | unseen.
 %% What a row follows by:
 %% <dl>
 %% <dt>`sent'</dt><dd>the receive of that send, which may be unreported itself</dd>
+%% <dt>`alike'</dt><dd>the receive of that send, or of another one like it: a token that was put back can give messages
+%% one serial, and not all of their sends, or of their receives, were reported</dd>
 %% <dt>`received'</dt><dd>stamped after that receive of its process</dd>
 %% <dt>`spawned'</dt><dd>the same, but a spawn's answer has moved the counter on, as OTP does</dd>
 %% <dt>`restored'</dt><dd>the same, but the token of that receive was put back</dd>
@@ -49,15 +51,14 @@
 rows(Streams) ->
     Ranks = maps:from_list(lists:zip([Pid || {Pid, _} <- Streams],
                                      lists:seq(1, length(Streams)))),
-    Sends = maps:from_list([{Key, {Pid, At}} || {Pid, Events} <- Streams, #{kind := send, at := At} = Send <- Events,
-                                                Key <- [message(Send), setelement(2, message(Send), anybody)]]),
-    Unpaired = unpaired(Streams),
-    Keyed = lists:append([keyed(Stream, Ranks, Sends, Unpaired) || Stream <- Streams]),
+    Paired = paired(Streams),
+    Unpaired = unpaired(Streams, Paired),
+    Keyed = lists:append([keyed(Stream, Ranks, Paired, Unpaired) || Stream <- Streams]),
     mark_invented([Row || {_, Row} <- lists:keysort(1, Keyed)]).
 
 mark_invented(Rows) ->
-    Reported = maps:from_keys(lists:append([[Id, Send] || #{id := {_, At} = Id, cause := {sent, Send}} <- Rows,
-                                                          is_integer(At)])
+    Reported = maps:from_keys(lists:append([[Id, Send] || #{id := {_, At} = Id, cause := {How, Send}} <- Rows,
+                                                          How =:= sent orelse How =:= alike, is_integer(At)])
                               ++ [Id || #{id := Id, cause := {sent, {_, At}}} <- Rows, is_integer(At)],
                               reported),
     [case Row of
@@ -65,42 +66,79 @@ mark_invented(Rows) ->
          #{} -> Row
      end || Row <- Rows].
 
+%% The send of each receive. Messages that are alike arrive in the order in which they were sent; if there are more
+%% sends than receives, or fewer, nobody can tell which receive is whose.
+paired(Streams) ->
+    {Sends, Receives} = {by_message(send, Streams), by_message('receive', Streams)},
+    Pairs = maps:fold(fun(Key, Received, Pairs) -> pairs(Received, maps:get(Key, Sends, []), Pairs) end, #{}, Receives),
+    %% An alias or a name that isn't resolved stands for its receiver, and has no events.
+    Reporting = maps:from_keys([Pid || {Pid, [_ | _]} <- Streams], reporting),
+    ToAnybody = maps:fold(fun({_, To, _, _, _, _} = Key, Ids, Known) ->
+                                  case Reporting of
+                                      #{To := _} -> Known;
+                                      #{} -> add(setelement(2, Key, anybody), Ids, Known)
+                                  end
+                          end, #{}, maps:without(maps:keys(Receives), Sends)),
+    maps:fold(fun(Key, Received, All) ->
+                      pairs(Received, maps:get(setelement(2, Key, anybody), ToAnybody, []), All)
+              end, Pairs, maps:without(maps:keys(Sends), Receives)).
 
-%% What a send and its receive have in common. A sender that put a token back may use a count again.
+pairs(_Received, [], Pairs) ->
+    Pairs;
+pairs(Received, Sent, Pairs) when length(Received) =:= length(Sent) ->
+    lists:foldl(fun({Id, Send}, Known) -> Known#{Id => {sent, Send}} end, Pairs, lists:zip(Received, Sent));
+pairs([Id | Received], [Send | Others], Pairs) ->
+    pairs_alike(Received, Others, Send, Pairs#{Id => {alike, Send}}).
+
+pairs_alike([], _, _, Pairs) -> Pairs;
+pairs_alike([Id | Received], [], Last, Pairs) -> pairs_alike(Received, [], Last, Pairs#{Id => {alike, Last}});
+pairs_alike([Id | Received], [Send | Others], _, Pairs) ->
+    pairs_alike(Received, Others, Send, Pairs#{Id => {alike, Send}}).
+
+%% The events of a kind by what a send and its receive have in common, in the order of their streams.
+by_message(Kind, Streams) ->
+    lists:foldr(fun({Pid, Events}, Known) ->
+                        lists:foldr(fun(#{kind := One, at := At} = Event, Sum) when One =:= Kind ->
+                                            add(message(Event), [{Pid, At}], Sum);
+                                       (_, Sum) -> Sum
+                                    end, Known, Events)
+                end, #{}, Streams).
+
+add(Key, Ids, Known) ->
+    maps:update_with(Key, fun(Others) -> Ids ++ Others end, Ids, Known).
+
+%% A sender that put a token back may use a count again.
 message(#{from := From, to := To, prev := Prev, this := This, label := Label, value := Value}) ->
     {From, To, Prev, This, Label, Value}.
 
 %% The sends that no reported receive is of, with their labels, by receiver and count.
-unpaired(Streams) ->
-    Received = maps:from_keys([message(Event) || {_, Events} <- Streams, #{kind := 'receive'} = Event <- Events],
-                              received),
+unpaired(Streams, Paired) ->
+    Received = maps:from_keys([Send || {_, Send} <- maps:values(Paired)], received),
     lists:foldr(fun({Key, Send}, Sends) ->
                         maps:update_with(Key, fun(Others) -> [Send | Others] end, [Send], Sends)
                 end, #{},
                 [{{To, This}, {Label, {Pid, At}}}
                  || {Pid, Events} <- Streams,
-                    #{kind := send, to := To, this := This, label := Label, at := At} = Send <- Events,
-                    not is_map_key(message(Send), Received)]).
+                    #{kind := send, to := To, this := This, label := Label, at := At} <- Events,
+                    not is_map_key({Pid, At}, Received)]).
 
 %% What is known at an event of what its process did before: the greatest count, the last receive with its
 %% count and label, the last stamp if no receive came behind it, the tokens that it had, by label and prev, with
 %% their counts and what they came from, the least count of those with each prev, and the receives by label and count.
-keyed({Pid, Events}, Ranks, Sends, Unpaired) ->
+keyed({Pid, Events}, Ranks, Paired, Unpaired) ->
     Start = #{clock => 0, newest => none, row => none, tokens => #{}, prevs => #{}, received => #{}},
     {Rows, _} = lists:mapfoldl(
                   fun({Position, Event}, Known) ->
-                          keyed_event(Event, {Pid, Position}, Known, {Ranks, Sends, Unpaired})
+                          keyed_event(Event, {Pid, Position}, Known, {Ranks, Paired, Unpaired})
                   end, Start, lists:enumerate(Events)),
     lists:append(Rows).
 
 keyed_event(#{kind := 'receive', from := From, this := This, label := Label, at := At} = Event,
-            {Pid, Position}, #{clock := Clock, received := Received} = Known, {Ranks, Sends, _}) ->
+            {Pid, Position}, #{clock := Clock, received := Received} = Known, {Ranks, Paired, _}) ->
     Height = max(Clock, This),
     Id = {Pid, At},
-    %% An alias or a name that isn't resolved stands for its receiver.
-    ToAnybody = maps:get(setelement(2, message(Event), anybody), Sends, {sent_to, Id}),
-    Send = maps:get(message(Event), Sends, ToAnybody),
-    Row = row(Id, Event, Pid, {sent, Send}),
+    {_, Send} = Cause = maps:get(Id, Paired, {sent, {sent_to, Id}}),
+    Row = row(Id, Event, Pid, Cause),
     Hidden = [{{This, 0, maps:get(From, Ranks, 0), 0},
                (row(Send, Event#{kind := send}, From, unseen))#{hidden := true}}
               || {sent_to, _} <- [Send]],
@@ -150,11 +188,12 @@ nearest(Left, {{Count, Origin}, More}) -> [{-Count, Origin} | nearest(Left - 1, 
 %% After an answered spawn OTP puts the counters to 16 T + 15, T being the answer's count.
 stamp_cause(_Pid, #{prev := Prev, label := Label} = Event, #{newest := {Count, Other, Id}} = Known, _)
   when Prev =:= Count; Prev =:= 16 * Count + 15 ->
-    case {Other =:= Label, put_back(Event, Known)} of
-        {true, _} when Prev =:= Count -> {received, Id};
-        {true, _} -> {spawned, Id};
-        {false, []} -> {relabelled, Label, {Id, Other}};
-        {false, [{_, Origin} | _]} -> {perhaps, Origin}
+    case {Other =:= Label, put_back(Event, Known), had_received(Event, Known)} of
+        {true, _, _} when Prev =:= Count -> {received, Id};
+        {true, _, _} -> {spawned, Id};
+        {false, [{_, Origin} | _], _} -> {perhaps, Origin};
+        {false, [], [Earlier | _]} -> {perhaps, Earlier};
+        {false, [], []} -> {relabelled, Label, {Id, Other}}
     end;
 stamp_cause(_Pid, #{prev := Prev, label := Label, this := This} = Event,
             #{row := {Label, Prev, Last, Cause, Origin}} = Known, _) when This > Last ->
@@ -163,30 +202,36 @@ stamp_cause(_Pid, #{prev := Prev, label := Label, this := This} = Event,
         [_, _ | _] -> {perhaps, Origin};
         _ -> Cause
     end;
-stamp_cause(Pid, #{prev := Prev, label := Label} = Event, #{newest := Newest, row := Row} = Known, Unpaired) ->
+stamp_cause(Pid, #{prev := Prev, label := Label} = Event, #{newest := Newest} = Known, Unpaired) ->
     Sends = [Send || {Of, Send} <- maps:get({Pid, Prev}, Unpaired, []), Of =:= Label],
-    case {put_back(Event, Known), Sends} of
-        {[{_, Origin}], _} when Newest =/= none -> {restored, Origin};
-        {[{_, Origin} | _], _} -> {perhaps, Origin};
-        {[], [Send | _]} -> {unreported, Send};
-        {[], []} -> without_token(Event, Newest, Row, Known)
+    case {put_back(Event, Known), had_received(Event, Known), Sends} of
+        {[{_, Origin}], Earlier, _} when Newest =/= none, Earlier =:= [] orelse Earlier =:= [Origin] ->
+            {restored, Origin};
+        {[{_, Origin} | _], _, _} -> {perhaps, Origin};
+        {[], _, [Send | _]} -> {unreported, Send};
+        {[], [Earlier | _], []} -> {perhaps, Earlier};
+        {[], [], []} -> without_token(Event, Known)
     end.
 
-without_token(#{prev := Prev, label := Label}, none, {Other, Prev, _, _, _}, _) when Other =/= Label ->
+without_token(#{prev := Prev, label := Label}, #{newest := none, row := {Other, Prev, _, _, _}}) when Other =/= Label ->
     {relabelled, Label, none};
-without_token(#{prev := Prev, label := Label}, {_, Had, Id}, {Other, Prev, _, _, _}, _)
+without_token(#{prev := Prev, label := Label}, #{newest := {_, Had, Id}, row := {Other, Prev, _, _, _}})
   when Other =/= Label, Had =/= Label ->
     {relabelled, Label, {Id, Had}};
-without_token(#{prev := 0}, none, _Row, _Known) ->
+without_token(#{prev := 0}, #{newest := none}) ->
     start;
-without_token(#{prev := Prev, label := Label, this := This}, _Newest, _Row, #{prevs := Prevs, received := Received}) ->
-    %% What a message gave may be put back behind a stamp that wasn't reported.
-    case {Prevs, Received} of
-        {#{Prev := Count}, _} when Count < This -> {relabelled, Label, open};
-        {_, #{{Label, Prev} := Id}} -> {perhaps, Id};
-        {_, #{Prev := _}} -> {relabelled, Label, open};
+without_token(#{prev := Prev, label := Label, this := This}, #{prevs := Prevs, received := Received}) ->
+    case {Received, Prevs} of
+        {#{Prev := _}, _} -> {relabelled, Label, open};
+        {_, #{Prev := Count}} when Count < This -> {relabelled, Label, open};
         {_, _} -> open
     end.
+
+%% A receive that gave a token of this label with which this prev can be stamped, also behind a spawn. That token may be
+%% put back behind a stamp that wasn't reported.
+had_received(#{prev := Prev, label := Label}, #{received := Received}) ->
+    [Id || Count <- [Prev] ++ [(Prev - 15) div 16 || Prev rem 16 =:= 15],
+           #{{Label, Count} := Id} <- [Received]].
 
 %% @doc The rows by what they are called.
 -spec index([row()]) -> #{id() => row()}.

@@ -98,7 +98,8 @@ arrivals(Numbered) ->
     Guessed = [{Send, {{mark_lane(Row), Number}, unreported}}
                || {Number, #{shown := #{cause := {unreported, Send}}} = Row} <- lists:reverse(Numbered)],
     Received = [{Send, {{lane($R, Row), Number}, reported(Id)}}
-                || {Number, #{shown := #{id := Id, cause := {sent, Send}}} = Row} <- Numbered],
+                || {Number, #{shown := #{id := Id, cause := {How, Send}}} = Row} <- Numbered,
+                   How =:= sent orelse How =:= alike],
     maps:merge(maps:from_list(Guessed), maps:from_list(Received)).
 
 reported({sent_to, _}) -> unreported;
@@ -125,6 +126,7 @@ key(Rows, Arrivals) ->
 
 is_doubtful({received, {_, {_, _}}}) -> true;
 is_doubtful({perhaps, _}) -> true;
+is_doubtful({alike, _}) -> true;
 is_doubtful(open) -> true;
 is_doubtful({relabelled, _, open}) -> true;
 is_doubtful(Cause) -> is_guessed(Cause).

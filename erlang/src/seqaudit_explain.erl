@@ -11,13 +11,15 @@
 -define(LISTED, 20).
 %% Characters of a term in a sentence.
 -define(CHARACTERS, 80).
+%% What to do about a trace that is too large.
+-define(SMALLER, "audit each label by itself (--each-label), or cut it with --label, --process, --from and --to").
 
 %% @doc The outcome in one line.
 -spec headline(seqaudit_outcome:outcome(), seqaudit_legend:legend()) -> unicode:chardata().
-headline(#{said := Said, streams := Streams} = Outcome, _Legend) when Said =:= fits; Said =:= completed ->
+headline(#{said := Said, streams := Streams} = Outcome, Legend) when Said =:= fits; Said =:= completed ->
     [format("fits~ts: ~ts of ~ts", [by(Outcome), count(length(reported(Streams)), "event"),
                                     count(length(Streams) - length(unlisted(Outcome)), "process")]),
-     left_out(missing(Outcome), Outcome), $\n];
+     left_out(missing(Outcome, Legend), Outcome), $\n];
 headline(#{said := never, finding := {Reason, Found}}, Legend) ->
     format("doesn't fit: no run~ts reports this trace~ts (~ts)~n",
            [case seqaudit_reasons:allows_reset(Reason) of
@@ -27,8 +29,10 @@ headline(#{said := never, finding := {Reason, Found}}, Legend) ->
 headline(#{said := unexplained, finding := {Reason, Found}}, Legend) ->
     format("not explained: no run was found that reports this trace~ts (~ts)~n",
            [about("; the search ended at ", Found, Legend), Reason]);
-headline(#{said := fault, fault := Fault}, _Legend) ->
-    format("~ts: ~ts~n", [Fault, fault(Fault)]).
+headline(#{said := fault, fault := <<"fault ", _/binary>> = Fault}, _Legend) ->
+    format("not audited: ~ts~n", [fault(Fault)]);
+headline(#{said := fault, fault := Words}, _Legend) ->
+    format("not audited: the program said \"~ts\"; does it know `audit'?~n", [Words]).
 
 by(#{unproved := true}) -> " (by programs without proofs)";
 by(#{}) -> "".
@@ -57,10 +61,10 @@ what_waits(#{cut := true}) -> "Messages without a receive here: ";
 what_waits(#{}) -> "Messages without a reported receive: ".
 
 %% The unreported events, how many there are of each kind, and the events whose cause isn't known.
-missing(#{said := Said, streams := Streams} = Outcome) ->
+missing(#{said := Said, streams := Streams} = Outcome, Legend) ->
     Rows = seqaudit_causes:rows(Streams),
     #{hidden := Hidden, unreceived := Unreceived, silent := Silent, jumps := Jumps} = Gaps =
-        seqaudit_gaps:find(Rows, Streams),
+        seqaudit_gaps:find(Rows, Streams, Legend),
     Strangers = maps:from_keys(unlisted(Outcome), unlisted),
     Sends = [Row || #{actor := Actor} = Row <- Hidden, not is_map_key(Actor, Strangers)],
     Added = [Row || Said =:= completed, #{hidden := false, id := {_, {_, _}}} = Row <- Rows],
@@ -85,18 +89,19 @@ kinds(Rows, Unreceived, Silent) ->
 is_open(open) -> true;
 is_open({relabelled, _, open}) -> true;
 is_open({perhaps, _}) -> true;
+is_open({alike, _}) -> true;
 is_open(_) -> false.
 
-%% What is known to be gone, by a cut or from the collectors' facts, was left out though no event tells of it. So was a
-%% receive that nobody reported, or it is still to come.
+%% What is missing. By a cut or the collectors' facts something may be known to be gone of which no event tells. A stamp
+%% that nobody reported, as its flag was off, needn't be seen: a receive may have raised the counter over it.
 left_out(#{events := [], kinds := Kinds, leaps := 0, behind := Behind, waiting := [], open := []} = Missing, Outcome) ->
     case {Outcome, [Kind || {Count, _} = Kind <- Kinds, Count > 0]} of
         {#{streams := []}, _} -> "";
         {#{}, []} when Behind =/= [] ->
             ["; ", count(length(Behind), "process"), " may have sent or printed something unreported before the first "
              "send or print here"];
-        {#{cut := Cut, lost := Lost}, []} when Cut; Lost -> "; nothing is missing between them";
-        {#{}, []} -> "; nothing was left out";
+        {#{cut := Cut, lost := Lost}, []} when Cut; Lost -> "; nothing else is known to be missing";
+        {#{}, []} -> "; nothing is known to be missing";
         _ -> what_is_left_out(Missing, Outcome)
     end;
 left_out(Missing, Outcome) ->
@@ -148,7 +153,7 @@ outcome(Outcome, Losses, Legend) ->
 
 details(#{said := Said} = Outcome, Legend) when Said =:= fits; Said =:= completed ->
     #{events := Events, silent := Silent, before := Before, spawns := Spawns, jumps := Jumps, waiting := Waiting,
-      open := Open, put_back := PutBack} = missing(Outcome),
+      open := Open, put_back := PutBack} = missing(Outcome, Legend),
     [[what_is_missing(Outcome) || Events =/= []],
      [["  ", missing_event(Event, Legend), $\n] || Event <- lists:sublist(Events, ?LISTED)],
      [["  and ", number(length(Events) - ?LISTED), " more\n"] || length(Events) > ?LISTED],
@@ -168,6 +173,8 @@ details(#{said := Said} = Outcome, Legend) when Said =:= fits; Said =:= complete
      [["When OTP answers a spawn, it moves the counter of the process that asked for it: ",
        often(Spawns, Legend), ".\n"] || Spawns =/= []],
      renumbered(Outcome)];
+details(#{said := fault, fault := <<"fault too ", _/binary>>, tool := not_there}, _Legend) ->
+    ["seqtool takes larger traces, but ", no_tool()];
 details(#{said := fault}, _Legend) ->
     "";
 details(#{finding := {Reason, Found}} = Outcome, Legend) ->
@@ -203,10 +210,12 @@ exchanged(#{}) ->
 tool(there) ->
     "";
 tool(not_there) ->
-    "seqtool would say what the trace lacks, but it isn't there: `make program' builds it (`make rust' "
-    "as plain Rust, not proved), and the variable SEQTOOL says where it is.\n";
+    ["seqtool would say what the trace lacks, but ", no_tool()];
 tool({failed, Fault}) ->
-    format("seqtool can't say what the trace lacks: ~ts~n", [Fault]).
+    format("seqtool can't say what the trace lacks: ~ts~n", [fault(Fault)]).
+
+no_tool() ->
+    format("it isn't there: ~ts, and the variable SEQTOOL says where it is.~n", [seqaudit_program:how_built()]).
 
 renumbered(#{renumbered := true}) ->
     "The counts were renumbered for the audit, which doesn't change the answer; the serials shown here "
@@ -325,11 +334,12 @@ whole(#{streams := Streams, answer := Answer}, Legend) ->
 
 format(Format, Values) -> io_lib:format(Format, Values).
 
+%% A refusal of a program in words. Its line numbers are those of a file that nobody sees.
 fault(<<"fault too large">>) ->
-    "the trace has more than 67,108,864 bytes; cut it with --label, --process, --from and --to";
+    "the trace has more bytes than the program takes; " ?SMALLER;
 fault(<<"fault too many ", _/binary>>) ->
-    "the trace has more than 1,024 processes or 1,000,000 events; cut it with --label, "
-    "--process, --from and --to";
+    "the trace has more processes or events than the program takes; " ?SMALLER;
 fault(<<"fault memory">>) -> "the program ran out of memory; trace for a shorter time, or cut the trace";
 fault(<<"fault device">>) -> "the trace couldn't be read, or the answer couldn't be written";
-fault(_) -> "this isn't a bundle as `seqaudit-node convert' writes it; convert the events again".
+fault(<<"fault ", _/binary>>) -> "this isn't a bundle as `seqaudit-node convert' writes it; convert the events again";
+fault(Other) -> Other.

@@ -50,14 +50,15 @@ mermaid(Rows, #{legend := Legend}) ->
 
 %% The sends whose receives are among the rows.
 received(Rows) ->
-    maps:from_keys([Send || #{cause := {sent, Send}} <- Rows], received).
+    maps:from_keys([Send || #{cause := {How, Send}} <- Rows, How =:= sent orelse How =:= alike], received).
 
 %% A message has one arrow, at its receive; one that nobody is known to have received ends in a cross.
 arrow(#{event := #{kind := print, from := From}} = Row, Lanes, _Received, Legend) ->
     ["Note over ", maps:get(From, Lanes), ": prints ", message(Row, Legend), $\n];
-arrow(#{event := #{kind := 'receive', from := From, to := To}, cause := {sent, Send}} = Row, Lanes, _Received,
+arrow(#{event := #{kind := 'receive', from := From, to := To}, cause := {How, Send}} = Row, Lanes, _Received,
       Legend) ->
-    Arrow = case is_reported(Row) andalso is_reported(#{id => Send}) of true -> "->>"; false -> "-->>" end,
+    IsPlain = How =:= sent andalso is_reported(Row) andalso is_reported(#{id => Send}),
+    Arrow = case IsPlain of true -> "->>"; false -> "-->>" end,
     [maps:get(From, Lanes), Arrow, maps:get(To, Lanes), ": ", message(Row, Legend), $\n];
 arrow(#{id := Id, event := #{from := From, to := To}} = Row, Lanes, Received, Legend) ->
     case is_map_key(Id, Received) of

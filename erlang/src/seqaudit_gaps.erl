@@ -1,7 +1,7 @@
 %% @doc What streams leave out, as far as counts tell.
 -module(seqaudit_gaps).
 
--export([find/2]).
+-export([find/3]).
 -export_type([gaps/0]).
 
 -type counted() :: [{seqaudit_bundle:pid_text(), pos_integer()}].
@@ -24,13 +24,14 @@
 %% <dt>`jumps'</dt><dd>how often a counter was higher than any reported event shows</dd>
 %% </dl>
 
-%% @doc What they leave out; unreported events in the streams count as theirs.
--spec find([seqaudit_causes:row()], seqaudit_bundle:streams()) -> gaps().
-find(Rows, Streams) ->
+%% @doc What they leave out; unreported events in the streams count as theirs. The legend tells the answers of spawns
+%% from other messages.
+-spec find([seqaudit_causes:row()], seqaudit_bundle:streams(), seqaudit_legend:legend()) -> gaps().
+find(Rows, Streams, Legend) ->
     Index = seqaudit_causes:index(Rows),
-    Received = maps:from_keys([Send || #{cause := {How, Send}} <- Rows, How =:= sent orelse How =:= unreported],
+    Received = maps:from_keys([Send || #{cause := {How, Send}} <- Rows, lists:member(How, [sent, alike, unreported])],
                               received),
-    Counted = [{Pid, counters(Pid, Events, Index)} || {Pid, Events} <- Streams],
+    Counted = [{Pid, counters(Pid, Events, Index, Legend)} || {Pid, Events} <- Streams],
     #{hidden => [Row || #{hidden := true} = Row <- Rows],
       unreceived => [{Row, maps:get(Send, Index)}
                      || #{cause := {unreported, Send}} = Row
@@ -52,24 +53,27 @@ firsts(Rows) ->
 counted(What, Counted) ->
     [{Pid, Count} || {Pid, #{What := Count}} <- Counted, Count > 0].
 
-%% `answers' are the counts received since the last stamp, of which one may be a spawn's answer.
-counters(Pid, Events, Index) ->
+%% `received' are the counts and messages received since the last stamp, of which one may be a spawn's answer.
+counters(Pid, Events, Index, Legend) ->
     lists:foldl(fun(#{at := At} = Event, Known) ->
                         #{cause := Cause} = maps:get({Pid, At}, Index),
-                        counter(Event, Cause, Known)
-                end, #{clock => 0, stamped => false, answers => [],
+                        counter(Event, Cause, Known, Legend)
+                end, #{clock => 0, stamped => false, received => [],
                        before => 0, behind => 0, spawns => 0, silent => 0, jumps => 0}, Events).
 
-counter(#{kind := 'receive', this := This}, _Cause, #{clock := Clock, answers := Answers} = Known) ->
-    Known#{clock := max(Clock, This), answers := [This | Answers]};
-counter(#{prev := Prev, this := This}, Cause, #{clock := Reported, answers := Answers} = Known) ->
+counter(#{kind := 'receive', this := This, value := Value}, _Cause, Known, _Legend) ->
+    #{clock := Clock, received := Received} = Known,
+    Known#{clock := max(Clock, This), received := [{This, Value} | Received]};
+counter(#{prev := Prev, this := This}, Cause, #{clock := Reported, received := Received} = Known, Legend) ->
     Clock = case Cause of
                 {unreported, _} -> max(Reported, Prev);
                 _ -> Reported
             end,
-    Spawned = lists:any(fun(Count) -> 16 * Count + 15 =:= This - 1 end, Answers),
+    Spawned = lists:any(fun({Count, Value}) ->
+                                16 * Count + 15 =:= This - 1 andalso seqaudit_legend:is_spawned(Value, Legend)
+                        end, Received),
     Counted = gap(This - 1, Clock, Prev, Spawned, Known),
-    Counted#{clock := max(Clock, This), stamped := true, answers := []}.
+    Counted#{clock := max(Clock, This), stamped := true, received := []}.
 
 gap(Stood, Clock, _Prev, _Spawned, Known) when Stood =< Clock ->
     Known;

@@ -5,7 +5,7 @@
 %% the text of a bundle and in what `seqaudit' writes.
 -module(seqaudit_legend).
 
--export([text/4, read/1, unlisted/2, is_unlisted/2, process/2, about/2, label/2, value/2, brief/2]).
+-export([text/4, read/1, unlisted/2, is_unlisted/2, process/2, about/2, label/2, value/2, brief/2, is_spawned/2]).
 -export([find_label/2, format_error/1]).
 -export_type([legend/0]).
 
@@ -16,13 +16,14 @@
 %% Messages of gen_server: a call, a cast, and the replies to an alias and to a reference; and those
 %% by which OTP spawns a process. What is captured replaces its number.
 -define(TAG, "(?:\\[alias\\|#Ref<[0-9.]*>\\]|#Ref<[0-9.]*>)").
+-define(SPAWNED, "^\\{spawn_reply,#Ref<[0-9.]*>,ok,(.*)\\}$").
 -define(BRIEF, [{"^\\{'\\$gen_call',\\{[^,]*," ?TAG "\\},(.*)\\}$", ["call ", 1]},
                 {"^\\{'\\$gen_cast',(.*)\\}$", ["cast ", 1]},
                 {"^\\{spawn_request,#Ref<[0-9.]*>,[^,]*,[^,]*,\\{([^,{}]*),([^,{}]*),([0-9]+)\\},"
                  "\\[[a-z_,]*\\],[a-z_]*,(.*)\\}$", ["spawn ", 1, ":", 2, "/", 3, " ", 4]},
                 {"^\\{spawn_request,#Ref<[0-9.]*>,[^,]*,[^,]*,\\{([^,{}]*),([^,{}]*),([0-9]+)\\}",
                  ["spawn ", 1, ":", 2, "/", 3]},
-                {"^\\{spawn_reply,#Ref<[0-9.]*>,ok,(.*)\\}$", ["spawned ", 1]},
+                {?SPAWNED, ["spawned ", 1]},
                 {"^\\{" ?TAG ",(.*)\\}$", ["reply ", 1]}]).
 
 -opaque legend() :: #{{process | about | unlisted | label | value, binary()} => binary(), style => binary()}.
@@ -133,6 +134,11 @@ brief_text(Text, [{Pattern, Parts} | Patterns], Legend) ->
         nomatch ->
             brief_text(Text, Patterns, Legend)
     end.
+
+%% @doc Whether a value is the message by which OTP answers a spawn.
+-spec is_spawned(binary(), legend()) -> boolean().
+is_spawned(Number, Legend) ->
+    re:run(erlang_value(Number, Legend), ?SPAWNED, [{capture, none}]) =:= match.
 
 %% @doc The number of the label that is printed so, or is the term that this text spells, or has
 %% this number.

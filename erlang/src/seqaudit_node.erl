@@ -80,8 +80,8 @@ commands() ->
 %% The commands on a collected trace are in a module of their own.
 answer(Command, Options) ->
     Unproved = seqaudit_program:unproved(),
-    [complain("~ts: ~ts; `make program' builds what is proved",
-              [What, lists:join(" and ", [File || {Is, File} <- Unproved, Is =:= What])])
+    [complain("~ts: ~ts; ~ts",
+              [What, lists:join(" and ", [File || {Is, File} <- Unproved, Is =:= What]), seqaudit_program:how_proved()])
      || What <- lists:usort([What || {What, _} <- Unproved])],
     case Command(Options) of
         {usage, Text} -> {usage, Text};

@@ -10,10 +10,10 @@
 
 -import(seqaudit_errors, [text/2]).
 
-%% The limits of the program's reader.
--define(MOST_BYTES, 67_108_864).
--define(MOST_PROCESSES, 1_024).
--define(MOST_EVENTS, 1_000_000).
+%% The limits of `seqtool audit', which are greater than those of `seqaudit'.
+-define(MOST_BYTES, 1_073_741_824).
+-define(MOST_PROCESSES, 16_000).
+-define(MOST_EVENTS, 16_000_000).
 %% This many entries of one kind are listed; `NAME.terms' has them all.
 -define(LISTED, 50).
 %% Reasons come from files, so little of them is shown.
@@ -248,8 +248,9 @@ thing(nameless) -> "event";
 thing(_) -> "send".
 
 limits(Sizes) ->
-    [text("seqaudit won't take this bundle: it has ~b ~ts, and the reader takes ~b; audit a part of it "
-          "(--label, --process), or trace for a shorter time", [count(Kind, Sizes), Kind, Most])
+    [text("the programs don't take this bundle as a whole: it has ~ts ~ts, and `seqtool audit' takes ~ts; audit "
+          "each label by itself (--each-label), or a part of it (--label, --process)",
+          [seqaudit_explain:number(count(Kind, Sizes)), Kind, seqaudit_explain:number(Most)])
      || {Kind, Most} <- [{bytes, ?MOST_BYTES}, {processes, ?MOST_PROCESSES},
                          {events, ?MOST_EVENTS}],
         count(Kind, Sizes) > Most].

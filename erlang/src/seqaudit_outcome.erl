@@ -3,7 +3,9 @@
 %% The counters of a node go on from trace to trace, so the counts are first replaced by their ranks
 %% (`seqtool renumber'): that changes no answer, and no count is too high any more. A `seqtool' that
 %% doesn't know that command leaves them as they are. What `seqaudit audit' doesn't explain, `seqtool
-%% complete' completes, or says that no run without a reset has it.
+%% complete' completes, or says that no run without a reset has it. What is past
+%% the limits of `seqaudit' goes to `seqtool audit', whose limits are greater; what is past those of `seqtool
+%% renumber' too is audited with the node's own counts.
 %%
 %% If processes put tokens back, the counts are first those that the machine would have given
 %% ({@link seqaudit_exchange}): the prevs alone if that is enough, else all of them.
@@ -27,6 +29,7 @@
           asked => seqaudit_bundle:streams(),
           unlisted := [seqaudit_bundle:pid_text()],
           unproved := boolean(),
+          large => boolean(),
           cut => boolean(),
           lost => boolean()}.
 %% What is said:
@@ -42,7 +45,8 @@
 %% whether `seqtool' was there and did what it was asked, `cut' whether the streams are what a cut left of
 %% others, and `lost' whether the collectors lost events. `exchanged' says which counts were exchanged for
 %% those that the machine would have given (`asked' has the streams with them), `unlisted' which processes
-%% of `streams' the trace doesn't list, and `unproved' whether what said it has no proofs.
+%% of `streams' the trace doesn't list, `unproved' whether what said it has no proofs, and `large' whether
+%% the streams are past the limits of `seqaudit'.
 
 -define(FITS, 0).
 -define(UNFIT, 1).
@@ -130,10 +134,22 @@ audit(Ranks, File, Outcome) ->
             complete(Ranks, File, Report, Outcome);
         {{ok, {?UNFIT, Report}}, _} ->
             {ok, unfit(Report, Outcome)};
+        {{ok, {_, <<"fault too ", _/binary>> = Fault}}, #{tool := Tool}} when Tool =/= not_there ->
+            audit_large(Ranks, File, Fault, Outcome#{large => true});
         {{ok, {_, Fault}}, _} ->
             {ok, fault(Fault, Outcome)};
         {{error, Reason}, _} ->
             {error, Reason}
+    end.
+
+%% `Fault' is what `seqaudit' said.
+audit_large(Ranks, File, Fault, Outcome) ->
+    case seqaudit_program:ask_if_known("seqtool", ["audit"], Ranks) of
+        {ok, {?FITS, Answer}} -> {ok, Outcome#{said => fits, answer := Answer}};
+        {ok, {?UNFIT, Report}} -> complete(Ranks, File, Report, Outcome);
+        {ok, {_, Greater}} -> {ok, fault(Greater, Outcome)};
+        unknown -> {ok, fault(Fault, Outcome)};
+        {error, Reason} -> {error, Reason}
     end.
 
 %% What seqaudit says alone.

@@ -228,6 +228,7 @@ plain(#{hidden := false, id := {_, At}}) when is_integer(At) -> $1;
 plain(_) -> $0.
 
 how(#{cause := {sent, _}}) -> $s;
+how(#{cause := {alike, _}}) -> $a;
 how(#{cause := {received, _}}) -> $r;
 how(#{cause := {spawned, _}}) -> $w;
 how(#{cause := {unreported, _}}) -> $u;

@@ -145,7 +145,7 @@ cut(Files, _Period) ->
 part(File, Which) -> filename:rootname(File) ++ "." ++ Which ++ ".events".
 
 outcome(_Period, 0, How, Later) ->
-    {ok, fits, ["nothing came", [["; ", One] || One <- tl(How)]], Later};
+    {ok, fits, ["nothing came", tl(How)], Later};
 outcome(Period, _Events, How, Later) ->
     {ok, Legend} = seqaudit_legend:read(Period ++ ".terms"),
     {ok, Streams} = seqaudit_bundle:read(Period ++ ".seqtrace"),
@@ -155,8 +155,10 @@ outcome(Period, _Events, How, Later) ->
     {ok, Verdict, [Line, Losses, "; ", How], Later}.
 
 said({ok, #{said := fault, fault := <<"fault too ", _/binary>>}}, Streams, _IsLost, _Legend) ->
-    {Verdict, Line} = each_label(Streams),
-    {Verdict, [count(Streams), ", too many for the programs at once; ", Line]};
+    too_many(Streams);
+%% Neither renumbered nor completed.
+said({ok, #{said := unexplained, large := true}}, Streams, _IsLost, _Legend) ->
+    too_many(Streams);
 said({ok, Outcome}, _Streams, IsLost, Legend) ->
     Said = Outcome#{cut => true, lost => IsLost},
     {verdict(Said), string:trim(unicode:characters_to_list(seqaudit_explain:headline(Said, Legend)))};
@@ -166,6 +168,10 @@ said({error, Reason}, Streams, _IsLost, _Legend) ->
 count(Streams) -> seqaudit_explain:count(seqaudit_bundle:events(Streams), "event").
 
 %% A period that is too large as a whole may fit label by label.
+too_many(Streams) ->
+    {Verdict, Line} = each_label(Streams),
+    {Verdict, [count(Streams), ", too many for the programs at once; ", Line]}.
+
 each_label(Streams) ->
     Labels = seqaudit_each:by_label(Streams),
     Counts = seqaudit_workers:fold([fun() -> seqaudit_outcome:ask(Own) end || {_, Own} <- Labels],

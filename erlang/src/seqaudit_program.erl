@@ -1,7 +1,8 @@
 %% @doc Runs the programs `seqaudit' and `seqtool'.
 -module(seqaudit_program).
 
--export([ask/2, ask/3, ask_if_known/3, find/0, find/1, unproved/0, lacks_proofs/0, run/3, with_text/2, format_error/1]).
+-export([ask/2, ask/3, ask_if_known/3, find/0, find/1, unproved/0, lacks_proofs/0, how_built/0, how_proved/0, run/3, with_text/2,
+         format_error/1]).
 
 -import(seqaudit_errors, [text/2]).
 
@@ -12,6 +13,8 @@
 -define(UNPROVED, [{"rust", "plain Rust, not proved"}, {"quick", "built without proofs"}]).
 %% The exit status of a program that doesn't understand the words.
 -define(USAGE, 3).
+%% The status of a no; above it a program couldn't do what it was asked to, and seqtool says why on standard error.
+-define(NO, 1).
 
 %% @equiv ask("seqaudit", Words, Input)
 -spec ask([string()], file:filename()) ->
@@ -28,6 +31,7 @@ ask(Name, Words, Input) ->
         {error, Reason} -> {error, Reason}
     end.
 
+answered(Program, {ok, {Status, <<>>}}) when Status > ?NO -> {error, {failed, Program, Status}};
 answered(Program, {ok, {_, <<>>}}) -> {error, {empty, Program}};
 answered(_Program, Answer) -> Answer.
 
@@ -56,7 +60,7 @@ find() ->
 -spec find(string()) -> {ok, file:filename()} | {error, {no_program, string(), [file:filename()]}
                                                        | {missing, string(), file:filename()}}.
 find(Name) ->
-    Home = filename:dirname(filename:dirname(filename:absname(code:which(?MODULE)))),
+    Home = home(),
     Bin = filename:join(filename:dirname(Home), "bin"),
     Unproved = [filename:join(Bin, Folder) || {Folder, _} <- ?UNPROVED],
     Beside = [filename:join(Folder, Name) || Folder <- [Home, Bin | Unproved]],
@@ -68,16 +72,56 @@ find(Name) ->
         [] -> {error, {no_program, Name, Beside}}
     end.
 
+%% The folder of this application.
+home() ->
+    filename:dirname(filename:dirname(filename:absname(code:which(?MODULE)))).
+
+%% The folder that `make dist' packed, if this application lies in one: it has the plain Rust, and nothing that is proved.
+packed() ->
+    Top = filename:dirname(home()),
+    case filelib:is_regular(filename:join([Top, "workspace", "Cargo.toml"])) of
+        true -> {ok, Top};
+        false -> none
+    end.
+
+%% @doc How to build a program.
+-spec how_built() -> string().
+how_built() ->
+    case packed() of
+        {ok, Top} -> text("`make -C ~ts' builds it as plain Rust, not proved", [Top]);
+        none -> "in the repository `make program' builds it (`make rust' as plain Rust, not proved)"
+    end.
+
+%% @doc How to come by the proved programs.
+-spec how_proved() -> string().
+how_proved() ->
+    case packed() of
+        {ok, _} -> "the proofs are in the repository, and not in this archive";
+        none -> "`make program' builds what is proved"
+    end.
+
 %% @doc The programs that are asked and aren't proved, with what they are instead.
 -spec unproved() -> [{string(), file:filename()}].
 unproved() ->
     [{What, File} || {Name, File} <- asked(), {Folder, What} <- ?UNPROVED,
-                     lists:suffix(["bin", Folder, Name], filename:split(File))].
+                     lists:suffix(["bin", Folder, Name], filename:split(linked(filename:absname(File))))].
+
+%% The file that a link of this name leads to, without the dots in its name.
+linked(File) ->
+    case file:read_link_all(File) of
+        {ok, Target} -> linked(filename:absname(Target, filename:dirname(File)));
+        {error, _} -> filename:join(lists:foldl(fun below/2, [], filename:split(File)))
+    end.
+
+below(".", Path) -> Path;
+below("..", Path) -> lists:droplast(Path);
+below(Name, Path) -> Path ++ [Name].
 
 %% @doc Whether a program that is asked isn't proved: one of these, or a slow model in Python.
 -spec lacks_proofs() -> boolean().
 lacks_proofs() ->
-    unproved() =/= [] orelse lists:any(fun({_, File}) -> filename:extension(File) =:= ".py" end, asked()).
+    unproved() =/= [] orelse
+        lists:any(fun({_, File}) -> filename:extension(linked(filename:absname(File))) =:= ".py" end, asked()).
 
 asked() ->
     [{Name, File} || Name <- ["seqaudit", "seqtool"], {ok, File} <- [find(Name)]].
@@ -137,6 +181,8 @@ format_error({ended, Program, Signal}) ->
          [Program, Signal, case Signal of 9 -> ", perhaps because memory ran out"; _ -> "" end]);
 format_error({not_run, Program}) ->
     text("~ts can't be run; is it a program for this machine, and may you run it?", [Program]);
+format_error({failed, Program, Status}) ->
+    text("~ts ended with status ~b and wrote nothing; by itself it says why", [Program, Status]);
 format_error({empty, Program}) ->
     text("~ts wrote nothing; is it seqaudit?", [Program]);
 format_error({cut, Program}) ->
@@ -144,8 +190,7 @@ format_error({cut, Program}) ->
 format_error({missing, Name, Program}) ->
     text("there is no ~ts, which the variable ~ts names", [Program, string:uppercase(Name)]);
 format_error({no_program, Name, Beside}) ->
-    text("there is no ~ts on the path, nor at ~ts; `make rust' in the repository builds it as plain Rust, and "
-         "`make program' proved; or say where it is in the variable ~ts",
-         [Name, lists:join(" or ", Beside), string:uppercase(Name)]);
+    text("there is no ~ts on the path, nor at ~ts; ~ts; or say where it is in the variable ~ts",
+         [Name, lists:join(" or ", Beside), how_built(), string:uppercase(Name)]);
 format_error({file, File, Reason}) ->
     seqaudit_errors:unread(File, Reason).

@@ -15,6 +15,13 @@
 %% So often the moment is moved before a message that is under way.
 -define(MOVES, 1_000).
 
+%% What a collection has behind the moment: the entry that begins it, what is known of its node and its processes, and
+%% its events, the last first.
+-record(later, {collection :: iodata(),
+                facts = #{} :: #{binary() => seqaudit_external:encoded()},
+                processes = #{} :: #{seqaudit_external:encoded() => seqaudit_external:encoded()},
+                events = [] :: [binary()]}).
+
 %% @doc Writes the events before the moment and those behind it, each with what is known of the node. `none' if there is
 %% no such moment; then nothing is written.
 -spec cut([file:filename()], [file:filename()], [file:filename()]) -> ok | none | {error, term()}.
@@ -103,15 +110,16 @@ is_before({Number, Place}, Ends) -> Place < element(Number, Ends).
 
 end_at({Number, Place}, Ends) -> setelement(Number, Ends, Place).
 
-%% What is known of the collection as a whole, as how many bytes came, goes with the first part; what processes are
-%% called, and the clock of their node, with both.
+%% What is known of the collection as a whole, as how many bytes came, goes with the first part; the clock of its node,
+%% and what the processes are called that the part names, with both. So what is left of one period to the next doesn't
+%% grow.
 split(File, Count, Before, Behind) ->
     Open = fun(Name) -> seqaudit_events:open(filename:rootname(Name)) end,
     case {file:read_file(File), Open(Before), Open(Behind)} of
         {{ok, Bytes}, {ok, First}, {ok, Second}} ->
             [_, Entries] = binary:split(Bytes, <<"\n">>),
             {Former, Later} = entries(Entries, Count, [], []),
-            _ = {ok, ok} = {seqaudit_events:append(First, Former), seqaudit_events:append(Second, Later)},
+            _ = {ok, ok} = {seqaudit_events:append(First, Former), seqaudit_events:append(Second, later(Later, []))},
             case {seqaudit_events:close(First), seqaudit_events:close(Second)} of
                 {ok, ok} -> ok;
                 {{error, Reason}, _} -> {error, {file, Before, Reason}};
@@ -122,28 +130,53 @@ split(File, Count, Before, Behind) ->
         {_, _, {error, Reason}} -> {error, Reason}
     end.
 
-entries(<<?EVENT, Size:32, Event:Size/binary, Rest/binary>>, 0, Former, Later) ->
-    entries(Rest, 0, Former, [[<<?EVENT, Size:32>>, Event] | Later]);
+%% The entries before the moment as they are, and what is behind it of each collection, the last first.
+entries(<<?EVENT, Size:32, Event:Size/binary, Rest/binary>>, 0, Former, [#later{events = Events} = Last | Later]) ->
+    entries(Rest, 0, Former, [Last#later{events = [Event | Events]} | Later]);
 entries(<<?EVENT, Size:32, Event:Size/binary, Rest/binary>>, Count, Former, Later) ->
     entries(Rest, Count - 1, [[<<?EVENT, Size:32>>, Event] | Former], Later);
 entries(<<?COLLECTION, Size:32, Facts:Size/binary, Rest/binary>>, Count, Former, Later) ->
     Entry = [<<?COLLECTION, Size:32>>, Facts],
-    entries(Rest, Count, [Entry | Former], [Entry | Later]);
-entries(<<?FACTS, Size:32, Facts:Size/binary, Rest/binary>>, Count, Former, Later) ->
-    entries(Rest, Count, [[<<?FACTS, Size:32>>, Facts] | Former], [lasting(Facts) | Later]);
+    entries(Rest, Count, [Entry | Former], [#later{collection = Entry} | Later]);
+entries(<<?FACTS, Size:32, Facts:Size/binary, Rest/binary>>, Count, Former, [Last | Later]) ->
+    entries(Rest, Count, [[<<?FACTS, Size:32>>, Facts] | Former], [learned(Facts, Last) | Later]);
 entries(Rest, _Count, Former, Later) ->
-    {lists:reverse([Rest | Former]), lists:reverse(Later)}.
+    {lists:reverse([Rest | Former]), Later}.
 
 %% They stay bytes: this Erlang needn't have the atoms in them.
-lasting(Bytes) ->
+learned(Bytes, #later{facts = Facts, processes = Processes} = Later) ->
     case seqaudit_external:read(Bytes) of
-        {ok, Term} -> lasting_pairs(seqaudit_external:pairs(Term));
-        error -> []
+        {ok, Term} ->
+            Pairs = case seqaudit_external:pairs(Term) of other -> #{}; Known -> Known end,
+            New = seqaudit_external:map(maps:get(<<"processes">>, Pairs, <<>>)),
+            Later#later{facts = maps:merge(Facts, maps:with([<<"node">>, <<"clock">>, <<"collector">>], Pairs)),
+                        processes = maps:merge(Processes, maps:from_list(New))};
+        error ->
+            Later
     end.
 
-lasting_pairs(other) -> [];
-lasting_pairs(Pairs) ->
-    Kept = maps:to_list(maps:with([<<"node">>, <<"clock">>, <<"collector">>, <<"processes">>], Pairs)),
-    Term = iolist_to_binary([<<131, 116, (length(Kept)):32>>
-                             | [[seqaudit_external:atom(Key), Value] || {Key, Value} <- Kept]]),
-    [<<?FACTS, (byte_size(Term)):32>>, Term].
+%% The collections that have events behind the moment, and the last one, which goes on.
+later([], Done) -> Done;
+later([#later{events = []} | Others], [_ | _] = Done) -> later(Others, Done);
+later([#later{collection = Collection, facts = Facts, processes = Processes, events = Events} | Others], Done) ->
+    Named = maps:from_keys(lists:append([parties(Event) || Event <- Events]), []),
+    Own = maps:to_list(maps:filter(fun(Pid, _) -> is_map_key(seqaudit_external:view(Pid), Named) end, Processes)),
+    Kept = [{seqaudit_external:atom(Key), Value} || {Key, Value} <- maps:to_list(Facts)]
+        ++ [{seqaudit_external:atom(<<"processes">>), map(Own)}],
+    Term = <<131, (map(Kept))/binary>>,
+    later(Others, [Collection, <<?FACTS, (byte_size(Term)):32>>, Term,
+                   [[<<?EVENT, (byte_size(Event)):32>>, Event] || Event <- lists:reverse(Events)] | Done]).
+
+map(Pairs) ->
+    iolist_to_binary([<<116, (length(Pairs)):32>> | [[Key, Value] || {Key, Value} <- Pairs]]).
+
+%% Who sent and who received it.
+parties(Bytes) ->
+    try
+        {ok, Event} = seqaudit_external:read(Bytes),
+        [_, _, Info | _] = seqaudit_external:tuple(Event),
+        [_, _, From, To | _] = seqaudit_external:tuple(Info),
+        [seqaudit_external:view(Party) || Party <- [From, To]]
+    catch
+        error:{badmatch, _} -> []
+    end.

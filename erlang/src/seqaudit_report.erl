@@ -31,7 +31,7 @@ outcome(#{said := Said, streams := Streams, unlisted := Unlisted} = Outcome, Leg
 missing(Streams, Legend) ->
     Rows = seqaudit_causes:rows(Streams),
     #{waiting := Waiting, unreceived := Unreceived, silent := Silent, jumps := Jumps, behind := Behind} =
-        seqaudit_gaps:find(Rows, Streams),
+        seqaudit_gaps:find(Rows, Streams, Legend),
     #{unreported => [#{event => utf8(seqaudit_why:name(Id, Legend)),
                        what => utf8(seqaudit_explain:sentence(Row, Legend))}
                      || #{id := Id, hidden := Hidden} = Row <- Rows, Hidden orelse is_added(Id)],

@@ -63,18 +63,20 @@ each(Places, Spelled, Packed, Do, Out) ->
 event(_Event, <<?PACKED(_K, _L, _P, _T, _F, _O, _V, ?NO_TIME)>>, _First, _Sends) ->
     [];
 event({Spelled, I}, <<?PACKED(Kind, Label, Prev, This, From, _To, Value, Time)>>, First, Sends) ->
-    _ = Kind =:= ?SEND andalso
-        ets:insert(Sends, {{Label, Prev, This, From, Value}, Spelled, I, Time}),
+    Message = {Label, Prev, This, From, Value},
+    %% Of messages that are alike nobody knows here which receive is whose.
+    _ = Kind =:= ?SEND andalso not ets:insert_new(Sends, {Message, Spelled, I, Time})
+        andalso ets:update_element(Sends, Message, {4, unknown}),
     [<<"event ">>, Spelled, $\s, integer_to_binary(I), $\s, integer_to_binary(Time - First), $\n].
 
 message(_Event, <<?PACKED(_K, _L, _P, _T, _F, _O, _V, ?NO_TIME)>>, _Sends) ->
     [];
 message({Spelled, J}, <<?PACKED(?RECEIVE, Label, Prev, This, From, _To, Value, Time)>>, Sends) ->
-    case ets:lookup(Sends, {Label, Prev, This, From, Value}) of
-        [{_, Sender, I, Sent}] ->
+    case ets:take(Sends, {Label, Prev, This, From, Value}) of
+        [{_, Sender, I, Sent}] when is_integer(Sent) ->
             [<<"message ">>, Sender, $\s, integer_to_binary(I), $\s, Spelled, $\s,
              integer_to_binary(J), $\s, integer_to_binary(Time - Sent), $\n];
-        [] -> []
+        _ -> []
     end;
 message(_Event, _Record, _Sends) ->
     [].

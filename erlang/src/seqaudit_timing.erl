@@ -113,7 +113,8 @@ since(#{after_cause := Time}) -> seqaudit_times:span(Time).
 
 does(#{row := #{id := Id, event := Event} = Row, is := Is}, Legend) ->
     [case Row of
-         #{cause := {How, _}} when Is =/= first, How =:= perhaps orelse How =:= unreported -> "perhaps ";
+         #{cause := {How, _}} when Is =/= first, How =:= perhaps orelse How =:= unreported orelse How =:= alike ->
+             "perhaps ";
          #{} -> ""
      end,
      case Is of under_way -> "under way to "; waited -> "until "; first -> "from " end,

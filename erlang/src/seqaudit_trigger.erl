@@ -66,7 +66,7 @@ pull(Trigger) ->
     Calls = maps:get(calls, Trigger, infinity),
     Functions = [{Function, specification(Clauses, Trigger, Calls)} || {Function, Clauses} <- functions(Trigger)],
     _ = [code:ensure_loaded(Module) || {{Module, _, _}, _} <- Functions],
-    HasSessions = erlang:function_exported(trace, session_create, 3),
+    HasSessions = has_sessions(),
     Others = [Reason || not HasSessions, Reason <- in_use([Function || {Function, _} <- Functions])],
     case Others ++ word_in_use(Calls) of
         [] ->
@@ -76,6 +76,10 @@ pull(Trigger) ->
         [Reason | _] ->
             {error, {trigger, Reason}}
     end.
+
+%% A node that loads modules when they are called may not have loaded this one.
+has_sessions() ->
+    code:ensure_loaded(trace) =:= {module, trace} andalso erlang:function_exported(trace, session_create, 3).
 
 session(true, Tracer) -> apply(trace, session_create, [seqaudit, Tracer, []]);
 session(false, _Tracer) -> default.

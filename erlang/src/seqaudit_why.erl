@@ -31,6 +31,7 @@ time(Id, Times) ->
 by({spawned, _}) -> "(OTP moved the counter when it answered a spawn) ";
 by({restored, _}) -> "(a token was put back here) ";
 by({perhaps, _}) -> "(perhaps: a token may have been put back here) ";
+by({alike, _}) -> "(perhaps: another message is like it) ";
 by({unreported, _}) -> "(perhaps: its receive wasn't reported) ";
 by({received, {_, {_, _}}}) -> "(perhaps: it wasn't reported) ";
 by({_, {sent_to, _}}) -> "(it wasn't reported) ";
@@ -38,9 +39,14 @@ by({_, {_, {_, _}}}) -> "(it wasn't reported) ";
 by(_) -> "".
 
 %% What is said of a send's or print's cause goes by its counts.
-is_of_counts(#{cause := {sent, _}}) -> false;
+is_of_counts(#{cause := {How, _}}) when How =:= sent; How =:= alike -> false;
 is_of_counts(#{cause := unseen}) -> false;
 is_of_counts(_) -> true.
+
+%% Whether another event may be its cause.
+is_perhaps(#{cause := {How, _}}) when How =:= perhaps; How =:= alike; How =:= unreported -> true;
+is_perhaps(#{cause := {received, {_, {_, _}}}}) -> true;
+is_perhaps(_) -> false.
 
 ending(#{cause := {_, _}}, _Legend) ->
     "There the chain runs into itself: these events don't fit.\n";
@@ -57,8 +63,9 @@ effects(Place, Rows, Legend, Times) ->
         [] ->
             [name(Place, Legend), " caused nothing that was reported.\n"];
         Effects ->
-            [io_lib:format("~ts caused ~ts, here in an order in which they may have happened:~n",
-                           [name(Place, Legend), seqaudit_explain:count(length(Effects), "event")]),
+            [io_lib:format("~ts caused~ts ~ts, here in an order in which they may have happened:~n",
+                           [name(Place, Legend), [", or perhaps caused," || lists:any(fun is_perhaps/1, Effects)],
+                            seqaudit_explain:count(length(Effects), "event")]),
              [["  ", name(Id, Legend), ": ", seqaudit_explain:sentence(Row, Legend), time(Id, Times),
                ", ", cause(Cause, Legend), $\n]
               || #{id := Id, cause := Cause} = Row <- lists:sublist(Effects, ?LISTED)],
@@ -74,6 +81,7 @@ name({Pid, At}, Legend) -> seqaudit_bundle:name(Pid, At, Legend).
 %% @doc What a row follows, in a few words.
 -spec cause(seqaudit_causes:cause(), seqaudit_legend:legend()) -> unicode:chardata().
 cause({sent, {sent_to, _}}, _Legend) -> "its send wasn't reported";
+cause({alike, Id}, Legend) -> ["perhaps after ", name(Id, Legend), ", or after another message like it"];
 cause({spawned, Id}, Legend) -> ["after ", name(Id, Legend), ", a spawn's answer"];
 cause({restored, Id}, Legend) -> ["after ", name(Id, Legend), ", whose token was put back"];
 cause({perhaps, Id}, Legend) -> ["perhaps after ", name(Id, Legend), ", whose token was put back"];

@@ -5,8 +5,8 @@
 
 Runs are made from the number FIRST on until they have so many sends and prints. Of each event `why` is asked, and its
 first line judged: no sentence may be false in a run in which the premises hold that it names. If a program is given, it
-must also write what the slow model writes. At the end it prints how often each sentence was said, and if premises failed
-what was true then."""
+must also write what the slow model writes, for people and as JSON, back and forth, by place and by line. At the end it
+prints how often each sentence was said, and if premises failed what was true then."""
 
 import random
 import re
@@ -136,15 +136,15 @@ def judged(run, place, sentence):
         sent = run.place_of.get(truth[1])
         if sentence == slow_why.UNSENT:
             return sent is None, sentence
-        return sent is not None and sentence == f"after {model.show(sent[0])} {sent[1]}", "after its send"
+        return sent is not None and sentence == f"after {slow_why.located(run.streams, sent)}", "after its send"
     if sentence == slow_why.BEGINS:
         return truth is None or begins, sentence
     if sentence == slow_why.BEGINS_OR_UNREPORTED:
         return begins or is_unreported, sentence
-    if found := re.fullmatch(r"after <0\.(\d+)\.0> (\d+) (\(1\)|\(1, 2\))", sentence):
+    if found := re.fullmatch(r"after <0\.(\d+)\.0> (\d+), line \d+ (\(1\)|\(1, 2\))", sentence):
         return follows == ((0, int(found[1])), int(found[2])), f"after .. {found[3]}"
-    found = re.fullmatch(r"begins label (\d+) here, or set it on its token; it had last received <0\.(\d+)\.0> (\d+) of "
-                         r"label (\d+) \(1\)", sentence)
+    found = re.fullmatch(r"begins label (\d+) here, or set it on its token; it had last received <0\.(\d+)\.0> (\d+), line "
+                         r"\d+ of label (\d+) \(1\)", sentence)
     received = (0, int(found[2])), int(found[3])
     is_told = int(found[1]) == events[i].label and int(found[4]) == events[received[1]].label
     return is_told and (follows == received or begins and truth[1] > received[1]), "begins label .. (1)"
@@ -152,7 +152,7 @@ def judged(run, place, sentence):
 
 def sentence_of(line):
     """The words behind the place, the kind, the serial and the value."""
-    return re.fullmatch(r"<\S+ \d+  \w+ +\{\d+,\d+\} \d+ (.*)", line)[1]
+    return re.fullmatch(r"<\S+ \d+, line \d+  \w+ +\{\d+,\d+\} \d+ (.*)", line)[1]
 
 
 def judge(run, place, lines, counted):
@@ -166,10 +166,17 @@ def judge(run, place, lines, counted):
 def ask(program, run, place):
     """What the program writes of an event; what it says must be the model's."""
     (pid, i), bundle = place, "".join(line + "\n" for line in model.write(run.streams, None))
-    done = subprocess.run([program, "why", model.show(pid), str(i)], input=bundle, capture_output=True, text=True, check=False)
-    lines = slow_why.why(run.streams, place, model.TOP, False)
-    assert (done.stdout.splitlines(), done.returncode) == (lines, 0), (place, bundle, done, lines)
-    return lines
+    is_tree, is_json, across = (run.chosen.random() < share for share in (0.3, 0.3, 0.3))
+    most = run.chosen.choice([model.TOP, run.chosen.randrange(4)])
+    named = run.chosen.choice([[model.show(pid), str(i)], ["--line", str(slow_why.line_of(run.streams, place))]])
+    flags = *["--effects"][:is_tree], *["--json"][:is_json], *["--label"][:across]
+    for options in ((), (*flags, "--depth", str(most))):
+        words = [program, "why", *named, *options]
+        done = subprocess.run(words, input=bundle, capture_output=True, text=True, check=False)
+        asked = (most, across, is_tree, is_json) if options else (model.TOP, False)
+        lines = slow_why.why(run.streams, place, *asked)
+        assert (done.stdout.splitlines(), done.returncode) == (lines, 0), (place, options, bundle, done, lines)
+    return slow_why.why(run.streams, place, model.TOP, False)
 
 
 def places_of(run, program):

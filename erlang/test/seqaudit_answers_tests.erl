@@ -219,10 +219,13 @@ files(Name) ->
                     io_lib:format("{seq_trace,~b,{print,{~b,~b},<0.~b.0>,[],0}}~n", [Label, This - 1, This, Pid])
             end,
     Many = lists:seq(100, 1_300),
-    ok = file:write_file(Name ++ ".seqtrace", ["seqtrace 1\n", [["process <0.", integer_to_list(Pid), ".0>\n", Print(Pid rem 600, 1, Pid)]
-                                                               || Pid <- Many]]),
+    ok = file:write_file(Name ++ ".seqtrace", printed(Many, Print)),
     ok = file:write_file(Name ++ ".terms", ["seqaudit terms 1\n", [io_lib:format("label\t~b\tl~b\n", [N, N]) || N <- lists:seq(0, 599)]]),
-    has(command(["audit"], Name, Tool), ["fault too many", "cut it with --label", "(status 2)"]),
+    has(command(["audit"], Name, "/no/such/seqtool"),
+        ["not audited: the trace has more processes or events than the program takes; ", "cut it with --label",
+         "\nseqtool takes larger traces, but it isn't there", "(status 2)"]),
+    [large(Name, Greater, Many, Print) || Greater <- greater()],
+    ok = file:write_file(Name ++ ".seqtrace", printed(Many, Print)),
     has(command(["audit", "--label", "l7", "--label", "l8"], Name, Tool), ["cut: 4 of 1,201 events; the cut leaves nothing open\nfits: 4 events of 4 processes"]),
     has(command(["chart", "--label", "l7"], Name, Tool), ["cut: 2 of 1,201 events", "fits: 2 events of 2 processes", "<0.607.0>#0"]),
     %% One corner is damaged: an event that follows itself. The rest is answered.
@@ -246,6 +249,30 @@ files(Name) ->
         ["the chart has 2001 rows, and a drawing takes 2000; use the page (--html FILE)", "(status 2)"]),
     has(command(["chart", "--html", Name ++ ".html"], Name, Tool), ["fits: 2,001 events of 1 process", "(status 0)"]),
     has(command(["chart", "--html", "/no/such/folder/x.html"], Name, Tool), ["/no/such/folder/x.html can't be written", "(status 4)"]).
+
+printed(Many, Print) ->
+    ["seqtrace 1\n", [["process <0.", integer_to_list(Pid), ".0>\n", Print(Pid rem 600, 1, Pid)] || Pid <- Many]].
+
+%% The built seqtool, if it has `audit', which takes more than seqaudit does.
+greater() ->
+    [Program || {ok, Program} <- [seqaudit_program:find("seqtool")], seqaudit_audits:has(Program, "audit")].
+
+%% What is beyond the limits of seqaudit is audited whole, and what seqtool doesn't complete there is said in words.
+large(Name, Tool, Many, Print) ->
+    has(command(["audit"], Name, Tool), ["fits: 1,201 events of 1,201 processes; nothing is known to be missing\n", "(status 0)"]),
+    has(command(["chart", "--html", Name ++ ".html"], Name, Tool), ["fits: 1,201 events of 1,201 processes", "(status 0)"]),
+    ok = file:write_file(Name ++ ".seqtrace", [printed(Many, Print), Print(8, 1, 1_300)]),
+    has(command(["audit"], Name, Tool), ["doesn't fit: no run without a reset reports this trace, because of <0.1300.0>#1 (notrising)",
+                                         "\npart 2: fits: 1 event", "(status 1)"]),
+    %% A seqtool that renumbers and completes less than it audits.
+    ok = file:write_file(Name ++ ".sh", ["#!/bin/sh\ncase $1 in audit) exec ", Tool, " audit ;; esac\n"
+                                         "cat >/dev/null; echo fault too many 2051; exit 2\n"]),
+    ok = file:change_mode(Name ++ ".sh", 8#755),
+    ok = file:write_file(Name ++ ".seqtrace", [printed(Many, Print), Print(8, 5_000, 1_300)]),
+    has(command(["audit"], Name, Name ++ ".sh"),
+        ["not explained: no run was found that reports this trace; the search ended at <0.1300.0>#1 (toowide)",
+         "seqtool can't say what the trace lacks: the trace has more processes or events than the program takes; audit each",
+         "(status 1)"]).
 
 has(Text, Parts) ->
     [] = [{Part, Text} || Part <- Parts, binary:match(Text, unicode:characters_to_binary(Part)) =:= nomatch].

@@ -54,7 +54,7 @@ audited([], _File) ->
 audited([Program | _], File) ->
     {_, Said} = seqaudit_test_shell:run([seqaudit_test_shell:node_command(), " audit ", File],
                                         [{"SEQAUDIT", Program}, {"SEQTOOL", "/no/such/seqtool"}]),
-    nomatch = binary:match(Said, <<"nothing was left out">>),
+    nomatch = binary:match(Said, <<"nothing is known to be missing">>),
     {_, _} = binary:match(Said, <<"The trace isn't whole:\n">>),
     {_, _} = binary:match(Said, <<"so the tracer was off ">>).
 

@@ -3,7 +3,7 @@
 -module(seqaudit_causes_tests).
 
 -export([as_the_charts_test_/0, spawned_test/0, unreported_test/0, beginnings_test/0, labels_test/0, put_back_test/0,
-         resets_test/0, no_tokens_test_/0, hidden_reset_test/0, no_reset_test/0, completed_test_/0]).
+         alike_test/0, resets_test/0, no_tokens_test_/0, hidden_reset_test/0, no_reset_test/0, completed_test_/0]).
 
 streams(Text) ->
     {ok, Streams} = seqaudit_bundle:parse(iolist_to_binary(Text)),
@@ -85,13 +85,33 @@ beginnings_test() ->
 
 %% The causes of what one process stamps, and receives from another one.
 causes(Events) ->
-    Text = fun({print, Label, Prev, This}) -> io_lib:format("{seq_trace,~b,{print,{~b,~b},<0.1.0>,[],0}}~n", [Label, Prev, This]);
+    Text = fun({print, Label, Prev, This}) ->
+                   io_lib:format("{seq_trace,~b,{print,{~b,~b},<0.1.0>,[],0}}~n", [Label, Prev, This]);
               ({'receive', Label, Prev, This}) ->
                    io_lib:format("{seq_trace,~b,{'receive',{~b,~b},<0.2.0>,<0.1.0>,0}}~n", [Label, Prev, This])
            end,
-    Rows = seqaudit_causes:rows(streams(["seqtrace 1\nprocess <0.1.0>\n", lists:map(Text, Events), "process <0.2.0>\n"])),
+    Rows = seqaudit_causes:rows(streams(["seqtrace 1\nprocess <0.1.0>\n", lists:map(Text, Events),
+                                         "process <0.2.0>\n"])),
     Causes = maps:from_list([{At, Cause} || #{id := {<<"<0.1.0>">>, At}, cause := Cause} <- Rows]),
     [maps:get(At, Causes) || {At, {print, _, _, _}} <- lists:enumerate(0, Events)].
+
+%% Messages that are alike are received in the order in which they were sent. If a send or a receive of one wasn't
+%% reported, it isn't known whose a receive is.
+alike_test() ->
+    [[{sent, {sent_to, {r, 0}}}, {sent, {sent_to, {r, 1}}}], [{sent, {s, 0}}, {sent, {s, 1}}],
+     [{alike, {s, 0}}, {alike, {s, 0}}], [{alike, {s, 0}}]] =
+        [alike(Sends, Receives) || {Sends, Receives} <- [{0, 2}, {2, 2}, {1, 2}, {2, 1}]].
+
+alike(Sends, Receives) ->
+    [S, R] = [<<"<0.1.0>">>, <<"<0.2.0>">>],
+    Event = fun(Kind) -> io_lib:format("{seq_trace,1,{~p,{0,1},~ts,~ts,0}}~n", [Kind, S, R]) end,
+    Rows = seqaudit_causes:rows(streams(["seqtrace 1\nprocess ", S, "\n", [Event(send) || _ <- lists:seq(1, Sends)],
+                                         "process ", R, "\n", [Event('receive') || _ <- lists:seq(1, Receives)]])),
+    Short = fun Short({sent_to, Id}) -> {sent_to, Short(Id)};
+                Short({Pid, At}) -> {case Pid of S -> s; R -> r end, At}
+            end,
+    [{How, Short(Id)} || {_, {How, Id}} <- lists:sort([{At, Cause} || #{id := {_, At}, event := #{kind := 'receive'},
+                                                                          hidden := false, cause := Cause} <- Rows])].
 
 %% A chain stops where the label changes.
 labels_test() ->
@@ -99,7 +119,8 @@ labels_test() ->
         causes([{'receive', 7, 2, 3}, {print, 7, 3, 4}, {print, 8, 3, 5}]),
     [start, {relabelled, <<"8">>, none}] = causes([{print, 7, 0, 1}, {print, 8, 0, 2}]).
 
-%% A token that was put back has the prev of a message that was received before, or of an event that was stamped with it.
+%% A token that was put back has the prev of a message that was received before, or of an event that was stamped with
+%% it.
 put_back_test() ->
     P = <<"<0.1.0>">>,
     [{restored, {P, 0}}, {restored, {P, 0}}] = causes([{'receive', 7, 2, 3}, {print, 7, 2, 4}, {print, 7, 2, 5}]),
@@ -112,6 +133,9 @@ put_back_test() ->
         causes([{'receive', 7, 0, 3}, {'receive', 7, 0, 9}, {print, 7, 0, 4}, {print, 7, 0, 10}]),
     %% Perhaps a token was put back behind a send that wasn't reported; it may have got another label too.
     [{perhaps, {P, 0}}] = causes([{'receive', 7, 2, 8}, {'receive', 7, 9, 10}, {print, 7, 8, 11}]),
+    [{perhaps, {P, 0}}] = causes([{'receive', 7, 2, 8}, {'receive', 5, 1, 8}, {print, 7, 8, 11}]),
+    [{perhaps, {P, 1}}] = causes([{'receive', 5, 1, 2}, {'receive', 7, 0, 1}, {'receive', 7, 3, 4}, {print, 7, 1, 4}]),
+    [{perhaps, {P, 0}}] = causes([{'receive', 7, 6, 7}, {'receive', 7, 130, 131}, {print, 7, 127, 131}]),
     [{relabelled, <<"6">>, open}] = causes([{'receive', 7, 2, 8}, {'receive', 7, 9, 10}, {print, 6, 8, 11}]).
 
 %% Where all is reported, the parts begin exactly where the reset stood, for each process for which
@@ -122,7 +146,8 @@ resets_test() ->
                  Before = run([all, all]),
                  After = run([all, all]),
                  Both = streams(text([{Pid, Events ++ proplists:get_value(Pid, After)} || {Pid, Events} <- Before])),
-                 right(seqaudit_parts:split(Both), maps:from_list([{bin(Pid), length(Events)} || {Pid, Events} <- Before]))
+                 right(seqaudit_parts:split(Both),
+                       maps:from_list([{bin(Pid), length(Events)} || {Pid, Events} <- Before]))
              end || _ <- lists:seq(1, 300)],
     %% Where the clocks of the first run stayed low, the second may go on from it as well.
     Exact = length([exact || exact <- Found]),
@@ -237,7 +262,8 @@ act(Pid, Which, World, Flags) ->
 
 stamp(#{clock := Clock, last := Last, token := Label, lines := Lines} = One, Pid, Kind, To, Flags) ->
     Value = erlang:unique_integer([positive]) rem 1_000_000,
-    Line = io_lib:format("{seq_trace,~b,{~ts,{~b,~b},~ts,~ts,~b}}~n", [Label, Kind, Last, Clock + 1, pid(Pid), To, Value]),
+    Line = io_lib:format("{seq_trace,~b,{~ts,{~b,~b},~ts,~ts,~b}}~n",
+                         [Label, Kind, Last, Clock + 1, pid(Pid), To, Value]),
     Told = case Flags =:= all orelse rand:uniform(4) > 1 of
                true -> [Line | Lines];
                false -> Lines
@@ -245,7 +271,8 @@ stamp(#{clock := Clock, last := Last, token := Label, lines := Lines} = One, Pid
     {{Pid, Label, Last, Clock + 1, Value}, One#{clock := Clock + 1, lines := Told}}.
 
 taken({From, Label, Prev, This, Value}, #{clock := Clock, lines := Lines} = One, Pid) ->
-    Line = io_lib:format("{seq_trace,~b,{'receive',{~b,~b},~ts,~ts,~b}}~n", [Label, Prev, This, pid(From), pid(Pid), Value]),
+    Line = io_lib:format("{seq_trace,~b,{'receive',{~b,~b},~ts,~ts,~b}}~n",
+                         [Label, Prev, This, pid(From), pid(Pid), Value]),
     One#{clock := max(Clock, This), last := This, token := Label, lines := [Line | Lines]}.
 
 text(Streams) ->

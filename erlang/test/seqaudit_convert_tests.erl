@@ -152,9 +152,13 @@ counts_test() ->
 
 %% What the program's reader won't take is said.
 limits_test() ->
-    Events = [{seq_trace, 1, {print, {0, 1}, pid('a@h', N, 0), [], x}} || N <- lists:seq(1, 1025)],
-    #{processes := 1025, notes := [Note]} = convert(Events),
-    true = has(Note, "it has 1025 processes, and the reader takes 1024").
+    Facts = fun(Processes) ->
+                    seqaudit_notes:facts(#{collections => [], counts => #{}, listed => [], labels => []},
+                                         #{events => 1, processes => Processes})
+            end,
+    [] = Facts(16_000),
+    [{limits, Note}] = Facts(16_001),
+    true = has(Note, "it has 16,001 processes, and `seqtool audit' takes 16,000").
 
 %% A node has 65,536 numbers; events of processes beyond are left out and counted.
 too_many_test_() ->

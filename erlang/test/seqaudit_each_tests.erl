@@ -29,8 +29,9 @@ each_label(Program) ->
     {0, _} = command(["convert ", Name, ".txt -o ", Name], []),
     Variables = [{"SEQAUDIT", Program}, {"SEQTOOL", "/no/such/seqtool"}],
     {1, Said} = command(["audit ", Name, " --each-label"], Variables),
-    [{_, _} = binary:match(Said, iolist_to_binary(io_lib:format("{request,~b}: fits: 2 events of 2 processes; nothing is missing "
-                                                                 "between them\n", [N]))) || N <- lists:seq(1, 20)],
+    [{_, _} = binary:match(Said, iolist_to_binary(io_lib:format("{request,~b}: fits: 2 events of 2 processes; nothing "
+                                                                "else is known to be missing\n", [N])))
+     || N <- lists:seq(1, 20)],
     {match, _} = re:run(Said, "\ntorn: doesn't fit: .*\n21 labels: 20 fit, 1 don't\n$"),
     {0, Some} = command(["audit ", Name, " --each-label --label '{request,3}' --label '{request,4}'"], Variables),
     {match, _} = re:run(Some, "\n2 labels: 2 fit\n$"),
@@ -62,7 +63,7 @@ refused_test_() ->
              {_, _} = binary:match(Said, Sentence),
              {_, _} = binary:match(Said, <<"\n2 labels: 0 fit, 2 couldn't be audited\n">>)
          end || {Status, Script, Sentence} <-
-                    [{2, "echo fault too many processes\nexit 2\n", <<"{request,1}: fault too many processes: the trace has more than">>},
+                    [{2, "echo fault too many processes\nexit 2\n", <<"{request,1}: not audited: the trace has more processes or events than">>},
                      {4, "kill -9 $$\n", <<".sh (signal 9), perhaps because memory ran out\n{request,2}: ">>}]]
     end}.
 

@@ -83,10 +83,24 @@ closed_output_test_() ->
              {ok, <<>>} = file:read_file(filename:join(Folder, "errors")),
              false = filelib:is_regular(filename:join(Folder, "erl_crash.dump"))
          end || Words <- ["--help", ["convert ", Capture, " -o x"]]],
+        Charting = [Program || Program <- seqaudit_audits:programs(), seqaudit_audits:has(Program, "chart")],
+        [closed_chart(Folder, Program) || Program <- lists:sublist(Charting, 1)],
         %% So it is if nobody reads its errors.
         {0, <<>>} = run(["cd ", Folder, "; { ", node_command(), " frobnicate 2>&1; echo $? >status; } | true"]),
         {ok, <<"141\n">>} = file:read_file(filename:join(Folder, "status"))
     end}.
+
+%% A chart in parts, as behind a reset, is printed part by part.
+closed_chart(Folder, Program) ->
+    ok = file:write_file(filename:join(Folder, "parts.txt"),
+                         [io_lib:format("{seq_trace,7,{print,{~b,~b},<0.80.0>,[],secret}}.~n", [This - 1, This])
+                          || This <- lists:seq(1, 200) ++ lists:seq(1, 200)]),
+    {0, <<"label 7\n">>} =
+        run(["cd ", Folder, "; ", node_command(), " convert parts.txt -o parts >log && { ", node_command(),
+             " chart parts --label 7 2>errors; echo $? >status; } | grep -m 1 '^label'"],
+            [{"SEQAUDIT", Program}, {"SEQTOOL", "/no/such/seqtool"}]),
+    {ok, <<"141\n">>} = file:read_file(filename:join(Folder, "status")),
+    false = filelib:is_regular(filename:join(Folder, "erl_crash.dump")).
 
 %% What was collected is written though nobody reads what the command says, and nothing is left on the node.
 closed_collect_test_() ->

@@ -1,7 +1,8 @@
 %% Answers and charts with names and terms in the place of numbers.
 -module(seqaudit_explain_tests).
 
--export([whole_test/0, acts_test/0, reported_acts_test_/0, fits_test/0, many_test/0, unreceived_test/0, completed_test/0, labels_test/0, places_test/0, reasons_test/0, no_tool_test/0, faults_test/0,
+-export([whole_test/0, acts_test/0, reported_acts_test_/0, fits_test/0, many_test/0, unreceived_test/0,
+         completed_test/0, labels_test/0, places_test/0, reasons_test/0, no_tool_test/0, faults_test/0,
          losses_test/0, chart_test/0, drawing_test/0, dashed_test/0, drawing_is_safe_test/0, large_drawing_test_/0,
          too_large_drawing_test/0, brief_test/0, legend_test/0]).
 
@@ -11,7 +12,8 @@ legend() ->
         [{"<0.30.0>", "alice", "process <0.30.0> of node a@h, registered as alice"},
          {"<0.31.0>", "bob & <co>", "process <0.31.0> of node a@h"}],
         [{17, 17}, {1_000_000, {order, 7}}],
-        [{5, {'$gen_call', {x, [alias | make_ref()]}, {get, "5 < 6"}}}, {6, {ok, six}}, {7, start}], #{})),
+        [{5, {'$gen_call', {x, [alias | make_ref()]}, {get, "5 < 6"}}}, {6, {ok, six}}, {7, start},
+         {8, {spawn_reply, make_ref(), ok, self()}}], #{})),
     {ok, Legend} = seqaudit_legend:read(File),
     Legend.
 
@@ -47,7 +49,8 @@ acts_test() ->
             "print <0.30.0> 7", "set <0.30.0> send true", "send <0.30.0> <0.31.0> 6", "set <0.30.0> receive true",
             "set <0.30.0> label 1000000", "send <0.30.0> <0.31.0> 7", "set <0.30.0> send false",
             "set <0.30.0> receive false", "send <0.30.0> <0.31.0> 0",
-            "receive <0.31.0> value 7", "printat <0.31.0> 1000000 7", "printat <0.31.0> 17 7", "receive <0.31.0> place 1",
+            "receive <0.31.0> value 7", "printat <0.31.0> 1000000 7", "printat <0.31.0> 17 7",
+            "receive <0.31.0> place 1",
             "receive <0.31.0> first", "set <0.31.0> print false", "print <0.31.0> 7", "receive <0.31.0> from <0.30.0>",
             "look <0.31.0>", "send <0.30.0> <0.31.0> 6", "reset <0.30.0>", "print <0.30.0> 7",
             "receive <0.31.0> both <0.30.0> 6", "set <0.31.0> print true", "print <0.31.0> 7", "clear <0.31.0>",
@@ -62,7 +65,8 @@ acts_test() ->
             "bob & <co> would print with label 17, and has another one",
             "bob & <co> receives an unknown message from alice, which wasn't reported",
             "bob & <co> receives {ok,six} from alice, which wasn't reported", "bob & <co> takes off the flag print",
-            "bob & <co>'s clock moves, as by something that wasn't reported", "bob & <co> finds no such message in its queue",
+            "bob & <co>'s clock moves, as by something that wasn't reported",
+            "bob & <co> finds no such message in its queue",
             "bob & <co> looks at its token", "alice sends an unknown message to bob & <co>, which wasn't reported",
             "all tokens and counters of alice's node are reset", "alice prints without a token, which does nothing",
             "bob & <co> receives an unknown message from alice, which wasn't reported",
@@ -75,8 +79,8 @@ acts_test() ->
     [] = [{Act, One, Other} || {Act, One, Other} <- lists:zip3(Acts, Explained, Lines), One =/= Other],
     "" = seqaudit_acts:explain(<<"added 0\n">>, legend()).
 
-%% The acts that the programs write for a trace report just its events, by what is said of them; also if its receives, or
-%% its sends, are gone.
+%% The acts that the programs write for a trace report just its events, by what is said of them; also if its receives,
+%% or its sends, are gone.
 reported_acts_test_() ->
     {timeout, 120, fun() ->
         case {seqaudit_program:find("seqaudit"), seqaudit_program:find("seqtool")} of
@@ -103,7 +107,7 @@ reported_acts(Capture, Gone) ->
 
 %% What a fits says of hidden sends, of counters that stood high, of silent stamps and of spawns.
 fits_test() ->
-    <<"fits: 2 events of 2 processes; nothing was left out\n">> =
+    <<"fits: 2 events of 2 processes; nothing is known to be missing\n">> =
         said(outcome(fits, streams("seqtrace 1\nprocess <0.30.0>\n"
                                    "{seq_trace,17,{send,{0,1},<0.30.0>,<0.31.0>,7}}\nprocess <0.31.0>\n"
                                    "{seq_trace,17,{'receive',{0,1},<0.30.0>,<0.31.0>,7}}\n"))),
@@ -111,13 +115,14 @@ fits_test() ->
     Higher = streams("seqtrace 1\nprocess <0.30.0>\n{seq_trace,17,{'receive',{0,1},<0.31.0>,<0.30.0>,7}}\n"
                      "{seq_trace,17,{print,{1,3},<0.30.0>,[],7}}\nprocess <0.31.0>\n"
                      "{seq_trace,17,{send,{0,1},<0.31.0>,<0.30.0>,7}}\n"),
-    has(said(outcome(fits, Higher)), ["fits: 3 events of 2 processes; 1 process may have sent or printed something unreported "
+    has(said(outcome(fits, Higher)), ["fits: 3 events of 2 processes; 1 process may have sent or printed something "
+                                      "unreported "
                                       "before the first send or print here\n", "the counter of alice stood at 2.\n"]),
     %% Nothing says so of a trace that was cut, or of which something was lost, or that has no events.
     Print = streams("seqtrace 1\nprocess <0.30.0>\n{seq_trace,17,{print,{0,1},<0.30.0>,[],7}}\n"),
-    [<<"fits: 1 event of 1 process; nothing is missing between them\n">> =
+    [<<"fits: 1 event of 1 process; nothing else is known to be missing\n">> =
          said((outcome(fits, Print))#{cut => Cut, lost => Lost}) || {Cut, Lost} <- [{true, false}, {false, true}]],
-    <<"fits: 1 event of 1 process; nothing was left out\n">> =
+    <<"fits: 1 event of 1 process; nothing is known to be missing\n">> =
         said((outcome(fits, Print))#{cut => false, lost => false}),
     <<"fits: 0 events of 0 processes\n">> = said(outcome(fits, [])),
     %% Nor of one with messages that nobody is known to have received.
@@ -140,19 +145,22 @@ fits_test() ->
            "{seq_trace,17,{print,{4999,5000},<0.30.0>,[],7}}\n"
            "{seq_trace,17,{print,{4999,5003},<0.30.0>,[],7}}\n"
            "{seq_trace,17,{print,{6000,6001},<0.30.0>,[],7}}\nprocess <0.31.0>\n"
-           "{seq_trace,17,{'receive',{0,3},<0.30.0>,<0.31.0>,6}}\n"
+           "{seq_trace,17,{'receive',{0,3},<0.30.0>,<0.31.0>,8}}\n"
            "{seq_trace,17,{send,{63,64},<0.31.0>,<0.30.0>,7}}\n",
     has(said((outcome(fits, streams(Gaps)))#{renumbered := true}),
-        ["fits: 5 events of 2 processes, with 1 send and 2 prints or sends that nobody reported, 1 jump of a counter; the cause of 3 events isn't known",
+        ["fits: 5 events of 2 processes, with 1 send and 2 prints or sends that nobody reported, 1 jump of a counter; "
+         "the cause of 3 events isn't known",
          "A counter jumps if it stands higher than anything reported explains: that of alice once.",
          "What nobody reported:\n",
-         "  alice sends {ok,six} to bob & <co>, serial {0,3}, label 17, received as bob & <co>#0\n",
+         "  alice sends spawned ",
+         "to bob & <co>, serial {0,3}, label 17, received as bob & <co>#0\n",
          "sends whose receives weren't reported either: 2 of alice.\n",
          "Before the first send or print here, the counter of alice stood at 4,999.\n",
          "it moves the counter of the process that asked for it: that of bob & <co> once.\n",
          "the serials shown here are the node's own"]),
     has(said((outcome(fits, streams(Gaps)))#{cut => true}),
-        ["with 1 send and 2 prints or sends that nobody reported or that the cut took away, ", "What nobody reported, or what the cut took away:\n"]).
+        ["with 1 send and 2 prints or sends that nobody reported or that the cut took away, ",
+         "What nobody reported, or what the cut took away:\n"]).
 
 %% Of many processes the first are named, and so are the places of a reset.
 many_test() ->
@@ -161,10 +169,12 @@ many_test() ->
                streams(["seqtrace 1\n", [["process ", pid(K), $\n, Print(pid(K), From)] || K <- lists:seq(1, 50)]])
            end,
     has(said(outcome(fits, Many(9))), [", that of <0.120.0> at 8, and so of 30 more processes.\n"]),
-    Sends = [io_lib:format("{seq_trace,17,{send,{0,~b},<0.30.0>,<0.30.0>,7}}~n", [This]) || This <- lists:seq(1, 1_025)],
+    Sends = [io_lib:format("{seq_trace,17,{send,{0,~b},<0.30.0>,<0.30.0>,7}}~n", [This])
+             || This <- lists:seq(1, 1_025)],
     has(said(outcome(fits, streams(["seqtrace 1\nprocess <0.30.0>\n", Sends]))),
         ["fits: 1,025 events of 1 process; 1,025 messages have no reported receive, and may still wait\n",
-         "Messages without a reported receive: alice#0 to alice, alice#1 to alice, ", ", alice#19 to alice, and 1,005 more.\n"]),
+         "Messages without a reported receive: alice#0 to alice, alice#1 to alice, ",
+         ", alice#19 to alice, and 1,005 more.\n"]),
     Numbered = [{Pid, [Event#{at := 1} || Event <- Events]} || {Pid, Events} <- Many(1)],
     has(unicode:characters_to_binary(seqaudit_explain:reset_places([Many(1), Numbered], legend())),
         ["between <0.101.0>#0 and <0.101.0>#1, ", ", and so of 30 more processes.\n"]),
@@ -177,7 +187,8 @@ many_test() ->
 
 %% A receive that nobody reported is told with its message, as what is received in it is known.
 unreceived_test() ->
-    has(said(outcome(completed, streams("seqtrace 1\nprocess <0.30.0>\n{seq_trace,17,{send,{0,1},<0.30.0>,<0.31.0>,6}}\n"
+    has(said(outcome(completed, streams("seqtrace 1\nprocess <0.30.0>\n"
+                                        "{seq_trace,17,{send,{0,1},<0.30.0>,<0.31.0>,6}}\n"
                                         "process <0.31.0>\n{seq_trace,17,{print,{1,2},<0.31.0>,[],7}}\n"))),
         ["  bob & <co> receives {ok,six} from alice, serial {0,1}, label 17, before bob & <co>#0\n"]).
 
@@ -215,12 +226,15 @@ labels_test() ->
     Receive = fun(Label, From, Value) ->
                       ["{seq_trace,", Label, ",{'receive',{0,1},", From, ",<0.32.0>,", Value, "}}\n"]
               end,
-    Streams = streams(["seqtrace 1\n", Sends, Print("9", "{0,3}"), Print("2", "{1,4}"), Print("9", "{0,5}"), Print("1", "{1,6}")]),
+    Prints = [Print(Label, Serial)
+              || {Label, Serial} <- [{"9", "{0,3}"}, {"2", "{1,4}"}, {"9", "{0,5}"}, {"1", "{1,6}"}]],
+    Streams = streams(["seqtrace 1\n", Sends, Prints]),
     All = streams(["seqtrace 1\n", Sends, Print("9", "{0,3}"), Receive("1", "<0.30.0>", "5"), Print("2", "{1,4}"),
                    Print("9", "{0,5}"), Receive("2", "<0.31.0>", "6"), Print("1", "{1,6}")]),
     {_, Events} = lists:last(seqaudit_bundle:complete(Streams, {All, [{<<"<0.32.0>">>, 1}, {<<"<0.32.0>">>, 4}]})),
     [{<<"2">>, <<"<0.31.0>">>, <<"6">>, {1, 1}}, {<<"1">>, <<"<0.30.0>">>, <<"5">>, {3, 1}}] =
-        [{Label, From, Value, At} || #{kind := 'receive', label := Label, from := From, value := Value, at := At} <- Events].
+        [{Label, From, Value, At}
+         || #{kind := 'receive', label := Label, from := From, value := Value, at := At} <- Events].
 
 %% An unreported send stands behind the receive that it follows, if one is there before the next stamp.
 places_test() ->
@@ -255,8 +269,9 @@ no_tool_test() ->
 
 faults_test() ->
     has(said((outcome(fault, []))#{fault => <<"fault too large">>}),
-        ["fault too large: the trace has more than 67,108,864 bytes; cut it"]),
-    has(said((outcome(fault, []))#{fault => <<"fault line 3">>}), ["fault line 3: this isn't a bundle"]).
+        ["not audited: the trace has more bytes than the program takes; audit each label by itself (--each-label), "
+         "or cut it"]),
+    has(said((outcome(fault, []))#{fault => <<"fault line 3">>}), ["not audited: this isn't a bundle"]).
 
 %% Notes that tell of losses stand in the answer.
 losses_test() ->
@@ -301,28 +316,33 @@ chart(Text, Bundle) ->
 chart_test() ->
     Text = unicode:characters_to_binary(seqaudit_chart:text(chart(), legend(), seqaudit_times:none())),
     has(Text, ["label {order,7}\nlane 1 alice\nlane 2 bob & <co>\n",
-               "   H   .  unreported    hidden   {0,2} call {get,\"5 < 6\"}  it wasn't reported, so its cause isn't known\n",
+               "   H   .  unreported    hidden   {0,2} call {get,\"5 < 6\"}  it wasn't reported, so its cause isn't "
+               "known\n",
                "   .   R  bob & <co>#0  receive  {0,2} call {get,\"5 < 6\"}  its send wasn't reported\n",
                "   .   S  bob & <co>#1  send     {2,3} {ok,six}  after bob & <co>#0\n",
                "   S   .  alice#3       send     {3,5} #9  after alice#1\n",
-               "   |   P  bob & <co>#2  print    {4,6} start  begins here, or follows a message whose receive wasn't reported\n"]),
+               "   |   P  bob & <co>#2  print    {4,6} start  begins here, or follows a message whose receive wasn't "
+               "reported\n"]),
     {error, {no_chart, <<"no label 18">>}} = seqaudit_chart:read(<<"no label 18\n">>),
     {error, {no_chart, <<"   P x">>}} = seqaudit_chart:read(<<"label 1\nlane 1 <0.30.0>\n   P x\n">>).
 
 drawing_test() ->
     Drawing = drawn(chart()),
     has(Drawing, ["label {order,7}: 8 rows, 2 processes, part 2 of 3<", ">alice<", "bob &amp; &lt;co&gt;",
-                  ">call {get,&quot;5 &lt; 6&quot;}</text>", "registered as alice", "<text class=\"w\" x=\"12\" y=\"46\">the audit's line<", ">The trace isn't whole<",
+                  ">call {get,&quot;5 &lt; 6&quot;}</text>", "registered as alice",
+                  "<text class=\"w\" x=\"12\" y=\"46\">the audit's line<", ">The trace isn't whole<",
                   "bob &amp; &lt;co&gt;#1: send {2,3}, after bob &amp; &lt;co&gt;#0\n{ok,six}",
-                  "unreported: hidden {0,2}, it wasn't reported, so its cause isn't known\n", "what it follows may be unreported",
+                  "unreported: hidden {0,2}, it wasn't reported, so its cause isn't known\n",
+                  "what it follows may be unreported",
                   "a message whose receive isn't in the chart"]),
-    %% One dashed arrow, one that arrives, and two whose receives nobody reported; one question mark. The legend has one more
-    %% of the last two.
+    %% One dashed arrow, one that arrives, and two whose receives nobody reported; one question mark. The legend has one
+    %% more of the last two.
     [1, 1, 3, 2, 2] = [length(binary:matches(Drawing, Part))
                        || Part <- [<<"url(#d)">>, <<"url(#s)">>, <<"url(#x)">>, <<"class=\"p\"">>, <<">?<">>]].
 
 drawn(Chart) ->
-    drawn(Chart, #{part => "part 2 of 3", said => "the audit's line", fits => false, losses => "The trace isn't whole"}).
+    drawn(Chart, #{part => "part 2 of 3", said => "the audit's line", fits => false,
+                   losses => "The trace isn't whole"}).
 
 drawn(Chart, Heading) ->
     {ok, Drawing} = seqaudit_draw:svg(Chart, Heading, legend()),
@@ -332,13 +352,16 @@ heading(Said) -> #{part => "", said => Said, fits => true, losses => ""}.
 
 %% A send that was reported is drawn whole, though nobody reported its receive: dashed is only what is unreported.
 dashed_test() ->
-    Drawing = drawn(chart(<<"label 17\nlane 1 <0.30.0>\nlane 2 <0.31.0>\n   S   .  send     {0,1} 6 start\n   |   P  print    {1,2} 7 start\n">>,
+    Drawing = drawn(chart(<<"label 17\nlane 1 <0.30.0>\nlane 2 <0.31.0>\n"
+                            "   S   .  send     {0,1} 6 start\n   |   P  print    {1,2} 7 start\n">>,
                           "seqtrace 1\nprocess <0.30.0>\n{seq_trace,17,{send,{0,1},<0.30.0>,<0.31.0>,6}}\n"
                           "process <0.31.0>\n{seq_trace,17,{print,{1,2},<0.31.0>,[],7}}\n"), heading("fits")),
     has(Drawing, ["unreported: it happened, but nobody reported it"]),
     %% The one that is dashed stands in the legend.
-    [1, 1, 1] = [length(binary:matches(Drawing, Part)) || Part <- [<<"url(#d)">>, <<"<circle class=\"o\"">>, <<"<circle class=\"u\"">>]],
-    [] = [Part || Part <- [<<"part ">>, <<"class=\"w\"">>, <<"whose receive isn't">>], binary:match(Drawing, Part) =/= nomatch].
+    [1, 1, 1] = [length(binary:matches(Drawing, Part))
+                 || Part <- [<<"url(#d)">>, <<"<circle class=\"o\"">>, <<"<circle class=\"u\"">>]],
+    [] = [Part || Part <- [<<"part ">>, <<"class=\"w\"">>, <<"whose receive isn't">>],
+                  binary:match(Drawing, Part) =/= nomatch].
 
 %% No character that XML doesn't allow comes into a drawing, whatever the names are.
 drawing_is_safe_test() ->

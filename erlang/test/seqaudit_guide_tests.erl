@@ -101,7 +101,7 @@ settled() ->
 %% Each command of a page that is one of ours, and the lines below it that are indented as it is.
 quoted([<<"    $ ", Command/binary>> | Lines]) ->
     {Said, Rest} = lists:splitwith(fun is_said/1, Lines),
-    case re:run(Command, "^(erlang/seqaudit-node|seqaudit|seqtool) ") of
+    case re:run(Command, "^(erlang/seqaudit-node|seqaudit|seqtool|cp|grep) ") of
         {match, _} -> [{binary_to_list(Command), [Line || <<"    ", Line/binary>> <- Said]} | quoted(Rest)];
         nomatch -> quoted(Rest)
     end;

@@ -2,7 +2,7 @@
 -module(seqaudit_node_tests).
 
 -export([usage_test_/0, convert_test_/0, damaged_test_/0, audit_and_chart_test_/0, no_program_test_/0, failing_program_test_/0, collect_test_/0,
-         printing/0, unproved_test/0]).
+         printing/0, unproved_test/0, packed_test_/0]).
 
 usage_test_() ->
     {timeout, 180, fun() ->
@@ -96,15 +96,20 @@ audit_and_chart_test_() ->
         end
     end}.
 
-%% What `make rust' and `make quick' built isn't proved, and is named.
+%% What `make rust' and `make quick' built isn't proved, and is named, also behind a link.
 unproved_test() ->
-    "plain Rust, not proved" = what_is_said_of("rust"),
-    "built without proofs" = what_is_said_of("quick").
+    [begin
+         File = filename:join([filename:dirname(seqaudit_audits:file("x")), "bin", Folder, "seqaudit"]),
+         ok = filelib:ensure_dir(File),
+         ok = file:write_file(File, <<>>),
+         Link = seqaudit_audits:file("linked_seqaudit"),
+         _ = file:delete(Link),
+         ok = file:make_symlink(filename:join(["bin", Folder, "seqaudit"]), Link),
+         Dots = filename:join([filename:dirname(File), "..", ".", Folder, "seqaudit"]),
+         [What] = lists:usort([what_is_said_of(Named) || Named <- [File, Link, Dots]])
+     end || {Folder, What} <- [{"rust", "plain Rust, not proved"}, {"quick", "built without proofs"}]].
 
-what_is_said_of(Folder) ->
-    File = filename:join([filename:dirname(seqaudit_audits:file("x")), "bin", Folder, "seqaudit"]),
-    ok = filelib:ensure_dir(File),
-    ok = file:write_file(File, <<>>),
+what_is_said_of(File) ->
     Before = os:getenv("SEQAUDIT"),
     true = os:putenv("SEQAUDIT", File),
     try
@@ -116,6 +121,25 @@ what_is_said_of(Folder) ->
             _ -> os:putenv("SEQAUDIT", Before)
         end
     end.
+
+%% What `make dist' packs names no `make program', which it doesn't have.
+packed_test_() ->
+    {timeout, 60, fun() ->
+        Top = seqaudit_audits:file("packed"),
+        _ = file:del_dir_r(Top),
+        [Manifest, Program, Command] = [filename:join(Top, File) || File <- ["workspace/Cargo.toml", "bin/rust/seqaudit",
+                                                                            "erlang/seqaudit-node"]],
+        [ok = filelib:ensure_dir(File) || File <- [Manifest, Program, Command]],
+        [ok = file:write_file(File, <<>>) || File <- [Manifest, Program]],
+        {0, _} = seqaudit_test_shell:run(["cp -r ", filename:join(seqaudit_audits:home(), "ebin"), $\s,
+                                          seqaudit_test_shell:node_command(), $\s, filename:dirname(Command)]),
+        Name = seqaudit_audits:file("asked_packed"),
+        {0, _} = command(["convert ", capture("ring10"), " -o ", Name]),
+        {_, Said} = seqaudit_test_shell:run([Command, " audit ", Name], [{"SEQAUDIT", false}, {"SEQTOOL", "/no/seqtool"}]),
+        {_, _} = binary:match(Said, iolist_to_binary(["plain Rust, not proved: ", Program,
+                                                      "; the proofs are in the repository, and not in this archive\n"])),
+        nomatch = binary:match(Said, <<"make program">>)
+    end}.
 
 built() ->
     [Program || {ok, Program} <- [seqaudit_program:find()], seqaudit_audits:has(Program, "chart")].
@@ -129,7 +153,7 @@ asked(Name, Program) ->
     {_, _} = binary:match(Whole, <<", label {request,<<\"abc\">>}">>),
     {0, Chart} = command(["chart ", Name, " --label '{request, <<\"abc\">>}' --svg ", Name, ".svg"], Program),
     {_, _} = binary:match(Chart, <<"label {request,<<\"abc\">>}\n">>),
-    {_, _} = binary:match(Chart, <<"fits: 12 events of 2 processes; nothing was left out\nlabel">>),
+    {_, _} = binary:match(Chart, <<"fits: 12 events of 2 processes; nothing is known to be missing\nlabel">>),
     {_, _} = binary:match(Chart, <<" call 1  begins here\n">>),
     {ok, <<"<?xml", _/binary>>} = file:read_file(Name ++ ".svg"),
     {1, Other} = command(["chart ", Name, " --label other"], Program),
@@ -155,7 +179,7 @@ no_program_test_() ->
         ok = file:write_file(Name ++ ".sh", <<"#!/bin/sh\necho usage: seqaudit check\nexit 3\n">>),
         ok = file:change_mode(Name ++ ".sh", 8#755),
         {2, Old} = command(["audit ", Name], Name ++ ".sh"),
-        {_, _} = binary:match(Old, <<"usage: seqaudit check: ">>)
+        {_, _} = binary:match(Old, <<"not audited: the program said \"usage: seqaudit check\"; does it know `audit'?">>)
     end}.
 
 %% A program that writes nothing, writes a part, is killed, or can't be run: a sentence and a status.
@@ -193,12 +217,9 @@ collect(There) ->
     {_, Binary, File} = code:get_object_code(?MODULE),
     {module, _} = erpc:call(There, code, load_binary, [?MODULE, File, Binary]),
     Name = seqaudit_audits:file("collected"),
-    Self = self(),
-    Words = ["collect --node ", atom_to_list(There), " --cookie ", atom_to_list(erlang:get_cookie()),
-             " --seconds 3 --reset -o ", Name],
-    _ = spawn_link(fun() -> Self ! {collected, command(Words)} end),
-    traced(There),
-    {0, Said} = receive {collected, Answer} -> Answer end,
+    Collect = [seqaudit_test_shell:node_command(), " collect --node ", atom_to_list(There), " --cookie ",
+               atom_to_list(erlang:get_cookie()), " --reset -o ", Name],
+    {0, Said} = seqaudit_test_shell:terminated_when(Collect, Name, fun() -> traced(There) end),
     {_, _} = binary:match(Said, <<"1 event of 1 process">>),
     false = erpc:call(There, seq_trace, get_system_tracer, []),
     %% What the node was sent is what collects; what was collected is converted here.
@@ -223,5 +244,6 @@ command(Words, Program) ->
     {Status, Said} = seqaudit_test_shell:run([seqaudit_test_shell:node_command(), $\s, Words],
                                              [{"SEQAUDIT", Program}, {"SEQTOOL", "/no/such/seqtool"}]),
     %% Whatever programs these are.
-    {Status, re:replace(Said, "^seqaudit-node: built without proofs: .*\\n| \\(by programs without proofs\\)", "",
+    {Status, re:replace(Said, "^seqaudit-node: (built without proofs|plain Rust, not proved): .*\\n"
+                              "| \\(by programs without proofs\\)", "",
                         [global, multiline, {return, binary}])}.

@@ -1,15 +1,16 @@
 %% The application as rebar3 packages it, where there is a rebar3 (Debian has one).
 -module(seqaudit_package_tests).
 
--export([rebar3_test_/0, release_test/0, documented_test/0, unload_test_/0]).
+-export([rebar3_test_/0, metadata_test/0, release_test/0, documented_test/0, unload_test_/0]).
 
 %% rebar3 compiles, tests, makes the pages of the modules and the escript, with nothing from the network.
 %% The escript does from another folder what the command does: it collects, converts, audits and makes a page.
 rebar3_test_() ->
     {timeout, 600, fun() ->
-        case os:find_executable("rebar3") of
-            false -> io:format(user, "rebar3: skipped, it isn't here~n", []);
-            Rebar -> packaged(Rebar, seqaudit_audits:file("package"))
+        case {os:find_executable("rebar3"), code:which(crypto)} of
+            {false, _} -> io:format(user, "rebar3: skipped, it isn't here~n", []);
+            {_, non_existing} -> io:format(user, "rebar3: skipped, it needs crypto (erlang-crypto)~n", []);
+            {Rebar, _} -> packaged(Rebar, seqaudit_audits:file("package"))
         end
     end}.
 
@@ -43,6 +44,16 @@ answered(Program, Command, Name) ->
     {0, _} = seqaudit_test_shell:run(["cd / && ", Command, " chart ", Name, " --html ", Name, ".html"], Variables),
     {ok, <<"<!doctype html>", _/binary>>} = file:read_file(Name ++ ".html").
 
+%% What a registry of packages asks for is there, and says the same to rebar3 and mix.
+metadata_test() ->
+    Home = seqaudit_audits:home(),
+    {ok, [{application, seqaudit, About}]} = file:consult(filename:join([Home, "src", "seqaudit.app.src"])),
+    {ok, Mix} = file:read_file(filename:join(Home, "mix.exs")),
+    [#{description := [_ | _] = Description, vsn := [_ | _] = Version, licenses := [License],
+       links := [{Title, "https://" ++ _ = Link}], files := Files}] = [maps:from_list(About)],
+    [{_, _} = binary:match(Mix, iolist_to_binary([$", Text, $"])) || Text <- [Description, Version, License, Title, Link | Files]],
+    [] = [File || File <- Files, not filelib:is_file(filename:join(Home, File))].
+
 %% What is too old is said, of this Erlang and of a node.
 release_test() ->
     "this Erlang is OTP 24, and collecting needs OTP 25 or later" = seqaudit_trace:format_error({otp, "24"}),
@@ -53,7 +64,10 @@ release_test() ->
 documented_test() ->
     Sources = filelib:wildcard(filename:join([seqaudit_audits:home(), "src", "*.erl"])),
     true = length(Sources) > 30,
-    [] = [{filename:basename(Source), Function} || Source <- Sources, Function <- undocumented(Source)].
+    case code:which(epp_dodger) of
+        non_existing -> io:format(user, "documented: skipped, it needs syntax_tools (erlang-syntax-tools)~n", []);
+        _ -> [] = [{filename:basename(Source), Function} || Source <- Sources, Function <- undocumented(Source)]
+    end.
 
 undocumented(Source) ->
     {ok, Forms} = epp_dodger:parse_file(Source),

@@ -1,9 +1,9 @@
 %% Collecting goes on without a gap while it is looked at, period by period.
 -module(seqaudit_periods_tests).
 
--export([rotate_test_/0, quiet_test/0, never_quiet_test/0, watch_test_/0, too_many_test_/0]).
+-export([rotate_test_/0, quiet_test/0, rest_test/0, never_quiet_test/0, watch_test_/0, too_many_test_/0]).
 %% Called by name.
--export([serve/0, answer/0, request/2]).
+-export([serve/0, serve/1, answer/0, request/2]).
 
 %% No event is lost between two files, and processes keep their names.
 rotate_test_() ->
@@ -75,11 +75,40 @@ write(N, Events) ->
     ok = seqaudit_events:close(Device),
     Name ++ ".events".
 
-%% Each part knows the node and its processes.
+%% Each part knows the processes that it names, if it has events.
 count(File) ->
     {ok, [#{events := Events, processes := #{} = Processes}]} = seqaudit_events:read(File),
-    [#{name := tester}] = maps:values(Processes),
+    [#{name := tester} = maps:get(self(), Processes) || Events =/= []],
     length(Events).
+
+%% What is left of a period has its own collections and processes alone, or watching would take more with each period.
+rest_test() ->
+    [A, B, C] = [spawn(fun() -> ok end) || _ <- [a, b, c]],
+    Name = seqaudit_audits:file("rest"),
+    {ok, Device} = seqaudit_events:open(Name),
+    [begin
+         ok = seqaudit_events:begin_collection(Device, #{node => node()}),
+         ok = seqaudit_events:append(Device, [seqaudit_spool:entry(Facts) || Facts <- Known]),
+         ok = seqaudit_events:append(Device, [[<<0, (byte_size(Bytes)):32>>, Bytes]
+                                              || Event <- Events, Bytes <- [term_to_binary(Event)]])
+     end || {Known, Events} <- [{[#{processes => #{A => #{name => a}}}, #{processes => #{B => #{name => b}}}],
+                                 [{seq_trace, 1, {print, {0, 1}, A, [], x}}, {seq_trace, 1, {print, {0, 1}, B, [], x}}]},
+                                {[#{processes => #{A => #{name => a}, B => #{name => b}}},
+                                  #{processes => #{C => #{name => c}}}],
+                                 [{seq_trace, 1, {print, {1, 2}, A, [], x}}, {seq_trace, 1, {print, {0, 1}, C, [], x}},
+                                  {seq_trace, 1, {send, {1, 2}, C, B, x}}]}]],
+    ok = seqaudit_events:close(Device),
+    {4, 1} = cut_file(Name ++ ".events"),
+    {ok, [#{processes := #{} = Left}]} = seqaudit_events:read(seqaudit_audits:file("rest_rest") ++ ".events"),
+    [#{name := b}, #{name := c}] = [maps:get(Pid, Left) || Pid <- [B, C]],
+    2 = map_size(Left).
+
+cut_file(File) ->
+    Parts = [filename:rootname(File) ++ Which ++ ".events" || Which <- ["_own", "_rest"]],
+    [Own, Rest] = Parts,
+    ok = seqaudit_quiet:cut([File], [Own], [Rest]),
+    list_to_tuple([length(lists:append([Events || #{events := Events} <- Read]))
+                   || Part <- Parts, {ok, Read} <- [seqaudit_events:read(Part)]]).
 
 never_quiet_test() ->
     [A, B] = [self(), spawn(fun() -> ok end)],
@@ -89,14 +118,14 @@ never_quiet_test() ->
 
 %% A node under load is watched: what fits goes, a reset is kept with the periods beside it, and the command ends at once.
 watch_test_() ->
-    with_watch("w", fun(Auditor) -> Auditor end, fun watched/4).
+    with_watch("w", fun(Program) -> Program end, fun watched/4).
 
-with_watch(Name, Auditor, Test) ->
+with_watch(Name, Asked, Test) ->
     {timeout, 240, fun() ->
         case {seqaudit_program:find("seqaudit"), seqaudit_program:find("seqtool")} of
             {{ok, Program}, {ok, Tool}} ->
                 seqaudit_test_nodes:with_second("watch", fun(There) ->
-                    begun(There, Name, [{"SEQAUDIT", Auditor(Program)}, {"SEQTOOL", Tool}], Test)
+                    begun(There, Name, [{"SEQAUDIT", Asked(Program)}, {"SEQTOOL", Asked(Tool)}], Test)
                 end);
             _ -> io:format(user, "watch: skipped, the programs aren't built~n", [])
         end
@@ -130,11 +159,11 @@ begun(There, Name, Programs, Test) ->
     exit(Service, kill).
 
 watched(There, Name, Says, End) ->
-    seqaudit_test_nodes:until(fun() -> length(Says("period [0-9]+: fits: .* not kept")) >= 3 end),
+    seqaudit_test_nodes:until(fun() -> length(Says("period [0-9]+: fits.*: .* not kept")) >= 3 end),
     _ = erpc:call(There, seq_trace, reset_trace, []),
     seqaudit_test_nodes:until(fun() -> Says("period [0-9]+: doesn't fit: ") =/= [] end),
-    seqaudit_test_nodes:until(fun() -> Says("doesn't fit: .*\n.*period [0-9]+: fits: .*; kept as ") =/= [] end),
-    seqaudit_test_nodes:until(fun() -> length(Says("period [0-9]+: fits: .* not kept")) >= 5 end),
+    seqaudit_test_nodes:until(fun() -> Says("doesn't fit: .*\n.*period [0-9]+: fits.*: .*; kept as ") =/= [] end),
+    seqaudit_test_nodes:until(fun() -> length(Says("period [0-9]+: fits.*: .* not kept")) >= 5 end),
     Ended = erlang:monotonic_time(millisecond),
     1 = End(),
     Took = erlang:monotonic_time(millisecond) - Ended,
@@ -148,14 +177,20 @@ watched(There, Name, Says, End) ->
     [_ | _] = Says("cut at a quiet moment"),
     [[_]] = Says("[0-9]+ periods audited, 3 kept; period [0-9]+, which was running, isn't audited\n").
 
-%% A period with more processes than the program takes is audited label by label. This one takes three.
+%% A period with more processes than the programs take is audited label by label. These take three; of more, seqtool
+%% audits those of every second period, and finds no run.
 too_many_test_() ->
-    with_watch("many", fun(Auditor) ->
-        Script = seqaudit_audits:file("few_processes.sh"),
+    with_watch("many", fun(Program) ->
+        Script = seqaudit_audits:file("few_processes_" ++ filename:basename(Program) ++ ".sh"),
+        Audits = case string:find(filename:basename(Program), "seqtool") of nomatch -> "none"; _ -> "audit" end,
+        _ = file:delete(Script ++ ".once"),
         ok = file:write_file(Script, ["#!/bin/sh\ninput=$(cat)\n"
                                       "if [ \"$(echo \"$input\" | grep -c ^process)\" -gt 3 ]; then\n"
+                                      "if [ $1 = ", Audits, " ] && ! rm \"$0.once\" 2>/dev/null; then touch \"$0.once\"\n"
+                                      "echo \"$input\" | awk '/^{/ { print \"unfit\", pid, \"0 toowide\"; exit } { pid = $2 }'\n"
+                                      "exit 1; fi\n"
                                       "echo fault too many processes; exit 2; fi\n"
-                                      "echo \"$input\" | ", Auditor, " \"$@\"\n"]),
+                                      "echo \"$input\" | ", Program, " \"$@\"\n"]),
         ok = file:change_mode(Script, 8#755),
         Script
     end, fun(_There, Name, Says, End) ->
@@ -166,13 +201,16 @@ too_many_test_() ->
     end).
 
 %% Some twenty requests a second, each with a process and a label of its own; whoever makes them has no token.
-serve() ->
-    Service = spawn_link(?MODULE, answer, []),
-    drive(Service, 0).
+serve() -> serve(25).
 
-drive(Service, N) ->
+serve(InSecond) ->
+    drive(spawn_link(?MODULE, answer, []), InSecond, erlang:monotonic_time(millisecond), 0).
+
+%% A request that comes late, as on a busy machine, doesn't delay those behind it.
+drive(Service, InSecond, Began, N) ->
     _ = spawn(?MODULE, request, [Service, N]),
-    receive after 40 -> drive(Service, N + 1) end.
+    Next = Began + (N + 1) * 1_000 div InSecond,
+    receive after max(0, Next - erlang:monotonic_time(millisecond)) -> drive(Service, InSecond, Began, N + 1) end.
 
 answer() ->
     receive {Client, ask} -> Client ! {self(), answer} end,

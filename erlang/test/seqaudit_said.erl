@@ -4,7 +4,7 @@
 -export([check/3]).
 
 %% How often each sentence was said, how often it was false though what `why' names holds, and what else was false.
-check(Name, Log, #{flags := Flags, late := Late}) ->
+check(Name, Log, #{flags := Flags, late := Late} = How) ->
     {ok, Legend} = seqaudit_legend:read(Name ++ ".terms"),
     {ok, Streams} = seqaudit_bundle:read(Name ++ ".seqtrace"),
     Rows = [Row#{content => content(Row, Legend)} || Row <- seqaudit_causes:rows(Streams)],
@@ -14,9 +14,7 @@ check(Name, Log, #{flags := Flags, late := Late}) ->
     Premises = lists:member('receive', Flags) andalso not Late,
     Judged = [judged(Row, Index, Had, Premises, Name) || #{hidden := false, content := {_, _, _}} = Row <- Rows],
     {ok, Outcome} = seqaudit_outcome:ask(Streams),
-    %% A process that puts a token back and whose sends aren't reported can't be seen to.
-    lists:foldl(fun seqaudit_truth:sum/2, headline(Outcome, Rows, Log, Premises andalso lists:member(send, Flags), {Name, Legend}),
-                Judged).
+    lists:foldl(fun seqaudit_truth:sum/2, headline(Outcome, Log, How, {Name, Legend, Rows}), Judged).
 
 content(#{event := #{value := Value}}, Legend) ->
     Text = seqaudit_legend:value(Value, Legend),
@@ -50,7 +48,8 @@ is_of_counts(Sentence) ->
 is_true({sent, Send}, #{content := Content}, Index, _Had) ->
     case Index of
         #{Send := #{hidden := true}} ->
-            [] =:= [Id || #{id := Id, hidden := false, event := #{kind := send}, content := Other} <- maps:values(Index),
+            [] =:= [Id || #{id := Id, hidden := false, event := #{kind := send}, content := Other}
+                              <- maps:values(Index),
                           Other =:= Content];
         #{Send := #{content := Other}} -> Other =:= Content
     end;
@@ -70,22 +69,46 @@ is_true({relabelled, _, _}, #{content := {_, _, Own}}, _Index, _Had) -> Own;
 is_true(start, #{content := {_, True, _}}, _Index, _Had) -> True =:= <<"begins">>;
 is_true(open, #{content := {_, <<"begins">>, _}}, _Index, _Had) -> true;
 is_true(open, #{actor := Actor, content := {_, <<"spawned">>, _}}, Index, _Had) ->
-    [] =:= [Id || #{id := Id, actor := One, content := spawn_request, event := #{kind := 'receive'}} <- maps:values(Index),
+    [] =:= [Id || #{id := Id, actor := One, content := spawn_request, event := #{kind := 'receive'}}
+                      <- maps:values(Index),
                   One =:= Actor];
 is_true(open, #{actor := Actor, content := {_, True, _}}, _Index, Had) -> not is_map_key({Actor, True}, Had);
-is_true({How, _}, _Row, _Index, _Had) when How =:= unreported; How =:= perhaps -> not_said.
+is_true({How, _}, _Row, _Index, _Had) when How =:= unreported; How =:= perhaps; How =:= alike -> not_said.
 
-headline(#{said := Said, streams := Shown} = Outcome, Rows, Log, Premises, {Name, Legend}) ->
+%% What is said of the whole trace. Where everything was reported, nothing that nobody reported can be missing.
+headline(#{said := Said, streams := Shown} = Outcome, Log, #{flags := Flags, late := Late}, {Name, Legend, Rows}) ->
     Text = unicode:characters_to_binary(seqaudit_explain:headline(Outcome, Legend)),
-    Whole = binary:match(Text, <<"nothing was left out">>) =/= nomatch,
-    Invented = [Id || #{id := Id, invented := true} <- seqaudit_causes:rows(Shown)],
+    All = not Late andalso [] =:= [send, 'receive', print] -- Flags,
+    Whole = has(Text, "nothing is known to be missing"),
+    %% A process that puts a token back and whose sends aren't reported can't be seen to.
+    Premises = not Late andalso lists:member('receive', Flags) andalso lists:member(send, Flags),
     Missing = missing(Rows, Log),
-    maps:from_list([{{said, Said}, 1}, {programs, 1}] ++ [{nothing_was_left_out, 1} || Whole]
+    ShownRows = seqaudit_causes:rows(Shown),
+    Invented = [Id || #{id := Id, invented := true} <- ShownRows],
+    False = [{nothing_is_known_to_be_missing, Missing} || Whole, All, Missing =/= []]
+        ++ [{invented, Invented} || Premises, Invented =/= []]
+        ++ [{nobody_reported, Text} || All, Words <- ["nobody reported", "doesn't list", "jump"], has(Text, Words)]
+        ++ false_gaps(seqaudit_gaps:find(ShownRows, Shown, Legend), Rows),
+    maps:from_list([{{said, Said}, 1}, {programs, 1}] ++ [{nothing_is_known_to_be_missing, 1} || Whole]
+                   ++ [{{nothing_is_known_to_be_missing, but_something_is}, 1}
+                       || Whole, not All, Missing =/= []]
                    ++ [{exchanged, 1} || Exchanged <- [maps:get(exchanged, Outcome)], Exchanged =/= none]
                    ++ [{doesnt_fit, [{Name, reason(Outcome)}]} || Said =:= never]
-                   ++ [{false, [{Name, nothing_was_left_out, Missing} || Whole, Missing =/= []]
-                               ++ [{Name, invented, Invented} || Premises, Invented =/= []]}]
+                   ++ [{false, [{Name, What, Of} || {What, Of} <- False]}]
                    ++ [{{programs, without_all_reported, with_invented_messages}, 1} || not Premises, Invented =/= []]).
+
+has(Text, Words) -> binary:match(Text, list_to_binary(Words)) =/= nomatch.
+
+%% Messages without a reported receive that have one, and answers of spawns that nobody received.
+false_gaps(#{waiting := Waiting, spawns := Spawns}, Rows) ->
+    Received = maps:from_keys([Number || #{hidden := false, event := #{kind := 'receive'},
+                                           content := {Number, _, _}} <- Rows], received),
+    Contents = maps:from_list([{Id, Content} || #{id := Id, content := Content} <- Rows]),
+    Replies = [Actor || #{hidden := false, actor := Actor, content := spawn_reply} <- Rows],
+    [{waits, Id} || #{id := Id} <- Waiting, {Number, _, _} <- [maps:get(Id, Contents, none)],
+                    is_map_key(Number, Received)]
+        ++ [{spawns, {Pid, Count}} || {Pid, Count} <- Spawns,
+                                      Count > length([Actor || Actor <- Replies, Actor =:= Pid])].
 
 reason(#{finding := {Reason, _}}) -> Reason.
 

@@ -1,9 +1,10 @@
 %% What the commands say of programs on real nodes whose truth is known.
 -module(seqaudit_sentences_tests).
 
--export([calls_under_labels_test_/0, token_put_back_test_/0, kept_tokens_test_/0, second_trace_test_/0, unknown_message_test_/0,
-         flags_test_/0, split_test_/0, forged_loss_test_/0,
-         unlisted_test_/0]).
+-export([calls_under_labels_test_/0, token_put_back_test_/0, kept_tokens_test_/0, second_trace_test_/0,
+         unknown_message_test_/0, flags_test_/0, high_counter_test_/0, messages_alike_test_/0, split_test_/0,
+         forged_loss_test_/0,
+         unlisted_test_/0, slow_model_test_/0]).
 
 -define(ALL, [send, 'receive', print]).
 
@@ -67,7 +68,7 @@ calls_under_labels_test_() ->
         end)
     end, fun(Command) ->
         Begins = "begins label 120 here, or set it on its token; it had last received client#37 of label 119",
-        has(Command(["audit"]), ["fits: 80 events of 2 processes; nothing was left out\n"]),
+        has(Command(["audit"]), ["fits: 80 events of 2 processes; nothing is known to be missing\n"]),
         has(Command(["why", "--event", "client#38"]),
             ["client#38: client sends call 20 to served, serial ", ", label 120\nThere client " ++ Begins ++ ".\n"]),
         has_none(Command(["why", "--event", "client#38"]), ["because"]),
@@ -108,7 +109,7 @@ token_put_back_test_() ->
         left([asker, worker, untraced])
     end, fun(Command) ->
         Audit = Command(["audit"]),
-        has(Audit, ["fits: 9 events of 2 processes; nothing was left out\n",
+        has(Audit, ["fits: 9 events of 2 processes; nothing is known to be missing\n",
                     "A token was put back here (seq_trace:set_token/1): before worker#1, which is after worker#0. ",
                     "audited were the prevs that the machine would have given these events"]),
         has_none(Audit, ["nobody reported", "unknown message"]),
@@ -142,15 +143,18 @@ kept_tokens_test_() ->
         left([keeper | Clients])
     end, fun(Command) ->
         Audit = Command(["audit"]),
-        has(Audit, [" of 5 processes; nothing was left out\n", "A token was put back here (seq_trace:set_token/1): before keeper#3, which is after keeper#0",
+        has(Audit, [" of 5 processes; nothing is known to be missing\n",
+                    "A token was put back here (seq_trace:set_token/1): before keeper#3, which is after keeper#0",
                     "audited were the counts that the machine would have given all events", "(status 0)"]),
-        has(Command(["why", "--event", "client2#20"]), ["because (a token was put back here) keeper#1: keeper receives {"]),
+        has(Command(["why", "--event", "client2#20"]),
+            ["because (a token was put back here) keeper#1: keeper receives {"]),
         {ok, Streams} = seqaudit_bundle:read(seqaudit_audits:file("kept_tokens") ++ ".seqtrace"),
         case seqaudit_outcome:ask(Streams) of
             {ok, Outcome} -> ordered(seqaudit_outcome:rows(Outcome), #{});
             {error, {no_program, _, _}} -> skipped
         end,
-        has(Command(["why", "--event", "client3#10"]), ["because (a token was put back here) keeper#2: keeper receives {"])
+        has(Command(["why", "--event", "client3#10"]),
+            ["because (a token was put back here) keeper#2: keeper receives {"])
     end).
 
 %% No event comes before its cause.
@@ -194,10 +198,11 @@ second_trace_test_() ->
         Audit = Command(["audit"]),
         has(Audit, ["fits: 2 events of 1 process; the cause of 2 events isn't known\n",
                     "The cause isn't known of printer#0, printer#1: `why' says what it may be.\n"]),
-        has_none(Audit, ["nothing was left out"]),
+        has_none(Audit, ["nothing is known to be missing"]),
         has(Command(["why", "--event", "printer#1"]),
             ["There printer begins here, or follows a message whose receive wasn't reported.\n"]),
-        has(Command(["chart", "--label", "1"]), ["one  begins here, or follows a message whose receive wasn't reported\n"])
+        has(Command(["chart", "--label", "1"]),
+            ["one  begins here, or follows a message whose receive wasn't reported\n"])
     end).
 
 %% No message that isn't known is printed with the content of another one.
@@ -232,8 +237,77 @@ flags_test_() ->
          end)
      end, fun(Command) -> has(Command(["audit"]), [Said]) end)
      || {Flags, Said} <- [{['receive', print], "fits: 6 events of 2 processes, with 4 sends that nobody reported\n"},
-                          {[send, print], "fits: 6 events of 2 processes, with 3 receives that nobody reported; 1 message has no"},
-                          {[send, 'receive'], "fits: 8 events of 2 processes, with 1 print or send that nobody reported\n"}]].
+                          {[send, print], "fits: 6 events of 2 processes, with 3 receives that nobody reported; 1 "
+                                          "message has no"},
+                          {[send, 'receive'], "fits: 8 events of 2 processes, with 1 print or send that nobody "
+                                              "reported\n"}]].
+
+%% By chance a counter stands where the answer of a spawn would have moved it, to 16 * 3 + 15: nothing was spawned.
+high_counter_test_() ->
+    traced("high_counter", fun() ->
+        Self = self(),
+        begun(printer, fun() ->
+            receive before -> seq_trace:print(before) end,
+            receive go -> seq_trace:set_token(print, false) end,
+            [seq_trace:print(N) || N <- lists:seq(1, 60)],
+            client ! printed
+        end),
+        begun(client, fun() ->
+            with_all(1),
+            printer ! before,
+            self() ! again,
+            receive again -> printer ! go end,
+            receive printed -> ok end,
+            seq_trace:set_token([]),
+            Self ! done
+        end),
+        receive done -> ok end,
+        seqaudit_test_nodes:met_here(),
+        left([client, printer])
+    end, fun(Command) ->
+        Audit = Command(["audit"]),
+        has(Audit, ["fits: 9 events of 2 processes, with 60 prints or sends that nobody reported\n"]),
+        has_none(Audit, ["spawn", "nothing is known to be missing"])
+    end).
+
+%% A token that is put back for each of three messages gives them one serial: the first receive is of the first send. If
+%% there are fewer receives, nobody can tell which is whose.
+messages_alike_test_() ->
+    [traced("messages_alike", fun() -> three_ticks(3) end, fun(Command) ->
+         has(Command(["audit"]), ["fits: 13 events of 2 processes; nothing is known to be missing\n"]),
+         has(Command(["chart", "--label", "1"]),
+             [lists:concat(["ticked#", Receive, "  receive  {2,4} tick  after ticker#", Send, "\n"])
+              || {Receive, Send} <- [{5, 1}, {6, 2}, {7, 3}]])
+     end),
+     traced("messages_alike_waiting", fun() -> three_ticks(2) end, fun(Command) ->
+         has(Command(["audit"]), ["fits: 12 events of 2 processes; the cause of 2 events isn't known; 1 message has no "
+                                  "reported receive, and may still wait\n"]),
+         has(Command(["why", "--event", "ticked#7"]),
+             ["because (perhaps: another message is like it) ticker#2: ticker sends tick to ticked"]),
+         has(Command(["why", "--event", "ticker#2", "--effects"]), ["ticker#2 caused, or perhaps caused, 2 events, "]),
+         has(Command(["chart", "--label", "1"]),
+             ["ticked#6  receive  {2,4} tick  perhaps after ticker#2, or after another message like it\n"])
+     end)].
+
+%% So many of them are received, and then something is printed.
+three_ticks(Received) ->
+    Self = self(),
+    begun(ticker, fun() ->
+        Token = receive go -> seq_trace:set_token([]) end,
+        [begin seq_trace:set_token(Token), ticked ! tick, seq_trace:set_token([]) end || _ <- [1, 2, 3]]
+    end),
+    begun(ticked, fun() ->
+        with_all(1),
+        [begin self() ! N, receive N -> ok end end || N <- [1, 2]],
+        ticker ! go,
+        [receive tick -> ok end || _ <- lists:seq(1, Received)],
+        seq_trace:print(last),
+        seq_trace:set_token([]),
+        Self ! done
+    end),
+    receive done -> ok end,
+    seqaudit_test_nodes:met_here(),
+    left([ticked, ticker]).
 
 %% A connection that was lost takes nothing away if nothing was lost.
 split_test_() ->
@@ -258,7 +332,7 @@ said_whole(Name) ->
     case {seqaudit_answers_tests:auditor(), seqaudit_answers_tests:tool()} of
         {Auditor, Tool} when Auditor =/= none, Tool =/= none ->
             Audit = seqaudit_answers_tests:command(["audit"], Name, Tool),
-            has(Audit, ["; nothing was left out\n"]),
+            has(Audit, ["; nothing is known to be missing\n"]),
             has_none(Audit, ["isn't whole"]);
         _ -> skipped
     end.
@@ -286,12 +360,14 @@ unlisted_test_() ->
 unlisted(Name) ->
     Print = fun(Prev, This) -> io_lib:format("{seq_trace,1,{print,{~b,~b},<0.80.0>,[],0}}~n", [Prev, This]) end,
     Taken = "{seq_trace,1,{'receive',{0,1},<0.65535.0>,<0.80.0>,0}}\n",
-    ok = file:write_file(Name ++ ".seqtrace", ["seqtrace 1\nprocess <0.80.0>\n", Print(0, 1), Print(0, 2), Print(1, 3)]),
-    ok = file:write_file(Name ++ ".terms", "seqaudit terms 1\nprocess\t<0.80.0>\tone\tprocess\nlabel\t1\t1\nvalue\t0\tsecret\n"),
+    Listed = ["seqtrace 1\nprocess <0.80.0>\n", Print(0, 1), Print(0, 2)],
+    ok = file:write_file(Name ++ ".seqtrace", [Listed, Print(1, 3)]),
+    ok = file:write_file(Name ++ ".terms", ["seqaudit terms 1\nprocess\t<0.80.0>\tone\tprocess\n",
+                                            "label\t1\t1\nvalue\t0\tsecret\n"]),
     [file:delete(Name ++ Suffix) || Suffix <- [".notes", ".facts"]],
     %% As seqtool says it.
     Said = #{"added" => ["added 1\nunlisted <0.65535.0>\nadded <0.80.0> 2 ", Taken],
-             "streams" => ["seqtrace 1\nprocess <0.80.0>\n", Print(0, 1), Print(0, 2), Taken, Print(1, 3), "process <0.65535.0>\n"],
+             "streams" => [Listed, Taken, Print(1, 3), "process <0.65535.0>\n"],
              "acts" => "long\n"},
     [ok = file:write_file(Name ++ "." ++ How, Text) || {How, Text} <- maps:to_list(Said)],
     Tool = Name ++ ".sh",
@@ -299,12 +375,31 @@ unlisted(Name) ->
     ok = file:change_mode(Tool, 8#755),
     Command = fun(Words) -> seqaudit_answers_tests:command(Words, Name, Tool) end,
     Audit = Command(["audit"]),
-    has(Audit, ["fits: 3 events of 1 process, with 1 receive that nobody reported, 1 message from a process that the trace doesn't list\n",
-                "  one#2~1: one receives an unknown message from a process that the trace doesn't list, serial {0,1}, label 1\n"]),
+    Received = "one#2~1: one receives an unknown message from a process that the trace doesn't list",
+    has(Audit, ["fits: 3 events of 1 process, with 1 receive that nobody reported, 1 message from a process that the "
+                "trace doesn't list\n",
+                "  " ++ Received ++ ", serial {0,1}, label 1\n"]),
     has_none(Audit, ["65535"]),
     has(Command(["why", "--event", "one#2"]),
-        ["because (perhaps: it wasn't reported) one#2~1: one receives an unknown message from a process that the trace doesn't list"]),
+        ["because (perhaps: it wasn't reported) " ++ Received]),
     Svg = Name ++ ".svg",
     has(Command(["chart", "--label", "1", "--svg", Svg]), ["lane 2 a process that the trace doesn't list\n"]),
     {ok, Drawing} = file:read_file(Svg),
     has(Drawing, ["stroke-dasharray=\"4 4\"", "a process that the trace doesn't list"]).
+
+%% A fit that a slow model found says so in its first line.
+slow_model_test_() ->
+    {timeout, 60, fun() ->
+        case seqaudit_audits:model() of
+            [] -> io:format(user, "slow model: skipped, there is no python3~n", []);
+            [Model] ->
+                Name = seqaudit_audits:file("slow_model"),
+                ok = seqaudit_trace:start(#{name => Name}),
+                ok = seqaudit_test_server:print(1, seen),
+                {ok, _} = seqaudit_trace:stop(),
+                Tool = filename:join(filename:dirname(Model), "slow_seqtool.py"),
+                {0, Said} = seqaudit_test_shell:execute(seqaudit_test_shell:node_command(), ["audit", Name],
+                                                        [{"SEQAUDIT", Model}, {"SEQTOOL", Tool}]),
+                has(Said, ["fits (by programs without proofs): 1 event of 1 process"])
+        end
+    end}.

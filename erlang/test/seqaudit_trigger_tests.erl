@@ -1,7 +1,7 @@
 %% Calls set tokens as they are told to, and nobody else who traces is disturbed.
 -module(seqaudit_trigger_tests).
 
--export([beside_dbg_test_/0, ends_its_own_test/0, conditions_test/0, several_functions_test/0, calls_test/0,
+-export([beside_dbg_test_/0, session_test_/0, ends_its_own_test/0, conditions_test/0, several_functions_test/0, calls_test/0,
          calls_in_a_second_test_/0, control_word_test/0, words_test/0]).
 %% Called by name.
 -export([ordered/1, order/1, loop/1, begin_dbg/0, counted/0]).
@@ -27,11 +27,11 @@ beside_dbg(There) ->
                    seqaudit_test_nodes:until(fun() -> erpc:call(There, ?MODULE, counted, []) > Before + 5 end)
            end,
     Goes(),
-    HasSessions = erpc:call(There, erlang, function_exported, [trace, session_create, 3]),
+    HasSessions = has_sessions(),
     [begin
          {Status, Said} = collect(There, Function),
          case {HasSessions, Status} of
-             {true, 0} -> ok;
+             {true, 0} -> [{_, _} = binary:match(Said, <<"events of 1 process">>) || Function =:= "ordered/1"];
              {false, 4} ->
                  {_, _} = binary:match(Said, Sentence),
                  {_, _} = binary:match(Said, <<" (dbg); before OTP 27">>)
@@ -58,19 +58,59 @@ collect(There, Function) ->
                              atom_to_list(?MODULE), $:, Function, " --label 1 --seconds 1 -o ",
                              seqaudit_audits:file("beside_dbg")], seqaudit_test_shell:cookie()).
 
+%% From OTP 27 on somebody else is told of the same calls before, while and after they set tokens, and a collector that
+%% is killed takes its session with it.
+session_test_() ->
+    {timeout, 60, fun() ->
+        case has_sessions() of
+            true -> in_session();
+            false -> io:format(user, "trace sessions: skipped, they come with OTP 27~n", [])
+        end
+    end}.
+
+in_session() ->
+    1 = erlang:trace_pattern({?MODULE, ordered, 1}, true, [local]),
+    0 = erlang:trace(new, true, [call]),
+    told(1),
+    [2, 3] = triggered(#{function => {?MODULE, ordered, 1}}, fun() -> [told(N) || N <- [2, 3]] end),
+    told(4),
+    Name = seqaudit_audits:file("in_session"),
+    ok = seqaudit_trace:start(#{name => Name, trigger => trigger(#{function => {?MODULE, ordered, 1}})}),
+    true = is_pulled(),
+    exit(whereis(seqaudit_collector), kill),
+    seqaudit_test_nodes:until(fun() -> not is_pulled() end),
+    told(5),
+    _ = seqaudit_trace:stop(),
+    0 = erlang:trace(new, false, [call]),
+    1 = erlang:trace_pattern({?MODULE, ordered, 1}, false, [local]).
+
+%% This process traces calls, and is told of this one.
+told(What) ->
+    called(ordered, What),
+    receive {trace, _, call, {?MODULE, ordered, [What]}} -> ok after 5_000 -> error({not_told, What}) end.
+
+has_sessions() -> code:ensure_loaded(trace) =:= {module, trace}.
+
+%% Whether calls set tokens on this node.
+is_pulled() ->
+    case has_sessions() of
+        true -> lists:keymember(seqaudit, 1, trace:session_info(all));
+        false -> {flags, []} =/= erlang:trace_info(new, flags)
+    end.
+
 %% Somebody else who began to trace the function meanwhile keeps their match specification.
 ends_its_own_test() ->
-    {ok, Pulled} = seqaudit_trigger:pull(trigger(#{function => {?MODULE, ordered, 1}})),
+    Trigger = trigger(#{function => {?MODULE, ordered, 1}}),
+    {ok, Pulled} = seqaudit_trigger:pull(Trigger),
     Theirs = [{[17], [], [{message, false}]}],
     1 = erlang:trace_pattern({?MODULE, ordered, 1}, Theirs, [local]),
     ok = seqaudit_trigger:release(Pulled),
     {match_spec, Theirs} = erlang:trace_info({?MODULE, ordered, 1}, match_spec),
-    {error, {trigger, {function_in_use, {?MODULE, ordered, 1}, []}}} =
-        seqaudit_trigger:pull(trigger(#{function => {?MODULE, ordered, 1}})),
+    [{error, {trigger, {function_in_use, {?MODULE, ordered, 1}, []}}} = seqaudit_trigger:pull(Trigger)
+     || not has_sessions()],
     {match_spec, Theirs} = erlang:trace_info({?MODULE, ordered, 1}, match_spec),
     1 = erlang:trace_pattern({?MODULE, ordered, 1}, false, [local]),
-    {flags, []} = erlang:trace_info(new, flags),
-    ok.
+    false = is_pulled().
 
 trigger(More) -> maps:merge(#{label => 1, times => false}, More).
 
@@ -92,13 +132,13 @@ several_functions_test() ->
         seqaudit_trigger:pull(trigger(#{functions => [hd(Functions), {{?MODULE, order, 1}, [{['$1'], [{nonsense, 1}]}]}]})),
     %% Where one of them fails nothing is traced.
     [{traced, false} = erlang:trace_info({?MODULE, Function, 1}, traced) || Function <- [ordered, order]],
-    {flags, []} = erlang:trace_info(new, flags).
+    false = is_pulled().
 
 %% Only the first calls set a token, and once they were made none is traced any more.
 calls_test() ->
     [1, 2, 3] = triggered(#{function => {?MODULE, ordered, 1}, calls => 3}, fun() ->
         [called(ordered, N) || N <- lists:seq(1, 20)],
-        seqaudit_test_nodes:until(fun() -> {flags, []} =:= erlang:trace_info(new, flags) end)
+        seqaudit_test_nodes:until(fun() -> not is_pulled() end)
     end),
     0 = erlang:system_info(trace_control_word).
 

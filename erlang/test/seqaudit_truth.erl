@@ -1,24 +1,19 @@
 %% Random programs on real nodes whose messages carry their true cause, and whether what is said of them is true.
 %%
-%% Each process has a list of what it does, in an order that can be kept by all; besides there are servers, which reply at
-%% once, later, by another server, or with a token that they put back. Each message and print has a number, that of the
-%% message that gave its process the token (`begins', if the process began the trace itself), and whether its process had
-%% set the label since.
+%% Each process has a list of what it does, in an order that can be kept by all; besides there are servers
+%% (seqaudit_truth_servers). Each message and print has a number, that of the message that gave its process the token
+%% (`begins', if the process began the trace itself), and whether its process had set the label since.
 -module(seqaudit_truth).
--behaviour(gen_server).
 
--export([run/3, sum/2, begin_log/0, child/1, play/3, start_server/1, init/1, handle_call/3, handle_cast/2]).
+-export([run/3, sum/2, begin_log/2, child/1, play/3, know/1, known/0, content/1, got/1]).
 
--define(ALL, [send, 'receive', print]).
-
-%% Runs the program of this number, with these flags and a tracer that is on from the beginning or comes on late, on these
-%% nodes, and returns how often each thing was said, and what was false.
+%% Runs the program of this number, with these flags and a tracer that is on from the beginning or comes on late, on
+%% these nodes, and returns how often each thing was said, and what was false.
 run(Seed, #{nodes := Nodes, flags := Flags, late := Late} = How, Name) ->
     _ = rand:seed(exsss, {Seed, 5, 51}),
-    Logs = [erpc:call(Node, ?MODULE, begin_log, []) || Node <- Nodes],
+    Logs = [erpc:call(Node, ?MODULE, begin_log, [N, length(Nodes)]) || {N, Node} <- lists:enumerate(Nodes)],
     Late orelse (ok = seqaudit_trace:start(#{name => Name, nodes => Nodes})),
-    Servers = [began(Node, start_server, [lists:nth(rand:uniform(4), [at_once, later, delegated, kept])])
-               || Node <- Nodes, _ <- [1, 2]],
+    Servers = [erpc:call(Node, seqaudit_truth_servers, start, [rand:uniform(6)]) || Node <- Nodes, _ <- [1, 2]],
     {Players, Steps} = steps(2 + rand:uniform(4), 30 + rand:uniform(60), Servers),
     Pids = [spawn(lists:nth(1 + N rem length(Nodes), Nodes), ?MODULE, play, [N, self(), Flags]) || N <- Players],
     Numbered = maps:from_list(lists:zip(Players, Pids)),
@@ -28,21 +23,27 @@ run(Seed, #{nodes := Nodes, flags := Flags, late := Late} = How, Name) ->
     ok = play_all(lists:nthtail(Half, Steps), Numbered, Servers),
     [Pid ! finish || Pid <- Pids],
     [receive {finished, Pid} -> ok after 20_000 -> error(unfinished) end || Pid <- Pids],
-    [gen_server:call(Server, {wait, N}) || Server <- Servers, N <- [1, 2]],
+    [ok = seqaudit_truth_servers:wait(Server) || Server <- Servers, _ <- [1, 2]],
     {ok, _} = seqaudit_trace:stop(),
-    [gen_server:stop(Server) || Server <- Servers],
+    [ok = seqaudit_truth_servers:stop(Server) || Server <- Servers],
     Log = lists:append([ended_log(Owner) || Owner <- Logs]),
     seqaudit_said:check(Name, Log, How).
 
-%% What happened under tokens on a node: a table, as a message would be an event.
-begin_log() ->
+%% What happened under tokens on a node, the Nth of so many: a table, as a message would be an event. The numbers that
+%% it gives are N, N + Nodes, N + 2 * Nodes and so on, so that no other node gives them too.
+begin_log(N, Nodes) ->
     Self = self(),
     Owner = spawn(fun() ->
                       ?MODULE = ets:new(?MODULE, [public, named_table]),
+                      true = ets:insert(?MODULE, {number, N, Nodes}),
                       Self ! begun,
-                      receive {Boss, ended} -> Boss ! {self(), ets:tab2list(?MODULE)} end
+                      receive {Boss, ended} -> ok end,
+                      Boss ! {self(), [Entry || {_, _, _, _} = Entry <- ets:tab2list(?MODULE)]}
                   end),
     receive begun -> Owner end.
+
+next_number() ->
+    ets:update_counter(?MODULE, number, {2, ets:lookup_element(?MODULE, number, 3)}).
 
 ended_log(Owner) ->
     Owner ! {self(), ended},
@@ -51,15 +52,13 @@ ended_log(Owner) ->
 log(Kind, Number) ->
     ets:insert(?MODULE, {erlang:unique_integer([monotonic]), self(), Kind, Number}).
 
-began(Node, Function, Arguments) -> erpc:call(Node, ?MODULE, Function, Arguments).
-
 sum(One, Other) ->
     maps:merge_with(fun(_, A, B) when is_integer(A) -> A + B; (_, A, B) -> A ++ B end, One, Other).
 
 %% Each player gets its steps of a part, and does them without a message of anybody else in between.
 play_all(Steps, Numbered, Servers) ->
     [Pid ! {steps, [Step || {Who, Step} <- Steps, Who =:= N], Numbered, Servers} || {N, Pid} <- maps:to_list(Numbered)],
-    [receive {played, Pid} -> ok after 20_000 -> error({stuck, erlang:process_info(Pid)}) end || Pid <- maps:values(Numbered)],
+    [receive {played, Pid} -> ok after 20_000 -> error({stuck, Pid}) end || Pid <- maps:values(Numbered)],
     ok.
 
 %% What the players do, in one order: messages are received behind their sends, in any order.
@@ -136,7 +135,7 @@ act(spawn, _, _, _, _) ->
 act({call, Which}, Me, Flags, Numbered, Servers) ->
     [act({begins, 2_000_000 + erlang:unique_integer([positive])}, Me, Flags, Numbered, Servers)
      || seq_trace:get_token() =:= [], rand:uniform(5) > 1],
-    got(gen_server:call(lists:nth(Which, Servers), content(sent), 15_000)).
+    seqaudit_truth_servers:ask(lists:nth(Which, Servers)).
 
 %% A child has its token from the request to spawn it.
 child(Parent) ->
@@ -146,9 +145,11 @@ child(Parent) ->
 
 know(Known) -> put(known, Known).
 
+known() -> get(known).
+
 %% The content of what is sent or printed now.
 content(What) ->
-    Number = 2 * erlang:unique_integer([positive, monotonic]) + erlang:phash2(node(), 2),
+    Number = next_number(),
     case {get(known), seq_trace:get_token()} of
         {none, []} ->
             {m, Number, none, false};
@@ -160,51 +161,3 @@ content(What) ->
 %% A message that had no token takes the receiver's away.
 got({m, _, none, _}) -> know(none);
 got({m, Number, _, _}) -> log(received, Number), know({Number, false}).
-
-%% Servers
-
-start_server(How) ->
-    {ok, Server} = gen_server:start(?MODULE, How, []),
-    Server.
-
-init(How) ->
-    know(none),
-    {ok, Worker} = case How of
-                       delegated -> gen_server:start_link(?MODULE, at_once, []);
-                       _ -> {ok, none}
-                   end,
-    {ok, {How, Worker, []}}.
-
-handle_call({wait, _}, _From, State) ->
-    %% It had no token.
-    know(none),
-    {noreply, NewState} = handle_cast(flush, State),
-    {reply, ok, NewState};
-handle_call(Request, From, {How, Worker, Waiting}) ->
-    got(Request),
-    case How of
-        at_once -> {reply, content(sent), {How, Worker, Waiting}};
-        later ->
-            [gen_server:reply(Client, content(sent)) || {Client, _, _} <- Waiting],
-            erlang:send_after(5, self(), {'$gen_cast', flush}),
-            {noreply, {How, Worker, [{From, none, none}]}};
-        delegated ->
-            gen_server:cast(Worker, {reply, From, content(sent)}),
-            {noreply, {How, Worker, Waiting}};
-        kept ->
-            Kept = {From, seq_trace:set_token([]), know(none)},
-            erlang:send_after(5, self(), {'$gen_cast', flush}),
-            {noreply, {How, Worker, Waiting ++ [Kept]}}
-    end.
-
-handle_cast({reply, Client, Content}, State) ->
-    got(Content),
-    gen_server:reply(Client, content(sent)),
-    {noreply, State};
-handle_cast(flush, {How, Worker, Waiting}) ->
-    [begin
-         How =:= kept andalso begin seq_trace:set_token(Token), know(Known) end,
-         gen_server:reply(Client, content(sent)),
-         How =:= kept andalso begin seq_trace:set_token([]), know(none) end
-     end || {Client, Token, Known} <- Waiting],
-    {noreply, {How, Worker, []}}.

@@ -1,7 +1,7 @@
 #!/usr/bin/env python3
 """A slow seqtool: a test model, made by the rules (docs/COMPLETIONS.md) and not by the program.
 
-    slow_seqtool.py renumber | why PID I | complete [--as added|streams|acts]    [FILE]
+    slow_seqtool.py renumber | why PID I | why --line N | complete [--as added|streams|acts]    [FILE]
 
 It writes what the program writes, but for what differs on purpose:
 
@@ -11,6 +11,7 @@ It writes what the program writes, but for what differs on purpose:
   commands.
 """
 
+import argparse
 import re
 import signal
 import sys
@@ -369,10 +370,11 @@ def written(words, streams):
     match words:
         case ["renumber"]:
             return list(model.write(renumbered(streams), None))
-        case ["why", pid, index]:
-            lines = slow_why.why(streams, (pid_of(pid), int(index)), model.TOP, False)
+        case ["why", options, *place]:
+            where = (pid_of(place[0]), int(place[1])) if place else slow_why.place_on(streams, options.line)
+            lines = slow_why.why(streams, where, options.depth, options.label, options.effects, options.json)
             if lines is None:
-                raise NoEvent(f"no event {show(pid_of(pid))} {index}")
+                raise NoEvent(f"no event {show(where[0])} {where[1]}" if place else f"no event on line {options.line}")
             return lines
     whole = completed(streams)
     if words[1:] not in ([], ["--as", "added"]) and len(whole) > MOST_PROCESSES:
@@ -411,13 +413,25 @@ def answer(words, text):
         return list(report(streams, unfit)), 1
 
 
+# The options of `why`.
+WHY = argparse.ArgumentParser(add_help=False)
+WHY.add_argument("--line", type=int)
+WHY.add_argument("--depth", type=int, default=model.TOP)
+for flag in ("--label", "--effects", "--json"):
+    WHY.add_argument(flag, action="store_true")
+
+
 def asked(words):
     """The command and the file, if the words are understood."""
     match words:
         case ["renumber" | "complete" as command, *rest] if len(rest) < 2:
             return [command], *rest
-        case ["why", pid, index, *rest] if len(rest) < 2 and PID.fullmatch(pid) and index.isdecimal():
-            return ["why", pid, index], *rest
+        case ["why", *rest]:
+            options, rest = WHY.parse_known_args(rest)
+            place, file = (rest[:2], rest[2:]) if options.line is None else ([], rest)
+            is_place = len(place) == 2 and PID.fullmatch(place[0]) and place[1].isdecimal()
+            is_asked = len(file) < 2 and (is_place or options.line is not None)
+            return (["why", options, *place], *file) if is_asked else None
         case ["complete", "--as", "added" | "streams" | "acts" as form, *rest] if len(rest) < 2:
             return ["complete", "--as", form], *rest
         case _:
@@ -435,7 +449,8 @@ def main():
     signal.signal(signal.SIGPIPE, signal.SIG_DFL)
     words = asked(sys.argv[1:])
     if words is None:
-        print("usage: slow_seqtool.py renumber | why PID I | complete [--as added|streams|acts]    [FILE]", file=sys.stderr)
+        print("usage: slow_seqtool.py renumber | why PID I | why --line N | complete [--as added|streams|acts]    [FILE]",
+              file=sys.stderr)
         sys.exit(3)
     command, *file = words
     try:

@@ -1,12 +1,24 @@
-"""What `seqtool why` writes: a slow model of crates/st_why, made by the rules of crates/st_origin."""
+"""What `seqtool why` writes: a slow model of crates/st_why, by the rules of crates/st_origin and crates/st_hops."""
+
+import json
+from collections import namedtuple
 
 from slow_seqaudit import pair, show
 
 PREMISES = ("in a run without a reset; (1) if each receive of a token was reported; (2) if no process cleared its token "
             "and began again under the same label; on a standard node (2) wherever (1)")
+PREMISES_OBJECT = {"premise_1": "each receive of a token was reported",
+                   "premise_2": "no process cleared its token and began again under the same label",
+                   "standard_node": "2 wherever 1"}
 BEGINS = "begins here"
 BEGINS_OR_UNREPORTED = "begins here, or follows a message whose receive wasn't reported"
 UNSENT = "its send wasn't reported"
+
+# So many hops are shown by spaces.
+INDENT = 16
+
+# What an event follows: the kind of hop, the place that it names, and the premises that it rests on.
+Hop = namedtuple("Hop", "kind place premises")
 
 
 def row_start(events, i):
@@ -18,39 +30,114 @@ def row_start(events, i):
 
 
 def hop_of_stamp(streams, pid, i):
-    """The words, and the place that they lead to. The third is whether another label stands between."""
     events = streams[pid]
     event, start = events[i], row_start(events, i)
     above = any(earlier.this > event.prev for earlier in events[:start])
     before = events[start - 1] if start else None
     if before is None or before.kind != "receive" or before.this != event.prev:
-        is_begun = event.prev == 0 and not above
-        return (BEGINS if is_begun else BEGINS_OR_UNREPORTED), None, False
-    place = pid, start - 1
+        return Hop("begins_or_unreported" if event.prev or above else "begins", None, [])
     if before.label != event.label:
-        return (f"begins label {event.label} here, or set it on its token; it had last received {show(pid)} {start - 1} "
-                f"of label {before.label} (1)"), place, True
-    return f"after {show(pid)} {start - 1} {'(1)' if above else '(1, 2)'}", place, False
+        return Hop("other_label", (pid, start - 1), [1])
+    return Hop("after", (pid, start - 1), [1] if above else [1, 2])
 
 
-def hop(streams, source, place):
+def hop_of(streams, source, place):
     pid, i = place
     if streams[pid][i].kind != "receive":
         return hop_of_stamp(streams, pid, i)
     sent = source[place]
-    return (f"after {show(sent[0])} {sent[1]}" if sent else UNSENT), sent, False
+    return Hop("after", sent, []) if sent else Hop("unsent", None, [])
 
 
-def why(streams, place, most, across):
-    """The lines of at most so many hops, over a change of label only if asked to; none if there is no such event."""
+def leads_to(hop, across):
+    """The place that the hop goes to, over a change of label only if asked to."""
+    return hop.place if across or hop.kind != "other_label" else None
+
+
+def line_of(streams, place):
+    """The line of an event in the text: the header is line 1, and each process and each event takes one."""
+    pid, i = place
+    return 3 + i + sum(1 + len(streams[earlier]) for earlier in streams if earlier < pid)
+
+
+def place_on(streams, line):
+    return next(((pid, i) for pid in streams for i in range(len(streams[pid])) if line_of(streams, (pid, i)) == line), None)
+
+
+def way(streams, source, place, most, across):
+    nodes = []
+    while place and len(nodes) < most:
+        nodes.append((len(nodes), place))
+        place = leads_to(hop_of(streams, source, place), across)
+    return nodes
+
+
+def tree(streams, source, place, most, across):
+    """All events whose hops lead to the place, each below the one that its hop names, in the order of their places."""
+    children = {}
+    for pid, events in streams.items():
+        for i in range(len(events)):
+            children.setdefault(leads_to(hop_of(streams, source, (pid, i)), across), []).append((pid, i))
+    nodes, waiting = [], [(0, place)]
+    while waiting:
+        depth, here = waiting.pop()
+        if depth < most:
+            nodes.append((depth, here))
+            waiting += [(depth + 1, child) for child in reversed(children.get(here, []))]
+    return nodes
+
+
+def located(streams, place):
+    return f"{show(place[0])} {place[1]}, line {line_of(streams, place)}"
+
+
+def sentence(streams, place, hop):
+    if hop.kind == "other_label":
+        label, received = streams[place[0]][place[1]].label, streams[hop.place[0]][hop.place[1]].label
+        words = (f"begins label {label} here, or set it on its token; it had last received {located(streams, hop.place)} "
+                 f"of label {received}")
+    else:
+        words = {"after": hop.place and f"after {located(streams, hop.place)}", "unsent": UNSENT, "begins": BEGINS,
+                 "begins_or_unreported": BEGINS_OR_UNREPORTED}[hop.kind]
+    return words + (f" ({', '.join(map(str, hop.premises))})" if hop.premises else "")
+
+
+def text_line(streams, node, hop, is_tree):
+    depth, place = node
+    event = streams[place[0]][place[1]]
+    front = f"{depth} {' ' * min(depth, INDENT)}" if is_tree else ""
+    return (f"{front}{located(streams, place)}  {event.kind:8} {{{event.prev},{event.this}}} {event.value} "
+            f"{sentence(streams, place, hop)}")
+
+
+def place_fields(streams, place):
+    return {"pid": show(place[0]), "index": place[1], "line": line_of(streams, place)}
+
+
+def json_line(streams, node, hop):
+    depth, place = node
+    event = streams[place[0]][place[1]]
+    fields = {"depth": depth, **place_fields(streams, place), "kind": event.kind, "label": event.label, "prev": event.prev,
+              "this": event.this, "value": event.value, "hop": hop.kind}
+    if hop.kind == "after":
+        fields["after"] = place_fields(streams, hop.place)
+    elif hop.kind == "other_label":
+        label = streams[hop.place[0]][hop.place[1]].label
+        fields["received"] = {**place_fields(streams, hop.place), "label": label}
+    return compact({**fields, "certain": not hop.premises, "premises": hop.premises})
+
+
+def compact(fields):
+    return json.dumps(fields, separators=(",", ":"))
+
+
+def why(streams, place, most, across, is_tree=False, is_json=False):
+    """The lines of at most so many hops back, or of so many levels of what follows; none if there is no such event."""
     source = pair(streams)
-    if place[1] >= len(streams.get(place[0], [])):
+    if place is None or place[1] >= len(streams.get(place[0], [])):
         return None
-    lines = []
-    while place and len(lines) < most:
-        pid, i = place
-        event = streams[pid][i]
-        words, before, is_other = hop(streams, source, place)
-        lines.append(f"{show(pid)} {i}  {event.kind:8} {{{event.prev},{event.this}}} {event.value} {words}")
-        place = None if is_other and not across else before
-    return [*lines, PREMISES]
+    nodes = (tree if is_tree else way)(streams, source, place, most, across)
+    hops = [hop_of(streams, source, here) for _, here in nodes]
+    if is_json:
+        return [*(json_line(streams, node, hop) for node, hop in zip(nodes, hops)), compact(PREMISES_OBJECT)]
+    return [*(text_line(streams, node, hop, is_tree) for node, hop in zip(nodes, hops)), PREMISES]

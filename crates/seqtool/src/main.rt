@@ -7,13 +7,18 @@ ghost use Rattle.std.specs.Prelude.{◌≡◌, MatchResult};
 
 use clap::Error;
 use clap::error::ErrorKind;
-use st_core::{ByteSink, ByteSource, ReadFrom, WriteTo};
-use st_tool::{tell_no_device, tell_no_memory};
+use st_console::{Inlet, Outlet};
+use st_core::{ByteSink, ReadFrom, WriteTo};
+use st_tool::{tell_no, tell_trouble, tell_unopened, tell_unwritten};
 use st_words::{Request, read_words, run};
+use std::io::{IsTerminal, Read, Write};
 use std::process::ExitCode;
 use std::rt::Files;
 use std::thread::Threads;
 use std::{env, fs, io};
+
+/// The status of a no.
+const NO: u8 = 1;
 
 /// The status of a command line that isn't understood.
 const USAGE: u8 = 3;
@@ -27,31 +32,70 @@ fn words_of(rt: &HostRuntime) -> io::Result<Vec<String>> {
     Ok(words)
 }
 
-/// Does what the words ask for, on the file that they name or on standard input. A file that can't
-/// be opened is named on standard error, beside the output of a device that failed.
+/// Does what the words ask for, on the input of this name, and says on standard error what was at
+/// fault.
 fn serve<H, R, W, N>(
     rt: &H,
     request: &Request<'_>,
-    input: &mut R,
-    writer: &mut W,
+    name: &str,
+    inlet: &mut Inlet<R>,
+    outlet: &mut Outlet<W>,
+    notes: &mut N,
+) -> u8
+where
+    H: AllocGlobal + Threads + Sync + Eprint,
+    R: Read,
+    W: Write,
+    N: ByteSink,
+{
+    let status = run(
+        rt,
+        request.task,
+        &mut ReadFrom::new(&mut *inlet),
+        &mut WriteTo::new(&mut *outlet),
+        notes,
+    );
+    tell_trouble(rt, rt.alloc(), name, inlet, outlet, notes);
+    status
+}
+
+/// Does what the words ask for, on the file that they name.
+fn serve_file<H, W, N>(
+    rt: &H,
+    request: &Request<'_>,
+    path: &str,
+    outlet: &mut Outlet<W>,
     notes: &mut N,
 ) -> u8
 where
     H: AllocGlobal + Files + Threads + Sync + Eprint,
-    R: ByteSource,
-    W: ByteSink,
+    W: Write,
     N: ByteSink,
 {
-    match request.file {
-        None => run(rt, request.task, input, writer, notes),
-        Some(path) => match fs::open(rt, path) {
-            Ok(file) => run(rt, request.task, &mut ReadFrom::new(file), writer, notes),
-            Err(error) => {
-                let _ = eprintln!(rt; "error: {path} can't be opened: {error}");
-                tell_no_device(writer)
-            }
-        },
+    match fs::open(rt, path) {
+        Ok(file) => {
+            let mut inlet = Inlet::new(rt.alloc(), file);
+            serve(rt, request, path, &mut inlet, outlet, notes)
+        }
+        Err(reason) => {
+            tell_unopened(rt, path, &reason);
+            FAILED
+        }
     }
+}
+
+/// Says on standard error what nobody would see otherwise: a no, of which this is the first line,
+/// where the program behind a pipe waits for a bundle.
+fn note_no(rt: &HostRuntime, first_line: &[u8]) {
+    if !rt.stdout().is_terminal() {
+        let _ = tell_no(first_line, &mut WriteTo::new(rt.stderr()));
+    }
+}
+
+/// Says that there is no memory for the words.
+fn tell_no_memory(rt: &HostRuntime) -> u8 {
+    let _ = rt.eprintln("error: memory ran out");
+    FAILED
 }
 
 /// The status after a text was printed: this one, or 4 if that failed.
@@ -68,16 +112,19 @@ fn status_of(printed: io::Result<()>, status: u8) -> u8
 /// error with status 3.
 fn tell_error(rt: &HostRuntime, error: &Error) -> u8 {
     if error.kind() == ErrorKind::OutOfMemory {
-        return tell_no_memory(&mut WriteTo::new(rt.stdout()));
+        return tell_no_memory(rt);
     }
     let printed = error.print(rt);
+    if let Err(reason) = &printed {
+        tell_unwritten(rt, reason);
+    }
     status_of(printed, if error.use_stderr() { USAGE } else { 0 })
 }
 
 /// Says that a word isn't UTF-8, or that there was no memory for the words.
 fn tell_unread(rt: &HostRuntime, error: &io::Error) -> u8 {
     match error.kind() {
-        io::ErrorKind::OutOfMemory => tell_no_memory(&mut WriteTo::new(rt.stdout())),
+        io::ErrorKind::OutOfMemory => tell_no_memory(rt),
         _ => {
             let printed = rt.eprintln(
                 "error: a word of the command line isn't UTF-8; see seqtool --help",
@@ -91,10 +138,20 @@ fn main(rt: HostRuntime) -> ExitCode {
     let status = match words_of(&rt) {
         Ok(words) => match read_words(rt.alloc(), words.as_slice()) {
             Ok(request) => {
-                let mut input = ReadFrom::new(rt.stdin());
-                let mut writer = WriteTo::new(rt.stdout());
+                let mut outlet = Outlet::new(rt.stdout());
                 let mut notes = WriteTo::new(rt.stderr());
-                serve(&rt, &request, &mut input, &mut writer, &mut notes)
+                let status = match request.file {
+                    Some(path) => serve_file(&rt, &request, path, &mut outlet, &mut notes),
+                    None => {
+                        let name = "standard input";
+                        let mut inlet = Inlet::new(rt.alloc(), rt.stdin());
+                        serve(&rt, &request, name, &mut inlet, &mut outlet, &mut notes)
+                    }
+                };
+                if status == NO && request.task.writes_bundle() {
+                    note_no(&rt, outlet.first_line());
+                }
+                status
             }
             Err(error) => tell_error(&rt, &error),
         },

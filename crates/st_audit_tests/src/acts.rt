@@ -1,7 +1,9 @@
 //! The acts of completions: how many there are.
 
 use crate::shared::same;
-use st_complete::{Answer, CertificateFault, Completion, certificate, complete};
+use st_complete::{
+    Answer, CertificateFault, Completion, certificate, certificate_by_construction, complete,
+};
 use st_core::{Draft, Event, Kind, Label, Pid, Serial, Streams};
 use std::alloc::Global;
 use std::test::Fail;
@@ -74,6 +76,15 @@ fn a_token_is_set_once(rt: HostRuntime) -> Result<(), Fail> {
     same(&rt, &found.acts.len(), &7);
     let fewer = certificate::<MOST>(&rt, rt.alloc(), &streams, &completion, 6);
     assert!(rt; matches!(fewer, Err(CertificateFault::TooMany)));
+    Ok(())
+}
+
+#[test]
+fn the_acts_of_the_construction_are_certified(rt: HostRuntime) -> Result<(), Fail> {
+    let streams = request(rt.alloc())?;
+    let completion = completion_of(rt.alloc(), &streams)?;
+    let found = certificate_by_construction::<MOST>(&rt, rt.alloc(), &streams, &completion, 100)?;
+    assert!(rt; found.acts.len() >= 7);
     Ok(())
 }
 

@@ -46,7 +46,7 @@ fn chain_answers(
     let pairing = pair(alloc, streams).ok()?;
     let chains = Chains::new(alloc, streams, &pairing).ok()?;
     let chain = indexes(alloc, chains.of(pid, Label(label))).ok()?;
-    let back = chains.back(alloc, pid, index).ok()?;
+    let back = chains.back(pid, index).ok()?;
     let cause = chains.cause(pid, index);
     Some(Answers { chain, cause, back })
 }

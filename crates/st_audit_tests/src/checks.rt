@@ -248,6 +248,8 @@ fn reports_are_those_of_the_replay(rt: HostRuntime) -> Result<(), Fail> {
     assert!(rt; matches!(stuck, Reports::Stuck(4)));
     let falling = reports::<3>(rt.alloc(), &[p31(), p30()], &four_prints());
     assert!(rt; matches!(falling, Err(ReplayFault::NotRising)));
+    let falling = replay::<3>(rt.alloc(), &[p31(), p30()], &four_prints());
+    assert!(rt; matches!(falling, Err(ReplayFault::NotRising)));
     Ok(())
 }
 
@@ -302,6 +304,20 @@ fn send_one() -> [Act; 5] {
     ]
 }
 
+/// A print, and after a clear one in a new trace.
+fn new_trace() -> [Act; 8] {
+    [
+        Act::Tracer(p30(), true),
+        Act::Set(p30(), Component::Label(Label(17))),
+        Act::Set(p30(), Component::Print(true)),
+        Act::Print(p30(), 7),
+        Act::Clear(p30()),
+        Act::Set(p30(), Component::Label(Label(18))),
+        Act::Set(p30(), Component::Print(true)),
+        Act::Print(p30(), 8),
+    ]
+}
+
 // If memory runs out the result is Memory, and the same call succeeds afterwards. That is seen if
 // these three tests run with an allocation that fails.
 #[test]
@@ -316,27 +332,32 @@ fn a_check_without_memory_may_be_asked_again(rt: HostRuntime) {
     same(&rt, &told, &Ok(true));
 }
 
-/// How many replies a replay of the send and its receive gives.
-fn replies(alloc: Global) -> Result<usize, ReplayFault> {
-    match replay::<MOST>(alloc, &[p30(), p31()], &send_one())? {
-        Replayed::Ran(_, replies) => Ok(replies.as_slice().len()),
-        Replayed::Stuck(_) => Ok(0),
+/// How many replies a replay gives, and how many events it reports.
+fn replayed(alloc: Global, acts: &[Act]) -> Result<(usize, u64), ReplayFault> {
+    match replay::<MOST>(alloc, &[p30(), p31()], acts)? {
+        Replayed::Ran(streams, replies) => Ok((replies.len(), streams.total())),
+        Replayed::Stuck(_) => Ok((0, 0)),
     }
 }
 
 #[test]
 fn a_replay_without_memory_may_be_asked_again(rt: HostRuntime) {
     let alloc = rt.alloc();
-    let told = match replies(alloc) {
-        Err(ReplayFault::Memory) => replies(alloc),
-        told => told,
-    };
-    same(&rt, &told, &Ok(5));
+    for (acts, wanted) in [
+        (send_one().as_slice(), (5, 1)),
+        (new_trace().as_slice(), (8, 2)),
+    ] {
+        let told = match replayed(alloc, acts) {
+            Err(ReplayFault::Memory) => replayed(alloc, acts),
+            told => told,
+        };
+        same(&rt, &told, &Ok(wanted));
+    }
 }
 
-/// How many events the send and its receive report.
-fn report_count(alloc: Global) -> Result<u64, ReplayFault> {
-    match reports::<MOST>(alloc, &[p30(), p31()], &send_one())? {
+/// How many events these acts report.
+fn report_count(alloc: Global, acts: &[Act]) -> Result<u64, ReplayFault> {
+    match reports::<MOST>(alloc, &[p30(), p31()], acts)? {
         Reports::Ran(streams) => Ok(streams.total()),
         Reports::Stuck(_) => Ok(0),
     }
@@ -345,9 +366,11 @@ fn report_count(alloc: Global) -> Result<u64, ReplayFault> {
 #[test]
 fn reports_without_memory_may_be_asked_again(rt: HostRuntime) {
     let alloc = rt.alloc();
-    let told = match report_count(alloc) {
-        Err(ReplayFault::Memory) => report_count(alloc),
-        told => told,
-    };
-    same(&rt, &told, &Ok(1));
+    for (acts, wanted) in [(send_one().as_slice(), 1), (new_trace().as_slice(), 2)] {
+        let told = match report_count(alloc, acts) {
+            Err(ReplayFault::Memory) => report_count(alloc, acts),
+            told => told,
+        };
+        same(&rt, &told, &Ok(wanted));
+    }
 }

@@ -8,7 +8,7 @@
 //! | `checks` | `st_check`: checks and replays |
 //! | `plans` | `st_plan` |
 //! | `audits` | `st_audit` |
-//! | `needs` | `st_needs`, `st_fallback`: completions by the definition, reasons |
+//! | `needs` | `st_needs`: completions by the definition, reasons |
 //! | `completes` | `st_complete` |
 //! | `acts` | `st_complete`: how many acts completions take |
 //! | `completions` | `st_complete`: completions of 100,000 events |

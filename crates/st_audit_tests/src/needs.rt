@@ -4,8 +4,7 @@
 use crate::shared::same;
 use st_complete::{Answer, CompleteFault, Completion, Never, complete, renumbered};
 use st_core::{Draft, Event, Kind, Label, Pid, Serial, Streams};
-use st_fallback::complete_by_definition;
-use st_needs::{Flaw, find_flaw, find_unfounded};
+use st_needs::{Flaw, complete_by_definition, find_flaw, find_unfounded};
 use st_pair::pair;
 use st_samples::{p30, p31};
 use std::alloc::{AllocError, Global};

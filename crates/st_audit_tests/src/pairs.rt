@@ -58,6 +58,48 @@ fn a_send_and_its_receive_are_paired(rt: HostRuntime) {
     assert_passed(&rt, &pairing_of(&rt, rt.alloc(), ONE_MESSAGE));
 }
 
+/// Texts of streams that pairing refuses.
+const PREV_NOT_BEFORE: &str = "seqtrace 1\n\
+    process <0.30.0>\n\
+    {seq_trace,17,{print,{0,2},<0.30.0>,[],7}}\n\
+    {seq_trace,17,{print,{0,1},<0.30.0>,[],7}}\n\
+    {seq_trace,17,{print,{3,3},<0.30.0>,[],7}}\n";
+
+const NOT_RISING: &str = "seqtrace 1\n\
+    process <0.30.0>\n\
+    {seq_trace,17,{print,{0,2},<0.30.0>,[],7}}\n\
+    {seq_trace,17,{print,{0,1},<0.30.0>,[],7}}\n";
+
+const REPEATED: &str = "seqtrace 1\n\
+    process <0.30.0>\n\
+    process <0.31.0>\n\
+    {seq_trace,17,{'receive',{0,2},<0.30.0>,<0.31.0>,5}}\n\
+    process <0.32.0>\n\
+    {seq_trace,17,{'receive',{0,2},<0.30.0>,<0.32.0>,5}}\n";
+
+const MISMATCH: &str = "seqtrace 1\n\
+    process <0.30.0>\n\
+    {seq_trace,17,{print,{0,2},<0.30.0>,[],7}}\n\
+    process <0.31.0>\n\
+    {seq_trace,17,{'receive',{0,2},<0.30.0>,<0.31.0>,5}}\n";
+
+fn assert_refused(rt: &impl Abort, alloc: Global, text: &str, fault: PairFault) {
+    let refused = pair(alloc, &streams_at_last(rt, alloc, text)).err();
+    same(rt, &refused, &Some(fault));
+}
+
+#[test]
+fn a_pairing_is_refused_for_its_reasons(rt: HostRuntime) {
+    let alloc = rt.alloc();
+    let fault = PairFault::PrevNotBefore(p30(), 2);
+    assert_refused(&rt, alloc, PREV_NOT_BEFORE, fault);
+    assert_refused(&rt, alloc, NOT_RISING, PairFault::NotRising(p30(), 1, 0));
+    let fault = PairFault::Repeated(p32(), 0, p31(), 0);
+    assert_refused(&rt, alloc, REPEATED, fault);
+    let fault = PairFault::Mismatch(p31(), 0, p30(), 0);
+    assert_refused(&rt, alloc, MISMATCH, fault);
+}
+
 /// If memory runs out the result is Memory, and the same call succeeds afterwards.
 #[test]
 fn a_pairing_without_memory_may_be_asked_again(rt: HostRuntime) {

@@ -104,6 +104,7 @@ fn receive_before(
 /// what it takes to find the list of a process and a label.
 #[derive(Drop)]
 pub struct Chains<'a> {
+    alloc: Global,
     streams: &'a Streams,
     pairing: &'a Pairing,
     backs: Vec<Sequence<Option<u64>>>,
@@ -140,6 +141,7 @@ impl<'a> Chains<'a> {
         let backs = all_backs(alloc, streams)?;
         let table = LabelTable::new(alloc, streams)?;
         Ok(Chains {
+            alloc,
             streams,
             pairing,
             backs,
@@ -177,10 +179,10 @@ impl<'a> Chains<'a> {
     /// The event at this place, its cause, and so on until a hidden send or a start; nothing if
     /// there is no event. It ends: no cause counts more than its event. Fails only if memory runs
     /// out.
-    pub fn back(&self, alloc: Global, pid: Pid, index: u64) -> Result<Vec<(Pid, u64)>, AllocError>
+    pub fn back(&self, pid: Pid, index: u64) -> Result<Vec<(Pid, u64)>, AllocError>
         ensures { IfOk result (λ v. IsBackFrom self.now (place_at self.now pid index) v.items) }
     {
-        let mut list = Vec::new(alloc);
+        let mut list = Vec::new(self.alloc);
         let mut at = self.place(pid, index);
         while let Some((p, i)) = at {
             list.push((p, i))?;

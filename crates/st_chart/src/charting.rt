@@ -10,10 +10,10 @@ ghost use Rattle.st_chart.specs.Chart.{all_charted, lane_line, lane_lines, mark,
 ghost use Rattle.st_chart.specs.Chart.{label_line, chart_lines, chart_text};
 ghost use Rattle.st_chart.specs.Parts.{line_in};
 
-use crate::charted::{ChartedItem, is_any_charted};
+use crate::charted::{ChartedItem, has_end_among, is_any_charted};
 use crate::fault::ChartFault;
 use crate::lanes::lanes_of;
-use crate::marks::{put_item, put_mark};
+use crate::marks::{RUN, put_bars, put_item, put_mark};
 use st_chain::Chains;
 use st_core::{ByteSink, Label, Pid, Streams};
 use st_order::Item;
@@ -68,9 +68,9 @@ fn write_lanes<W: ByteSink>(
     Ok(())
 }
 
-/// Writes an item's mark in each lane. A line may be longer than the buffer, so room is made for
-/// each mark.
-fn write_marks<W: ByteSink>(
+/// Writes an item's mark in each of these lanes. A line may be longer than the buffer, so room is
+/// made for each mark.
+fn write_each_mark<W: ByteSink>(
     writer: &mut W,
     buffer: &mut Buffer,
     lanes: &[Pid],
@@ -82,6 +82,44 @@ fn write_marks<W: ByteSink>(
     for lane in lanes {
         make_room(writer, buffer)?;
         put_mark(buffer, charted, *lane);
+    }
+    Ok(())
+}
+
+/// Writes an item's marks in these lanes. In most of a wide chart they are bars, which a whole run
+/// gets at once.
+fn write_run<W: ByteSink>(
+    writer: &mut W,
+    buffer: &mut Buffer,
+    lanes: &[Pid],
+    charted: &ChartedItem,
+) -> Result<(), Device>
+    ensures { WritesOn W.puts W.failed (flat_map (mark charted.now) lanes.now)
+        writer.old writer.new buffer.old.items buffer.new.items result }
+{
+    if lanes.len() != RUN || has_end_among(&charted.event, lanes) {
+        return write_each_mark(writer, buffer, lanes, charted);
+    }
+    make_room(writer, buffer)?;
+    put_bars(buffer);
+    Ok(())
+}
+
+/// Writes an item's mark in each lane.
+fn write_marks<W: ByteSink>(
+    writer: &mut W,
+    buffer: &mut Buffer,
+    lanes: &[Pid],
+    charted: &ChartedItem,
+) -> Result<(), Device>
+    ensures { WritesOn W.puts W.failed (flat_map (mark charted.now) lanes.now)
+        writer.old writer.new buffer.old.items buffer.new.items result }
+{
+    let mut rest = lanes;
+    while !rest.is_empty() {
+        let (run, behind) = rest.split_at(RUN.min(rest.len()));
+        write_run(writer, buffer, run, charted)?;
+        rest = behind;
     }
     Ok(())
 }

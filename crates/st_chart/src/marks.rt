@@ -4,8 +4,9 @@ ghost use Rattle.std.specs.Prelude.{◌≡◌, ◌+◌, ◌++◌, codes};
 ghost use Rattle.st_text.specs.Room.{line_room, HasRoom, Puts};
 ghost use Rattle.st_text.specs.Spelling.{ended_line};
 ghost use Rattle.st_chart.specs.Chart.{letter, mark, item_word, cause_words, origin_words};
+ghost use Rattle.st_chart.specs.Parts.{bars};
 ghost use Rattle.st_chart.specs.Chart.{item_words};
-ghost use Rattle.st_chart.specs.Room.{mark_room, item_word_room, origin_room, item_room};
+ghost use Rattle.st_chart.specs.Room.{mark_room, bars_room, item_word_room, origin_room, item_room};
 
 use crate::charted::{ChartedItem, is_end};
 use crate::words::put_place;
@@ -13,6 +14,17 @@ use st_chain::{Cause, Chains};
 use st_core::{Kind, Pid};
 use st_order::Item;
 use st_text::{Buffer, put_bytes, put_number, put_serial};
+
+/// So many lanes get their bars at once. A chart of 64 lanes has runs without an end too.
+pub(crate) const RUN: usize = 8;
+
+/// Appends the bars of a run of lanes.
+pub(crate) fn put_bars(buffer: &mut Buffer)
+    requires { HasRoom bars_room buffer.old }
+    ensures { buffer.new.items ≡ buffer.old.items ++ bars 8 }
+{
+    put_bytes(buffer, b"   |   |   |   |   |   |   |   |");
+}
 
 /// Appends the mark of the lane in which an item happened.
 fn put_letter(buffer: &mut Buffer, item: Item, kind: Kind)

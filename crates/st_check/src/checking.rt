@@ -11,8 +11,9 @@ use std::alloc::Global;
 
 /// Whether the acts are a run from zero clocks in which each process reports exactly its stream.
 ///
-/// Its time grows with the acts, the events and the walks in the queues. An act takes no memory
-/// but a send, for its message, and a reported receive, for its pair.
+/// Its time grows with the acts, the events and the walks in the queues. It fails only if
+/// there is no memory for the message of a send or for the pair of a reported receive. An index of a
+/// long queue takes memory too, and is done without if there is none.
 pub fn check<const TOP: u64>(
     alloc: Global,
     streams: &Streams,

@@ -7,10 +7,11 @@ ghost use Rattle.st_commands.specs.Words.{asked, chart_line, chart_of, command_l
 ghost use Rattle.st_commands.specs.Words.{IsRefusal, IsRefusalOf};
 
 use clap::error::ErrorKind;
-use clap::{Arg, ArgMatches, Command, Error};
+use clap::{Arg, ArgMatches, Command};
 use st_core::Label;
 use std::alloc::{AllocError, Global};
 use std::convert::AsStr;
+use thiserror::Error;
 
 /// A command of the program.
 #[derive(Clone, Copy, Debug, PartialEq, Eq)]
@@ -28,11 +29,13 @@ pub enum Task {
 }
 
 /// Why the words ask for no command.
-#[derive(Clone, Copy, Debug, PartialEq, Eq)]
+#[derive(Clone, Copy, Debug, PartialEq, Eq, Error)]
 pub enum Refusal {
     /// Memory ran out. It can come in place of any other result.
+    #[error("no memory")]
     Memory,
     /// The words aren't the program's name and one command, or they ask for help.
+    #[error("the words ask for no command")]
     Usage,
 }
 
@@ -99,7 +102,7 @@ fn task_of(name: &str, found: &ArgMatches) -> Option<Task>
 }
 
 /// Why `clap` gave no matches.
-fn why_refused(error: &Error) -> Refusal
+fn why_refused(error: &clap::Error) -> Refusal
     ensures { IsRefusalOf (kind_of error.now) result }
 {
     match error.kind() {

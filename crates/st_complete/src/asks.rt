@@ -144,14 +144,17 @@ impl Asks {
                 fed.push(*ask)?;
             }
         }
-        fed.sort_by_key(|ask| (ask.process, ask.index))?;
+        // Needs that got no lost message are still in order.
+        if !fed.is_sorted_by_key(|ask| (ask.process, ask.index)) {
+            fed.sort_by_key(|ask| (ask.process, ask.index))?;
+        }
         Ok(fed)
     }
 }
 
 /// The hidden sends of the processes up to this one, and the others.
 pub(crate) fn split_hidden(hidden: &[HiddenSend], pid: Pid) -> (&[HiddenSend], &[HiddenSend]) {
-    let count = hidden.partition_point(|send| send.from <= pid);
+    let count = hidden.partition_point(|send| send.event.from <= pid);
     hidden.split_at(count)
 }
 

@@ -145,9 +145,11 @@ fn certify_completion<const TOP: u64>(
     }
 }
 
-/// Certifies the acts of the auditor's construction, for which it is proved that they show the told
-/// events of plain streams.
-pub(crate) fn certify_told<const TOP: u64>(
+/// Writes the acts of a completion by the auditor's construction, for which it is proved that they
+/// show the told events of plain streams. They are more than those of `certificate`, which takes them
+/// only if its own don't serve. It fails with `TooMany` if they are more than `most`, or more than
+/// 1,000 counts are missing before one event, or 1,000,000 in all.
+pub fn certificate_by_construction<const TOP: u64>(
     rt: &(impl Threads + Sync),
     alloc: Global,
     streams: &Streams,
@@ -198,6 +200,6 @@ pub fn certificate<const TOP: u64>(
     match certify_completion::<TOP>(rt, alloc, streams, completion, most) {
         Err(AllocError) => Err(CertificateFault::Memory),
         Ok(Some(found)) => Ok(found),
-        Ok(None) => certify_told::<TOP>(rt, alloc, streams, completion, most),
+        Ok(None) => certificate_by_construction::<TOP>(rt, alloc, streams, completion, most),
     }
 }

@@ -79,7 +79,7 @@ impl<'a> Entries<'a> {
         }
         self.hidden = others;
         self.index = self.index.saturating_add(1);
-        send.event(self.streams)
+        Some(send.event)
     }
 
     /// The next reported event, if there is one.

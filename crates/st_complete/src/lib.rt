@@ -24,12 +24,10 @@ mod lost;
 mod marked;
 mod senders;
 mod stretch;
-#[cfg(test)]
-mod tests;
 mod unlisted;
 mod walk;
 
 pub use answer::{Answer, Certificate, CertificateFault, CompleteFault, Never};
-pub use certificates::certificate;
+pub use certificates::{certificate, certificate_by_construction};
 pub use decision::complete;
 pub use st_needs::{Completion, renumbered, with_silent};

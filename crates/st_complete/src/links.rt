@@ -13,7 +13,9 @@ pub(crate) fn short(index: usize) -> u32 {
 /// The sends and prints of a process.
 #[derive(Debug, Drop)]
 struct Stamps {
-    /// Their indexes. Their counts rise.
+    /// Their counts, which rise. A search in them alone reads far less memory than one in the events.
+    counts: Vec<u64>,
+    /// Their indexes.
     indexes: Vec<u32>,
     /// The number of the one behind that which was found last. Messages mostly are received as they
     /// were sent.
@@ -24,40 +26,32 @@ impl Stamps {
     /// Those of these events.
     fn of(alloc: Global, events: &[Event]) -> Result<Stamps, AllocError> {
         let count = events.iter().filter(|event| is_stamp(event)).count();
+        let mut counts = Vec::with_capacity(alloc, count)?;
         let mut indexes = Vec::with_capacity(alloc, count)?;
         for (index, event) in events.iter().enumerate() {
             if is_stamp(event) {
+                counts.push(event.serial.this)?;
                 indexes.push(short(index))?;
             }
         }
-        Ok(Stamps { indexes, next: 0 })
-    }
-
-    /// Whether the one of this number has this count.
-    fn has(&self, events: &[Event], number: usize, count: u64) -> bool {
-        match self.indexes.get(number) {
-            None => false,
-            Some(index) => events
-                .get(*index as usize)
-                .is_some_and(|event| event.serial.this == count),
-        }
-    }
-
-    /// The number of the first one that counts no lower.
-    fn search(&self, events: &[Event], count: u64) -> usize {
-        self.indexes.partition_point(|index| {
-            events
-                .get(*index as usize)
-                .is_some_and(|event| event.serial.this < count)
+        Ok(Stamps {
+            counts,
+            indexes,
+            next: 0,
         })
     }
 
+    /// Whether the one of this number has this count.
+    fn has(&self, number: usize, count: u64) -> bool {
+        self.counts.get(number).is_some_and(|own| *own == count)
+    }
+
     /// The index of the one with this count.
-    fn find(&mut self, events: &[Event], count: u64) -> Option<u32> {
+    fn find(&mut self, count: u64) -> Option<u32> {
         let mut number = self.next;
-        if !self.has(events, number, count) {
-            number = self.search(events, count);
-            if !self.has(events, number, count) {
+        if !self.has(number, count) {
+            number = self.counts.partition_point(|other| *other < count);
+            if !self.has(number, count) {
                 return None;
             }
         }
@@ -93,7 +87,7 @@ fn link_receives(
         let Some(sender) = stamps.get_mut(from) else {
             continue;
         };
-        if let Some(sent) = sender.find(streams.events(event.from), event.serial.this) {
+        if let Some(sent) = sender.find(event.serial.this) {
             note(rows, place, index, sent);
             note(rows, from, sent as usize, short(index));
         }

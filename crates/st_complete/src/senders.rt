@@ -7,6 +7,7 @@
 use crate::asks::{Ask, Message};
 use crate::candidate::items_from;
 use crate::hidden::HiddenSend;
+use crate::links::short;
 use crate::unlisted::UnlistedPids;
 use st_core::{Event, Pid, Streams};
 use st_needs::is_stamp;
@@ -44,8 +45,8 @@ fn all_stamps(
     }
     for send in hidden {
         stamps.push(Stamp {
-            count: send.this,
-            process: send.from,
+            count: send.event.serial.this,
+            process: send.event.from,
         })?;
     }
     stamps.sort()?;
@@ -126,18 +127,45 @@ impl Senders<'_> {
     }
 }
 
+/// A need without a message, and when its turn comes: by its count, then by its process and index.
+#[derive(Clone, Copy, Debug, PartialEq, Eq, PartialOrd, Ord)]
+struct Turn {
+    count: u64,
+    process: Pid,
+    index: u32,
+    /// Its number among all needs.
+    need: u32,
+}
+
+/// The turns of the needs that are left, in the order of the needs.
+fn turns_of(alloc: Global, needs: &[Ask]) -> Result<Vec<Turn>, AllocError> {
+    let mut turns = Vec::new(alloc);
+    for (number, need) in needs.iter().enumerate() {
+        if need.message == Message::Missing {
+            turns.push(Turn {
+                count: need.count,
+                process: need.process,
+                index: need.index,
+                need: short(number),
+            })?;
+        }
+    }
+    Ok(turns)
+}
+
 /// Gives each need that is left a sender. Returns the unlisted processes among these, by rising
 /// pid: as few as needs of one count are left over.
 pub(crate) fn give_senders(
     alloc: Global,
     streams: &Streams,
     hidden: &[HiddenSend],
-    needs: &mut Vec<Ask>,
+    needs: &mut [Ask],
 ) -> Result<Vec<Pid>, AllocError> {
-    if needs.iter().all(|need| need.message != Message::Missing) {
+    let mut turns = turns_of(alloc, needs)?;
+    if turns.is_empty() {
         return Ok(Vec::new(alloc));
     }
-    needs.sort_by_key(|need| (need.count, need.process, need.index))?;
+    turns.sort()?;
     let mut senders = Senders {
         streams,
         stamps: all_stamps(alloc, streams, hidden)?,
@@ -147,9 +175,9 @@ pub(crate) fn give_senders(
         others: 0,
         unlisted: UnlistedPids::new(alloc, streams),
     };
-    for need in needs.iter_mut() {
-        if need.message == Message::Missing {
-            if let Some(sender) = senders.next(need.count)? {
+    for turn in &turns {
+        if let Some(need) = needs.get_mut(turn.need as usize) {
+            if let Some(sender) = senders.next(turn.count)? {
                 need.message = Message::Invented(sender, 0);
             }
         }

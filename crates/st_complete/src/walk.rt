@@ -216,17 +216,15 @@ struct Walk {
 
 impl Walk {
     /// Takes up the hidden sends of a stretch.
-    fn take_steps(&mut self, streams: &Streams, hidden: &[HiddenSend]) -> Result<(), AllocError> {
+    fn take_steps(&mut self, hidden: &[HiddenSend]) -> Result<(), AllocError> {
         self.steps.clear();
         for send in hidden {
-            if let Some(event) = send.event(streams) {
-                self.steps.push(Step {
-                    label: event.label,
-                    prev: event.serial.prev,
-                    this: event.serial.this,
-                    gap: 0,
-                })?;
-            }
+            self.steps.push(Step {
+                label: send.event.label,
+                prev: send.event.serial.prev,
+                this: send.event.serial.this,
+                gap: 0,
+            })?;
         }
         Ok(())
     }
@@ -234,7 +232,6 @@ impl Walk {
     /// Puts the hidden sends of a stretch at their places; `start` is the index of its first event.
     fn place_stretch(
         &mut self,
-        streams: &Streams,
         stretch: Stretch<'_>,
         start: usize,
         hidden: &mut [HiddenSend],
@@ -243,7 +240,7 @@ impl Walk {
             return Ok(());
         }
         self.ground.fill(stretch)?;
-        self.take_steps(streams, hidden)?;
+        self.take_steps(hidden)?;
         walk_back(&self.ground, stretch, &mut self.steps);
         walk_forth(&self.ground, stretch, &mut self.steps);
         let count = last_with_stamp(&self.ground, stretch, &self.steps);
@@ -258,7 +255,6 @@ impl Walk {
     /// events.
     fn place_process(
         &mut self,
-        streams: &Streams,
         events: &[Event],
         hidden: &mut [HiddenSend],
     ) -> Result<(), AllocError> {
@@ -269,14 +265,14 @@ impl Walk {
             if !is_stamp(event) {
                 continue;
             }
-            let count = rest.partition_point(|send| send.this < event.serial.this);
+            let count = rest.partition_point(|send| send.event.serial.this < event.serial.this);
             let (now, later) = rest.split_at_mut(count);
             let stretch = Stretch {
                 before,
                 receives: items_between(events, start, end),
                 stamp: Some(event),
             };
-            self.place_stretch(streams, stretch, start, now)?;
+            self.place_stretch(stretch, start, now)?;
             rest = later;
             start = end.saturating_add(1);
             before = Some(event);
@@ -286,7 +282,7 @@ impl Walk {
             receives: items_between(events, start, events.len()),
             stamp: None,
         };
-        self.place_stretch(streams, stretch, start, rest)
+        self.place_stretch(stretch, start, rest)
     }
 }
 
@@ -302,11 +298,11 @@ pub(crate) fn place_hidden(
     };
     let mut rest = hidden;
     for &pid in streams.pids() {
-        let count = rest.partition_point(|send| send.from <= pid);
+        let count = rest.partition_point(|send| send.event.from <= pid);
         let (own, later) = rest.split_at_mut(count);
         rest = later;
         if !own.is_empty() {
-            walk.place_process(streams, streams.events(pid), own)?;
+            walk.place_process(streams.events(pid), own)?;
         }
     }
     Ok(())

@@ -8,11 +8,6 @@ use Rattle.st_core.proofs.ForCallers.{greatest_push, prev_push}
 use Rattle.st_pair.specs.Places.{is_stamp}
 use Rattle.st_completions.specs.Needs.{is_late, is_need}
 
--- none is late
-abbrev pub AreTimely : List Event → List Event → Type 0
-AreTimely before [] = Unit {0}
-AreTimely before (e ∷ es) = (is_late before e ≡ false) × AreTimely (before ++ e ∷ []) es
-
 -- what a next event sees of these is the same
 pub record Alike (xs ys : List Event) : Type 0 where
   pub greatest : greatest_count xs ≡ greatest_count ys

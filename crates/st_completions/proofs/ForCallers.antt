@@ -15,8 +15,7 @@ pub use Rattle.st_completions.proofs.StampsTold.{stamper, told}
 -- ---- whole streams, and what is told of them
 pub use Rattle.st_completions.proofs.Needs.{events_all, events_told}
 pub use Rattle.st_completions.proofs.Choices.{mark_at, told_somewhere}
-pub use Rattle.st_completions.proofs.Mixes.{told_append, untold_append}
-pub use Rattle.st_completions.proofs.UntoldEvents.{untold_events, untold_events as events_untold, untold_mark}
+pub use Rattle.st_completions.proofs.UntoldEvents.{untold_mark}
 -- ---- reasons and completions
 pub use Rattle.st_completions.proofs.Decision.{no_reason}
 pub use Rattle.st_completions.proofs.ReasonSearch.{IsSomewhere, seek_all, within_if}
@@ -27,14 +26,10 @@ pub use Rattle.st_completions.proofs.FreeSenders.{sum_low}
 -- ---- hidden sends, and needs of 0 that stay wherever they stand
 pub use Rattle.st_completions.proofs.UntoldEvents.{count_at, HasCount, hidden_all, hidden_is, RisesFrom}
 pub use Rattle.st_completions.proofs.Zeros.{zeros_final}
--- ---- the placings of one process
-pub use Rattle.st_completions.proofs.AmongPlacings.{Among, among_filter, mixed, smallest_low, timely_is}
-pub use Rattle.st_completions.proofs.Mixes.{among_at, at_among, placing_from}
-pub use Rattle.st_completions.proofs.MergedPlacings.{some_placing}
-pub use Rattle.st_completions.proofs.FewestNeeds.{best_placing}
-pub use Rattle.st_completions.proofs.ZeroFreePlacings.{founded_least}
+-- ---- the earliest places
+pub use Rattle.st_completions.proofs.EarliestPlaces.{earliest_placing, earliest_zero}
 -- ---- choices of places for all of them
-pub use Rattle.st_completions.proofs.JointPlacings.{choice_of}
+pub use Rattle.st_completions.proofs.JointPlacings.{placed_there, placed_together}
 pub use Rattle.st_completions.proofs.Choices.{shown_if_chosen}
 pub use Rattle.st_completions.proofs.FreeSenders.{frees}
 pub use Rattle.st_completions.proofs.UntoldEvents.{same_pids, untold_within}

@@ -13,7 +13,7 @@ use Rattle.st_completions.specs.Needs.{is_need}
 use Rattle.st_completions.specs.Supply.{is_free, needs}
 use Rattle.st_completions.proofs.AcceptedStreams.{FitTogether}
 use Rattle.st_completions.proofs.Lookups.{HasStamp, stamp_passes}
-use Rattle.st_completions.proofs.EventsBefore.{AreTimely}
+use Rattle.st_completions.specs.Placed.{AreTimely}
 use Rattle.st_completions.proofs.InsertedEvents.{is_placed, more, stays}
 
 pub record IsGood (top : ℕ) (streams : List Stream) : Type 0 where

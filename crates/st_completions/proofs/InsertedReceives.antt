@@ -21,7 +21,7 @@ use Rattle.st_completions.specs.Completion.{receive_for}
 use Rattle.st_completions.specs.Supply.{is_own_supply, needs, needs_from}
 use Rattle.st_completions.proofs.Lookups.{events_with, HasStamp, none_taken, one_stamp, passes_with, stamp_if}
 use Rattle.st_completions.proofs.Lookups.{stamp_passes, taken_with}
-use Rattle.st_completions.proofs.EventsBefore.{AreTimely}
+use Rattle.st_completions.specs.Placed.{AreTimely}
 use Rattle.st_completions.proofs.GoodStreams.{IsGood, IsLack, sends_to, sent_with, within_with}
 use Rattle.st_completions.proofs.MetNeeds.{met, timely_met}
 use Rattle.st_completions.proofs.InsertedEvents.{fit_with, FitsAt, listed_at, more, take_drop}

@@ -19,7 +19,7 @@ use Rattle.st_completions.proofs.AcceptedStreams.{FitTogether}
 use Rattle.st_completions.proofs.Lookups.{events_with, HasStamp, none_stamped, none_taken}
 use Rattle.st_completions.proofs.Lookups.{passes_with, stamp_is, stamp_passes, taken_with}
 use Rattle.st_completions.proofs.FedNeeds.{events}
-use Rattle.st_completions.proofs.EventsBefore.{AreTimely}
+use Rattle.st_completions.specs.Placed.{AreTimely}
 use Rattle.st_completions.proofs.GoodStreams.{any_event, free_is, IsGood, sends_to, sent_with, within_with}
 use Rattle.st_completions.proofs.InventedSends.{HasNo, IsSend, Keeps, send_keeps, send_told, with_send}
 use Rattle.st_completions.proofs.InventedPlaces.{AllRise, IsPlaced, keeps_needs, keeps_timely, placed_at}

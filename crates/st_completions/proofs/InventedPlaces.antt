@@ -15,7 +15,7 @@ use Rattle.st_completions.specs.Completion.{begins, place_below, prev_between}
 use Rattle.st_completions.specs.Needs.{is_need}
 use Rattle.st_completions.specs.Supply.{needs_from}
 use Rattle.st_completions.proofs.FedNeeds.{events}
-use Rattle.st_completions.proofs.EventsBefore.{AreTimely}
+use Rattle.st_completions.specs.Placed.{AreTimely}
 use Rattle.st_completions.proofs.InventedSends.{all_there, HasNo, Keeps, prev_for, told_only, with_send}
 use Rattle.st_completions.proofs.NeedlessStreams.{above_if}
 use Rattle.st_plan.proofs.ForCallers.{leaves}

@@ -13,7 +13,8 @@ use Rattle.st_plan.specs.Marks.{Marked, told_events}
 use Rattle.st_completions.specs.Completion.{begins}
 use Rattle.st_completions.specs.Needs.{is_late, is_need}
 use Rattle.st_completions.proofs.FedNeeds.{events}
-use Rattle.st_completions.proofs.EventsBefore.{Alike, alike_late, alike_need, alike_push, AreTimely}
+use Rattle.st_completions.specs.Placed.{AreTimely}
+use Rattle.st_completions.proofs.EventsBefore.{Alike, alike_late, alike_need, alike_push}
 use Rattle.st_plan.proofs.ForCallers.{leaves}
 
 abbrev marked : Bool → Event → Marked

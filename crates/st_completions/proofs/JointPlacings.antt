@@ -23,9 +23,9 @@ use Rattle.st_order.specs.Items.{is_hidden}
 use Rattle.st_order.proofs.ForCallers.{all_found, AreFound}
 use Rattle.st_plan.specs.Marks.{all_streams, Marked, told_events, told_streams, Whole}
 use Rattle.st_completions.specs.Choice.{IsChoice, is_taken}
-use Rattle.st_completions.specs.HiddenSends.{hidden_from, hidden_send, hidden_sends, placings, send_of}
+use Rattle.st_completions.specs.HiddenSends.{hidden_from, hidden_send, send_of}
 use Rattle.st_completions.specs.Needs.{HoldsOfNone, is_late, marked_of}
-use Rattle.st_completions.specs.Placed.{HasChoiceOf, IsPlacing}
+use Rattle.st_completions.specs.Placed.{AreTimely, IsPlacing, IsTimelyChoice, placed_wholes, untold_events}
 use Rattle.st_completions.specs.Reasons.{HasEachSend}
 use Rattle.st_completions.proofs.AcceptedStreams.{accepted_if, FitTogether}
 use Rattle.st_completions.proofs.Lookups.{HasStamp, none_stamped, none_taken, stamp_if}
@@ -33,9 +33,6 @@ use Rattle.st_completions.proofs.Choices.{hidden_stamp, IsMarkedAt, IsSomewhere,
 use Rattle.st_completions.proofs.Choices.{not_hidden}
 use Rattle.st_completions.proofs.Choices.{send_stamps, told_somewhere}
 use Rattle.st_completions.proofs.FedNeeds.{event_of_mark, events, told_at}
-use Rattle.st_completions.proofs.EventsBefore.{AreTimely}
-use Rattle.st_completions.proofs.AmongPlacings.{Among}
-use Rattle.st_completions.proofs.Mixes.{among_at, IsMixed, placing_from}
 use Rattle.st_completions.proofs.Needs.{at_mark, events_all}
 use Rattle.st_completions.proofs.InsertedEvents.{listed_at}
 use Rattle.st_completions.proofs.LongerStreams.{all_from, sound_of}
@@ -44,7 +41,6 @@ use Rattle.st_completions.proofs.ReasonlessStreams.{fit_together}
 use Rattle.st_completions.proofs.Supplies.{greatest_among, highest}
 use Rattle.st_completions.proofs.Suppliers.{named, own_at, received_to}
 use Rattle.st_completions.proofs.UntoldEvents.{above_if, count_at, first_of, hidden_is, IsHiddenSend, untold_at}
-use Rattle.st_completions.proofs.UntoldEvents.{untold_events}
 
 -- MARKED EVENTS
 
@@ -218,27 +214,21 @@ module _ (streams : List Stream) (rising : IsRising (pids_of streams)) (q : Pid)
 -- PLACED PROCESS BY PROCESS
 
 module _ (streams : List Stream) (sound : IsStreams streams) (accepted : refusal streams ≡ None)
-    (placed : Pid → List Event) (placing : (p : Pid) → IsPlacing streams p (placed p)) where
+    (marks : Pid → List Marked) (placing : (p : Pid) → IsPlacing streams p (marks p)) where
   rising : IsRising (pids_of streams)
   rising = sound.draft.rising
 
   reported_fit : FitTogether streams
   reported_fit = fit_together streams (paired streams accepted)
 
-  among : (p : Pid) → Among (placed p) (placings streams p)
-  among p = among_at (placings streams p) (placing p).index (placed p) (placing p).at
-
-  mix : (p : Pid) → IsMixed (events_of streams p) (hidden_sends streams p) (placed p)
-  mix p = (placing_from streams p (placed p) (among p)).mixed
-
-  in_turn : (p : Pid) → AreTimely [] (placed p)
-  in_turn p = (placing_from streams p (placed p) (among p)).timely
+  abbrev placed : Pid → List Event
+  placed p = events (marks p)
 
   abbrev whole_of : Stream → Whole
-  whole_of s = record { pid = s.pid; marked = (mix s.pid).marks }
+  whole_of s = record { pid = s.pid; marked = marks s.pid }
 
   abbrev wholes : List Whole
-  wholes = map whole_of streams
+  wholes = placed_wholes marks streams
 
   abbrev all : List Stream
   all = all_streams wholes
@@ -251,7 +241,7 @@ module _ (streams : List Stream) (sound : IsStreams streams) (accepted : refusal
   told_along (x ∷ some) found =
       ap (λ es. let s : Stream = record { pid = x.pid; events = es } in s ∷ told_streams
       (map whole_of some))
-      ((mix x.pid).told ∙ found.0)
+      ((placing x.pid).told ∙ found.0)
       ∙ ap (λ ss. x ∷ ss) (told_along some found.1)
 
   pids_along : (some : List Stream) → pids_of (all_streams (map whole_of some)) ≡ pids_of some
@@ -259,37 +249,37 @@ module _ (streams : List Stream) (sound : IsStreams streams) (accepted : refusal
   pids_along (x ∷ some) = ap (λ ps. x.pid ∷ ps) (pids_along some)
 
   marks_along : (some : List Stream) (p : Pid)
-      → marked_of (map whole_of some) p ≡ cond (lists some p) (mix p).marks []
+      → marked_of (map whole_of some) p ≡ cond (lists some p) (marks p) []
   marks_along [] p = refl
   marks_along (x ∷ some) p =
       let out = λ (o : Option Whole). let ms : List Marked =
       elim o [ None ↦ [] | Some w ↦ w.marked ] in ms in
       elim (pid_eq x.pid p) as (λ b. pid_eq x.pid p ≡ b
       → out (cond b (Some (whole_of x)) (find (λ (w : Whole). pid_eq w.pid p) (map whole_of some)))
-      ≡ cond (is_some (cond b (Some x) (stream_of some p))) (mix p).marks []) [
-        | true ↦ λ same. ap (λ q. (mix q).marks) (pid_same x.pid p same)
+      ≡ cond (is_some (cond b (Some x) (stream_of some p))) (marks p) []) [
+        | true ↦ λ same. ap marks (pid_same x.pid p same)
         | false ↦ λ _. marks_along some p
       ] refl
 
-  marks_listed : (p : Pid) → lists streams p ≡ true → marked_of wholes p ≡ (mix p).marks
-  marks_listed p listed = marks_along streams p ∙ ap (λ b. cond b (mix p).marks []) listed
+  marks_listed : (p : Pid) → lists streams p ≡ true → marked_of wholes p ≡ marks p
+  marks_listed p listed = marks_along streams p ∙ ap (λ b. cond b (marks p) []) listed
 
   mark_in : (p : Pid) (k : ℕ) (m : Marked) → slice_get (marked_of wholes p) k ≡ Some m
-      → slice_get (mix p).marks k ≡ Some m
-  mark_in p k m at = elim (lists streams p) as (λ b. slice_get (cond b (mix p).marks []) k ≡ Some m
-      → slice_get (mix p).marks k ≡ Some m) [
+      → slice_get (marks p) k ≡ Some m
+  mark_in p k m at = elim (lists streams p) as (λ b. slice_get (cond b (marks p) []) k ≡ Some m
+      → slice_get (marks p) k ≡ Some m) [
         | true ↦ λ at. at
         | false ↦ λ at. absurd (none-some m at)
       ] (ap (λ ms. slice_get ms k) (sym (marks_along streams p)) ∙ at)
 
-  mark_of : (p : Pid) (k : ℕ) (e : Event) → event_at all p k ≡ Some e → IsMarkedAt (mix p).marks k e
+  mark_of : (p : Pid) (k : ℕ) (e : Event) → event_at all p k ≡ Some e → IsMarkedAt (marks p) k e
   mark_of p k e at =
       let m = mark_at (marked_of wholes p) k e
       (ap (λ es. slice_get es k) (sym (events_all wholes p)) ∙ at) in
       record { mark = m.mark; at = mark_in p k m.mark m.at; is = m.is }
 
   there : (p : Pid) (k : ℕ) (m : Marked) → lists streams p ≡ true
-      → slice_get (mix p).marks k ≡ Some m
+      → slice_get (marks p) k ≡ Some m
       → event_at all p k ≡ Some m.event
   there p k m listed at = at_mark wholes p k m (ap (λ ms. slice_get ms k) (marks_listed p listed)
       ∙ at)
@@ -298,25 +288,24 @@ module _ (streams : List Stream) (sound : IsStreams streams) (accepted : refusal
       → slice_get (placed p) k ≡ Some e
   in_placed p k e at =
       let m = mark_of p k e at in
-      ap (λ es. slice_get es k) (sym (mix p).all)
-      ∙ event_of_mark (mix p).marks k m.mark m.at ∙ ap (λ (x : Event). Some x) m.is
+      event_of_mark (marks p) k m.mark m.at ∙ ap (λ (x : Event). Some x) m.is
 
-  told_in : (p : Pid) (k : ℕ) (m : Marked) → slice_get (mix p).marks k ≡ Some m → m.told ≡ true
+  told_in : (p : Pid) (k : ℕ) (m : Marked) → slice_get (marks p) k ≡ Some m → m.told ≡ true
       → IsSomewhere (events_of streams p) m.event
   told_in p k m at told =
-      subst (λ es. IsSomewhere es m.event) (mix p).told (told_somewhere (mix p).marks k m at told)
+      subst (λ es. IsSomewhere es m.event) (placing p).told (told_somewhere (marks p) k m at told)
 
-  hidden_in : (p : Pid) (k : ℕ) (m : Marked) → slice_get (mix p).marks k ≡ Some m → m.told ≡ false
+  hidden_in : (p : Pid) (k : ℕ) (m : Marked) → slice_get (marks p) k ≡ Some m → m.told ≡ false
       → hidden_send streams p m.event.serial.this ≡ Some m.event
   hidden_in p k m at told =
-      let s = subst (λ es. IsSomewhere es m.event) (mix p).untold
-      (untold_somewhere (mix p).marks k m at told) in
+      let s = subst (λ es. IsSomewhere es m.event) (placing p).untold
+      (untold_somewhere (marks p) k m at told) in
       hidden_each streams rising p 0 (suc (highest streams)) s.index m.event s.at
 
   -- a reported stamp is there
   stamp_there : (q : Pid) (v : ℕ) → HasStamp streams q v → HasStamp all q v
   stamp_there q v s =
-      let a = told_at (mix q).marks s.index s.event (ap (λ es. slice_get es s.index) (mix q).told
+      let a = told_at (marks q) s.index s.event (ap (λ es. slice_get es s.index) (placing q).told
       ∙ s.at) in
       record {
         index = a.index;
@@ -333,7 +322,7 @@ module _ (streams : List Stream) (sound : IsStreams streams) (accepted : refusal
   hidden_there q v f listed low stamps is =
       let s = hidden_found streams rising q 0 (suc (highest streams)) v f (omega arith)
       (omega arith) is in
-      let a = untold_at (mix q).marks s.index f (ap (λ es. slice_get es s.index) (mix q).untold
+      let a = untold_at (marks q) s.index f (ap (λ es. slice_get es s.index) (placing q).untold
       ∙ s.at) in
       record {
         index = a.index;
@@ -391,11 +380,11 @@ module _ (streams : List Stream) (sound : IsStreams streams) (accepted : refusal
       → event_at all p i ≡ Some e
       → is_stamp d ≡ true → is_stamp e ≡ true → d.serial.this < e.serial.this
   grows_all p j i d e less at_d at_e _ stamps =
-      timely_rises (placed p) (in_turn p) j i d e less (in_placed p j d at_d) (in_placed p i e at_e)
+      timely_rises (placed p) (placing p).timely j i d e less (in_placed p j d at_d) (in_placed p i e at_e)
       stamps
 
   -- a mark of a receive is told
-  receive_told : (p : Pid) (k : ℕ) (m : Marked) → slice_get (mix p).marks k ≡ Some m
+  receive_told : (p : Pid) (k : ℕ) (m : Marked) → slice_get (marks p) k ≡ Some m
       → is_stamp m.event ≡ false
       → m.told ≡ true
   receive_told p k m at receives = elim m.told as (λ b. m.told ≡ b → b ≡ true) [
@@ -412,13 +401,13 @@ module _ (streams : List Stream) (sound : IsStreams streams) (accepted : refusal
   not_before p i j d e less at_d at_e receives_d receives_e from count =
       let m = mark_of p i d at_d in
       let n = mark_of p j e at_e in
-      let a = told_apart (mix p).marks i j m.mark n.mark less m.at n.at
+      let a = told_apart (marks p) i j m.mark n.mark less m.at n.at
       (receive_told p i m.mark m.at (ap is_stamp m.is ∙ receives_d))
       (receive_told p j n.mark n.at (ap is_stamp n.is ∙ receives_e)) in
       let same = (reported_fit.once p p a.first a.second d e
-      (ap (λ es. slice_get es a.first) (sym (mix p).told) ∙ a.first_at
+      (ap (λ es. slice_get es a.first) (sym (placing p).told) ∙ a.first_at
       ∙ ap (λ (x : Event). Some x) m.is)
-      (ap (λ es. slice_get es a.second) (sym (mix p).told) ∙ a.second_at
+      (ap (λ es. slice_get es a.second) (sym (placing p).told) ∙ a.second_at
       ∙ ap (λ (x : Event). Some x) n.is)
       receives_d receives_e from count).1 in
       let apart = a.in_turn in
@@ -566,25 +555,20 @@ module _ (streams : List Stream) (sound : IsStreams streams) (accepted : refusal
     each = each_send;
   }
 
-  placed_there : (p : Pid) → lists streams p ≡ true → events_of all p ≡ placed p
-  placed_there p listed = events_all wholes p ∙ ap events (marks_listed p listed) ∙ (mix p).all
+  pub placed_there : (p : Pid) → lists streams p ≡ true → events_of all p ≡ placed p
+  placed_there p listed = events_all wholes p ∙ ap events (marks_listed p listed)
 
   -- an event stands behind the same events as in its placing
   timely_all : HoldsOfNone is_late all
   timely_all p i e at = elim (lists streams p) as (λ b. lists streams p ≡ b
       → is_late (take i (events_of all p)) e ≡ false) [
         | true ↦ λ listed. ap (λ es. is_late (take i es) e) (placed_there p listed)
-            ∙ timely_at [] (placed p) (in_turn p) i e (in_placed p i e at)
+            ∙ timely_at [] (placed p) (placing p).timely i e (in_placed p i e at)
         | false ↦ λ unlisted.
             let none = events_all wholes p ∙ ap events (marks_along streams p
-            ∙ ap (λ b. cond b (mix p).marks []) unlisted) in
+            ∙ ap (λ b. cond b (marks p) []) unlisted) in
             absurd (none-some e (ap (λ es. slice_get es i) (sym none) ∙ at))
       ] refl
 
-  pub choice_of : HasChoiceOf streams placed
-  choice_of = record {
-    wholes = wholes;
-    choice = choice;
-    timely = timely_all;
-    events = placed_there;
-  }
+  pub placed_together : IsTimelyChoice streams wholes
+  placed_together = record { choice = choice; timely = timely_all }

@@ -40,17 +40,12 @@ pub mod Decision
 pub mod CompletionsOfCompletions
 pub mod Choices
 pub mod UntoldEvents
-pub mod AmongPlacings
 pub mod FreeSenders
+pub mod ReportedSends
 pub mod Zeros
 pub mod StampsTold
-pub mod FewestNeeds
 pub mod JointPlacings
-pub mod MergedPlacings
-pub mod Mixes
-pub mod EventsInTurn
-pub mod ZeroFronts
-pub mod ZeroFreePlacings
+pub mod EarliestPlaces
 pub mod SameStreams
 pub mod ForCallers
 mod Cases

@@ -8,7 +8,8 @@ use Rattle.st_core.proofs.ForCallers.{greatest_push, prev_push}
 use Rattle.st_pair.specs.Places.{is_stamp}
 use Rattle.st_completions.specs.Needs.{is_need}
 use Rattle.st_completions.specs.Supply.{needs_from}
-use Rattle.st_completions.proofs.EventsBefore.{Alike, alike_late, alike_need, alike_push, AreTimely}
+use Rattle.st_completions.specs.Placed.{AreTimely}
+use Rattle.st_completions.proofs.EventsBefore.{Alike, alike_late, alike_need, alike_push}
 use Rattle.st_completions.proofs.EventsBefore.{both_false, no_stamp}
 use Rattle.st_plan.proofs.ForCallers.{leaves}
 

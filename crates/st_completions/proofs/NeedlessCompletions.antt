@@ -26,7 +26,7 @@ use Rattle.st_completions.specs.Reasons.{HasEachSend, HasNoReason}
 use Rattle.st_completions.specs.Supply.{needs, needs_from}
 use Rattle.st_completions.proofs.AcceptedStreams.{accepted_if}
 use Rattle.st_completions.proofs.Lookups.{HasStamp, none_stamped}
-use Rattle.st_completions.proofs.EventsBefore.{AreTimely}
+use Rattle.st_completions.specs.Placed.{AreTimely}
 use Rattle.st_completions.proofs.CompletionSteps.{receives_told, sends_told}
 use Rattle.st_completions.proofs.GoodStreams.{IsGood}
 use Rattle.st_completions.proofs.NeedlessStreams.{all_same, told_same}

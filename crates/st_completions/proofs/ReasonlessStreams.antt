@@ -22,7 +22,7 @@ use Rattle.st_completions.specs.Reasons.{HasEachSend, HasNoReason}
 use Rattle.st_completions.specs.Supply.{needs, needs_from}
 use Rattle.st_completions.proofs.AcceptedStreams.{FitTogether}
 use Rattle.st_completions.proofs.Lookups.{HasStamp, stamp_if}
-use Rattle.st_completions.proofs.EventsBefore.{AreTimely}
+use Rattle.st_completions.specs.Placed.{AreTimely}
 use Rattle.st_completions.proofs.GoodStreams.{IsGood}
 
 -- WHAT PAIRING ACCEPTS

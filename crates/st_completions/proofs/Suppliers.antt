@@ -139,16 +139,16 @@ told_pids (w ∷ wholes) = ap (λ ps. w.pid ∷ ps) (told_pids wholes)
 
 module _ (top : ℕ) (wholes : List Whole) (sound : IsStreams (all_streams wholes))
     (full : IsFull top (all_streams wholes)) (v : ℕ) where
-  abbrev all : List Stream
+  abbrev pub all : List Stream
   all = all_streams wholes
 
-  abbrev told : List Stream
+  abbrev pub told : List Stream
   told = told_streams wholes
 
-  abbrev pids : List Pid
+  abbrev pub pids : List Pid
   pids = pids_of told
 
-  abbrev marks : Pid → List Marked
+  abbrev pub marks : Pid → List Marked
   marks p = marked_of wholes p
 
   ok : IsPaired all
@@ -158,14 +158,14 @@ module _ (top : ℕ) (wholes : List Whole) (sound : IsStreams (all_streams whole
   told_rising = subst IsRising (sym (told_pids wholes)) sound.draft.rising
 
   -- an untold receive of v from q at (p, i)
-  record IsUntold (p q : Pid) (i : ℕ) : Type 0 where
-    event : Event
-    at : slice_get (marks p) i ≡ Some (record { event = event; told = false })
-    receives : is_stamp event ≡ false
-    count : event.serial.this ≡ v
-    from : event.from ≡ q
-    there : event_at all p i ≡ Some event
-    place : receive_of all q v ≡ Some (p, i)
+  pub record IsUntold (p q : Pid) (i : ℕ) : Type 0 where
+    pub event : Event
+    pub at : slice_get (marks p) i ≡ Some (record { event = event; told = false })
+    pub receives : is_stamp event ≡ false
+    pub count : event.serial.this ≡ v
+    pub from : event.from ≡ q
+    pub there : event_at all p i ≡ Some event
+    pub place : receive_of all q v ≡ Some (p, i)
 
   received_at : (p q : Pid) (i : ℕ) (e : Event) → event_at all p i ≡ Some e → is_stamp e ≡ false → e.from ≡ q
       → e.serial.this ≡ v → receive_of all q v ≡ Some (p, i)
@@ -280,16 +280,16 @@ module _ (top : ℕ) (wholes : List Whole) (sound : IsStreams (all_streams whole
 
   -- DIFFERENT SENDERS
 
-  abbrev feeders_of : (Pid → Bool) → Pid → List Pid
+  abbrev pub feeders_of : (Pid → Bool) → Pid → List Pid
   feeders_of test p = feeders test v (marks p)
 
   -- what a feeder of p is
-  record IsOne (test : Pid → Bool) (p q : Pid) : Type 0 where
-    index : ℕ
-    untold : IsUntold p q index
-    passes : test q ≡ true
+  pub record IsOne (test : Pid → Bool) (p q : Pid) : Type 0 where
+    pub index : ℕ
+    pub untold : IsUntold p q index
+    pub passes : test q ≡ true
 
-  one_of : (test : Pid → Bool) (p q : Pid) → is_member pid_eq (feeders_of test p) q ≡ true → IsOne test p q
+  pub one_of : (test : Pid → Bool) (p q : Pid) → is_member pid_eq (feeders_of test p) q ≡ true → IsOne test p q
   one_of test p q h =
       let f = feeder_at test v (marks p) q h in
       record { index = f.index; untold = untold_at p q f.index f.mark f.at f.feeds_it f.from; passes = f.passes }
@@ -377,7 +377,7 @@ module _ (top : ℕ) (wholes : List Whole) (sound : IsStreams (all_streams whole
       let count = length-filter test pids in
       omega arith
 
-  abbrev free : Pid → Bool
+  abbrev pub free : Pid → Bool
   free q = is_free told v q
 
   abbrev bound : Pid → Bool
@@ -395,7 +395,7 @@ module _ (top : ℕ) (wholes : List Whole) (sound : IsStreams (all_streams whole
       (needs_within (marks p) v (λ k e at need prev.
       subst (IsFed (marks p) k) prev (need_fed (marks p) k e (go_on top wholes full p) at need)))
 
-  excess_within : (p : Pid) → excess told v p ≤ length (feeders_of free p)
+  pub excess_within : (p : Pid) → excess told v p ≤ length (feeders_of free p)
   excess_within p =
       let few = needs_few p in
       let split = feeders_split free v (marks p) in

@@ -21,6 +21,7 @@ use Rattle.st_completions.specs.Choice.{IsChoice, is_taken}
 use Rattle.st_completions.specs.HiddenSends.{hidden_from, hidden_send}
 use Rattle.st_completions.specs.HiddenSends.{send_of}
 use Rattle.st_completions.specs.Needs.{marked_of}
+use Rattle.st_completions.specs.Placed.{untold_events}
 use Rattle.st_completions.proofs.AcceptedStreams.{FitTogether}
 use Rattle.st_completions.proofs.Lookups.{HasStamp, IsTaken, none_stamped, stamp_if}
 use Rattle.st_completions.proofs.Choices.{mark_at, told_somewhere}
@@ -182,7 +183,7 @@ pub rises_lower : (m n : ℕ) (es : List Event) → m ≤ n → RisesFrom n es �
 rises_lower m n [] low rises = tt
 rises_lower m n (e ∷ es) low rises = let first = rises.0 in (omega arith, rises.1)
 
-rises_all : (n : ℕ) (es : List Event) → RisesFrom n es → (k : ℕ) (e : Event) → slice_get es k ≡ Some e
+pub rises_all : (n : ℕ) (es : List Event) → RisesFrom n es → (k : ℕ) (e : Event) → slice_get es k ≡ Some e
     → n ≤ e.serial.this
 rises_all n [] rises k e at = absurd (none-some e at)
 rises_all n (d ∷ es) rises zero e at =
@@ -261,10 +262,6 @@ module _ (streams : List Stream) (q : Pid) where
       ] refl
 
 -- THE UNTOLD EVENTS
-
-abbrev pub untold_events : List Marked → List Event
-untold_events [] = []
-untold_events (m ∷ ms) = cond m.told (untold_events ms) (m.event ∷ untold_events ms)
 
 -- an untold event, where it stands
 pub record IsUntoldAt (ms : List Marked) (e : Event) : Type 0 where

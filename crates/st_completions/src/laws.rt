@@ -2,8 +2,8 @@
 //! nothing: each clause is a theorem over the definitions of `specs/`, and a proof that calls the
 //! function may use it.
 
-ghost use Rattle.std.specs.Prelude.{◌≡◌, ◌↔◌, ◌<◌, ◌≤◌, ◌⊎◌, ℕ, true, List, None, Some, length};
-ghost use Rattle.std.specs.Prelude.{take};
+ghost use Rattle.std.specs.Prelude.{◌≡◌, ◌↔◌, ◌≤◌, ◌⊎◌, ℕ, true, List, [], None, Some, map, take};
+ghost use Rattle.std.specs.List.{count_by};
 ghost use Rattle.st_core.specs.declared.types.Act.{Act};
 ghost use Rattle.st_core.specs.declared.types.Event.{Event};
 ghost use Rattle.st_core.specs.declared.types.Pid.{Pid};
@@ -14,24 +14,23 @@ ghost use Rattle.st_core.specs.Streams.{events_of, IsStreams};
 ghost use Rattle.st_pair.specs.Pairing.{refusal};
 ghost use Rattle.st_pair.specs.Places.{event_at};
 ghost use Rattle.st_plan.specs.Full.{IsFull};
-ghost use Rattle.st_plan.specs.Marks.{all_streams, told_streams, Whole};
+ghost use Rattle.st_plan.specs.Marks.{all_streams, told_streams, Marked, Whole};
 ghost use Rattle.st_plan.specs.Plain.{IsSettled};
 ghost use Rattle.st_completions.specs.Choice.{HasChoice};
 ghost use Rattle.st_completions.specs.Completed.{IsCompleted, IsShownInOneTrace};
 ghost use Rattle.st_completions.specs.Completion.{completion};
 ghost use Rattle.st_completions.specs.FinalReasons.{HasZeroBehindReceive, HasZeroBehindStamp};
 ghost use Rattle.st_completions.specs.FinalReasons.{IsZeroBehind};
-ghost use Rattle.st_completions.specs.HiddenSends.{placings};
 ghost use Rattle.st_completions.specs.Local.{IsNeedless};
 ghost use Rattle.st_completions.specs.Needs.{is_late, is_need, is_rootless, HoldsOfNone, IsFedAt};
 ghost use Rattle.st_completions.specs.Needs.{marked_of};
-ghost use Rattle.st_completions.specs.Placed.{HasChoiceOf, IsPlacing};
+ghost use Rattle.st_completions.specs.Placed.{earliest_of, placed_wholes, IsPlacing, IsTimelyChoice};
 ghost use Rattle.st_completions.specs.Renumbering.{count_of_rank, counts_of, KeepsOrder};
 ghost use Rattle.st_completions.specs.Renumbering.{renumbered_streams, with_counts};
 ghost use Rattle.st_completions.specs.Reasons.{HasEachSend, HasNoReason, HasReason, Reason};
 ghost use Rattle.st_completions.specs.Reasons.{StandsAgainst};
-ghost use Rattle.st_completions.specs.Supply.{IsSupplied};
-ghost use Rattle.st_completions.specs.Wholes.{wholes_of};
+ghost use Rattle.st_completions.specs.Supply.{is_own_supply, needs, needs_from, IsSupplied};
+ghost use Rattle.st_completions.specs.Wholes.{wholes_of, AreSendsTold};
 
 /// Whatever acts without a reset report: all that they do, reported or not, is full streams, and
 /// what is told of these are the streams that the acts show. So each run without a reset has a full
@@ -70,6 +69,15 @@ pub fn shown_streams_have_nothing_against_them()
         Shows top streams acts → NoReset acts → IsRising (pids_of streams) →
         HoldsOfNone is_late streams × HoldsOfNone is_rootless streams
         × ((v : ℕ) → IsSupplied streams v) }
+{}
+
+/// If all sends of a run were reported, each process has at least as many reported sends of a count to
+/// it that no reported receive takes as it has needs of this count. So no message has to be invented.
+pub fn reported_sends_feed_all_needs()
+    ensures { (top : ℕ) (streams : List Stream) (acts : List Act) (shows : Shows top streams acts)
+        → NoReset acts → AreSendsTold (wholes_of top streams acts shows.0)
+        → IsRising (pids_of streams) → (v : ℕ) (p : Pid)
+        → needs streams v p ≤ count_by (is_own_supply streams v p) (pids_of streams) }
 {}
 
 /// Streams have acts without a reset exactly if they have a full completion, and exactly if they
@@ -196,17 +204,24 @@ pub fn zeros_told_behind_others_are_final()
 {}
 
 /// A placing of a process is its hidden sends among its events, both in turn, with no stamp late.
-/// Each process can place its hidden sends by itself: if pairing accepts streams, and a placing is
-/// chosen for each process, then there is a choice of places for all of them in which each process
-/// has the events of its placing.
+/// Each process can place its hidden sends by itself: if pairing accepts streams, and each process
+/// is placed, then these whole streams are together a choice of places, in which no stamp is late.
 pub fn placings_together_are_a_choice()
     ensures { (streams : List Stream) → IsStreams streams → refusal streams ≡ None
-        → (placed : Pid → List Event) → ((p : Pid) → IsPlacing streams p (placed p))
-        → HasChoiceOf streams placed }
+        → (marked : Pid → List Marked) → ((p : Pid) → IsPlacing streams p (marked p))
+        → IsTimelyChoice streams (placed_wholes marked streams) }
 {}
 
-/// And each process has a placing, if no reported stamp is late.
-pub fn each_process_has_a_placing()
+/// And each process has a placing, if no reported stamp is late: the earliest, in which each hidden
+/// send stands as soon as all stamps of lower counts have come.
+pub fn earliest_places_are_a_placing()
     ensures { (streams : List Stream) → IsStreams streams → refusal streams ≡ None
-        → HoldsOfNone is_late streams → (p : Pid) → 0 < length (placings streams p) }
+        → (p : Pid) → HoldsOfNone is_late streams → IsPlacing streams p (earliest_of streams p) }
+{}
+
+/// It needs no 0, unless a stamp with prev 0 stands behind another prev or a receive, which is final.
+pub fn earliest_places_need_no_zero()
+    ensures { (streams : List Stream) → IsStreams streams → refusal streams ≡ None → (p : Pid)
+        → ¬ (HasZeroBehindStamp streams p ⊎ HasZeroBehindReceive streams p)
+        → needs_from 0 [] (map (λ m. m.event) (earliest_of streams p)) ≡ 0 }
 {}

@@ -8,7 +8,7 @@ use Rattle.std.specs.List.{sum}
 use Rattle.st_core.specs.declared.types.Message.{Message}
 use Rattle.st_index.specs.declared.index.Index.{Index}
 use Rattle.st_index.specs.declared.keyed.Keyed.{Keyed}
-use Rattle.st_index.specs.Keyed.{has_key, IsFirst}
+use Rattle.st_index.specs.Keyed.{has_key, is_kept, IsFirst}
 use Rattle.st_index.specs.Index.{IsKeyedBy, HasSlots}
 use Rattle.st_index.specs.Slots.{item_at, passes}
 use Rattle.st_ranks.specs.Queue.{kept, before}
@@ -45,13 +45,13 @@ module _ (index : Index) (slots : List (Option Message)) (has : HasSlots index s
   -- KEYS
 
   module _ {K : Type 0} (cmp : K → K → Ordering) (test : K → Message → Bool) (keyed : Keyed K)
-      (tells : IsKeyedBy cmp test keyed slots) (key : K) where
+      (tells : IsKeyedBy cmp test keyed slots) (on : is_kept keyed ≡ true) (key : K) where
     passes_first : (start : ℕ) (found : Option ℕ) → IsFirst (has_key cmp keyed key) start found
         → IsFirst (λ s. passes (test key) (item_at slots s)) start found
-    passes_first start found first = subst (λ (f : ℕ → Bool). IsFirst f start found) (λ i s. tells key s i) first
+    passes_first start found first = subst (λ (f : ℕ → Bool). IsFirst f start found) (λ i s. tells on key s i) first
 
     item_of : (slot : ℕ) → has_key cmp keyed key slot ≡ true → HasItem slots slot
-    item_of slot there = passing (test key) slots slot (sym (tells key slot) ∙ there)
+    item_of slot there = passing (test key) slots slot (sym (tells on key slot) ∙ there)
 
     ranks_of : (start : ℕ) (found : Option ℕ) → IsFirst (has_key cmp keyed key) start found
         → option_map (λ s. sum (take s index.ranks)) found ≡ option_map (before slots) found

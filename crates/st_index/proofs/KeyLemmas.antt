@@ -9,7 +9,7 @@ use Rattle.st_core.specs.declared.types.Pid.{Pid}
 use Rattle.st_core.specs.declared.types.Token.{Token}
 use Rattle.st_core.specs.Pid.{pid_cmp, pid_eq}
 use Rattle.st_index.specs.declared.keyed.Keyed.{Keyed}
-use Rattle.st_index.specs.Keyed.{has_key}
+use Rattle.st_index.specs.Keyed.{has_key, is_kept}
 use Rattle.st_index.specs.Index.{IsKeyedBy, bears_stamp, is_from, is_of_value, is_of_both, pid_count_cmp}
 use Rattle.st_index.specs.Slots.{item_at, passes}
 use Rattle.st_index.proofs.PairLemmas.{nat_cmp-is_eq, both_equal}
@@ -56,17 +56,20 @@ module _ {K : Type 0} (cmp : K → K → Ordering) (test : K → Message → Boo
   module _ (slots : List (Option Message)) (m : Message) (own : K → Bool) (same : (k : K) → own k ≡ test k m) where
     -- a message comes with its keys
     pub keyed-push : (old new : Keyed K) (slot : ℕ) → slot ≡ length slots
-        → ((k : K) (s : ℕ) → has_key cmp new k s ≡ (own k && slot == s || has_key cmp old k s))
+        → (is_kept old ≡ true → (k : K) (s : ℕ) → has_key cmp new k s ≡ (own k && slot == s || has_key cmp old k s))
+        → is_kept new ≡ is_kept old
         → IsKeyedBy cmp test old slots → IsKeyedBy cmp test new (slots ++ Some m ∷ [])
-    keyed-push old new slot at is kept k s =
-        is k s ∙ rw (same k, at, kept k s) (sym (passes-push (test k) slots m s))
+    keyed-push old new slot at is stays kept on k s =
+        let was : is_kept old ≡ true = sym stays ∙ on in
+        is was k s ∙ rw (same k, at, kept was k s) (sym (passes-push (test k) slots m s))
 
     -- it leaves with them
     pub keyed-set : (slot : ℕ) → item_at slots slot ≡ Some m → (old new : Keyed K)
         → ((k : K) (s : ℕ) → has_key cmp new k s ≡ (not (own k && slot == s) && has_key cmp old k s))
+        → is_kept new ≡ is_kept old
         → IsKeyedBy cmp test old slots → IsKeyedBy cmp test new (set slots slot None)
-    keyed-set slot there old new is kept k s =
-        is k s ∙ rw (same k, kept k s) (by (slot == s) refl ∙ sym (passes-set (test k) slots slot s))
+    keyed-set slot there old new is stays kept on k s =
+        is k s ∙ rw (same k, kept (sym stays ∙ on) k s) (by (slot == s) refl ∙ sym (passes-set (test k) slots slot s))
       where
         by : (c : Bool) → (slot == s) ≡ c
             → (not (test k m && slot == s) && passes (test k) (item_at slots s))

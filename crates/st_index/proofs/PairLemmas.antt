@@ -1,7 +1,7 @@
 -- The slots of one key stand together in the order of the pairs and rise there, so the first pair from (key, start) on
 -- has the least slot of the key, or another key if the key has none.
 use Rattle.std.proofs.Common.{◌≡◌, ℕ, ◌≤◌, Bool, true, false, cond, not, ◌==◌, ◌&&◌, ◌||◌}
-use Rattle.std.proofs.Common.{List, [], ◌∷◌, Some, None, refl, sym, ap, subst, ◌∙◌, arith}
+use Rattle.std.proofs.Common.{List, [], ◌∷◌, Option, Some, None, refl, sym, ap, subst, ◌∙◌, arith}
 use Rattle.std.specs.declared.cmp.Ordering.{Ordering}
 use Rattle.std.specs.declared.cmp.Ordering.TheVariants.{Less, Equal, Greater}
 use Rattle.std.specs.declared.ops.Bound.TheVariants.{Included, Unbounded}
@@ -11,7 +11,9 @@ use Rattle.std.specs.BTreeSet.{BTreeSet, contains, contains_by, IsKeyRangeOf}
 use Rattle.std.proofs.lemmas.Bool.Decides.{nat_tests}
 use Rattle.std.proofs.lemmas.Cmp.{then_total, on_total, nat_cmp_total, tied_itself, tied_back}
 use Rattle.std.proofs.lemmas.Map.Keys.{le_from_not_gt}
-use Rattle.st_index.specs.Keyed.{pair_cmp, IsFirst}
+use Rattle.std.specs.Option.{option_map_or}
+use Rattle.st_index.specs.declared.keyed.Keyed.{Keyed}
+use Rattle.st_index.specs.Keyed.{pair_cmp, has_key, IsFirst}
 
 -- PAIRS
 
@@ -45,6 +47,22 @@ less_else Greater p e h = absurd (cc)
 
 not_gt : (a b : ℕ) → a ≤ b → is_gt (nat_cmp a b) ≡ false
 not_gt a b h = grind (arith, nat_tests)
+
+-- KEYS THAT ARE KEPT
+
+module _ {K : Type 0} (cmp : K → K → Ordering) (keyed : Keyed K) (set : BTreeSet (K × ℕ)) (is : keyed.pairs ≡ Some set)
+  where
+    -- a slot has those of the set
+    pub kept_keys : (k : K) (s : ℕ) → has_key cmp keyed k s ≡ contains (pair_cmp cmp) set (k, s)
+    kept_keys k s =
+        ap (λ (o : Option (BTreeSet (K × ℕ))). option_map_or (λ pairs. contains (pair_cmp cmp) pairs (k, s)) o false) is
+
+    pub kept_first : (key : K) (start : ℕ) (found : Option ℕ)
+        → IsFirst (λ s. contains (pair_cmp cmp) set (key, s)) start found → IsFirst (has_key cmp keyed key) start found
+    kept_first key start found first =
+        subst (λ (test : ℕ → Bool). IsFirst test start found) (λ i s. sym (kept_keys key s) i) first
+
+-- THE PAIRS OF A KEY
 
 module _ {K : Type 0} (cmp : K → K → Ordering) (total : IsTotalOrder cmp) where
   pub pair_total : IsTotalOrder (pair_cmp cmp)

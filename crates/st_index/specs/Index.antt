@@ -1,5 +1,5 @@
 -- What it means that an index is one of a queue.
-use Rattle.std.specs.Prelude.{◌≡◌, ◌==◌, ◌&&◌, ◌-◌, ℕ, Bool, false, List, Option, Some, None}
+use Rattle.std.specs.Prelude.{◌≡◌, ◌==◌, ◌&&◌, ◌-◌, ℕ, Bool, true, false, List, Option, Some, None}
 use Rattle.std.specs.Prelude.{length}
 use Rattle.std.specs.declared.cmp.Ordering.{Ordering}
 use Rattle.std.specs.Ordering.{nat_cmp, ordering_then}
@@ -9,7 +9,8 @@ use Rattle.st_core.specs.declared.types.Token.{Token}
 use Rattle.st_core.specs.Pid.{pid_cmp, pid_eq}
 use Rattle.st_index.specs.declared.index.Index.{Index}
 use Rattle.st_index.specs.declared.keyed.Keyed.{Keyed}
-use Rattle.st_index.specs.Keyed.{has_key}
+use Rattle.st_index.specs.declared.keys.Keys.{Keys}
+use Rattle.st_index.specs.Keyed.{has_key, is_kept}
 use Rattle.st_index.specs.Slots.{item_at, passes}
 use Rattle.st_ranks.specs.Queue.{kept, AreRanksOf}
 
@@ -36,11 +37,20 @@ bears_key key m = bears_stamp key.0 key.1 m.token
 abbrev pub pid_count_cmp : Pid × ℕ → Pid × ℕ → Ordering
 pid_count_cmp a b = ordering_then (pid_cmp a.0 b.0) (nat_cmp a.1 b.1)
 
--- a slot has a key exactly if a message is there that passes the key's test
+-- if keys are kept, a slot has a key exactly if a message is there that passes the key's test
 abbrev pub IsKeyedBy : {K : Type 0} → (K → K → Ordering) → (K → Message → Bool) → Keyed K → List
     (Option Message) → Type 0
-IsKeyedBy {K} cmp test keyed slots =
+IsKeyedBy {K} cmp test keyed slots = is_kept keyed ≡ true →
     (k : K) (s : ℕ) → has_key cmp keyed k s ≡ passes (test k) (item_at slots s)
+
+-- by which keys the index finds messages
+abbrev pub keys_of : Index → Keys
+keys_of index = record {
+  value = is_kept index.values;
+  sender = is_kept index.senders;
+  both = is_kept index.pairs;
+  stamp = is_kept index.stamps;
+}
 
 -- how many slots are left for messages that come
 abbrev pub room : Index → ℕ

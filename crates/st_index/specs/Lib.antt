@@ -1,5 +1,6 @@
--- What public contracts cite: what the index says of a queue.
+-- What public contracts cite: what the index says of a queue, and by which keys.
 pub mod Index
+pub mod Keys
 -- For the parts alone: slots, and the keys that they have.
 pub mod Keyed
 pub mod Slots

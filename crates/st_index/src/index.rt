@@ -1,12 +1,13 @@
 //! The index of one queue.
 
 ghost use Rattle.std.specs.Prelude.{◌≡◌, ◌+◌, ◌-◌, ◌<◌, ◌≤◌, ◌==◌, ◌&&◌, ◌++◌, [], ◌∷◌, List, ℕ};
-ghost use Rattle.std.specs.Prelude.{drop, remove, Some, IfOk, OnOk, option_map, position};
+ghost use Rattle.std.specs.Prelude.{drop, remove, Some, IfOk, OnOk, option_map, position, true};
 ghost use Rattle.std.specs.Prelude.{slice_get};
 ghost use Rattle.st_core.specs.declared.types.Message.{Message};
 ghost use Rattle.st_core.specs.Pid.{pid_eq};
 
 use crate::keyed::Keyed;
+use crate::keys::Keys;
 use st_core::{Message, Pid, Token};
 use st_ranks::Ranks;
 use std::alloc::{AllocError, Global};
@@ -20,7 +21,8 @@ pub struct Index {
     ranks: Ranks,
     // How many slots were given out.
     used: usize,
-    // The slots by what their messages show: the value, the sender, both, and the stamp.
+    // The slots by what their messages show: the value, the sender, both, and the stamp. Each is
+    // kept or not.
     values: Keyed<u64>,
     senders: Keyed<Pid>,
     pairs: Keyed<(Pid, u64)>,
@@ -28,23 +30,36 @@ pub struct Index {
 }
 
 impl Index {
-    ghost use Rattle.st_index.specs.Index.{IsIndexOf, IsIndex, room, bears_stamp};
+    ghost use Rattle.st_index.specs.Index.{IsIndexOf, IsIndex, room, bears_stamp, keys_of};
 
-    /// An index of the empty queue, with room for at least so many messages. Fails if memory runs
-    /// out.
-    pub fn new(alloc: Global, slots: usize) -> Result<Index, AllocError>
+    /// An index of the empty queue by these keys, with room for at least so many messages. Fails if
+    /// memory runs out.
+    pub fn new(alloc: Global, slots: usize, keys: Keys) -> Result<Index, AllocError>
         ensures empty { IfOk result (λ index. IsIndexOf index []) }
+        ensures keys { IfOk result (λ index. keys_of index ≡ keys) }
         ensures room { IfOk result (λ index. slots ≤ room index) }
     {
         let ranks = Ranks::new(alloc, slots, 0)?;
         Ok(Index {
             ranks,
             used: 0,
-            values: Keyed::new(alloc),
-            senders: Keyed::new(alloc),
-            pairs: Keyed::new(alloc),
-            stamps: Keyed::new(alloc),
+            values: Keyed::new(alloc, keys.value),
+            senders: Keyed::new(alloc, keys.sender),
+            pairs: Keyed::new(alloc, keys.both),
+            stamps: Keyed::new(alloc, keys.stamp),
         })
+    }
+
+    /// The keys by which it finds messages.
+    pub fn keys(&self) -> Keys
+        ensures { result ≡ keys_of self.now }
+    {
+        Keys {
+            value: self.values.is_kept(),
+            sender: self.senders.is_kept(),
+            both: self.pairs.is_kept(),
+            stamp: self.stamps.is_kept(),
+        }
     }
 
     /// For how many more messages there is room: each that is pushed takes one slot, and none comes
@@ -64,6 +79,7 @@ impl Index {
         ensures pushed { (queue : List Message) → IsIndexOf self.old queue →
             OnOk result (IsIndexOf self.new (queue ++ message.now ∷ [])) }
         ensures room { OnOk result (room self.new + 1 ≡ room self.old) }
+        ensures keys { keys_of self.new ≡ keys_of self.old }
     {
         let slot = self.used;
         self.values.insert(message.value, slot)?;
@@ -84,6 +100,7 @@ impl Index {
         ensures removed { (queue : List Message) → IsIndexOf self.old queue →
             slice_get queue place ≡ Some message.now → IsIndexOf self.new (remove queue place) }
         ensures room { room self.new ≡ room self.old }
+        ensures keys { keys_of self.new ≡ keys_of self.old }
     {
         let Some(slot) = self.ranks.select(place) else {
             return;
@@ -97,7 +114,8 @@ impl Index {
 
     /// The least place with a message from this process.
     pub fn find_from(&self, from: Pid) -> Option<u64>
-        requires { IsIndex self.now }
+        requires index { IsIndex self.now }
+        requires kept { (keys_of self.now).sender ≡ true }
         ensures { (queue : List Message) → IsIndexOf self.now queue →
             result ≡ position (λ m. pid_eq m.from from) queue }
     {
@@ -107,7 +125,8 @@ impl Index {
 
     /// The least place with a message of this value.
     pub fn find_value(&self, value: u64) -> Option<u64>
-        requires { IsIndex self.now }
+        requires index { IsIndex self.now }
+        requires kept { (keys_of self.now).value ≡ true }
         ensures { (queue : List Message) → IsIndexOf self.now queue →
             result ≡ position (λ m. m.value == value) queue }
     {
@@ -117,7 +136,8 @@ impl Index {
 
     /// The least place with a message from this process and of this value.
     pub fn find_both(&self, from: Pid, value: u64) -> Option<u64>
-        requires { IsIndex self.now }
+        requires index { IsIndex self.now }
+        requires kept { (keys_of self.now).both ≡ true }
         ensures { (queue : List Message) → IsIndexOf self.now queue →
             result ≡ position (λ m. pid_eq m.from from && m.value == value) queue }
     {
@@ -128,7 +148,8 @@ impl Index {
     /// The least place from `start` on whose message has a token with this from, and this as its
     /// own count.
     pub fn find_stamp(&self, from: Pid, this: u64, start: u64) -> Option<u64>
-        requires { IsIndex self.now }
+        requires index { IsIndex self.now }
+        requires kept { (keys_of self.now).stamp ≡ true }
         ensures { (queue : List Message) → IsIndexOf self.now queue →
             result ≡ option_map (λ k. start + k)
             (position (λ m. bears_stamp from this m.token) (drop start queue)) }
@@ -141,7 +162,7 @@ impl Index {
 
 ghost use Rattle.std.specs.Prelude.{◌||◌, not};
 ghost use Rattle.st_index.specs.Index.{bears_stamp, pid_count_cmp};
-ghost use Rattle.st_index.specs.Keyed.{has_key};
+ghost use Rattle.st_index.specs.Keyed.{has_key, is_kept};
 
 // Gives the slot the stamp of the token, if there is one. Fails if memory runs out.
 fn insert_stamp(
@@ -149,10 +170,11 @@ fn insert_stamp(
     token: &Option<Token>,
     slot: usize,
 ) -> Result<(), AllocError>
-    ensures { OnOk result ((from : Pid) (this s : ℕ)
+    ensures inserted { OnOk result (is_kept stamps.old ≡ true → (from : Pid) (this s : ℕ)
         → has_key pid_count_cmp stamps.new (from, this) s
         ≡ (bears_stamp from this token.now && slot == s
         || has_key pid_count_cmp stamps.old (from, this) s)) }
+    ensures kept { is_kept stamps.new ≡ is_kept stamps.old }
 {
     if let Some(token) = token {
         stamps.insert((token.from, token.serial.this), slot)?;
@@ -162,9 +184,10 @@ fn insert_stamp(
 
 // Takes the stamp of the token from the slot, if there is one.
 fn remove_stamp(stamps: &mut Keyed<(Pid, u64)>, token: &Option<Token>, slot: usize)
-    ensures { (from : Pid) (this s : ℕ) → has_key pid_count_cmp stamps.new (from, this) s
+    ensures removed { (from : Pid) (this s : ℕ) → has_key pid_count_cmp stamps.new (from, this) s
         ≡ (not (bears_stamp from this token.now && slot == s)
         && has_key pid_count_cmp stamps.old (from, this) s) }
+    ensures kept { is_kept stamps.new ≡ is_kept stamps.old }
 {
     if let Some(token) = token {
         stamps.remove((token.from, token.serial.this), slot);

@@ -1,11 +1,11 @@
 //! An index beside a queue of three messages.
 
 ghost use Rattle.std.specs.Prelude.{◌≡◌, ◌+◌, ◌<◌, IfOk};
-ghost use Rattle.st_index.specs.Index.{IsIndex, room};
+ghost use Rattle.st_index.specs.Index.{IsIndex, keys_of, room};
 
 use crate::shared::same;
 use st_core::{Message, Pid, Serial, Token};
-use st_index::Index;
+use st_index::{Index, Key, Keys};
 use st_samples::{p30, p31};
 use std::alloc::{AllocError, Global};
 use std::test::Fail;
@@ -27,16 +27,18 @@ fn index_with(mut index: Index, message: &Message) -> Result<Index, AllocError>
     requires room { 0 < room index }
     ensures index { IfOk result (λ next. IsIndex next) }
     ensures room { IfOk result (λ next. room next + 1 ≡ room index) }
+    ensures keys { IfOk result (λ next. keys_of next ≡ keys_of index) }
 {
     index.push(message)?;
     Ok(index)
 }
 
-/// An index of 8 and 9 from 30, and 8 from 31, whose stamps are 6, 7 and 7.
-fn index_of_three(alloc: Global) -> Result<Index, AllocError>
+/// An index of 8 and 9 from 30, and 8 from 31, whose stamps are 6, 7 and 7, by these keys.
+fn index_of_three(alloc: Global, keys: Keys) -> Result<Index, AllocError>
     ensures index { IfOk result (λ index. IsIndex index) }
+    ensures keys { IfOk result (λ index. keys_of index ≡ keys) }
 {
-    let none = Index::new(alloc, 3)?;
+    let none = Index::new(alloc, 3, keys)?;
     let one = index_with(none, &stamped_message(p30(), 8, 6))?;
     let two = index_with(one, &stamped_message(p30(), 9, 7))?;
     let three = index_with(two, &stamped_message(p31(), 8, 7))?;
@@ -45,7 +47,12 @@ fn index_of_three(alloc: Global) -> Result<Index, AllocError>
 
 #[test]
 fn an_index_finds_the_least_place_of_each_key(rt: HostRuntime) -> Result<(), Fail> {
-    let index = index_of_three(rt.alloc())?;
+    let keys = Keys::default()
+        .with(Key::Value)
+        .with(Key::Sender)
+        .with(Key::Both)
+        .with(Key::Stamp);
+    let index = index_of_three(rt.alloc(), keys)?;
     same(&rt, &index.find_from(p31()), &Some(2));
     same(&rt, &index.find_value(8), &Some(0));
     same(&rt, &index.find_both(p31(), 8), &Some(2));
@@ -53,5 +60,16 @@ fn an_index_finds_the_least_place_of_each_key(rt: HostRuntime) -> Result<(), Fai
     same(&rt, &index.find_stamp(p30(), 7, 0), &Some(1));
     same(&rt, &index.find_stamp(p30(), 7, 2), &None);
     same(&rt, &index.room(), &1);
+    Ok(())
+}
+
+#[test]
+fn an_index_tells_by_which_keys_it_finds(rt: HostRuntime) -> Result<(), Fail> {
+    let keys = Keys::default().with(Key::Stamp);
+    let index = index_of_three(rt.alloc(), keys)?;
+    same(&rt, &index.keys(), &keys);
+    assert!(rt; index.keys().has(Key::Stamp));
+    assert!(rt; !index.keys().has(Key::Value));
+    same(&rt, &index.find_stamp(p31(), 7, 0), &Some(2));
     Ok(())
 }

@@ -8,14 +8,14 @@ mod texts;
 
 use crate::shared::same;
 use st_core::{Act, Draft, Event, Kind, Label, MemorySink, MemorySource, Pid, Sequence, Serial};
-use st_samples::{HIDDEN_SENDS_CERTIFICATE, PRINT_ONE, WANT_AWAY};
+use st_samples::{HIDDEN_SENDS_CERTIFICATE, PRINT_ONE};
 use st_text::{
     Bundle, Feed, ReadFault, read, write, write_act, write_event, write_parts, write_pid,
 };
 use std::alloc::Global;
 use std::process::Abort;
 use std::test::Fail;
-use texts::REFUSED;
+use texts::{REFUSED, WANT_AWAY};
 
 fn refusal(rt: &impl Abort, answer: Result<Bundle, ReadFault>) -> ReadFault {
     match answer {

@@ -303,6 +303,12 @@ fn long_queues(rt: HostRuntime) -> Result<(), Fail> {
     Ok(())
 }
 
+#[test]
+fn a_world_of_falling_pids_is_refused(rt: HostRuntime) {
+    let refused = World::<9>::new(rt.alloc(), &[p31(), p30()]).err();
+    same(&rt, &refused, &Some(NewFault::NotRising));
+}
+
 /// Two processes, the first with a token. If memory runs out the result says so, and the second try
 /// succeeds.
 fn two_at_last(rt: &impl Abort, alloc: Global) -> Result<World<9>, Fail> {

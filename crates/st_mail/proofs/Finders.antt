@@ -1,21 +1,25 @@
 -- Finders and stored lists are read and written queue by queue, so what finds the messages of one queue follows that
 -- queue, and all others stay.
 use Rattle.std.proofs.Common.{◌≡◌, ℕ, zero, suc, ◌+◌, ◌<◌, List, [], ◌∷◌, ◌++◌, length, get_or, set, replicate}
-use Rattle.std.proofs.Common.{Option, Some, None, option_map}
+use Rattle.std.proofs.Common.{Option, Some, None, option_map, Global}
 use Rattle.std.proofs.Common.{refl, ap, subst, ◌∙◌, arith}
 use Rattle.std.proofs.lemmas.List.{get_or-set_same}
+use Rattle.std.specs.Prelude.{Box, IfSome}
 use Rattle.st_core.specs.declared.types.Message.{Message}
 use Rattle.st_index.specs.declared.index.Index.{Index}
 use Rattle.st_index.specs.Index.{IsIndex, IsIndexOf}
 use Rattle.st_mail.specs.declared.finder.Finder.{Finder}
-use Rattle.st_mail.specs.declared.finder.Finder.TheVariants as finder
 use Rattle.st_mail.specs.Found.{Finds, IsFinder, AllFound}
 use Rattle.st_mail.specs.Mail.{queue_in}
 
 -- a finder of one queue is one of some queue
 pub some_queue : (f : Finder) (queue : List Message) → Finds f queue → IsFinder f
-some_queue (finder.Walk walked) queue is = tt
-some_queue (finder.Index index) queue is = record { queue = queue; is = is }
+some_queue f queue is = by f.index is
+  where
+    by : (index : Option (Box Index Global)) → IfSome index (λ i. IsIndexOf i.value queue)
+        → IfSome index (λ i. IsIndex i.value)
+    by None is = tt
+    by (Some index) is = record { queue = queue; is = is }
 
 pub some_index : (index : Index) (queue : List Message) → IsIndexOf index queue → IsIndex index
 some_index index queue is = record { queue = queue; is = is }
@@ -80,9 +84,6 @@ module _ (finders : List Finder) (stored : List (List Message)) (found : AllFoun
     finder_of =
         subst (λ (ls : List (List Message)). Finds f (queue_in ls i)) view
         (found_at finders stored i f found (omega (arith, ap length view)) is)
-
-    pub index_of : (index : Index) → f ≡ finder.Index index → IsIndexOf index (queue_in lists i)
-    index_of index e = subst (λ (g : Finder). Finds g (queue_in lists i)) e finder_of
 
   -- its finder and its list are written
   pub written_found : (f : Finder) (queue : List Message) (new : List (List Message)) → new ≡ set stored i queue

@@ -1,20 +1,17 @@
 -- How the messages of the queues are found. No public clause cites this module.
-use Rattle.std.specs.Prelude.{List}
+use Rattle.std.specs.Prelude.{List, IfSome}
 use Rattle.std.specs.List.{AllZip}
 use Rattle.st_core.specs.declared.types.Message.{Message}
 use Rattle.st_index.specs.Index.{IsIndex, IsIndexOf}
 use Rattle.st_mail.specs.declared.finder.Finder.{Finder}
-use Rattle.st_mail.specs.declared.finder.Finder.TheVariants as finder
 
--- the finder is one for this queue
+-- the index of the finder, if it has one, is one of this queue
 abbrev pub Finds : Finder → List Message → Type 0
-Finds (finder.Walk walked) queue = Unit {0}
-Finds (finder.Index index) queue = IsIndexOf index queue
+Finds finder queue = IfSome finder.index (λ index. IsIndexOf index.value queue)
 
--- it is one for some queue
+-- it is one of some queue
 abbrev pub IsFinder : Finder → Type 0
-IsFinder (finder.Walk walked) = Unit {0}
-IsFinder (finder.Index index) = IsIndex index
+IsFinder finder = IfSome finder.index (λ index. IsIndex index.value)
 
 -- there is a finder for each queue
 abbrev pub AllFound : List Finder → List (List Message) → Type 0

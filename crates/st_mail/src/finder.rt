@@ -1,13 +1,13 @@
-//! How the messages of one queue are found: by a walk, or by an index once walks have been long.
+//! How the messages of one queue are found: by a walk, or by an index of what long walks looked for.
 
-ghost use Rattle.std.specs.Prelude.{◌≡◌, ◌++◌, [], ◌∷◌, List, Some, IfOk, length, remove};
+ghost use Rattle.std.specs.Prelude.{◌≡◌, ◌++◌, [], ◌∷◌, List, Some, IfSome, length, remove, true};
 ghost use Rattle.std.specs.Prelude.{slice_get};
 ghost use Rattle.st_arena.specs.Arena.{list_at};
 ghost use Rattle.st_core.specs.declared.types.Message.{Message};
 
 use st_arena::Lists;
-use st_core::Message;
-use st_index::Index;
+use st_core::{Message, Want};
+use st_index::{Index, Key, Keys};
 use std::alloc::{AllocError, Global};
 
 /// A walk past fewer messages isn't counted: it takes no longer than what an index costs each
@@ -18,56 +18,134 @@ const SHORT_WALK: u64 = 256;
 /// takes about as long.
 const WALKS_AN_INDEX: u64 = 16;
 
+/// A walk that looked for a message by this key.
+#[derive(Clone, Copy, Debug, PartialEq, Eq)]
+pub(crate) struct Walk {
+    /// What it asked of each message.
+    pub(crate) key: Key,
+    /// How many messages it passed.
+    pub(crate) passed: u64,
+}
+
 /// How a message is searched for before a receive takes it.
 #[derive(Clone, Copy, Debug, PartialEq, Eq)]
 pub(crate) enum Search {
-    /// From the front.
-    Front,
-    /// By the stamp of its token if it has one, from both ends at once; else not at all.
-    Stamp,
+    /// Not at all.
+    Nothing,
+    /// From the front, by this key.
+    Front(Key),
+    /// By the stamp of its token, if it has one, from the front.
+    StampFromFront,
+    /// By the stamp of its token, if it has one, from both ends at once.
+    StampFromEnds,
 }
 
 impl Search {
-    // How many messages a walk passes that searches for the message that lay at this place, before
-    // so many others.
-    fn walk_length(self, place: u64, others: u64, message: &Message) -> u64 {
-        match self {
-            Search::Front => place,
-            Search::Stamp if message.token.is_none() => 0,
-            Search::Stamp => place.min(others.saturating_sub(place)),
+    /// The search of a receive with this pattern. One that takes a message by its place may have
+    /// asked for it by its stamp before: from both ends (`place_of_one`), or from the front once
+    /// messages were wiped (`place_of`).
+    pub(crate) fn of(want: &Want, was_wiped: bool) -> Search {
+        match want {
+            Want::First => Search::Nothing,
+            Want::From(_) => Search::Front(Key::Sender),
+            Want::Value(_) => Search::Front(Key::Value),
+            Want::Both(..) => Search::Front(Key::Both),
+            Want::Place(_) if was_wiped => Search::StampFromFront,
+            Want::Place(_) => Search::StampFromEnds,
         }
+    }
+
+    /// The walk to the message that lay at this place, before so many others.
+    fn to_place(self, place: u64, others: u64, message: &Message) -> Option<Walk> {
+        let (key, passed) = match self {
+            Search::Nothing => return None,
+            Search::Front(key) => (key, place),
+            Search::StampFromFront => (Key::Stamp, place),
+            Search::StampFromEnds => (Key::Stamp, place.min(others.saturating_sub(place))),
+        };
+        if key == Key::Stamp && message.token.is_none() {
+            return None;
+        }
+        Some(Walk { key, passed })
+    }
+
+    /// The walk through a queue of this length that found nothing.
+    pub(crate) fn to_end(self, len: u64) -> Option<Walk> {
+        match self {
+            Search::Front(key) => Some(Walk { key, passed: len }),
+            _ => None,
+        }
+    }
+}
+
+/// How many messages long walks have passed, by what they looked for.
+#[derive(Clone, Copy, Debug, Default)]
+struct Walks {
+    value: u64,
+    sender: u64,
+    both: u64,
+    stamp: u64,
+}
+
+impl Walks {
+    /// Counts a walk, and returns how many messages those by its key have passed.
+    fn count(&mut self, walk: Walk) -> u64 {
+        let passed = match walk.key {
+            Key::Value => &mut self.value,
+            Key::Sender => &mut self.sender,
+            Key::Both => &mut self.both,
+            Key::Stamp => &mut self.stamp,
+        };
+        *passed = passed.saturating_add(walk.passed);
+        *passed
     }
 }
 
 /// How the messages of one queue are found.
 #[derive(Drop)]
-pub(crate) enum Finder {
-    /// By a walk. Long walks have passed so many messages since the queue had no index.
-    Walk(u64),
-    /// By an index of the queue.
-    Index(Index),
+pub(crate) struct Finder {
+    walks: Walks,
+    // An index of the queue by the keys for which walks have been long, if there are any. Few
+    // queues have one, so it lies on the heap.
+    index: Option<Box<Index>>,
 }
 
 impl Finder {
-    ghost use Rattle.st_index.specs.Index.{IsIndexOf};
+    ghost use Rattle.st_index.specs.Index.{IsIndexOf, keys_of};
+    ghost use Rattle.st_index.specs.Keys.{has};
     ghost use Rattle.st_mail.specs.Found.{Finds, IsFinder};
 
     /// What finds the messages of a queue in which nobody has walked.
     pub(crate) fn new() -> Finder
         ensures { (queue : List Message) → Finds result queue }
     {
-        Finder::Walk(0)
+        Finder {
+            walks: Walks::default(),
+            index: None,
+        }
     }
 
-    /// An index of this list, unless memory runs out. Then it is tried again after as many walks as
-    /// before, so that the tries take no longer than the walks.
-    fn over(alloc: Global, lists: &Lists<Message>, list: usize) -> Finder
-        requires { list < length lists.now.lists }
-        ensures { Finds result (list_at lists.now list) }
+    /// An index of the queue, if there is one by this key.
+    pub(crate) fn index_by(&self, key: Key) -> Option<&Index>
+        ensures kept { IfSome result (λ index. has (keys_of index.now) key ≡ true) }
+        ensures index { IfSome result (λ index. (queue : List Message) → Finds self.now queue →
+            IsIndexOf index.now queue) }
     {
-        match index_over(alloc, lists, list) {
-            Ok(index) => Finder::Index(index),
-            Err(AllocError) => Finder::new(),
+        match &self.index {
+            Some(index) if index.keys().has(key) => Some(index),
+            _ => None,
+        }
+    }
+
+    /// Makes the index anew, by these keys, unless memory runs out. Then it is tried again after as
+    /// many walks as before, so that the tries take no longer than the walks.
+    fn make_index(&mut self, alloc: Global, lists: &Lists<Message>, list: usize, keys: Keys)
+        requires { list < length lists.now.lists }
+        ensures { Finds self.new (list_at lists.now list) }
+    {
+        match index_over(alloc, lists, list, keys) {
+            Ok(index) => self.index = Some(index),
+            Err(AllocError) => *self = Finder::new(),
         }
     }
 
@@ -86,9 +164,10 @@ impl Finder {
             list_at lists.now list ≡ queue ++ message.now ∷ []
             → Finds self.new (list_at lists.now list) }
     {
-        if let Finder::Index(index) = self {
+        if let Some(index) = &mut self.index {
             if index.room() == 0 {
-                *self = Finder::over(alloc, lists, list);
+                let keys = index.keys();
+                self.make_index(alloc, lists, list, keys);
             } else if index.push(message).is_err() {
                 *self = Finder::new();
             }
@@ -114,54 +193,58 @@ impl Finder {
     {
         if lists.len(list) == 0 {
             *self = Finder::new();
-        } else if let Finder::Index(index) = self {
+            return;
+        }
+        if let Some(index) = &mut self.index {
             index.remove(place, message);
-        } else {
-            let passed = search.walk_length(place, lists.len(list), message);
-            self.count_walk(alloc, lists, list, passed);
+        }
+        if let Some(walk) = search.to_place(place, lists.len(list), message) {
+            self.count_walk(alloc, lists, list, walk);
         }
     }
 
-    /// Counts a walk past so many messages of the list, if there is no index, and makes one if it
-    /// is due.
+    /// Counts a walk in the list, unless an index has spared it, and makes an index if it is due.
     pub(crate) fn count_walk(
         &mut self,
         alloc: Global,
         lists: &Lists<Message>,
         list: usize,
-        passed: u64,
+        walk: Walk,
     )
         requires { list < length lists.now.lists }
         ensures { Finds self.old (list_at lists.now list)
             → Finds self.new (list_at lists.now list) }
     {
-        let Finder::Walk(walked) = self else {
-            return;
+        let keys = match &self.index {
+            Some(index) => index.keys(),
+            None => Keys::default(),
         };
-        if passed < SHORT_WALK {
+        if walk.passed < SHORT_WALK || keys.has(walk.key) {
             return;
         }
-        let walked = walked.saturating_add(passed);
-        *self = if walked / WALKS_AN_INDEX < lists.len(list) {
-            Finder::Walk(walked)
-        } else {
-            Finder::over(alloc, lists, list)
-        };
+        if self.walks.count(walk) / WALKS_AN_INDEX >= lists.len(list) {
+            self.make_index(alloc, lists, list, keys.with(walk.key));
+        }
     }
 }
 
-ghost use Rattle.std.specs.Prelude.{◌<◌};
+ghost use Rattle.std.specs.Prelude.{◌<◌, IfOk};
 ghost use Rattle.st_index.specs.Index.{IsIndexOf};
 
-// An index of this list, with room for as many messages again.
-fn index_over(alloc: Global, lists: &Lists<Message>, list: usize) -> Result<Index, AllocError>
+// An index of this list by these keys, with room for as many messages again.
+fn index_over(
+    alloc: Global,
+    lists: &Lists<Message>,
+    list: usize,
+    keys: Keys,
+) -> Result<Box<Index>, AllocError>
     requires { list < length lists.now.lists }
-    ensures { IfOk result (λ index. IsIndexOf index (list_at lists.now list)) }
+    ensures { IfOk result (λ index. IsIndexOf index.value (list_at lists.now list)) }
 {
     let room = lists.len(list).checked_mul(2).ok_or(AllocError)?;
-    let mut index = Index::new(alloc, room as usize)?;
+    let mut index = Index::new(alloc, room as usize, keys)?;
     for message in lists.walk(list) {
         index.push(message)?;
     }
-    Ok(index)
+    Ok(Box::new(alloc, index)?)
 }

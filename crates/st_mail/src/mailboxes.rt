@@ -53,16 +53,6 @@ fn without_token(message: Message) -> Message
     }
 }
 
-/// How the message of a receive with this pattern is searched for. One that is taken by its place
-/// may have been asked for by its stamp (`place_of_one`), once messages were wiped from the front
-/// (`place_of`).
-fn search_for(want: &Want, was_wiped: bool) -> Search {
-    match want {
-        Want::Place(_) if !was_wiped => Search::Stamp,
-        _ => Search::Front,
-    }
-}
-
 impl Mailboxes {
     /// As many empty mailboxes as `count`, with room for no message yet. Fails if memory runs
     /// out.
@@ -201,12 +191,12 @@ impl Mailboxes {
             ≡ set self.old.boxes mailbox (left_by result (queue_in self.old.boxes mailbox)) }
         ensures spare { self.new.spare ≡ self.old.spare + (if is_some result then 1 else 0) }
     {
+        let search = Search::of(want, self.was_wiped);
         let Some(place) = self.find(mailbox, want) else {
-            self.queues.count_walk(mailbox);
+            self.queues.count_miss(mailbox, search);
             return None;
         };
         let wiped = self.wiped[mailbox];
-        let search = search_for(want, self.was_wiped);
         let message = self.queues.take_at(mailbox, place, search).unwrap();
         if place >= wiped {
             return Some((place, message));

@@ -11,6 +11,7 @@ ghost use Rattle.st_mail.specs.Mail.{bears_stamp};
 use crate::finder::{Finder, Search};
 use st_arena::Lists;
 use st_core::{Message, Pid, Token};
+use st_index::Key;
 use std::alloc::{AllocError, Global};
 use std::marker::Model;
 
@@ -136,14 +137,15 @@ impl Queues {
         Some(message)
     }
 
-    /// Counts a walk through the whole queue that found nothing, after enough of which the queue
-    /// gets an index.
-    pub(crate) fn count_walk(&mut self, queue: usize)
+    /// Counts the walk of a search through the whole queue that found nothing, after enough of
+    /// which the queue gets an index.
+    pub(crate) fn count_miss(&mut self, queue: usize, search: Search)
         requires { queue < length self.old.lists }
         ensures { self.new ≡ self.old }
     {
-        let passed = self.lists.len(queue);
-        self.finders[queue].count_walk(self.alloc, &self.lists, queue, passed);
+        if let Some(walk) = search.to_end(self.lists.len(queue)) {
+            self.finders[queue].count_walk(self.alloc, &self.lists, queue, walk);
+        }
     }
 
     /// The least place with a message from this process.
@@ -151,7 +153,7 @@ impl Queues {
         requires { queue < length self.now.lists }
         ensures { result ≡ position (λ m. pid_eq m.from from) (list_at self.now queue) }
     {
-        if let Finder::Index(index) = &self.finders[queue] {
+        if let Some(index) = self.finders[queue].index_by(Key::Sender) {
             return index.find_from(from);
         }
         let matches = |message: &Message| -> bool
@@ -165,7 +167,7 @@ impl Queues {
         requires { queue < length self.now.lists }
         ensures { result ≡ position (λ m. m.value == value) (list_at self.now queue) }
     {
-        if let Finder::Index(index) = &self.finders[queue] {
+        if let Some(index) = self.finders[queue].index_by(Key::Value) {
             return index.find_value(value);
         }
         let matches = |message: &Message| -> bool
@@ -180,7 +182,7 @@ impl Queues {
         ensures { result ≡ position (λ m. pid_eq m.from from && m.value == value)
             (list_at self.now queue) }
     {
-        if let Finder::Index(index) = &self.finders[queue] {
+        if let Some(index) = self.finders[queue].index_by(Key::Both) {
             return index.find_both(from, value);
         }
         let matches = |message: &Message| -> bool
@@ -196,7 +198,7 @@ impl Queues {
         ensures { result ≡ option_map (λ k. start + k)
             (position (λ m. bears_stamp from this m.token) (drop start (list_at self.now queue))) }
     {
-        if let Finder::Index(index) = &self.finders[queue] {
+        if let Some(index) = self.finders[queue].index_by(Key::Stamp) {
             return index.find_stamp(from, this, start);
         }
         let mut kept = self.lists.walk(queue).skip(start as usize);
@@ -211,7 +213,7 @@ impl Queues {
         requires one { PassesOnce (λ m. bears_stamp from this m.token) (list_at self.now queue) }
         ensures { result ≡ position (λ m. bears_stamp from this m.token) (list_at self.now queue) }
     {
-        if let Finder::Index(index) = &self.finders[queue] {
+        if let Some(index) = self.finders[queue].index_by(Key::Stamp) {
             return index.find_stamp(from, this, 0);
         }
         let bears = |message: &Message| -> bool

@@ -11,4 +11,7 @@ pub mod Noted
 pub mod Merging
 pub mod Needed
 pub mod Constructed
+pub mod Hiding
+pub mod EarliestFound
+pub mod OthersAdded
 pub mod ForCallers

@@ -1,16 +1,23 @@
-//! What is told of whole streams, completed by st_completions's definition.
+//! Completions by st_completions's definition: of what is told of whole streams, and of streams of
+//! which no reason holds, with their hidden sends at the earliest places.
 
 ghost use Rattle.std.specs.Prelude.{◌≡◌, ◌<◌, get_or, length, IfOk};
 ghost use Rattle.st_core.specs.Streams.{IsStreams};
 ghost use Rattle.st_plan.specs.Marks.{Marked as MarkedValue};
 ghost use Rattle.st_plan.specs.Marks.{all_streams, told_events, told_streams};
 ghost use Rattle.st_completions.specs.Reasons.{HasEachSend, HasNoReason};
+ghost use Rattle.st_open.specs.OpenReasons.{HasNoOpenReason};
 ghost use Rattle.st_open.specs.Silent.{with_silent};
-ghost use Rattle.st_needs.specs.Completions.{all_events, marked_with, wholes_with, IsCompletionOf};
+ghost use Rattle.st_pair.specs.Links.{IsPairing};
+ghost use Rattle.st_needs.specs.Completions.{all_events, marked_with, wholes_with, Completes};
+ghost use Rattle.st_needs.specs.Completions.{IsCompletionOf};
 
 use crate::completion::{Completion, completion_of, is_marked, marks_at};
 use crate::construction::{Marked, Whole, construct, streams_of};
+use crate::earliest::earliest_wholes;
+use crate::others::{add_silent, event_count};
 use st_core::{Event, Pid, Sequence, Streams};
+use st_pair::Pairing;
 use std::alloc::{AllocError, Global};
 
 /// Whether the event at this index is told.
@@ -89,7 +96,7 @@ fn told_completion<const TOP: u64>(
 /// processes of which nothing is told, if no send is hidden in all events and no reason holds of
 /// them: all events are completed by the definition, and told is what is told of both. That takes a
 /// time quadratic in the events.
-pub fn complete_told<const TOP: u64>(
+fn complete_told<const TOP: u64>(
     alloc: Global,
     streams: &Streams,
     wholes: &[Whole],
@@ -106,4 +113,26 @@ pub fn complete_told<const TOP: u64>(
     let all = streams_of(alloc, wholes)?;
     let completed = construct::<TOP>(alloc, &all)?;
     told_completion::<TOP>(alloc, streams, wholes, completed, unlisted)
+}
+
+/// Builds a completion of streams of which no reason holds. Hidden sends stand at the earliest
+/// places; there are as many unlisted processes as events, each free to send every count; and the
+/// definition says who sends what. That takes a time quadratic in the events. It fails only if memory
+/// runs out, or the 2^32 pids.
+pub fn complete_by_definition<const TOP: u64>(
+    alloc: Global,
+    streams: &Streams,
+    pairing: &Pairing,
+) -> Result<Completion, AllocError>
+    requires paired { IsPairing streams.now pairing.now }
+    requires none { HasNoOpenReason TOP streams.now }
+    ensures { IfOk result (Completes TOP streams.now) }
+{
+    let _pids = streams.pids();
+    let mut wholes = earliest_wholes(alloc, streams, pairing)?;
+    let Some(count) = event_count(&wholes) else {
+        return Err(AllocError);
+    };
+    let others = add_silent(alloc, streams, &mut wholes, count)?;
+    complete_told::<TOP>(alloc, streams, &wholes, others)
 }

@@ -2,13 +2,16 @@
 //!
 //! A send or print is a need if it goes on from a count that the events before it don't leave, so
 //! that a receive is missing. Here are the tests of single events, the counts of the messages that
-//! may feed needs, and completions by their definition, of streams in which no send is hidden.
+//! may feed needs, and completions by their definition.
 #![tactic(auto)]
 
 mod completion;
 mod construction;
 mod definition;
+mod earliest;
 mod flaws;
+mod hidden;
+mod others;
 mod ranks;
 mod silent;
 mod supplies;
@@ -16,8 +19,7 @@ mod told;
 mod unfounded;
 
 pub use completion::{Completion, completion_of, is_marked, marks_at};
-pub use construction::{Marked, Whole};
-pub use definition::complete_told;
+pub use definition::complete_by_definition;
 pub use flaws::{Flaw, Left, find_flaw, is_hidden_source, is_stamp, prev_left};
 pub use ranks::{counts_of, renumbered};
 pub use silent::{is_unlisted, with_silent};

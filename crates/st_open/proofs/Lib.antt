@@ -3,10 +3,9 @@ pub mod SilentStreams
 pub mod SameReasons
 pub mod EnoughSilent
 pub mod Founded
-pub mod RoomyStreams
 pub mod Unfounded
-pub mod OpenReasons
 pub mod ChosenWith
+pub mod EarliestWholes
+pub mod OpenReasons
 pub mod ReasonSought
-pub mod PlacedWholes
 pub mod ForCallers

@@ -1,16 +1,17 @@
 -- The reasons decide: if one holds it is final, with any processes that report nothing; and if none
 -- holds, enough such processes send what is needed.
-use Rattle.std.proofs.Common.{◌≡◌, ◌↔◌, ℕ, List, Some, None, sum_by}
-use Rattle.std.proofs.Common.{refl, sym, ◌∙◌, ap, arith, take, ◌≤◌}
+use Rattle.std.proofs.Common.{◌≡◌, ◌↔◌, ℕ, List, Some, None, refl, sym, ◌∙◌, arith}
 use Rattle.std.proofs.lemmas.Bool.{false≢true, ltb-true}
 use Rattle.std.proofs.lemmas.Option.{none-some}
 use Rattle.st_core.specs.declared.types.Pid.{Pid}
 use Rattle.st_core.specs.declared.types.Event.{Event}
-use Rattle.st_core.specs.Run.{Stream, pids_of}
-use Rattle.st_core.specs.Streams.{IsStreams}
+use Rattle.st_core.specs.Run.{Stream}
+use Rattle.st_core.specs.Streams.{total_of, IsStreams}
 use Rattle.st_pair.specs.Pairing.{refusal}
 use Rattle.st_pair.proofs.ForCallers.{refused_never_shown}
+use Rattle.st_plan.specs.Marks.{all_streams}
 use Rattle.st_completions.specs.Completed.{IsShownInOneTrace}
+use Rattle.st_completions.specs.Placed.{earliest_wholes}
 use Rattle.st_completions.proofs.ForCallers.{no_reason, zeros_final}
 use Rattle.st_open.specs.OpenReasons.{HasNoOpenReason, Late, OpenReason, Refused, StandsAgainstOpen, TooHigh, Unfounded}
 use Rattle.st_core.specs.declared.types.Act.{Act}
@@ -18,14 +19,10 @@ use Rattle.st_core.specs.Laws.{NoReset}
 use Rattle.st_core.specs.Run.{Shows}
 use Rattle.st_open.specs.Silent.{IsShownWithOthers, with_silent}
 use Rattle.st_open.proofs.SilentStreams.{silent_sound}
-use Rattle.st_open.proofs.SameReasons.{here, least_as, none_as, refusal_as, silent_same, tell_back}
-use Rattle.st_open.proofs.EnoughSilent.{enough, roomy_enough, roomy_none, weight}
-use Rattle.st_open.proofs.Founded.{least_zero}
-use Rattle.st_open.proofs.Unfounded.{behind_of, unfounded_of}
-use Rattle.st_open.proofs.RoomyStreams.{roomy_shown}
-use Rattle.st_completions.specs.HiddenSends.{least}
-use Rattle.st_completions.specs.Needs.{HoldsOfNone, is_late}
-use Rattle.st_pair.specs.Places.{event_at}
+use Rattle.st_open.proofs.SameReasons.{none_as, silent_same, tell_back}
+use Rattle.st_open.proofs.ChosenWith.{so_many_shown}
+use Rattle.st_open.proofs.EarliestWholes.{asked_low, places}
+use Rattle.st_open.proofs.Unfounded.{behind_of}
 
 -- streams that acts without a reset show have none of the reasons
 pub shown_none : (top : ℕ) (streams : List Stream) → IsStreams streams → IsShownInOneTrace top streams
@@ -59,32 +56,14 @@ shown_with_none top streams sound others shown =
     (same_none top streams others sound).0
     (shown_none top (with_silent streams others) (silent_sound streams sound others) shown)
 
--- if none is seen among the events, there are enough processes
-pub seen_shown_with : (top : ℕ) (streams : List Stream) → IsStreams streams → refusal streams ≡ None
-    → HoldsOfNone is_late streams → ((p : Pid) → least streams 0 p ≡ 0)
-    → ((p : Pid) (i : ℕ) (e : Event) → event_at streams p i ≡ Some e → e.serial.this ≤ top)
-    → IsShownWithOthers top streams
-seen_shown_with top streams sound accepted timely zero low =
-    let n = sum_by (weight streams) (pids_of streams) in
-    let others = enough streams n in
-    let more = with_silent streams others in
-    let same = silent_same streams others in
-    record {
-      others = others;
-      shown = roomy_shown top n more (roomy_enough n streams (roomy_none streams sound) n)
-          (refusal_as more streams same ∙ accepted)
-          (λ p i e at. ap (λ es. is_late (take i es) e) (same.events p)
-          ∙ timely p i e (here more streams same p i e at))
-          (λ p. least_as more streams same 0 p ∙ zero p)
-          (λ p i e at. low p i e (here more streams same p i e at));
-    }
-
+-- if none holds, as many processes as there are events are enough
 pub none_shown_with : (top : ℕ) (streams : List Stream) → IsStreams streams → HasNoOpenReason top streams
     → IsShownWithOthers top streams
-none_shown_with top streams sound none = seen_shown_with top streams sound none.accepted none.timely
-    (least_zero streams sound none.accepted (λ p behind.
-    let u = unfounded_of streams sound p behind in
-    none.founded u.pid u.index u.holds) none.timely) none.within
+none_shown_with top streams sound none =
+    let wholes = earliest_wholes streams in
+    let shown = so_many_shown top streams sound (places top streams sound none) (total_of (all_streams wholes))
+    (λ v. let low = asked_low top streams sound none v in omega arith) in
+    record { others = shown.others; shown = shown.shown }
 
 pub open_decides : (top : ℕ) (streams : List Stream) → IsStreams streams
     → IsShownWithOthers top streams ↔ HasNoOpenReason top streams

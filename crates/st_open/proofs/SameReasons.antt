@@ -1,6 +1,5 @@
 -- Streams with the same events of each process, and more processes without events: whatever is asked of events, of what
--- is received and of what is stamped has the same answer. So pairing, late stamps, hidden sends, placings and needs are
--- the same.
+-- is received and of what is stamped has the same answer. So pairing, late stamps and supplies are the same.
 use Rattle.std.proofs.Common.{◌≡◌, inl, inr, ℕ, zero, suc, ◌==◌, ◌&&◌, ◌||◌, nat_lt, true, false}
 use Rattle.std.proofs.Common.{not, cond, List, [], ◌∷◌, map, filter, take, Option, Some, None, is_none, slice_get}
 use Rattle.std.proofs.Common.{option_map, option_and_then, refl, sym, ◌∙◌, ap}
@@ -19,28 +18,23 @@ use Rattle.st_pair.proofs.ForCallers.{got_rule, own_rule}
 use Rattle.st_order.specs.Items.{is_hidden}
 use Rattle.st_pair.specs.declared.answer.Source.{Source}
 use Rattle.st_pair.specs.declared.answer.Source.TheVariants as source
-use Rattle.st_completions.specs.HiddenSends.{are_timely, hidden_from, hidden_send, hidden_sends, least, mixes, placings}
-use Rattle.st_completions.specs.HiddenSends.{send_of, smallest}
 use Rattle.st_completions.specs.Needs.{is_late}
-use Rattle.st_completions.specs.Supply.{is_free, is_own_supply, needs_from}
-use Rattle.st_completions.proofs.ForCallers.{highest}
+use Rattle.st_completions.specs.Supply.{is_free, is_own_supply}
 use Rattle.st_open.specs.OpenReasons.{HasNoOpenReason, IsUnfounded}
 use Rattle.st_open.specs.Silent.{inserted, with_silent}
-use Rattle.st_open.proofs.SilentStreams.{events_inserted, first_inserted, highest_inserted}
+use Rattle.st_open.proofs.SilentStreams.{events_inserted, first_inserted}
 
 -- the two tell the same
 pub record TellSame (more streams : List Stream) : Type 0 where
   pub events : (p : Pid) → events_of more p ≡ events_of streams p
   pub receives : (q : Pid) (v : ℕ) → receive_of more q v ≡ receive_of streams q v
   pub faults : (rule : Pid → ℕ → Event → Option PairFault) → first rule more ≡ first rule streams
-  pub high : highest more ≡ highest streams
 
 pub tell_back : (more streams : List Stream) → TellSame more streams → TellSame streams more
 tell_back more streams same = record {
   events = λ p. sym (same.events p);
   receives = λ q v. sym (same.receives q v);
   faults = λ rule. sym (same.faults rule);
-  high = sym same.high;
 }
 
 pub tell_on : (a b c : List Stream) → TellSame a b → TellSame b c → TellSame a c
@@ -48,7 +42,6 @@ tell_on a b c one two = record {
   events = λ p. one.events p ∙ two.events p;
   receives = λ q v. one.receives q v ∙ two.receives q v;
   faults = λ rule. one.faults rule ∙ two.faults rule;
-  high = one.high ∙ two.high;
 }
 
 pub tell_itself : (streams : List Stream) → TellSame streams streams
@@ -56,7 +49,6 @@ tell_itself streams = record {
   events = λ p. refl;
   receives = λ q v. refl;
   faults = λ rule. refl;
-  high = refl;
 }
 
 pub inserted_same : (q : Pid) (streams : List Stream) → lists streams q ≡ false → TellSame (inserted q streams) streams
@@ -64,7 +56,6 @@ inserted_same q streams none = record {
   events = events_inserted q streams none;
   receives = λ p v. first_inserted (got_rule p v) q streams;
   faults = λ rule. first_inserted rule q streams;
-  high = highest_inserted q streams;
 }
 
 pub silent_same : (streams : List Stream) (others : List Pid) → TellSame (with_silent streams others) streams
@@ -106,28 +97,7 @@ module _ (more streams : List Stream) (same : TellSame more streams) where
       ∙ (λ k. first_rule streams (prev_not_before ∷ (λ p i e. rising_same p i e k)
       ∷ (λ p i e. repeated_same p i e k) ∷ (λ p i e. mismatch_same p i e k) ∷ []))
 
-  -- HIDDEN SENDS, NEEDS AND SUPPLIES
-
-  pub hidden_as : (q : Pid) (v : ℕ) → hidden_send more q v ≡ hidden_send streams q v
-  hidden_as q v = λ k. cond (is_none (stamps q v k))
-      (option_map send_of (option_and_then (λ (at : Pid × ℕ). slice_get (same.events at.0 k) at.1)
-      (same.receives q v k))) None
-
-  hidden_from_as : (q : Pid) (v n : ℕ) → hidden_from more q v n ≡ hidden_from streams q v n
-  hidden_from_as q v zero = refl
-  hidden_from_as q v (suc n) = λ k. elim (hidden_as q v k) [
-    | None ↦ hidden_from_as q (suc v) n k
-    | Some f ↦ f ∷ hidden_from_as q (suc v) n k
-  ]
-
-  pub hidden_sends_as : (q : Pid) → hidden_sends more q ≡ hidden_sends streams q
-  hidden_sends_as q = hidden_from_as q 0 (suc (highest more)) ∙ ap (λ n. hidden_from streams q 0 (suc n)) same.high
-
-  pub placings_as : (p : Pid) → placings more p ≡ placings streams p
-  placings_as p = λ k. filter (are_timely []) (mixes (same.events p k) (hidden_sends_as p k))
-
-  pub least_as : (v : ℕ) (p : Pid) → least more v p ≡ least streams v p
-  least_as v p = ap (λ ps. smallest (map (needs_from v []) ps)) (placings_as p)
+  -- SUPPLIES
 
   pub own_as : (v : ℕ) (p q : Pid) → is_own_supply more v p q ≡ is_own_supply streams v p q
   own_as v p q = λ k. is_none (same.receives q v k)

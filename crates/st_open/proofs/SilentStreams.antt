@@ -1,5 +1,5 @@
 -- A process without events, put in by its pid, leaves the streams of all others as they are, and streams stay streams.
-use Rattle.std.proofs.Common.{◌≡◌, ℕ, ◌||◌, Bool, true, false, not, cond, max, List, [], ◌∷◌, map, Option, Some, None}
+use Rattle.std.proofs.Common.{◌≡◌, ℕ, ◌||◌, Bool, true, false, not, cond, List, [], ◌∷◌, map, Option, Some, None}
 use Rattle.std.proofs.Common.{is_some, length, slice_get, suc, sum_by, refl, sym, ◌∙◌, ap, arith, ◌+◌}
 use Rattle.std.specs.Prelude.{position}
 use Rattle.std.specs.declared.cmp.Ordering.TheVariants.{Less, Equal, Greater}
@@ -10,7 +10,6 @@ use Rattle.std.proofs.lemmas.Bool.{false≢true, and_parts, and_from}
 use Rattle.std.proofs.lemmas.List.Sums.{sum_by-cons}
 use Rattle.st_core.specs.declared.types.Pid.{Pid}
 use Rattle.st_core.specs.declared.types.Event.{Event}
-use Rattle.st_core.specs.Laws.{greatest_count}
 use Rattle.st_core.specs.Pid.{pid_cmp, pid_eq, IsBelow, IsRising}
 use Rattle.st_core.specs.Run.{Stream, pids_of}
 use Rattle.st_core.specs.Streams.{AreOwn, events_of, is_among, IsStreams, lists, names_listed, stream_of, total_of}
@@ -18,7 +17,6 @@ use Rattle.st_core.specs.Streams.{unlisted_among}
 use Rattle.st_core.proofs.ForCallers.{position-none, is_lt-true, pid_cmp-Equal, pid_eq-refl, pid_same, IsBelow-trans}
 use Rattle.st_pair.specs.Places.{first, first_from}
 use Rattle.st_pair.proofs.ForCallers.{events_in, pid_total}
-use Rattle.st_order.specs.Items.{greatest}
 use Rattle.st_order.proofs.ForCallers.{all_found, AreFound}
 use Rattle.st_completions.proofs.ForCallers.{named, unlisted_events}
 use Rattle.st_open.specs.Silent.{inserted, silent, with_silent}
@@ -51,18 +49,6 @@ sum_inserted f q (x ∷ rest) =
           let one = sum_by-cons f x.pid (pids_of (inserted q rest)) in
           let more = sum_inserted f q rest in
           omega arith
-    ]
-
-abbrev highest : List Stream → ℕ
-highest streams = greatest (map (λ x. greatest_count x.events) streams)
-
-pub highest_inserted : (q : Pid) (streams : List Stream) → highest (inserted q streams) ≡ highest streams
-highest_inserted q [] = refl
-highest_inserted q (x ∷ rest) =
-    elim (is_lt (pid_cmp q x.pid)) as (λ b. highest (cond b (silent q ∷ x ∷ rest) (x ∷ inserted q rest))
-    ≡ highest (x ∷ rest)) [
-      | true ↦ omega arith
-      | false ↦ ap (max (greatest_count x.events)) (highest_inserted q rest)
     ]
 
 -- who is listed

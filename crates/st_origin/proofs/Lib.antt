@@ -3,3 +3,5 @@ pub mod Acts
 pub mod Rows
 pub mod Accounts
 pub mod Truths
+-- what proofs of the crates above may cite
+pub mod ForCallers

@@ -5,7 +5,7 @@ use Rattle.std.proofs.Common.{cond, List, [], ◌∷◌, ◌++◌, length, take,
 use Rattle.std.proofs.Common.{ap, arith}
 use Rattle.std.specs.Prelude.{not}
 use Rattle.std.specs.List.{slice_get, AllByRecursion}
-use Rattle.std.proofs.lemmas.Bool.{eq-eqb, le-ltb, cases_order, false≢true}
+use Rattle.std.proofs.lemmas.Bool.{and_parts, eq-eqb, eqb-true, le-ltb, cases_order, false≢true}
 use Rattle.std.proofs.lemmas.List.{take-append-le}
 use Rattle.std.proofs.lemmas.Option.{same_Some, none-some, cond_some}
 use Rattle.st_core.specs.declared.types.Kind.{Kind}
@@ -194,3 +194,65 @@ row_behind prev (e ∷ front) row rest all (suc x) low high =
 pub event_behind : (front rest : List Event) (e : Event) → slice_get (front ++ (e ∷ rest)) (length front) ≡ Some e
 event_behind [] rest e = refl
 event_behind (x ∷ front) rest e = event_behind front rest e
+
+-- WHAT A ROW SAYS
+
+-- behind where the row begins there is nothing but it
+pub row_between : (prev : ℕ) (es : List Event) (i : ℕ) → IsRowBetween prev es (row_start prev es i) i
+row_between prev es zero = λ x low high. absurd (omega arith)
+row_between prev es (suc i) =
+    elim (slice_get es i) as (λ o. slice_get es i ≡ o
+    → IsRowBetween prev es (elim o [
+      | None ↦ suc i
+      | Some e ↦ cond (in_row prev e) (row_start prev es i) (suc i)
+    ]) (suc i)) [
+      | None ↦ λ _ x low high. absurd (omega arith)
+      | Some e ↦ λ at. elim (in_row prev e) as (λ b. in_row prev e ≡ b
+          → IsRowBetween prev es (cond b (row_start prev es i) (suc i)) (suc i)) [
+            | true ↦ λ is x low high. elim (cases_order x i) [
+              | inl same ↦ (e, ap (slice_get es) same ∙ at, is)
+              | inr other ↦ elim other [
+                | inl less ↦ row_between prev es i x low less
+                | inr more ↦ absurd (omega arith)
+              ]
+            ]
+            | false ↦ λ _ x low high. absurd (omega arith)
+          ] refl
+    ] refl
+
+-- the receive directly before index k
+pub record IsReceivedBefore (es : List Event) (k j this : ℕ) : Type 0 where
+  pub event : Event
+  pub at : slice_get es j ≡ Some event
+  pub receive : is_receive event ≡ true
+  pub count : event.serial.this ≡ this
+  pub index : k ≡ suc j
+
+pub received_is : (this : ℕ) (es : List Event) (k j : ℕ) → received_before this es k ≡ Some j
+    → IsReceivedBefore es k j this
+received_is this es zero j h = absurd (none-some j h)
+received_is this es (suc k) j h =
+    elim (slice_get es k) as (λ o. slice_get es k ≡ o
+    → elim o [ None ↦ None | Some e ↦ cond (is_receive e && e.serial.this == this) (Some k) None ] ≡ Some j
+    → IsReceivedBefore es (suc k) j this) [
+      | None ↦ λ _ h. absurd (none-some j h)
+      | Some e ↦ λ at h.
+          let parts = cond_some (is_receive e && e.serial.this == this) k j h in
+          let tests = and_parts (is_receive e) (e.serial.this == this) parts.0 in
+          record {
+            event = e;
+            at = ap (slice_get es) (sym parts.1) ∙ at;
+            receive = tests.0;
+            count = eqb-true e.serial.this this tests.1;
+            index = ap suc parts.1;
+          }
+    ] refl h
+
+-- it is the last one before the row
+pub last_of_row : (prev : ℕ) (es : List Event) (i j : ℕ)
+    → received_before prev es (row_start prev es i) ≡ Some j → last_receive es i ≡ Some j
+last_of_row prev es i j is =
+    let k = row_start prev es i in
+    let x = received_is prev es k j is in
+    last_passes prev es k i (row_start_within prev es i) (row_between prev es i)
+    ∙ ap (last_receive es) x.index ∙ last_is es j x.event x.at x.receive

@@ -1,10 +1,7 @@
 -- What is told of an act under its locks, of which nothing is known but what their types keep.
-use Rattle.std.specs.Prelude.{◌≡◌, ℕ, ◌+◌, Bool, List, [], ◌∷◌, max, if◌then◌else◌, Result, Ok, Err}
-use Rattle.st_core.specs.declared.types.Pid.{Pid}
-use Rattle.st_core.specs.Pid.{node_eq}
+use Rattle.std.specs.Prelude.{◌≡◌, Bool, Result, Ok, Err}
 use Rattle.st_core.specs.Step.{actor, receiver}
-use Rattle.st_runtime.specs.Pcb.{Control, greatest_rank}
-use Rattle.st_runtime.specs.Pieces.{pids_in}
+use Rattle.st_runtime.specs.Pcb.{Control}
 use Rattle.st_core.specs.declared.types.Act.{Act}
 use Rattle.st_core.specs.declared.types.Act.TheVariants as act
 use Rattle.st_core.specs.declared.types.Reply.{Reply}
@@ -30,15 +27,3 @@ wide_reply a was = reply.Done
 -- these are the actor's process and the receiver's
 abbrev pub AreFor : Act → Control → Control → Type 0
 AreFor a from to = (from.process.pid ≡ actor a) × (to.process.pid ≡ receiver a)
-
--- the first of these pids that are on p's node
-abbrev pub on_node : Pid → List Pid → List Pid
-on_node p [] = []
-on_node p (q ∷ qs) = if node_eq q p then q ∷ on_node p qs else []
-
--- a rank is one more than the greatest that the locks of these pids were found to hold, and this
--- one
-pub record HasRank (pids : List Pid) (last rank : ℕ) : Type 0 where
-  pub lent : List Control
-  pub whose : pids_in lent ≡ pids
-  pub next : rank ≡ max last (greatest_rank lent) + 1

@@ -5,72 +5,93 @@ ghost use Rattle.st_runtime.specs.Working.{opening_fault, joining_fault};
 
 use st_core::Pid;
 use std::alloc::AllocError;
+use thiserror::Error;
 
 /// Why a step call on lent processes was refused.
-#[derive(Clone, Copy, Debug, PartialEq, Eq)]
+#[derive(Clone, Copy, Debug, PartialEq, Eq, Error)]
 pub enum PcbFault {
     /// Memory ran out for an entry or a message.
+    #[error("no memory")]
     Memory,
     /// The actor's clock is at its greatest value, so its token can't be stamped.
+    #[error("a clock is at its greatest value")]
     ClockFull,
     /// The greatest rank stands in a log already.
+    #[error("a log has the greatest rank")]
     RankFull,
 }
 
 /// Why an act in a system was refused.
-#[derive(Clone, Copy, Debug, PartialEq, Eq)]
+#[derive(Clone, Copy, Debug, PartialEq, Eq, Error)]
 pub enum ActFault {
     /// Memory ran out for an entry, a message or the seat's call.
+    #[error("no memory")]
     Memory,
     /// The actor, or a send's receiver, isn't in the system.
+    #[error("a process isn't in the system")]
     Unknown,
     /// The actor's clock is at its greatest value, so its token can't be stamped.
+    #[error("a clock is at its greatest value")]
     ClockFull,
     /// The greatest rank stands in a log already.
+    #[error("a log has the greatest rank")]
     RankFull,
     /// The actor isn't the seat's process. Looked at first.
+    #[error("the actor isn't the seat's process")]
     NotYours,
     /// A lock that was taken holds another process than its own. No call leaves that.
+    #[error("a lock holds another process")]
     Stray,
 }
 
 /// Why no system was opened.
-#[derive(Clone, Copy, Debug, PartialEq, Eq)]
+#[derive(Clone, Copy, Debug, PartialEq, Eq, Error)]
 pub enum OpenFault {
     /// Memory ran out.
+    #[error("no memory")]
     Memory,
     /// The pids don't rise strictly. Looked at first.
+    #[error("the pids don't rise")]
     NotRising,
 }
 
 /// Why pieces are not joined.
-#[derive(Clone, Copy, Debug, PartialEq, Eq)]
+#[derive(Clone, Copy, Debug, PartialEq, Eq, Error)]
 pub enum JoinFault {
     /// Memory ran out.
+    #[error("no memory")]
     Memory,
     /// The entry at this place of this process's log isn't in the log of each process that
     /// its act touches. The least such place, by pid.
+    #[error("an entry isn't in the log of each process that its act touches")]
     Missing(Pid, u64),
     /// The process has a seat and no log, not exactly one seat, or a seat that its log
     /// doesn't tell of. The least such process.
+    #[error("a process hasn't the one seat that its log tells of")]
     SeatDiffers(Pid),
 }
 
 /// Why scripts aren't driven. The faults come in this order: `NotRising`, `Thread`, `Memory`,
 /// `Act`, `Join`; but if memory runs out before the threads start, it is `Memory` at once.
-#[derive(Clone, Copy, Debug, PartialEq, Eq)]
+#[derive(Clone, Copy, Debug, PartialEq, Eq, Error)]
 pub enum DriveFault {
     /// Memory ran out, in a worker's act or in the join too.
+    #[error("no memory")]
     Memory,
-    /// This act of this process's script was refused, and its worker stopped there. The
-    /// least such process. `Stray` stands here also for a `ClockFull` or a `RankFull` that so few
-    /// acts can't lead to.
+    /// This act of this process's script was refused, and its worker stopped there. No process
+    /// before it has an act in its script that is another's or that names an unknown process; that
+    /// none met a full clock or rank is only tested. A `ClockFull` or `RankFull` that so few acts
+    /// can't lead to is a `Stray` here.
+    #[error("an act of a script was refused")]
     Act(Pid, u64, ActFault),
     /// The pieces don't fit, which no call leaves.
+    #[error("the pieces don't fit")]
     Join(JoinFault),
     /// A thread couldn't be started. Those that were started stopped at their next act.
+    #[error("a thread couldn't be started")]
     Thread,
     /// The pids don't rise strictly.
+    #[error("the pids don't rise")]
     NotRising,
 }
 

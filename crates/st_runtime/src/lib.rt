@@ -1,8 +1,9 @@
 //! Threads as processes: one lock for each process, and under it a log of the acts that touched it.
 //!
 //! An act is made under the locks of all processes that it touches, and leaves one entry in the log
-//! of each. There is no other lock, and nothing is shared but what the locks hold. The machine is
-//! `st_core`'s and the actor's part of a step `st_mail`'s: nothing here defines a step.
+//! of each. There is no other lock. The threads of `drive` share what the locks hold, and one mark
+//! that tells them to stop if a thread couldn't be started. The machine is `st_core`'s and the
+//! actor's part of a step `st_mail`'s: nothing here defines a step.
 //!
 //! A contract sees what a lock holds as a process of the machine and the log that gives it. Of a
 //! lock that is taken nothing is known but what the type of its value keeps.
@@ -23,6 +24,7 @@ pub use join::record::Record;
 pub use pcb::Pcb;
 pub use pcb::calls::CallLog;
 pub use pcb::entry::Entry;
+pub use pcb::iter::{Calls, Entries};
 pub use pcb::log::Log;
 pub use system::System;
 pub use system::gate::{Gate, OpenGate};

@@ -12,6 +12,7 @@ ghost use Rattle.st_runtime.specs.Pcb.{IsKept, IsSame, IsBetween, is_alone};
 pub mod acts;
 pub mod calls;
 pub mod entry;
+pub mod iter;
 pub mod log;
 pub mod parts;
 pub mod row;

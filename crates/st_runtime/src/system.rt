@@ -2,12 +2,12 @@
 //! order of their pids, and nothing is known of what a lock holds but what its type keeps.
 
 ghost use Rattle.std.specs.Prelude.{◌≡◌, ◌≢◌, ◌<◌, ◌≤◌, ◌↔◌, ◌⊎◌, false, true, [], ◌∷◌, ◌++◌};
-ghost use Rattle.std.specs.Prelude.{length, map, is_some, ◌+◌, drop, slice_get, Some, None, Err};
+ghost use Rattle.std.specs.Prelude.{length, map, is_some, slice_get, Some, None, Err};
 ghost use Rattle.std.specs.Prelude.{Ok, IfOk, IfErr, IfSome, OnOk, OnErr, vec_len};
 ghost use Rattle.st_core.specs.Pid.{IsRising};
 ghost use Rattle.st_core.specs.Step.{actor, receiver};
 ghost use Rattle.st_runtime.specs.Lent.{FindsClockFull, FindsRankFull};
-ghost use Rattle.st_runtime.specs.Locked.{wide_reply, on_node, AreFor, HasRank, IsLockFault};
+ghost use Rattle.st_runtime.specs.Locked.{wide_reply, AreFor, IsLockFault};
 ghost use Rattle.st_runtime.specs.declared.fault.PcbFault.{PcbFault};
 ghost use Rattle.st_runtime.specs.Pcb.{is_wide, IsSame, IsStepped};
 ghost use Rattle.st_runtime.specs.Pieces.{pids_in};
@@ -289,12 +289,7 @@ impl<const TOP: u64, const RANKS: u64> System<TOP, RANKS> {
         ensures act { IfOk result (λ e. e.act ≡ act.now) }
         ensures bare { IfOk result (λ e. (e.report ≡ None) × (e.carried ≡ None)) }
         ensures above { IfOk result (λ e. (found.last < e.rank) × (e.rank ≤ RANKS)) }
-        ensures rank { IfOk result
-            (λ e. HasRank (on_node found.actor (drop place self.now)) found.last e.rank) }
-        ensures full { result ≡ Err ActFault.RankFull
-            → HasRank (on_node found.actor (drop place self.now)) found.last (RANKS + 1) }
         ensures stray { OnOk result (found.stray ≡ false) }
-        ensures full_stray { result ≡ Err ActFault.RankFull → found.stray ≡ false }
         ensures reply { IfOk result
             (λ e. IfSome found.was (λ was. e.reply ≡ wide_reply act.now was)) }
         ensures known { IsLockFault result }

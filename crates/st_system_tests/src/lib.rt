@@ -5,15 +5,16 @@
 //! | `runtime` | `st_runtime`: its calls; refusals, and if memory runs out |
 //! | `runs` | `st_runtime`: threads that meet, and records of driven scripts |
 //! | `systems` | `st_runtime`: systems of 100,000 processes, by one thread |
-//! | `commands` | `st_commands`: whole commands, byte for byte |
+//! | `commands` | `st_commands`: words, and devices that fail on the way |
 //! | `sizes` | many crates: calls with 100,000 of what they take |
-//! | `bundles`, `shared` | none: texts, and what else several of these take |
+//! | `interface` | all crates of `seqaudit`: a caller of each public type and call |
+//! | `shared` | none: what several of these take |
 #![tactic(auto)]
 
 #[cfg(test)]
-mod bundles;
-#[cfg(test)]
 mod commands;
+#[cfg(test)]
+mod interface;
 #[cfg(test)]
 mod runs;
 #[cfg(test)]

@@ -8,7 +8,7 @@ mod scripts;
 
 use crate::shared::same;
 use ranks::rise_by_rank;
-use scripts::{processes, scripts};
+use scripts::{Places, processes, scripts};
 use st_check::{Replayed, Verdict, check, replay};
 use st_core::{Act, Pid, Sequence, Streams};
 use st_runtime::{DriveFault, OpenGate, Record, drive};
@@ -21,15 +21,15 @@ use std::thread::Threads;
 /// The greatest clock and rank of the program.
 const MOST: u64 = u64::MAX;
 
-/// Drives the scripts of busy processes, so many on each node.
+/// Drives the scripts of busy processes.
 fn busy_record<R: Threads + Wait + Sync + Abort>(
     rt: &R,
     alloc: Global,
-    on_each: u16,
+    places: Places,
     acts: u64,
 ) -> Result<Record, DriveFault> {
-    let pids = processes(alloc, on_each)?;
-    let scripts = scripts(alloc, pids.as_slice(), on_each, acts)?;
+    let pids = processes(alloc, places)?;
+    let scripts = scripts(alloc, pids.as_slice(), places, acts)?;
     assert_eq!(rt; scripts.len(), pids.len());
     drive::<MOST, MOST, R, OpenGate>(rt, alloc, pids.as_slice(), scripts, &OpenGate)
 }
@@ -98,12 +98,12 @@ fn assert_one_run<R: Abort>(
 fn assert_driven<R: Threads + Wait + Sync + Abort>(
     rt: &R,
     alloc: Global,
-    on_each: u16,
+    places: Places,
     acts: u64,
 ) -> Result<u64, Fail> {
-    let record = busy_record(rt, alloc, on_each, acts)?;
-    let pids = processes(alloc, on_each)?;
-    let scripts = scripts(alloc, pids.as_slice(), on_each, acts)?;
+    let record = busy_record(rt, alloc, places, acts)?;
+    let pids = processes(alloc, places)?;
+    let scripts = scripts(alloc, pids.as_slice(), places, acts)?;
     let made = record.acts.as_slice();
     assert_scripts_kept(rt, alloc, pids.as_slice(), scripts.as_slice(), made)?;
     assert!(rt; rise_by_rank(alloc, pids.as_slice(), made)?);
@@ -113,7 +113,11 @@ fn assert_driven<R: Threads + Wait + Sync + Abort>(
 
 #[test]
 fn twelve_scripts_of_thousands_of_acts_are_one_run(rt: HostRuntime) -> Result<(), Fail> {
-    let events = assert_driven(&rt, rt.alloc(), 6, 3_000)?;
+    let places = Places {
+        nodes: 2,
+        on_each: 6,
+    };
+    let events = assert_driven(&rt, rt.alloc(), places, 3_000)?;
     // How many depends on when the resets and the changes of the tracer came.
     assert!(rt; events > 0);
     Ok(())
@@ -121,8 +125,12 @@ fn twelve_scripts_of_thousands_of_acts_are_one_run(rt: HostRuntime) -> Result<()
 
 #[test]
 fn four_scripts_of_fifty_acts_are_one_run_each_time(rt: HostRuntime) -> Result<(), Fail> {
+    let places = Places {
+        nodes: 1,
+        on_each: 4,
+    };
     for _ in 0..20 {
-        assert_driven(&rt, rt.alloc(), 2, 50)?;
+        assert_driven(&rt, rt.alloc(), places, 50)?;
     }
     Ok(())
 }
@@ -130,7 +138,11 @@ fn four_scripts_of_fifty_acts_are_one_run_each_time(rt: HostRuntime) -> Result<(
 // One on each node. No clause says that there is memory for so many.
 #[test]
 fn two_scripts_of_fifty_thousand_acts_are_one_run(rt: HostRuntime) -> Result<(), Fail> {
-    let events = assert_driven(&rt, rt.alloc(), 1, 50_000)?;
+    let places = Places {
+        nodes: 2,
+        on_each: 1,
+    };
+    let events = assert_driven(&rt, rt.alloc(), places, 50_000)?;
     assert!(rt; events > 0);
     Ok(())
 }

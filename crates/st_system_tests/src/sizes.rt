@@ -87,7 +87,7 @@ fn a_way_back_of_a_hundred_thousand_events_is_charted(rt: HostRuntime) -> Result
     let streams = to_and_fro(alloc)?;
     let pairing = pair(alloc, &streams)?;
     let chains = Chains::new(alloc, &streams, &pairing)?;
-    let back = chains.back(alloc, p30(), MESSAGES - 1)?;
+    let back = chains.back(p30(), MESSAGES - 1)?;
     same(&rt, &(back.len() as u64), &MANY);
     let items = order(&rt, alloc, &streams, &pairing)?;
     let mut sink = MemorySink::new(alloc, 10_000_000, None)?;

@@ -11,7 +11,8 @@ use Rattle.st_core.specs.Laws.{NoReset}
 use Rattle.st_core.specs.Run.{Stream, Shows, pids_of}
 use Rattle.st_core.specs.Streams.{events_of, lists}
 use Rattle.st_text.specs.declared.fault.ReadFault.{ReadFault}
-use Rattle.st_text.specs.Fault.{fault}
+use Rattle.st_text.specs.Fault.{fault_within}
+use Rattle.st_text.specs.Limits.{greater}
 use Rattle.st_text.specs.Spelling.{ended_line}
 use Rattle.st_pair.specs.Places.{event_at}
 use Rattle.st_plan.specs.Marks.{all_streams, told_streams, Whole}
@@ -28,7 +29,7 @@ use Rattle.st_text.specs.Spelling as spelled
 use Rattle.st_chart.specs.Words.{place_words}
 use Rattle.st_chart.specs.Report.{event_line, event_words}
 use Rattle.st_commands.specs.Output.{Output, refused, bundled}
-use Rattle.st_commands.specs.Checked.{top, Spells}
+use Rattle.st_commands.specs.Checked.{top, SpellsWithin}
 use Rattle.st_tool.specs.declared.complete.Form.{Form}
 use Rattle.st_tool.specs.declared.complete.Form.TheVariants as form
 use Rattle.st_tool.specs.Renumber.{streams_output}
@@ -129,14 +130,14 @@ pub data Answers (f : Form) (streams : List Stream) : Answer → Output → Type
 -- the bytes spell streams, of which this is found
 pub record HasAnswer (bytes : List ℕ) (streams : List Stream) (found : Answer) : Type 0 where
   pub given : Option (List Act)
-  pub spelled : Spells bytes streams given
+  pub spelled : SpellsWithin greater bytes streams given
   pub is : IsAnswer top streams found
 
 pub data IsCompleted (f : Form) : List ℕ → Output → Type 0 where
   Answered : (bytes : List ℕ) (streams : List Stream) (found : Answer) (out : Output)
       → HasAnswer bytes streams found
       → Answers f streams found out → IsCompleted f bytes out
-  Faulty : (bytes : List ℕ) (x : ReadFault) → fault bytes ≡ Some x → IsCompleted f bytes (refused x)
+  Faulty : (bytes : List ℕ) (x : ReadFault) → fault_within greater bytes ≡ Some x → IsCompleted f bytes (refused x)
 
 -- ---- what a completion and a reason mean, each as one record of plain facts
 
@@ -153,7 +154,7 @@ pub record MeansCompleted (f : Form) (bytes : List ℕ) (out : Output) : Type 0 
   pub completed : Completed
   pub acts : List Act
   -- the bytes spell streams, within the reader's limits; acts among them are ignored
-  pub spelled : Spells bytes streams given
+  pub spelled : SpellsWithin greater bytes streams given
   -- the streams list none of the unlisted processes
   pub apart : AllByRecursion (λ q. lists streams q ≡ false) completed.unlisted
   -- acts show the streams, with the unlisted processes, of which each reports nothing
@@ -175,7 +176,7 @@ pub record MeansNever (bytes : List ℕ) (out : Output) : Type 0 where
   pub index : ℕ
   pub reason : Never
   -- the bytes spell streams, within the reader's limits; acts among them are ignored
-  pub spelled : Spells bytes streams given
+  pub spelled : SpellsWithin greater bytes streams given
   -- whatever other processes report nothing, no acts without a reset show the streams with them
   pub ruled_out : (others : List Pid) (acts : List Act) → NoReset acts
       → ¬ Shows top (with_silent streams others) acts

@@ -4,11 +4,12 @@ use Rattle.std.specs.Prelude.{◌≡◌, ℕ, List, Option, Some, None}
 use Rattle.st_core.specs.declared.types.Act.{Act}
 use Rattle.st_core.specs.Run.{Stream}
 use Rattle.st_text.specs.declared.fault.ReadFault.{ReadFault}
-use Rattle.st_text.specs.Fault.{fault}
+use Rattle.st_text.specs.Fault.{fault_within}
+use Rattle.st_text.specs.Limits.{greater}
 use Rattle.st_text.specs.Text.{spelling}
 use Rattle.st_completions.specs.Renumbering.{renumbered_streams}
 use Rattle.st_commands.specs.Output.{Output, refused}
-use Rattle.st_commands.specs.Checked.{Spells}
+use Rattle.st_commands.specs.Checked.{SpellsWithin}
 
 -- streams as a bundle without acts
 abbrev pub streams_output : List Stream → Output
@@ -19,6 +20,6 @@ streams_output streams = record {
 
 pub data IsRenumbered : List ℕ → Output → Type 0 where
   Ranked : (bytes : List ℕ) (streams : List Stream) (given : Option (List Act))
-      → Spells bytes streams given
+      → SpellsWithin greater bytes streams given
       → IsRenumbered bytes (streams_output (renumbered_streams streams))
-  Faulty : (bytes : List ℕ) (f : ReadFault) → fault bytes ≡ Some f → IsRenumbered bytes (refused f)
+  Faulty : (bytes : List ℕ) (f : ReadFault) → fault_within greater bytes ≡ Some f → IsRenumbered bytes (refused f)

@@ -2,8 +2,9 @@
 //! reset has them, whatever processes report nothing. The acts in the input are ignored.
 
 ghost use Rattle.std.specs.Prelude.{◌≡◌};
-ghost use Rattle.st_commands.specs.Command.{Owes, Tells, call};
-ghost use Rattle.st_commands.specs.Meaning.{Says};
+ghost use Rattle.st_text.specs.Limits.{greater};
+ghost use Rattle.st_commands.specs.Command.{OwesWithin, Tells, call};
+ghost use Rattle.st_commands.specs.Meaning.{SaysWithin};
 ghost use Rattle.st_complete.specs.Answers.{IsAnswer, IsWhole};
 ghost use Rattle.st_open.specs.Silent.{with_silent};
 ghost use Rattle.st_tool.specs.Complete.{IsCompleted, MeansCompleted, MeansNever};
@@ -17,7 +18,7 @@ use st_complete::{
     Answer, CertificateFault, CompleteFault, Completion, certificate, complete, with_silent,
 };
 use st_core::{ByteSink, ByteSource, Streams};
-use st_text::{Limits, ReadFault, read};
+use st_text::{Limits, ReadFault, read_within};
 use std::alloc::Global;
 use std::thread::Threads;
 
@@ -201,15 +202,15 @@ pub fn run_complete<H: Threads + Sync, R: ByteSource, W: ByteSink, N: ByteSink>(
     form: Form,
 ) -> u8
     ensures told { Tells (call W.ByteSink writer.old writer.new)
-        (Owes (call R.ByteSource reader.old reader.new) (IsCompleted form)) result }
+        (OwesWithin greater (call R.ByteSource reader.old reader.new) (IsCompleted form)) result }
 
     // What that says of a completion and of a reason, in the machine's own words.
-    ensures completed { result ≡ 0 → Says (call R.ByteSource reader.old reader.new)
+    ensures completed { result ≡ 0 → SaysWithin greater (call R.ByteSource reader.old reader.new)
         (call W.ByteSink writer.old writer.new) (MeansCompleted form) }
-    ensures never { result ≡ 1 → Says (call R.ByteSource reader.old reader.new)
+    ensures never { result ≡ 1 → SaysWithin greater (call R.ByteSource reader.old reader.new)
         (call W.ByteSink writer.old writer.new) MeansNever }
 {
-    match read(alloc, reader) {
+    match read_within(alloc, reader, Limits::GREATER) {
         Ok(bundle) => complete_streams(rt, alloc, &bundle.streams, form, writer, notes),
         Err(fault) => tell_fault(writer, fault),
     }

@@ -131,6 +131,9 @@ fn remedy_of(line: &[u8], column: usize, above: Above, expected: Expected) -> &'
     if line.is_empty() {
         return "the line is empty: leave it out";
     }
+    if above == Above::Nothing && column == 0 {
+        return remedy_of_front(line);
+    }
     match line.get(column).copied() {
         Some(b'\r') => "a carriage return: end lines with a newline alone",
         Some(b'%' | b'#') if column == 0 => "a bundle has no comments: leave the line out",
@@ -139,8 +142,33 @@ fn remedy_of(line: &[u8], column: usize, above: Above, expected: Expected) -> &'
         Some(b'r') if expected == Expected::Thing("send, 'receive' or print") => {
             "the word 'receive' stands in quotes"
         }
+        Some(b'#') => "a pid is written <0.30.0>, without #Pid before it",
+        Some(0) => "a byte of 0: the text is no ASCII; if it is UTF-16, write it as ASCII",
         Some(byte) if byte >= 128 => "a byte that isn't ASCII: leave it out",
         byte => remedy_of_place(line, byte, above, expected),
+    }
+}
+
+/// The words that a report of a command begins with.
+const REPORTS: [&str; 7] = ["unfit ", "never ", "no ", "yes", "added ", "fault ", "long"];
+
+/// What to do about a first line that doesn't begin as a header.
+fn remedy_of_front(line: &[u8]) -> &'static str {
+    if REPORTS.iter().any(|word| line.starts_with(word.as_bytes())) {
+        return "this is what a command found, and no bundle: see what the command before said";
+    }
+    match line.first().copied() {
+        Some(31) => "the text is packed: unpack it, as by gunzip",
+        Some(254 | 255) => "the text is UTF-16: write it as ASCII",
+        Some(0xef) => "a mark of UTF-8 or another byte that isn't ASCII: leave it out",
+        Some(b'[') => "an Erlang list or JSON: write a line for each event, below its process",
+        Some(b'{') if line.starts_with(b"{seq_trace,") => {
+            "an event stands below the header and the line of its process"
+        }
+        Some(b'{') => "JSON, or another tracer's events: only those of seq_trace have a bundle",
+        Some(b'%' | b'#') => "a bundle has no comments: leave the line out",
+        Some(byte) if byte >= 128 => "a byte that isn't ASCII: leave it out",
+        _ => "write seqtrace 1, or seqtrace 2 if a pid of another node is named",
     }
 }
 
@@ -289,9 +317,9 @@ fn wrong_pid(bytes: &[u8], number: u64) -> Diagnosis<'_> {
 fn too_many(bytes: &[u8], number: u64) -> Diagnosis<'_> {
     let (line, context) = line_at(bytes, number);
     let most = match Scan::new(line).whole(context.above) {
-        Ok(Sort::Process) => "no process more than 1024",
-        Ok(Sort::Act | Sort::SendAct) => "no act more than 4000000",
-        _ => "no event more than 1000000",
+        Ok(Sort::Process) => "no process more than 16000",
+        Ok(Sort::Act | Sort::SendAct) => "no act more than 64000000",
+        _ => "no event more than 16000000",
     };
     Diagnosis {
         number,
@@ -314,6 +342,9 @@ fn wrong_end(bytes: &[u8]) -> Diagnosis<'_> {
             wanted: Wanted::Words("the header seqtrace 1 or seqtrace 2"),
             remedy: "the text is empty",
         };
+    }
+    if number == 1 && Scan::new(line).whole(Above::Nothing).is_err() {
+        return wrong_line(bytes, number);
     }
     Diagnosis {
         number,

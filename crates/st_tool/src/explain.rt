@@ -3,10 +3,10 @@
 //! the report that came, and the actor's state before it.
 
 use crate::lines::OutputLine;
-use crate::say::{say, say_act, say_event, say_number, say_pid, say_serial};
 use st_check::{CheckFault, Verdict, check};
 use st_commands::{status_of, tell_fault, tell_line};
 use st_core::{Act, ByteSink, ByteSource, Event, Pid, Streams, Token};
+use st_say::{say, say_act, say_count, say_event, say_number, say_pid, say_serial};
 use st_text::{Buffer, Bundle, Device, Limits, ReadFault, flush, read_within};
 use st_world::{NewFault, StepFault, World};
 use std::alloc::{AllocError, Global};
@@ -144,18 +144,6 @@ fn say_token<W: ByteSink>(
     say_serial(writer, buffer, token.serial)?;
     say(writer, buffer, b", from ")?;
     say_pid(writer, buffer, token.from)
-}
-
-/// Writes a word and a number on a line.
-fn say_count<W: ByteSink>(
-    writer: &mut W,
-    buffer: &mut Buffer,
-    word: &[u8],
-    count: u64,
-) -> Result<(), Device> {
-    say(writer, buffer, word)?;
-    say_number(writer, buffer, count)?;
-    say(writer, buffer, b"\n")
 }
 
 /// Writes the state of a process.

@@ -2,16 +2,16 @@
 //! takes.
 
 use crate::diagnosis::{Diagnosis, Wanted, diagnose};
-use crate::say::{say, say_number};
 use crate::scan::Expected;
 use st_commands::{status_of, tell_fault};
-use st_core::{Act, ByteSink, ByteSource, MemorySource, Pid, Sequence, Streams};
-use st_text::{Buffer, Bundle, Device, ReadFault, flush, read};
+use st_core::{Act, ByteSink, ByteSource, Event, MemorySource, Pid, Sequence, Streams};
+use st_say::{say, say_count, say_number, say_pid};
+use st_text::{Buffer, Bundle, Device, Limits, ReadFault, flush, read_within};
 use std::alloc::{AllocError, Global};
 use std::collections::BTreeMap;
 
-/// The most bytes that a text may have.
-const MOST_BYTES: usize = 67_108_864;
+/// How much is read, as by each command of `seqtool`.
+pub(crate) const LIMITS: Limits = Limits::GREATER;
 
 /// The longest line that is shown.
 const SHOWN: usize = 150;
@@ -25,7 +25,7 @@ fn gather<R: ByteSource>(alloc: Global, reader: &mut R) -> Result<Vec<u8>, ReadF
             Err(_) => return Err(ReadFault::Device),
             Ok(0) => return Ok(bytes),
             Ok(n) => {
-                if n > MOST_BYTES.saturating_sub(bytes.len()) {
+                if n > (LIMITS.bytes as usize).saturating_sub(bytes.len()) {
                     return Err(ReadFault::TooLarge);
                 }
                 let Ok(()) = bytes.extend_from_slice(&piece[..n]) else {
@@ -59,18 +59,6 @@ fn count_labels(
     Ok(())
 }
 
-/// Writes a word and a number on a line.
-fn say_count<W: ByteSink>(
-    writer: &mut W,
-    buffer: &mut Buffer,
-    word: &[u8],
-    count: u64,
-) -> Result<(), Device> {
-    say(writer, buffer, word)?;
-    say_number(writer, buffer, count)?;
-    say(writer, buffer, b"\n")
-}
-
 /// Writes how many acts there are.
 fn say_acts<W: ByteSink>(
     writer: &mut W,
@@ -97,6 +85,31 @@ fn say_labels<W: ByteSink>(
     Ok(())
 }
 
+/// The place of the first event of a process whose prev isn't below its this.
+fn first_unrising(events: &[Event]) -> Option<usize> {
+    events
+        .iter()
+        .position(|event| event.serial.prev >= event.serial.this)
+}
+
+/// Writes the first event of each process that no acts report, since its serial doesn't rise.
+fn say_unrising<W: ByteSink>(
+    writer: &mut W,
+    buffer: &mut Buffer,
+    streams: &Streams,
+) -> Result<(), Device> {
+    for pid in streams.pids() {
+        if let Some(index) = first_unrising(streams.events(*pid)) {
+            say(writer, buffer, b"warning: no acts report event ")?;
+            say_number(writer, buffer, index as u64)?;
+            say(writer, buffer, b" of ")?;
+            say_pid(writer, buffer, *pid)?;
+            say(writer, buffer, b", since its prev isn't below its this\n")?;
+        }
+    }
+    Ok(())
+}
+
 /// Sends what is in a bundle.
 fn send_counts<W: ByteSink>(
     writer: &mut W,
@@ -105,6 +118,7 @@ fn send_counts<W: ByteSink>(
 ) -> Result<(), Device> {
     let mut buffer = Buffer::new();
     say(writer, &mut buffer, b"ok\n")?;
+    say_unrising(writer, &mut buffer, &bundle.streams)?;
     let processes = bundle.streams.pids().len() as u64;
     say_count(writer, &mut buffer, b"processes ", processes)?;
     say_count(writer, &mut buffer, b"events ", bundle.streams.total())?;
@@ -164,9 +178,29 @@ fn say_wanted<W: ByteSink>(
     }
 }
 
-/// Whether a line can be shown as it is.
-fn is_shown(line: &[u8]) -> bool {
-    !line.is_empty() && line.len() <= SHOWN && line.iter().all(|byte| *byte >= 32 && *byte < 127)
+/// The digits of a byte that isn't shown as it is.
+const DIGITS: &[u8; 16] = b"0123456789abcdef";
+
+/// As many blanks as a byte takes places where a line is shown.
+fn blanks(byte: u8) -> &'static [u8] {
+    match byte {
+        b' '..=b'~' => b" ",
+        b'\t' => b"  ",
+        _ => b"    ",
+    }
+}
+
+/// Writes a byte: one that isn't seen, or isn't ASCII, as `\\t` or `\\xNN`.
+fn say_byte<W: ByteSink>(writer: &mut W, buffer: &mut Buffer, byte: u8) -> Result<(), Device> {
+    match byte {
+        b' '..=b'~' => say(writer, buffer, &[byte]),
+        b'\t' => say(writer, buffer, b"\\t"),
+        _ => {
+            let high = DIGITS[(byte / 16) as usize];
+            let low = DIGITS[(byte % 16) as usize];
+            say(writer, buffer, &[b'\\', b'x', high, low])
+        }
+    }
 }
 
 /// Writes the line and a mark below the column.
@@ -176,31 +210,49 @@ fn say_line<W: ByteSink>(
     line: &[u8],
     column: usize,
 ) -> Result<(), Device> {
-    if !is_shown(line) {
+    if line.is_empty() || line.len() > SHOWN {
         return Ok(());
     }
     say(writer, buffer, b"  ")?;
-    say(writer, buffer, line)?;
-    say(writer, buffer, b"\n  ")?;
-    for _ in 0..column.min(SHOWN) {
-        say(writer, buffer, b" ")?;
+    for byte in line {
+        say_byte(writer, buffer, *byte)?;
     }
+    say(writer, buffer, b"\n  ")?;
+    say_blanks(writer, buffer, line.split_at(column.min(line.len())).0)?;
     say(writer, buffer, b"^\n")
+}
+
+/// Writes blanks below these bytes of a line.
+fn say_blanks<W: ByteSink>(
+    writer: &mut W,
+    buffer: &mut Buffer,
+    bytes: &[u8],
+) -> Result<(), Device> {
+    for byte in bytes {
+        say(writer, buffer, blanks(*byte))?;
+    }
+    Ok(())
+}
+
+/// Writes the place of a mistake and what could stand there.
+pub(crate) fn say_mistake<W: ByteSink>(
+    writer: &mut W,
+    buffer: &mut Buffer,
+    diagnosis: &Diagnosis<'_>,
+) -> Result<(), Device> {
+    say(writer, buffer, b"line ")?;
+    say_number(writer, buffer, diagnosis.number)?;
+    say(writer, buffer, b", column ")?;
+    let column = (diagnosis.column as u64).saturating_add(1);
+    say_number(writer, buffer, column)?;
+    say(writer, buffer, b": expected ")?;
+    say_wanted(writer, buffer, diagnosis.wanted)
 }
 
 /// Sends what is wrong with a text.
 fn send_diagnosis<W: ByteSink>(writer: &mut W, diagnosis: &Diagnosis<'_>) -> Result<(), Device> {
     let mut buffer = Buffer::new();
-    say(writer, &mut buffer, b"line ")?;
-    say_number(writer, &mut buffer, diagnosis.number)?;
-    say(writer, &mut buffer, b", column ")?;
-    say_number(
-        writer,
-        &mut buffer,
-        (diagnosis.column as u64).saturating_add(1),
-    )?;
-    say(writer, &mut buffer, b": expected ")?;
-    say_wanted(writer, &mut buffer, diagnosis.wanted)?;
+    say_mistake(writer, &mut buffer, diagnosis)?;
     say(writer, &mut buffer, b"\n")?;
     say_line(writer, &mut buffer, diagnosis.line, diagnosis.column)?;
     if !diagnosis.remedy.is_empty() {
@@ -233,7 +285,11 @@ pub fn run_lint<R: ByteSource, W: ByteSink>(alloc: Global, reader: &mut R, write
         Ok(bytes) => bytes,
         Err(fault) => return tell_fault(writer, fault),
     };
-    match read(alloc, &mut MemorySource::new(bytes.as_slice(), None)) {
+    match read_within(
+        alloc,
+        &mut MemorySource::new(bytes.as_slice(), None),
+        LIMITS,
+    ) {
         Ok(bundle) => tell_counts(alloc, &bundle, writer),
         Err(fault) => tell_wrong(bytes.as_slice(), fault, writer),
     }

@@ -1,7 +1,8 @@
 //! The command `renumber`: the streams whose text the input is, with each count replaced by its
 //! rank. The acts in the input are ignored.
 
-ghost use Rattle.st_commands.specs.Command.{Owes, Tells, call};
+ghost use Rattle.st_text.specs.Limits.{greater};
+ghost use Rattle.st_commands.specs.Command.{OwesWithin, Tells, call};
 ghost use Rattle.st_tool.specs.Parts.{RenumbersTo};
 ghost use Rattle.st_tool.specs.Renumber.{IsRenumbered};
 
@@ -9,7 +10,7 @@ use crate::answer::tell_streams;
 use st_commands::tell_fault;
 use st_complete::renumbered;
 use st_core::{ByteSink, ByteSource, Streams};
-use st_text::{ReadFault, read};
+use st_text::{Limits, ReadFault, read_within};
 use std::alloc::Global;
 
 /// Writes the renumbered streams.
@@ -28,9 +29,9 @@ fn renumber_streams<W: ByteSink>(alloc: Global, streams: &Streams, writer: &mut 
 /// reader or a writer that fails, are 4.
 pub fn run_renumber<R: ByteSource, W: ByteSink>(alloc: Global, reader: &mut R, writer: &mut W) -> u8
     ensures { Tells (call W.ByteSink writer.old writer.new)
-        (Owes (call R.ByteSource reader.old reader.new) IsRenumbered) result }
+        (OwesWithin greater (call R.ByteSource reader.old reader.new) IsRenumbered) result }
 {
-    match read(alloc, reader) {
+    match read_within(alloc, reader, Limits::GREATER) {
         Ok(bundle) => renumber_streams(alloc, &bundle.streams, writer),
         Err(fault) => tell_fault(writer, fault),
     }

@@ -1,5 +1,4 @@
 -- The lemmas.
-pub mod Starts
-pub mod Kept
-pub mod Ways
+pub mod Answers
 pub mod Deliveries
+pub mod Pieces

@@ -1,9 +1,8 @@
--- What public contracts cite: the hop back from an event, the way back, and what `why` writes.
-pub mod Hops
-pub mod Way
+-- What public contracts cite: the words of a line and the fields of an object, and what `why`
+-- writes.
 pub mod Words
+pub mod Json
 pub mod Why
--- For the parts alone: what is kept of streams, and the functions that the command is made of.
-pub mod Kept
+-- For the parts alone: the functions that the command is made of.
 pub mod Lines
 pub mod Parts

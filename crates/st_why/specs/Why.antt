@@ -1,50 +1,113 @@
--- What `why` makes of bytes: the way back from an event of the streams that they spell, a line for
--- each hop, or why there is none. The acts in the input are ignored.
-use Rattle.std.specs.Prelude.{◌≡◌, ℕ, List, ◌++◌, Option, Some, None, IsSome, codes}
+-- What `why` makes of bytes: the way back from an event of the streams that they spell, or the tree
+-- of what follows it, a line for each event, or why there is none. The acts in the input are
+-- ignored.
+use Rattle.std.specs.Prelude.{◌≡◌, ◌≢◌, ℕ, List, [], ◌++◌, Option, Some, None, IsSome, codes}
+use Rattle.std.specs.Prelude.{decimal}
+use Rattle.std.specs.List.{flat_map}
 use Rattle.st_core.specs.declared.types.Pid.{Pid}
 use Rattle.st_core.specs.declared.types.Act.{Act}
+use Rattle.st_core.specs.declared.types.Event.{Event}
 use Rattle.st_core.specs.Run.{Stream}
 use Rattle.st_text.specs.declared.fault.ReadFault.{ReadFault}
+use Rattle.st_text.specs.Limits.{greater}
 use Rattle.st_text.specs.Spelling.{ended_line}
-use Rattle.st_text.specs.Fault.{fault}
+use Rattle.st_text.specs.Fault.{fault_within}
+use Rattle.st_pair.specs.declared.answer.PairFault.{PairFault}
 use Rattle.st_pair.specs.Pairing.{refusal}
 use Rattle.st_pair.specs.Places.{event_at}
 use Rattle.st_audit.specs.declared.finding.Finding.{Finding}
+use Rattle.st_audit.specs.Findings.{unfit_by}
 use Rattle.st_chart.specs.Words.{place_words}
 use Rattle.st_commands.specs.Output.{Output, refused}
-use Rattle.st_commands.specs.Checked.{Spells}
+use Rattle.st_commands.specs.Checked.{SpellsWithin}
 use Rattle.st_commands.specs.Audited.{report_output}
-use Rattle.st_commands.specs.Charted.{HasReason}
-use Rattle.st_why.specs.declared.reach.Reach.{Reach}
-use Rattle.st_why.specs.Way.{way}
-use Rattle.st_why.specs.Words.{way_text}
+use Rattle.st_lines.specs.Lines.{line_of}
+use Rattle.st_hops.specs.declared.node.Node.{Node}
+use Rattle.st_hops.specs.Way.{way}
+use Rattle.st_hops.specs.Tree.{tree}
+use Rattle.st_why.specs.declared.question.Question.{Question}
+use Rattle.st_why.specs.declared.question.Start.{Start}
+use Rattle.st_why.specs.declared.question.Start.TheVariants as start
+use Rattle.st_why.specs.declared.question.Direction.TheVariants as direction
+use Rattle.st_why.specs.declared.question.Style.{Style}
+use Rattle.st_why.specs.declared.question.Style.TheVariants as style
+use Rattle.st_why.specs.Words.{hop_line, premises_text}
+use Rattle.st_why.specs.Json.{hop_object, premises_object}
 
--- the way back from event i of p, as far as asked for
-abbrev pub traced : List Stream → Reach → Pid → ℕ → Output
-traced streams reach p i = record {
-  text = way_text streams (way streams reach.across reach.most (Some (p, i)));
+-- this is the event that is asked about
+abbrev pub IsStart : List Stream → Start → Pid × ℕ → Type 0
+IsStart streams (start.Place p i) x = (x ≡ (p, i)) × IsSome (event_at streams p i)
+IsStart streams (start.Line n) x = line_of streams x.0 x.1 ≡ Some n
+
+-- there is no such event
+abbrev pub HasNoStart : List Stream → Start → Type 0
+HasNoStart streams (start.Place p i) = event_at streams p i ≡ None
+HasNoStart streams (start.Line n) = (p : Pid) (i : ℕ) → line_of streams p i ≢ Some n
+
+-- what is found from there
+abbrev pub nodes_from : List Stream → Question → Pid × ℕ → List Node
+nodes_from streams q x = elim q.direction [
+  | direction.Back ↦ way streams q.reach.across q.reach.most 0 (Some x)
+  | direction.Forth ↦ tree streams q.reach.across q.reach.most 0 x
+]
+
+-- the line of an event
+abbrev pub event_line : List Stream → Question → ℕ → Pid → ℕ → Event → List ℕ
+event_line streams q depth p i e = elim q.style [
+  | style.Text ↦ hop_line streams q.direction depth p i e
+  | style.Json ↦ hop_object streams depth p i e
+]
+
+-- the line of the event at a place, if there is one
+abbrev pub node_line : List Stream → Question → Node → List ℕ
+node_line streams q x = elim (event_at streams x.place.0 x.place.1) [
+  | None ↦ []
+  | Some e ↦ event_line streams q x.depth x.place.0 x.place.1 e
+]
+
+-- the last line: what the sentences rest on
+abbrev pub last_line : Style → List ℕ
+last_line style.Text = ended_line premises_text
+last_line style.Json = ended_line premises_object
+
+-- all that is written of an event that is there
+abbrev pub found : List Stream → Question → Pid × ℕ → Output
+found streams q x = record {
+  text = flat_map (node_line streams q) (nodes_from streams q x) ++ last_line q.style;
   status = 0;
 }
 
--- there is no event at this place
-abbrev pub no_event : Pid → ℕ → Output
-no_event p i = record { text = ended_line (codes "no event " ++ place_words p i); status = 1 }
+abbrev pub start_words : Start → List ℕ
+start_words (start.Place p i) = place_words p i
+start_words (start.Line n) = codes "on line " ++ decimal n
+
+-- there is no such event
+abbrev pub no_event : Start → Output
+no_event s = record { text = ended_line (codes "no event " ++ start_words s); status = 1 }
 
 -- the bytes spell streams that pairing accepts
 pub record ArePaired (bytes : List ℕ) (streams : List Stream) : Type 0 where
   pub given : Option (List Act)
-  pub spelled : Spells bytes streams given
+  pub spelled : SpellsWithin greater bytes streams given
   pub accepted : refusal streams ≡ None
 
-pub data IsWhy (p : Pid) (i : ℕ) (reach : Reach) : List ℕ → Output → Type 0 where
-  Traced : (bytes : List ℕ) (streams : List Stream) → ArePaired bytes streams
-      → IsSome (event_at streams p i)
-      → IsWhy p i reach bytes (traced streams reach p i)
+-- the bytes spell streams that pairing refuses, and this is its reason as a finding
+pub record AreRefused (bytes : List ℕ) (streams : List Stream) (reason : Finding) : Type 0 where
+  pub given : Option (List Act)
+  pub spelled : SpellsWithin greater bytes streams given
+  pub fault : PairFault
+  pub refused : refusal streams ≡ Some fault
+  pub found_by : unfit_by fault ≡ Some reason
+
+pub data IsWhy (q : Question) : List ℕ → Output → Type 0 where
+  Found : (bytes : List ℕ) (streams : List Stream) (x : Pid × ℕ) → ArePaired bytes streams
+      → IsStart streams q.start x
+      → IsWhy q bytes (found streams q x)
   Lacking : (bytes : List ℕ) (streams : List Stream) → ArePaired bytes streams
-      → event_at streams p i ≡ None
-      → IsWhy p i reach bytes (no_event p i)
-  Unpaired : (bytes : List ℕ) (streams : List Stream) (found : Finding)
-      → HasReason bytes streams found
-      → IsWhy p i reach bytes (report_output streams found)
-  Faulty : (bytes : List ℕ) (f : ReadFault) → fault bytes ≡ Some f
-      → IsWhy p i reach bytes (refused f)
+      → HasNoStart streams q.start
+      → IsWhy q bytes (no_event q.start)
+  Unpaired : (bytes : List ℕ) (streams : List Stream) (reason : Finding)
+      → AreRefused bytes streams reason
+      → IsWhy q bytes (report_output streams reason)
+  Faulty : (bytes : List ℕ) (f : ReadFault) → fault_within greater bytes ≡ Some f
+      → IsWhy q bytes (refused f)

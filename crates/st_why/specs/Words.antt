@@ -1,19 +1,38 @@
--- The words of a way back: a line for each hop, and what they rest on.
-use Rattle.std.specs.Prelude.{ℕ, List, [], ◌++◌, None, Some, codes, decimal}
-use Rattle.std.specs.List.{flat_map}
+-- The words of what is found: a line for each event, and what they rest on. What a sentence claims
+-- of a run, and that it is true, is in `st_hops` (`Claims`).
+use Rattle.std.specs.Prelude.{ℕ, min, List, [], ◌++◌, codes, decimal, take}
+use Rattle.std.specs.Option.{unwrap_or}
 use Rattle.st_core.specs.declared.types.Pid.{Pid}
 use Rattle.st_core.specs.declared.types.Label.{Label}
 use Rattle.st_core.specs.declared.types.Event.{Event}
 use Rattle.st_core.specs.Run.{Stream}
 use Rattle.st_text.specs.Spelling as spelled
 use Rattle.st_text.specs.Spelling.{ended_line}
-use Rattle.st_pair.specs.Places.{event_at}
 use Rattle.st_order.specs.declared.item.Item.TheVariants as item
 use Rattle.st_chart.specs.Words.{place_words}
 use Rattle.st_chart.specs.Chart.{item_word}
-use Rattle.st_why.specs.declared.hop.Hop.{Hop}
-use Rattle.st_why.specs.declared.hop.Hop.TheVariants as hop
-use Rattle.st_why.specs.Hops.{hop_of}
+use Rattle.st_lines.specs.Lines.{line_of}
+use Rattle.st_hops.specs.declared.hop.Hop.{Hop}
+use Rattle.st_hops.specs.declared.hop.Hop.TheVariants as hop
+use Rattle.st_hops.specs.declared.hop.Premises.{Premises}
+use Rattle.st_hops.specs.declared.hop.Premises.TheVariants as premises
+use Rattle.st_hops.specs.Hops.{hop_of, premises_of}
+use Rattle.st_why.specs.declared.question.Direction.{Direction}
+use Rattle.st_why.specs.declared.question.Direction.TheVariants as direction
+
+-- the line of the event at a place, 0 if there is none
+abbrev pub line_at : List Stream → Pid → ℕ → ℕ
+line_at streams p i = unwrap_or (line_of streams p i) 0
+
+-- where an event is: its process, its index there, and its line of the text
+abbrev pub located_words : List Stream → Pid → ℕ → List ℕ
+located_words streams p i = place_words p i ++ codes ", line " ++ decimal (line_at streams p i)
+
+-- how far an event of a tree is from the first one: a number, and so many spaces, up to 16
+abbrev pub depth_words : Direction → ℕ → List ℕ
+depth_words direction.Back depth = []
+depth_words direction.Forth depth =
+    decimal depth ++ codes " " ++ take (min depth 16) (codes "                ")
 
 -- what an event is, its serial and its value, as in a chart
 abbrev pub what_words : Event → List ℕ
@@ -21,9 +40,12 @@ what_words e = item_word (item.Reported e.from 0) e.kind ++ codes " " ++ spelled
     ++ codes " "
     ++ decimal e.value
 
--- where an event stands and what it is
-abbrev pub head_words : Pid → ℕ → Event → List ℕ
-head_words p i e = place_words p i ++ codes "  " ++ what_words e ++ codes " "
+-- how far an event is, where it is and what it is
+abbrev pub head_words : List Stream → Direction → ℕ → Pid → ℕ → Event → List ℕ
+head_words streams way depth p i e = depth_words way depth ++ located_words streams p i
+    ++ codes "  "
+    ++ what_words e
+    ++ codes " "
 
 -- a process begins this label, or sets it on a token that it has
 abbrev pub begins_label_words : Label → List ℕ
@@ -31,38 +53,39 @@ begins_label_words label =
     codes "begins label " ++ decimal label.0 ++ codes " here, or set it on its token; "
 
 -- the receive before, which has another label
-abbrev pub had_received_words : Pid → ℕ → Label → List ℕ
-had_received_words p j received =
-    codes "it had last received " ++ place_words p j ++ codes " of label " ++ decimal received.0
-    ++ codes " (1)"
+abbrev pub had_received_words : List Stream → Pid → ℕ → Label → List ℕ
+had_received_words streams p j received = codes "it had last received "
+    ++ located_words streams p j
+    ++ codes " of label "
+    ++ decimal received.0
 
--- what an event of p with this label follows; the numbers say on which of the premises it rests
-abbrev pub hop_words : Pid → Label → Hop → List ℕ
-hop_words p label (hop.Sent q j) = codes "after " ++ place_words q j
-hop_words p label hop.Unsent = codes "its send wasn't reported"
-hop_words p label (hop.After j) = codes "after " ++ place_words p j ++ codes " (1)"
-hop_words p label (hop.AfterOneLabel j) = codes "after " ++ place_words p j ++ codes " (1, 2)"
-hop_words p label (hop.OtherLabel j received) =
-    begins_label_words label ++ had_received_words p j received
-hop_words p label hop.Begins = codes "begins here"
-hop_words p label hop.BeginsOrUnreported =
+-- what an event of p with this label follows: the sentence whose claim `Claims` has
+abbrev pub claim_words : List Stream → Pid → Label → Hop → List ℕ
+claim_words streams p label (hop.Sent q j) = codes "after " ++ located_words streams q j
+claim_words streams p label hop.Unsent = codes "its send wasn't reported"
+claim_words streams p label (hop.After j) = codes "after " ++ located_words streams p j
+claim_words streams p label (hop.AfterOneLabel j) = codes "after " ++ located_words streams p j
+claim_words streams p label (hop.OtherLabel j received) =
+    begins_label_words label ++ had_received_words streams p j received
+claim_words streams p label hop.Begins = codes "begins here"
+claim_words streams p label hop.BeginsOrUnreported =
     codes "begins here, or follows a message whose receive wasn't reported"
 
--- the line of event i of p
-abbrev pub hop_line : List Stream → Pid → ℕ → Event → List ℕ
-hop_line streams p i e = head_words p i e
-    ++ ended_line (hop_words p e.label (hop_of streams p i e))
+-- the premises that a sentence rests on
+abbrev pub premise_words : Premises → List ℕ
+premise_words premises.Neither = []
+premise_words premises.First = codes " (1)"
+premise_words premises.Both = codes " (1, 2)"
 
--- the line of the event at this place, if there is one
-abbrev pub place_line : List Stream → Pid × ℕ → List ℕ
-place_line streams x = elim (event_at streams x.0 x.1) [
-  | None ↦ []
-  | Some e ↦ hop_line streams x.0 x.1 e
-]
+-- the sentence with its premises
+abbrev pub hop_words : List Stream → Pid → Label → Hop → List ℕ
+hop_words streams p label back =
+    claim_words streams p label back ++ premise_words (premises_of back)
 
-abbrev pub premises : List ℕ
-premises = codes "in a run without a reset; (1) if each receive of a token was reported; (2) if no process cleared its token and began again under the same label; on a standard node (2) wherever (1)"
+-- the line of event i of p, so far from the first one
+abbrev pub hop_line : List Stream → Direction → ℕ → Pid → ℕ → Event → List ℕ
+hop_line streams way depth p i e = head_words streams way depth p i e
+    ++ ended_line (hop_words streams p e.label (hop_of streams p i e))
 
--- the lines of these places and the premises
-abbrev pub way_text : List Stream → List (Pid × ℕ) → List ℕ
-way_text streams places = flat_map (place_line streams) places ++ ended_line premises
+abbrev pub premises_text : List ℕ
+premises_text = codes "in a run without a reset; (1) if each receive of a token was reported; (2) if no process cleared its token and began again under the same label; on a standard node (2) wherever (1)"

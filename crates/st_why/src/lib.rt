@@ -1,16 +1,14 @@
-//! The command `why` on any reader and writer: what an event follows, what that follows, and so on.
+//! The command `why` on any reader and writer: what an event follows, what that follows, and so on;
+//! or all that follows it.
 #![tactic(auto)]
 
-mod hop;
-mod hops;
+mod answer;
+mod json;
 mod lines;
-mod origins;
-mod reach;
-mod rows;
-mod way;
+mod parts;
+mod question;
+mod text;
 mod why;
 
-pub use hop::Hop;
-pub use origins::Origins;
-pub use reach::Reach;
+pub use question::{Direction, Question, Start, Style};
 pub use why::run_why;

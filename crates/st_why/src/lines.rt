@@ -2,22 +2,25 @@
 
 ghost use Rattle.st_why.specs.Lines.{words_of};
 
+use crate::question::Start;
 use st_chart::put_place;
-use st_core::Pid;
-use st_text::{Buffer, TextLine, put_bytes};
+use st_text::{Buffer, TextLine, put_bytes, put_number};
 
-/// There is no event at this place.
+/// There is no such event.
 #[derive(Clone, Copy, Debug)]
-pub(crate) struct NoEvent {
-    pub(crate) pid: Pid,
-    pub(crate) index: u64,
-}
+pub(crate) struct NoEvent(pub(crate) Start);
 
 impl TextLine for NoEvent {
     ghost words = { words_of };
 
     fn put_words(self, buffer: &mut Buffer) {
         put_bytes(buffer, b"no event ");
-        put_place(buffer, self.pid, self.index);
+        match self.0 {
+            Start::Place(pid, index) => put_place(buffer, pid, index),
+            Start::Line(line) => {
+                put_bytes(buffer, b"on line ");
+                put_number(buffer, line);
+            }
+        }
     }
 }

@@ -1,38 +1,36 @@
-//! The command `why`: what caused an event of the streams whose text the input is. The acts in the
-//! input are ignored.
+//! The command `why`: what caused an event of the streams whose text the input is, or what it
+//! caused. The acts in the input are ignored.
 
-ghost use Rattle.std.specs.Prelude.{◌≡◌, IsSome, None};
-ghost use Rattle.st_commands.specs.Command.{Owes, Tells, call};
+ghost use Rattle.std.specs.Prelude.{◌≡◌, IfNone, IfSome, None};
+ghost use Rattle.st_commands.specs.Command.{OwesWithin, Tells, call};
 ghost use Rattle.st_pair.specs.Links.{IsPairing};
 ghost use Rattle.st_pair.specs.Pairing.{IsPairFault, refusal};
-ghost use Rattle.st_pair.specs.Places.{event_at};
-ghost use Rattle.st_why.specs.Parts.{TracesTo};
-ghost use Rattle.st_why.specs.Why.{IsWhy};
+ghost use Rattle.st_text.specs.Limits.{greater};
+ghost use Rattle.st_why.specs.Parts.{AnswersOf};
+ghost use Rattle.st_why.specs.Why.{HasNoStart, IsStart, IsWhy};
 
-use crate::hops::send_way;
+use crate::answer::{nodes_from, send_answer};
 use crate::lines::NoEvent;
-use crate::origins::Origins;
-use crate::reach::Reach;
-use crate::way::way;
+use crate::question::{Question, Start};
 use st_audit::unfit_by;
 use st_commands::{status_of, tell_fault, tell_finding, tell_line};
 use st_core::{ByteSink, ByteSource, Pid, Streams};
+use st_hops::Origins;
+use st_lines::LineNumbers;
 use st_pair::{PairFault, Pairing, pair};
-use st_text::{ReadFault, read};
+use st_text::{Limits, ReadFault, read_within};
 use std::alloc::Global;
 
 /// Writes why streams can't be paired.
 fn tell_unpaired<W: ByteSink>(
     streams: &Streams,
-    pid: Pid,
-    index: u64,
-    reach: Reach,
+    question: Question,
     fault: PairFault,
     writer: &mut W,
 ) -> u8
     requires { IsPairFault streams.now fault }
     ensures { Tells (call W.ByteSink writer.old writer.new)
-        (TracesTo streams.now reach pid index) result }
+        (AnswersOf streams.now question) result }
 {
     match unfit_by(fault) {
         Some(finding) => tell_finding(writer, streams, &finding),
@@ -40,107 +38,117 @@ fn tell_unpaired<W: ByteSink>(
     }
 }
 
-/// Writes the way back from an event that is there.
-fn trace_event<W: ByteSink>(
+/// The place of the event that is asked about; none if there is no such event.
+fn place_of(origins: &Origins, numbers: &LineNumbers, start: Start) -> Option<(Pid, u64)>
+    requires { numbers.now ≡ origins.now }
+    ensures found { IfSome result (IsStart origins.now start) }
+    ensures missing { IfNone result (HasNoStart origins.now start) }
+{
+    match start {
+        Start::Line(line) => numbers.place(line),
+        Start::Place(pid, index) => match origins.event(pid, index) {
+            None => None,
+            Some(_) => Some((pid, index)),
+        },
+    }
+}
+
+/// Writes what is found from an event that is there.
+fn tell_found<W: ByteSink>(
     alloc: Global,
-    streams: &Streams,
     origins: &Origins,
-    pid: Pid,
-    index: u64,
-    reach: Reach,
+    numbers: &LineNumbers,
+    question: Question,
+    place: (Pid, u64),
     writer: &mut W,
 ) -> u8
-    requires same { origins.now ≡ streams.now }
-    requires accepted { refusal streams.now ≡ None }
-    requires there { IsSome (event_at streams.now pid index) }
+    requires same { numbers.now ≡ origins.now }
+    requires accepted { refusal origins.now ≡ None }
+    requires start { IsStart origins.now question.start place }
     ensures { Tells (call W.ByteSink writer.old writer.new)
-        (TracesTo streams.now reach pid index) result }
+        (AnswersOf origins.now question) result }
 {
-    match way(alloc, streams, origins, reach, (pid, index)) {
-        Ok(places) => {
-            let sent = send_way(writer, streams, origins, places.as_slice());
+    match nodes_from(alloc, origins, question, place) {
+        Ok(nodes) => {
+            let sent = send_answer(writer, origins, numbers, question, nodes.as_slice());
             status_of(sent, 0)
         }
         Err(_) => tell_fault(writer, ReadFault::Memory),
     }
 }
 
-/// Writes the way back over these hops, if the event is there.
-fn trace_back<W: ByteSink>(
+/// Writes what is found, if the event is there.
+fn answer<W: ByteSink>(
     alloc: Global,
-    streams: &Streams,
     origins: &Origins,
-    pid: Pid,
-    index: u64,
-    reach: Reach,
+    numbers: &LineNumbers,
+    question: Question,
     writer: &mut W,
 ) -> u8
-    requires same { origins.now ≡ streams.now }
-    requires accepted { refusal streams.now ≡ None }
+    requires same { numbers.now ≡ origins.now }
+    requires accepted { refusal origins.now ≡ None }
     ensures { Tells (call W.ByteSink writer.old writer.new)
-        (TracesTo streams.now reach pid index) result }
+        (AnswersOf origins.now question) result }
 {
-    match streams.event(pid, index) {
-        Some(_) => trace_event(alloc, streams, origins, pid, index, reach, writer),
-        None => tell_line(writer, NoEvent { pid, index }, 1),
+    match place_of(origins, numbers, question.start) {
+        Some(place) => tell_found(alloc, origins, numbers, question, place, writer),
+        None => tell_line(writer, NoEvent(question.start), 1),
     }
 }
 
-/// Writes the way back in streams that are paired.
-fn trace_paired<W: ByteSink>(
+/// Writes what is found in streams that are paired.
+fn answer_paired<W: ByteSink>(
     alloc: Global,
     streams: &Streams,
     pairing: &Pairing,
-    pid: Pid,
-    index: u64,
-    reach: Reach,
+    question: Question,
     writer: &mut W,
 ) -> u8
     requires { IsPairing streams.now pairing.now }
     ensures { Tells (call W.ByteSink writer.old writer.new)
-        (TracesTo streams.now reach pid index) result }
+        (AnswersOf streams.now question) result }
 {
-    match Origins::new(alloc, streams, pairing) {
-        Ok(origins) => trace_back(alloc, streams, &origins, pid, index, reach, writer),
-        Err(_) => tell_fault(writer, ReadFault::Memory),
-    }
+    let Ok(origins) = Origins::new(alloc, streams, pairing) else {
+        return tell_fault(writer, ReadFault::Memory);
+    };
+    let Ok(numbers) = LineNumbers::new(alloc, streams) else {
+        return tell_fault(writer, ReadFault::Memory);
+    };
+    answer(alloc, &origins, &numbers, question, writer)
 }
 
-/// Writes the way back in streams.
-fn trace_streams<W: ByteSink>(
+/// Writes what is found in streams.
+fn answer_streams<W: ByteSink>(
     alloc: Global,
     streams: &Streams,
-    pid: Pid,
-    index: u64,
-    reach: Reach,
+    question: Question,
     writer: &mut W,
 ) -> u8
     ensures { Tells (call W.ByteSink writer.old writer.new)
-        (TracesTo streams.now reach pid index) result }
+        (AnswersOf streams.now question) result }
 {
     match pair(alloc, streams) {
-        Ok(pairing) => trace_paired(alloc, streams, &pairing, pid, index, reach, writer),
-        Err(fault) => tell_unpaired(streams, pid, index, reach, fault, writer),
+        Ok(pairing) => answer_paired(alloc, streams, &pairing, question, writer),
+        Err(fault) => tell_unpaired(streams, question, fault, writer),
     }
 }
 
-/// Reads a bundle and writes the event at this place, what it follows, and so on as far as the
-/// reach goes, with what that rests on and status 0. If there is no such event, or the streams can't
-/// be paired, it writes that with status 1. Faulty input is 2; running out of memory, and a reader
-/// or a writer that fails, are 4. Its time grows as the size of the input does.
+/// Reads a bundle within the greater limits and writes the event that is asked about, what it
+/// follows or what follows it, and so on as far as the reach goes, with what that rests on and
+/// status 0. If there is no such event, or the streams can't be paired, it writes that with status
+/// 1. Faulty input is 2; running out of memory, and a reader or a writer that fails, are 4. Its time
+/// grows as the size of the input does.
 pub fn run_why<R: ByteSource, W: ByteSink>(
     alloc: Global,
     reader: &mut R,
     writer: &mut W,
-    pid: Pid,
-    index: u64,
-    reach: Reach,
+    question: Question,
 ) -> u8
     ensures { Tells (call W.ByteSink writer.old writer.new)
-        (Owes (call R.ByteSource reader.old reader.new) (IsWhy pid index reach)) result }
+        (OwesWithin greater (call R.ByteSource reader.old reader.new) (IsWhy question)) result }
 {
-    match read(alloc, reader) {
-        Ok(bundle) => trace_streams(alloc, &bundle.streams, pid, index, reach, writer),
+    match read_within(alloc, reader, Limits::GREATER) {
+        Ok(bundle) => answer_streams(alloc, &bundle.streams, question, writer),
         Err(fault) => tell_fault(writer, fault),
     }
 }

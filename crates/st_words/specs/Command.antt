@@ -1,7 +1,7 @@
 -- What each command does to its reader and its writer.
 use Rattle.std.specs.Prelude.{ℕ, List}
 use Rattle.st_commands.specs.Output.{Output}
-use Rattle.st_commands.specs.Command.{ReaderCall, WriterCall, Owes, OwesWithin, Tells}
+use Rattle.st_commands.specs.Command.{ReaderCall, WriterCall, OwesWithin, Tells}
 use Rattle.st_commands.specs.Checked.{IsCheckedWithin}
 use Rattle.st_commands.specs.Audited.{IsAuditedWithin}
 use Rattle.st_text.specs.Limits.{greater}
@@ -12,20 +12,19 @@ use Rattle.st_tool.specs.Renumber.{IsRenumbered}
 use Rattle.st_why.specs.Why.{IsWhy}
 
 module _ {R W : Type 0} (reader : ReaderCall R) (writer : WriterCall W) where
-  -- it read all bytes, and wrote the output that it owes of them
+  -- it read all bytes, within the greater limits, and wrote the output that it owes of them
   abbrev TellsOf : (List ℕ → Output → Type 0) → ℕ → Type 0
-  TellsOf IsOutput status = Tells writer (Owes reader IsOutput) status
+  TellsOf IsOutput status = Tells writer (OwesWithin greater reader IsOutput) status
 
-  -- the same within the greater limits
-  abbrev TellsOfGreater : (List ℕ → Output → Type 0) → ℕ → Type 0
-  TellsOfGreater IsOutput status = Tells writer (OwesWithin greater reader IsOutput) status
-
-  -- what each command does; of the words of `lint` and `explain` nothing is claimed
+  -- what each command does; of the words of those for people nothing is claimed
   abbrev pub Does : Task → ℕ → Type 0
-  Does (task.Why p i reach) status = TellsOf (IsWhy p i reach) status
+  Does (task.Why question) status = TellsOf (IsWhy question) status
   Does (task.Complete form) status = TellsOf (IsCompleted form) status
   Does task.Renumber status = TellsOf IsRenumbered status
-  Does task.Check status = TellsOfGreater (IsCheckedWithin greater) status
-  Does task.Audit status = TellsOfGreater (IsAuditedWithin greater) status
+  Does task.Check status = TellsOf (IsCheckedWithin greater) status
+  Does task.Audit status = TellsOf (IsAuditedWithin greater) status
   Does task.Lint status = Unit {0}
   Does task.Explain status = Unit {0}
+  Does (task.List filter style) status = Unit {0}
+  Does (task.Cut filter) status = Unit {0}
+  Does (task.Stats style) status = Unit {0}

@@ -8,17 +8,13 @@ pub(crate) const PROGRAM: &str =
 pub(crate) const PROGRAM_EXAMPLE: &str =
     "Example: audit refuses a trace, since messages in it were not reported.
   seqtool audit trace.txt
-  seqtool complete trace.txt
   seqtool complete --as streams trace.txt | seqaudit chart --label 17
 
-A trace is a text with a line for each process and each event that it reported:
+A trace is a text (docs/FORMATS.md; `seqtool COMMAND --help` has examples):
   seqtrace 1
   process <0.30.0>
   {seq_trace,17,{print,{0,1},<0.30.0>,[],7}}
-Below a line `acts` it can say what the processes did; docs/FORMATS.md has all
-lines. `seqtool COMMAND --help` has an example. The status is 0 for yes, 1 for
-no, 2 for a faulty text, 3 for a bad command line, 4 for no memory or a failed
-device.";
+Status 0: yes; 1: no; 2: faulty text; 3: bad command line; 4: memory or device.";
 
 pub(crate) const COMPLETE: &str = "Adds unreported events until none is missing, or says why not";
 
@@ -28,7 +24,7 @@ pub(crate) const COMPLETE_EXAMPLE: &str = "Example:
   added <0.31.0> 0 {seq_trace,17,{send,{2,3},<0.31.0>,<0.32.0>,3}}
 
 Status 1: `never PID I WORD`, no run without a reset has event I of PID, for
-the reason WORD (docs/FORMATS.md); `open PID I`, it found nothing either way.
+the reason WORD (docs/FORMATS.md), whatever unlisted processes it may have.
 Status 5, with --as acts: `long`, there are acts, but too many to be read.";
 
 pub(crate) const RENUMBER: &str = "Replaces each count by its rank, if counts begin high";
@@ -39,21 +35,28 @@ pub(crate) const RENUMBER_EXAMPLE: &str =
 
 If what it writes has a run without a reset, so has the given trace.";
 
-pub(crate) const WHY: &str =
-    "Shows what an event follows, and that, back to where its label begins";
+pub(crate) const WHY: &str = "Shows what an event follows, and so on back, or all that follows it";
+
+pub(crate) const WHY_LINE: &str = "The event on this line of the text, in place of PID and I";
+
+pub(crate) const WHY_DEPTH: &str = "At most so many events back, or levels of the tree; else all";
+
+pub(crate) const WHY_EFFECTS: &str = "Show all that follows the event, as a tree";
+
+pub(crate) const WHY_LABEL: &str = "Go on over a change of label";
+
+pub(crate) const WHY_JSON: &str = "Write a JSON object a line (docs/FORMATS.md)";
 
 pub(crate) const WHY_EXAMPLE: &str = "Example:
   seqtool why 0.31.0 1 trace.txt
-  <0.31.0> 1  receive  {3,4} 4 after <0.32.0> 1
-  <0.32.0> 1  send     {3,4} 4 after <0.32.0> 0 (1, 2)
-  <0.32.0> 0  receive  {2,3} 3 its send wasn't reported
+  <0.31.0> 1, line 8  receive  {3,4} 4 after <0.32.0> 1, line 12
+  <0.32.0> 1, line 12  send     {3,4} 4 after <0.32.0> 0, line 11 (1, 2)
+  <0.32.0> 0, line 11  receive  {2,3} 3 its send wasn't reported
   in a run without a reset; (1) if each receive of a token was reported; (2) if
   no process cleared its token and began again under the same label; ..
-
-The numbers behind a line are the premises that it rests on; the last line has
-them. `here` is this event, or an earlier one of the same prev directly before.
-
-Status 1: there is no such event, or the trace can't be paired (docs/AUDIT.md).";
+The numbers behind a line are the premises that it rests on. `here` is the event
+or an earlier one of the same prev directly before it.
+Status 1: there is no such event, or the trace can't be paired.";
 
 pub(crate) const LINT: &str = "Says what is wrong with a text that the reader refuses, and where";
 
@@ -84,7 +87,7 @@ pub(crate) const CHECK: &str = "Says whether the acts are a run that reports exa
 pub(crate) const CHECK_EXAMPLE: &str = "Example:
   seqtool audit trace.txt | seqtool check
 
-Its limits are some 16 times those of `seqaudit check`.";
+A no of audit is on standard error too, if the output isn't a terminal.";
 
 pub(crate) const AUDIT: &str = "Finds acts that explain the trace, or names an event and a reason";
 
@@ -92,3 +95,35 @@ pub(crate) const AUDIT_EXAMPLE: &str = "Example:
   seqtool audit trace.txt
 
 Its limits are some 16 times those of `seqaudit audit`.";
+
+pub(crate) const LIST: &str = "Lists events: line, process, index, label, serial, partner";
+
+pub(crate) const LIST_EXAMPLE: &str = "Example:
+  seqtool list --process 0.30.0 trace.txt
+  3: <0.30.0> 0  send    label 17 {0,1} value 5 to <0.31.0>, received as <0.31.0> 0
+
+An event has to meet all conditions that are given. If the streams can't be
+paired (seqtool audit says why), the partners are left out.";
+
+pub(crate) const CUT: &str = "Writes a smaller bundle, of the events that meet conditions";
+
+pub(crate) const CUT_EXAMPLE: &str = "Example:
+  seqtool cut --label 17 trace.txt | seqtool audit
+  note: 3 of 9 events are kept; the sends of 0 receives and the receives of 1
+  sends are cut off
+
+The note is on standard error. Messages whose other end is cut off look as if
+nobody had reported that: a smaller trace can fit where the whole one doesn't.";
+
+pub(crate) const STATS: &str = "Counts events and messages by process, pair and label";
+
+pub(crate) const STATS_EXAMPLE: &str = "Example:
+  seqtool stats trace.txt
+  process <0.30.0>: sends 1, receives 0, prints 1, counts skipped 0, longest
+  queue 0
+  messages from <0.30.0> to <0.31.0>: 1, without a receive 0, without a send 0
+  label 17: events 3, depth 1, width 1
+
+Depth is the number of messages on the longest way of a label, each sent after
+the one before was received; width the most messages at one depth. The queue is
+that of the messages of which both ends are reported, in the charts' order.";

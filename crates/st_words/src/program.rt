@@ -7,7 +7,7 @@ use crate::words::Task;
 use st_commands::{run_audit_within, run_check_within};
 use st_core::{ByteSink, ByteSource};
 use st_text::Limits;
-use st_tool::{run_complete, run_explain, run_lint, run_renumber};
+use st_tool::{run_complete, run_cut, run_explain, run_lint, run_list, run_renumber, run_stats};
 use st_why::run_why;
 use std::thread::Threads;
 
@@ -27,8 +27,11 @@ pub fn run<H: AllocGlobal + Threads + Sync, R: ByteSource, W: ByteSink, N: ByteS
         Task::Renumber => run_renumber(rt.alloc(), reader, writer),
         Task::Lint => run_lint(rt.alloc(), reader, writer),
         Task::Explain => run_explain(rt.alloc(), reader, writer),
-        Task::Why(pid, index, reach) => run_why(rt.alloc(), reader, writer, pid, index, reach),
+        Task::Why(question) => run_why(rt.alloc(), reader, writer, question),
         Task::Check => run_check_within(rt.alloc(), reader, writer, Limits::GREATER),
         Task::Audit => run_audit_within(rt, rt.alloc(), reader, writer, Limits::GREATER),
+        Task::List(filter, style) => run_list(rt.alloc(), reader, writer, &filter, style),
+        Task::Cut(filter) => run_cut(rt.alloc(), reader, writer, notes, &filter),
+        Task::Stats(style) => run_stats(rt.alloc(), reader, writer, style),
     }
 }

@@ -4,9 +4,11 @@
 use crate::help;
 use clap::error::ErrorKind;
 use clap::{Arg, ArgAction, ArgMatches, Command, Error};
-use st_core::Pid;
+use st_core::{Label, Pid};
+use st_hops::Reach;
+use st_list::{Filter, Span, Style};
 use st_tool::Form;
-use st_why::Reach;
+use st_why::{Direction, Question, Start};
 use std::alloc::{AllocError, Global};
 use std::convert::AsStr;
 
@@ -17,8 +19,8 @@ pub enum Task {
     Complete(Form),
     /// `renumber`: the streams with small counts.
     Renumber,
-    /// `why PID I`: what does event I of this process follow, and so on, so far back?
-    Why(Pid, u64, Reach),
+    /// `why`: what does an event follow, or what follows it?
+    Why(Question),
     /// `lint`: why does the reader refuse the text?
     Lint,
     /// `explain`: why does `check` refuse the acts?
@@ -27,6 +29,28 @@ pub enum Task {
     Check,
     /// `audit`, as `seqaudit` has it, within greater limits.
     Audit,
+    /// `list`: which events are there, and what do they pair with?
+    List(Filter, Style),
+    /// `cut`: the bundle of these events alone.
+    Cut(Filter),
+    /// `stats`: how many events and messages are there?
+    Stats(Style),
+}
+
+impl Task {
+    /// Whether a yes of this command is a bundle, which another program may read.
+    pub fn writes_bundle(self) -> bool {
+        match self {
+            Task::Complete(form) => form != Form::Added,
+            Task::Renumber | Task::Audit | Task::Cut(_) => true,
+            Task::Why(..)
+            | Task::Lint
+            | Task::Explain
+            | Task::Check
+            | Task::List(..)
+            | Task::Stats(_) => false,
+        }
+    }
 }
 
 /// What the words ask for.
@@ -40,7 +64,7 @@ pub struct Request<'a> {
 
 /// The trace's file, which every command takes last.
 fn file_arg<'a>(alloc: Global) -> Arg<'a> {
-    Arg::new(alloc, "FILE").help("The trace's file; standard input if it is left out")
+    Arg::new(alloc, "FILE").help("The trace's file; standard input if it is left out or -")
 }
 
 /// A command that takes nothing but the file.
@@ -70,31 +94,94 @@ fn complete_command<'a>(alloc: Global) -> Result<Command<'a>, AllocError> {
         .arg(file_arg(alloc))
 }
 
-/// `why PID I [--depth N] [--label] [FILE]`.
+/// An option of `why` that is there or not.
+fn why_flag<'a>(alloc: Global, name: &'a str, help: &'a str) -> Arg<'a> {
+    Arg::new(alloc, name)
+        .long(name)
+        .action(ArgAction::SetTrue)
+        .help(help)
+}
+
+/// An option of `why` with a number.
+fn why_number<'a>(alloc: Global, name: &'a str, long: &'a str, help: &'a str) -> Arg<'a> {
+    Arg::new(alloc, name)
+        .long(long)
+        .value_parser(clap::value_parser!(u64))
+        .help(help)
+}
+
+/// `why PID I [FILE]` and `why --line N [FILE]`, with the options of both. PID is the file of the
+/// second form: `place_words` tells.
 fn why_command<'a>(alloc: Global) -> Result<Command<'a>, AllocError> {
-    let pid = Arg::new(alloc, "PID")
-        .required(true)
-        .help("The process, as 0.31.0, or '<0.31.0>' in quotes");
+    let pid = Arg::new(alloc, "PID").help("The process, as 0.31.0, or '<0.31.0>' in quotes");
     let index = Arg::new(alloc, "I")
-        .required(true)
         .value_parser(clap::value_parser!(u64))
         .help("The number of the event among those of its process, from 0");
-    let depth = Arg::new(alloc, "N")
-        .long("depth")
-        .value_parser(clap::value_parser!(u64))
-        .help("At most so many events; all if it is left out");
-    let label = Arg::new(alloc, "label")
-        .long("label")
-        .action(ArgAction::SetTrue)
-        .help("Go on over a change of label");
     Command::new(alloc, "why")
         .about(help::WHY)
         .after_help(help::WHY_EXAMPLE)
         .arg(pid)?
         .arg(index)?
-        .arg(depth)?
-        .arg(label)?
+        .arg(why_number(alloc, "LINE", "line", help::WHY_LINE))?
+        .arg(why_number(alloc, "N", "depth", help::WHY_DEPTH))?
+        .arg(why_flag(alloc, "effects", help::WHY_EFFECTS))?
+        .arg(why_flag(alloc, "label", help::WHY_LABEL))?
+        .arg(why_flag(alloc, "json", help::WHY_JSON))?
         .arg(file_arg(alloc))
+}
+
+/// The option that asks for JSON.
+fn json_arg<'a>(alloc: Global) -> Arg<'a> {
+    Arg::new(alloc, "json")
+        .long("json")
+        .action(ArgAction::SetTrue)
+        .help("A JSON object a line, for programs")
+}
+
+/// A command on the events that meet some conditions:
+/// `NAME [--label N] [--process PID] [--lines A-B] [--counts A-B] [FILE]`.
+fn filter_command<'a>(
+    alloc: Global,
+    name: &'a str,
+    about: &'a str,
+    example: &'a str,
+) -> Result<Command<'a>, AllocError> {
+    let label = Arg::new(alloc, "LABEL")
+        .long("label")
+        .value_parser(clap::value_parser!(u32))
+        .help("Only events with this label");
+    let process = Arg::new(alloc, "PID").long("process").help(
+        "Only events of this process, as 0.31.0, or '<0.31.0>' in quotes",
+    );
+    let lines = Arg::new(alloc, "LINES")
+        .long("lines")
+        .help("Only events on these lines of the text, as 7, 7-9 or 7-");
+    let counts = Arg::new(alloc, "COUNTS").long("counts").help(
+        "Only events with these counts (the second number of the serial)",
+    );
+    Command::new(alloc, name)
+        .about(about)
+        .after_help(example)
+        .arg(label)?
+        .arg(process)?
+        .arg(lines)?
+        .arg(counts)?
+        .arg(file_arg(alloc))
+}
+
+/// The command `list`.
+fn list_command<'a>(alloc: Global) -> Result<Command<'a>, AllocError> {
+    filter_command(alloc, "list", help::LIST, help::LIST_EXAMPLE)?.arg(json_arg(alloc))
+}
+
+/// The command `cut`.
+fn cut_command<'a>(alloc: Global) -> Result<Command<'a>, AllocError> {
+    filter_command(alloc, "cut", help::CUT, help::CUT_EXAMPLE)
+}
+
+/// `stats [--json] [FILE]`.
+fn stats_command<'a>(alloc: Global) -> Result<Command<'a>, AllocError> {
+    plain_command(alloc, "stats", help::STATS, help::STATS_EXAMPLE)?.arg(json_arg(alloc))
 }
 
 /// The description of the command line for `clap`.
@@ -103,8 +190,7 @@ fn command_line<'a>(alloc: Global) -> Result<Command<'a>, AllocError> {
         .about(help::PROGRAM)
         .after_help(help::PROGRAM_EXAMPLE)
         .version(help::VERSION)
-        .subcommand_required(true)
-        .disable_help_subcommand(true);
+        .subcommand_required(true);
     let audit = plain_command(alloc, "audit", help::AUDIT, help::AUDIT_EXAMPLE)?;
     let check = plain_command(alloc, "check", help::CHECK, help::CHECK_EXAMPLE)?;
     let explain = plain_command(alloc, "explain", help::EXPLAIN, help::EXPLAIN_EXAMPLE)?;
@@ -117,6 +203,9 @@ fn command_line<'a>(alloc: Global) -> Result<Command<'a>, AllocError> {
         .subcommand(lint)?
         .subcommand(check)?
         .subcommand(explain)?
+        .subcommand(list_command(alloc)?)?
+        .subcommand(cut_command(alloc)?)?
+        .subcommand(stats_command(alloc)?)?
         .subcommand(renumber)
 }
 
@@ -151,48 +240,165 @@ fn pid_of(text: &str) -> Option<Pid> {
     }
 }
 
-/// The task of `why`, by what `clap` found in its words.
-fn why_of(found: &ArgMatches) -> Option<Task> {
-    let pid = pid_of(found.get_str("PID")?)?;
-    let index = found.get_one::<u64>("I")?;
-    let most = found.get_one::<u64>("N").unwrap_or(Reach::LABEL.most);
-    let across = found.get_flag("label");
-    Some(Task::Why(pid, index, Reach { most, across }))
+/// What a word that `clap` doesn't judge has to be.
+const PID_WORDS: &str =
+    "PID is no pid: write it as 0.31.0 or '<0.31.0>', two numbers up to 65535 and a 0";
+
+const EVENT_WORDS: &str =
+    "name the event by PID and I, or by --line alone; PID is 0.31.0 or '<0.31.0>', up to 65535";
+
+const SPAN_WORDS: &str = "A-B are no numbers: write one as 7, several as 7-9, all from 7 on as 7-";
+
+/// The numbers that a text means: one, those from one to another, or all from one on.
+fn span_of(text: &str) -> Option<Span> {
+    let Some((first, last)) = text.split_once("-") else {
+        let only = text.parse::<u64>().ok()?;
+        return Some(Span {
+            first: only,
+            last: only,
+        });
+    };
+    let first = first.parse::<u64>().ok()?;
+    if last.is_empty() {
+        return Some(Span {
+            first,
+            last: u64::MAX,
+        });
+    }
+    let last = last.parse::<u64>().ok()?;
+    Some(Span { first, last })
 }
 
-/// The command of this name, of whose own words `clap` found these.
-fn task_of(name: &str, found: &ArgMatches) -> Option<Task> {
-    if name == "complete" {
-        return Some(Task::Complete(form_of(found.get_str("FORM"))));
+/// The numbers of an option, none if it is left out.
+fn span_option(found: &ArgMatches, name: &str) -> Result<Option<Span>, &'static str> {
+    match found.get_str(name) {
+        None => Ok(None),
+        Some(text) => match span_of(text) {
+            None => Err(SPAN_WORDS),
+            span => Ok(span),
+        },
     }
-    if name == "renumber" {
-        return Some(Task::Renumber);
+}
+
+/// The process of an option, none if it is left out.
+fn process_option(found: &ArgMatches) -> Result<Option<Pid>, &'static str> {
+    match found.get_str("PID") {
+        None => Ok(None),
+        Some(text) => match pid_of(text) {
+            None => Err(PID_WORDS),
+            pid => Ok(pid),
+        },
     }
+}
+
+/// The label of an option, none if it is left out.
+fn label_option(found: &ArgMatches) -> Option<Label> {
+    let number = found.get_one::<u32>("LABEL")?;
+    Some(Label(number))
+}
+
+/// The conditions that the options make.
+fn filter_of(found: &ArgMatches) -> Result<Filter, &'static str> {
+    Ok(Filter {
+        label: label_option(found),
+        process: process_option(found)?,
+        lines: span_option(found, "LINES")?,
+        counts: span_option(found, "COUNTS")?,
+    })
+}
+
+/// How the result is to be written.
+fn style_of(found: &ArgMatches) -> Style {
+    if found.get_flag("json") {
+        Style::Json
+    } else {
+        Style::Text
+    }
+}
+
+/// The event that `why` is asked about, and the file. With `--line` the first word is the file.
+fn place_words<'a>(found: &ArgMatches<'a>) -> Option<(Start, Option<&'a str>)> {
+    match found.get_one::<u64>("LINE") {
+        Some(line) => match found.get_one::<u64>("I") {
+            Some(_) => None,
+            None => Some((Start::Line(line), found.get_str("PID"))),
+        },
+        None => {
+            let pid = pid_of(found.get_str("PID")?)?;
+            let index = found.get_one::<u64>("I")?;
+            Some((Start::Place(pid, index), found.get_str("FILE")))
+        }
+    }
+}
+
+/// What `why` is asked, by what `clap` found in its words, and the file.
+fn why_of<'a>(found: &ArgMatches<'a>) -> Result<Request<'a>, &'static str> {
+    let (start, path) = place_words(found).ok_or(EVENT_WORDS)?;
+    let most = found.get_one::<u64>("N").unwrap_or(Reach::LABEL.most);
+    let across = found.get_flag("label");
+    let direction = if found.get_flag("effects") {
+        Direction::Forth
+    } else {
+        Direction::Back
+    };
+    let style = if found.get_flag("json") {
+        st_why::Style::Json
+    } else {
+        st_why::Style::Text
+    };
+    let reach = Reach { most, across };
+    let question = Question {
+        start,
+        direction,
+        reach,
+        style,
+    };
+    Ok(Request {
+        task: Task::Why(question),
+        file: file_of(path),
+    })
+}
+
+/// The command of this name, of whose own words `clap` found these; or what a word of its has to be.
+fn task_of(name: &str, found: &ArgMatches) -> Result<Task, &'static str> {
+    match name {
+        "complete" => Ok(Task::Complete(form_of(found.get_str("FORM")))),
+        "renumber" => Ok(Task::Renumber),
+        "lint" => Ok(Task::Lint),
+        "explain" => Ok(Task::Explain),
+        "check" => Ok(Task::Check),
+        "list" => Ok(Task::List(filter_of(found)?, style_of(found))),
+        "cut" => Ok(Task::Cut(filter_of(found)?)),
+        "stats" => Ok(Task::Stats(style_of(found))),
+        _ => Ok(Task::Audit),
+    }
+}
+
+/// The message that a word of this command isn't what it has to be.
+fn wrong_word(alloc: Global, name: &str, words: &'static str) -> Result<Error, AllocError> {
+    let mut command = match name {
+        "list" => list_command(alloc)?.bin_name("seqtool list")?,
+        "cut" => cut_command(alloc)?.bin_name("seqtool cut")?,
+        _ => why_command(alloc)?.bin_name("seqtool why")?,
+    };
+    command.error(ErrorKind::ValueValidation, words)
+}
+
+/// The path of the file to read, none for standard input.
+fn file_of(path: Option<&str>) -> Option<&str> {
+    let path = path?;
+    if path == "-" { None } else { Some(path) }
+}
+
+/// What the words behind the command's name ask for; or what a word of its has to be.
+fn request_of<'a>(name: &str, found: &ArgMatches<'a>) -> Result<Request<'a>, &'static str> {
     if name == "why" {
         return why_of(found);
     }
-    if name == "lint" {
-        return Some(Task::Lint);
-    }
-    if name == "explain" {
-        return Some(Task::Explain);
-    }
-    if name == "check" {
-        return Some(Task::Check);
-    }
-    if name == "audit" {
-        return Some(Task::Audit);
-    }
-    None
-}
-
-/// The message for a process that is no pid, the one word that `clap` doesn't judge.
-fn no_pid(alloc: Global) -> Result<Error, AllocError> {
-    let mut why = why_command(alloc)?.bin_name("seqtool why")?;
-    why.error(
-        ErrorKind::ValueValidation,
-        "PID is no pid: write it as 0.31.0 or '<0.31.0>', two numbers up to 65535 and a 0",
-    )
+    Ok(Request {
+        task: task_of(name, found)?,
+        file: file_of(found.get_str("FILE")),
+    })
 }
 
 /// What the words ask for. The first word is the program's name. The error is a message for the
@@ -200,13 +406,10 @@ fn no_pid(alloc: Global) -> Result<Error, AllocError> {
 pub fn read_words<'a, S: AsStr>(alloc: Global, words: &'a [S]) -> Result<Request<'a>, Error> {
     let matches = command_line(alloc)?.try_get_matches_from(words)?;
     let Some((name, found)) = matches.subcommand() else {
-        return Err(no_pid(alloc)?);
+        return Err(wrong_word(alloc, "why", EVENT_WORDS)?);
     };
-    match task_of(name, found) {
-        Some(task) => Ok(Request {
-            task,
-            file: found.get_str("FILE"),
-        }),
-        None => Err(no_pid(alloc)?),
+    match request_of(name, found) {
+        Ok(request) => Ok(request),
+        Err(words) => Err(wrong_word(alloc, name, words)?),
     }
 }

@@ -99,8 +99,10 @@ impl<const TOP: u64> World<TOP> {
 
     /// One act. An act has a step if its actor is there, with a send's receiver, and if its stamp,
     /// if it has one, has a value: refusals come in this order. After a refusal the world is as
-    /// before. Only a send takes memory, so only a send can run out of it; what room there is for
-    /// messages is no part of the state that a contract sees.
+    /// before. Only a send fails if memory runs out, for its message; what room there is for messages
+    /// is no part of the state that a contract sees. A receive that walks far, or a send to a queue
+    /// that has an index, may ask for memory too, for that index, and does without it if there is
+    /// none.
     pub fn step(&mut self, act: &Act) -> Result<Outcome, StepFault>
         ensures step { IfOk result
             (λ told. step TOP self.old act.now ≡ Some (outcome_to told self.new)) }

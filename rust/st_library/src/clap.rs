@@ -93,21 +93,30 @@ impl IntoParser for RangedU64ValueParser<u64> {
     }
 }
 
-/// An argument. Theirs borrows its texts, and this copies them.
+/// A part of clap's own that is built call by call. Theirs borrows its texts, and this copies them.
 #[derive(Clone, Debug)]
-pub struct Arg<'a> {
-    inner: ::clap::Arg,
+pub struct Built<'a, T> {
+    inner: T,
     texts: PhantomData<&'a str>,
 }
 
-impl<'a> Arg<'a> {
-    fn with(self, change: impl FnOnce(::clap::Arg) -> ::clap::Arg) -> Arg<'a> {
-        Arg { inner: change(self.inner), texts: PhantomData }
+impl<'a, T> Built<'a, T> {
+    fn of(inner: T) -> Built<'a, T> {
+        Built { inner, texts: PhantomData }
     }
 
+    fn with(self, change: impl FnOnce(T) -> T) -> Built<'a, T> {
+        Built::of(change(self.inner))
+    }
+}
+
+/// An argument.
+pub type Arg<'a> = Built<'a, ::clap::Arg>;
+
+impl<'a> Arg<'a> {
     /// As theirs.
     pub fn new(_: Global, id: &'a str) -> Arg<'a> {
-        Arg { inner: ::clap::Arg::new(id.to_string()), texts: PhantomData }
+        Built::of(::clap::Arg::new(id.to_string()))
     }
 
     /// As theirs.
@@ -141,21 +150,13 @@ impl<'a> Arg<'a> {
     }
 }
 
-/// A command. Theirs borrows its texts, and this copies them; if memory runs out this ends the program.
-#[derive(Clone, Debug)]
-pub struct Command<'a> {
-    inner: ::clap::Command,
-    texts: PhantomData<&'a str>,
-}
+/// A command. If memory runs out, its calls end the program.
+pub type Command<'a> = Built<'a, ::clap::Command>;
 
 impl<'a> Command<'a> {
-    fn with(self, change: impl FnOnce(::clap::Command) -> ::clap::Command) -> Command<'a> {
-        Command { inner: change(self.inner), texts: PhantomData }
-    }
-
     /// As theirs.
     pub fn new(_: Global, name: &'a str) -> Command<'a> {
-        Command { inner: ::clap::Command::new(name.to_string()), texts: PhantomData }
+        Built::of(::clap::Command::new(name.to_string()))
     }
 
     /// As theirs.

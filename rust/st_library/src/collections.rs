@@ -5,6 +5,35 @@ use std::collections::{binary_heap, btree_map, btree_set};
 use std::hash::Hash;
 use std::ops::RangeBounds;
 
+/// The calls of a map that ask for no memory. As theirs.
+macro_rules! calls_without_memory {
+    () => {
+        pub fn get(&self, key: &K) -> Option<&V> {
+            self.inner.get(key)
+        }
+
+        pub fn get_mut(&mut self, key: &K) -> Option<&mut V> {
+            self.inner.get_mut(key)
+        }
+
+        pub fn remove(&mut self, key: &K) -> Option<V> {
+            self.inner.remove(key)
+        }
+
+        pub fn contains_key(&self, key: &K) -> bool {
+            self.inner.contains_key(key)
+        }
+
+        pub fn len(&self) -> usize {
+            self.inner.len()
+        }
+
+        pub fn is_empty(&self) -> bool {
+            self.inner.is_empty()
+        }
+    };
+}
+
 /// As theirs, but the hash is Rust's own, with a seed for each map.
 #[derive(Debug)]
 pub struct HashMap<K, V> {
@@ -12,19 +41,11 @@ pub struct HashMap<K, V> {
 }
 
 impl<K: Eq + Hash, V> HashMap<K, V> {
+    calls_without_memory!();
+
     /// As theirs.
     pub fn new(_: Global) -> HashMap<K, V> {
         HashMap { inner: std::collections::HashMap::new() }
-    }
-
-    /// As theirs.
-    pub fn get(&self, key: &K) -> Option<&V> {
-        self.inner.get(key)
-    }
-
-    /// As theirs.
-    pub fn get_mut(&mut self, key: &K) -> Option<&mut V> {
-        self.inner.get_mut(key)
     }
 
     /// As theirs.
@@ -33,26 +54,6 @@ impl<K: Eq + Hash, V> HashMap<K, V> {
             Ok(()) => Ok(self.inner.insert(key, value)),
             Err(_) => Err(AllocFailed { value: (key, value) }),
         }
-    }
-
-    /// As theirs.
-    pub fn remove(&mut self, key: &K) -> Option<V> {
-        self.inner.remove(key)
-    }
-
-    /// As theirs.
-    pub fn contains_key(&self, key: &K) -> bool {
-        self.inner.contains_key(key)
-    }
-
-    /// As theirs.
-    pub fn len(&self) -> usize {
-        self.inner.len()
-    }
-
-    /// As theirs.
-    pub fn is_empty(&self) -> bool {
-        self.inner.is_empty()
     }
 
     /// As theirs.
@@ -94,44 +95,16 @@ pub struct BTreeMap<K, V> {
 }
 
 impl<K: Ord, V> BTreeMap<K, V> {
+    calls_without_memory!();
+
     /// As theirs.
     pub fn new(_: Global) -> BTreeMap<K, V> {
         BTreeMap { inner: std::collections::BTreeMap::new() }
     }
 
-    /// As theirs.
-    pub fn get(&self, key: &K) -> Option<&V> {
-        self.inner.get(key)
-    }
-
     /// See `BTreeMap`.
     pub fn insert(&mut self, key: K, value: V) -> Result<Option<V>, AllocFailed<(K, V)>> {
         Ok(self.inner.insert(key, value))
-    }
-
-    /// As theirs.
-    pub fn get_mut(&mut self, key: &K) -> Option<&mut V> {
-        self.inner.get_mut(key)
-    }
-
-    /// As theirs.
-    pub fn remove(&mut self, key: &K) -> Option<V> {
-        self.inner.remove(key)
-    }
-
-    /// As theirs.
-    pub fn contains_key(&self, key: &K) -> bool {
-        self.inner.contains_key(key)
-    }
-
-    /// As theirs.
-    pub fn len(&self) -> usize {
-        self.inner.len()
-    }
-
-    /// As theirs.
-    pub fn is_empty(&self) -> bool {
-        self.inner.is_empty()
     }
 
     /// The place of a key. See `BTreeMap`.

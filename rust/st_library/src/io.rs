@@ -42,3 +42,29 @@ impl Write for Stderr {
         std::io::stderr().flush()
     }
 }
+
+/// A list takes all bytes, at its end. As theirs.
+impl Write for crate::vec::Vec<u8> {
+    fn write(&mut self, piece: &[u8]) -> Result<usize> {
+        match self.extend_from_slice(piece) {
+            Ok(()) => Ok(piece.len()),
+            Err(_) => Err(ErrorKind::OutOfMemory.into()),
+        }
+    }
+
+    fn flush(&mut self) -> Result<()> {
+        Ok(())
+    }
+}
+
+/// What may be a terminal. As theirs.
+pub trait IsTerminal {
+    /// Whether a person reads it.
+    fn is_terminal(&self) -> bool;
+}
+
+impl IsTerminal for Stdout {
+    fn is_terminal(&self) -> bool {
+        std::io::IsTerminal::is_terminal(&std::io::stdout())
+    }
+}

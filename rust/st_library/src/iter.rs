@@ -1,5 +1,8 @@
 //! Lists of what an iterator gives.
 
+/// Rust's own.
+pub use std::iter::FusedIterator;
+
 use crate::alloc::{AllocError, Global};
 use crate::vec::Vec;
 

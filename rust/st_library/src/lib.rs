@@ -7,6 +7,7 @@
 
 pub mod alloc;
 pub mod arrayvec;
+pub mod boxed;
 pub mod clap;
 pub mod collections;
 pub mod convert;

@@ -1,5 +1,6 @@
 //! What each file of the sources sees without naming it.
 
+pub use crate::boxed::Box;
 pub use crate::iter::CollectIn;
 pub use crate::process::Expect;
 pub use crate::rt::{AllocGlobal, Eprint, HostRuntime};

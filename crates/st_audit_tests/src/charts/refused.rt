@@ -2,8 +2,12 @@
 
 use super::{HIDDEN_CHART, THREE_PROCESSES, chart_of, hidden_items};
 use crate::shared::{same, sink_at_last, streams, streams_at_last};
+use st_chain::Chains;
 use st_chart::ChartFault;
-use st_core::MemorySink;
+use st_core::{MemorySink, Pid, Streams};
+use st_pair::pair;
+use st_samples::p31;
+use std::alloc::Global;
 use std::test::Fail;
 
 /// If memory runs out nothing is written, and the same call writes the chart afterwards.
@@ -20,6 +24,26 @@ fn a_chart_without_memory_writes_nothing(rt: HostRuntime) {
         same(&rt, &again, &Ok(()));
     }
     same(&rt, &sink.written(), &HIDDEN_CHART);
+}
+
+/// The way back from the last event of 31, over the chains of the streams' pairing.
+fn way_back(alloc: Global, streams: &Streams) -> Option<Vec<(Pid, u64)>> {
+    let pairing = pair(alloc, streams).ok()?;
+    let chains = Chains::new(alloc, streams, &pairing).ok()?;
+    chains.back(p31(), 1).ok()
+}
+
+/// If memory runs out for the pairing, the chains or the way back, the same calls succeed afterwards.
+#[test]
+fn a_way_back_without_memory_may_be_asked_again(rt: HostRuntime) {
+    let alloc = rt.alloc();
+    let streams = streams_at_last(&rt, alloc, THREE_PROCESSES);
+    let back = match way_back(alloc, &streams) {
+        None => way_back(alloc, &streams),
+        found => found,
+    };
+    let back = back.expect(&rt, "no way back");
+    same(&rt, &back.as_slice(), &[(p31(), 1), (p31(), 0)].as_slice());
 }
 
 /// At whichever byte the sink fails, what it has is a prefix of the chart.

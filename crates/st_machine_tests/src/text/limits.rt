@@ -76,6 +76,11 @@ fn bytes(rt: HostRuntime) -> Result<(), Fail> {
     text.push(b'x')?;
     let answer = read(alloc, &mut MemorySource::new(&text, None));
     same(&rt, &refusal(&rt, answer), &ReadFault::TooLarge);
+    // Whatever comes then, that is what each call returns.
+    let mut feed = Feed::new(alloc);
+    same(&rt, &feed.piece(&text), &Err(ReadFault::TooLarge));
+    same(&rt, &feed.piece(b"x"), &Err(ReadFault::TooLarge));
+    same(&rt, &refusal(&rt, feed.end()), &ReadFault::TooLarge);
     Ok(())
 }
 

@@ -1,7 +1,7 @@
 //! Acts with what they returned, in little memory. For each call a brief form is kept, which says
 //! all of it in 24 bytes, or at which place the whole of it stands apart.
 
-ghost use Rattle.std.specs.Prelude.{◌≡◌, ◌+◌, ◌<◌, ◌≤◌, ◌↔◌, ◌⊎◌, [], ◌∷◌, ◌++◌, length, slice_get};
+ghost use Rattle.std.specs.Prelude.{◌≡◌, ◌+◌, ◌-◌, ◌<◌, ◌≤◌, ◌↔◌, ◌⊎◌, [], ◌∷◌, ◌++◌, length, slice_get};
 ghost use Rattle.std.specs.Prelude.{slice_index_or, vec_len, IfOk, IfSome, OnOk, IsOk, IsTrue};
 ghost use Rattle.std.specs.Vec.{vec_capacity};
 ghost use Rattle.st_runtime.specs.Briefs.{call_in, IsBrief, IsBriefPlaced};
@@ -111,6 +111,20 @@ impl CallLog {
         } else {
             None
         }
+    }
+
+    /// The first call, if there is one.
+    pub fn first(&self) -> Option<(Act, Reply)>
+        ensures { result ≡ slice_get self.now.calls 0 }
+    {
+        self.get(0)
+    }
+
+    /// The last call, if there is one.
+    pub fn last(&self) -> Option<(Act, Reply)>
+        ensures { result ≡ slice_get self.now.calls (length self.now.calls - 1) }
+    {
+        self.get(self.len().saturating_sub(1))
     }
 
     /// The call at this place.

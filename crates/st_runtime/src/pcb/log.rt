@@ -1,6 +1,6 @@
 //! The log of one process, and room in logs for one entry more.
 
-ghost use Rattle.std.specs.Prelude.{◌≡◌, ◌≢◌, ◌+◌, ◌<◌, ◌≤◌, ◌↔◌, [], ◌∷◌, ◌++◌, length, max};
+ghost use Rattle.std.specs.Prelude.{◌≡◌, ◌≢◌, ◌+◌, ◌-◌, ◌<◌, ◌≤◌, ◌↔◌, [], ◌∷◌, ◌++◌, length, max};
 ghost use Rattle.std.specs.Prelude.{slice_get, slice_index_or, Err, IfOk, OnOk, IsOk, IsTrue};
 ghost use Rattle.std.specs.Prelude.{vec_len};
 ghost use Rattle.std.specs.List.Sorted.{IsBinarySearchResult, IsSearchInRange};
@@ -99,6 +99,20 @@ impl Log {
         } else {
             None
         }
+    }
+
+    /// The first entry, if there is one.
+    pub fn first(&self) -> Option<Entry>
+        ensures { result ≡ slice_get self.now.entries 0 }
+    {
+        self.get(0)
+    }
+
+    /// The last entry, if there is one.
+    pub fn last(&self) -> Option<Entry>
+        ensures { result ≡ slice_get self.now.entries (length self.now.entries - 1) }
+    {
+        self.get(self.len().saturating_sub(1))
     }
 
     /// The entry at this place.

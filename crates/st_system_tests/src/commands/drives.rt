@@ -1,47 +1,9 @@
 //! Acts that are driven: `drive` writes the bundle of the one run that the threads made.
 
-use super::Case;
 use crate::shared::same;
 use st_commands::run;
 use st_core::{MemorySink, MemorySource};
-use st_samples::PRINT_ONE;
 use std::test::Fail;
-
-pub static CASES: [Case; 3] = [
-    Case {
-        name: "drive_one",
-        input: PRINT_ONE,
-        text: PRINT_ONE,
-        status: 0,
-    },
-    Case {
-        name: "drive_apart",
-        input: "seqtrace 1\n\
-            process <0.30.0>\n\
-            process <0.31.0>\n\
-            process <0.32.0>\n\
-            process <0.33.0>\n\
-            acts\n\
-            send <0.32.0> <0.33.0> 2\n\
-            send <0.30.0> <0.31.0> 1\n",
-        text: "seqtrace 1\n\
-            process <0.30.0>\n\
-            process <0.31.0>\n\
-            process <0.32.0>\n\
-            process <0.33.0>\n\
-            acts\n\
-            send <0.30.0> <0.31.0> 1\n\
-            send <0.32.0> <0.33.0> 2\n",
-        status: 0,
-    },
-    Case {
-        name: "drive_no_acts",
-        input: "seqtrace 1\n\
-            process <0.30.0>\n",
-        text: "fault no acts\n",
-        status: 2,
-    },
-];
 
 /// Scripts of processes on two nodes that meet in sends, a reset and tracer changes.
 static MEETING: &str = "seqtrace 2\n\

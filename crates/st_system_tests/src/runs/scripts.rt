@@ -1,13 +1,20 @@
-//! Scripts that busy one another: every act and every want, on two nodes.
+//! Scripts that busy one another: every act and every want, on one node or more.
 
 use st_core::{Act, Component, Flags, Label, Pid, Sequence, Serial, Token, Want};
 use std::alloc::{AllocError, Global};
 
-/// The processes of a run, by rising pid: so many on each of the nodes 0 and 1.
-pub(super) fn processes(alloc: Global, on_each: u16) -> Result<Vec<Pid>, AllocError> {
+/// Where the processes of a run are: so many on each of so many nodes, from 0 on.
+#[derive(Clone, Copy)]
+pub(super) struct Places {
+    pub nodes: u16,
+    pub on_each: u16,
+}
+
+/// The processes of a run, by rising pid.
+pub(super) fn processes(alloc: Global, places: Places) -> Result<Vec<Pid>, AllocError> {
     let mut pids = Vec::new(alloc);
-    for node in 0..2 {
-        for number in 0..on_each {
+    for node in 0..places.nodes {
+        for number in 0..places.on_each {
             let Ok(()) = pids.push(Pid::on(node, number)) else {
                 return Err(AllocError);
             };
@@ -20,14 +27,14 @@ pub(super) fn processes(alloc: Global, on_each: u16) -> Result<Vec<Pid>, AllocEr
 pub(super) fn scripts(
     alloc: Global,
     pids: &[Pid],
-    on_each: u16,
+    places: Places,
     acts: u64,
 ) -> Result<Vec<Sequence<Act>>, AllocError> {
     let mut scripts = Vec::new(alloc);
     for pid in pids {
         let mut script = Vec::new(alloc);
         for n in 0..acts {
-            let Ok(()) = script.push(busy_act(*pid, on_each, n)) else {
+            let Ok(()) = script.push(busy_act(*pid, places, n)) else {
                 return Err(AllocError);
             };
         }
@@ -40,21 +47,21 @@ pub(super) fn scripts(
 
 /// Act n of a busy process. The first fifty have two resets and two changes of the tracer among
 /// them.
-fn busy_act(me: Pid, on_each: u16, n: u64) -> Act {
+fn busy_act(me: Pid, places: Places, n: u64) -> Act {
     match n % 500 {
         7 | 29 => Act::Tracer(me, true),
         19 | 41 => Act::Reset(me),
         431 => Act::Tracer(me, false),
-        _ => busy_lone_act(me, on_each, n),
+        _ => busy_lone_act(me, places, n),
     }
 }
 
 /// The same, of an act that touches no whole node. Half of them are sends and receives.
-fn busy_lone_act(me: Pid, on_each: u16, n: u64) -> Act {
+fn busy_lone_act(me: Pid, places: Places, n: u64) -> Act {
     let drawn = mixed_number(me, n);
     let other = Pid::on(
-        (drawn % 2) as u16,
-        ((drawn >> 1) % 65_536) as u16 % on_each.max(1),
+        (drawn % 2) as u16 % places.nodes.max(1),
+        ((drawn >> 1) % 65_536) as u16 % places.on_each.max(1),
     );
     let value = (drawn >> 20) % 4;
     match n % 32 {

@@ -3,7 +3,7 @@
 use super::{act_at_last, gather_at_last, open_at_last, room_at_last};
 use crate::shared::{same, same_at};
 use st_core::{Act, Component, Label, Pid, Reply, Serial, Want};
-use st_runtime::{ActFault, Gate, OpenGate, Seat, System, WORKER_STACK};
+use st_runtime::{ActFault, Gate, OpenFault, OpenGate, Seat, System, WORKER_STACK};
 use std::process::Abort;
 use std::sync::Wait;
 use std::sync::atomic::{AtomicU64, Ordering};
@@ -42,12 +42,13 @@ fn play<const TOP: u64, const RANKS: u64, R: Wait + Abort, G: Gate>(
     }
 }
 
-/// Counts how often it is told, and adds the numbers of acts that it is told of.
+/// Counts how often it is told, and adds the numbers of acts that it is told, before and after.
 #[derive(Drop)]
 struct Counting {
     before: AtomicU64,
     after: AtomicU64,
-    acts: AtomicU64,
+    acts_before: AtomicU64,
+    acts_after: AtomicU64,
 }
 
 impl Counting {
@@ -55,7 +56,8 @@ impl Counting {
         Counting {
             before: AtomicU64::new(0),
             after: AtomicU64::new(0),
-            acts: AtomicU64::new(0),
+            acts_before: AtomicU64::new(0),
+            acts_after: AtomicU64::new(0),
         }
     }
 }
@@ -63,11 +65,12 @@ impl Counting {
 impl Gate for Counting {
     fn before(&self, _pid: Pid, n: u64) {
         self.before.fetch_add(1, Ordering::SeqCst);
-        self.acts.fetch_add(n, Ordering::SeqCst);
+        self.acts_before.fetch_add(n, Ordering::SeqCst);
     }
 
-    fn after(&self, _pid: Pid, _n: u64) {
+    fn after(&self, _pid: Pid, n: u64) {
         self.after.fetch_add(1, Ordering::SeqCst);
+        self.acts_after.fetch_add(n, Ordering::SeqCst);
     }
 }
 
@@ -101,7 +104,35 @@ fn a_gate_is_told_of_acts_under_their_lock(rt: HostRuntime) -> Result<(), Fail> 
         same(&rt, &gate.before.load(Ordering::SeqCst), &7);
         same(&rt, &gate.after.load(Ordering::SeqCst), &7);
         let told = 1 + 2 + 3 + 4 + 5 + 6;
-        same(&rt, &gate.acts.load(Ordering::SeqCst), &told);
+        same(&rt, &gate.acts_before.load(Ordering::SeqCst), &told);
+        same(&rt, &gate.acts_after.load(Ordering::SeqCst), &told);
+    }
+    Ok(())
+}
+
+// The gate is told how many acts the seat kept before, whatever locks the act takes.
+#[test]
+fn a_gate_is_told_how_many_acts_there_were_before(rt: HostRuntime) -> Result<(), Fail> {
+    let me = Pid::new(30);
+    let other = Pid::new(31);
+    let (system, seats) = open_at_last::<9, 9>(rt.alloc(), &[me, other])?;
+    let Some(mut seat) = seats.into_iter().next() else {
+        panic!(rt; "no seats");
+    };
+    let acts = [
+        (Act::Look(me), Ok(Reply::Current(None))),
+        (Act::Send(me, other, 1), Ok(Reply::Done)),
+        (Act::Send(me, other, 2), Ok(Reply::Done)),
+        (Act::Reset(me), Ok(Reply::Done)),
+        (Act::Tracer(me, true), Ok(Reply::Was(false))),
+        (Act::Send(me, me, 3), Ok(Reply::Done)),
+        (Act::Look(me), Ok(Reply::Current(None))),
+    ];
+    for (made, played) in (0..).zip(&acts) {
+        let gate = Counting::new();
+        play(&rt, &gate, &system, &mut seat, &[*played]);
+        same_at(&rt, made, &gate.acts_before.load(Ordering::SeqCst), &made);
+        same_at(&rt, made, &gate.acts_after.load(Ordering::SeqCst), &made);
     }
     Ok(())
 }
@@ -192,6 +223,12 @@ fn a_reset_leaves_the_log_of_another_node(rt: HostRuntime) -> Result<(), Fail> {
         }
     }
     Ok(())
+}
+
+#[test]
+fn a_system_of_falling_pids_is_refused(rt: HostRuntime) {
+    let refused = open_at_last::<9, 9>(rt.alloc(), &[Pid::new(31), Pid::new(30)]).err();
+    same(&rt, &refused, &Some(OpenFault::NotRising));
 }
 
 // A reset and a tracer change reach the processes of the actor's node, and no other.

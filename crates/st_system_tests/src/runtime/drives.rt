@@ -1,6 +1,7 @@
 //! Driven scripts: refusals, and what is left if memory runs out.
 
 use crate::shared::same;
+use st_check::{CheckFault, Verdict, check};
 use st_core::{Act, Component, Label, Pid, Sequence, Want};
 use st_runtime::{ActFault, DriveFault, Gate, OpenGate, Record, drive, drive_on};
 use std::alloc::Global;
@@ -81,6 +82,14 @@ fn refused_acts_and_falling_pids(rt: HostRuntime) {
     assert_refused::<3, 9, _>(&rt, alloc, &both, &[&prints, &[nobody]], clock);
 }
 
+/// What `check` says of a record.
+fn verdict_at_last(alloc: Global, record: &Record) -> Result<Verdict, CheckFault> {
+    match check::<9>(alloc, &record.streams, record.acts.as_slice()) {
+        Err(CheckFault::Memory) => check::<9>(alloc, &record.streams, record.acts.as_slice()),
+        answer => answer,
+    }
+}
+
 // The send reaches the other node, and the reset after it does not.
 #[test]
 fn a_send_to_another_node(rt: HostRuntime) -> Result<(), Fail> {
@@ -96,6 +105,8 @@ fn a_send_to_another_node(rt: HostRuntime) -> Result<(), Fail> {
     )?;
     same(&rt, &record.acts.as_slice(), &script.as_slice());
     same(&rt, &record.streams.pids(), &[here, away].as_slice());
+    let verdict = verdict_at_last(rt.alloc(), &record)?;
+    assert!(rt; matches!(verdict, Verdict::Yes(_)));
     Ok(())
 }
 

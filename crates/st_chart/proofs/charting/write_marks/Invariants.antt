@@ -1,11 +1,12 @@
--- The marks so far were written, or wait.
-use Rattle.std.proofs.Common.{take}
-use Rattle.std.specs.List.{flat_map}
-use Rattle.st_text.specs.Writing.{Goes}
-use Rattle.st_chart.specs.Chart.{mark}
+-- The marks of the lanes before those that are left were written, or wait.
+use Rattle.std.proofs.Common.{length}
+use Rattle.st_chart.proofs.Runs.{HasMarked}
 use Rattle.st_chart.proofs.charting.write_marks.Given as goal
 
-abbrev pub invariant-loop-lane : goal.invariant-loop-lane
-invariant-loop-lane g l =
-    Goes g.W.ByteSink.puts g.W.ByteSink.failed (flat_map (mark l.charted) (take l.lane-index l.lanes))
+abbrev pub invariant-loop-rest : goal.invariant-loop-rest
+invariant-loop-rest g l =
+    HasMarked g.W.ByteSink.puts g.W.ByteSink.failed l.charted l.lanes l.rest
     l.initial.writer l.writer l.initial.buffer.items l.buffer.items
+
+abbrev pub decreases-loop-rest : goal.decreases-loop-rest
+decreases-loop-rest g l = length l.rest

@@ -36,4 +36,4 @@ returns c =
     (c.into_iter-message-iterator.ensures.into_iter_gives ∙ c.walk-message-items.ensures) in
     let end =
     YieldsList-end walked c.loop-message.yielded _ c.loop-message.yielded_by _ _ c.in-None.is c.next.ensures.steps in
-    rw end.0 at c.loop-message.invariant.0
+    rw c.in_ok-new.ensures.ok (rw end.0 at c.loop-message.invariant.0)

@@ -1,5 +1,5 @@
 -- The reader tells which bytes it gave, and what was delivered is what they owe.
-use Rattle.st_text.specs.Limits.{standard}
+use Rattle.st_text.specs.Limits.{greater}
 use Rattle.st_commands.specs.Command.{call}
 use Rattle.st_commands.proofs.ForCallers.{says, tells_as, tells_fault, was_read}
 use Rattle.st_tool.specs.Complete.{IsCompleted, Faulty}
@@ -9,12 +9,12 @@ use Rattle.st_tool.proofs.complete.run_complete.Goals as goal
 
 pub returns-in-Ok-clause-told : goal.returns-in-Ok-clause-told
 returns-in-Ok-clause-told g c =
-    let read = was_read standard (call g.R.ByteSource _ _) c.in-Ok.bundle c.in-Ok.ensures in
+    let read = was_read greater (call g.R.ByteSource _ _) c.in-Ok.bundle c.in-Ok.ensures in
     tells_as _ _ (owes_complete _ _ read c.args.form) c.complete_streams.ensures
 
 pub returns-in-Err-clause-told : goal.returns-in-Err-clause-told
 returns-in-Err-clause-told g c =
-    tells_fault standard (call g.R.ByteSource _ _) (IsCompleted c.args.form) Faulty _ _ c.in-Err.fault
+    tells_fault greater (call g.R.ByteSource _ _) (IsCompleted c.args.form) Faulty _ _ c.in-Err.fault
     c.in-Err.ensures c.tell_fault.ensures
 
 pub returns-in-Ok-clause-completed : goal.returns-in-Ok-clause-completed

@@ -3,14 +3,14 @@ use Rattle.std.proofs.Common.{sym, ◌∙◌}
 use Rattle.st_commands.specs.Output.{no_memory}
 use Rattle.st_commands.specs.Audited.{report_output}
 use Rattle.st_why.specs.Parts.{NoRoom}
-use Rattle.st_why.proofs.Ways.{unpaired}
+use Rattle.st_why.proofs.Answers.{unpaired}
 use Rattle.st_why.proofs.why.tell_unpaired.Goals as goal
 
 pub returns-in-Some : goal.returns-in-Some
 returns-in-Some g c =
     record {
       output = report_output c.args.streams.now c.in-Some.finding;
-      owed = unpaired c.args.streams.now c.args.reach c.args.pid c.args.index c.args.fault c.in-Some.finding c.requires
+      owed = unpaired c.args.streams.now c.args.question c.args.fault c.in-Some.finding c.requires
           (sym c.unfit_by.ensures ∙ c.in-Some.is);
       delivered = c.tell_finding.ensures;
     }

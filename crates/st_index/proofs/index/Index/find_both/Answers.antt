@@ -12,14 +12,14 @@ returns-in_err-slot c queue is =
     c.from_residual.ensures
     ∙ ap (option_map (λ s. sum (take s index.ranks))) (sym c.in_err-slot.was)
     ∙ place_first index is.slots is.has_slots pid_count_cmp is_of_both index.pairs
-    is.has_slots.pairs (c.args.from, c.args.value) queue is.items
+    is.has_slots.pairs c.requires.kept (c.args.from, c.args.value) queue is.items
     c.first.result c.first.ensures
 
 pub rank-requires : goal.rank-requires
 rank-requires c =
     let index = c.args.self.now in
-    let has = c.requires.is.has_slots in
-    in_ranks index c.requires.is.slots has pid_count_cmp is_of_both index.pairs has.pairs
+    let has = c.requires.index.is.has_slots in
+    in_ranks index c.requires.index.is.slots has pid_count_cmp is_of_both index.pairs has.pairs c.requires.kept
     (c.args.from, c.args.value) 0 c.in_ok-slot.slot
     (subst (λ (o : Option ℕ). IsFirst
     (has_key pid_count_cmp index.pairs (c.args.from, c.args.value)) 0 o) c.in_ok-slot.was
@@ -31,5 +31,5 @@ returns c queue is =
     ap (λ n. Some n) c.rank.ensures
     ∙ ap (option_map (λ s. sum (take s index.ranks))) (sym c.in_ok-slot.was)
     ∙ place_first index is.slots is.has_slots pid_count_cmp is_of_both index.pairs
-    is.has_slots.pairs (c.args.from, c.args.value) queue is.items
+    is.has_slots.pairs c.requires.kept (c.args.from, c.args.value) queue is.items
     c.first.result c.first.ensures

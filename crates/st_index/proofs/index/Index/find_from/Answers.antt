@@ -12,15 +12,15 @@ returns-in_err-slot c queue is =
     let index = c.args.self.now in
     c.from_residual.ensures
     ∙ ap (option_map (λ s. sum (take s index.ranks))) (sym c.in_err-slot.was)
-    ∙ place_first index is.slots is.has_slots pid_cmp is_from index.senders is.has_slots.senders
+    ∙ place_first index is.slots is.has_slots pid_cmp is_from index.senders is.has_slots.senders c.requires.kept
     c.args.from queue is.items
     c.first.result c.first.ensures
 
 pub rank-requires : goal.rank-requires
 rank-requires c =
     let index = c.args.self.now in
-    let has = c.requires.is.has_slots in
-    in_ranks index c.requires.is.slots has pid_cmp is_from index.senders has.senders c.args.from 0 c.in_ok-slot.slot
+    let has = c.requires.index.is.has_slots in
+    in_ranks index c.requires.index.is.slots has pid_cmp is_from index.senders has.senders c.requires.kept c.args.from 0 c.in_ok-slot.slot
     (subst (λ (o : Option ℕ). IsFirst (has_key pid_cmp index.senders c.args.from) 0 o) c.in_ok-slot.was c.first.ensures)
 
 pub returns : goal.returns
@@ -28,6 +28,6 @@ returns c queue is =
     let index = c.args.self.now in
     ap (λ n. Some n) c.rank.ensures
     ∙ ap (option_map (λ s. sum (take s index.ranks))) (sym c.in_ok-slot.was)
-    ∙ place_first index is.slots is.has_slots pid_cmp is_from index.senders is.has_slots.senders
+    ∙ place_first index is.slots is.has_slots pid_cmp is_from index.senders is.has_slots.senders c.requires.kept
     c.args.from queue is.items
     c.first.result c.first.ensures

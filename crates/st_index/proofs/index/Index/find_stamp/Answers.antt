@@ -10,7 +10,7 @@ pub returns-in_err-behind : goal.returns-in_err-behind
 returns-in_err-behind c queue is =
     let index = c.args.self.now in
     c.from_residual.ensures
-    ∙ place_none index is.slots is.has_slots pid_count_cmp bears_key index.stamps is.has_slots.stamps
+    ∙ place_none index is.slots is.has_slots pid_count_cmp bears_key index.stamps is.has_slots.stamps c.requires.kept
     (c.args.from, c.args.this) queue is.items c.args.start c.in_err-behind.ensures.absent
 
 pub returns-in_err-slot : goal.returns-in_err-slot
@@ -18,15 +18,15 @@ returns-in_err-slot c queue is =
     let index = c.args.self.now in
     c.from_residual-in_err-slot.ensures
     ∙ ap (option_map (λ s. sum (take s index.ranks))) (sym c.in_err-slot.was)
-    ∙ place_from index is.slots is.has_slots pid_count_cmp bears_key index.stamps is.has_slots.stamps
+    ∙ place_from index is.slots is.has_slots pid_count_cmp bears_key index.stamps is.has_slots.stamps c.requires.kept
     (c.args.from, c.args.this) queue is.items c.in_ok-behind.behind c.args.start c.first.result
     c.in_ok-behind.ensures.live c.in_ok-behind.ensures.rank c.first.ensures
 
 pub rank-requires : goal.rank-requires
 rank-requires c =
     let index = c.args.self.now in
-    let has = c.requires.is.has_slots in
-    in_ranks index c.requires.is.slots has pid_count_cmp bears_key index.stamps has.stamps (c.args.from, c.args.this)
+    let has = c.requires.index.is.has_slots in
+    in_ranks index c.requires.index.is.slots has pid_count_cmp bears_key index.stamps has.stamps c.requires.kept (c.args.from, c.args.this)
     c.in_ok-behind.behind c.in_ok-slot.slot
     (subst (λ (o : Option ℕ).
     IsFirst (has_key pid_count_cmp index.stamps (c.args.from, c.args.this)) c.in_ok-behind.behind o)
@@ -37,6 +37,6 @@ returns c queue is =
     let index = c.args.self.now in
     ap (λ n. Some n) c.rank.ensures
     ∙ ap (option_map (λ s. sum (take s index.ranks))) (sym c.in_ok-slot.was)
-    ∙ place_from index is.slots is.has_slots pid_count_cmp bears_key index.stamps is.has_slots.stamps
+    ∙ place_from index is.slots is.has_slots pid_count_cmp bears_key index.stamps is.has_slots.stamps c.requires.kept
     (c.args.from, c.args.this) queue is.items c.in_ok-behind.behind c.args.start c.first.result
     c.in_ok-behind.ensures.live c.in_ok-behind.ensures.rank c.first.ensures

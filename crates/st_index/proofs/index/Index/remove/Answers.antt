@@ -44,16 +44,16 @@ returns-clause-removed c queue is at =
         ranks = rw c.mark_dead.ensures without;
         values =
             keyed-set nat_cmp is_of_value slots m (λ k. is_eq (nat_cmp m.value k)) (value_key m) slot there old.values
-            c.remove.new.self c.remove.ensures has.values;
+            c.remove.new.self c.remove.ensures.removed c.remove.ensures.kept has.values;
         senders =
             keyed-set pid_cmp is_from slots m (λ p. is_eq (pid_cmp m.from p)) (from_key m) slot there old.senders
-            c.remove-2.new.self c.remove-2.ensures has.senders;
+            c.remove-2.new.self c.remove-2.ensures.removed c.remove-2.ensures.kept has.senders;
         pairs =
             keyed-set pid_count_cmp is_of_both slots m
             (λ k. is_eq (pid_count_cmp (m.from, m.value) k)) (both_key m) slot there
-            old.pairs c.remove-3.new.self c.remove-3.ensures has.pairs;
+            old.pairs c.remove-3.new.self c.remove-3.ensures.removed c.remove-3.ensures.kept has.pairs;
         stamps =
             keyed-set pid_count_cmp bears_key slots m (λ k. bears_key k m) (λ k. refl) slot there old.stamps
-            c.remove_stamp.new.stamps (λ k. c.remove_stamp.ensures k.0 k.1) has.stamps;
+            c.remove_stamp.new.stamps (λ k. c.remove_stamp.ensures.removed k.0 k.1) c.remove_stamp.ensures.kept has.stamps;
       };
     }

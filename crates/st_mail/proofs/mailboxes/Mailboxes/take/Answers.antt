@@ -33,8 +33,8 @@ index_mut-requires c =
 
 -- NOTHING IS FOUND
 
-pub count_walk-requires : goal.count_walk-requires
-count_walk-requires c =
+pub count_miss-requires : goal.count_miss-requires
+count_miss-requires c =
     in_stored _ _ c.self.invariant _ (ap (λ m. m.boxes) c.self.view_is) c.args.mailbox c.requires
 
 -- BEHIND THE WIPED FRONT

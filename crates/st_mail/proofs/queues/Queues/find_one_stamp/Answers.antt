@@ -1,6 +1,6 @@
 -- From place 0 on lies the whole list.
 use Rattle.std.proofs.Common.{sym, ap, arith, ◌∙◌}
-use Rattle.st_mail.proofs.Finders.{in_finders, from_zero, index_of, some_index}
+use Rattle.st_mail.proofs.Finders.{in_finders, from_zero, finder_of, some_index}
 use Rattle.st_mail.proofs.queues.Queues.find_one_stamp.Goals as goal
 
 pub index-requires : goal.index-requires
@@ -11,17 +11,19 @@ index-requires c =
     c.args.queue c.requires.within in
     omega (arith, within, c.self.inside.finders.ok.0)
 
-pub find_stamp-requires : goal.find_stamp-requires
-find_stamp-requires c =
-    some_index c.in-Index.index _
-    (index_of c.self.inside.finders.items c.self.inside.lists.lists c.self.invariant _
+pub find_stamp-requires-clause-index : goal.find_stamp-requires-clause-index
+find_stamp-requires-clause-index c =
+    some_index c.in-Some.index.now _
+    (c.in-Some.ensures.index _
+    (finder_of c.self.inside.finders.items c.self.inside.lists.lists c.self.invariant _
     (ap (λ a. a.lists) c.self.view_is)
-    c.args.queue c.requires.within c.index.result.now (sym c.index.ensures) c.in-Index.index c.in-Index.is)
+    c.args.queue c.requires.within c.index.result.now (sym c.index.ensures)))
 
-pub returns-in-Index : goal.returns-in-Index
-returns-in-Index c =
+pub returns-in-Some : goal.returns-in-Some
+returns-in-Some c =
     c.find_stamp.ensures _
-    (index_of c.self.inside.finders.items c.self.inside.lists.lists c.self.invariant _
+    (c.in-Some.ensures.index _
+    (finder_of c.self.inside.finders.items c.self.inside.lists.lists c.self.invariant _
     (ap (λ a. a.lists) c.self.view_is)
-    c.args.queue c.requires.within c.index.result.now (sym c.index.ensures) c.in-Index.index c.in-Index.is)
+    c.args.queue c.requires.within c.index.result.now (sym c.index.ensures)))
     ∙ from_zero _

@@ -1,0 +1,26 @@
+-- Each turn puts the next mark behind those before.
+use Rattle.std.proofs.Common.{refl}
+use Rattle.st_text.proofs.ForCallers.{goes_still, one_more, all_done, on_err}
+use Rattle.st_chart.specs.Chart.{mark}
+use Rattle.st_chart.proofs.Rooms.{room_then, no_room_among}
+use Rattle.st_chart.proofs.charting.write_each_mark.Goals as goal
+
+pub loop-lane-init : goal.loop-lane-init
+loop-lane-init g c = goes_still g.W.ByteSink.puts g.W.ByteSink.failed
+
+pub loop-lane-preserved : goal.loop-lane-preserved
+loop-lane-preserved g c =
+    one_more g.W.ByteSink.puts g.W.ByteSink.failed (mark c.args.charted.now) c.args.lanes.now c.loop-lane.lane-index _
+    c.loop-lane-test.true c.loop-lane.invariant
+    (room_then g.W.ByteSink.puts g.W.ByteSink.failed _ c.in_ok-make_room.ensures.goes c.put_mark.ensures)
+
+pub returns-in_err-make_room : goal.returns-in_err-make_room
+returns-in_err-make_room g c =
+    on_err _ _ _ _ c.from_residual.ensures.0
+    (no_room_among g.W.ByteSink.puts g.W.ByteSink.failed (mark c.args.charted.now) c.args.lanes.now
+    c.loop-lane.lane-index c.loop-lane.invariant c.in_err-make_room.ensures.goes)
+
+pub returns : goal.returns
+returns g c =
+    all_done g.W.ByteSink.puts g.W.ByteSink.failed (mark c.args.charted.now) c.args.lanes.now c.loop-lane.lane-index
+    refl c.loop-lane-test.false c.loop-lane.invariant

@@ -1,9 +1,0 @@
--- The hidden sends of the streams that were taken are noted.
-use Rattle.std.proofs.Common.{◌≡◌, ◌++◌, drop}
-use Rattle.st_fallback.specs.Hidden.{hidden_among}
-use Rattle.st_fallback.proofs.hidden.hidden_among.Given as goal
-
--- with those of what is left they come to all
-abbrev pub invariant-loop-pid : goal.invariant-loop-pid
-invariant-loop-pid l = l.hidden.items ++ hidden_among l.streams l.fn.sender (drop l.pid-index l.streams)
-    ≡ hidden_among l.streams l.fn.sender l.streams

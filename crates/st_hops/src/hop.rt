@@ -1,0 +1,54 @@
+//! The hop back from an event.
+
+ghost use Rattle.std.specs.Prelude.{◌≡◌};
+ghost use Rattle.st_hops.specs.Hops.{premises_of};
+
+use st_core::{Label, Pid};
+
+/// What an event follows, as far as the events tell.
+#[derive(Clone, Copy, Debug, PartialEq, Eq)]
+pub enum Hop {
+    /// A receive: the send at this place.
+    Sent(Pid, u64),
+    /// A receive whose send nobody reported.
+    Unsent,
+    /// A send or print: its process's receive at this index, since a count above its prev came
+    /// before that.
+    After(u64),
+    /// A send or print: its process's receive at this index, which has its label; else the process
+    /// began again under this label.
+    AfterOneLabel(u64),
+    /// A send or print: its process's receive at this index has this other label.
+    OtherLabel(u64, Label),
+    /// A send or print that no receive came before.
+    Begins,
+    /// A send or print: no receive that was reported has its prev.
+    BeginsOrUnreported,
+}
+
+/// What a hop rests on, besides that there was no reset.
+#[derive(Clone, Copy, Debug, PartialEq, Eq)]
+pub enum Premises {
+    /// Nothing.
+    Neither,
+    /// That its process reported each receive of a token.
+    First,
+    /// That, and that its process never cleared its token and began again under the label of an
+    /// earlier event.
+    Both,
+}
+
+impl Hop {
+    /// What the hop rests on.
+    pub fn premises(self) -> Premises
+        ensures { result ≡ premises_of self }
+    {
+        match self {
+            Hop::After(_) | Hop::OtherLabel(..) => Premises::First,
+            Hop::AfterOneLabel(_) => Premises::Both,
+            Hop::Sent(..) | Hop::Unsent | Hop::Begins | Hop::BeginsOrUnreported => {
+                Premises::Neither
+            }
+        }
+    }
+}

@@ -1,0 +1,3 @@
+-- The lemmas.
+pub mod Firsts
+pub mod Texts

@@ -1,0 +1,20 @@
+-- The number of the line on which an event is, in the text of a bundle, counted from 1: the header
+-- is line 1, and each process and each event takes a line.
+use Rattle.std.specs.Prelude.{ℕ, ◌+◌, nat_lt, List, [], ◌∷◌, length, Option, Some, None}
+use Rattle.std.specs.Prelude.{if◌then◌else◌}
+use Rattle.st_core.specs.declared.types.Pid.{Pid}
+use Rattle.st_core.specs.Pid.{pid_eq}
+use Rattle.st_core.specs.Run.{Stream}
+
+-- the same if the first event of these streams is on the line `first`: behind the events of a
+-- process come the next process and its events
+abbrev pub line_from : ℕ → List Stream → Pid → ℕ → Option ℕ
+line_from first [] p i = None
+line_from first (s ∷ rest) p i =
+    if pid_eq s.pid p then (if nat_lt i (length s.events) then Some (first + i) else None)
+    else line_from (first + length s.events + 1) rest p i
+
+-- the line of event i of p; none if there is no such event. Above the first event are the header
+-- and its process
+abbrev pub line_of : List Stream → Pid → ℕ → Option ℕ
+line_of streams p i = line_from 3 streams p i

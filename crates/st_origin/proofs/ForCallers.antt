@@ -1,0 +1,8 @@
+-- The lemmas that proofs of the crates above may cite: what events tell of an origin is true, and what stands before a
+-- row of sends and prints. They hold by the definitions alone.
+
+-- ---- what is told
+pub use Rattle.st_origin.proofs.Truths.{told_true, told_true_if_reported, one_label_follows, sends_told}
+-- ---- rows
+pub use Rattle.st_origin.proofs.Rows.{IsReceivedBefore, received_is, last_of_row, row_between, row_start_within}
+pub use Rattle.st_origin.proofs.Rows.{IsRowBetween, received_at, row_passes, row_stops}

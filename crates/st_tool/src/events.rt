@@ -1,0 +1,152 @@
+//! The commands `list`, `cut` and `stats`: `st_list` on the streams whose text the input is. The
+//! acts in the input are ignored.
+
+use crate::answer::tell_streams;
+use st_audit::unfit_by;
+use st_commands::{status_of, tell_fault, tell_finding};
+use st_core::{ByteSink, ByteSource, Streams};
+use st_list::{Filter, Row, Style, count, count_open, cut, list, send_open, send_rows, send_stats};
+use st_pair::{PairFault, Pairing, pair};
+use st_text::{Limits, ReadFault, read_within};
+use std::alloc::Global;
+
+/// The pairing of streams, none if they can't be paired.
+fn pairing_of(alloc: Global, streams: &Streams) -> Result<Option<Pairing>, ReadFault> {
+    match pair(alloc, streams) {
+        Ok(pairing) => Ok(Some(pairing)),
+        Err(PairFault::Memory) => Err(ReadFault::Memory),
+        Err(_) => Ok(None),
+    }
+}
+
+/// Writes the events of streams that are asked for.
+fn list_streams<W: ByteSink>(
+    alloc: Global,
+    streams: &Streams,
+    filter: &Filter,
+    style: Style,
+    writer: &mut W,
+) -> Result<u8, ReadFault> {
+    let Ok(rows) = list(alloc, streams, filter) else {
+        return Err(ReadFault::Memory);
+    };
+    let pairing = pairing_of(alloc, streams)?;
+    let sent = send_rows(writer, rows.as_slice(), pairing.as_ref(), style);
+    Ok(status_of(sent, 0))
+}
+
+/// Reads a bundle and writes the events that are asked for, each with its line, its place and what
+/// it pairs with, with status 0. Faulty input is 2; running out of memory, and a reader or a writer
+/// that fails, are 4.
+pub fn run_list<R: ByteSource, W: ByteSink>(
+    alloc: Global,
+    reader: &mut R,
+    writer: &mut W,
+    filter: &Filter,
+    style: Style,
+) -> u8 {
+    let told = match read_within(alloc, reader, Limits::GREATER) {
+        Ok(bundle) => list_streams(alloc, &bundle.streams, filter, style, writer),
+        Err(fault) => Err(fault),
+    };
+    match told {
+        Ok(status) => status,
+        Err(fault) => tell_fault(writer, fault),
+    }
+}
+
+/// Says what a cut of streams to these events leaves open.
+fn note_open<N: ByteSink>(
+    alloc: Global,
+    streams: &Streams,
+    rows: &[Row],
+    notes: &mut N,
+) -> Result<(), ReadFault> {
+    let pairing = pairing_of(alloc, streams)?;
+    let open = pairing.as_ref().map(|pairing| count_open(rows, pairing));
+    let _ = send_open(notes, rows.len() as u64, streams.total(), open);
+    Ok(())
+}
+
+/// Writes the bundle of the events of streams that are asked for.
+fn cut_streams<W: ByteSink, N: ByteSink>(
+    alloc: Global,
+    streams: &Streams,
+    filter: &Filter,
+    writer: &mut W,
+    notes: &mut N,
+) -> Result<u8, ReadFault> {
+    let Ok(rows) = list(alloc, streams, filter) else {
+        return Err(ReadFault::Memory);
+    };
+    let Ok(smaller) = cut(alloc, rows.as_slice()) else {
+        return Err(ReadFault::Memory);
+    };
+    note_open(alloc, streams, rows.as_slice(), notes)?;
+    Ok(tell_streams(writer, &smaller))
+}
+
+/// Reads a bundle and writes that of the events that are asked for, with status 0; the notes say
+/// how many these are, and what the cut leaves open. Faulty input is 2; running out of memory, and
+/// a reader or a writer that fails, are 4.
+pub fn run_cut<R: ByteSource, W: ByteSink, N: ByteSink>(
+    alloc: Global,
+    reader: &mut R,
+    writer: &mut W,
+    notes: &mut N,
+    filter: &Filter,
+) -> u8 {
+    let told = match read_within(alloc, reader, Limits::GREATER) {
+        Ok(bundle) => cut_streams(alloc, &bundle.streams, filter, writer, notes),
+        Err(fault) => Err(fault),
+    };
+    match told {
+        Ok(status) => status,
+        Err(fault) => tell_fault(writer, fault),
+    }
+}
+
+/// Writes the counts of paired streams.
+fn stats_of<W: ByteSink>(
+    alloc: Global,
+    streams: &Streams,
+    pairing: &Pairing,
+    style: Style,
+    writer: &mut W,
+) -> u8 {
+    match count(alloc, streams, pairing) {
+        Ok(stats) => status_of(send_stats(writer, &stats, style), 0),
+        Err(_) => tell_fault(writer, ReadFault::Memory),
+    }
+}
+
+/// Writes the counts of streams, or why they can't be paired.
+fn stats_of_streams<W: ByteSink>(
+    alloc: Global,
+    streams: &Streams,
+    style: Style,
+    writer: &mut W,
+) -> u8 {
+    match pair(alloc, streams) {
+        Ok(pairing) => stats_of(alloc, streams, &pairing, style, writer),
+        Err(fault) => match unfit_by(fault) {
+            Some(finding) => tell_finding(writer, streams, &finding),
+            None => tell_fault(writer, ReadFault::Memory),
+        },
+    }
+}
+
+/// Reads a bundle and writes how many events and messages it has, by process, by pair of processes
+/// and by label, with status 0; if its streams can't be paired, it writes that with status 1.
+/// Faulty input is 2; running out of memory, and a reader or a writer that fails, are 4.
+pub fn run_stats<R: ByteSource, W: ByteSink>(
+    alloc: Global,
+    reader: &mut R,
+    writer: &mut W,
+    style: Style,
+) -> u8 {
+    match read_within(alloc, reader, Limits::GREATER) {
+        Ok(bundle) => stats_of_streams(alloc, &bundle.streams, style, writer),
+        Err(fault) => tell_fault(writer, fault),
+    }
+}

@@ -1,0 +1,148 @@
+//! What is written of an event that is there: a line for each event that is found from it.
+
+ghost use Rattle.std.specs.Prelude.{◌≡◌, ◌++◌, IfOk, Some};
+ghost use Rattle.std.specs.List.{flat_map};
+ghost use Rattle.st_text.specs.Writing.{WritesOn, WritesText};
+ghost use Rattle.st_pair.specs.Places.{event_at};
+ghost use Rattle.st_why.specs.Why.{event_line, last_line, node_line, nodes_from};
+
+use crate::json::{write_json, write_premises_object};
+use crate::question::{Direction, Question, Style};
+use crate::text::{write_premises, write_text};
+use st_core::{ByteSink, Event, Pid};
+use st_hops::{Node, Origins, tree, way};
+use st_lines::LineNumbers;
+use st_text::{Buffer, Device, flush};
+use std::alloc::{AllocError, Global};
+
+/// The events that are found from this place. Fails only if memory runs out.
+pub(crate) fn nodes_from(
+    alloc: Global,
+    origins: &Origins,
+    question: Question,
+    place: (Pid, u64),
+) -> Result<Vec<Node>, AllocError>
+    ensures { IfOk result (λ v. v.items ≡ nodes_from origins.now question place) }
+{
+    match question.direction {
+        Direction::Back => way(alloc, origins, question.reach, place),
+        Direction::Forth => tree(alloc, origins, question.reach, place),
+    }
+}
+
+/// Writes the line of the event at a node.
+fn write_event<W: ByteSink>(
+    writer: &mut W,
+    buffer: &mut Buffer,
+    origins: &Origins,
+    numbers: &LineNumbers,
+    question: Question,
+    node: Node,
+    event: &Event,
+) -> Result<(), Device>
+    requires same { numbers.now ≡ origins.now }
+    requires there { event_at origins.now node.place.0 node.place.1 ≡ Some event.now }
+    ensures { WritesOn W.puts W.failed
+        (event_line origins.now question node.depth node.place.0 node.place.1 event.now)
+        writer.old writer.new buffer.old.items buffer.new.items result }
+{
+    match question.style {
+        Style::Text => {
+            write_text(
+                writer,
+                buffer,
+                origins,
+                numbers,
+                question.direction,
+                node,
+                event,
+            )
+        }
+        Style::Json => write_json(writer, buffer, origins, numbers, node, event),
+    }
+}
+
+/// Writes the line of the event at a node, if there is one.
+fn write_node<W: ByteSink>(
+    writer: &mut W,
+    buffer: &mut Buffer,
+    origins: &Origins,
+    numbers: &LineNumbers,
+    question: Question,
+    node: Node,
+) -> Result<(), Device>
+    requires { numbers.now ≡ origins.now }
+    ensures { WritesOn W.puts W.failed (node_line origins.now question node)
+        writer.old writer.new buffer.old.items buffer.new.items result }
+{
+    match origins.event(node.place.0, node.place.1) {
+        None => Ok(()),
+        Some(event) => write_event(writer, buffer, origins, numbers, question, node, &event),
+    }
+}
+
+/// Writes the line of each node.
+fn write_nodes<W: ByteSink>(
+    writer: &mut W,
+    buffer: &mut Buffer,
+    origins: &Origins,
+    numbers: &LineNumbers,
+    question: Question,
+    nodes: &[Node],
+) -> Result<(), Device>
+    requires { numbers.now ≡ origins.now }
+    ensures { WritesOn W.puts W.failed (flat_map (node_line origins.now question) nodes.now)
+        writer.old writer.new buffer.old.items buffer.new.items result }
+{
+    for node in nodes {
+        write_node(writer, buffer, origins, numbers, question, *node)?;
+    }
+    Ok(())
+}
+
+/// Writes the last line.
+fn write_last<W: ByteSink>(writer: &mut W, buffer: &mut Buffer, style: Style) -> Result<(), Device>
+    ensures { WritesOn W.puts W.failed (last_line style)
+        writer.old writer.new buffer.old.items buffer.new.items result }
+{
+    match style {
+        Style::Text => write_premises(writer, buffer),
+        Style::Json => write_premises_object(writer, buffer),
+    }
+}
+
+/// Writes the lines of these nodes and the last line.
+fn write_answer<W: ByteSink>(
+    writer: &mut W,
+    buffer: &mut Buffer,
+    origins: &Origins,
+    numbers: &LineNumbers,
+    question: Question,
+    nodes: &[Node],
+) -> Result<(), Device>
+    requires { numbers.now ≡ origins.now }
+    ensures { WritesOn W.puts W.failed
+        (flat_map (node_line origins.now question) nodes.now ++ last_line question.style)
+        writer.old writer.new buffer.old.items buffer.new.items result }
+{
+    write_nodes(writer, buffer, origins, numbers, question, nodes)?;
+    write_last(writer, buffer, question.style)
+}
+
+/// The same, all of it.
+pub(crate) fn send_answer<W: ByteSink>(
+    writer: &mut W,
+    origins: &Origins,
+    numbers: &LineNumbers,
+    question: Question,
+    nodes: &[Node],
+) -> Result<(), Device>
+    requires { numbers.now ≡ origins.now }
+    ensures { WritesText W.puts W.failed
+        (flat_map (node_line origins.now question) nodes.now ++ last_line question.style)
+        writer.old writer.new result }
+{
+    let mut buffer = Buffer::new();
+    write_answer(writer, &mut buffer, origins, numbers, question, nodes)?;
+    flush(writer, &mut buffer)
+}
