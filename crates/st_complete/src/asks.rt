@@ -133,7 +133,7 @@ impl Asks {
         Ok(asks)
     }
 
-    /// Those that got a message, by process and index.
+    /// All needs, and the beginnings that got a message, by process and index.
     pub(crate) fn into_fed(self) -> Result<Vec<Ask>, AllocError> {
         let Asks {
             needs: mut fed,

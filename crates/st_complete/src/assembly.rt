@@ -4,6 +4,7 @@ use crate::asks::{Ask, split_asks, split_hidden};
 use crate::candidate::{Candidate, items_from};
 use crate::entries::Entries;
 use crate::hidden::HiddenSend;
+use crate::inventions::Invention;
 use st_core::{Draft, Event, Pid, Sequence, Streams};
 use std::alloc::{AllocError, Global};
 use std::mem::replace;
@@ -15,8 +16,8 @@ pub(crate) struct Parts {
     pub hidden: Vec<HiddenSend>,
     /// The stamps that got messages, by process and index.
     pub fed: Vec<Ask>,
-    /// The numbers of the stamps whose messages are invented, by sender and count of the messages.
-    pub invented: Vec<u32>,
+    /// The sends of the messages that are invented, by sender and count.
+    pub inventions: Vec<Invention>,
     /// The processes that the streams don't list, by rising pid.
     pub unlisted: Vec<Pid>,
 }
@@ -28,11 +29,9 @@ struct Assembly<'a> {
     draft: Draft,
     /// The marks of the process whose events are being added.
     marks: Vec<bool>,
-    /// All stamps that got messages.
-    fed: &'a [Ask],
     hidden_left: &'a [HiddenSend],
     fed_left: &'a [Ask],
-    invented_left: &'a [u32],
+    inventions_left: &'a [Invention],
 }
 
 /// All pids of the candidate, by rising pid.
@@ -45,16 +44,18 @@ fn all_pids(alloc: Global, streams: &Streams, unlisted: &[Pid]) -> Result<Vec<Pi
 }
 
 /// The invented sends of the processes up to this one, and the others.
-fn split_invented<'a>(fed: &[Ask], invented: &'a [u32], pid: Pid) -> (&'a [u32], &'a [u32]) {
-    let count = invented.partition_point(|number| {
-        let ask = fed.get(*number as usize);
-        ask.and_then(|ask| ask.sender())
-            .is_some_and(|sender| sender <= pid)
-    });
-    invented.split_at(count)
+fn split_inventions(inventions: &[Invention], pid: Pid) -> (&[Invention], &[Invention]) {
+    let count = inventions.partition_point(|invention| invention.sender <= pid);
+    inventions.split_at(count)
 }
 
 impl Assembly<'_> {
+    /// Makes room for so many events of the process.
+    fn make_room(&mut self, pid: Pid, most: usize) -> Result<(), AllocError> {
+        self.draft.reserve(pid, most)?;
+        self.marks.reserve(most)
+    }
+
     /// Adds an event of the process.
     fn add(&mut self, pid: Pid, event: Event, told: bool) -> Result<(), AllocError> {
         let Ok(()) = self.draft.add(pid, event) else {
@@ -68,20 +69,15 @@ impl Assembly<'_> {
     fn add_sends<'b>(
         &mut self,
         pid: Pid,
-        sends: &'b [u32],
+        sends: &'b [Invention],
         most: u64,
-    ) -> Result<&'b [u32], AllocError> {
+    ) -> Result<&'b [Invention], AllocError> {
         let mut left = sends;
-        for number in sends {
-            let Some(ask) = self.fed.get(*number as usize) else {
-                return Ok(left);
-            };
-            if ask.count > most {
+        for invention in sends {
+            if invention.count > most {
                 return Ok(left);
             }
-            if let Some(sent) = ask.sent(self.streams) {
-                self.add(pid, sent, false)?;
-            }
+            self.add(pid, invention.sent(), false)?;
             left = items_from(left, 1);
         }
         Ok(left)
@@ -92,7 +88,7 @@ impl Assembly<'_> {
         &mut self,
         pid: Pid,
         entries: Entries<'_>,
-        sends: &[u32],
+        sends: &[Invention],
     ) -> Result<(), AllocError> {
         let mut left = sends;
         for entry in entries {
@@ -107,11 +103,12 @@ impl Assembly<'_> {
     fn add_next(&mut self, alloc: Global, pid: Pid) -> Result<Vec<bool>, AllocError> {
         let (hidden, hidden_left) = split_hidden(self.hidden_left, pid);
         let (fed, fed_left) = split_asks(self.fed_left, pid);
-        let (sends, invented_left) = split_invented(self.fed, self.invented_left, pid);
+        let (sends, inventions_left) = split_inventions(self.inventions_left, pid);
         self.hidden_left = hidden_left;
         self.fed_left = fed_left;
-        self.invented_left = invented_left;
+        self.inventions_left = inventions_left;
         let entries = Entries::new(self.streams, self.streams.events(pid), hidden, fed);
+        self.make_room(pid, entries.most().saturating_add(sends.len()))?;
         self.add_process(pid, entries, sends)?;
         Ok(replace(&mut self.marks, Vec::new(alloc)))
     }
@@ -122,10 +119,9 @@ impl Assembly<'_> {
             streams: _,
             draft,
             marks: _,
-            fed: _,
             hidden_left: _,
             fed_left: _,
-            invented_left: _,
+            inventions_left: _,
         } = self;
         draft
     }
@@ -151,7 +147,7 @@ pub(crate) fn assemble(
     let Parts {
         hidden,
         fed,
-        invented,
+        inventions,
         unlisted,
     } = parts;
     let pids = all_pids(alloc, streams, &unlisted)?;
@@ -159,10 +155,9 @@ pub(crate) fn assemble(
         streams,
         draft: open_draft(alloc, &pids)?,
         marks: Vec::new(alloc),
-        fed: &fed,
         hidden_left: &hidden,
         fed_left: &fed,
-        invented_left: &invented,
+        inventions_left: &inventions,
     };
     let mut told = Vec::with_capacity(alloc, pids.len())?;
     for &pid in &pids {

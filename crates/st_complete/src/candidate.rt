@@ -71,13 +71,13 @@ pub(crate) fn build_candidate(
     place_hidden(alloc, streams, &mut hidden)?;
     let mut asks = Asks::of(alloc, streams, &hidden)?;
     give_lost(alloc, streams, pairing, &mut asks)?;
-    let unlisted = give_senders(alloc, streams, &hidden, &mut asks.needs)?;
     let mut fed = asks.into_fed()?;
-    let invented = invent(alloc, streams, &hidden, &mut fed)?;
+    let (mut inventions, unlisted) = give_senders(alloc, streams, &hidden, &mut fed)?;
+    invent(streams, &hidden, &mut fed, &mut inventions)?;
     let parts = Parts {
         hidden,
         fed,
-        invented,
+        inventions,
         unlisted,
     };
     assemble(alloc, streams, parts)

@@ -60,6 +60,11 @@ impl<'a> Entries<'a> {
         }
     }
 
+    /// How many events are left, at most.
+    pub(crate) fn most(&self) -> usize {
+        self.left
+    }
+
     /// The receive that stands before the next event, if there is one.
     fn next_receive(&mut self) -> Option<Event> {
         let (ask, others) = self.asks.split_first()?;

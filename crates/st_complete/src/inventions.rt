@@ -3,40 +3,43 @@
 use crate::asks::{Ask, Message, split_asks, split_hidden};
 use crate::entries::Entries;
 use crate::hidden::HiddenSend;
-use crate::links::short;
-use st_core::{Event, Pid, Streams};
+use st_core::{Event, Kind, Label, Pid, Serial, Streams};
 use st_needs::{Left, is_stamp};
-use std::alloc::{AllocError, Global};
+use std::alloc::AllocError;
 
 /// The send of an invented message. It stands before the first event of its sender that doesn't
 /// count lower, or at the end.
 #[derive(Clone, Copy, Debug)]
-struct Invention {
+pub(crate) struct Invention {
     /// Its count.
-    count: u64,
+    pub count: u64,
     /// Its prev.
-    prev: u64,
+    pub prev: u64,
     /// Its sender.
-    sender: Pid,
-    /// The number of the stamp that gets it, among those that got messages.
-    ask: u32,
+    pub sender: Pid,
+    /// Its receiver.
+    pub to: Pid,
+    /// The label of the stamp that gets it.
+    pub label: Label,
+    /// The number of this stamp, among those that get messages.
+    pub ask: u32,
 }
 
-/// The sends of the invented messages that these stamps got, by sender and count, with prev 0.
-fn inventions_of(alloc: Global, fed: &[Ask]) -> Result<Vec<Invention>, AllocError> {
-    let mut inventions = Vec::new(alloc);
-    for (number, ask) in fed.iter().enumerate() {
-        if let Message::Invented(sender, prev) = ask.message {
-            inventions.push(Invention {
-                count: ask.count,
-                prev,
-                sender,
-                ask: short(number),
-            })?;
+impl Invention {
+    /// The send itself.
+    pub(crate) fn sent(&self) -> Event {
+        Event {
+            label: self.label,
+            kind: Kind::Send,
+            to: Some(self.to),
+            from: self.sender,
+            serial: Serial {
+                prev: self.prev,
+                this: self.count,
+            },
+            value: 0,
         }
     }
-    inventions.sort_by_key(|invention| (invention.sender, invention.count))?;
-    Ok(inventions)
 }
 
 /// The prev of an invented send before an event: what stands before leaves, so that it costs
@@ -118,22 +121,26 @@ fn give_prevs(streams: &Streams, hidden: &[HiddenSend], fed: &[Ask], inventions:
     }
 }
 
-/// Gives the invented messages that these stamps got their prevs. Returns the numbers of these
-/// stamps by sender and count of their messages.
-pub(crate) fn invent(
-    alloc: Global,
-    streams: &Streams,
-    hidden: &[HiddenSend],
-    fed: &mut [Ask],
-) -> Result<Vec<u32>, AllocError> {
-    let mut inventions = inventions_of(alloc, fed)?;
-    give_prevs(streams, hidden, fed, &mut inventions);
-    let mut numbers = Vec::with_capacity(alloc, inventions.len())?;
-    for invention in &inventions {
+/// Tells the stamps that get invented messages the prevs of these. They know of prev 0.
+fn note_prevs(fed: &mut [Ask], inventions: &[Invention]) {
+    for invention in inventions.iter().filter(|invention| invention.prev != 0) {
         if let Some(ask) = fed.get_mut(invention.ask as usize) {
             ask.message = Message::Invented(invention.sender, invention.prev);
         }
-        numbers.push(invention.ask)?;
     }
-    Ok(numbers)
+}
+
+/// Gives the invented messages that these stamps got their prevs. Their sends, which come by count,
+/// then are by sender and count.
+pub(crate) fn invent(
+    streams: &Streams,
+    hidden: &[HiddenSend],
+    fed: &mut [Ask],
+    inventions: &mut Vec<Invention>,
+) -> Result<(), AllocError> {
+    // Those of one sender stay as they come.
+    inventions.sort_by_key(|invention| invention.sender)?;
+    give_prevs(streams, hidden, fed, inventions);
+    note_prevs(fed, inventions);
+    Ok(())
 }

@@ -7,6 +7,7 @@
 use crate::asks::{Ask, Message};
 use crate::candidate::items_from;
 use crate::hidden::HiddenSend;
+use crate::inventions::Invention;
 use crate::links::short;
 use crate::unlisted::UnlistedPids;
 use st_core::{Event, Pid, Streams};
@@ -127,45 +128,68 @@ impl Senders<'_> {
     }
 }
 
-/// A need without a message, and when its turn comes: by its count, then by its process and index.
-#[derive(Clone, Copy, Debug, PartialEq, Eq, PartialOrd, Ord)]
+/// A need without a message.
+#[derive(Clone, Copy, Debug)]
 struct Turn {
     count: u64,
-    process: Pid,
-    index: u32,
-    /// Its number among all needs.
-    need: u32,
+    /// Its number among the stamps that get messages.
+    ask: u32,
 }
 
-/// The turns of the needs that are left, in the order of the needs.
-fn turns_of(alloc: Global, needs: &[Ask]) -> Result<Vec<Turn>, AllocError> {
+/// The needs that are left among these stamps, by count, and those of one count as they stand.
+fn turns_of(alloc: Global, fed: &[Ask]) -> Result<Vec<Turn>, AllocError> {
     let mut turns = Vec::new(alloc);
-    for (number, need) in needs.iter().enumerate() {
-        if need.message == Message::Missing {
+    for (number, ask) in fed.iter().enumerate() {
+        if ask.message == Message::Missing {
             turns.push(Turn {
-                count: need.count,
-                process: need.process,
-                index: need.index,
-                need: short(number),
+                count: ask.count,
+                ask: short(number),
             })?;
         }
     }
+    turns.sort_by_key(|turn| turn.count)?;
     Ok(turns)
 }
 
-/// Gives each need that is left a sender. Returns the unlisted processes among these, by rising
-/// pid: as few as needs of one count are left over.
+/// Gives each stamp whose turn comes a sender, and returns the sends, with prev 0, as the turns come.
+fn take_turns(
+    alloc: Global,
+    senders: &mut Senders<'_>,
+    turns: &[Turn],
+    fed: &mut [Ask],
+) -> Result<Vec<Invention>, AllocError> {
+    let mut inventions = Vec::with_capacity(alloc, turns.len())?;
+    for turn in turns {
+        let (Some(ask), Some(sender)) = (fed.get_mut(turn.ask as usize), senders.next(turn.count)?)
+        else {
+            continue;
+        };
+        ask.message = Message::Invented(sender, 0);
+        inventions.push(Invention {
+            count: turn.count,
+            prev: 0,
+            sender,
+            to: ask.process,
+            label: ask.label,
+            ask: turn.ask,
+        })?;
+    }
+    Ok(inventions)
+}
+
+/// Gives each need that is left among the stamps that get messages, which come by process and index,
+/// a sender. Returns the sends, with prev 0, by count, and the unlisted processes among the senders,
+/// by rising pid: as few as needs of one count are left over.
 pub(crate) fn give_senders(
     alloc: Global,
     streams: &Streams,
     hidden: &[HiddenSend],
-    needs: &mut [Ask],
-) -> Result<Vec<Pid>, AllocError> {
-    let mut turns = turns_of(alloc, needs)?;
+    fed: &mut [Ask],
+) -> Result<(Vec<Invention>, Vec<Pid>), AllocError> {
+    let turns = turns_of(alloc, fed)?;
     if turns.is_empty() {
-        return Ok(Vec::new(alloc));
+        return Ok((Vec::new(alloc), Vec::new(alloc)));
     }
-    turns.sort()?;
     let mut senders = Senders {
         streams,
         stamps: all_stamps(alloc, streams, hidden)?,
@@ -175,12 +199,6 @@ pub(crate) fn give_senders(
         others: 0,
         unlisted: UnlistedPids::new(alloc, streams),
     };
-    for turn in &turns {
-        if let Some(need) = needs.get_mut(turn.need as usize) {
-            if let Some(sender) = senders.next(turn.count)? {
-                need.message = Message::Invented(sender, 0);
-            }
-        }
-    }
-    senders.into_unlisted()
+    let inventions = take_turns(alloc, &mut senders, &turns, fed)?;
+    Ok((inventions, senders.into_unlisted()?))
 }

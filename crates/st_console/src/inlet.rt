@@ -3,9 +3,9 @@
 use std::alloc::Global;
 use std::io::{Error, Read, Result};
 
-/// The most bytes that are kept: as many as `seqaudit` reads. A longer text's fault is told by its
-/// line alone.
-const KEPT: usize = 67_108_864;
+/// The most bytes that are kept: a text of some 300,000 events. In a longer one a fault is told by
+/// its line's number alone, so that the copy never takes much beside the streams.
+const KEPT: usize = 16_777_216;
 
 /// A reader over another. It keeps what it read, up to `KEPT` bytes and if there is memory, and why
 /// the other reader failed.

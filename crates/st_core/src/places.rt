@@ -9,15 +9,17 @@ ghost use Rattle.std.specs.List.{AllByRecursion};
 ghost use Rattle.st_core.specs.Pid.{pid_eq, IsRising};
 
 use crate::types::Pid;
+use std::alloc::Global;
 
 /// How many guesses there are. As many pids whose numbers follow one another don't meet; it is
 /// twice the most processes of a text.
 pub(crate) const SLOTS: usize = 2_048;
 
-/// For each slot, where the last pid of that slot stands.
+/// For each slot, where the last pid of that slot stands. The table is on the heap, so that whoever
+/// hands streams on copies no guesses; without memory for it there are none, and each pid is searched.
 #[derive(Debug, Drop)]
 pub(crate) struct Places {
-    guesses: [u16; SLOTS],
+    guesses: Vec<u16>,
 }
 
 /// How far apart the slots of equal numbers on neighbouring nodes lie, so that these don't meet: a
@@ -33,17 +35,37 @@ fn slot_of(pid: Pid) -> usize
 }
 
 impl Places {
-    /// No guess but the first place.
-    pub(crate) fn new() -> Places {
+    /// No guesses. Takes no memory.
+    pub(crate) fn new(alloc: Global) -> Places {
         Places {
-            guesses: [0; SLOTS],
+            guesses: Vec::new(alloc),
+        }
+    }
+
+    /// Makes the table, with the first place for each guess, if there is memory.
+    fn fill(&mut self) {
+        let alloc = *self.guesses.allocator();
+        if let Ok(guesses) = vec![in alloc; 0u16; SLOTS] {
+            self.guesses = guesses;
         }
     }
 
     /// Guesses from now on that the pid stands at this place. One past what a guess can hold is
     /// found by the search.
     pub(crate) fn expect(&mut self, pid: Pid, place: usize) {
-        self.guesses[slot_of(pid)] = place.min(usize::from(u16::MAX)) as u16;
+        if self.guesses.is_empty() {
+            self.fill();
+        }
+        if let Some(guess) = self.guesses.get_mut(slot_of(pid)) {
+            *guess = place.min(usize::from(u16::MAX)) as u16;
+        }
+    }
+
+    /// The guess at where the pid stands; none if there is no table.
+    #[inline]
+    fn guess(&self, pid: Pid) -> Option<usize> {
+        let guess = self.guesses.get(slot_of(pid))?;
+        Some(usize::from(*guess))
     }
 
     /// Where the pid stands among pids that rise.
@@ -53,10 +75,11 @@ impl Places {
         ensures found { IfSome result (λ i. slice_get pids.now i ≡ Some pid) }
         ensures missing { IfNone result (AllByRecursion (λ p. pid_eq p pid ≡ false) pids.now) }
     {
-        let guess = usize::from(self.guesses[slot_of(pid)]);
-        if let Some(found) = pids.get(guess) {
-            if *found == pid {
-                return Some(guess);
+        if let Some(guess) = self.guess(pid) {
+            if let Some(found) = pids.get(guess) {
+                if *found == pid {
+                    return Some(guess);
+                }
             }
         }
         pids.binary_search(&pid).ok()

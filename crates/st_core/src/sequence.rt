@@ -2,7 +2,7 @@
 
 ghost use Rattle.std.specs.Prelude.{◌≡◌, [], ◌∷◌, ◌++◌, length, IfErr, OnErr, OnOk, IsTrue, ◌↔◌};
 
-use std::alloc::{AllocFailed, Global};
+use std::alloc::{AllocError, AllocFailed, Global};
 use std::marker::Model;
 
 /// A growing list, which contracts see as its items alone: a `Vec` also shows where it lies and how
@@ -52,6 +52,14 @@ impl<T> Sequence<T> {
         ensures returned { IfErr result (λ failed. failed.value ≡ item) }
     {
         self.items.push(item)
+    }
+
+    /// Makes room for so many more items, so that they are put at the end without copying what is
+    /// there. Fails only if memory runs out.
+    pub fn reserve(&mut self, more: usize) -> Result<(), AllocError>
+        ensures { self.new ≡ self.old }
+    {
+        self.items.reserve(more)
     }
 
     /// The number of items.

@@ -77,7 +77,7 @@ impl Draft {
             pids: Vec::new(alloc),
             events: Vec::new(alloc),
             total: 0,
-            places: Places::new(),
+            places: Places::new(alloc),
         }
     }
 
@@ -101,6 +101,17 @@ impl Draft {
         self.places.expect(pid, self.pids.len());
         self.pids.push(pid).unwrap();
         Ok(())
+    }
+
+    /// Makes room for so many more events of a process, so that adding them copies nothing. It does
+    /// nothing if the process isn't listed, and fails only if memory runs out.
+    pub fn reserve(&mut self, pid: Pid, more: usize) -> Result<(), AllocError>
+        ensures { self.new ≡ self.old }
+    {
+        match self.places.place_of(&self.pids, pid) {
+            None => Ok(()),
+            Some(place) => reserve_at(&mut self.events, place, more),
+        }
     }
 
     /// Adds an event at the end of a process's stream.
@@ -280,6 +291,15 @@ fn comes_last(pids: &[Pid], pid: Pid) -> bool
         None => true,
         Some(last) => last.cmp(&pid).is_lt(),
     }
+}
+
+/// Makes room for so many more events at the end of the list at this place.
+fn reserve_at(events: &mut [Sequence<Event>], place: usize, more: usize) -> Result<(), AllocError>
+    requires { place < length events.old }
+    ensures { events.new ≡ events.old }
+{
+    let list = &mut events[place];
+    list.reserve(more)
 }
 
 /// Puts the event at the end of the list at this place.

@@ -31,6 +31,8 @@ fn event(kind: Kind, from: Pid, to: Option<Pid>) -> Event {
 fn a_sequence_keeps_many_items_in_order(rt: HostRuntime) -> Result<(), Fail> {
     let mut numbers = Sequence::new(rt.alloc());
     assert!(rt; numbers.is_empty());
+    numbers.reserve(MANY as usize)?;
+    assert!(rt; numbers.is_empty());
     for n in 0..MANY {
         numbers.push(n)?;
     }
@@ -104,6 +106,8 @@ fn streams_hold_many_processes_and_events(rt: HostRuntime) -> Result<(), Fail> {
     for number in 0..5_000 {
         draft.open(Pid::new(number))?;
     }
+    draft.reserve(p31(), MANY as usize)?;
+    draft.reserve(Pid::on(1, 30), MANY as usize)?;
     for _ in 0..MANY {
         draft.add(p31(), event(Kind::Print, p31(), None))?;
     }
