@@ -1,0 +1,287 @@
+"""The checks of one page: each yields what the sources don't bear out."""
+import re
+from collections import namedtuple
+
+from pages import sources
+from pages.sources import CRATES, DECLARED, NAME, TOP, WORDS, files
+
+Page = namedtuple("Page", "path text")
+BLOCK = r"^```.*?^```|^(?:    [^\n]*\n)+"
+NUMBER = r"\d{1,3}(?:,\d{3})+|\d+"
+
+
+def value(number):
+    return int(number.replace(",", ""))
+
+
+def prose(text):
+    """The text without its blocks of code."""
+    return re.sub(BLOCK, "", text, flags=re.M | re.S)
+
+
+def spans(text):
+    """What stands in backticks."""
+    return [it.replace("\\|", "|") for it in re.findall(r"`([^`\n]+)`", text)]
+
+
+def lines_of_code(text):
+    blocks = "\n".join(re.findall(BLOCK, text, re.M | re.S))
+    return [line.strip() for line in blocks.split("\n")]
+
+
+def sentences(text):
+    """The sentences of a page, and the cells of its tables."""
+    return [it for it in re.split(r"\n|(?<=[.:;])\s|(?<!\\)\|", prose(text)) if it.strip()]
+
+
+# ---- names
+
+
+def wrong_names(page):
+    for said in spans(re.sub(BLOCK, "", page.text, flags=re.M | re.S)):
+        if not re.fullmatch(rf"{NAME}(::{NAME})*", said):
+            continue
+        first, *rest = said.split("::")
+        known = DECLARED.get(first) or sources.members().get(first) if rest else None
+        bad = [it for it in rest if it not in known] if known else [it for it in [first, *rest] if it not in WORDS and it not in CRATES]
+        if len(rest) == 2 and not bad and rest[0] in sources.members():
+            bad = [it for it in rest[1:] if it not in sources.members()[rest[0]]]
+        if bad:
+            yield f"`{said}`: there is no {bad[0]}"
+
+
+def anchors(text):
+    """What a link may name behind # in this page: its headings, as they are shown on the web."""
+    return {re.sub(r"[^\w\- ]", "", it.lower()).replace(" ", "-") for it in re.findall(r"^#+ (.*)$", text, re.M)}
+
+
+def wrong_links(page):
+    for target, anchor in re.findall(r"\]\(([^)#\s]*)(?:#([^)\s]*))?[^)]*\)", page.text):
+        if re.match(r"[a-z]+:", target):
+            continue
+        to = page.path.parent / target if target else page.path
+        if not to.exists() or anchor and anchor not in anchors(to.read_text() if target else page.text):
+            yield f"the link to {target}{'#' * bool(anchor)}{anchor} leads nowhere"
+
+
+def crates_named_before(text, place):
+    """The crates that a list of files is of: `st_text`: `specs/Range.antt`, ..; here the last ones before this place."""
+    heads = list(re.finditer(r"((?:`st_\w+`(?:, | and )?)+): ", text[:place]))
+    return re.findall(r"st_\w+", heads[-1][1]) if heads else []
+
+
+def wrong_files(page):
+    for said in spans(page.text):
+        if re.fullmatch(r"(?:docs|crates|bench|examples|erlang|tests|rust|man|completions|\.ci)/[\w./-]*\w/?", said):
+            if not (TOP / said).exists() and "NAME" not in said and "ebin" not in said:
+                yield f"there is no {said}"
+        elif re.fullmatch(r"[\w-]+\.(?:antt|rt|erl|py|md|edit)", said) and not files(f"**/{said}"):
+            yield f"there is no file {said}"
+        elif named := re.fullmatch(r"NAME\.(?:\w+\.)*([a-z]\w*)", said):
+            if not re.search(rf"\b{named[1]}\b", sources.ERLANG):
+                yield f"`{said}`: nothing in erlang/ writes such a file"
+    own = [page.path.parent.name] if page.path.parent.parent.name == "crates" else []
+    for line in page.text.split("\n"):
+        for found in re.finditer(r"`((?:src|specs|proofs|must-fail|wrong-bodies)/[\w/-]+\.\w+)`(?: of `(st_\w+)`)?", line):
+            of = [found[2]] if found[2] else crates_named_before(line, found.start()) or own or ["*"]
+            for crate in of:
+                if "MODULE" not in found[1] and not files(f"crates/{crate}/{found[1]}"):
+                    yield f"there is no {found[1]} in {'any crate' if crate == '*' else crate}"
+
+
+# ---- commands
+
+
+def command_lines(text):
+    """The words of each command line in a page, in backticks or in a block of code; the parts of a pipe one by one."""
+    for line in [*spans(prose(text)), *lines_of_code(text)]:
+        line = re.sub(r"\s{2,}# .*$|^\$ |^\(\w+@\w+\)\d+> ", "", line)
+        for part in re.split(r"\||&&|;", line):
+            words = re.findall(r"(?:'[^']*'|\"[^\"]*\"|\\.|[^\s'\"\\])+", part)
+            while words and re.match(r"\w+=", words[0]):
+                words = words[1:]
+            if words:
+                yield line, words
+
+
+def wrong_words(program, words):
+    """What a program doesn't know of the words behind its name."""
+    known = sources.options()[program]
+    given = [it.split("=")[0] for it in words if re.match(r"-[-\w]", it)]
+    command = next((it for it in words if not it.startswith("-")), None)
+    if not command or not re.fullmatch(r"[a-z-]+", command):
+        allowed = {"--help", "-h", "--version", "-V"} | (set().union(*known.values()) if command else set())
+        return [it for it in given if it not in allowed]
+    if command not in known:
+        return [command]
+    return [it for it in given if it not in known[command] and not re.match(r"-\d", it)]
+
+
+def wrong_makes(words):
+    """What there is no target and no variable of, in the words behind `make`."""
+    makefile = f"{words[words.index('-C') + 1]}/Makefile" if "-C" in words else "Makefile"
+    goals, variables = sources.targets(makefile)
+    left = [it for it in words if it not in ("-C", makefile.split("/")[0])]
+    return [it for it in left if re.fullmatch(r"[a-z][a-z-]*", it) and it not in goals
+            or re.match(r"[A-Z]+=", it) and it.split("=")[0] not in variables]
+
+
+def wrong_commands(page):
+    for line, words in command_lines(page.text):
+        program = words[0].split("/")[-1]
+        if program in sources.options() and not re.fullmatch(r"seqaudit \w+ 1", line):
+            bad = wrong_words(program, words[1:])
+        elif program == "make":
+            bad = wrong_makes(words[1:])
+        elif re.match(r"(?:\.ci|bench|examples|erlang|tests|rust)/", words[0]) and (TOP / words[0]).is_file():
+            text = sources.read(words[0])
+            bad = [it for it in words[1:] if re.match(r"--\w", it) and it.split("=")[0] not in text]
+        else:
+            bad = []
+        for it in bad:
+            yield f"`{line}`: {program} has no {it}"
+
+
+def wrong_options(page):
+    """Options that stand alone, without the name of a program."""
+    ours = set().union(*(it for commands in sources.options().values() for it in commands.values())) | {"--version"}
+    scripts = "\n".join(text for path, text in sources.SOURCE.items() if path.suffix in ("", ".py"))
+    for said in spans(prose(page.text)):
+        option = re.match(r"--\w[\w-]*", said)
+        if option and option[0] not in ours and option[0] not in scripts:
+            yield f"`{said}`: no program has the option {option[0]}"
+
+
+# ---- numbers
+
+
+MEASURED = r"(?i)^#+ .*(?:measured|speed|takes$|truth|a million events|was tried|said of causes|standard node differs)"
+
+
+def claims(page):
+    """The sentences of a page that don't say what was measured or tried: by their words, their heading or the page's."""
+    if re.match(MEASURED, page.text, re.M):
+        return
+    measured = False
+    for said in re.split(r"\n|(?<=\.)\s", prose(page.text)):
+        if said.startswith("#"):
+            measured = bool(re.match(MEASURED, said))
+        row = said.startswith("|") and page.path.parent.parent.name == "crates"
+        if not (measured or row or re.search(r"(?i)\b(?:took|measured|tested|tried|some|counted)\b", said)):
+            yield said
+
+
+def wrong_numbers(page):
+    """Numbers that no source has."""
+    for said in claims(page):
+        for number in re.findall(rf"(?<![\w.,<{{/-])(?:{NUMBER})(?![\w}}>/]|[.,]\d)", said):
+            if value(number) >= 1000 and not {value(number), value(number) - 1} & sources.numbers():
+                yield f"{number}: no source has this number"
+        for number, unit in re.findall(r"(\d+) ([MG]iB)", said):
+            if int(number) << (20 if unit == "MiB" else 30) not in sources.numbers():
+                yield f"{number} {unit}: no source has this number of bytes"
+
+
+def wrong_limits(page):
+    """Numbers of what the reader takes, and they aren't what it takes."""
+    units = "|".join(sources.limits())
+    for said in sentences(page.text):
+        if not re.search(r"\b(?:reader|seqaudit|seqtool|trace|bundle)\b.*\b(?:takes?|may have|reads?|limits?|up to)\b|\bthose of `seqtool`", said):
+            continue
+        for number, unit in re.findall(rf"\b({NUMBER}) ({units})\b", said):
+            if value(number) >= 1000 and not {value(number), value(number) - 1} & sources.limits()[unit]:
+                yield f"{number} {unit}: the reader's limits are {', '.join(f'{it:,}' for it in sorted(sources.limits()[unit]))}"
+
+
+COUNTED = dict(zip("two three four five six seven eight nine ten eleven twelve".split(), range(2, 13)))
+
+
+def wrong_numerals(page):
+    """How many reasons there are, of `unfit` or of `never` or of both, and how many wants."""
+    unfit, never = sources.reasons()["unfit"], sources.reasons()["never"]
+    right = {"reasons": {len(it) for it in (unfit, never, unfit & never, never - unfit, unfit - never)}, "wants": {len(sources.variants("Want"))}}
+    for numeral, noun in re.findall(rf"\b({'|'.join(COUNTED)}) (?:final |first )?(reasons|wants)\b", page.text.lower()):
+        if COUNTED[numeral] not in right[noun] and page.path.parent.parent.name != "crates":
+            yield f"there aren't {numeral} {noun}"
+
+
+# ---- outputs
+
+
+def fixed(said):
+    """The words of an output, without what differs from one to the next."""
+    return re.sub(r"(?: (?:[A-Z]+|\d+|<[\d.]+>|\.\.))+$", "", said)
+
+
+def wrong_outputs(page):
+    """Outputs of the programs that they never write."""
+    known = sources.outputs()
+    for said in spans(prose(page.text)):
+        words = next((it for it in known if said == it or fixed(said) == it or fixed(said).startswith(f"{it} ")), None)
+        rest = fixed(said)[len(words or ""):].strip()
+        if re.match(r"fault |no |usage: ", said) and (words is None or rest and f'codes "{rest}' not in sources.ALL_SPECS):
+            if said not in sources.ERLANG:
+                yield f"`{said}`: no program writes that"
+        reason = re.match(r"(unfit|never) (?:PID|<[\d.]+>) (?:I|\d+) (\w+)", said)
+        if reason and reason[2] != "WORD" and reason[2] not in sources.reasons()[reason[1]]:
+            yield f"`{said}`: {reason[1]} has no {reason[2]}"
+
+
+def wrong_statuses(page):
+    known = sources.outputs()
+    for said, status in re.findall(r"`((?:fault|no|usage:|never|long)[^`]*)`, (?:status )?(\d)", page.text):
+        if known.get(fixed(said), int(status)) != int(status):
+            yield f"`{said}` has the status {known[fixed(said)]}, not {status}"
+    for status in re.findall(r"usage line with status (\d)|`usage` with status (\d)", page.text):
+        if known["usage: seqaudit check|audit|replay|drive|chart --label N"] != int("".join(status)):
+            yield f"the usage line has another status than {''.join(status)}"
+    for header, rows in tables(page.text):
+        if header[-1] == "Status":
+            for cells in rows:
+                for said in spans(cells[0] if len(cells) == 2 else cells[1]):
+                    if known.get(fixed(said), int(cells[-1])) != int(cells[-1]):
+                        yield f"`{said}` has the status {known[fixed(said)]}, not {cells[-1]}"
+
+
+def tables(text):
+    """The tables of a page: the cells of the head, and of each row."""
+    for block in re.findall(r"(?:^\|[^\n]*\|\n)+", text, re.M):
+        rows = [[cell.strip() for cell in re.split(r"(?<!\\)\|", line.strip().strip("|"))] for line in block.strip().split("\n")]
+        yield rows[0], rows[2:]
+
+
+def wrong_reasons(page):
+    """Tables whose first column is headed by `Word` have the words of `unfit`, or those that `never` has beyond them."""
+    unfit, never = sources.reasons()["unfit"], sources.reasons()["never"]
+    for header, rows in tables(page.text):
+        if header[0] == "Word":
+            words = {span.split(" ")[0] for cells in rows for span in spans(cells[0])}
+            for it in sorted(words ^ (unfit if words & (unfit - never) else never - unfit)):
+                yield f"the table of words: {it} is {'no reason' if it in words else 'missing'}"
+    for said in spans(page.text):
+        ending = re.search(r"^doesn't fit: .*\((\w+)\)$|^not explained: .*\((\w+)\)$", said)
+        if ending and (ending[1] or ending[2]) not in unfit | never:
+            yield f"`{said}`: there is no reason {ending[1] or ending[2]}"
+
+
+# ---- the text form
+
+
+def wrong_terms(page):
+    """Lines of the text form that it doesn't have."""
+    for said in [*spans(prose(page.text)), *lines_of_code(page.text)]:
+        for event in re.findall(r"(?:^|\s)(\{seq_trace,[^ ]*\}\})", said):
+            if not any(re.fullmatch(it, event) for it in sources.templates()):
+                yield f"{event}: the text form has no such event"
+    for header, rows in tables(page.text):
+        if header == ["Act", "Line"]:
+            for said in (it for cells in rows for it in spans(cells[1])):
+                if not any(re.fullmatch(it, said) for it in sources.templates()):
+                    yield f"`{said}`: the text form has no such act"
+        if header[0] in ("Object", "Field"):
+            for said in (it for cells in rows for it in spans(cells[0] if header[0] == "Field" else re.sub(r"\([^)]*\)", "", cells[1]))):
+                if said not in sources.fields() | {"null"}:
+                    yield f"`{said}`: no object has such a field"
+
+
+CHECKS = [it for name, it in list(globals().items()) if name.startswith("wrong_") and name not in ("wrong_words", "wrong_makes")]
