@@ -185,10 +185,14 @@ def wrong_numbers(page):
 def wrong_limits(page):
     """Numbers of what the reader takes, and they aren't what it takes."""
     units = "|".join(sources.limits())
+    for header, rows in tables(page.text):
+        for unit, *cells in rows if header[0] == "Limit" else []:
+            if {value(it) for it in cells} != sources.limits().get(unit):
+                yield f"the table of limits: those of {unit} aren't {' and '.join(cells)}"
     for said in sentences(page.text):
         if not re.search(r"\b(?:reader|seqaudit|seqtool|trace|bundle)\b.*\b(?:takes?|may have|reads?|limits?|up to)\b|\bthose of `seqtool`", said):
             continue
-        for number, unit in re.findall(rf"\b({NUMBER}) ({units})\b", said):
+        for number, unit in re.findall(rf"\b({NUMBER}) ({units})\b(?! at a time)", said):
             if value(number) >= 1000 and not {value(number), value(number) - 1} & sources.limits()[unit]:
                 yield f"{number} {unit}: the reader's limits are {', '.join(f'{it:,}' for it in sorted(sources.limits()[unit]))}"
 

@@ -1,5 +1,6 @@
 """The checks of all pages together: what a page has to say because a source has it."""
 import re
+from functools import cache
 
 from pages import sources
 from pages.checks import lines_of_code, spans, tables
@@ -13,7 +14,7 @@ def missing_outputs(pages):
     for it in sources.outputs():
         if it.replace("|", "\\|") not in said:
             yield f"{FORMATS}: the output `{it}` is missing"
-    lines = [*spans(said), *lines_of_code(said)]
+    lines = [*(it for it in spans(said) if "<" not in it), *lines_of_code(said)]
     for it in sources.templates():
         if not any(re.fullmatch(it, line) for line in lines):
             yield f"{FORMATS}: a line of the text form is missing, {re.sub(r'[(][?]:[^)]*[)]', '..', it)}"
@@ -26,22 +27,24 @@ def missing_fields(pages):
         yield f"{FORMATS}: the field {it} is missing"
 
 
+@cache
 def sections(text):
     """The parts of a page from heading to heading."""
     return re.split(r"^(?=#+ )", text, flags=re.M)
 
 
 def missing_options(pages):
-    """Each command and each of its options is said in a section that names both; those of `seqaudit-node`, which share
-    most options, on any of its pages."""
-    parts = [it for name, page in pages.items() if not name.startswith("crates/") for it in sections(page.text.replace("\\-", "-"))]
+    """Each command and each of its options is said in a section that names both; those of `seqaudit-node`, whose
+    commands share most options, on any of its pages."""
+    guide = "\n".join(page.text for name, page in pages.items() if name.startswith("docs/ERLANG"))
+    parts = [it for name, page in pages.items() if name.startswith(("README", "docs/")) for it in sections(page.text)]
     for program, commands in sources.options().items():
         for command, known in commands.items():
             named = rf"{program} {command}\b" if program == "seqaudit-node" else rf"`{command}\b|{program} {command}\b"
             about = "\n".join(it for it in parts if program in it and re.search(named, it))
             if not about:
                 yield f"no page says the command {program} {command}"
-            told = "\n".join(it for it in parts if "seqaudit-node" in it) if program == "seqaudit-node" else about
+            told = guide if program == "seqaudit-node" else about
             for it in sorted(known - {"--help", "-h"}):
                 if not re.search(rf"(?<![\w-]){re.escape(it)}\b", told):
                     yield f"no page says the option {it} of {program} {command}"
