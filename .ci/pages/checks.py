@@ -1,9 +1,10 @@
 """The checks of one page: each yields what the sources don't bear out."""
 import re
 from collections import namedtuple
+from functools import cache
 
 from pages import sources
-from pages.sources import CRATES, DECLARED, NAME, TOP, WORDS, files
+from pages.sources import DECLARED, NAME, TOP, WORDS, files
 
 Page = namedtuple("Page", "path text")
 BLOCK = r"^```.*?^```|^(?:    [^\n]*\n)+"
@@ -12,6 +13,10 @@ NUMBER = r"\d{1,3}(?:,\d{3})+|\d+"
 
 def value(number):
     return int(number.replace(",", ""))
+
+
+def is_of_crate(page):
+    return page.path.parent.parent.name == "crates"
 
 
 def prose(text):
@@ -43,7 +48,7 @@ def wrong_names(page):
             continue
         first, *rest = said.split("::")
         known = DECLARED.get(first) or sources.members().get(first) if rest else None
-        bad = [it for it in rest if it not in known] if known else [it for it in [first, *rest] if it not in WORDS and it not in CRATES]
+        bad = [it for it in rest if it not in known] if known else [it for it in [first, *rest] if it not in WORDS]
         if len(rest) == 2 and not bad and rest[0] in sources.members():
             bad = [it for it in rest[1:] if it not in sources.members()[rest[0]]]
         if bad:
@@ -64,10 +69,30 @@ def wrong_links(page):
             yield f"the link to {target}{'#' * bool(anchor)}{anchor} leads nowhere"
 
 
+@cache
+def is_there(pattern):
+    return bool(files(pattern))
+
+
 def crates_named_before(text, place):
-    """The crates that a list of files is of: `st_text`: `specs/Range.antt`, ..; here the last ones before this place."""
+    """The crates that a list of files is of, as `st_text`: `specs/Range.antt`, ..; the last ones before this place."""
     heads = list(re.finditer(r"((?:`st_\w+`(?:, | and )?)+): ", text[:place]))
     return re.findall(r"st_\w+", heads[-1][1]) if heads else []
+
+
+# A file of a crate, and the crate if it is named behind it.
+OF_CRATE = r"`((?:src|specs|proofs|must-fail|wrong-bodies)/[\w/-]+\.\w+)`(?: of `(st_\w+)`)?"
+
+
+def wrong_parts(page):
+    """Files of crates that aren't there: of the crate that is named with them, else of the page's own."""
+    own = [page.path.parent.name] if is_of_crate(page) else []
+    for line in page.text.split("\n"):
+        for found in re.finditer(OF_CRATE, line):
+            crates = [found[2]] if found[2] else crates_named_before(line, found.start()) or own or ["*"]
+            for crate in crates:
+                if "MODULE" not in found[1] and not is_there(f"crates/{crate}/{found[1]}"):
+                    yield f"there is no {found[1]} in {'any crate' if crate == '*' else crate}"
 
 
 def wrong_files(page):
@@ -75,18 +100,11 @@ def wrong_files(page):
         if re.fullmatch(r"(?:docs|crates|bench|examples|erlang|tests|rust|man|completions|\.ci)/[\w./-]*\w/?", said):
             if not (TOP / said).exists() and "NAME" not in said and "ebin" not in said:
                 yield f"there is no {said}"
-        elif re.fullmatch(r"[\w-]+\.(?:antt|rt|erl|py|md|edit)", said) and not files(f"**/{said}"):
+        elif re.fullmatch(r"[\w-]+\.(?:antt|rt|erl|py|md|edit)", said) and not is_there(f"**/{said}"):
             yield f"there is no file {said}"
         elif named := re.fullmatch(r"NAME\.(?:\w+\.)*([a-z]\w*)", said):
             if not re.search(rf"\b{named[1]}\b", sources.ERLANG):
                 yield f"`{said}`: nothing in erlang/ writes such a file"
-    own = [page.path.parent.name] if page.path.parent.parent.name == "crates" else []
-    for line in page.text.split("\n"):
-        for found in re.finditer(r"`((?:src|specs|proofs|must-fail|wrong-bodies)/[\w/-]+\.\w+)`(?: of `(st_\w+)`)?", line):
-            of = [found[2]] if found[2] else crates_named_before(line, found.start()) or own or ["*"]
-            for crate in of:
-                if "MODULE" not in found[1] and not files(f"crates/{crate}/{found[1]}"):
-                    yield f"there is no {found[1]} in {'any crate' if crate == '*' else crate}"
 
 
 # ---- commands
@@ -159,14 +177,14 @@ MEASURED = r"(?i)^#+ .*(?:measured|speed|takes$|truth|a million events|was tried
 
 
 def claims(page):
-    """The sentences of a page that don't say what was measured or tried: by their words, their heading or the page's."""
+    """The sentences of a page, but for those that say what was measured or tried: their words or a heading show it."""
     if re.match(MEASURED, page.text, re.M):
         return
     measured = False
     for said in re.split(r"\n|(?<=\.)\s", prose(page.text)):
         if said.startswith("#"):
             measured = bool(re.match(MEASURED, said))
-        row = said.startswith("|") and page.path.parent.parent.name == "crates"
+        row = said.startswith("|") and is_of_crate(page)
         if not (measured or row or re.search(r"(?i)\b(?:took|measured|tested|tried|some|counted)\b", said)):
             yield said
 
@@ -182,6 +200,10 @@ def wrong_numbers(page):
                 yield f"{number} {unit}: no source has this number of bytes"
 
 
+# What a sentence has that says how much a program takes.
+OF_LIMITS = r"\b(?:reader|seqaudit|seqtool|trace|bundle)\b.*\b(?:takes?|may have|reads?|limits?|up to)\b"
+
+
 def wrong_limits(page):
     """Numbers of what the reader takes, and they aren't what it takes."""
     units = "|".join(sources.limits())
@@ -190,11 +212,11 @@ def wrong_limits(page):
             if {value(it) for it in cells} != sources.limits().get(unit):
                 yield f"the table of limits: those of {unit} aren't {' and '.join(cells)}"
     for said in sentences(page.text):
-        if not re.search(r"\b(?:reader|seqaudit|seqtool|trace|bundle)\b.*\b(?:takes?|may have|reads?|limits?|up to)\b|\bthose of `seqtool`", said):
+        if not re.search(OF_LIMITS, said):
             continue
         for number, unit in re.findall(rf"\b({NUMBER}) ({units})\b(?! at a time)", said):
             if value(number) >= 1000 and not {value(number), value(number) - 1} & sources.limits()[unit]:
-                yield f"{number} {unit}: the reader's limits are {', '.join(f'{it:,}' for it in sorted(sources.limits()[unit]))}"
+                yield f"{number} {unit}: the readers' limits are {sorted(sources.limits()[unit])}"
 
 
 COUNTED = dict(zip("two three four five six seven eight nine ten eleven twelve".split(), range(2, 13)))
@@ -203,9 +225,10 @@ COUNTED = dict(zip("two three four five six seven eight nine ten eleven twelve".
 def wrong_numerals(page):
     """How many reasons there are, of `unfit` or of `never` or of both, and how many wants."""
     unfit, never = sources.reasons()["unfit"], sources.reasons()["never"]
-    right = {"reasons": {len(it) for it in (unfit, never, unfit & never, never - unfit, unfit - never)}, "wants": {len(sources.variants("Want"))}}
+    right = {"reasons": {len(it) for it in (unfit, never, unfit & never, never - unfit, unfit - never)},
+             "wants": {len(sources.variants("Want"))}}
     for numeral, noun in re.findall(rf"\b({'|'.join(COUNTED)}) (?:final |first )?(reasons|wants)\b", page.text.lower()):
-        if COUNTED[numeral] not in right[noun] and page.path.parent.parent.name != "crates":
+        if COUNTED[numeral] not in right[noun] and not is_of_crate(page):
             yield f"there aren't {numeral} {noun}"
 
 
@@ -217,15 +240,20 @@ def fixed(said):
     return re.sub(r"(?: (?:[A-Z]+|\d+|<[\d.]+>|\.\.))+$", "", said)
 
 
+def is_output(said, known):
+    """Whether these words begin one of the known outputs; `no event on line N` has more words of its own."""
+    words = fixed(said)
+    first = next((it for it in known if said == it or words == it or words.startswith(f"{it} ")), None)
+    rest = words[len(first or ""):].strip()
+    return first is not None and (not rest or f'codes "{rest}' in sources.ALL_SPECS)
+
+
 def wrong_outputs(page):
     """Outputs of the programs that they never write."""
     known = sources.outputs()
     for said in spans(prose(page.text)):
-        words = next((it for it in known if said == it or fixed(said) == it or fixed(said).startswith(f"{it} ")), None)
-        rest = fixed(said)[len(words or ""):].strip()
-        if re.match(r"fault |no |usage: ", said) and (words is None or rest and f'codes "{rest}' not in sources.ALL_SPECS):
-            if said not in sources.ERLANG:
-                yield f"`{said}`: no program writes that"
+        if re.match(r"fault |no |usage: ", said) and not is_output(said, known) and said not in sources.ERLANG:
+            yield f"`{said}`: no program writes that"
         reason = re.match(r"(unfit|never) (?:PID|<[\d.]+>) (?:I|\d+) (\w+)", said)
         if reason and reason[2] != "WORD" and reason[2] not in sources.reasons()[reason[1]]:
             yield f"`{said}`: {reason[1]} has no {reason[2]}"
@@ -250,12 +278,13 @@ def wrong_statuses(page):
 def tables(text):
     """The tables of a page: the cells of the head, and of each row."""
     for block in re.findall(r"(?:^\|[^\n]*\|\n)+", text, re.M):
-        rows = [[cell.strip() for cell in re.split(r"(?<!\\)\|", line.strip().strip("|"))] for line in block.strip().split("\n")]
+        lines = [line.strip().strip("|") for line in block.strip().split("\n")]
+        rows = [[cell.strip() for cell in re.split(r"(?<!\\)\|", line)] for line in lines]
         yield rows[0], rows[2:]
 
 
 def wrong_reasons(page):
-    """Tables whose first column is headed by `Word` have the words of `unfit`, or those that `never` has beyond them."""
+    """Tables with the head `Word` have the words of `unfit`, or those that `never` has beyond them."""
     unfit, never = sources.reasons()["unfit"], sources.reasons()["never"]
     for header, rows in tables(page.text):
         if header[0] == "Word":
@@ -283,9 +312,11 @@ def wrong_terms(page):
                 if not any(re.fullmatch(it, said) for it in sources.templates()):
                     yield f"`{said}`: the text form has no such act"
         if header[0] in ("Object", "Field"):
-            for said in (it for cells in rows for it in spans(cells[0] if header[0] == "Field" else re.sub(r"\([^)]*\)", "", cells[1]))):
+            column = 0 if header[0] == "Field" else 1
+            for said in (it for cells in rows for it in spans(re.sub(r"\([^)]*\)", "", cells[column]))):
                 if said not in sources.fields() | {"null"}:
                     yield f"`{said}`: no object has such a field"
 
 
-CHECKS = [it for name, it in list(globals().items()) if name.startswith("wrong_") and name not in ("wrong_words", "wrong_makes")]
+CHECKS = (wrong_names, wrong_links, wrong_files, wrong_parts, wrong_commands, wrong_options, wrong_numbers,
+          wrong_limits, wrong_numerals, wrong_outputs, wrong_statuses, wrong_reasons, wrong_terms)

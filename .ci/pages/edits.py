@@ -4,11 +4,12 @@ import re
 from pages.sources import DECLARED, NAME, RUST, TOP, files
 
 EDITS = ("crates/*/must-fail/*.edit", "crates/*/wrong-bodies/*.edit")
-PLAIN = set("the clause clauses result results unnamed ensures invariant value and of for that those on which so said whole rests".split())
+PLAIN = set("""the clause clauses result results unnamed ensures invariant value and of for that those on which so said
+    whole rests""".split())
 
 
 def contract(crate, name):
-    """What stands between each signature of this function and its body; of a type all that is said of the crate's types."""
+    """What is between each signature of this function and its body; of a type the whole of the crate."""
     if name[0].isupper():
         return RUST[crate]
     return "\n".join(re.findall(rf"\bfn {name}\b(.*?)(?=\n\s*{{|\bfn {NAME}|\Z)", RUST[crate], re.S))
@@ -16,7 +17,8 @@ def contract(crate, name):
 
 def wrong_head(crate, said):
     """What a head line names that isn't there: a law, or clauses of a function."""
-    pair = re.match(rf"(?:the )?(?:clause )?((?:{NAME})(?:(?:, | and ){NAME})*(?: clause)?) of (?:{NAME}::)*({NAME})", said)
+    clauses = rf"{NAME}(?:(?:, | and ){NAME})*(?: clause)?"
+    pair = re.match(rf"(?:the )?(?:clause )?({clauses}) of (?:{NAME}::)*({NAME})", said)
     if not pair:
         law = re.match(NAME, said)[0]
         return [] if law in DECLARED[crate] or re.search(rf"\b{law}\b", RUST[crate]) else [f"there is no {law}"]
@@ -32,5 +34,6 @@ def wrong_edits():
     for path in files(*EDITS):
         where = path.relative_to(TOP)
         named = re.match(r"clause: ((?:[^:]|::)+)(?::|$)", path.read_text().split("\n")[0])
-        for it in wrong_head(where.parts[1], named[1].replace("`", "")) if named else ["the first line names no clause"]:
+        said = named[1].replace("`", "") if named else ""
+        for it in wrong_head(where.parts[1], said) if said else ["the first line names no clause"]:
             yield f"{where}: {it}"

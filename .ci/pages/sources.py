@@ -1,5 +1,5 @@
 """What the sources say, for the checks of the docs: names, numbers, options, outputs with their statuses, and the words
-of the formats. Nothing is listed here that a source has: each table is read from the file that decides it."""
+of the text form. Nothing is listed here that a source has: each table is read from the file that decides it."""
 import re
 from functools import cache
 from pathlib import Path
@@ -9,7 +9,11 @@ NAME = r"[A-Za-z_][A-Za-z0-9_]*"
 CRATES = sorted(it.name for it in (TOP / "crates").iterdir() if (it / "src").is_dir())
 BUILT = {"out", "bin", "ebin", "_build", "__pycache__"}
 # What the docs name of Erlang's, of Rust's and of the toolchain's, beyond the words of our sources.
-FOREIGN = {"dbg", "ttb", "et", "edoc", "erl", "Option", "Some", "None", "Vec", "String", "DOWN", "EXIT", "BUILD", "unwrap"}
+FOREIGN = set("dbg ttb et edoc erl Option Some None Vec String DOWN EXIT BUILD unwrap".split())
+# The checks themselves are no source: they have the falsehoods that they must find.
+PATTERNS = ("crates/*/src/**/*.rt", "crates/*/specs/**/*.antt", "crates/*/proofs/**/*.antt", "crates.txt", "Makefile",
+            "erlang/**/*.*", "erlang/test/*", "erlang/seqaudit-node", "erlang/Makefile", "bench/**/*", "examples/*",
+            "tests/*", "rust/*", "completions/*", ".ci/[!d]*")
 
 
 def files(*patterns):
@@ -25,17 +29,13 @@ def code(path):
     return re.sub(rf"(?m){mark}.*$", "", text) if mark else text
 
 
-# The checks themselves are no source: they have the falsehoods that they must find.
-SOURCES = [it for it in files("crates/*/src/**/*.rt", "crates/*/specs/**/*.antt", "crates/*/proofs/**/*.antt", "erlang/**/*.*",
-                              "erlang/seqaudit-node", "erlang/test/*", "erlang/Makefile", "bench/**/*", "examples/*", "tests/*",
-                              "Makefile", ".ci/*", "crates.txt", "rust/*", "completions/*")
-           if it != TOP / ".ci/docs" and it.suffix not in (".md", ".pyc")]
-SOURCE = {path: code(path) for path in SOURCES}
+SOURCE = {path: code(path) for path in files(*PATTERNS) if path.suffix not in (".md", ".pyc")}
 
 
 def texts_of(folder):
     """By crate, the texts of this folder of it as one."""
-    return {crate: "\n".join(text for path, text in SOURCE.items() if f"/crates/{crate}/{folder}/" in str(path)) for crate in CRATES}
+    return {crate: "\n".join(text for path, text in SOURCE.items() if f"/crates/{crate}/{folder}/" in str(path))
+            for crate in CRATES}
 
 
 RUST = texts_of("src")
@@ -43,12 +43,24 @@ SPECS = texts_of("specs")
 ALL_RUST = "\n".join(RUST.values())
 ALL_SPECS = "\n".join(SPECS.values())
 ERLANG = "\n".join(text for path, text in SOURCE.items() if "/erlang/src/" in str(path))
-WORDS = {word for text in SOURCE.values() for word in re.findall(NAME, text)} | {
-    part for path in SOURCES for part in (path.stem, path.name, *path.relative_to(TOP).parts)
-} | set(CRATES) | {it.name for it in TOP.iterdir()} | FOREIGN
-DECLARED = {crate: set(re.findall(rf"\b(?:const fn|fn|struct|enum|trait|mod|type|const) ({NAME})", text))
-            | {name for used in re.findall(r"^\s*pub use ([^;]*);", text, re.M) for name in re.findall(rf"\b{NAME}(?=\s*(?:[,}}]|$))", used)}
-            for crate, text in RUST.items()}
+
+
+def words_of_sources():
+    """Each word of a source, and each name of a file or a folder."""
+    found = {word for text in SOURCE.values() for word in re.findall(NAME, text)}
+    names = {part for path in SOURCE for part in (path.stem, path.name, *path.relative_to(TOP).parts)}
+    return found | names | {it.name for it in TOP.iterdir()} | FOREIGN
+
+
+def declared(text):
+    """The names that a crate declares, or passes on from others."""
+    used = [name for names in re.findall(r"^\s*pub use ([^;]*);", text, re.M)
+            for name in re.findall(rf"\b{NAME}(?=\s*(?:[,}}]|$))", names)]
+    return set(re.findall(rf"\b(?:const fn|fn|struct|enum|trait|mod|type|const) ({NAME})", text)) | set(used)
+
+
+WORDS = words_of_sources()
+DECLARED = {crate: declared(text) for crate, text in RUST.items()}
 
 
 def read(path):
@@ -57,78 +69,27 @@ def read(path):
 
 
 def learned(what, found):
-    """What was found; if that is nothing, the sources have another form now, and a check would pass without looking."""
+    """What was found. If that is nothing, the sources have another form now, and a check would pass without looking."""
     if not found:
         raise SystemExit(f".ci/pages/sources.py finds no {what} any more: the sources have another form")
     return found
 
 
+# ---- names and numbers
+
+ITEM = rf"""^(?:pub(?:\([^)]*\))?\ )?
+    (?:enum|trait|struct|(?:unsafe\ )?impl(?:<[^>]*>)?(?:\ {NAME}(?:<[^>]*>)?\ for)?)\ ({NAME})
+    [^{{;]*\{{(.*?)^\}}"""
+MEMBER = rf"^    (?:pub(?:\([^)]*\))? )?(?:const fn |fn |const )?({NAME})"
+
+
 @cache
 def members():
-    """By type, what stands behind its name and two colons: variants, functions and constants."""
+    """By type, what may follow its name and two colons: variants, functions, constants and fields."""
     found = {}
-    for head in re.finditer(rf"^(?:pub(?:\([^)]*\))? )?(?:enum|trait|struct|(unsafe )?impl(?:<[^>]*>)?(?: {NAME}(?:<[^>]*>)? for)?) ({NAME})[^{{;]*\{{(.*?)^\}}",
-                            ALL_RUST, re.M | re.S):
-        found.setdefault(head[2], set()).update(re.findall(rf"^    (?:pub(?:\([^)]*\))? )?(?:const fn |fn |const )?({NAME})", head[3], re.M))
+    for name, body in re.findall(ITEM, ALL_RUST, re.M | re.S | re.X):
+        found.setdefault(name, set()).update(re.findall(MEMBER, body, re.M))
     return learned("members of types", found)
-
-
-@cache
-def numbers():
-    """Each number that a source writes."""
-    found = {it.replace("_", "").replace(",", "") for text in SOURCE.values() for it in re.findall(r"(?<![\w.])\d[\d_,]*", text)}
-    return {int(it) for it in found if len(it) <= 20}
-
-
-@cache
-def limits():
-    """What the reader takes, by unit (`events`): each value that one of the `Limits` has."""
-    found = {}
-    for body in re.findall(r"const \w+: Limits = Limits \{([^}]*)\}", ALL_RUST):
-        for unit, value in re.findall(r"(\w+): ([\d_]+)", body):
-            found.setdefault(unit, set()).add(int(value.replace("_", "")))
-    return learned("limits", found)
-
-
-@cache
-def reasons():
-    """The words of `unfit` and those of `never`, as the definitions of the two texts have them; but for `toohigh`, which no
-    text gets, as a count isn't above the greatest. erlang/ explains each of the others."""
-    found = {what: set(re.findall(rf'^{function}_words .*? = codes "(\w+)', ALL_SPECS, re.M)) for what, function in (("unfit", "reason"), ("never", "never"))}
-    explained = set(re.findall(r'^explain\(<<"(\w+)">>\)', ERLANG, re.M))
-    return {what: learned(f"words of {what}", words & explained) for what, words in found.items()}
-
-
-@cache
-def outputs():
-    """The status of each output that begins with words of its own: `fault memory`, 4."""
-    found, words = {}, {}
-    for function, case, said in re.findall(r'^(\w+?)(?:_words|_text|_of)?( [^=\n]*)? = (?:record \{ text = )?(?:ended_line )?\(*codes "([^"\n]+)"', ALL_SPECS, re.M):
-        words[function, case.strip()] = words[function, ""] = said.strip()
-    for function, case, status in re.findall(r"^(\w+)_status (.*?) = (\d)$", ALL_SPECS, re.M):
-        if (function, case) in words:
-            found[words[function, case]] = int(status)
-    for said, function, status in re.findall(r'text = ended_line \(?(?:codes "([^"]+)"|(\w+?)_words)[^;]*;\s*status = (\d)', ALL_SPECS):
-        found[said.strip() or words[function, ""]] = int(status)
-    for said, function, status in re.findall(r'text_of_status \((?:ended_line \(codes "([^"]+)"\)|(\w+)_text [^)]*)\)\)? (\d)', ALL_SPECS):
-        found[said or function] = int(status)
-    found |= {said: int(status) for said, status in re.findall(r'text_of_status \(ended_line \(codes "([^"]+)"\)\) (\d)', ALL_SPECS)}
-    return learned("outputs", found)
-
-
-@cache
-def templates():
-    """A pattern for each line of the text form, with a place holder's name for each value."""
-    lines = re.findall(r'codes "((?:\{seq_trace,L|\w+ <M\.P)[^"]*)"', ALL_SPECS)
-    values = {"<M.P.0>": r"(?:<\d+\.\d+\.0>|[A-Z]+)", "L": r"(?:\d+|[A-Z]+)", "N": r"(?:\d+|[A-Z]+)", "true": "(?:true|false|BOOL)", "false": "(?:true|false|BOOL)"}
-    return learned("lines of the text form", {
-        "".join(values.get(part) or re.escape(part) for part in re.split(r"(<M\.P\.0>|\b(?:L|N|true|false)\b)", line)) for line in lines})
-
-
-@cache
-def fields():
-    """The fields of the JSON that the programs write."""
-    return learned("fields of JSON", set(re.findall(r'\\"(\w+)\\":', ALL_RUST + ALL_SPECS)) | set(re.findall(r'say_\w*field\(\s*\w+,\s*&?\w* ?\w+,\s*"(\w+)"', ALL_RUST)))
 
 
 @cache
@@ -138,36 +99,124 @@ def variants(name):
     return learned(f"variants of {name}", set(re.findall(rf"^    ({NAME})", body[1], re.M)) if body else set())
 
 
+@cache
+def numbers():
+    """Each number that a source writes, up to twenty digits."""
+    found = {number for text in SOURCE.values() for number in re.findall(r"(?<![\w.])\d[\d_,]*", text)}
+    digits = {re.sub("[_,]", "", number) for number in found}
+    return {int(it) for it in digits if len(it) <= 20}
+
+
+@cache
+def limits():
+    """What the readers take, by unit (`events`): each value that one of the `Limits` has."""
+    found = {}
+    for body in re.findall(r"const \w+: Limits = Limits \{([^}]*)\}", ALL_RUST):
+        for unit, value in re.findall(r"(\w+): ([\d_]+)", body):
+            found.setdefault(unit, set()).add(int(value.replace("_", "")))
+    return learned("limits", found)
+
+
+# ---- outputs
+
+
+@cache
+def reasons():
+    """The words of `unfit` and those of `never`, as the definitions of the two texts have them. `toohigh` is left out,
+    which no text gets, as a count isn't above the greatest; erlang/ explains each of the others."""
+    explained = set(re.findall(r'^explain\(<<"(\w+)">>\)', ERLANG, re.M))
+    unfit = re.findall(r'^reason_words .*? = codes "(\w+)', ALL_SPECS, re.M)
+    never = re.findall(r'^never_words .*? = codes "(\w+)', ALL_SPECS, re.M)
+    return {"unfit": learned("words of unfit", explained & set(unfit)),
+            "never": learned("words of never", explained & set(never))}
+
+
+# A clause of a definition that begins with fixed words, as `fault_words faults.Memory = codes "fault memory"`.
+CLAUSE = r'^(\w+?)(?:_words|_text|_of)?( [^=\n]*)? = (?:record \{ text = )?(?:ended_line )?\(*codes "([^"\n]+)"'
+# An output with its status, as `record { text = ended_line (codes "fault thread"); status = 4 }`.
+RECORD = r'text = ended_line \(?(?:codes "([^"]+)"|(\w+?)_words)[^;]*;\s*status = (\d)'
+# The same as `text_of_status (never_text streams p i r) 1`.
+CALL = r'text_of_status \((?:ended_line \(codes "([^"]+)"\)|(\w+)_text [^)]*)\) (\d)'
+
+
+@cache
+def outputs():
+    """The status of each output that begins with words of its own: `fault memory`, 4."""
+    found, words = {}, {}
+    for function, case, said in re.findall(CLAUSE, ALL_SPECS, re.M):
+        words[function, case.strip()] = words[function, ""] = said.strip()
+    for function, case, status in re.findall(r"^(\w+)_status (.*?) = (\d)$", ALL_SPECS, re.M):
+        if (function, case) in words:
+            found[words[function, case]] = int(status)
+    for said, function, status in re.findall(RECORD, ALL_SPECS):
+        found[said.strip() or words[function, ""]] = int(status)
+    for said, function, status in re.findall(CALL, ALL_SPECS):
+        found[said or function] = int(status)
+    return learned("outputs", found)
+
+
+# ---- the text form, and JSON
+
+NUMBER, PID, BOOL = r"(?:\d+|[A-Z]+)", r"(?:<\d+\.\d+\.0>|[A-Z]+)", "(?:true|false|BOOL)"
+VALUES = {"<M.P.0>": PID, "L": NUMBER, "N": NUMBER, "true": BOOL, "false": BOOL}
+
+
+def pattern_of(line):
+    """The pattern of a line of the text form: for each value one that takes a value, or a name for it in capitals."""
+    parts = re.split(r"(<M\.P\.0>|\b(?:L|N|true|false)\b)", line)
+    return "".join(VALUES.get(part) or re.escape(part) for part in parts)
+
+
+@cache
+def templates():
+    """A pattern for each line of the text form that has values."""
+    lines = re.findall(r'codes "((?:\{seq_trace,L|\w+ <M\.P)[^"]*)"', ALL_SPECS)
+    return learned("lines of the text form", {pattern_of(line) for line in lines})
+
+
+@cache
+def fields():
+    """The fields of the JSON that the programs write."""
+    written = re.findall(r'\\"(\w+)\\":', ALL_RUST + ALL_SPECS)
+    called = re.findall(r'say_\w*field\(\s*\w+,\s*&?\w* ?\w+,\s*"(\w+)"', ALL_RUST)
+    return learned("fields of JSON", {*written, *called})
+
+
+# ---- commands
+
+
 def options_in_bash(program):
     """By command of this program, its options, as the completion has them."""
-    text = read("completions/seqtool.bash")
-    body = text[text.index(f"_{program}() {{"):]
-    body = body[:body.index("\n}\n")]
-    commands = learned(f"commands of {program}", [it for it in re.search(r'-eq 1 \]; then\n[^\n]*-W "([^"]*)"', body)[1].split() if it[0] != "-"])
-    found = {command: {"--help"} if program == "seqtool" else set() for command in commands}
-    for command, options in re.findall(r'(?:"\$command"|"\$\{COMP_WORDS\[1\]\}") = (\w+) [^\n]*\n[^\n]*-W "(--[^"]*)"', body):
+    body = re.search(rf"^_{program}\(\) \{{(.*?)^\}}", read("completions/seqtool.bash"), re.M | re.S)[1]
+    words = re.search(r'-eq 1 \]; then\n[^\n]*-W "([^"]*)"', body)[1].split()
+    for_all = {it for it in words if it == "--help"}
+    found = {it: set(for_all) for it in words if not it.startswith("-")}
+    for command, options in re.findall(r'= (\w+) \][^\n]*\n[^\n]*-W "(--[^"]*)"', body):
         found[command] |= set(options.split())
-    return found
+    return learned(f"commands of {program}", found)
 
 
 def options_of_node():
     """The same of `seqaudit-node`, as it reads them."""
     text = read("erlang/src/seqaudit_node.erl")
-    cuts = re.findall(r'"(-[-\w]+)"', re.search(r"define\(CUTS, \[([^\]]*)\]", text)[1])
-    body = text[text.index("commands() ->"):]
-    found = re.findall(r'\{"(\w+)",(.*?)fun', body[:body.index("\n\n")], re.S)
-    return learned("commands of seqaudit-node", {command: set(re.findall(r'"(-[-\w]+)"', told)) | (set(cuts) if "?CUTS" in told else set()) | {"--help", "-h"}
-                                                 for command, told in found})
+    option = r'"(-[-\w]+)"'
+    cuts = re.findall(option, re.search(r"define\(CUTS, \[([^\]]*)\]", text)[1])
+    body = re.search(r"^commands\(\) ->(.*?)\n\n", text, re.M | re.S)[1]
+    found = {command: {"--help", "-h", *re.findall(option, told), *(cuts if "?CUTS" in told else ())}
+             for command, told in re.findall(r'\{"(\w+)",(.*?)fun', body, re.S)}
+    return learned("commands of seqaudit-node", found)
 
 
 @cache
 def options():
     """By program and command, its options."""
-    return {"seqtool": options_in_bash("seqtool"), "seqaudit": options_in_bash("seqaudit"), "seqaudit-node": options_of_node()}
+    found = {program: options_in_bash(program) for program in ("seqtool", "seqaudit")}
+    return found | {"seqaudit-node": options_of_node()}
 
 
 @cache
 def targets(makefile):
     """The targets of a makefile, and its variables."""
     text = read(makefile)
-    return set(re.findall(r"^([a-z-]+):", text, re.M)), set(re.findall(r"\b([A-Z]+) ?[?:]?=", text)) | set(re.findall(r"\$\((\w+)\)", text))
+    variables = re.findall(r"\b([A-Z]+) ?[?:]?=", text) + re.findall(r"\$\((\w+)\)", text)
+    return set(re.findall(r"^([a-z-]+):", text, re.M)), set(variables)

@@ -17,13 +17,11 @@ def missing_outputs(pages):
     lines = [*(it for it in spans(said) if "<" not in it), *lines_of_code(said)]
     for it in sources.templates():
         if not any(re.fullmatch(it, line) for line in lines):
-            yield f"{FORMATS}: a line of the text form is missing, {re.sub(r'[(][?]:[^)]*[)]', '..', it)}"
+            yield f"{FORMATS}: a line of the text form is missing, {it}"
 
 
 def missing_fields(pages):
-    said = {it for header, rows in tables(pages[FORMATS].text) if header[0] in ("Object", "Field")
-            for cells in rows for cell in cells for it in re.findall(r"\w+", cell)} | set(re.findall(r"`(\w+)`", pages[FORMATS].text))
-    for it in sorted(sources.fields() - said):
+    for it in sorted(sources.fields() - set(spans(pages[FORMATS].text))):
         yield f"{FORMATS}: the field {it} is missing"
 
 
@@ -33,6 +31,14 @@ def sections(text):
     return re.split(r"^(?=#+ )", text, flags=re.M)
 
 
+@cache
+def commands_named(part):
+    """The commands that a part of a page names, each with a program that it names."""
+    known = sources.options()
+    found = {(program, command) for program in known if program in part for command in known[program]}
+    return {it for it in found if " ".join(it) in part or it[0] != "seqaudit-node" and f"`{it[1]}" in part}
+
+
 def missing_options(pages):
     """Each command and each of its options is said in a section that names both; those of `seqaudit-node`, whose
     commands share most options, on any of its pages."""
@@ -40,8 +46,7 @@ def missing_options(pages):
     parts = [it for name, page in pages.items() if name.startswith(("README", "docs/")) for it in sections(page.text)]
     for program, commands in sources.options().items():
         for command, known in commands.items():
-            named = rf"{program} {command}\b" if program == "seqaudit-node" else rf"`{command}\b|{program} {command}\b"
-            about = "\n".join(it for it in parts if program in it and re.search(named, it))
+            about = "\n".join(it for it in parts if (program, command) in commands_named(it))
             if not about:
                 yield f"no page says the command {program} {command}"
             told = guide if program == "seqaudit-node" else about
@@ -53,18 +58,23 @@ def missing_options(pages):
 def wrong_crates(pages):
     """ARCHITECTURE.md has a row for each crate, and for nothing else."""
     name = "docs/ARCHITECTURE.md"
-    said = {span for header, rows in tables(pages[name].text) if header[0] == "Crate" for cells in rows for span in spans(cells[0])}
+    said = {span for header, rows in tables(pages[name].text) if header[0] == "Crate"
+            for cells in rows for span in spans(cells[0])}
     for it in sorted(said ^ set(sources.CRATES)):
         yield f"{name}: {it} is {'no crate' if it in said else 'missing'}"
 
 
+# A command on a file of examples/, and the lines that a page quotes of what it writes.
+QUOTED = r"^    \$ (?:seqtool|seqaudit) ([^|\n]*?)(?:< )?examples/(\w+)\.txt\n((?:    [^$\n][^\n]*\n)+)"
+
+
 def wrong_answers(pages):
-    """What a page quotes of a command on a file of examples/ is what the file beside it has."""
+    """What a page quotes of a command without options is what the file beside the input has."""
     for name, page in pages.items():
-        for words, file, shown in re.findall(r"^    \$ (?:seqtool|seqaudit) ([^|\n]*?)(?:< )?examples/(\w+)\.txt\n((?:    [^$\n][^\n]*\n)+)", page.text, re.M):
+        for words, file, shown in re.findall(QUOTED, page.text, re.M):
             answer = sources.TOP / f"examples/{file}.{words.split()[0]}.answer"
             lines = [it[4:] for it in shown.splitlines() if it.strip() != ".."]
-            if answer.exists() and not set(re.findall(r"--\w+", words)) and not is_in_order(lines, answer.read_text().splitlines()):
+            if "--" not in words and answer.exists() and not is_in_order(lines, answer.read_text().splitlines()):
                 yield f"{name}: {answer.relative_to(sources.TOP)} has another output of `{words.strip()}`"
 
 
@@ -98,4 +108,4 @@ def wrong_counts(pages, counts):
             yield f"README.md: there are {count} {what}, and it says {', '.join(said) or 'nothing of them'}"
 
 
-WHOLE = [it for name, it in list(globals().items()) if name.startswith(("missing_", "wrong_")) and name != "wrong_counts"]
+WHOLE = (missing_outputs, missing_fields, missing_options, wrong_crates, wrong_answers, wrong_headline, wrong_times)
