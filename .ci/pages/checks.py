@@ -9,6 +9,7 @@ from pages.sources import DECLARED, NAME, TOP, WORDS, files
 Page = namedtuple("Page", "path text")
 BLOCK = r"^```.*?^```|^(?:    [^\n]*\n)+"
 NUMBER = r"\d{1,3}(?:,\d{3})+|\d+"
+COUNTS = r" (?:crates|tests|wrong bodies|of them|definitions|types|lines)\b"
 
 
 def value(number):
@@ -103,7 +104,7 @@ def wrong_files(page):
         elif re.fullmatch(r"[\w-]+\.(?:antt|rt|erl|py|md|edit)", said) and not is_there(f"**/{said}"):
             yield f"there is no file {said}"
         elif named := re.fullmatch(r"NAME\.(?:\w+\.)*([a-z]\w*)", said):
-            if not re.search(rf"\b{named[1]}\b", sources.ERLANG):
+            if not re.search(rf"\.{named[1]}\b", sources.ERLANG):
                 yield f"`{said}`: nothing in erlang/ writes such a file"
 
 
@@ -135,6 +136,20 @@ def wrong_words(program, words):
     return [it for it in given if it not in known[command] and not re.match(r"-\d", it)]
 
 
+def wrong_forms(line):
+    """The forms of `complete` that it hasn't."""
+    return [f"--as {it}" for it in re.findall(r"--as (\w+)", line) if it not in sources.forms()]
+
+
+def wrong_calls(page):
+    """Functions of erlang/ that aren't there."""
+    for said in spans(prose(page.text)):
+        for module, function in re.findall(r"\b(seqaudit\w*):(\w+)\b", said):
+            source = TOP / f"erlang/src/{module}.erl"
+            if not source.exists() or not re.search(rf"^{function}\(", source.read_text(), re.M):
+                yield f"`{said}`: there is no {module}:{function}"
+
+
 def wrong_makes(words):
     """What there is no target and no variable of, in the words behind `make`."""
     makefile = f"{words[words.index('-C') + 1]}/Makefile" if "-C" in words else "Makefile"
@@ -144,11 +159,24 @@ def wrong_makes(words):
             or re.match(r"[A-Z]+=", it) and it.split("=")[0] not in variables]
 
 
+def options_of_all():
+    """By command, its options in any of the programs."""
+    found = {}
+    for commands in sources.options().values():
+        for command, known in commands.items():
+            found.setdefault(command, set()).update(known)
+    return found
+
+
 def wrong_commands(page):
+    ours = options_of_all()
     for line, words in command_lines(page.text):
         program = words[0].split("/")[-1]
         if program in sources.options() and not re.fullmatch(r"seqaudit \w+ 1", line):
-            bad = wrong_words(program, words[1:])
+            bad = wrong_words(program, words[1:]) + wrong_forms(line)
+        elif words[0] in ours and line == " ".join(words):
+            bad = [it for it in words if re.match(r"--\w", it) and it.split("=")[0] not in ours[words[0]]]
+            bad += wrong_forms(line)
         elif program == "make":
             bad = wrong_makes(words[1:])
         elif re.match(r"(?:\.ci|bench|examples|erlang|tests|rust)/", words[0]) and (TOP / words[0]).is_file():
@@ -189,15 +217,51 @@ def claims(page):
             yield said
 
 
+# The sources that decide the numbers of a page, and from which number on they are looked for.
+CODE = r"crates/(?!st_\w*(?:tests|samples))\w+/(?:src|specs)"
+SCOPES = {r"docs/ERLANG": ((CODE, "erlang"), 100),
+          r"README|docs/(?:FORMATS|AUDIT|COMPLETIONS|ARCHITECTURE)": ((CODE, "erlang/src", "examples"), 100),
+          r"": (("",), 1000)}
+
+
+def scope_of(page):
+    name = str(page.path.relative_to(TOP))
+    return next(scope for pattern, scope in SCOPES.items() if re.match(pattern, name))
+
+
 def wrong_numbers(page):
-    """Numbers that no source has."""
+    """Numbers that none of these sources has. What `.ci/docs` counts itself is left to that."""
+    patterns, least = scope_of(page)
+    known = sources.numbers(*patterns)
     for said in claims(page):
-        for number in re.findall(rf"(?<![\w.,<{{/-])(?:{NUMBER})(?![\w}}>/]|[.,]\d)", said):
-            if value(number) >= 1000 and not {value(number), value(number) - 1} & sources.numbers():
+        for number in re.findall(rf"(?<![\w.,<%{{/-])(?:{NUMBER})(?![\w}}>/]|[.,]\d|{COUNTS})", said):
+            if value(number) >= least and value(number) not in known:
                 yield f"{number}: no source has this number"
         for number, unit in re.findall(r"(\d+) ([MG]iB)", said):
-            if int(number) << (20 if unit == "MiB" else 30) not in sources.numbers():
+            if int(number) << (20 if unit == "MiB" else 30) not in known:
                 yield f"{number} {unit}: no source has this number of bytes"
+        if "`toowide`" in said:
+            said = {value(it) for it in re.findall(rf"\b{NUMBER}\b", said)}
+            yield from (f"{it}: `toowide` has other numbers" for it in said - sources.constants(r"MOST_SKIPPED\w*"))
+
+
+def wrong_greatest(page):
+    """The table of the elements of the text form has the greatest number, label and part of a pid."""
+    for header, rows in tables(page.text):
+        for element, spelling in rows if header == ["Element", "Spelling"] else []:
+            for number in re.findall(NUMBER, re.sub(r"`[^`]*`", "", spelling)):
+                if value(number) > 10 and value(number) not in sources.greatest():
+                    yield f"{element}: {number} isn't the greatest"
+
+
+def wrong_versions(page):
+    """The oldest Rust and the oldest OTP, as the files say that build with them."""
+    files_and_keys = {"Rust": ("rust/Cargo.toml", "rust-version"), "OTP": ("erlang/rebar.config", "minimum_otp_vsn")}
+    for said, (file, key) in files_and_keys.items():
+        oldest = re.search(rf'{key}\W+([\d.]+)"', sources.read(file))[1]
+        for version in re.findall(rf"{said} ([\d.]*\d) or later", page.text):
+            if version != oldest:
+                yield f"{said} {version}: {file} says {oldest}"
 
 
 # What a sentence has that says how much a program takes.
@@ -215,7 +279,7 @@ def wrong_limits(page):
         if not re.search(OF_LIMITS, said):
             continue
         for number, unit in re.findall(rf"\b({NUMBER}) ({units})\b(?! at a time)", said):
-            if value(number) >= 1000 and not {value(number), value(number) - 1} & sources.limits()[unit]:
+            if value(number) >= 1000 and value(number) not in sources.limits()[unit]:
                 yield f"{number} {unit}: the readers' limits are {sorted(sources.limits()[unit])}"
 
 
@@ -230,6 +294,9 @@ def wrong_numerals(page):
     for numeral, noun in re.findall(rf"\b({'|'.join(COUNTED)}) (?:final |first )?(reasons|wants)\b", page.text.lower()):
         if COUNTED[numeral] not in right[noun] and not is_of_crate(page):
             yield f"there aren't {numeral} {noun}"
+    for final, all_of_them in re.findall(r"\b(\w+) of the (\w+) reasons are final", page.text.lower()):
+        if (COUNTED.get(final), COUNTED.get(all_of_them)) != (len(unfit & never), len(unfit)):
+            yield f"it isn't {final} of the {all_of_them} reasons that are final"
 
 
 # ---- outputs
@@ -259,8 +326,17 @@ def wrong_outputs(page):
             yield f"`{said}`: {reason[1]} has no {reason[2]}"
 
 
+def status_in_row(said, known):
+    """The status of an output that stands in a cell of a table, if it is known."""
+    kinds = [status for kind, status in sources.kinds_of_output().items() if said.startswith(kind)]
+    return next((known[fixed(it)] for it in spans(said) if fixed(it) in known), kinds[0] if kinds else None)
+
+
 def wrong_statuses(page):
     known = sources.outputs()
+    for status, verdict in re.findall(r"returns (\d), `Means(Yes|No)`", page.text):
+        if int(status) != known["yes" if verdict == "Yes" else "no stuck"]:
+            yield f"`Means{verdict}` isn't about the status {status}"
     for said, status in re.findall(r"`((?:fault|no|usage:|never|long)[^`]*)`, (?:status )?(\d)", page.text):
         if known.get(fixed(said), int(status)) != int(status):
             yield f"`{said}` has the status {known[fixed(said)]}, not {status}"
@@ -270,9 +346,9 @@ def wrong_statuses(page):
     for header, rows in tables(page.text):
         if header[-1] == "Status":
             for cells in rows:
-                for said in spans(cells[0] if len(cells) == 2 else cells[1]):
-                    if known.get(fixed(said), int(cells[-1])) != int(cells[-1]):
-                        yield f"`{said}` has the status {known[fixed(said)]}, not {cells[-1]}"
+                status = status_in_row(cells[-2], known)
+                if status is not None and status != int(cells[-1]):
+                    yield f"{cells[-2]}: the status is {status}, not {cells[-1]}"
 
 
 def tables(text):
@@ -311,12 +387,21 @@ def wrong_terms(page):
             for said in (it for cells in rows for it in spans(cells[1])):
                 if not any(re.fullmatch(it, said) for it in sources.templates()):
                     yield f"`{said}`: the text form has no such act"
-        if header[0] in ("Object", "Field"):
-            column = 0 if header[0] == "Field" else 1
-            for said in (it for cells in rows for it in spans(re.sub(r"\([^)]*\)", "", cells[column]))):
+
+
+def wrong_fields(page):
+    """Fields of JSON objects that none of them has, and words that none of their fields has."""
+    for header, rows in tables(page.text):
+        for cells in rows if header[0] in ("Object", "Field") else []:
+            names = cells[0] if header[0] == "Field" else re.sub(r"\([^)]*\)", "", cells[1])
+            for said in spans(names):
                 if said not in sources.fields() | {"null"}:
                     yield f"`{said}`: no object has such a field"
+            for said in re.findall(r'`"([a-z_]+)"`', " ".join(cells)):
+                if f'"{said}\\"' not in sources.ALL_SPECS + sources.ALL_RUST and f'"{said}"' not in sources.ALL_RUST:
+                    yield f'`"{said}"`: no field has this word'
 
 
-CHECKS = (wrong_names, wrong_links, wrong_files, wrong_parts, wrong_commands, wrong_options, wrong_numbers,
-          wrong_limits, wrong_numerals, wrong_outputs, wrong_statuses, wrong_reasons, wrong_terms)
+CHECKS = (wrong_names, wrong_links, wrong_files, wrong_parts, wrong_commands, wrong_calls, wrong_options, wrong_numbers,
+          wrong_greatest, wrong_versions, wrong_limits, wrong_numerals, wrong_outputs, wrong_statuses, wrong_reasons,
+          wrong_terms, wrong_fields)

@@ -13,6 +13,12 @@ FALSEHOODS = [
     (AUDIT, "more than 1,000 counts are missing", "more than 1,042 counts are missing"),
     ("man/seqaudit.1", "up to 64 MiB", "up to 48 MiB"),
     ("docs/ERLANG-PRODUCTION.md", "256 MiB", "255 MiB"),
+    (FORMATS, "at most 4,294,967,295", "at most 4,294,967,296"),
+    (FORMATS, "each 0 to 65,535", "each 0 to 65,536"),
+    (AUDIT, "more than 1,000 counts are missing", "more than 10,000 counts are missing"),
+    ("docs/ERLANG.md", "up to 2,000 rows", "up to 2,500 rows"),
+    (README, "Rust 1.82 or later", "Rust 1.78 or later"),
+    (README, "OTP 25 or later", "OTP 24 or later"),
     # Names of constants, of functions and of files.
     ("docs/DECISIONS.md", "`Limits::STANDARD`", "`Limits::USUAL`"),
     ("docs/DECISIONS.md", "`World::place_of`", "`World::place_in`"),
@@ -23,6 +29,7 @@ FALSEHOODS = [
     ("docs/HOSTILE.md", "`bench/hostile_use/model.py`", "`bench/hostile_use/slow.py`"),
     ("docs/ERLANG-PRODUCTION.md", "`NAME.facts`", "`NAME.findings`"),
     ("docs/ARCHITECTURE.md", "| `st_lines` |", "| `st_rows` |"),
+    ("docs/ERLANG-PRODUCTION.md", "`seqaudit_trace:start/1`", "`seqaudit_trace:begin/1`"),
     # Links.
     (README, "(docs/AUDIT.md)", "(docs/AUDITS.md)"),
     (AUDIT, "(FORMATS.md#the-objects-of-why---json)", "(FORMATS.md#the-json-of-why)"),
@@ -38,7 +45,14 @@ FALSEHOODS = [
     ("docs/ERLANG-PRODUCTION.md", "--every 60 -o watched", "--each 60 -o watched"),
     ("docs/ERLANG-PRODUCTION.md", "`--unload`", "`--clean`"),
     ("docs/HOSTILE.md", "`bench/hostile --long`", "`bench/hostile --slow`"),
+    (FORMATS, "`complete --as streams`", "`complete --as events`"),
+    (FORMATS, "| `replay` |", "| `rerun` |"),
     # Statuses, and words of outputs.
+    (README, "returns 1, `MeansNo`", "returns 2, `MeansNo`"),
+    (FORMATS, "explain them. Acts in the input don't count | 0 |", "explain them. Acts in the input don't count | 1 |"),
+    (FORMATS, "`list --json`", "`list --depth 3`"),
+    (FORMATS, "| the report of an unfit (below) | 1 |", "| the report of an unfit (below) | 2 |"),
+    ("docs/PROVED.md", "Four of the seven reasons are final", "Five of the seven reasons are final"),
     (FORMATS, "| `no label N`: nothing has that label | 1 |", "| `no label N`: nothing has that label | 2 |"),
     (FORMATS, "| `fault memory`, `fault device` | 4 |", "| `fault memory`, `fault device` | 3 |"),
     ("docs/HOSTILE.md", "`fault device`, 4", "`fault device`, 2"),
@@ -54,6 +68,7 @@ FALSEHOODS = [
     (FORMATS, "`receive PID both PID NUMBER`", "`receive PID last PID NUMBER`"),
     (FORMATS, "`clear PID`, ", ""),
     (FORMATS, "`skipped` (of each", "`missed` (of each"),
+    (FORMATS, '`"other_label"`', '`"another_label"`'),
     # Counts, times, and what is quoted.
     (README, "36 crates", "35 crates"),
     (README, "| 2 to 3 minutes |", "| 4 to 5 minutes |"),

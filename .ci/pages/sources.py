@@ -100,11 +100,24 @@ def variants(name):
 
 
 @cache
-def numbers():
-    """Each number that a source writes, up to twenty digits."""
-    found = {number for text in SOURCE.values() for number in re.findall(r"(?<![\w.])\d[\d_,]*", text)}
-    digits = {re.sub("[_,]", "", number) for number in found}
-    return {int(it) for it in digits if len(it) <= 20}
+def numbers(*patterns):
+    """Each number, up to twenty digits, that a source writes whose path begins so."""
+    texts = [text for path, text in SOURCE.items() if re.match("|".join(patterns), str(path.relative_to(TOP)))]
+    found = {re.sub("[_,]", "", it) for text in texts for it in re.findall(r"(?<![\w.])\d[\d_,]*", text)}
+    return {int(it) for it in found if len(it) <= 20} | greatest()
+
+
+@cache
+def greatest():
+    """The greatest number, label and part of a pid of the text form."""
+    return learned("greatest numbers", {int(it) for it in re.findall(r"^most_\w+ = (\d+)$", ALL_SPECS, re.M)})
+
+
+@cache
+def constants(name):
+    """The constants of the code whose name matches."""
+    found = re.findall(rf"^const {name}: \w+ = ([\d_]+);", ALL_RUST, re.M)
+    return learned(f"constants {name}", {int(it.replace("_", "")) for it in found})
 
 
 @cache
@@ -153,6 +166,14 @@ def outputs():
     for said, function, status in re.findall(CALL, ALL_SPECS):
         found[said or function] = int(status)
     return learned("outputs", found)
+
+
+@cache
+def kinds_of_output():
+    """The status of an output without fixed words, by the words that the page on formats has for it."""
+    bundle = re.search(r"^bundled [^\n]* = record \{.*?status = (\d)", ALL_SPECS, re.M | re.S)
+    report = re.search(r"^finding_status \(finding\.Unfit [^)]*\) = (\d)", ALL_SPECS, re.M)
+    return {"the text of a bundle": int(bundle[1]), "the report of ": int(report[1])}
 
 
 # ---- the text form, and JSON
@@ -212,6 +233,13 @@ def options():
     """By program and command, its options."""
     found = {program: options_in_bash(program) for program in ("seqtool", "seqaudit")}
     return found | {"seqaudit-node": options_of_node()}
+
+
+@cache
+def forms():
+    """What `seqtool complete --as` takes."""
+    values = re.search(r'--as \]; then\n[^\n]*-W "([^"]*)"', read("completions/seqtool.bash"))
+    return learned("forms of complete", set(values[1].split()))
 
 
 @cache

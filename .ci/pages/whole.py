@@ -68,6 +68,16 @@ def wrong_crates(pages):
 QUOTED = r"^    \$ (?:seqtool|seqaudit) ([^|\n]*?)(?:< )?examples/(\w+)\.txt\n((?:    [^$\n][^\n]*\n)+)"
 
 
+def wrong_command_rows(pages):
+    """The tables of commands name a command in each row."""
+    known = {command for commands in sources.options().values() for command in commands}
+    for header, rows in tables(pages[FORMATS].text):
+        for cells in rows if header[0] == "Command" else []:
+            for said in spans(cells[0]):
+                if not said.startswith("-") and said.split()[0] not in known:
+                    yield f"{FORMATS}: there is no command `{said}`"
+
+
 def wrong_answers(pages):
     """What a page quotes of a command without options is what the file beside the input has."""
     for name, page in pages.items():
@@ -108,4 +118,5 @@ def wrong_counts(pages, counts):
             yield f"README.md: there are {count} {what}, and it says {', '.join(said) or 'nothing of them'}"
 
 
-WHOLE = (missing_outputs, missing_fields, missing_options, wrong_crates, wrong_answers, wrong_headline, wrong_times)
+WHOLE = (missing_outputs, missing_fields, missing_options, wrong_crates, wrong_command_rows, wrong_answers,
+         wrong_headline, wrong_times)
