@@ -326,10 +326,11 @@ def wrong_outputs(page):
             yield f"`{said}`: {reason[1]} has no {reason[2]}"
 
 
-def status_in_row(said, known):
-    """The status of an output that stands in a cell of a table, if it is known."""
-    kinds = [status for kind, status in sources.kinds_of_output().items() if said.startswith(kind)]
-    return next((known[fixed(it)] for it in spans(said) if fixed(it) in known), kinds[0] if kinds else None)
+def status_in_row(cells, known):
+    """The status of the output that the row of a table is about, if it is known."""
+    kinds = [status for kind, status in sources.kinds_of_output().items() if cells[-1].startswith(kind)]
+    said = [fixed(it) for cell in cells for it in spans(cell)]
+    return next((known[it] for it in said if it in known), kinds[0] if kinds else None)
 
 
 def wrong_statuses(page):
@@ -346,7 +347,7 @@ def wrong_statuses(page):
     for header, rows in tables(page.text):
         if header[-1] == "Status":
             for cells in rows:
-                status = status_in_row(cells[-2], known)
+                status = status_in_row(cells[:-1], known)
                 if status is not None and status != int(cells[-1]):
                     yield f"{cells[-2]}: the status is {status}, not {cells[-1]}"
 
