@@ -159,6 +159,7 @@ def wrong_makes(words):
             or re.match(r"[A-Z]+=", it) and it.split("=")[0] not in variables]
 
 
+@cache
 def options_of_all():
     """By command, its options in any of the programs."""
     found = {}
@@ -188,13 +189,19 @@ def wrong_commands(page):
             yield f"`{line}`: {program} has no {it}"
 
 
+@cache
+def options_of_scripts():
+    """What scripts have that looks like an option."""
+    texts = [text for path, text in sources.SOURCE.items() if path.suffix in ("", ".py")]
+    return {it for text in texts for it in re.findall(r"--\w[\w-]*", text)}
+
+
 def wrong_options(page):
     """Options that stand alone, without the name of a program."""
-    ours = set().union(*(it for commands in sources.options().values() for it in commands.values())) | {"--version"}
-    scripts = "\n".join(text for path, text in sources.SOURCE.items() if path.suffix in ("", ".py"))
+    ours = set().union(*options_of_all().values()) | {"--version"} | options_of_scripts()
     for said in spans(prose(page.text)):
         option = re.match(r"--\w[\w-]*", said)
-        if option and option[0] not in ours and option[0] not in scripts:
+        if option and option[0] not in ours:
             yield f"`{said}`: no program has the option {option[0]}"
 
 

@@ -39,20 +39,24 @@ def commands_named(part):
     return {it for it in found if " ".join(it) in part or it[0] != "seqaudit-node" and f"`{it[1]}" in part}
 
 
+@cache
+def options_named(part):
+    return set(re.findall(r"(?<![\w-])--?[a-z][\w-]*", part))
+
+
 def missing_options(pages):
     """Each command and each of its options is said in a section that names both; those of `seqaudit-node`, whose
     commands share most options, on any of its pages."""
-    guide = "\n".join(page.text for name, page in pages.items() if name.startswith("docs/ERLANG"))
     parts = [it for name, page in pages.items() if name.startswith(("README", "docs/")) for it in sections(page.text)]
+    guide = [it for name, page in pages.items() if name.startswith("docs/ERLANG") for it in sections(page.text)]
     for program, commands in sources.options().items():
         for command, known in commands.items():
-            about = "\n".join(it for it in parts if (program, command) in commands_named(it))
+            about = [it for it in parts if (program, command) in commands_named(it)]
             if not about:
                 yield f"no page says the command {program} {command}"
-            told = guide if program == "seqaudit-node" else about
-            for it in sorted(known - {"--help", "-h"}):
-                if not re.search(rf"(?<![\w-]){re.escape(it)}\b", told):
-                    yield f"no page says the option {it} of {program} {command}"
+            told = set().union(*map(options_named, guide if program == "seqaudit-node" else about))
+            for it in sorted(known - {"--help", "-h"} - told):
+                yield f"no page says the option {it} of {program} {command}"
 
 
 def wrong_crates(pages):
