@@ -56,6 +56,20 @@ def wrong_names(page):
             yield f"`{said}`: there is no {bad[0]}"
 
 
+def wrong_homes(page):
+    """Names that aren't in the file, or in the crate, that a page says."""
+    for name, path in re.findall(r"`(\w+)` in `((?:crates|specs|src|proofs)/[\w/.]+\.\w+)`", page.text):
+        file = TOP / path if path.startswith("crates/") else page.path.parent / path
+        if file.exists() and not re.search(rf"\b{name}\b", file.read_text()):
+            yield f"there is no {name} in {path}"
+    for name, crate in re.findall(r"`(\w+)` of `(st_\w+)(?:::\w+)?`", page.text):
+        if name not in sources.words_of_crate(crate):
+            yield f"there is no {name} in {crate}"
+    for said in spans(prose(page.text)):
+        if re.fullmatch(r"[a-z]+(?:-[a-z]+)+", said) and said not in sources.hyphenated():
+            yield f"`{said}`: no source has this word"
+
+
 def anchors(text):
     """What a link may name behind # in this page: its headings, as they are shown on the web."""
     return {re.sub(r"[^\w\- ]", "", it.lower()).replace(" ", "-") for it in re.findall(r"^#+ (.*)$", text, re.M)}
@@ -228,7 +242,7 @@ def claims(page):
 CODE = r"crates/(?!st_\w*(?:tests|samples))\w+/(?:src|specs)"
 SCOPES = {r"docs/ERLANG": ((CODE, "erlang"), 100),
           r"README|docs/(?:FORMATS|AUDIT|COMPLETIONS|ARCHITECTURE)": ((CODE, "erlang/src", "examples"), 100),
-          r"": (("",), 1000)}
+          r"": (("",), 200)}
 
 
 def scope_of(page):
@@ -410,6 +424,6 @@ def wrong_fields(page):
                     yield f'`"{said}"`: no field has this word'
 
 
-CHECKS = (wrong_names, wrong_links, wrong_files, wrong_parts, wrong_commands, wrong_calls, wrong_options, wrong_numbers,
-          wrong_greatest, wrong_versions, wrong_limits, wrong_numerals, wrong_outputs, wrong_statuses, wrong_reasons,
-          wrong_terms, wrong_fields)
+CHECKS = (wrong_names, wrong_homes, wrong_links, wrong_files, wrong_parts, wrong_commands, wrong_calls, wrong_options,
+          wrong_numbers, wrong_greatest, wrong_versions, wrong_limits, wrong_numerals, wrong_outputs, wrong_statuses,
+          wrong_reasons, wrong_terms, wrong_fields)

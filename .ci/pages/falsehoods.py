@@ -30,6 +30,9 @@ FALSEHOODS = [
     ("docs/ERLANG-PRODUCTION.md", "`NAME.facts`", "`NAME.findings`"),
     ("docs/ARCHITECTURE.md", "| `st_lines` |", "| `st_rows` |"),
     ("docs/ERLANG-PRODUCTION.md", "`seqaudit_trace:start/1`", "`seqaudit_trace:begin/1`"),
+    (AUDIT, "`IsFull` in `crates/st_plan/specs/Full.antt`", "`IsWhole` in `crates/st_plan/specs/Full.antt`"),
+    (FORMATS, "`never_stuck` of `st_commands::laws`", "`never_stuck` of `st_text::laws`"),
+    ("docs/MACHINE.md", "| `restore-counts` |", "| `restore-clocks` |"),
     # Links.
     (README, "(docs/AUDIT.md)", "(docs/AUDITS.md)"),
     (AUDIT, "(FORMATS.md#the-objects-of-why---json)", "(FORMATS.md#the-json-of-why)"),

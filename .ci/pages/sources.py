@@ -63,6 +63,20 @@ WORDS = words_of_sources()
 DECLARED = {crate: declared(text) for crate, text in RUST.items()}
 
 
+@cache
+def words_of_crate(crate):
+    """Each word of a crate's sources."""
+    texts = [text for path, text in SOURCE.items() if f"/crates/{crate}/" in str(path)]
+    return {word for text in texts for word in re.findall(NAME, text)}
+
+
+@cache
+def hyphenated():
+    """Each word with hyphens of a source, and each name of a file."""
+    found = {word for text in SOURCE.values() for word in re.findall(r"[a-z]+(?:-[a-z]+)+", text)}
+    return found | {path.name for path in SOURCE}
+
+
 def read(path):
     """The text of a file that has to be there."""
     return (TOP / path).read_text()
