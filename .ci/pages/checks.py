@@ -96,7 +96,8 @@ def crates_named_before(text, place):
 
 
 # A file of a crate, and the crate if it is named behind it.
-OF_CRATE = r"`((?:src|specs|proofs|must-fail|wrong-bodies)/[\w/-]+\.\w+)`(?: of `(st_\w+)`)?"
+OF_PARTS = r"(?:src|specs|proofs|must-fail|wrong-bodies)/"
+OF_CRATE = rf"`({OF_PARTS}[\w/-]+\.\w+)`(?: of `(st_\w+)`)?"
 
 
 def wrong_parts(page):
@@ -110,10 +111,14 @@ def wrong_parts(page):
                     yield f"there is no {found[1]} in {'any crate' if crate == '*' else crate}"
 
 
+# Paths that aren't in the repository: what is built, what a user has, and a function with its number of arguments.
+ELSEWHERE = r"(?:bin|out|rlib|incremental|_build|~)/.*|/.*|crates/(?:\*/out|NAME/.*)|.*/\d'?"
+
+
 def wrong_files(page):
     for said in spans(page.text):
-        if re.fullmatch(r"(?:docs|crates|bench|examples|erlang|tests|rust|man|completions|\.ci)/[\w./-]*\w/?", said):
-            if not (TOP / said).exists() and "NAME" not in said and "ebin" not in said:
+        if re.fullmatch(r"[^\s/`<>]*(?:/[^\s/`<>]*)+", said) and not re.fullmatch(f"{OF_PARTS}.*|{ELSEWHERE}", said):
+            if not is_there(said) and not (TOP / said).is_dir() and not list(TOP.glob(said)):
                 yield f"there is no {said}"
         elif re.fullmatch(r"[\w-]+\.(?:antt|rt|erl|py|md|edit)", said) and not is_there(f"**/{said}"):
             yield f"there is no file {said}"
@@ -242,7 +247,7 @@ def claims(page):
 CODE = r"crates/(?!st_\w*(?:tests|samples))\w+/(?:src|specs)"
 SCOPES = {r"docs/ERLANG": ((CODE, "erlang"), 100),
           r"README|docs/(?:FORMATS|AUDIT|COMPLETIONS|ARCHITECTURE)": ((CODE, "erlang/src", "examples"), 100),
-          r"": (("",), 200)}
+          r"": ((CODE, "bench", r"\.ci", "erlang"), 200)}
 
 
 def scope_of(page):
