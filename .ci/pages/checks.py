@@ -1,50 +1,16 @@
 """The checks of one page: each yields what the sources don't bear out."""
 import re
-from collections import namedtuple
 from functools import cache
 
 from pages import sources
 from pages.sources import DECLARED, NAME, TOP, WORDS, files
-
-Page = namedtuple("Page", "path text")
-BLOCK = r"^```.*?^```|^(?:    [^\n]*\n)+"
-NUMBER = r"\d{1,3}(?:,\d{3})+|\d+"
-COUNTS = r" (?:crates|tests|wrong bodies|of them|definitions|types|lines)\b"
-
-
-def value(number):
-    return int(number.replace(",", ""))
-
-
-def is_of_crate(page):
-    return page.path.parent.parent.name == "crates"
-
-
-def prose(text):
-    """The text without its blocks of code."""
-    return re.sub(BLOCK, "", text, flags=re.M | re.S)
-
-
-def spans(text):
-    """What stands in backticks."""
-    return [it.replace("\\|", "|") for it in re.findall(r"`([^`\n]+)`", text)]
-
-
-def lines_of_code(text):
-    blocks = "\n".join(re.findall(BLOCK, text, re.M | re.S))
-    return [line.strip() for line in blocks.split("\n")]
-
-
-def sentences(text):
-    """The sentences of a page, and the cells of its tables."""
-    return [it for it in re.split(r"\n|(?<=[.:;])\s|(?<!\\)\|", prose(text)) if it.strip()]
-
+from pages.text import NUMBER, claims, command_lines, is_of_crate, lines_of_code, prose, sentences, spans, tables, value
 
 # ---- names
 
 
 def wrong_names(page):
-    for said in spans(re.sub(BLOCK, "", page.text, flags=re.M | re.S)):
+    for said in spans(prose(page.text)):
         if not re.fullmatch(rf"{NAME}(::{NAME})*", said):
             continue
         first, *rest = said.split("::")
@@ -130,18 +96,6 @@ def wrong_files(page):
 # ---- commands
 
 
-def command_lines(text):
-    """The words of each command line in a page, in backticks or in a block of code; the parts of a pipe one by one."""
-    for line in [*spans(prose(text)), *lines_of_code(text)]:
-        line = re.sub(r"\s{2,}# .*$|^\$ |^\(\w+@\w+\)\d+> ", "", line)
-        for part in re.split(r"\||&&|;", line):
-            words = re.findall(r"(?:'[^']*'|\"[^\"]*\"|\\.|[^\s'\"\\])+", part)
-            while words and re.match(r"\w+=", words[0]):
-                words = words[1:]
-            if words:
-                yield line, words
-
-
 def wrong_words(program, words):
     """What a program doesn't know of the words behind its name."""
     known = sources.options()[program]
@@ -171,7 +125,9 @@ def wrong_calls(page):
 
 def wrong_makes(words):
     """What there is no target and no variable of, in the words behind `make`."""
-    makefile = f"{words[words.index('-C') + 1]}/Makefile" if "-C" in words else "Makefile"
+    makefile = f"{words[words.index('-C') + 1]}/Makefile" if "-C" in words[:-1] else "Makefile"
+    if not (TOP / makefile).exists():
+        return [makefile]
     goals, variables = sources.targets(makefile)
     left = [it for it in words if it not in ("-C", makefile.split("/")[0])]
     return [it for it in left if re.fullmatch(r"[a-z][a-z-]*", it) and it not in goals
@@ -226,23 +182,8 @@ def wrong_options(page):
 
 # ---- numbers
 
-
-MEASURED = r"(?i)^#+ .*(?:measured|speed|takes$|truth|a million events|was tried|said of causes|standard node differs)"
-
-
-def claims(page):
-    """The sentences of a page, but for those that say what was measured or tried: their words or a heading show it."""
-    if re.match(MEASURED, page.text, re.M):
-        return
-    measured = False
-    for said in re.split(r"\n|(?<=\.)\s", prose(page.text)):
-        if said.startswith("#"):
-            measured = bool(re.match(MEASURED, said))
-        row = said.startswith("|") and is_of_crate(page)
-        if not (measured or row or re.search(r"(?i)\b(?:took|measured|tested|tried|some|counted)\b", said)):
-            yield said
-
-
+# What `.ci/docs` counts itself.
+COUNTS = r" (?:crates|tests|wrong bodies|of them|definitions|types|lines)\b"
 # The sources that decide the numbers of a page, and from which number on they are looked for.
 CODE = r"crates/(?!st_\w*(?:tests|samples))\w+/(?:src|specs)"
 SCOPES = {r"docs/ERLANG": ((CODE, "erlang"), 100),
@@ -256,7 +197,7 @@ def scope_of(page):
 
 
 def wrong_numbers(page):
-    """Numbers that none of these sources has. What `.ci/docs` counts itself is left to that."""
+    """Numbers that none of the sources has which decide them."""
     patterns, least = scope_of(page)
     known = sources.numbers(*patterns)
     for said in claims(page):
@@ -299,7 +240,7 @@ def wrong_limits(page):
     units = "|".join(sources.limits())
     for header, rows in tables(page.text):
         for unit, *cells in rows if header[0] == "Limit" else []:
-            if {value(it) for it in cells} != sources.limits().get(unit):
+            if {value(it) for cell in cells for it in re.findall(NUMBER, cell)} != sources.limits().get(unit):
                 yield f"the table of limits: those of {unit} aren't {' and '.join(cells)}"
     for said in sentences(page.text):
         if not re.search(OF_LIMITS, said):
@@ -367,23 +308,15 @@ def wrong_statuses(page):
     for said, status in re.findall(r"`((?:fault|no|usage:|never|long)[^`]*)`, (?:status )?(\d)", page.text):
         if known.get(fixed(said), int(status)) != int(status):
             yield f"`{said}` has the status {known[fixed(said)]}, not {status}"
-    for status in re.findall(r"usage line with status (\d)|`usage` with status (\d)", page.text):
-        if known["usage: seqaudit check|audit|replay|drive|chart --label N"] != int("".join(status)):
-            yield f"the usage line has another status than {''.join(status)}"
+    usage = next(status for said, status in known.items() if said.startswith("usage"))
+    for status in re.findall(r"(?:usage line|`usage`) with status (\d)", page.text):
+        if int(status) != usage:
+            yield f"the usage line has the status {usage}, not {status}"
     for header, rows in tables(page.text):
-        if header[-1] == "Status":
-            for cells in rows:
-                status = status_in_row(cells[:-1], known)
-                if status is not None and status != int(cells[-1]):
-                    yield f"{cells[-2]}: the status is {status}, not {cells[-1]}"
-
-
-def tables(text):
-    """The tables of a page: the cells of the head, and of each row."""
-    for block in re.findall(r"(?:^\|[^\n]*\|\n)+", text, re.M):
-        lines = [line.strip().strip("|") for line in block.strip().split("\n")]
-        rows = [[cell.strip() for cell in re.split(r"(?<!\\)\|", line)] for line in lines]
-        yield rows[0], rows[2:]
+        for cells in rows if header[-1] == "Status" else []:
+            status = status_in_row(cells[:-1], known)
+            if status is not None and str(status) != cells[-1]:
+                yield f"{cells[-2]}: the status is {status}, not {cells[-1]}"
 
 
 def wrong_reasons(page):

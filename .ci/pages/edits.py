@@ -9,7 +9,7 @@ PLAIN = set("""the clause clauses result results unnamed ensures invariant value
 
 
 def contract(crate, name):
-    """What is between each signature of this function and its body; of a type the whole of the crate."""
+    """What is between each signature of this function and its body; of a type the whole crate."""
     if name[0].isupper():
         return RUST[crate]
     return "\n".join(re.findall(rf"\bfn {name}\b(.*?)(?=\n\s*{{|\bfn {NAME}|\Z)", RUST[crate], re.S))

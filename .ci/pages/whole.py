@@ -3,7 +3,7 @@ import re
 from functools import cache
 
 from pages import sources
-from pages.checks import lines_of_code, spans, tables
+from pages.text import lines_of_code, spans, tables
 
 FORMATS = "docs/FORMATS.md"
 
