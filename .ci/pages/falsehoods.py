@@ -1,5 +1,5 @@
 """Falsehoods that somebody could write into a page: the page, what it says, and what it would say. The self test of
-`.ci/docs` plants each in a copy of its page; one that isn't refused, or can't be planted any more, fails it."""
+`.ci/docs` plants each in a copy of its page, and fails if one isn't refused."""
 
 FORMATS, AUDIT, README = "docs/FORMATS.md", "docs/AUDIT.md", "README.md"
 FALSEHOODS = [
