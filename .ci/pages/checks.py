@@ -110,7 +110,7 @@ def wrong_words(program, words):
 
 
 def wrong_forms(line):
-    """The forms of `complete` that it hasn't."""
+    """The forms that no command of `seqtool` has."""
     return [f"--as {it}" for it in re.findall(r"--as (\w+)", line) if it not in sources.forms()]
 
 
@@ -286,7 +286,7 @@ def wrong_outputs(page):
     """Outputs of the programs that they never write."""
     known = sources.outputs()
     for said in spans(prose(page.text)):
-        if re.match(r"fault |no |usage: ", said) and not is_output(said, known) and said not in sources.ERLANG:
+        if re.match(r"fault |no |usage: ", said) and not is_output(said, known) and not sources.is_written(fixed(said)):
             yield f"`{said}`: no program writes that"
         reason = re.match(r"(unfit|never) (?:PID|<[\d.]+>) (?:I|\d+) (\w+)", said)
         if reason and reason[2] != "WORD" and reason[2] not in sources.reasons()[reason[1]]:

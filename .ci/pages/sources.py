@@ -182,6 +182,11 @@ def outputs():
     return learned("outputs", found)
 
 
+def is_written(words):
+    """Whether a text of the programs has these words."""
+    return any(words in text for text in (ALL_SPECS, ALL_RUST, ERLANG))
+
+
 @cache
 def kinds_of_output():
     """The status of an output without fixed words, by the words that the page on formats has for it."""
@@ -211,24 +216,39 @@ def templates():
 
 @cache
 def fields():
-    """The fields of the JSON that the programs write."""
-    written = re.findall(r'\\"(\w+)\\":', ALL_RUST + ALL_SPECS)
-    called = re.findall(r'say_\w*field\(\s*\w+,\s*&?\w* ?\w+,\s*"(\w+)"', ALL_RUST)
-    return learned("fields of JSON", {*written, *called})
+    """The fields of all JSON that the programs write."""
+    return own_fields() | set(re.findall(r'\\"(\w+)\\":', ALL_RUST + ALL_SPECS))
+
+
+@cache
+def own_fields():
+    """The fields of the JSON whose form is our own, that of `--json`, and not that of another program that reads it."""
+    defined = "\n".join(text for path, text in SOURCE.items() if path.name == "Json.antt")
+    texts = "\n".join(text for text in SOURCE.values() if "Style::Json" in text)
+    called = re.findall(r'say_\w*field\(\s*\w+,\s*&?\w* ?\w+,\s*"(\w+)"', texts)
+    return learned("fields of JSON", {*called, *re.findall(r'\\"(\w+)\\":', defined)})
 
 
 # ---- commands
 
 
+@cache
+def completions(program):
+    """The conditions of the completion in bash, each with the words that it offers then."""
+    body = re.search(rf"^_{program}\(\) \{{(.*?)^\}}", read("completions/seqtool.bash"), re.M | re.S)[1]
+    found = re.findall(r'\b(?:el)?if ([^\n]*); then\n[^\n]*-W "([^"]*)"', body)
+    return learned(f"completions of {program}", [(condition, words.split()) for condition, words in found])
+
+
 def options_in_bash(program):
     """By command of this program, its options, as the completion has them."""
-    body = re.search(rf"^_{program}\(\) \{{(.*?)^\}}", read("completions/seqtool.bash"), re.M | re.S)[1]
-    words = re.search(r'-eq 1 \]; then\n[^\n]*-W "([^"]*)"', body)[1].split()
-    for_all = {it for it in words if it == "--help"}
-    found = {it: set(for_all) for it in words if not it.startswith("-")}
-    for command, options in re.findall(r'= (\w+) \][^\n]*\n[^\n]*-W "(--[^"]*)"', body):
-        found[command] |= set(options.split())
-    return learned(f"commands of {program}", found)
+    (_, first), *others = completions(program)
+    found = {command: {"--help"} & set(first) for command in first if not command.startswith("-")}
+    for condition, words in others:
+        for command in found:
+            if re.search(rf"\b{command}\b", condition) and words[0].startswith("-"):
+                found[command] |= set(words)
+    return found
 
 
 def options_of_node():
@@ -251,9 +271,9 @@ def options():
 
 @cache
 def forms():
-    """What `seqtool complete --as` takes."""
-    values = re.search(r'--as \]; then\n[^\n]*-W "([^"]*)"', read("completions/seqtool.bash"))
-    return learned("forms of complete", set(values[1].split()))
+    """What the option `--as` of `seqtool` takes."""
+    found = {word for condition, words in completions("seqtool") if "--as" in condition for word in words}
+    return learned("forms", {it for it in found if not it.startswith("-")})
 
 
 @cache

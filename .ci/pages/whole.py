@@ -21,7 +21,7 @@ def missing_outputs(pages):
 
 
 def missing_fields(pages):
-    for it in sorted(sources.fields() - set(spans(pages[FORMATS].text))):
+    for it in sorted(sources.own_fields() - set(spans(pages[FORMATS].text))):
         yield f"{FORMATS}: the field {it} is missing"
 
 
