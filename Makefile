@@ -84,8 +84,8 @@ layout: ## names the sources that rt fmt would lay out otherwise (3 seconds)
 layers: ## looks what each crate cites of the others (1 second)
 	@.ci/layers
 
-docs: ## holds names, links and counts in the docs to the sources (2 seconds)
-	@.ci/docs
+docs: ## holds the docs to the sources, and plants falsehoods, which must be refused (8 seconds)
+	@.ci/docs --self-test
 
 # The program that the gate, or else `make program`, built last.
 BUILT = $(firstword $(wildcard $(CURDIR)/crates/seqaudit/out/seqaudit $(CURDIR)/bin/seqaudit))
