@@ -1,12 +1,10 @@
 #!/usr/bin/env python3
-"""Times the commands of programs on the bundles that bench/run made: measure.py ROUNDS PROGRAM PLAIN [SAME_SOURCE].
+"""Times the commands of programs on the bundles that bench/run made: measure.py ROUNDS FOLDER PROVED TUNED [PLAIN].
 
-The programs run in turn. Each cell is the program's median in seconds, the plain one's, the first as a part of the
-second, and the peaks of memory of both in megabytes; then the median and the peak of the program's own source in plain
-Rust (rust/README.md), if there is one. What all write must be the same, but for `drive`, whose run is the scheduler's
-choice; that output is only written."""
+The programs run in turn: the proved one, a tuned one in plain Rust, and the proved one's own source in plain Rust, if that
+is built. A table for each command is printed, in markdown. A cell has the median in seconds, that divided by the tuned
+program's, and the peak of memory in megabytes. Before they are timed, what they write has to be the same."""
 
-import filecmp
 import statistics
 import sys
 from collections import Counter
@@ -14,16 +12,30 @@ from collections import Counter
 sys.dont_write_bytecode = True
 
 from one_run import run_once  # noqa: E402
+from same import count_events, difference  # noqa: E402
 
-BUNDLES = {
-    "ordinary": "8 processes",
-    "two": "2 processes",
-    "sixty-four": "64 processes",
-    "thousand": "1,000 processes",
-    "labels": "64 processes, 10,000 labels",
-    "nodes": "256 processes on 256 nodes",
-}
 COMMANDS = {"check": "run", "replay": "run", "audit": "streams", "chart": "streams", "drive": "scripts"}
+# The traces, each with the commands that are timed on it.
+TRACES = {
+    "ordinary": ("8 processes", COMMANDS),
+    "two": ("2 processes", COMMANDS),
+    "sixty-four": ("64 processes", COMMANDS),
+    "thousand": ("1,000 processes", COMMANDS),
+    "labels": ("64 processes, 10,000 labels", COMMANDS),
+    "nodes": ("256 processes on 256 nodes", COMMANDS),
+    "random": ("random acts of 64 processes", ("check", "replay", "drive")),
+    "lanes": ("1,000 lanes", ("chart",)),
+}
+PROVED, TUNED, PLAIN = "proved", "tuned", "the same source in plain Rust"
+# Threads may make other runs of the same acts in one program than in another, but about as much has to happen.
+EVENTS_APART = 0.2
+
+
+def commonest_label(path):
+    """The label of the most events."""
+    with open(path, encoding="ascii") as lines:
+        labels = Counter(line.split(",", 2)[1] for line in lines if line.startswith("{"))
+    return labels.most_common(1)[0][0]
 
 
 def measured(words, source, target):
@@ -34,42 +46,59 @@ def measured(words, source, target):
     return seconds, peak >> 20
 
 
-def commonest_label(path):
-    """The label of the most events."""
-    with open(path, encoding="ascii") as lines:
-        labels = Counter(line.split(",", 2)[1] for line in lines if line.startswith("{"))
-    return labels.most_common(1)[0][0]
+def compare(programs, words, source, written):
+    """Runs each program once, and stops if they don't write the same."""
+    for name, program in programs.items():
+        measured([program, *words], source, written[name])
+    if differs := difference(programs[PROVED], words, source, list(written.values())):
+        sys.exit(f"{' '.join(words)} < {source}: {differs}")
+    if words == ["drive"]:
+        events = {name: count_events(path) for name, path in written.items()}
+        said = ", ".join(f"{count:,} by {name}" for name, count in events.items())
+        print(f"drive < {source}: events reported: {said}", file=sys.stderr)
+        if min(events.values()) < (1 - EVENTS_APART) * max(events.values()):
+            sys.exit("The runs differ too much to be compared.")
 
 
-def compare(programs, words, source, rounds):
+def timed(programs, words, source, folder, rounds):
     """The medians and the greatest peaks of the programs."""
-    runs = {program: [] for program in programs}
+    written = {name: f"{folder}/{place}.written" for place, name in enumerate(programs)}
+    compare(programs, words, source, written)
+    runs = {name: [] for name in programs}
     for _ in range(rounds):
-        for place, program in enumerate(programs):
-            runs[program].append(measured([program, *words], source, f"bin/bench/{place}.written"))
-    others = range(1, len(programs)) if words != ["drive"] else ()
-    if not all(filecmp.cmp("bin/bench/0.written", f"bin/bench/{place}.written", shallow=False) for place in others):
-        sys.exit(f"{' '.join(words)} < {source}: the programs write different texts")
-    return [(statistics.median(seconds for seconds, _ in done), max(peak for _, peak in done)) for done in runs.values()]
+        for name, program in programs.items():
+            runs[name].append(measured([program, *words], source, written[name]))
+    return {name: (statistics.median(seconds for seconds, _ in done), max(peak for _, peak in done))
+            for name, done in runs.items()}
 
 
-def cell(ours, plain, *same_source):
-    """What a cell says of the medians and peaks."""
-    said = f"{ours[0]:.2f} / {plain[0]:.2f} s = {ours[0] / plain[0]:.2f}, {ours[1]} / {plain[1]} MB"
-    return said + "".join(f"; {seconds:.2f} s, {peak} MB" for seconds, peak in same_source)
+def cell(name, medians):
+    """What a cell says of the program."""
+    (seconds, peak), (tuned, _) = medians[name], medians[TUNED]
+    ratio = "" if name == TUNED else f" = {seconds / tuned:.2f}"
+    return f"{seconds:.2f} s{ratio}, {peak} MB"
+
+
+def table(programs, command, folder, rounds):
+    """Prints the command's table."""
+    columns = [name for name in (PROVED, PLAIN, TUNED) if name in programs]
+    print(f"| `{command}` | {' | '.join(columns)} |")
+    print("|---|" + "---|" * len(columns))
+    for name, (title, commands) in TRACES.items():
+        if command in commands:
+            source = f"{folder}/{name}.{COMMANDS[command]}"
+            label = ["--label", commonest_label(source)] if command == "chart" else []
+            medians = timed(programs, [command, *label], source, folder, rounds)
+            print(f"| {title} | " + " | ".join(cell(column, medians) for column in columns) + " |", flush=True)
+    print()
 
 
 def main():
-    rounds, *programs = sys.argv[1:]
-    print(f"| {int(rounds)} rounds | " + " | ".join(COMMANDS) + " |")
-    print("|---|" + "---|" * len(COMMANDS))
-    for name, title in BUNDLES.items():
-        cells = []
-        for command, kind in COMMANDS.items():
-            source = f"bin/bench/{name}.{kind}"
-            label = ["--label", commonest_label(source)] if command == "chart" else []
-            cells.append(cell(*compare(programs, [command, *label], source, int(rounds))))
-        print(f"| {title} | " + " | ".join(cells) + " |", flush=True)
+    rounds, folder, *given = sys.argv[1:]
+    programs = dict(zip((PROVED, TUNED, PLAIN), given))
+    print(f"Medians of {rounds}:\n")
+    for command in COMMANDS:
+        table(programs, command, folder, int(rounds))
 
 
 main()
