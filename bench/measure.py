@@ -7,35 +7,16 @@ program's, and the peak of memory in megabytes. Before they are timed, what they
 
 import statistics
 import sys
-from collections import Counter
 
 sys.dont_write_bytecode = True
 
 from one_run import run_once  # noqa: E402
 from same import count_events, difference  # noqa: E402
+from traces import COMMANDS, TRACES, words_of  # noqa: E402
 
-COMMANDS = {"check": "run", "replay": "run", "audit": "streams", "chart": "streams", "drive": "scripts"}
-# The traces, each with the commands that are timed on it.
-TRACES = {
-    "ordinary": ("8 processes", COMMANDS),
-    "two": ("2 processes", COMMANDS),
-    "sixty-four": ("64 processes", COMMANDS),
-    "thousand": ("1,000 processes", COMMANDS),
-    "labels": ("64 processes, 10,000 labels", COMMANDS),
-    "nodes": ("256 processes on 256 nodes", COMMANDS),
-    "random": ("random acts of 64 processes", ("check", "replay", "drive")),
-    "lanes": ("1,000 lanes", ("chart",)),
-}
 PROVED, TUNED, PLAIN = "proved", "tuned", "the same source in plain Rust"
 # Threads may make other runs of the same acts in one program than in another, but about as much has to happen.
 EVENTS_APART = 0.2
-
-
-def commonest_label(path):
-    """The label of the most events."""
-    with open(path, encoding="ascii") as lines:
-        labels = Counter(line.split(",", 2)[1] for line in lines if line.startswith("{"))
-    return labels.most_common(1)[0][0]
 
 
 def measured(words, source, target):
@@ -87,8 +68,7 @@ def table(programs, command, folder, rounds):
     for name, (title, commands) in TRACES.items():
         if command in commands:
             source = f"{folder}/{name}.{COMMANDS[command]}"
-            label = ["--label", commonest_label(source)] if command == "chart" else []
-            medians = timed(programs, [command, *label], source, folder, rounds)
+            medians = timed(programs, words_of(command, source), source, folder, rounds)
             print(f"| {title} | " + " | ".join(cell(column, medians) for column in columns) + " |", flush=True)
     print()
 
