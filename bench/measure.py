@@ -2,9 +2,9 @@
 """Times the commands of programs on the bundles that bench/run made: measure.py ROUNDS FOLDER PROVED TUNED [PLAIN].
 
 The programs run in turn: the proved one, a tuned one in plain Rust, and the proved one's own source in plain Rust, if that
-is built. A table for each command is printed, in markdown. A cell has the median in seconds, that divided by the tuned
-program's, and the peak of memory in megabytes. The scheduler decides which run `drive` makes, so its cells have the events
-too. Before they are timed, what they write has to be the same."""
+is built. A table for each command is printed at the end, in markdown. A cell has the median in seconds, that divided by
+the tuned program's, and the peak of memory in megabytes. The scheduler decides which run `drive` makes, so its cells have
+the events of the last one too. Before the programs are timed, what they write has to be the same."""
 
 import statistics
 import sys
@@ -55,25 +55,42 @@ def cell(name, results):
     return said if events is None else f"{said}, {events:,} events"
 
 
-def table(programs, command, folder, rounds):
-    """Prints the command's table."""
-    columns = [name for name in (PROVED, PLAIN, TUNED) if name in programs]
-    print(f"| `{command}` | {' | '.join(columns)} |")
-    print("|---|" + "---|" * len(columns))
+def results_of(command, programs, folder, rounds):
+    """The results of the programs for each trace on which the command is timed, by its title."""
+    found = {}
     for name, (title, commands) in TRACES.items():
         if command in commands:
             source = f"{folder}/{name}.{COMMANDS[command]}"
-            results = timed(programs, words_of(command, source), source, folder, rounds)
-            print(f"| {title} | " + " | ".join(cell(column, results) for column in columns) + " |", flush=True)
-    print()
+            found[title] = timed(programs, words_of(command, source), source, folder, rounds)
+            print(f"{command}, {title}: " + "; ".join(cell(column, found[title]) for column in programs), file=sys.stderr)
+    return found
+
+
+def legend(rounds, command, results):
+    """What a cell says, for instance this command's first."""
+    (seconds, peak, _), (tuned, _, _) = results[PROVED], results[TUNED]
+    return f"""Each cell has the median of {rounds} runs in turn. The first one says that `{command}` took {seconds:.2f} s, \
+{seconds / tuned:.2f} times as long as the tuned program, with a peak of {peak} MB.
+"""
+
+
+def table(command, columns, results):
+    """The lines of the command's table."""
+    yield f"| `{command}` | {' | '.join(columns)} |"
+    yield "|---|" + "---|" * len(columns)
+    for title, found in results.items():
+        yield f"| {title} | " + " | ".join(cell(column, found) for column in columns) + " |"
 
 
 def main():
     rounds, folder, *given = sys.argv[1:]
     programs = dict(zip((PROVED, TUNED, PLAIN), given))
-    print(f"Medians of {rounds}:\n")
-    for command in COMMANDS:
-        table(programs, command, folder, int(rounds))
+    columns = [name for name in (PROVED, PLAIN, TUNED) if name in programs]
+    results = {command: results_of(command, programs, folder, int(rounds)) for command in COMMANDS}
+    first = next(iter(COMMANDS))
+    print(legend(rounds, first, next(iter(results[first].values()))))
+    for command, found in results.items():
+        print(*table(command, columns, found), "", sep="\n")
 
 
 main()
