@@ -1,8 +1,8 @@
 #!/usr/bin/env python3
 """Compares what programs write on small random bundles: alike.py PROGRAM OTHER .., by seqaudit's commands.
 
-Statuses and texts have to be those of the first program. Of `drive`, whose run is the scheduler's choice, each output has
-to be a run of the same acts by that program's `check`."""
+Statuses and texts have to be those of the first program. Of `drive`, whose run is the scheduler's choice, each output
+has to be a run of the same acts by that program's `check`."""
 
 import os
 import random

@@ -4,9 +4,9 @@ measurements take.
 
     make_acts.py [--processes N] [--nodes N] [--labels N] [--acts N] [--random] [FLAG ..]
 
-N processes on N nodes make N acts: they send, receive and print under one trace each; FLAG is send, receive or print, and
-says what is reported. An eighth of the acts looks at the token; with --labels it gives the token another label, one of N.
-With --random they make acts of all kinds, by all wants."""
+N processes on N nodes make N acts: they send, receive and print under one trace each; FLAG is send, receive or print,
+and says what is reported. An eighth of the acts looks at the token; with --labels it gives the token another label, one
+of N. With --random they make acts of all kinds, by all wants."""
 
 import argparse
 import itertools

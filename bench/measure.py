@@ -1,10 +1,10 @@
 #!/usr/bin/env python3
 """Times the commands of programs on the bundles that bench/run made: measure.py ROUNDS FOLDER PROVED TUNED [PLAIN].
 
-The programs run in turn: the proved one, a tuned one in plain Rust, and the proved one's own source in plain Rust, if that
-is built. A table for each command is printed at the end, in markdown. A cell has the median in seconds, that divided by
-the tuned program's, and the peak of memory in megabytes. The scheduler decides which run `drive` makes, so its cells have
-the events of the last one too. Before the programs are timed, what they write has to be the same."""
+The programs run in turn: the proved one, a tuned one in plain Rust, and the proved one's own source in plain Rust, if
+that is built. A table for each command is printed at the end, in markdown. A cell has the median in seconds, that
+divided by the tuned program's, and the peak of memory in megabytes. The scheduler decides which run `drive` makes, so
+its cells have the events of the last one too. Before the programs are timed, what they write has to be the same."""
 
 import statistics
 import sys
@@ -62,16 +62,16 @@ def results_of(command, programs, folder, rounds):
         if command in commands:
             source = f"{folder}/{name}.{COMMANDS[command]}"
             found[title] = timed(programs, words_of(command, source), source, folder, rounds)
-            print(f"{command}, {title}: " + "; ".join(cell(column, found[title]) for column in programs), file=sys.stderr)
+            cells = "; ".join(cell(column, found[title]) for column in programs)
+            print(f"{command}, {title}: {cells}", file=sys.stderr)
     return found
 
 
 def legend(rounds, command, results):
     """What a cell says, for instance this command's first."""
     (seconds, peak, _), (tuned, _, _) = results[PROVED], results[TUNED]
-    return f"""Each cell has the median of {rounds} runs in turn. The first one says that `{command}` took {seconds:.2f} s, \
-{seconds / tuned:.2f} times as long as the tuned program, with a peak of {peak} MB.
-"""
+    said = f"`{command}` took {seconds:.2f} s, {seconds / tuned:.2f} times as long as the tuned program"
+    return f"Each cell has the median of {rounds} runs in turn. The first one says that {said}, with a peak of {peak} MB.\n"
 
 
 def table(command, columns, results):

@@ -1,5 +1,5 @@
-"""Whether what programs write of one input is the same. Which run `drive` makes is the scheduler's choice, so of its output
-it is asked whether it is a run of the same acts."""
+"""Whether what programs write of one input is the same. Which run `drive` makes is the scheduler's choice, so of its
+output it is asked whether it is a run of the same acts."""
 
 import filecmp
 

@@ -1,8 +1,8 @@
 //! Scripts that are driven: each process makes its acts, in their order, on a thread of its own.
 //!
-//! An act is made under the locks of the processes that it touches, which are taken by rising place. Its rank is one more
-//! than the greatest that any of these has seen. So of two acts that touch a process in common the one that was made first
-//! has the lower rank, and the acts by rising rank are a run.
+//! An act is made under the locks of the processes that it touches, which are taken by rising place. Its rank is one
+//! more than the greatest that any of these has seen. So of two acts that touch a process in common the first has the
+//! lower rank, and the acts by rising rank are a run.
 
 use crate::bundle::{self, Deed, Event, Pid, Streams};
 use crate::machine::{Process, Stuck};
@@ -151,8 +151,8 @@ fn play_all(pids: &[Pid], scripts: &[Vec<Step>]) -> Result<Vec<Made>, Failure> {
     })
 }
 
-/// The lines of all acts by rising rank, at one rank by process. Ranks begin at 1 and none is above the number of acts, so
-/// they are counted and not compared.
+/// The lines of all acts by rising rank, at one rank by process. Ranks begin at 1 and none is above the number of acts,
+/// so they are counted and not compared.
 fn merged<'a>(scripts: &[Vec<Step<'a>>], made: &[Made]) -> Vec<&'a [u8]> {
     let count = scripts.iter().map(Vec::len).sum();
     let mut places = vec![0; count + 2];

@@ -1,8 +1,8 @@
 //! What `seqaudit` does, in plain Rust: `plain check | replay | audit | chart --label N | drive`.
 //!
 //! It is written from the rules and tuned, and stands here to be timed beside the program: it proves nothing, has no
-//! limits, and writes the same bytes for bundles that the program takes, but for `drive`, of which it writes another run of
-//! the same acts. A text that is no bundle gets `fault line N` on standard error.
+//! limits, and writes the same bytes for bundles that the program takes, but for `drive`: of the same acts it may write
+//! another run. A text that is no bundle gets `fault line N` on standard error.
 
 mod audit;
 mod bundle;
