@@ -1,29 +1,21 @@
 #!/usr/bin/env python3
-"""Times the commands of programs on the bundles that bench/run made: measure.py ROUNDS PROGRAM PLAIN [SAME_SOURCE].
+"""Times the commands of programs on the bundles that bench/run made: measure.py ROUNDS FOLDER PROVED TUNED [PLAIN].
 
-The programs run in turn. Each cell is the program's median in seconds, the plain one's, the first as a part of the
-second, and the peaks of memory of both in megabytes; then the median and the peak of the program's own source in plain
-Rust (rust/README.md), if there is one. What all write must be the same, but for `drive`, whose run is the scheduler's
-choice; that output is only written."""
+The programs run in turn: the proved one, a tuned one in plain Rust, and the proved one's own source in plain Rust, if
+that is built. A table for each command is printed at the end, in markdown. A cell has the median in seconds, that
+divided by the tuned program's, and the peak of memory in megabytes. The scheduler decides which run `drive` makes, so
+its cells have the events of the last one too. Before the programs are timed, what they write has to be the same."""
 
-import filecmp
 import statistics
 import sys
-from collections import Counter
 
 sys.dont_write_bytecode = True
 
 from one_run import run_once  # noqa: E402
+from same import count_events, difference  # noqa: E402
+from traces import COMMANDS, TRACES, words_of  # noqa: E402
 
-BUNDLES = {
-    "ordinary": "8 processes",
-    "two": "2 processes",
-    "sixty-four": "64 processes",
-    "thousand": "1,000 processes",
-    "labels": "64 processes, 10,000 labels",
-    "nodes": "256 processes on 256 nodes",
-}
-COMMANDS = {"check": "run", "replay": "run", "audit": "streams", "chart": "streams", "drive": "scripts"}
+PROVED, TUNED, PLAIN = "proved", "tuned", "the same source in plain Rust"
 
 
 def measured(words, source, target):
@@ -34,42 +26,71 @@ def measured(words, source, target):
     return seconds, peak >> 20
 
 
-def commonest_label(path):
-    """The label of the most events."""
-    with open(path, encoding="ascii") as lines:
-        labels = Counter(line.split(",", 2)[1] for line in lines if line.startswith("{"))
-    return labels.most_common(1)[0][0]
+def compare(programs, words, source, written):
+    """Runs each program once, and stops if they don't write the same."""
+    for name, program in programs.items():
+        measured([program, *words], source, written[name])
+    if differs := difference(programs[PROVED], words, source, list(written.values())):
+        sys.exit(f"{' '.join(words)} < {source}: {differs}")
 
 
-def compare(programs, words, source, rounds):
-    """The medians and the greatest peaks of the programs."""
-    runs = {program: [] for program in programs}
+def timed(programs, words, source, folder, rounds):
+    """For each program the median, the greatest peak, and how many events its last run of threads reported."""
+    written = {name: f"{folder}/{place}.written" for place, name in enumerate(programs)}
+    compare(programs, words, source, written)
+    runs = {name: [] for name in programs}
     for _ in range(rounds):
-        for place, program in enumerate(programs):
-            runs[program].append(measured([program, *words], source, f"bin/bench/{place}.written"))
-    others = range(1, len(programs)) if words != ["drive"] else ()
-    if not all(filecmp.cmp("bin/bench/0.written", f"bin/bench/{place}.written", shallow=False) for place in others):
-        sys.exit(f"{' '.join(words)} < {source}: the programs write different texts")
-    return [(statistics.median(seconds for seconds, _ in done), max(peak for _, peak in done)) for done in runs.values()]
+        for name, program in programs.items():
+            runs[name].append(measured([program, *words], source, written[name]))
+    return {name: (statistics.median(seconds for seconds, _ in done), max(peak for _, peak in done),
+                   count_events(written[name]) if words == ["drive"] else None)
+            for name, done in runs.items()}
 
 
-def cell(ours, plain, *same_source):
-    """What a cell says of the medians and peaks."""
-    said = f"{ours[0]:.2f} / {plain[0]:.2f} s = {ours[0] / plain[0]:.2f}, {ours[1]} / {plain[1]} MB"
-    return said + "".join(f"; {seconds:.2f} s, {peak} MB" for seconds, peak in same_source)
+def cell(name, results):
+    """What a cell says of the program."""
+    seconds, peak, events = results[name]
+    ratio = "" if name == TUNED else f" = {seconds / results[TUNED][0]:.2f}"
+    said = f"{seconds:.2f} s{ratio}, {peak} MB"
+    return said if events is None else f"{said}, {events:,} events"
+
+
+def results_of(command, programs, folder, rounds):
+    """The results of the programs for each trace on which the command is timed, by its title."""
+    found = {}
+    for name, (title, commands) in TRACES.items():
+        if command in commands:
+            source = f"{folder}/{name}.{COMMANDS[command]}"
+            found[title] = timed(programs, words_of(command, source), source, folder, rounds)
+            cells = "; ".join(cell(column, found[title]) for column in programs)
+            print(f"{command}, {title}: {cells}", file=sys.stderr)
+    return found
+
+
+def legend(rounds, command, results):
+    """What a cell says, for instance this command's first."""
+    (seconds, peak, _), (tuned, _, _) = results[PROVED], results[TUNED]
+    said = f"`{command}` took {seconds:.2f} s, {seconds / tuned:.2f} times as long as the tuned program"
+    return f"Each cell has the median of {rounds} runs in turn. The first one says that {said}, with a peak of {peak} MB.\n"
+
+
+def table(command, columns, results):
+    """The lines of the command's table."""
+    yield f"| `{command}` | {' | '.join(columns)} |"
+    yield "|---|" + "---|" * len(columns)
+    for title, found in results.items():
+        yield f"| {title} | " + " | ".join(cell(column, found) for column in columns) + " |"
 
 
 def main():
-    rounds, *programs = sys.argv[1:]
-    print(f"| {int(rounds)} rounds | " + " | ".join(COMMANDS) + " |")
-    print("|---|" + "---|" * len(COMMANDS))
-    for name, title in BUNDLES.items():
-        cells = []
-        for command, kind in COMMANDS.items():
-            source = f"bin/bench/{name}.{kind}"
-            label = ["--label", commonest_label(source)] if command == "chart" else []
-            cells.append(cell(*compare(programs, [command, *label], source, int(rounds))))
-        print(f"| {title} | " + " | ".join(cells) + " |", flush=True)
+    rounds, folder, *given = sys.argv[1:]
+    programs = dict(zip((PROVED, TUNED, PLAIN), given))
+    columns = [name for name in (PROVED, PLAIN, TUNED) if name in programs]
+    results = {command: results_of(command, programs, folder, int(rounds)) for command in COMMANDS}
+    first = next(iter(COMMANDS))
+    print(legend(rounds, first, next(iter(results[first].values()))))
+    for command, found in results.items():
+        print(*table(command, columns, found), "", sep="\n")
 
 
 main()

@@ -38,7 +38,7 @@ pub struct World {
 }
 
 impl Process {
-    fn new(pid: Pid) -> Process {
+    pub fn new(pid: Pid) -> Process {
         Process { pid, token: None, clock: 0, last: 0, is_traced: false, queue: VecDeque::new() }
     }
 
@@ -78,9 +78,35 @@ impl Process {
     }
 
     #[inline]
-    fn print(&mut self, value: u64) -> Result<Option<Event>, Stuck> {
+    fn print(&mut self, value: u64) -> Result<Outcome, Stuck> {
         let token = self.stamp()?;
-        Ok(token.and_then(|token| self.report(&token, Kind::Print, 0, value)))
+        let report = token.and_then(|token| self.report(&token, Kind::Print, 0, value));
+        Ok(Outcome { report, sent: 0 })
+    }
+
+    /// The message of a send, which is still to be queued, and what the send reports.
+    #[inline]
+    pub fn send(&mut self, to: Pid, value: u64, number: u32) -> Result<(Message, Option<Event>), Stuck> {
+        let token = self.stamp()?;
+        let report = token.and_then(|token| self.report(&token, Kind::Send, to, value));
+        Ok((Message { from: self.pid, value, token, sent: number }, report))
+    }
+
+    /// Makes an act that touches no other process. Of others nothing is made.
+    #[inline]
+    pub fn act_alone(&mut self, deed: &Deed) -> Result<Outcome, Stuck> {
+        match *deed {
+            Deed::Receive(want) => return Ok(self.receive(want)),
+            Deed::Print(value) => return self.print(value),
+            Deed::PrintAt(label, value) if self.token.is_some_and(|token| token.label == label) => {
+                return self.print(value);
+            }
+            Deed::Set(component) => self.set(component),
+            Deed::Clear => self.token = None,
+            Deed::Restore(token) => self.token = Some(token),
+            Deed::PrintAt(..) | Deed::Look | Deed::Send(..) | Deed::Reset | Deed::Tracer(_) => {}
+        }
+        Ok(NOTHING)
     }
 
     fn place_of_wanted(&self, want: Want) -> Option<usize> {
@@ -109,7 +135,7 @@ impl Process {
         Outcome { report: self.report(&token, Kind::Receive, self.pid, value), sent }
     }
 
-    fn reset(&mut self) {
+    pub fn reset(&mut self) {
         (self.token, self.clock, self.last) = (None, 0, 0);
         self.queue.iter_mut().for_each(|message| message.token = None);
     }
@@ -127,31 +153,19 @@ impl World {
 
     fn send(&mut self, actor: Place, to: Place, value: u64, number: u32) -> Result<Outcome, Stuck> {
         let receiver = self.processes[to as usize].pid;
-        let process = &mut self.processes[actor as usize];
-        let token = process.stamp()?;
-        let report = token.and_then(|token| process.report(&token, Kind::Send, receiver, value));
-        let from = process.pid;
-        self.processes[to as usize].queue.push_back(Message { from, value, token, sent: number });
+        let (message, report) = self.processes[actor as usize].send(receiver, value, number)?;
+        self.processes[to as usize].queue.push_back(message);
         Ok(Outcome { report, sent: 0 })
     }
 
     /// Makes an act, whose number its message keeps.
     #[inline]
     pub fn step(&mut self, act: &Act, number: u32) -> Result<Outcome, Stuck> {
-        let process = &mut self.processes[act.actor as usize];
         match act.deed {
             Deed::Send(to, value) => return self.send(act.actor, to, value, number),
-            Deed::Receive(want) => return Ok(process.receive(want)),
-            Deed::Print(value) => return Ok(Outcome { report: process.print(value)?, sent: 0 }),
-            Deed::PrintAt(label, value) if process.token.is_some_and(|token| token.label == label) => {
-                return Ok(Outcome { report: process.print(value)?, sent: 0 });
-            }
-            Deed::PrintAt(..) | Deed::Look => {}
-            Deed::Set(component) => process.set(component),
-            Deed::Clear => process.token = None,
-            Deed::Restore(token) => process.token = Some(token),
             Deed::Reset => self.on_node_of(act.actor).for_each(Process::reset),
             Deed::Tracer(is_on) => self.on_node_of(act.actor).for_each(|process| process.is_traced = is_on),
+            deed => return self.processes[act.actor as usize].act_alone(&deed),
         }
         Ok(NOTHING)
     }

@@ -1,7 +1,8 @@
-//! What `seqaudit` does, in plain Rust and on one thread: `plain check | replay | audit | chart --label N | drive`.
+//! What `seqaudit` does, in plain Rust: `plain check | replay | audit | chart --label N | drive`.
 //!
 //! It is written from the rules and tuned, and stands here to be timed beside the program: it proves nothing, has no
-//! limits, and writes the same bytes for bundles that the program takes. A text that is no bundle gets `fault line N` on standard error.
+//! limits, and writes the same bytes for bundles that the program takes, but for `drive`: of the same acts it may write
+//! another run. A text that is no bundle gets `fault line N` on standard error.
 
 mod audit;
 mod bundle;
@@ -39,14 +40,14 @@ impl From<Fault> for Failure {
     }
 }
 
-/// Calls the closure with each act of the text.
-fn for_each_act(bytes: &[u8], streams: &Streams, mut take: impl FnMut(&Act)) -> Result<(), Failure> {
+/// Calls the closure with each act of the text and its line, without the newline.
+fn for_each_act<'a>(bytes: &'a [u8], streams: &Streams, mut take: impl FnMut(&Act, &'a [u8])) -> Result<(), Failure> {
     let acts = streams.acts.clone().ok_or(Failure::Fault("no acts"))?;
     let mut cursor = Cursor::new(bytes, acts.start);
     while cursor.at < acts.end {
         let begin = cursor.at;
         let act = cursor.act(&streams.pids).ok_or_else(|| line_of(bytes, begin))?;
-        take(&act);
+        take(&act, &bytes[begin..cursor.at - 1]);
     }
     Ok(())
 }
@@ -126,7 +127,7 @@ fn put_place(text: &mut Vec<u8>, streams: &Streams, at: At) {
 fn check(bytes: &[u8], out: &mut Out) -> Result<u8, Failure> {
     let streams = bundle::read(bytes)?;
     let mut checker = Checker::new(&streams);
-    for_each_act(bytes, &streams, |act| checker.follow(act))?;
+    for_each_act(bytes, &streams, |act, _| checker.follow(act))?;
     let verdict = checker.verdict();
     if !matches!(verdict, Verdict::Yes) {
         out.line(|text| {
@@ -147,12 +148,25 @@ fn check(bytes: &[u8], out: &mut Out) -> Result<u8, Failure> {
     Ok(0)
 }
 
+/// The bundle's text up to its acts, with these lines as the events of each process.
+fn put_streams<T: AsRef<[u8]>>(streams: &Streams, texts: &[T], out: &mut Out) -> Result<(), Failure> {
+    out.text(&[b"seqtrace ", &[streams.header][..], b"\n"].concat())?;
+    for (&pid, text) in streams.pids.listed.iter().zip(texts) {
+        out.line(|line| {
+            line.extend_from_slice(b"process ");
+            put_pid(line, pid);
+        })?;
+        out.text(text.as_ref())?;
+    }
+    Ok(out.line(|line| line.extend_from_slice(b"acts"))?)
+}
+
 fn replay(bytes: &[u8], out: &mut Out) -> Result<u8, Failure> {
     let streams = bundle::read(bytes)?;
     let mut world = World::new(&streams.pids);
     let mut texts: Vec<Vec<u8>> = vec![Vec::new(); streams.events.len()];
     let (mut number, mut stuck) = (0, None);
-    for_each_act(bytes, &streams, |act| {
+    for_each_act(bytes, &streams, |act, _| {
         if stuck.is_none() {
             match world.step(act, number) {
                 Ok(outcome) => {
@@ -174,15 +188,7 @@ fn replay(bytes: &[u8], out: &mut Out) -> Result<u8, Failure> {
         })?;
         return Ok(1);
     }
-    out.text(&[b"seqtrace ", &[streams.header][..], b"\n"].concat())?;
-    for (&pid, text) in streams.pids.listed.iter().zip(&texts) {
-        out.line(|line| {
-            line.extend_from_slice(b"process ");
-            put_pid(line, pid);
-        })?;
-        out.text(text)?;
-    }
-    out.text(b"acts\n")?;
+    put_streams(&streams, &texts, out)?;
     let acts = streams.acts.unwrap_or(0..0);
     out.text(&bytes[acts])?;
     Ok(0)
@@ -222,7 +228,7 @@ fn report(streams: &Streams, unfit: &Unfit, rest: impl FnOnce(&mut Vec<u8>), out
 
 fn audit_bundle(bytes: &[u8], out: &mut Out) -> Result<u8, Failure> {
     let streams = bundle::read(bytes)?;
-    for_each_act(bytes, &streams, |_| ()).or_else(|failure| match failure {
+    for_each_act(bytes, &streams, |_, _| ()).or_else(|failure| match failure {
         Failure::Fault("no acts") => Ok(()),
         failure => Err(failure),
     })?;
@@ -253,7 +259,7 @@ fn audit_bundle(bytes: &[u8], out: &mut Out) -> Result<u8, Failure> {
 
 fn chart_bundle(bytes: &[u8], label: u32, out: &mut Out) -> Result<u8, Failure> {
     let streams = bundle::read(bytes)?;
-    for_each_act(bytes, &streams, |_| ()).or_else(|failure| match failure {
+    for_each_act(bytes, &streams, |_, _| ()).or_else(|failure| match failure {
         Failure::Fault("no acts") => Ok(()),
         failure => Err(failure),
     })?;
@@ -282,7 +288,7 @@ fn run(words: &[&str], out: &mut Out) -> Result<u8, Failure> {
         ["replay"] => replay(&bytes, out),
         ["audit"] => audit_bundle(&bytes, out),
         ["chart", "--label", label] => chart_bundle(&bytes, label.parse().map_err(|_| Failure::Fault("usage"))?, out),
-        ["drive"] => drive::drive(&bytes).map(|()| 0).map_err(Failure::from),
+        ["drive"] => drive::drive(&bytes, out),
         _ => Err(Failure::Fault("usage")),
     }
 }
