@@ -1,5 +1,5 @@
 -- A receive's link says which send or print has its count, so that only this one can differ from it.
-use Rattle.std.proofs.Common.{◌≡◌, ℕ, ◌||◌, Bool, true, false, cond, if◌then◌else◌, List, Option, None, Some}
+use Rattle.std.proofs.Common.{◌≡◌, ℕ, ◌||◌, Bool, false, cond, if◌then◌else◌, List, None, Some}
 use Rattle.std.proofs.Common.{option_and_then, slice_get, refl, sym, ◌∙◌, ap, subst}
 use Rattle.std.proofs.lemmas.Option.{same_Some, none-some}
 use Rattle.st_core.specs.declared.types.Pid.{Pid}
@@ -7,7 +7,6 @@ use Rattle.st_core.specs.declared.types.Kind.TheVariants as kind
 use Rattle.st_core.specs.declared.types.Event.{Event}
 use Rattle.st_core.specs.Run.{Stream}
 use Rattle.st_core.specs.Streams.{events_of}
-use Rattle.st_pair.specs.declared.answer.PairFault.{PairFault}
 use Rattle.st_pair.specs.declared.answer.PairFault.TheVariants as fault
 use Rattle.st_pair.specs.declared.pairing.Link.{Link}
 use Rattle.st_pair.specs.declared.pairing.Link.TheVariants as link

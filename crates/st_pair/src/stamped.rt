@@ -75,13 +75,7 @@ fn row_at(rows: &[Row], number: usize, count: u64) -> Option<Row>
 {
     match rows.get(number) {
         None => None,
-        Some(row) => {
-            if row.count == count {
-                Some(*row)
-            } else {
-                None
-            }
-        }
+        Some(row) => { if row.count == count { Some(*row) } else { None } }
     }
 }
 

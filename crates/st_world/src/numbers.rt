@@ -4,7 +4,8 @@
 //! tested before it is believed, so nothing has to hold of the table, and a wrong guess costs a binary search.
 //! Whoever chooses pids that share a slot makes the search needed, and no more.
 
-ghost use Rattle.std.specs.Prelude.{◌≡◌, ◌<◌, position, IfOk};
+ghost use Rattle.std.specs.Prelude.{◌≡◌, false, position, slice_get, Some, IfNone, IfOk, IfSome};
+ghost use Rattle.std.specs.List.{AllByRecursion};
 ghost use Rattle.st_core.specs.Pid.{pid_eq, IsRising};
 
 use st_core::Pid;
@@ -36,8 +37,8 @@ impl Model for Numbers {
 /// no factor with the slots.
 const NODE_STEP: usize = 67;
 
-/// The most slots: four for each process that a text may have.
-const MOST_SLOTS: usize = 65_536;
+/// As many bits as the number of a slot has at most: a guess has no more.
+const MOST_SLOT_BITS: u32 = 16;
 
 /// The slot of a pid among so many, which are a power of two: pids whose numbers follow one another don't meet.
 #[inline]
@@ -45,13 +46,10 @@ fn slot_of(pid: Pid, slots: usize) -> usize {
     (usize::from(pid.number()) + NODE_STEP * usize::from(pid.node())) & slots.saturating_sub(1)
 }
 
-/// At least two slots for each of so many pids.
+/// At least two slots for each of so many pids, up to the most.
 fn slot_count(count: usize) -> usize {
-    let mut slots: usize = 2;
-    while slots < count.saturating_mul(2) && slots < MOST_SLOTS {
-        slots *= 2;
-    }
-    slots
+    let width = u64::BITS.saturating_sub((count as u64).leading_zeros());
+    1usize.wrapping_shl(width.saturating_add(1).min(MOST_SLOT_BITS))
 }
 
 impl Numbers {
@@ -77,14 +75,30 @@ impl Numbers {
     pub(crate) fn number_of(&self, pid: Pid) -> Option<usize>
         ensures { result ≡ position (λ p. pid_eq p pid) self.now }
     {
-        if let Some(guess) = self.guesses.get(slot_of(pid, self.guesses.len())) {
-            let guess = usize::from(*guess);
-            if let Some(found) = self.pids.get(guess) {
-                if *found == pid {
-                    return Some(guess);
-                }
-            }
-        }
-        self.pids.binary_search(&pid).ok()
+        place_of(&self.pids, guess_of(&self.guesses, pid), pid)
     }
+}
+
+/// Which number the pid may have.
+#[inline]
+fn guess_of(guesses: &[u16], pid: Pid) -> usize {
+    match guesses.get(slot_of(pid, guesses.len())) {
+        None => 0,
+        Some(guess) => usize::from(*guess),
+    }
+}
+
+/// Where the pid stands among these, which rise: at the guess, or where a binary search finds it.
+#[inline]
+fn place_of(pids: &[Pid], guess: usize, pid: Pid) -> Option<usize>
+    requires { IsRising pids.now }
+    ensures found { IfSome result (λ i. slice_get pids.now i ≡ Some pid) }
+    ensures missing { IfNone result (AllByRecursion (λ p. pid_eq p pid ≡ false) pids.now) }
+{
+    if let Some(found) = pids.get(guess) {
+        if *found == pid {
+            return Some(guess);
+        }
+    }
+    pids.binary_search(&pid).ok()
 }

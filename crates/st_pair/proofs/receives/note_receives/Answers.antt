@@ -52,7 +52,7 @@ loop-i-preserved c =
           let first = w.in-Ok.ensures.first
           ∙ ap (λ k. or_else (place_at c.loop-i.receives k) (Some (p, i))) w.of.ensures in
           let added : (k : Key) → place_at c.match-event.receives k
-              ≡ or_else (place_at c.loop-i.receives k) (here (key_in e) (p, i) k) =
+          ≡ or_else (place_at c.loop-i.receives k) (here (key_in e) (p, i) k) =
           λ k. ap (λ (r : Receives). place_at r k) w.receives-is ∙ w.in-Ok.ensures.noted own k
           ∙ ap (λ l. or_else (place_at c.loop-i.receives k) (here l (p, i) k)) w.of.ensures in
           record {

@@ -1,6 +1,5 @@
 -- The link of a receive names the one event that can be its send.
-use Rattle.std.proofs.Common.{sym, ◌∙◌, ap, cond, Bool, None, Some}
-use Rattle.st_pair.specs.declared.answer.PairFault.TheVariants as fault
+use Rattle.std.proofs.Common.{sym, ◌∙◌}
 use Rattle.st_pair.proofs.Matches.{linked_from, mismatch_is, not_absent}
 use Rattle.st_pair.proofs.rules.mismatch_at.Goals as goal
 
