@@ -11,8 +11,8 @@ from .program import Check
 SEED, MULTIPLIER, WORD = 0x243F_6A88_85A3_08D3, 0x9E37_79B9_7F4A_7C15, (1 << 64) - 1
 # So many receives, and the few places that their keys fall into, of as many as a table for them has.
 RECEIVES, PLACES, CHOSEN = 50_000, 1 << 16, 1 << 9
-# The acts of processes whose pids share places.
-ACTS = 400_000
+# So many processes whose pids share places, as many as `seqtool` reads, and their acts.
+PROCESSES, ACTS = 16_000, 400_000
 # How far apart the slots of equal numbers on neighbouring nodes lie in the tables of guesses, and the numbers of a node.
 NODE_STEP, NUMBERS = 67, 1 << 16
 # How many times as long as another text of its size a flood may take, and the seconds that don't count.
@@ -59,13 +59,13 @@ COUNTS = {
 }
 
 
-def pids_sharing_places(count):
+def pids_sharing_places():
     every = ((node, number) for number, node in product(range(NUMBERS), range(64)))
-    return sorted(islice((pid for pid in every if place_of_pid(*pid) < CHOSEN), count))
+    return sorted(islice((pid for pid in every if place_of_pid(*pid) < CHOSEN), PROCESSES))
 
 
-def pids_sharing_a_slot(count):
-    return [(node, -NODE_STEP * node % NUMBERS) for node in range(count)]
+def pids_sharing_a_slot():
+    return [(node, -NODE_STEP * node % NUMBERS) for node in range(PROCESSES)]
 
 
 PIDS = {
@@ -83,7 +83,7 @@ def received(counts):
 def looked_at(pids):
     """Acts of these processes, one after the other."""
     names = [b"<%d.%d.0>" % pid for pid in pids]
-    yield b"seqtrace 1\n"
+    yield b"seqtrace %d\n" % (2 if any(node for node, _ in pids) else 1)
     yield from (b"process %s\n" % name for name in names)
     yield b"acts\n"
     yield from (b"look %s\n" % name for name in islice(cycle(names), ACTS))
@@ -110,9 +110,9 @@ def tried(program, words):
         yield compared(program, words, f"{len(flood):,} {name}", received(other), received(flood))
 
 
-def pids_tried(program, words, processes):
+def pids_tried(program, words):
     """A flood of pids takes about as long as as many acts of processes whose numbers follow one another."""
     for name, chosen in PIDS.items():
-        flood = chosen(processes)
+        flood = chosen()
         other = [(0, number) for number in range(len(flood))]
         yield compared(program, words, f"{len(flood):,} {name}", looked_at(other), looked_at(flood))
