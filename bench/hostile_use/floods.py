@@ -1,19 +1,19 @@
-"""Floods: texts whose counts or pids fall into a few places of a hash table, or into one slot of a table of guesses. Whoever
-writes a text can choose them so, and a table that doesn't expect it takes time that grows as their square."""
+"""Floods: texts whose counts or pids fall into a few places of a hash table, or into one slot of a table of guesses.
+Whoever writes a text can choose them so, and a table that doesn't expect it takes time that grows as their square."""
 
 from functools import cache
 from itertools import count as counted, cycle, islice, product
 
 from .program import Check
 
-# The library's hash, which begins with a fixed seed: of each number, or pair of numbers, one multiplication, whose halves
-# are joined.
+# The library's hash, which begins with a fixed seed: of each number, or pair of numbers, one multiplication, whose
+# halves are joined.
 SEED, MULTIPLIER, WORD = 0x243F_6A88_85A3_08D3, 0x9E37_79B9_7F4A_7C15, (1 << 64) - 1
 # So many receives, and the few places that their keys fall into, of as many as a table for them has.
 RECEIVES, PLACES, CHOSEN = 50_000, 1 << 16, 1 << 9
 # So many processes whose pids share places, as many as `seqtool` reads, and their acts.
 PROCESSES, ACTS = 16_000, 400_000
-# How far apart the slots of equal numbers on neighbouring nodes lie in the tables of guesses, and the numbers of a node.
+# How far apart the slots of equal numbers on neighbouring nodes lie in the tables of guesses; the numbers of a node.
 NODE_STEP, NUMBERS = 67, 1 << 16
 # How many times as long as another text of its size a flood may take, and the seconds that don't count.
 TIMES, LEAST = 2, 0.2
@@ -50,8 +50,8 @@ def sharing(place_of):
     return [number for number in islice(counted(1), RECEIVES * PLACES // CHOSEN) if place_of(number) < CHOSEN]
 
 
-# Counts of receives from one process. What is hashed first is a digest of all keys, so that nobody can know which meet; the
-# last ones are alike in all their low bits.
+# Counts of receives from one process. A hash that begins with a digest of all keys leaves nobody to know which meet; the
+# last counts are alike in their low bits.
 COUNTS = {
     "counts that share places by the library's hash": lambda: sharing(place_of_count),
     "counts that share places with their sender": lambda: sharing(place_of_key),
