@@ -1,22 +1,77 @@
-"""Floods: receives whose counts fall into a few places of a hash table with the library's fixed seed. Whoever writes a text
-can choose them so, and a table that is keyed by counts with that seed takes time that grows as their square."""
+"""Floods: texts whose counts or pids fall into a few places of a hash table, or into one slot of a table of guesses.
+Whoever writes a text can choose them so, and a table that doesn't expect it takes time that grows as their square."""
 
-from itertools import count as counted, islice
+from functools import cache
+from itertools import count as counted, cycle, islice, product
 
 from .program import Check
 
-# The library's hash of a count: one multiplication, whose halves are joined.
+# The library's hash, which begins with a fixed seed: of each number, or pair of numbers, one multiplication, whose
+# halves are joined.
 SEED, MULTIPLIER, WORD = 0x243F_6A88_85A3_08D3, 0x9E37_79B9_7F4A_7C15, (1 << 64) - 1
-# So many receives, and the few places that their counts fall into, of as many as a table for them has.
+# So many receives, and the few places that their keys fall into, of as many as a table for them has.
 RECEIVES, PLACES, CHOSEN = 50_000, 1 << 16, 1 << 9
+# So many processes whose pids share places, as many as `seqtool` reads, and their acts.
+PROCESSES, ACTS = 16_000, 400_000
+# How far apart the slots of equal numbers on neighbouring nodes lie in the tables of guesses; the numbers of a node.
+NODE_STEP, NUMBERS = 67, 1 << 16
 # How many times as long as another text of its size a flood may take, and the seconds that don't count.
 TIMES, LEAST = 2, 0.2
 
 
-def place(number):
-    product = (SEED ^ number) * (MULTIPLIER ^ 16)
-    folded = (product ^ product >> 64) & WORD
-    return (folded ^ folded >> 32) % PLACES
+def joined(left, right):
+    whole = left * right
+    return (whole ^ whole >> 64) & WORD
+
+
+def place(hashed):
+    return (hashed ^ hashed >> 32) % PLACES
+
+
+def place_of_count(number):
+    return place(joined(SEED ^ number, MULTIPLIER ^ 16))
+
+
+def place_of_key(number):
+    """That of a count and the sender <0.0.0>, as 16 bytes."""
+    return place(joined(SEED + 16 ^ number, MULTIPLIER))
+
+
+def place_of_pid(node, number):
+    """That of a pid, as two numbers of two bytes, of which the library takes the second byte twice."""
+    state = SEED
+    for part in (node, number):
+        state = joined(state ^ (part | part >> 8 << 16), MULTIPLIER ^ 4)
+    return place(state)
+
+
+@cache
+def sharing(place_of):
+    return [number for number in islice(counted(1), RECEIVES * PLACES // CHOSEN) if place_of(number) < CHOSEN]
+
+
+# Counts of receives from one process. A hash that begins with a digest of all keys leaves nobody to know which meet; the
+# last counts are alike in their low bits.
+COUNTS = {
+    "counts that share places by the library's hash": lambda: sharing(place_of_count),
+    "counts that share places with their sender": lambda: sharing(place_of_key),
+    "counts whose low 44 bits are 0": lambda: [number << 44 for number in range(1, RECEIVES)],
+}
+
+
+def pids_sharing_places():
+    every = ((node, number) for number, node in product(range(NUMBERS), range(64)))
+    return sorted(islice((pid for pid in every if place_of_pid(*pid) < CHOSEN), PROCESSES))
+
+
+def pids_sharing_a_slot():
+    return [(node, -NODE_STEP * node % NUMBERS) for node in range(PROCESSES)]
+
+
+PIDS = {
+    "pids that share places by the library's hash": pids_sharing_places,
+    "pids that share one slot of each table of guesses": pids_sharing_a_slot,
+}
 
 
 def received(counts):
@@ -25,17 +80,39 @@ def received(counts):
     yield from (b"{seq_trace,1,{'receive',{0,%d},<0.0.0>,<0.1.0>,0}}\n" % this for this in counts)
 
 
-def tried(program, words):
-    """The flood takes about as long as as many receives with counts that follow one another."""
-    flood = [number for number in islice(counted(1), RECEIVES * PLACES // CHOSEN) if place(number) < CHOSEN]
-    taken = {}
-    for counts in (range(flood[0], flood[0] + len(flood)), flood):
-        got, _, seconds, _ = program.measure(words, received(counts), 60)
+def looked_at(pids):
+    """Acts of these processes, one after the other."""
+    names = [b"<%d.%d.0>" % pid for pid in pids]
+    yield b"seqtrace %d\n" % (2 if any(node for node, _ in pids) else 1)
+    yield from (b"process %s\n" % name for name in names)
+    yield b"acts\n"
+    yield from (b"look %s\n" % name for name in islice(cycle(names), ACTS))
+
+
+def compared(program, words, name, other, flood):
+    """Whether the flood takes about as long as the other text."""
+    label, taken = f"floods: {name}, by {' '.join(words)}", []
+    for text in (other, flood):
+        got, _, seconds, _ = program.measure(words, text, 60)
         if got.status > 1:  # `audit` may refuse the counts.
-            yield Check(f"floods: {' '.join(words)}", f"status {got.status} after {seconds:.2f} s")
-            return
-        taken[counts is flood] = seconds
-    most = TIMES * taken[False] + LEAST
-    problem = f"{taken[True]:.2f} s, and less than {most:.2f} s is promised" if taken[True] >= most else None
-    yield Check(f"floods: {len(flood):,} counts that share {CHOSEN:,} places, by {' '.join(words)}", problem,
-                f"{taken[True]:.2f} s, other counts {taken[False]:.2f} s")
+            return Check(label, f"status {got.status} after {seconds:.2f} s")
+        taken.append(seconds)
+    most = TIMES * taken[0] + LEAST
+    problem = f"{taken[1]:.2f} s, and less than {most:.2f} s is promised" if taken[1] >= most else None
+    return Check(label, problem, f"{taken[1]:.2f} s, others {taken[0]:.2f} s")
+
+
+def tried(program, words):
+    """A flood of counts takes about as long as as many receives with counts that follow one another."""
+    for name, chosen in COUNTS.items():
+        flood = chosen()
+        other = range(flood[0], flood[0] + len(flood))
+        yield compared(program, words, f"{len(flood):,} {name}", received(other), received(flood))
+
+
+def pids_tried(program, words):
+    """A flood of pids takes about as long as as many acts of processes whose numbers follow one another."""
+    for name, chosen in PIDS.items():
+        flood = chosen()
+        other = [(0, number) for number in range(len(flood))]
+        yield compared(program, words, f"{len(flood):,} {name}", looked_at(other), looked_at(flood))

@@ -153,14 +153,14 @@ got_says q this p i e x h =
       index = ap (λ (y : Pid × ℕ). y.1) parts.1;
     }
 
-module _ (streams : List Stream) (ok : IsPaired streams) (p : Pid) where
+module _ (streams : List Stream) (rising : first (not_rising streams) streams ≡ None) (p : Pid) where
   rises_at : (i : ℕ) (e : Event) (g : ℕ × Event) → event_at streams p i ≡ Some e → is_stamp e ≡ true
       → stamp_before (events_of streams p) i ≡ Some g → g.1.serial.this < e.serial.this
   rises_at i e g at stamp before =
       let test : Bool → Bool = λ b. not b || nat_lt g.1.serial.this e.serial.this in
       let given = ap (option_and_then (λ (f : ℕ × Event). if not (is_stamp e) || nat_lt f.1.serial.this e.serial.this
       then None else Some (fault.NotRising p i f.0))) (sym before)
-      ∙ event_none (not_rising streams) streams ok.rising p i e at in
+      ∙ event_none (not_rising streams) streams rising p i e at in
       let holds = cond_none (test (is_stamp e)) (fault.NotRising p i g.0) given in
       ltb-true g.1.serial.this e.serial.this (ap test (sym stamp) ∙ holds)
 
@@ -198,14 +198,21 @@ module _ (streams : List Stream) (ok : IsPaired streams) (p : Pid) where
   ]
 
   -- an earlier send or print counts less
-  pub stamp_counts_rise : (j i : ℕ) (d e : Event) → j < i → event_at streams p j ≡ Some d
+  pub counts_rise : (j i : ℕ) (d e : Event) → j < i → event_at streams p j ≡ Some d
       → event_at streams p i ≡ Some e
       → is_stamp d ≡ true → is_stamp e ≡ true → d.serial.this < e.serial.this
-  stamp_counts_rise j i d e less at_d at_e stamp_d stamp_e =
+  counts_rise j i d e less at_d at_e stamp_d stamp_e =
       let before = high i j d less at_d stamp_d in
       let low = before.above in
       let more = rises_at i e before.stamp at_e stamp_e before.is in
       omega arith
+
+module _ (streams : List Stream) (ok : IsPaired streams) (p : Pid) where
+  -- the same if no reason holds
+  pub stamp_counts_rise : (j i : ℕ) (d e : Event) → j < i → event_at streams p j ≡ Some d
+      → event_at streams p i ≡ Some e
+      → is_stamp d ≡ true → is_stamp e ≡ true → d.serial.this < e.serial.this
+  stamp_counts_rise = counts_rise streams ok.rising p
 
   stamp_there : (j : ℕ) (f : Event) → event_at streams p j ≡ Some f → is_stamp f ≡ true
       → stamp_of streams p f.serial.this ≡ None → ⊥

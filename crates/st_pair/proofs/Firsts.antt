@@ -9,7 +9,15 @@ use Rattle.st_core.specs.Run.{Stream, pids_of}
 use Rattle.st_core.specs.Streams.{stream_of, events_of}
 use Rattle.st_core.proofs.ForCallers.{above_apart, pid_eq-same}
 use Rattle.st_pair.specs.Places.{first_from, first, or_else}
-use Rattle.st_pair.proofs.NotedRows.{or_assoc}
+
+module _ {X : Type 0} where
+  pub or_none : (o : Option X) → or_else o None ≡ o
+  or_none None = refl
+  or_none (Some x) = refl
+
+  pub or_assoc : (a b c : Option X) → or_else (or_else a b) c ≡ or_else a (or_else b c)
+  or_assoc None b c = refl
+  or_assoc (Some x) b c = refl
 
 module _ {X : Type 0} (rule : Pid → ℕ → Event → Option X) where
   -- the event at the front of what is left, and then the rest
@@ -19,6 +27,28 @@ module _ {X : Type 0} (rule : Pid → ℕ → Event → Option X) where
   first_from-at p i zero (f ∷ es) e at = ap (λ (x : Event). or_else (rule p i x) (first_from rule p (i + 1) es))
       (same_Some f e at)
   first_from-at p i (suc k) (f ∷ es) e at = first_from-at p i k es e at
+
+  -- the same in a loop over the events
+  pub first_from-step : (p : Pid) (i : ℕ) (es : List Event) (e : Event) → slice_get es i ≡ Some e
+      → first_from rule p i (drop i es) ≡ or_else (rule p i e) (first_from rule p (i + 1) (drop (i + 1) es))
+  first_from-step p i es e at =
+      let next : suc i ≡ i + 1 = omega arith in
+      first_from-at p i i es e at
+      ∙ ap (λ (n : ℕ). or_else (rule p i e) (first_from rule p (i + 1) (drop n es))) next
+
+  -- past an event at which it gives nothing
+  pub first_from-passed : (p : Pid) (i : ℕ) (es : List Event) (e : Event) → slice_get es i ≡ Some e → rule p i e ≡ None
+      → first_from rule p 0 es ≡ first_from rule p i (drop i es)
+      → first_from rule p 0 es ≡ first_from rule p (i + 1) (drop (i + 1) es)
+  first_from-passed p i es e at none far = far ∙ first_from-step p i es e at
+      ∙ ap (λ (o : Option X). or_else o (first_from rule p (i + 1) (drop (i + 1) es))) none
+
+  -- at an event at which it gives something
+  pub first_from-given : (p : Pid) (i : ℕ) (es : List Event) (e : Event) (x : X) → slice_get es i ≡ Some e
+      → rule p i e ≡ Some x → first_from rule p 0 es ≡ first_from rule p i (drop i es)
+      → first_from rule p 0 es ≡ Some x
+  first_from-given p i es e x at given far = far ∙ first_from-step p i es e at
+      ∙ ap (λ (o : Option X). or_else o (first_from rule p (i + 1) (drop (i + 1) es))) given
 
   pub first_from-end : (p : Pid) (i k : ℕ) (es : List Event) → length es ≡ k → first_from rule p i (drop k es) ≡ None
   first_from-end p i zero [] len = refl
@@ -92,6 +122,14 @@ module _ {X : Type 0} (rule : Pid → ℕ → Event
       let at = at_get_or pids k d within in
       rw add-one (first-at rule k streams (get_or pids k d) rising
       (subst (λ (ps : List Pid). slice_get ps k ≡ Some (get_or pids k d)) are at))
+
+  -- of events that are the process's
+  pub first-events : (pids : List Pid) (k : ℕ) (d : Pid) (es : List Event) → pids ≡ pids_of streams → k < length pids
+      → es ≡ events_of streams (get_or pids k d)
+      → first rule (drop k streams) ≡ or_else (first_from rule (get_or pids k d) 0 es) (first rule (drop (k + 1) streams))
+  first-events pids k d es are within events = first-loop pids k d are within
+      ∙ ap (λ (l : List Event). or_else (first_from rule (get_or pids k d) 0 l) (first rule (drop (k + 1) streams)))
+      (sym events)
 
   -- a process that gives something
   pub first-given : (pids : List Pid) (k : ℕ) (d : Pid) (x : X) → pids ≡ pids_of streams → k < length pids

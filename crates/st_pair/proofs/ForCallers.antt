@@ -14,7 +14,7 @@ pub use Rattle.st_pair.proofs.OwnStamps.{own_rule}
 pub use Rattle.st_pair.proofs.FinalReasons.{refusal_rules_out, refused_never_shown}
 pub use Rattle.st_pair.proofs.FullyShown.{shown_accepted, send_shown}
 -- ---- what a rule gives first, in one stream and in all
-pub use Rattle.st_pair.proofs.NotedRows.{or_none, or_assoc}
+pub use Rattle.st_pair.proofs.Firsts.{or_none, or_assoc}
 pub use Rattle.st_pair.proofs.Firsts.{first_from-at, first_from-end, first-at, first-end, first-loop}
 pub use Rattle.st_pair.proofs.Converse.{IsGiven, given_from, given_at}
 pub use Rattle.st_pair.proofs.Leasts.{first_least}
@@ -23,4 +23,4 @@ pub use Rattle.st_pair.proofs.Firsts.{IsAt, is_at, at_get_or, events_in}
 pub use Rattle.st_pair.proofs.Stamps.{blank}
 pub use Rattle.st_pair.proofs.Linkage.{take_map}
 -- ---- the order of pids
-pub use Rattle.st_pair.proofs.SortedRows.{pid_total}
+pub use Rattle.st_pair.proofs.PidOrder.{pid_total}

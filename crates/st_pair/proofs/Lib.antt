@@ -1,12 +1,14 @@
 -- The lemmas; what upper crates may cite is in `ForCallers`.
-pub mod NotedRows
-pub mod SortedRows
+pub mod PidOrder
 pub mod Firsts
 pub mod OwnStamps
 pub mod Stamps
 pub mod Linkage
 pub mod AcceptedEvents
 pub mod Converse
+pub mod Received
+pub mod StampRows
+pub mod Matches
 pub mod Leasts
 pub mod Reasons
 pub mod FinalReasons

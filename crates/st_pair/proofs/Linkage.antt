@@ -73,27 +73,28 @@ take_map f [] k x at = absurd (cc)
 take_map f (y ∷ xs) zero x at = ap (λ z. f z ∷ []) (same_Some y x at)
 take_map f (y ∷ xs) (suc k) x at = ap (λ zs. f y ∷ zs) (take_map f xs k x at)
 
-pub linked_more : (all streams : List Stream) (pids : List Pid) (k : ℕ) (d : Pid) (es : List Event)
-    (before : List (List Link)) (links : List Link) → IsRising (pids_of streams) → pids ≡ pids_of streams
+-- what is made of each stream
+pub gathered : {X : Type 0} (f : Stream → X) (streams : List Stream) (pids : List Pid) (k : ℕ) (d : Pid)
+    (es : List Event) (before : List X) (x : X) → IsRising (pids_of streams) → pids ≡ pids_of streams
     → k < length pids → es ≡ events_of streams (get_or pids k d)
-    → links ≡ map (link_of all (get_or pids k d)) es → before ≡ map (links_in all) (take k streams)
-    → before ++ links ∷ [] ≡ map (links_in all) (take (k + 1) streams)
-linked_more all streams pids k d es before links rising are within events is far =
+    → x ≡ f (record { pid = get_or pids k d; events = es }) → before ≡ map f (take k streams)
+    → before ++ x ∷ [] ≡ map f (take (k + 1) streams)
+gathered {X} f streams pids k d es before x rising are within events is far =
     let p = get_or pids k d in
     let at = at_get_or pids k d within in
     let s = is_at streams k p rising (subst (λ (ps : List Pid). slice_get ps k ≡ Some p) are at) in
     let same : s.stream.events ≡ es = sym (ap events_in s.found) ∙ sym events in
-    let here : links_in all s.stream ≡ links = ap (λ (q : Pid). map (link_of all q) s.stream.events) s.pid
-    ∙ ap (map (link_of all p)) same ∙ sym is in
+    let who = s.pid in
+    let here : f s.stream ≡ x = (λ i. f (record { pid = who i; events = same i })) ∙ sym is in
     let next : suc k ≡ k + 1 = omega arith in
-    ap (λ (ls : List (List Link)). ls ++ links ∷ []) far
-    ∙ ap (λ (l : List Link). map (links_in all) (take k streams) ++ l ∷ []) (sym here)
-    ∙ sym (take_map (links_in all) streams k s.stream s.at)
-    ∙ ap (λ (n : ℕ). map (links_in all) (take n streams)) next
+    ap (λ (xs : List X). xs ++ x ∷ []) far
+    ∙ ap (λ (y : X). map f (take k streams) ++ y ∷ []) (sym here)
+    ∙ sym (take_map f streams k s.stream s.at)
+    ∙ ap (λ (n : ℕ). map f (take n streams)) next
 
 -- WHAT A LINK SAYS
 
-slice_get_map : {A B : Type 0} (f : A → B) (xs : List A) (i : ℕ)
+pub slice_get_map : {A B : Type 0} (f : A → B) (xs : List A) (i : ℕ)
     → slice_get (map f xs) i ≡ option_map f (slice_get xs i)
 slice_get_map f [] i = refl
 slice_get_map f (x ∷ xs) zero = refl

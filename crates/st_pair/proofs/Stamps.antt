@@ -1,6 +1,6 @@
 -- Sends and prints: the one that `stamp_of` finds, and the last one before an index.
 use Rattle.std.proofs.Common.{◌≡◌, ℕ, ◌+◌, ◌==◌, ◌&&◌, suc, Bool, true, false, cond, if◌then◌else◌, List, [], ◌∷◌}
-use Rattle.std.proofs.Common.{Option, None, Some, slice_get, refl, sym, ◌∙◌, ap, subst, arith}
+use Rattle.std.proofs.Common.{Option, None, Some, slice_get, ◌∙◌, ap, subst, arith}
 use Rattle.std.proofs.lemmas.Option.{same_Some}
 use Rattle.st_core.specs.declared.types.Pid.{Pid}
 use Rattle.st_core.specs.declared.types.Event.{Event}
@@ -9,7 +9,7 @@ use Rattle.st_core.specs.Run.{Stream}
 use Rattle.st_core.specs.Streams.{events_of}
 use Rattle.st_pair.specs.Places.{is_stamp, first_from, or_else}
 use Rattle.st_pair.specs.Pairing.{stamp_before, stamp_of}
-use Rattle.st_pair.proofs.OwnStamps.{own_rule, placed}
+use Rattle.st_pair.proofs.OwnStamps.{own_rule}
 
 -- what a loop's goals name past the end
 abbrev pub blank : Event
@@ -55,31 +55,6 @@ module _ (streams : List Stream) (q : Pid) (this : ℕ) where
       let t = stamp_from q this 0 (events_of streams q) f is in
       let index : t.place ≡ f.0 = let j = t.index in omega arith in
       subst (λ (n : ℕ). slice_get (events_of streams q) n ≡ Some f.1) index t.at
-
-  -- the place that the table gives is that of the stamp, and the event there is it
-  pub stamp_sent : (at : Pid × ℕ) (sent : Event) → Some at ≡ placed q (stamp_of streams q this)
-      → Some sent ≡ slice_get (events_of streams q) at.1 → stamp_of streams q this ≡ Some (at.1, sent)
-  stamp_sent at sent is read = elim (stamp_of streams q this)
-      as (λ o. stamp_of streams q this ≡ o → Some at ≡ placed q o → o ≡ Some (at.1, sent)) [
-        | None ↦ λ e h. absurd (cc)
-        | Some f ↦ λ e h.
-            let index : at.1 ≡ f.0 = ap (λ (x : Pid × ℕ). x.1) (same_Some at (q, f.0) h) in
-            let event : f.1 ≡ sent = same_Some f.1 sent (sym (stamp_at f e)
-            ∙ sym (ap (slice_get (events_of streams q)) index) ∙ sym read) in
-            λ i. Some (sym index i, event i)
-      ] refl is
-
-  pub stamp_read : (at : Pid × ℕ) → Some at ≡ placed q (stamp_of streams q this)
-      → None ≡ slice_get (events_of streams q) at.1 → ⊥
-  stamp_read at is read = elim (stamp_of streams q this)
-      as (λ o. stamp_of streams q this ≡ o → Some at ≡ placed q o → ⊥) [
-        | None ↦ λ e h. absurd (cc)
-        | Some f ↦ λ e h.
-            let index : at.1 ≡ f.0 = ap (λ (x : Pid × ℕ). x.1) (same_Some at (q, f.0) h) in
-            let event : Some f.1 ≡ None = sym (stamp_at f e) ∙ sym (ap (slice_get (events_of streams q)) index)
-            ∙ sym read in
-            absurd (cc)
-      ] refl is
 
 -- THE LAST STAMP
 

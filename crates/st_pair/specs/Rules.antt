@@ -1,26 +1,28 @@
--- Rules with the tables that they look into.
-use Rattle.std.specs.Prelude.{ℕ, List, Option, option_map}
+-- Rules as the parts look for them.
+use Rattle.std.specs.Prelude.{◌≡◌, ℕ, ◌==◌, ◌&&◌, List, Option, Some, None, option_map, if◌then◌else◌}
 use Rattle.st_core.specs.declared.types.Pid.{Pid}
 use Rattle.st_core.specs.declared.types.Event.{Event}
+use Rattle.st_core.specs.Pid.{pid_eq}
 use Rattle.st_core.specs.Run.{Stream}
 use Rattle.st_pair.specs.declared.answer.PairFault.{PairFault}
+use Rattle.st_pair.specs.declared.answer.PairFault.TheVariants as fault
 use Rattle.st_pair.specs.declared.rules.Rule.{Rule}
 use Rattle.st_pair.specs.declared.rules.Rule.TheVariants as rule
-use Rattle.st_pair.specs.Pairing.{prev_not_before, not_rising, repeated, mismatch, stamp_before}
-use Rattle.st_pair.specs.Tables.{place_at_key, HasReceives, HasStamps}
+use Rattle.st_pair.specs.Pairing.{prev_not_before, not_rising, stamp_before}
 
 -- what a rule gives at an event
 abbrev pub fault_at : Rule → List Stream → Pid → ℕ → Event → Option PairFault
 fault_at rule.PrevNotBefore streams = prev_not_before
 fault_at rule.NotRising streams = not_rising streams
-fault_at (rule.Repeated table) streams = repeated streams
-fault_at (rule.Mismatch table) streams = mismatch streams
 
--- the table that a rule looks into is that of the streams
-abbrev pub HasTable : Rule → List Stream → Type 0
-HasTable (rule.Repeated table) streams = HasReceives streams (place_at_key table.now)
-HasTable (rule.Mismatch table) streams = HasStamps streams (place_at_key table.now)
-HasTable r streams = Unit {0}
+-- what `repeated` gives at a receive, if this is the first one with its sender and count
+abbrev pub repeated_by : Pid × ℕ → Pid → ℕ → Option PairFault
+repeated_by at p i = if pid_eq at.0 p && at.1 == i then None else Some (fault.Repeated p i at.0 at.1)
+
+-- a rule gives this first, or memory ran out
+abbrev pub IsFirstFault : Option PairFault → PairFault → Type 0
+IsFirstFault first fault.Memory = Unit {0}
+IsFirstFault first f = first ≡ Some f
 
 -- the index and the count of the last send or print before index i
 abbrev pub count_before : List Event → ℕ → Option (ℕ × ℕ)

@@ -7,11 +7,12 @@
 #![tactic(auto)]
 
 mod answer;
-mod guesses;
 pub mod laws;
 mod pairing;
+mod receives;
 mod rules;
-mod tables;
+mod seed;
+mod stamped;
 
 pub use answer::{PairFault, Source};
 pub use pairing::{Pairing, pair};

@@ -1,19 +1,23 @@
 //! What each receive follows.
 
-ghost use Rattle.std.specs.Prelude.{◌≡◌, false, List, map, None, Some, IfOk, IfErr, IfSome, IfNone};
-ghost use Rattle.std.specs.Prelude.{slice_get};
+ghost use Rattle.std.specs.Prelude.{◌≡◌, false, List, [], ◌∷◌, map, None, Some};
+ghost use Rattle.std.specs.Prelude.{slice_get, IfOk, IfErr, IfSome, IfNone, OnOk};
 ghost use Rattle.std.specs.List.{AllByRecursion};
 ghost use Rattle.st_core.specs.Pid.{pid_eq, IsRising};
-ghost use Rattle.st_core.specs.Run.{Stream};
-ghost use Rattle.st_pair.specs.Pairing.{source_at, receiver_at, refusal, IsPairFault};
+ghost use Rattle.st_core.specs.Run.{pids_of, Stream};
+ghost use Rattle.st_pair.specs.Pairing.{first_rule, mismatch, source_at, receiver_at};
+ghost use Rattle.st_pair.specs.Pairing.{refusal, IsPairFault};
+ghost use Rattle.st_pair.specs.Places.{first, first_from};
 ghost use Rattle.st_pair.specs.Final.{RulesOut};
 ghost use Rattle.st_pair.specs.Links.{IsPairing, link_at, link_of, pairing_of, links_in};
 ghost use Rattle.st_pair.specs.Links.{receiver_in, source_in};
-ghost use Rattle.st_pair.specs.Tables.{place_at_key, HasReceives, HasStamps};
+ghost use Rattle.st_pair.specs.Rules.{IsFirstFault};
+ghost use Rattle.st_pair.specs.Tables.{AreTables};
 
 use crate::answer::{PairFault, Source};
-use crate::rules::Rule;
-use crate::tables::{Table, receive_count, receives, stamps};
+use crate::receives::Receives;
+use crate::rules::{Rule, mismatch_at};
+use crate::stamped::Stamps;
 use st_core::{Event, Kind, Pid, Sequence, Streams};
 use std::alloc::{AllocError, Global};
 use std::marker::Model;
@@ -125,118 +129,109 @@ fn place_of(pids: &[Pid], pid: Pid) -> Option<usize>
     pids.binary_search(&pid).ok()
 }
 
-/// What an event is paired with.
-fn link_of(streams: &Streams, got: &Table, sent: &Table, pid: Pid, event: &Event) -> Link
-    requires got { HasReceives streams.now (place_at_key got.now) }
-    requires sent { HasStamps streams.now (place_at_key sent.now) }
-    ensures { result ≡ link_of streams.now pid event.now }
-{
-    match event.kind {
-        Kind::Print => Link::Printed,
-        Kind::Send => match got.find(pid, event.serial.this) {
-            None => Link::Unpaired,
-            Some((to, index)) => Link::To(to, index),
-        },
-        Kind::Receive => match sent.find(event.from, event.serial.this) {
-            None => Link::Hidden,
-            Some((from, index)) => Link::From(from, index),
-        },
-    }
-}
-
-/// What the events of one process are paired with.
-fn links_of(
-    alloc: Global,
-    streams: &Streams,
-    got: &Table,
-    sent: &Table,
-    pid: Pid,
-    events: &[Event],
-) -> Result<Vec<Link>, AllocError>
-    requires got { HasReceives streams.now (place_at_key got.now) }
-    requires sent { HasStamps streams.now (place_at_key sent.now) }
-    ensures { IfOk result (λ links. links.items ≡ map (link_of streams.now pid) events.now) }
-{
-    let mut links = Vec::with_capacity(alloc, events.len())?;
-    for event in events {
-        links.push(link_of(streams, got, sent, pid, event))?;
-    }
-    Ok(links)
-}
-
-/// The links of all processes.
-fn all_links(
-    alloc: Global,
-    streams: &Streams,
-    got: &Table,
-    sent: &Table,
-) -> Result<Vec<Sequence<Link>>, AllocError>
-    requires got { HasReceives streams.now (place_at_key got.now) }
-    requires sent { HasStamps streams.now (place_at_key sent.now) }
-    ensures { IfOk result (λ lists. lists.items ≡ map (links_in streams.now) streams.now) }
-{
-    let mut lists = Vec::new(alloc);
-    for &pid in streams.pids() {
-        let links = links_of(alloc, streams, got, sent, pid, streams.events(pid))?;
-        lists.push(Sequence::from_vec(links))?;
-    }
-    Ok(lists)
-}
-
-/// The pairing of streams without a reason against them.
-fn pairing_of(
-    alloc: Global,
-    streams: &Streams,
-    got: &Table,
-    sent: &Table,
-) -> Result<Pairing, AllocError>
-    requires got { HasReceives streams.now (place_at_key got.now) }
-    requires sent { HasStamps streams.now (place_at_key sent.now) }
-    ensures { IfOk result (λ pairing. pairing ≡ pairing_of streams.now streams.now) }
-{
-    let links = all_links(alloc, streams, got, sent)?;
-    let mut pids = Vec::new(alloc);
-    pids.extend_from_slice(streams.pids())?;
-    Ok(Pairing { pids, links })
-}
-
-/// The tables of streams without a reason against them.
-#[derive(Debug, Drop)]
+/// What streams are paired by, if none of the first three reasons is against them.
+#[derive(Drop)]
 struct Tables {
     /// The first receive from each sender with each count.
-    got: Table,
-    /// The first send or print of each process with each count.
-    sent: Table,
+    got: Receives,
+    /// The sends and prints of each process.
+    sent: Stamps,
 }
 
-/// The tables of streams, or the first reason against them.
-fn tables_of(alloc: Global, streams: &Streams) -> Result<Tables, PairFault>
-    ensures accepted { IfOk result (λ tables. refusal streams.now ≡ None) }
-    ensures got { IfOk result (λ tables. HasReceives streams.now (place_at_key tables.got)) }
-    ensures sent { IfOk result (λ tables. HasStamps streams.now (place_at_key tables.sent)) }
-    ensures err { IfErr result (IsPairFault streams.now) }
+impl Tables {
+    /// Those of streams, or the first of the three reasons.
+    fn of(alloc: Global, streams: &Streams) -> Result<Tables, PairFault>
+        ensures accepted { OnOk result
+            (refusal streams.now ≡ first_rule streams.now (mismatch streams.now ∷ [])) }
+        ensures tables { IfOk result (λ tables. AreTables streams.now tables) }
+        ensures err { IfErr result (IsPairFault streams.now) }
+    {
+        if let Some(fault) = Rule::PrevNotBefore.first_fault(streams) {
+            return Err(fault);
+        }
+        if let Some(fault) = Rule::NotRising.first_fault(streams) {
+            return Err(fault);
+        }
+        let got = Receives::of(alloc, streams)?;
+        let Ok(sent) = Stamps::of(alloc, streams) else {
+            return Err(PairFault::Memory);
+        };
+        Ok(Tables { got, sent })
+    }
+
+    /// What an event is paired with.
+    fn link_of(&mut self, streams: &Streams, pid: Pid, event: &Event) -> Link
+        requires { AreTables streams.now self.old }
+        ensures link { result ≡ link_of streams.now pid event.now }
+        ensures tables { AreTables streams.now self.new }
+    {
+        match event.kind {
+            Kind::Print => Link::Printed,
+            Kind::Send => match self.got.find(pid, event.serial.this) {
+                None => Link::Unpaired,
+                Some((to, index)) => Link::To(to, index),
+            },
+            Kind::Receive => match self.sent.find(streams, event.from, event.serial.this) {
+                None => Link::Hidden,
+                Some(index) => Link::From(event.from, index),
+            },
+        }
+    }
+
+    /// What the events of one process are paired with, up to the first receive that differs from its send.
+    fn links_of(
+        &mut self,
+        alloc: Global,
+        streams: &Streams,
+        pid: Pid,
+        events: &[Event],
+    ) -> Result<Vec<Link>, PairFault>
+        requires { AreTables streams.now self.old }
+        ensures ok { IfOk result (λ links. links.items ≡ map (link_of streams.now pid) events.now) }
+        ensures matched { OnOk result (first_from (mismatch streams.now) pid 0 events.now ≡ None) }
+        ensures err { IfErr result (IsFirstFault (first_from (mismatch streams.now) pid 0 events.now)) }
+        ensures tables { AreTables streams.now self.new }
+    {
+        let Ok(mut links) = Vec::with_capacity(alloc, events.len()) else {
+            return Err(PairFault::Memory);
+        };
+        for (i, event) in events.iter().enumerate() {
+            let link = self.link_of(streams, pid, event);
+            if let Some(fault) = mismatch_at(streams, pid, i as u64, event, link) {
+                return Err(fault);
+            }
+            let Ok(()) = links.push(link) else {
+                return Err(PairFault::Memory);
+            };
+        }
+        Ok(links)
+    }
+
+    /// The links of all processes.
+    fn links(&mut self, alloc: Global, streams: &Streams) -> Result<Vec<Sequence<Link>>, PairFault>
+        requires { AreTables streams.now self.old }
+        ensures ok { IfOk result (λ lists. lists.items ≡ map (links_in streams.now) streams.now) }
+        ensures matched { OnOk result (first (mismatch streams.now) streams.now ≡ None) }
+        ensures err { IfErr result (IsFirstFault (first (mismatch streams.now) streams.now)) }
+    {
+        let mut lists = Vec::new(alloc);
+        for &pid in streams.pids() {
+            let links = self.links_of(alloc, streams, pid, streams.events(pid))?;
+            let Ok(()) = lists.push(Sequence::from_vec(links)) else {
+                return Err(PairFault::Memory);
+            };
+        }
+        Ok(lists)
+    }
+}
+
+/// The pids of streams.
+fn pids_of(alloc: Global, streams: &Streams) -> Result<Vec<Pid>, AllocError>
+    ensures { IfOk result (λ pids. pids.items ≡ pids_of streams.now) }
 {
-    if let Some(fault) = Rule::PrevNotBefore.first_fault(streams) {
-        return Err(fault);
-    }
-    if let Some(fault) = Rule::NotRising.first_fault(streams) {
-        return Err(fault);
-    }
-    let count = receive_count(streams);
-    let Ok(got) = receives(alloc, streams, count) else {
-        return Err(PairFault::Memory);
-    };
-    if let Some(fault) = Rule::Repeated(&got).first_fault(streams) {
-        return Err(fault);
-    }
-    let stamp_count = (streams.total() as usize).saturating_sub(count);
-    let Ok(sent) = stamps(alloc, streams, stamp_count) else {
-        return Err(PairFault::Memory);
-    };
-    if let Some(fault) = Rule::Mismatch(&sent).first_fault(streams) {
-        return Err(fault);
-    }
-    Ok(Tables { got, sent })
+    let mut pids = Vec::new(alloc);
+    pids.extend_from_slice(streams.pids())?;
+    Ok(pids)
 }
 
 /// Pairs the receives of streams with their sends, or tells the first reason against them.
@@ -248,9 +243,10 @@ pub fn pair(alloc: Global, streams: &Streams) -> Result<Pairing, PairFault>
     // with any.
     ensures rules_out { IfErr result (RulesOut streams.now) }
 {
-    let tables = tables_of(alloc, streams)?;
-    match pairing_of(alloc, streams, &tables.got, &tables.sent) {
+    let mut tables = Tables::of(alloc, streams)?;
+    let links = tables.links(alloc, streams)?;
+    match pids_of(alloc, streams) {
         Err(_) => Err(PairFault::Memory),
-        Ok(pairing) => Ok(pairing),
+        Ok(pids) => Ok(Pairing { pids, links }),
     }
 }

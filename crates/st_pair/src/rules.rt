@@ -3,31 +3,26 @@
 ghost use Rattle.std.specs.Prelude.{◌≡◌, ◌==◌, ◌&&◌};
 ghost use Rattle.st_core.specs.Pid.{pid_eq};
 ghost use Rattle.st_core.specs.Streams.{events_of};
-ghost use Rattle.st_pair.specs.Pairing.{agrees, mismatch, not_rising, prev_not_before, repeated};
+ghost use Rattle.st_pair.specs.Links.{link_of};
+ghost use Rattle.st_pair.specs.Pairing.{agrees, mismatch, not_rising, prev_not_before};
 ghost use Rattle.st_pair.specs.Pairing.{to_eq};
 ghost use Rattle.st_pair.specs.Places.{first, first_from};
-ghost use Rattle.st_pair.specs.Rules.{count_before, fault_at, HasTable};
-ghost use Rattle.st_pair.specs.Tables.{place_at_key, HasReceives, HasStamps};
+ghost use Rattle.st_pair.specs.Rules.{count_before, fault_at, repeated_by};
 
 use crate::answer::PairFault;
-use crate::tables::Table;
+use crate::pairing::Link;
 use st_core::{Event, Kind, Pid, Streams};
 
-/// A rule that may refuse streams, with the table that it looks into.
+/// A rule that may refuse streams and looks at one process at a time.
 #[derive(Clone, Copy)]
-pub enum Rule<'a> {
+pub enum Rule {
     /// Each event's prev is less than its this.
     PrevNotBefore,
     /// The counts of each process's sends and prints rise.
     NotRising,
-    /// Each receive is the first from its sender with its count. The table is that of receives.
-    Repeated(&'a Table),
-    /// No receive has its sender's count of an event that isn't its send. The table is that of
-    /// sends and prints.
-    Mismatch(&'a Table),
 }
 
-impl Rule<'_> {
+impl Rule {
     /// What the rule gives at one event, if this is the last send or print before it and its count.
     fn fault_at(
         &self,
@@ -37,21 +32,17 @@ impl Rule<'_> {
         last: Option<(u64, u64)>,
         event: &Event,
     ) -> Option<PairFault>
-        requires table { HasTable self.now streams.now }
-        requires last { last ≡ count_before (events_of streams.now pid) index }
+        requires { last ≡ count_before (events_of streams.now pid) index }
         ensures { result ≡ fault_at self.now streams.now pid index event.now }
     {
         match self {
             Rule::PrevNotBefore => prev_not_before_at(pid, index, event),
             Rule::NotRising => not_rising_at(streams, pid, index, last, event),
-            Rule::Repeated(table) => repetition_at(streams, table, pid, index, event),
-            Rule::Mismatch(table) => mismatch_at(streams, table, pid, index, event),
         }
     }
 
     /// What the rule gives first in the stream of one process.
     fn first_fault_in(&self, streams: &Streams, pid: Pid) -> Option<PairFault>
-        requires { HasTable self.now streams.now }
         ensures { result ≡ first_from (fault_at self.now streams.now) pid 0
             (events_of streams.now pid) }
     {
@@ -71,7 +62,6 @@ impl Rule<'_> {
 
     /// What the rule gives at the least place at which it gives something.
     pub fn first_fault(&self, streams: &Streams) -> Option<PairFault>
-        requires { HasTable self.now streams.now }
         ensures { result ≡ first (fault_at self.now streams.now) streams.now }
     {
         for &pid in streams.pids() {
@@ -126,29 +116,14 @@ fn is_place(first: Pid, place: u64, pid: Pid, index: u64) -> bool
     first == pid && place == index
 }
 
-/// Whether one event is a receive that isn't the first from its sender with its count.
-fn repetition_at(
-    streams: &Streams,
-    table: &Table,
-    pid: Pid,
-    index: u64,
-    event: &Event,
-) -> Option<PairFault>
-    requires { HasReceives streams.now (place_at_key table.now) }
-    ensures { result ≡ repeated streams.now pid index event.now }
+/// Whether a receive isn't the first one with its sender and count, which is at the first place.
+pub fn repetition_at(first: (Pid, u64), pid: Pid, index: u64) -> Option<PairFault>
+    ensures { result ≡ repeated_by first pid index }
 {
-    match event.kind {
-        Kind::Send | Kind::Print => None,
-        Kind::Receive => match table.find(event.from, event.serial.this) {
-            None => None,
-            Some((first, place)) => {
-                if is_place(first, place, pid, index) {
-                    None
-                } else {
-                    Some(PairFault::Repeated(pid, index, first, place))
-                }
-            }
-        },
+    if is_place(first.0, first.1, pid, index) {
+        None
+    } else {
+        Some(PairFault::Repeated(pid, index, first.0, first.1))
     }
 }
 
@@ -179,31 +154,29 @@ fn is_send_of(sent: &Event, event: &Event) -> bool
     }
 }
 
-/// Whether one event is a receive whose sender has its count on an event that isn't its send.
-fn mismatch_at(
+/// Whether one event is a receive whose sender has its count on an event that isn't its send. The
+/// link says where such an event is.
+pub fn mismatch_at(
     streams: &Streams,
-    table: &Table,
     pid: Pid,
     index: u64,
     event: &Event,
+    link: Link,
 ) -> Option<PairFault>
-    requires { HasStamps streams.now (place_at_key table.now) }
+    requires { link ≡ link_of streams.now pid event.now }
     ensures { result ≡ mismatch streams.now pid index event.now }
 {
-    match event.kind {
-        Kind::Send | Kind::Print => None,
-        Kind::Receive => match table.find(event.from, event.serial.this) {
+    match link {
+        Link::Printed | Link::Unpaired | Link::To(..) | Link::Hidden => None,
+        Link::From(from, place) => match streams.event(from, place) {
             None => None,
-            Some((_, place)) => match streams.event(event.from, place) {
-                None => None,
-                Some(sent) => {
-                    if is_send_of(&sent, event) {
-                        None
-                    } else {
-                        Some(PairFault::Mismatch(pid, index, event.from, place))
-                    }
+            Some(sent) => {
+                if is_send_of(&sent, event) {
+                    None
+                } else {
+                    Some(PairFault::Mismatch(pid, index, from, place))
                 }
-            },
+            }
         },
     }
 }

@@ -2,11 +2,12 @@
 //!
 //! A contract sees a world as the state of the machine's definition, the list of its processes by
 //! rising pid, and `World::step` is the definition's step, both ways. The crate may use the types
-//! and definitions of `st_core` and the mailboxes of `st_mail`; pids are numbered by `indexmap`.
+//! and definitions of `st_core` and the mailboxes of `st_mail`.
 #![tactic(auto)]
 
 mod node;
 mod nodes;
+mod numbers;
 mod outcome;
 mod processes;
 mod rows;

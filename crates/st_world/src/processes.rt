@@ -12,9 +12,9 @@ ghost use Rattle.st_world.specs.World.{place_in, token_of, AreOrdered, AreStampe
 ghost use Rattle.st_world.specs.World.{IsStep};
 
 use crate::nodes::Nodes;
+use crate::numbers::Numbers;
 use crate::outcome::{NewFault, StepFault};
-use crate::rows::{number_of, pid_set, zeros};
-use indexmap::IndexSet;
+use crate::rows::zeros;
 use st_core::{Act, Kind, Local, Message, Pid, Reply, Token, Want, is_rising};
 use st_mail::actor::{answer, event, inner, receive, stamp};
 use st_mail::{Mailboxes, Outcome};
@@ -24,7 +24,7 @@ use std::marker::Model;
 /// All processes of the machine, whatever has happened to them.
 #[derive(Drop)]
 pub(crate) struct Processes<const TOP: u64> {
-    pids: IndexSet<Pid>,
+    pids: Numbers,
 
     // Each but for the mark traced, which is that of the process's node.
     locals: Vec<Local<TOP>>,
@@ -40,9 +40,9 @@ impl<const TOP: u64> Model for Processes<TOP> {
     ghost Value = { State };
 
     ghost view = { λ a.
-        state_of a.pids.keys (flagged (flags a.nodes) a.locals.items) a.queues.boxes };
+        state_of a.pids (flagged (flags a.nodes) a.locals.items) a.queues.boxes };
 
-    ghost invariant = { λ a. AreKept TOP a.pids.keys a.nodes a.locals.items a.queues.boxes };
+    ghost invariant = { λ a. AreKept TOP a.pids a.nodes a.locals.items a.queues.boxes };
 }
 
 impl<const TOP: u64> Processes<TOP> {
@@ -55,7 +55,7 @@ impl<const TOP: u64> Processes<TOP> {
         if !is_rising(pids) {
             return Err(NewFault::NotRising);
         }
-        let Ok(set) = pid_set(alloc, pids) else {
+        let Ok(numbers) = Numbers::of(alloc, pids) else {
             return Err(NewFault::Memory);
         };
         let Ok(locals) = zeros(alloc, pids.len()) else {
@@ -68,7 +68,7 @@ impl<const TOP: u64> Processes<TOP> {
             return Err(NewFault::Memory);
         };
         Ok(Processes {
-            pids: set,
+            pids: numbers,
             locals,
             queues,
             nodes,
@@ -79,7 +79,7 @@ impl<const TOP: u64> Processes<TOP> {
     pub fn token(&self, pid: Pid) -> Option<Token>
         ensures { result ≡ token_of self.now pid }
     {
-        let Some(number) = number_of(&self.pids, pid) else {
+        let Some(number) = self.pids.number_of(pid) else {
             return None;
         };
         self.locals[number].token()
@@ -90,7 +90,7 @@ impl<const TOP: u64> Processes<TOP> {
         ensures value { result ≡ option_map (λ r. r.local.clock) (process self.now pid) }
         ensures ordered { IfSome (process self.now pid) (λ r. AreOrdered TOP r.local) }
     {
-        let Some(number) = number_of(&self.pids, pid) else {
+        let Some(number) = self.pids.number_of(pid) else {
             return None;
         };
         Some(self.locals[number].clock())
@@ -101,7 +101,7 @@ impl<const TOP: u64> Processes<TOP> {
         ensures value { result ≡ option_map (λ r. r.local.last) (process self.now pid) }
         ensures ordered { IfSome (process self.now pid) (λ r. AreOrdered TOP r.local) }
     {
-        let Some(number) = number_of(&self.pids, pid) else {
+        let Some(number) = self.pids.number_of(pid) else {
             return None;
         };
         Some(self.locals[number].last())
@@ -113,7 +113,7 @@ impl<const TOP: u64> Processes<TOP> {
         ensures value { result ≡ place_in self.now pid from this }
         ensures stamped { IfSome (process self.now pid) (λ r. AreStamped TOP r.queue) }
     {
-        let Some(number) = number_of(&self.pids, pid) else {
+        let Some(number) = self.pids.number_of(pid) else {
             return None;
         };
         self.queues.place_of(number, from, this)
@@ -126,7 +126,7 @@ impl<const TOP: u64> Processes<TOP> {
         ensures value { result ≡ place_in self.now pid from this }
         ensures stamped { IfSome (process self.now pid) (λ r. AreStamped TOP r.queue) }
     {
-        let Some(number) = number_of(&self.pids, pid) else {
+        let Some(number) = self.pids.number_of(pid) else {
             return None;
         };
         self.queues.place_of_one(number, from, this)
@@ -156,7 +156,7 @@ impl<const TOP: u64> Processes<TOP> {
         requires me { actor act.now ≡ me }
         ensures { IsStep TOP self.old act.now result self.new }
     {
-        let Some(number) = number_of(&self.pids, me) else {
+        let Some(number) = self.pids.number_of(me) else {
             return Err(StepFault::Unknown);
         };
         self.nodes.ready(number, &mut self.locals[number]);
@@ -170,7 +170,7 @@ impl<const TOP: u64> Processes<TOP> {
     fn receive(&mut self, me: Pid, want: &Want) -> Result<Outcome, StepFault>
         ensures { IsStep TOP self.old (Act.Receive me want.now) result self.new }
     {
-        let Some(number) = number_of(&self.pids, me) else {
+        let Some(number) = self.pids.number_of(me) else {
             return Err(StepFault::Unknown);
         };
         self.nodes.ready(number, &mut self.locals[number]);
@@ -182,10 +182,10 @@ impl<const TOP: u64> Processes<TOP> {
     fn send(&mut self, me: Pid, to: Pid, value: u64) -> Result<Outcome, StepFault>
         ensures { IsStep TOP self.old (Act.Send me to value) result self.new }
     {
-        let Some(from_number) = number_of(&self.pids, me) else {
+        let Some(from_number) = self.pids.number_of(me) else {
             return Err(StepFault::Unknown);
         };
-        let Some(to_number) = number_of(&self.pids, to) else {
+        let Some(to_number) = self.pids.number_of(to) else {
             return Err(StepFault::Unknown);
         };
         self.nodes.ready(from_number, &mut self.locals[from_number]);
@@ -214,7 +214,7 @@ impl<const TOP: u64> Processes<TOP> {
     fn reset(&mut self, me: Pid) -> Result<Outcome, StepFault>
         ensures { IsStep TOP self.old (Act.Reset me) result self.new }
     {
-        let Some(number) = number_of(&self.pids, me) else {
+        let Some(number) = self.pids.number_of(me) else {
             return Err(StepFault::Unknown);
         };
         self.nodes.wipe(number, &mut self.locals, &mut self.queues);
@@ -226,7 +226,7 @@ impl<const TOP: u64> Processes<TOP> {
     fn trace(&mut self, me: Pid, on: bool) -> Result<Outcome, StepFault>
         ensures { IsStep TOP self.old (Act.Tracer me on) result self.new }
     {
-        let Some(number) = number_of(&self.pids, me) else {
+        let Some(number) = self.pids.number_of(me) else {
             return Err(StepFault::Unknown);
         };
         let was = self.nodes.trace(number, on);

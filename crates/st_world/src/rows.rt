@@ -1,28 +1,12 @@
-//! The rows of a world: how they are made, and at which places a pid and the processes of a node
-//! are. The same place is one process's in each row.
+//! The rows of a world: how they are made, and at which places the processes of a node are.
 
-ghost use Rattle.std.specs.Prelude.{◌≡◌, nat_le, nat_lt, position, replicate, IfOk};
-ghost use Rattle.st_core.specs.Pid.{node_of, pid_eq, IsRising};
+ghost use Rattle.std.specs.Prelude.{◌≡◌, nat_le, nat_lt, replicate, IfOk};
+ghost use Rattle.st_core.specs.Pid.{node_of, IsRising};
 ghost use Rattle.st_core.specs.State.{zero_local};
 ghost use Rattle.st_world.specs.Rows.{IsNodeRange};
 
-use indexmap::IndexSet;
 use st_core::{Local, Pid};
 use std::alloc::{AllocError, Global};
-
-/// The pids, numbered in their order.
-pub(crate) fn pid_set(alloc: Global, pids: &[Pid]) -> Result<IndexSet<Pid>, AllocError>
-    requires { IsRising pids.now }
-    ensures { IfOk result (λ set. set.keys ≡ pids.now) }
-{
-    let mut set = IndexSet::new(alloc);
-    for &pid in pids {
-        let Ok(_) = set.insert(pid) else {
-            return Err(AllocError);
-        };
-    }
-    Ok(set)
-}
 
 /// What as many processes keep at the start.
 pub(crate) fn zeros<const TOP: u64>(
@@ -36,13 +20,6 @@ pub(crate) fn zeros<const TOP: u64>(
         locals.push(Local::new())?;
     }
     Ok(locals)
-}
-
-/// The number of the process.
-pub(crate) fn number_of(pids: &IndexSet<Pid>, pid: Pid) -> Option<usize>
-    ensures { result ≡ position (λ p. pid_eq p pid) pids.now.keys }
-{
-    pids.get_index_of(&pid)
 }
 
 /// From which number on and up to which the processes of the node stand.

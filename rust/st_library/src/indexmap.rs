@@ -1,19 +1,18 @@
-//! Maps and sets in the order of insertion.
+//! Maps in the order of insertion.
 
-use crate::alloc::{AllocFailed, Global};
-use std::hash::Hash;
-use std::ops::Index;
+use crate::alloc::{AllocError, AllocFailed, Global};
+use std::hash::{BuildHasher, Hash};
 
-/// As theirs, but the hash is Rust's own, with a seed for each map; and if memory runs out this ends the program.
+/// As theirs; but if memory runs out this ends the program.
 #[derive(Debug)]
-pub struct IndexMap<K, V> {
-    inner: ::indexmap::IndexMap<K, V>,
+pub struct IndexMap<K, V, S> {
+    inner: ::indexmap::IndexMap<K, V, S>,
 }
 
-impl<K: Eq + Hash, V> IndexMap<K, V> {
-    /// As theirs.
-    pub fn new(_: Global) -> IndexMap<K, V> {
-        IndexMap { inner: ::indexmap::IndexMap::new() }
+impl<K: Eq + Hash, V, S: BuildHasher> IndexMap<K, V, S> {
+    /// See `IndexMap`.
+    pub fn with_capacity_and_hasher(_: Global, count: usize, hasher: S) -> Result<IndexMap<K, V, S>, AllocError> {
+        Ok(IndexMap { inner: ::indexmap::IndexMap::with_capacity_and_hasher(count, hasher) })
     }
 
     /// As theirs.
@@ -24,46 +23,5 @@ impl<K: Eq + Hash, V> IndexMap<K, V> {
     /// See `IndexMap`.
     pub fn insert(&mut self, key: K, value: V) -> Result<Option<V>, AllocFailed<(K, V)>> {
         Ok(self.inner.insert(key, value))
-    }
-}
-
-/// As `IndexMap`.
-#[derive(Debug)]
-pub struct IndexSet<T> {
-    inner: ::indexmap::IndexSet<T>,
-}
-
-impl<T: Eq + Hash> IndexSet<T> {
-    /// As theirs.
-    pub fn new(_: Global) -> IndexSet<T> {
-        IndexSet { inner: ::indexmap::IndexSet::new() }
-    }
-
-    /// See `IndexMap`.
-    pub fn insert(&mut self, item: T) -> Result<bool, AllocFailed<T>> {
-        Ok(self.inner.insert(item))
-    }
-
-    /// As theirs.
-    pub fn get_index_of(&self, item: &T) -> Option<usize> {
-        self.inner.get_index_of(item)
-    }
-
-    /// As theirs.
-    pub fn len(&self) -> usize {
-        self.inner.len()
-    }
-
-    /// As theirs.
-    pub fn is_empty(&self) -> bool {
-        self.inner.is_empty()
-    }
-}
-
-impl<T> Index<usize> for IndexSet<T> {
-    type Output = T;
-
-    fn index(&self, index: usize) -> &T {
-        &self.inner[index]
     }
 }

@@ -24,6 +24,7 @@ pub mod prelude;
 pub mod process;
 pub mod rayon;
 pub mod rt;
+pub mod sha2;
 pub mod slab;
 pub mod slice;
 pub mod snapshot;
@@ -33,4 +34,4 @@ pub mod thread;
 pub mod time;
 pub mod vec;
 
-pub use std::{cmp, hint, mem, ops};
+pub use std::{cmp, hash, hint, mem, ops};

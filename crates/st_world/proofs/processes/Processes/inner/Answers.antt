@@ -14,17 +14,17 @@ use Rattle.st_world.proofs.processes.Processes.inner.Goals as goal
 
 pub returns-in_default : goal.returns-in_default
 returns-in_default g c =
-    let ps = c.self.inside.pids.keys in
+    let ps = c.self.inside.pids in
     let ls = flagged (flags c.self.inside.nodes) c.self.inside.locals.items in
     let bs = c.self.inside.queues.boxes in
-    let at : position (λ p. pid_eq p c.args.me) c.self.inside.pids.keys ≡ None =
+    let at : position (λ p. pid_eq p c.args.me) c.self.inside.pids ≡ None =
     sym c.number_of.ensures ∙ c.in_default.is in
     let gone = unknown ps ls bs c.self.invariant.rows.aligned c.args.me at in
     rw (← c.self.view_is) (refused_unknown g.row.TOP (state_of ps ls bs) c.args.act.now (inl (rw c.requires.me gone)))
 
 pub invariant_of-self : goal.invariant_of-self
 invariant_of-self g c =
-    let ps = c.self.inside.pids.keys in
+    let ps = c.self.inside.pids in
     let raw = c.self.inside.locals.items in
     let ls = flagged (flags c.self.inside.nodes) c.self.inside.locals.items in
     let bs = c.self.inside.queues.boxes in
@@ -34,9 +34,9 @@ invariant_of-self g c =
     let x = c.index_mut-2.result.now in
     let l2 = c.inner.new.local in
     let own = c.ready.ensures in
-    let number : position (λ p. pid_eq p c.args.me) c.self.inside.pids.keys ≡ Some c.in-Some.number =
+    let number : position (λ p. pid_eq p c.args.me) c.self.inside.pids ≡ Some c.in-Some.number =
     sym c.number_of.ensures ∙ c.in-Some.is in
-    let at : position (λ p. pid_eq p (actor c.args.act.now)) c.self.inside.pids.keys ≡ Some c.in-Some.number =
+    let at : position (λ p. pid_eq p (actor c.args.act.now)) c.self.inside.pids ≡ Some c.in-Some.number =
     rw c.requires.me number in
     let el =
     read_at g.row.TOP ps c.self.inside.nodes raw bs c.self.invariant c.ready.new.self own.places own.tracers own.others
@@ -69,7 +69,7 @@ invariant_of-self g c =
 
 pub returns-in_default-inner : goal.returns-in_default-inner
 returns-in_default-inner g c =
-    let ps = c.self.inside.pids.keys in
+    let ps = c.self.inside.pids in
     let raw = c.self.inside.locals.items in
     let ls = flagged (flags c.self.inside.nodes) c.self.inside.locals.items in
     let bs = c.self.inside.queues.boxes in
@@ -79,9 +79,9 @@ returns-in_default-inner g c =
     let x = c.index_mut-2.result.now in
     let l2 = c.inner.new.local in
     let own = c.ready.ensures in
-    let number : position (λ p. pid_eq p c.args.me) c.self.inside.pids.keys ≡ Some c.in-Some.number =
+    let number : position (λ p. pid_eq p c.args.me) c.self.inside.pids ≡ Some c.in-Some.number =
     sym c.number_of.ensures ∙ c.in-Some.is in
-    let at : position (λ p. pid_eq p (actor c.args.act.now)) c.self.inside.pids.keys ≡ Some c.in-Some.number =
+    let at : position (λ p. pid_eq p (actor c.args.act.now)) c.self.inside.pids ≡ Some c.in-Some.number =
     rw c.requires.me number in
     let el =
     read_at g.row.TOP ps c.self.inside.nodes raw bs c.self.invariant c.ready.new.self own.places own.tracers own.others
@@ -111,7 +111,7 @@ returns-in_default-inner g c =
 
 pub invariant_of-self-2 : goal.invariant_of-self-2
 invariant_of-self-2 g c =
-    let ps = c.self.inside.pids.keys in
+    let ps = c.self.inside.pids in
     let raw = c.self.inside.locals.items in
     let ls = flagged (flags c.self.inside.nodes) c.self.inside.locals.items in
     let bs = c.self.inside.queues.boxes in
@@ -121,9 +121,9 @@ invariant_of-self-2 g c =
     let x = c.index_mut-2.result.now in
     let l2 = c.inner.new.local in
     let own = c.ready.ensures in
-    let number : position (λ p. pid_eq p c.args.me) c.self.inside.pids.keys ≡ Some c.in-Some.number =
+    let number : position (λ p. pid_eq p c.args.me) c.self.inside.pids ≡ Some c.in-Some.number =
     sym c.number_of.ensures ∙ c.in-Some.is in
-    let at : position (λ p. pid_eq p (actor c.args.act.now)) c.self.inside.pids.keys ≡ Some c.in-Some.number =
+    let at : position (λ p. pid_eq p (actor c.args.act.now)) c.self.inside.pids ≡ Some c.in-Some.number =
     rw c.requires.me number in
     let el =
     read_at g.row.TOP ps c.self.inside.nodes raw bs c.self.invariant c.ready.new.self own.places own.tracers own.others
@@ -156,7 +156,7 @@ invariant_of-self-2 g c =
 
 pub returns : goal.returns
 returns g c =
-    let ps = c.self.inside.pids.keys in
+    let ps = c.self.inside.pids in
     let raw = c.self.inside.locals.items in
     let ls = flagged (flags c.self.inside.nodes) c.self.inside.locals.items in
     let bs = c.self.inside.queues.boxes in
@@ -166,9 +166,9 @@ returns g c =
     let x = c.index_mut-2.result.now in
     let l2 = c.inner.new.local in
     let own = c.ready.ensures in
-    let number : position (λ p. pid_eq p c.args.me) c.self.inside.pids.keys ≡ Some c.in-Some.number =
+    let number : position (λ p. pid_eq p c.args.me) c.self.inside.pids ≡ Some c.in-Some.number =
     sym c.number_of.ensures ∙ c.in-Some.is in
-    let at : position (λ p. pid_eq p (actor c.args.act.now)) c.self.inside.pids.keys ≡ Some c.in-Some.number =
+    let at : position (λ p. pid_eq p (actor c.args.act.now)) c.self.inside.pids ≡ Some c.in-Some.number =
     rw c.requires.me number in
     let el =
     read_at g.row.TOP ps c.self.inside.nodes raw bs c.self.invariant c.ready.new.self own.places own.tracers own.others

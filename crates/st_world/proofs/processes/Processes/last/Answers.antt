@@ -12,10 +12,10 @@ use Rattle.st_world.proofs.processes.Processes.last.Goals as goal
 
 pub returns-in_default-clause-value : goal.returns-in_default-clause-value
 returns-in_default-clause-value g c =
-    let ps = c.self.inside.pids.keys in
+    let ps = c.self.inside.pids in
     let ls = flagged (flags c.self.inside.nodes) c.self.inside.locals.items in
     let bs = c.self.inside.queues.boxes in
-    let at : position (λ p. pid_eq p c.args.pid) c.self.inside.pids.keys ≡ None =
+    let at : position (λ p. pid_eq p c.args.pid) c.self.inside.pids ≡ None =
     sym c.number_of.ensures ∙ c.in_default.is in
     let gone = unknown ps ls bs c.self.invariant.rows.aligned c.args.pid at in
     reads (λ (o : Option Process). option_map (λ r. r.local.last) o) (state_of ps ls bs) c.args.self.now c.args.pid
@@ -23,11 +23,11 @@ returns-in_default-clause-value g c =
 
 pub returns-clause-value : goal.returns-clause-value
 returns-clause-value g c =
-    let ps = c.self.inside.pids.keys in
+    let ps = c.self.inside.pids in
     let ls = flagged (flags c.self.inside.nodes) c.self.inside.locals.items in
     let bs = c.self.inside.queues.boxes in
     let i = c.in-Some.number in
-    let at : position (λ p. pid_eq p c.args.pid) c.self.inside.pids.keys ≡ Some c.in-Some.number =
+    let at : position (λ p. pid_eq p c.args.pid) c.self.inside.pids ≡ Some c.in-Some.number =
     sym c.number_of.ensures ∙ c.in-Some.is in
     let l : LocalState = record c.index.result.now { traced = traced_at c.self.inside.nodes c.in-Some.number } in
     let el =
@@ -43,11 +43,11 @@ returns-clause-value g c =
 pub returns-in_default-clause-ordered : goal.returns-in_default-clause-ordered
 returns-in_default-clause-ordered g c =
     let ls = flagged (flags c.self.inside.nodes) c.self.inside.locals.items in
-    let state = state_of c.self.inside.pids.keys ls c.self.inside.queues.boxes in
+    let state = state_of c.self.inside.pids ls c.self.inside.queues.boxes in
     rw (← c.self.view_is) (ordered g.row.TOP state c.args.pid c.self.invariant.rows.sound)
 
 pub returns-clause-ordered : goal.returns-clause-ordered
 returns-clause-ordered g c =
     let ls = flagged (flags c.self.inside.nodes) c.self.inside.locals.items in
-    let state = state_of c.self.inside.pids.keys ls c.self.inside.queues.boxes in
+    let state = state_of c.self.inside.pids ls c.self.inside.queues.boxes in
     rw (← c.self.view_is) (ordered g.row.TOP state c.args.pid c.self.invariant.rows.sound)

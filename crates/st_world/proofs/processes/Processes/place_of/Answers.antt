@@ -14,10 +14,10 @@ use Rattle.st_world.proofs.processes.Processes.place_of.Goals as goal
 
 pub returns-in_default-clause-value : goal.returns-in_default-clause-value
 returns-in_default-clause-value g c =
-    let ps = c.self.inside.pids.keys in
+    let ps = c.self.inside.pids in
     let ls = flagged (flags c.self.inside.nodes) c.self.inside.locals.items in
     let bs = c.self.inside.queues.boxes in
-    let at : position (λ p. pid_eq p c.args.pid) c.self.inside.pids.keys ≡ None =
+    let at : position (λ p. pid_eq p c.args.pid) c.self.inside.pids ≡ None =
     sym c.number_of.ensures ∙ c.in_default.is in
     let gone = unknown ps ls bs c.self.invariant.rows.aligned c.args.pid at in
     let place = λ (o : Option Process).
@@ -26,11 +26,11 @@ returns-in_default-clause-value g c =
 
 pub returns-clause-value : goal.returns-clause-value
 returns-clause-value g c =
-    let ps = c.self.inside.pids.keys in
+    let ps = c.self.inside.pids in
     let ls = flagged (flags c.self.inside.nodes) c.self.inside.locals.items in
     let bs = c.self.inside.queues.boxes in
     let i = c.in-Some.number in
-    let at : position (λ p. pid_eq p c.args.pid) c.self.inside.pids.keys ≡ Some c.in-Some.number =
+    let at : position (λ p. pid_eq p c.args.pid) c.self.inside.pids ≡ Some c.in-Some.number =
     sym c.number_of.ensures ∙ c.in-Some.is in
     let l : LocalState = get_or (flagged (flags c.self.inside.nodes) c.self.inside.locals.items)
     c.in-Some.number zero_local in
@@ -46,11 +46,11 @@ returns-clause-value g c =
 pub returns-in_default-clause-stamped : goal.returns-in_default-clause-stamped
 returns-in_default-clause-stamped g c =
     let ls = flagged (flags c.self.inside.nodes) c.self.inside.locals.items in
-    let state = state_of c.self.inside.pids.keys ls c.self.inside.queues.boxes in
+    let state = state_of c.self.inside.pids ls c.self.inside.queues.boxes in
     rw (← c.self.view_is) (stamped g.row.TOP state c.args.pid c.self.invariant.rows.sound)
 
 pub returns-clause-stamped : goal.returns-clause-stamped
 returns-clause-stamped g c =
     let ls = flagged (flags c.self.inside.nodes) c.self.inside.locals.items in
-    let state = state_of c.self.inside.pids.keys ls c.self.inside.queues.boxes in
+    let state = state_of c.self.inside.pids ls c.self.inside.queues.boxes in
     rw (← c.self.view_is) (stamped g.row.TOP state c.args.pid c.self.invariant.rows.sound)

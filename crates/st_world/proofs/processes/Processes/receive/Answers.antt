@@ -20,10 +20,10 @@ use Rattle.st_world.proofs.processes.Processes.receive.Goals as goal
 
 pub returns-in_default : goal.returns-in_default
 returns-in_default g c =
-    let ps = c.self.inside.pids.keys in
+    let ps = c.self.inside.pids in
     let ls = flagged (flags c.self.inside.nodes) c.self.inside.locals.items in
     let bs = c.self.inside.queues.boxes in
-    let at : position (λ p. pid_eq p c.args.me) c.self.inside.pids.keys ≡ None =
+    let at : position (λ p. pid_eq p c.args.me) c.self.inside.pids ≡ None =
     sym c.number_of.ensures ∙ c.in_default.is in
     let gone = unknown ps ls bs c.self.invariant.rows.aligned c.args.me at in
     rw (← c.self.view_is)
@@ -31,7 +31,7 @@ returns-in_default g c =
 
 pub receive-requires : goal.receive-requires
 receive-requires g c =
-    let ps = c.self.inside.pids.keys in
+    let ps = c.self.inside.pids in
     let raw = c.self.inside.locals.items in
     let ls = flagged (flags c.self.inside.nodes) c.self.inside.locals.items in
     let bs = c.self.inside.queues.boxes in
@@ -39,7 +39,7 @@ receive-requires g c =
     let l1 = c.ready.new.local in
     let x = c.index_mut-2.result.now in
     let own = c.ready.ensures in
-    let at : position (λ p. pid_eq p c.args.me) c.self.inside.pids.keys ≡ Some c.in-Some.number =
+    let at : position (λ p. pid_eq p c.args.me) c.self.inside.pids ≡ Some c.in-Some.number =
     sym c.number_of.ensures ∙ c.in-Some.is in
     let el =
     read_at g.row.TOP ps c.self.inside.nodes raw bs c.self.invariant c.ready.new.self own.places own.tracers own.others
@@ -51,7 +51,7 @@ receive-requires g c =
 
 pub invariant_of-self : goal.invariant_of-self
 invariant_of-self g c =
-    let ps = c.self.inside.pids.keys in
+    let ps = c.self.inside.pids in
     let raw = c.self.inside.locals.items in
     let ls = flagged (flags c.self.inside.nodes) c.self.inside.locals.items in
     let bs = c.self.inside.queues.boxes in
@@ -59,7 +59,7 @@ invariant_of-self g c =
     let l1 = c.ready.new.local in
     let x = c.index_mut-2.result.now in
     let own = c.ready.ensures in
-    let at : position (λ p. pid_eq p c.args.me) c.self.inside.pids.keys ≡ Some c.in-Some.number =
+    let at : position (λ p. pid_eq p c.args.me) c.self.inside.pids ≡ Some c.in-Some.number =
     sym c.number_of.ensures ∙ c.in-Some.is in
     let el =
     read_at g.row.TOP ps c.self.inside.nodes raw bs c.self.invariant c.ready.new.self own.places own.tracers own.others
@@ -107,7 +107,7 @@ invariant_of-self g c =
 
 pub returns : goal.returns
 returns g c =
-    let ps = c.self.inside.pids.keys in
+    let ps = c.self.inside.pids in
     let raw = c.self.inside.locals.items in
     let ls = flagged (flags c.self.inside.nodes) c.self.inside.locals.items in
     let bs = c.self.inside.queues.boxes in
@@ -115,7 +115,7 @@ returns g c =
     let l1 = c.ready.new.local in
     let x = c.index_mut-2.result.now in
     let own = c.ready.ensures in
-    let at : position (λ p. pid_eq p c.args.me) c.self.inside.pids.keys ≡ Some c.in-Some.number =
+    let at : position (λ p. pid_eq p c.args.me) c.self.inside.pids ≡ Some c.in-Some.number =
     sym c.number_of.ensures ∙ c.in-Some.is in
     let el =
     read_at g.row.TOP ps c.self.inside.nodes raw bs c.self.invariant c.ready.new.self own.places own.tracers own.others

@@ -16,21 +16,21 @@ use Rattle.st_world.proofs.processes.Processes.reset.Goals as goal
 
 pub returns-in_default : goal.returns-in_default
 returns-in_default g c =
-    let ps = c.self.inside.pids.keys in
+    let ps = c.self.inside.pids in
     let ls = flagged (flags c.self.inside.nodes) c.self.inside.locals.items in
     let bs = c.self.inside.queues.boxes in
-    let at : position (λ p. pid_eq p c.args.me) c.self.inside.pids.keys ≡ None =
+    let at : position (λ p. pid_eq p c.args.me) c.self.inside.pids ≡ None =
     sym c.number_of.ensures ∙ c.in_default.is in
     let gone = unknown ps ls bs c.self.invariant.rows.aligned c.args.me at in
     rw (← c.self.view_is) (refused_unknown g.row.TOP (state_of ps ls bs) (act.Reset c.args.me) (inl gone))
 
 pub invariant_of-self : goal.invariant_of-self
 invariant_of-self g c =
-    let ps = c.self.inside.pids.keys in
+    let ps = c.self.inside.pids in
     let raw = c.self.inside.locals.items in
     let bs = c.self.inside.queues.boxes in
     let i = c.in-Some.number in
-    let at : position (λ p. pid_eq p c.args.me) c.self.inside.pids.keys ≡ Some c.in-Some.number =
+    let at : position (λ p. pid_eq p c.args.me) c.self.inside.pids ≡ Some c.in-Some.number =
     sym c.number_of.ensures ∙ c.in-Some.is in
     let ls2 = c.wipe.new.locals in
     let bs2 = c.wipe.new.queues.boxes in
@@ -50,11 +50,11 @@ invariant_of-self g c =
 
 pub returns : goal.returns
 returns g c =
-    let ps = c.self.inside.pids.keys in
+    let ps = c.self.inside.pids in
     let raw = c.self.inside.locals.items in
     let bs = c.self.inside.queues.boxes in
     let i = c.in-Some.number in
-    let at : position (λ p. pid_eq p c.args.me) c.self.inside.pids.keys ≡ Some c.in-Some.number =
+    let at : position (λ p. pid_eq p c.args.me) c.self.inside.pids ≡ Some c.in-Some.number =
     sym c.number_of.ensures ∙ c.in-Some.is in
     let ls2 = c.wipe.new.locals in
     let bs2 = c.wipe.new.queues.boxes in

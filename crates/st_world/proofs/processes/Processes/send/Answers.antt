@@ -24,10 +24,10 @@ use Rattle.st_world.proofs.processes.Processes.send.Goals as goal
 
 pub returns-in_default : goal.returns-in_default
 returns-in_default g c =
-    let ps = c.self.inside.pids.keys in
+    let ps = c.self.inside.pids in
     let ls = flagged (flags c.self.inside.nodes) c.self.inside.locals.items in
     let bs = c.self.inside.queues.boxes in
-    let at : position (λ p. pid_eq p c.args.me) c.self.inside.pids.keys ≡ None =
+    let at : position (λ p. pid_eq p c.args.me) c.self.inside.pids ≡ None =
     sym c.number_of.ensures ∙ c.in_default.is in
     let gone = unknown ps ls bs c.self.invariant.rows.aligned c.args.me at in
     rw (← c.self.view_is)
@@ -35,10 +35,10 @@ returns-in_default g c =
 
 pub returns-in_default-number_of : goal.returns-in_default-number_of
 returns-in_default-number_of g c =
-    let ps = c.self.inside.pids.keys in
+    let ps = c.self.inside.pids in
     let ls = flagged (flags c.self.inside.nodes) c.self.inside.locals.items in
     let bs = c.self.inside.queues.boxes in
-    let at : position (λ p. pid_eq p c.args.to) c.self.inside.pids.keys ≡ None =
+    let at : position (λ p. pid_eq p c.args.to) c.self.inside.pids ≡ None =
     sym c.number_of-2.ensures ∙ c.in_default-number_of.is in
     let gone = unknown ps ls bs c.self.invariant.rows.aligned c.args.to at in
     rw (← c.self.view_is)
@@ -46,7 +46,7 @@ returns-in_default-number_of g c =
 
 pub invariant_of-self : goal.invariant_of-self
 invariant_of-self g c =
-    let ps = c.self.inside.pids.keys in
+    let ps = c.self.inside.pids in
     let raw = c.self.inside.locals.items in
     let ls = flagged (flags c.self.inside.nodes) c.self.inside.locals.items in
     let bs = c.self.inside.queues.boxes in
@@ -55,9 +55,9 @@ invariant_of-self g c =
     let l1 = c.ready.new.local in
     let x = c.index.result.now in
     let own = c.ready.ensures in
-    let from : position (λ p. pid_eq p c.args.me) c.self.inside.pids.keys ≡ Some c.in-Some.from_number =
+    let from : position (λ p. pid_eq p c.args.me) c.self.inside.pids ≡ Some c.in-Some.from_number =
     sym c.number_of.ensures ∙ c.in-Some.is in
-    let to : position (λ p. pid_eq p c.args.to) c.self.inside.pids.keys ≡ Some c.in-Some-number_of.to_number =
+    let to : position (λ p. pid_eq p c.args.to) c.self.inside.pids ≡ Some c.in-Some-number_of.to_number =
     sym c.number_of-2.ensures ∙ c.in-Some-number_of.is in
     let aligned = c.self.invariant.rows.aligned in
     let places = c.touch.ensures.places ∙ own.places in
@@ -85,7 +85,7 @@ invariant_of-self g c =
 
 pub returns-in_default-stamp : goal.returns-in_default-stamp
 returns-in_default-stamp g c =
-    let ps = c.self.inside.pids.keys in
+    let ps = c.self.inside.pids in
     let raw = c.self.inside.locals.items in
     let ls = flagged (flags c.self.inside.nodes) c.self.inside.locals.items in
     let bs = c.self.inside.queues.boxes in
@@ -94,9 +94,9 @@ returns-in_default-stamp g c =
     let l1 = c.ready.new.local in
     let x = c.index.result.now in
     let own = c.ready.ensures in
-    let from : position (λ p. pid_eq p c.args.me) c.self.inside.pids.keys ≡ Some c.in-Some.from_number =
+    let from : position (λ p. pid_eq p c.args.me) c.self.inside.pids ≡ Some c.in-Some.from_number =
     sym c.number_of.ensures ∙ c.in-Some.is in
-    let to : position (λ p. pid_eq p c.args.to) c.self.inside.pids.keys ≡ Some c.in-Some-number_of.to_number =
+    let to : position (λ p. pid_eq p c.args.to) c.self.inside.pids ≡ Some c.in-Some-number_of.to_number =
     sym c.number_of-2.ensures ∙ c.in-Some-number_of.is in
     let aligned = c.self.invariant.rows.aligned in
     let places = c.touch.ensures.places ∙ own.places in
@@ -128,7 +128,7 @@ returns-in_default-stamp g c =
 
 pub invariant_of-self-in_default-put : goal.invariant_of-self-in_default-put
 invariant_of-self-in_default-put g c =
-    let ps = c.self.inside.pids.keys in
+    let ps = c.self.inside.pids in
     let raw = c.self.inside.locals.items in
     let ls = flagged (flags c.self.inside.nodes) c.self.inside.locals.items in
     let bs = c.self.inside.queues.boxes in
@@ -137,9 +137,9 @@ invariant_of-self-in_default-put g c =
     let l1 = c.ready.new.local in
     let x = c.index.result.now in
     let own = c.ready.ensures in
-    let from : position (λ p. pid_eq p c.args.me) c.self.inside.pids.keys ≡ Some c.in-Some.from_number =
+    let from : position (λ p. pid_eq p c.args.me) c.self.inside.pids ≡ Some c.in-Some.from_number =
     sym c.number_of.ensures ∙ c.in-Some.is in
-    let to : position (λ p. pid_eq p c.args.to) c.self.inside.pids.keys ≡ Some c.in-Some-number_of.to_number =
+    let to : position (λ p. pid_eq p c.args.to) c.self.inside.pids ≡ Some c.in-Some-number_of.to_number =
     sym c.number_of-2.ensures ∙ c.in-Some-number_of.is in
     let aligned = c.self.invariant.rows.aligned in
     let places = c.touch.ensures.places ∙ own.places in
@@ -170,7 +170,7 @@ invariant_of-self-in_default-put g c =
 
 pub returns-in_default-put : goal.returns-in_default-put
 returns-in_default-put g c =
-    let ps = c.self.inside.pids.keys in
+    let ps = c.self.inside.pids in
     let raw = c.self.inside.locals.items in
     let ls = flagged (flags c.self.inside.nodes) c.self.inside.locals.items in
     let bs = c.self.inside.queues.boxes in
@@ -179,9 +179,9 @@ returns-in_default-put g c =
     let l1 = c.ready.new.local in
     let x = c.index.result.now in
     let own = c.ready.ensures in
-    let from : position (λ p. pid_eq p c.args.me) c.self.inside.pids.keys ≡ Some c.in-Some.from_number =
+    let from : position (λ p. pid_eq p c.args.me) c.self.inside.pids ≡ Some c.in-Some.from_number =
     sym c.number_of.ensures ∙ c.in-Some.is in
-    let to : position (λ p. pid_eq p c.args.to) c.self.inside.pids.keys ≡ Some c.in-Some-number_of.to_number =
+    let to : position (λ p. pid_eq p c.args.to) c.self.inside.pids ≡ Some c.in-Some-number_of.to_number =
     sym c.number_of-2.ensures ∙ c.in-Some-number_of.is in
     let aligned = c.self.invariant.rows.aligned in
     let places = c.touch.ensures.places ∙ own.places in
@@ -215,7 +215,7 @@ returns-in_default-put g c =
 
 pub invariant_of-self-2 : goal.invariant_of-self-2
 invariant_of-self-2 g c =
-    let ps = c.self.inside.pids.keys in
+    let ps = c.self.inside.pids in
     let raw = c.self.inside.locals.items in
     let ls = flagged (flags c.self.inside.nodes) c.self.inside.locals.items in
     let bs = c.self.inside.queues.boxes in
@@ -224,9 +224,9 @@ invariant_of-self-2 g c =
     let l1 = c.ready.new.local in
     let x = c.index.result.now in
     let own = c.ready.ensures in
-    let from : position (λ p. pid_eq p c.args.me) c.self.inside.pids.keys ≡ Some c.in-Some.from_number =
+    let from : position (λ p. pid_eq p c.args.me) c.self.inside.pids ≡ Some c.in-Some.from_number =
     sym c.number_of.ensures ∙ c.in-Some.is in
-    let to : position (λ p. pid_eq p c.args.to) c.self.inside.pids.keys ≡ Some c.in-Some-number_of.to_number =
+    let to : position (λ p. pid_eq p c.args.to) c.self.inside.pids ≡ Some c.in-Some-number_of.to_number =
     sym c.number_of-2.ensures ∙ c.in-Some-number_of.is in
     let aligned = c.self.invariant.rows.aligned in
     let places = c.touch.ensures.places ∙ own.places in
@@ -288,7 +288,7 @@ invariant_of-self-2 g c =
 
 pub returns : goal.returns
 returns g c =
-    let ps = c.self.inside.pids.keys in
+    let ps = c.self.inside.pids in
     let raw = c.self.inside.locals.items in
     let ls = flagged (flags c.self.inside.nodes) c.self.inside.locals.items in
     let bs = c.self.inside.queues.boxes in
@@ -297,9 +297,9 @@ returns g c =
     let l1 = c.ready.new.local in
     let x = c.index.result.now in
     let own = c.ready.ensures in
-    let from : position (λ p. pid_eq p c.args.me) c.self.inside.pids.keys ≡ Some c.in-Some.from_number =
+    let from : position (λ p. pid_eq p c.args.me) c.self.inside.pids ≡ Some c.in-Some.from_number =
     sym c.number_of.ensures ∙ c.in-Some.is in
-    let to : position (λ p. pid_eq p c.args.to) c.self.inside.pids.keys ≡ Some c.in-Some-number_of.to_number =
+    let to : position (λ p. pid_eq p c.args.to) c.self.inside.pids ≡ Some c.in-Some-number_of.to_number =
     sym c.number_of-2.ensures ∙ c.in-Some-number_of.is in
     let aligned = c.self.invariant.rows.aligned in
     let places = c.touch.ensures.places ∙ own.places in

@@ -12,10 +12,10 @@ use Rattle.st_world.proofs.processes.Processes.token.Goals as goal
 
 pub returns-in_default : goal.returns-in_default
 returns-in_default g c =
-    let ps = c.self.inside.pids.keys in
+    let ps = c.self.inside.pids in
     let ls = flagged (flags c.self.inside.nodes) c.self.inside.locals.items in
     let bs = c.self.inside.queues.boxes in
-    let at : position (λ p. pid_eq p c.args.pid) c.self.inside.pids.keys ≡ None =
+    let at : position (λ p. pid_eq p c.args.pid) c.self.inside.pids ≡ None =
     sym c.number_of.ensures ∙ c.in_default.is in
     let gone = unknown ps ls bs c.self.invariant.rows.aligned c.args.pid at in
     reads (λ (o : Option Process). option_and_then (λ r. r.local.token) o) (state_of ps ls bs) c.args.self.now
@@ -23,11 +23,11 @@ returns-in_default g c =
 
 pub returns : goal.returns
 returns g c =
-    let ps = c.self.inside.pids.keys in
+    let ps = c.self.inside.pids in
     let ls = flagged (flags c.self.inside.nodes) c.self.inside.locals.items in
     let bs = c.self.inside.queues.boxes in
     let i = c.in-Some.number in
-    let at : position (λ p. pid_eq p c.args.pid) c.self.inside.pids.keys ≡ Some c.in-Some.number =
+    let at : position (λ p. pid_eq p c.args.pid) c.self.inside.pids ≡ Some c.in-Some.number =
     sym c.number_of.ensures ∙ c.in-Some.is in
     let l : LocalState = record c.index.result.now { traced = traced_at c.self.inside.nodes c.in-Some.number } in
     let el =

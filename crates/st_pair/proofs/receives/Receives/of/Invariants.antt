@@ -1,0 +1,14 @@
+-- The table so far with what is left comes to all receives, and no receive so far was a second one.
+use Rattle.std.proofs.Common.{◌≡◌, drop}
+use Rattle.st_pair.specs.declared.receives.Key.{Key}
+use Rattle.st_pair.specs.Places.{first, or_else}
+use Rattle.st_pair.specs.Pairing.{repeated}
+use Rattle.st_pair.specs.Tables.{place_at, receive_rule}
+use Rattle.st_pair.proofs.receives.Receives.of.Given as goal
+
+abbrev pub invariant-loop-pid : goal.invariant-loop-pid
+invariant-loop-pid l = record {
+  table : (k : Key) → or_else (place_at l.receives k) (first (receive_rule k) (drop l.pid-index l.streams))
+      ≡ first (receive_rule k) l.streams;
+  once : first (repeated l.streams) l.streams ≡ first (repeated l.streams) (drop l.pid-index l.streams);
+}

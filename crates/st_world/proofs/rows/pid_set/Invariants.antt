@@ -1,6 +1,0 @@
--- The set has the pids so far, in their order.
-use Rattle.std.proofs.Common.{◌≡◌, take}
-use Rattle.st_world.proofs.rows.pid_set.Given as goal
-
-abbrev pub invariant-loop-pid : goal.invariant-loop-pid
-invariant-loop-pid l = l.set.keys ≡ take l.pid-index l.pids
