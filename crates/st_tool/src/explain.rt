@@ -100,7 +100,15 @@ fn say_message<W: ByteSink>(
     say(writer, buffer, b", sent by act ")?;
     say_number(writer, buffer, message.act)?;
     say_line(writer, buffer, given.numbers.act_line(message.act))?;
-    say(writer, buffer, if is_due { b": this one is due\n" } else { b"\n" })
+    say(
+        writer,
+        buffer,
+        if is_due {
+            b": this one is due\n"
+        } else {
+            b"\n"
+        },
+    )
 }
 
 /// Writes the messages that wait at places from `first` up to `end` of the queue.
@@ -134,17 +142,27 @@ fn say_queue<W: ByteSink>(
     let count = rerun.queue.len();
     say_count(writer, buffer, b"  messages in its queue ", count)?;
     let receive = event.filter(|event| event.kind == Kind::Receive);
-    let due = receive.as_ref().and_then(|event| rerun.place_of(pid, event));
+    let due = receive
+        .as_ref()
+        .and_then(|event| rerun.place_of(pid, event));
     say_messages(writer, buffer, given, rerun, due, 0, count.min(SHOWN))?;
     match due {
         Some(place) if place >= SHOWN => {
             let behind = place.saturating_add(1);
             say_messages(writer, buffer, given, rerun, due, place, behind)?;
-            say_more(writer, buffer, count.saturating_sub(SHOWN).saturating_sub(1))
+            say_more(
+                writer,
+                buffer,
+                count.saturating_sub(SHOWN).saturating_sub(1),
+            )
         }
         None if receive.is_some() => {
             say_more(writer, buffer, count.saturating_sub(SHOWN))?;
-            say(writer, buffer, b"    the message that is due doesn't wait there\n")
+            say(
+                writer,
+                buffer,
+                b"    the message that is due doesn't wait there\n",
+            )
         }
         _ => say_more(writer, buffer, count.saturating_sub(SHOWN)),
     }

@@ -95,9 +95,15 @@ fn no_of(line: &str) -> Option<No<'_>> {
 fn clause_of(word: &str) -> (&'static str, &'static str) {
     match word {
         "prevnotbefore" => ("its prev isn't below its this", ""),
-        "notrising" => ("it counts no higher than ", ", an earlier event of its process"),
+        "notrising" => (
+            "it counts no higher than ",
+            ", an earlier event of its process",
+        ),
         "repeated" => ("an earlier receive, ", ", took the same message"),
-        "mismatch" => ("the sender's event with its count, ", ", is no send of this message"),
+        "mismatch" => (
+            "the sender's event with its count, ",
+            ", is no send of this message",
+        ),
         "uncaused" => (
             "in the order of counts its prev is below its sender's clock, and isn't its sender's last count",
             "",
@@ -119,7 +125,8 @@ fn clause_of(word: &str) -> (&'static str, &'static str) {
 /// What that says of the whole trace.
 fn conclusion_of(word: &str) -> &'static str {
     match word {
-        "uncaused" | "toowide" | "notreplayed" => "; seqtool complete says whether a run reports it",
+        "uncaused" | "toowide" | "notreplayed" =>
+            "; seqtool complete says whether a run reports it",
         "prevnotbefore" => "; no run reports it",
         _ => "; no run without a reset reports it",
     }
@@ -227,7 +234,11 @@ fn say_left<W: ByteSink>(
     }
     say(writer, buffer, b"process ")?;
     say_pid(writer, buffer, pid)?;
-    say(writer, buffer, b": the acts end before all its events are reported; see seqtool explain")
+    say(
+        writer,
+        buffer,
+        b": the acts end before all its events are reported; see seqtool explain",
+    )
 }
 
 /// Writes that a process has no such event, and which it has.
@@ -257,14 +268,14 @@ fn say_no_event<W: ByteSink>(
 }
 
 /// Writes that a line has no event.
-fn say_no_line<W: ByteSink>(
-    writer: &mut W,
-    buffer: &mut Buffer,
-    line: u64,
-) -> Result<(), Device> {
+fn say_no_line<W: ByteSink>(writer: &mut W, buffer: &mut Buffer, line: u64) -> Result<(), Device> {
     say(writer, buffer, b"line ")?;
     say_number(writer, buffer, line)?;
-    say(writer, buffer, b": there is no event; seqtool list has the line of each")
+    say(
+        writer,
+        buffer,
+        b": there is no event; seqtool list has the line of each",
+    )
 }
 
 /// Writes what a no says.
