@@ -11,7 +11,7 @@ use st_console::{Inlet, Outlet};
 use st_core::{ByteSink, ReadFrom, WriteTo};
 use st_tool::{tell_no, tell_trouble, tell_unopened, tell_unwritten};
 use st_words::{Request, read_words, run};
-use std::io::{IsTerminal, Read, Write};
+use std::io::{Read, Write};
 use std::process::ExitCode;
 use std::rt::Files;
 use std::thread::Threads;
@@ -33,7 +33,7 @@ fn words_of(rt: &HostRuntime) -> io::Result<Vec<String>> {
 }
 
 /// Does what the words ask for, on the input of this name, and says on standard error what was at
-/// fault.
+/// fault, or what a no is about.
 fn serve<H, R, W, N>(
     rt: &H,
     request: &Request<'_>,
@@ -56,6 +56,9 @@ where
         notes,
     );
     tell_trouble(rt, rt.alloc(), name, inlet, outlet, notes);
+    if status == NO {
+        let _ = tell_no(rt.alloc(), name, inlet.text(), outlet.first_line(), notes);
+    }
     status
 }
 
@@ -81,14 +84,6 @@ where
             tell_unopened(rt, path, &reason);
             FAILED
         }
-    }
-}
-
-/// Says on standard error what nobody would see otherwise: a no, of which this is the first line,
-/// where the program behind a pipe waits for a bundle.
-fn note_no(rt: &HostRuntime, first_line: &[u8]) {
-    if !rt.stdout().is_terminal() {
-        let _ = tell_no(first_line, &mut WriteTo::new(rt.stderr()));
     }
 }
 
@@ -140,18 +135,14 @@ fn main(rt: HostRuntime) -> ExitCode {
             Ok(request) => {
                 let mut outlet = Outlet::new(rt.stdout());
                 let mut notes = WriteTo::new(rt.stderr());
-                let status = match request.file {
+                match request.file {
                     Some(path) => serve_file(&rt, &request, path, &mut outlet, &mut notes),
                     None => {
                         let name = "standard input";
                         let mut inlet = Inlet::new(rt.alloc(), rt.stdin());
                         serve(&rt, &request, name, &mut inlet, &mut outlet, &mut notes)
                     }
-                };
-                if status == NO && request.task.writes_bundle() {
-                    note_no(&rt, outlet.first_line());
                 }
-                status
             }
             Err(error) => tell_error(&rt, &error),
         },

@@ -31,10 +31,11 @@ use Rattle.st_pair.proofs.ForCallers.{events_in, from_none, given_from, own_rule
 use Rattle.st_origin.specs.declared.told.Told.{Told}
 use Rattle.st_origin.specs.declared.told.Told.TheVariants as what
 use Rattle.st_origin.specs.Events.{has_above, received_before, row_start, told, told_by}
-use Rattle.st_origin.specs.Origin.{Origin, ReportsReceives, origin}
+use Rattle.st_origin.specs.Labels.{SetsLabelBetween}
+use Rattle.st_origin.specs.Origin.{Origin, Begins, Follows, ReportsReceives, origin}
 use Rattle.st_origin.specs.Truth.{BeginsAfter, FollowsEvent, IsTrue, IsTrueIfReported}
-use Rattle.st_origin.proofs.ForCallers.{last_of_row, one_label_follows, received_is, sends_told, told_true}
-use Rattle.st_origin.proofs.ForCallers.{told_true_if_reported}
+use Rattle.st_origin.proofs.ForCallers.{another_label_set, last_of_row, one_label_follows, received_is, sends_told}
+use Rattle.st_origin.proofs.ForCallers.{told_true, told_true_if_reported}
 use Rattle.st_hops.specs.declared.hop.Hop.{Hop}
 use Rattle.st_hops.specs.declared.hop.Hop.TheVariants as hop
 use Rattle.st_hops.specs.Hops.{hop_by, hop_by_label, hop_of, hop_to_send, label_at, premises_of}
@@ -226,6 +227,26 @@ module _ (top : ℕ) (pids : List Pid) (acts : List Act) (os : List Outcome) (h 
   abbrev IsClaimed : Hop → Type 0
   IsClaimed back = Hold pids acts os p (premises_of back) → Claims pids acts os p i e n back
 
+  -- if the receive at j has another label, p set that of event i behind it
+  set_behind : (j : ℕ) (d : Event) → slice_get es j ≡ Some d → ¬ (d.label ≡ e.label)
+      → BeginsAfter acts os p j from ⊎ FollowsEvent acts os p j from → (k : ℕ) → from ≡ Some (Follows k)
+      → SetsLabelBetween acts p k n e.label
+  set_behind j d at differ (inl begins) k is =
+      let same : Begins begins.0 ≡ Follows k = same_Some (Begins begins.0) (Follows k) (sym begins.1 ∙ is) in
+      absurd (cc)
+  set_behind j d at differ (inr follows) k is =
+      let m = follows.0 in
+      let x = follows.2.0 in
+      let told = follows.2.1 in
+      let same : Follows m ≡ Follows k = same_Some (Follows m) (Follows k) (sym follows.1 ∙ is) in
+      let number : m ≡ k = cc in
+      let there : slice_get es j ≡ Some x =
+      ap (slice_get es) (sym told.before) ∙ report_told acts os p m x told.reports in
+      let one : x ≡ d = same_Some x d (sym there ∙ at) in
+      let took : Reports acts os p k d =
+      subst (λ (y : Event). Reports acts os p k y) one (subst (λ y. Reports acts os p y x) number told.reports) in
+      another_label_set top pids acts os h none p k n d e took r.reports other is differ
+
   -- the receive at j, to which the label decides whether the hop goes
   by_label : (j : ℕ) (same : Hop) → received_before e.serial.prev es (row_start e.serial.prev es i) ≡ Some j
       → ((d : Event) → slice_get es j ≡ Some d → d.label ≡ e.label → IsClaimed same)
@@ -240,14 +261,17 @@ module _ (top : ℕ) (pids : List Pid) (acts : List Act) (os : List Outcome) (h 
       (elim (d.label.0 == e.label.0) as (λ b. (d.label.0 == e.label.0) ≡ b
       → IsClaimed (cond b same (hop.OtherLabel j d.label))) [
         | true ↦ λ equal. one d x.at (same_label d.label e.label equal)
-        | false ↦ λ unequal all. record {
-          receive = d;
-          at = x.at;
-          last = last_of_row e.serial.prev es i j is;
-          label = refl;
-          other = other_label d.label e.label unequal;
-          either = either all;
-        }
+        | false ↦ λ unequal all.
+            let differ = other_label d.label e.label unequal in
+            record {
+              receive = d;
+              at = x.at;
+              last = last_of_row e.serial.prev es i j is;
+              label = refl;
+              other = differ;
+              either = either all;
+              set = set_behind j d x.at differ (either all);
+            }
       ] refl)
 
   by_told : (t : Told) → told e.serial.prev es i ≡ t → IsClaimed (hop_by es e.label t)

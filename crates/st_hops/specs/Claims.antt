@@ -10,7 +10,8 @@ use Rattle.st_core.specs.Pairs.{IsFollowing}
 use Rattle.st_core.specs.Laws.{NoReset, ReportsEvent}
 use Rattle.st_core.specs.Run.{Shows, Stream, pids_of, stream}
 use Rattle.st_core.specs.Step.{Outcome}
-use Rattle.st_origin.specs.Origin.{Origin, ReportsReceives, origin}
+use Rattle.st_origin.specs.Labels.{SetsLabelBetween}
+use Rattle.st_origin.specs.Origin.{Origin, Follows, ReportsReceives, origin}
 use Rattle.st_origin.specs.Truth.{BeginsAfter, FollowsEvent, FollowsUnreported, IsBeginning}
 use Rattle.st_origin.specs.Truth.{IsUnreported, NeverBeginsAgain, last_receive}
 use Rattle.st_hops.specs.declared.hop.Hop.{Hop}
@@ -30,15 +31,17 @@ TakesFromUnreported acts os n = (s : ℕ) × IsFollowing acts os n s × IsUnrepo
 
 -- `begins label .. here, or set it on its token; it had last received PID J of label M`: the last
 -- receive that p reported before event i is event j, of label m, which isn't that of event i; and
--- p began after it, or event i follows its message
-pub record ChangedLabel (acts : List Act) (os : List Outcome) (p : Pid) (i : ℕ) (e : Event) (j : ℕ)
-    (m : Label) (o : Option Origin) : Type 0 where
+-- p began after it, or event i follows its message. If it does, p set event i's label between that
+-- receive and act n, which reports event i
+pub record ChangedLabel (acts : List Act) (os : List Outcome) (p : Pid) (i : ℕ) (e : Event) (n : ℕ)
+    (j : ℕ) (m : Label) (o : Option Origin) : Type 0 where
   pub receive : Event
   pub at : slice_get (stream acts os p) j ≡ Some receive
   pub last : last_receive (stream acts os p) i ≡ Some j
   pub label : receive.label ≡ m
   pub other : ¬ (m ≡ e.label)
   pub either : BeginsAfter acts os p j o ⊎ FollowsEvent acts os p j o
+  pub set : (k : ℕ) → o ≡ Some (Follows k) → SetsLabelBetween acts p k n e.label
 
 module _ (pids : List Pid) (acts : List Act) (os : List Outcome) (p : Pid) where
   -- what a hop claims of event i of p, which act n reports
@@ -53,7 +56,7 @@ module _ (pids : List Pid) (acts : List Act) (os : List Outcome) (p : Pid) where
   Claims i e n (hop.AfterOneLabel j) = FollowsEvent acts os p j (origin pids acts os p n)
   -- `begins label .. here, or set it on its token; it had last received PID J of label M (1)`
   Claims i e n (hop.OtherLabel j m) =
-      ChangedLabel acts os p i e j m (origin pids acts os p n)
+      ChangedLabel acts os p i e n j m (origin pids acts os p n)
   -- `begins here`: p began, or no receive and no beginning came before
   Claims i e n hop.Begins =
       IsBeginning (origin pids acts os p n) ⊎ (origin pids acts os p n ≡ None)

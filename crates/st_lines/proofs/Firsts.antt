@@ -14,8 +14,8 @@ use Rattle.st_core.specs.Run.{Stream, pids_of}
 use Rattle.st_core.specs.Streams.{IsStreams, events_of, stream_of}
 use Rattle.st_core.proofs.ForCallers.{above_apart, pid_eq-true, pid_eq-refl}
 use Rattle.st_pair.proofs.ForCallers.{at_get_or, events_in, is_at}
-use Rattle.st_lines.specs.Lines.{line_from, line_of}
-use Rattle.st_lines.specs.Kept.{AreFirsts, first_line, firsts_from, line_behind}
+use Rattle.st_lines.specs.Lines.{line_behind, line_from, line_of}
+use Rattle.st_lines.specs.Kept.{AreFirsts, first_line, firsts_from}
 
 -- ONE EVENT
 
@@ -251,7 +251,7 @@ so_far_more streams pids k d firsts after first next count rising are within cou
     }
 
 pub all_so_far : (streams : List Stream) (pids : List Pid) (k : ℕ) (firsts : List ℕ) (first : ℕ) → IsStreams streams
-    → pids ≡ pids_of streams → length pids ≤ k → AreSoFar streams firsts first k → AreFirsts streams firsts
+    → pids ≡ pids_of streams → length pids ≤ k → AreSoFar streams firsts first k → AreFirsts streams firsts first
 all_so_far streams pids k firsts first sound are past far =
     let low = far.fits in
     let long : length pids ≡ length (pids_of streams) = ap length are in
@@ -261,5 +261,6 @@ all_so_far streams pids k firsts first sound are past far =
     record {
       sound = sound;
       kept = sym (append-nil firsts) ∙ ap (λ ss. firsts ++ firsts_from first ss) (sym none) ∙ far.kept;
+      act = last;
       fits = omega arith;
     }

@@ -17,7 +17,7 @@ use Rattle.st_pair.proofs.ForCallers.{events_in}
 use Rattle.st_text.specs.declared.line.Line.{Line}
 use Rattle.st_text.specs.declared.line.Line.TheVariants as lines
 use Rattle.st_text.specs.Text.{Contents, act_lines, body, is_remote, lines_of, process_lines}
-use Rattle.st_lines.specs.Lines.{line_from, line_of}
+use Rattle.st_lines.specs.Lines.{act_line_of, line_behind, line_from, line_of}
 
 abbrev event_lines : List Event → List Line
 event_lines es = map lines.Event es
@@ -92,6 +92,53 @@ event_on_line c p i e at =
     let low = x.low in
     let number : n - 1 ≡ suc (n + 1 - 3) = omega arith in
     (n, x.is, ap (slice_get (lines_of c)) number ∙ x.at)
+
+-- ACTS HAVE THEIR LINES
+
+act_in : (acts : List Act) (n : ℕ) (a : Act) → slice_get acts n ≡ Some a
+    → slice_get (map lines.Act acts) n ≡ Some (lines.Act a)
+act_in [] n a at = absurd (none-some a at)
+act_in (x ∷ acts) zero a at = ap (λ y. Some (lines.Act y)) (same_Some x a at)
+act_in (x ∷ acts) (suc n) a at = act_in acts n a at
+
+-- behind all processes
+record IsBehind (first : ℕ) (streams : List Stream) (tail : List Line) : Type 0 where
+  low : first ≤ line_behind first streams
+  tail_at : (k : ℕ) → slice_get (flat_map process_lines streams ++ tail) (line_behind first streams - first + k)
+      ≡ slice_get tail k
+
+all_passed : (first : ℕ) (streams : List Stream) (tail : List Line) → IsBehind first streams tail
+all_passed first [] tail = record {
+  low = omega arith;
+  tail_at = λ k. let number : first - first + k ≡ k = omega arith in ap (slice_get tail) number;
+}
+all_passed first (s ∷ streams) tail =
+    let next = first + length s.events + 1 in
+    let last = line_behind next streams in
+    let behind = flat_map process_lines streams ++ tail in
+    let rest = all_passed next streams tail in
+    let low = rest.low in
+    let whole : flat_map process_lines (s ∷ streams) ++ tail ≡ lines.Process s.pid ∷
+    (event_lines s.events ++ behind) =
+    append_assoc (process_lines s) (flat_map process_lines streams) tail in
+    record {
+      low = omega arith;
+      tail_at = λ k.
+          let number : last - first + k ≡ suc (length s.events + (last - next + k)) = omega arith in
+          ap (slice_get (flat_map process_lines (s ∷ streams) ++ tail)) number
+          ∙ ap (λ ls. slice_get ls (suc (length s.events + (last - next + k)))) whole
+          ∙ passed s.events behind (last - next + k) ∙ rest.tail_at k;
+    }
+
+pub act_on_line : (c : Contents) (acts : List Act) (n : ℕ) (a : Act) → c.acts ≡ Some acts → slice_get acts n ≡ Some a
+    → slice_get (lines_of c) (act_line_of c.streams n - 1) ≡ Some (lines.Act a)
+act_on_line c acts n a are at =
+    let behind = all_passed 3 c.streams (act_lines c.acts) in
+    let low = behind.low in
+    let last = line_behind 3 c.streams in
+    let number : last + n - 1 ≡ suc (last - 3 + suc n) = omega arith in
+    ap (slice_get (lines_of c)) number ∙ behind.tail_at (suc n)
+    ∙ ap (λ x. slice_get (act_lines x) (suc n)) are ∙ act_in acts n a at
 
 -- LINES HAVE THEIR EVENTS
 

@@ -1,4 +1,5 @@
-//! The number of the line on which an event is, in the text of a bundle, and the event on a line.
+//! The number of the line on which an event or an act is, in the text of a bundle, and the event on
+//! a line.
 #![tactic(auto)]
 
 pub mod laws;

@@ -1,11 +1,12 @@
-//! The lines of all events. The line of each process's first event is found once, in one pass over
-//! the processes.
+//! The lines of all events and acts. The line of each process's first event, and that of the first
+//! act, are found once, in one pass over the processes.
 
-ghost use Rattle.std.specs.Prelude.{◌≡◌, ◌≢◌, ◌+◌, ◌<◌, ◌^◌, ℕ, Some, IfNone, IfOk, IfSome, length};
+ghost use Rattle.std.specs.Prelude.{◌≡◌, ◌≢◌, ◌+◌, ◌<◌, ◌≤◌, ◌^◌, ℕ, Some, IfNone, IfOk, IfSome};
+ghost use Rattle.std.specs.Prelude.{length};
 ghost use Rattle.st_core.specs.declared.types.Pid.{Pid as PidValue};
 ghost use Rattle.st_core.specs.Streams.{events_of};
 ghost use Rattle.st_lines.specs.Kept.{AreFirsts, first_line};
-ghost use Rattle.st_lines.specs.Lines.{line_of};
+ghost use Rattle.st_lines.specs.Lines.{act_line_of, line_of};
 
 use st_core::{Pid, Streams};
 use std::alloc::{AllocError, Global};
@@ -26,9 +27,9 @@ fn first_behind(first: u64, events: u64) -> Result<u64, AllocError>
         .ok_or(AllocError)
 }
 
-/// The lines of the first events.
-fn all_firsts(alloc: Global, streams: &Streams) -> Result<Vec<u64>, AllocError>
-    ensures { IfOk result (λ firsts. AreFirsts streams.now firsts.items) }
+/// The lines of the first events, and that of the first act.
+fn all_firsts(alloc: Global, streams: &Streams) -> Result<(Vec<u64>, u64), AllocError>
+    ensures { IfOk result (λ found. AreFirsts streams.now found.0.items found.1) }
 {
     let mut first = FIRST;
     let mut firsts = Vec::new(alloc);
@@ -36,15 +37,16 @@ fn all_firsts(alloc: Global, streams: &Streams) -> Result<Vec<u64>, AllocError>
         firsts.push(first)?;
         first = first_behind(first, streams.len(pid))?;
     }
-    Ok(firsts)
+    Ok((firsts, first))
 }
 
-/// The lines of all events of streams in the text of a bundle that has them. A contract sees it as
-/// the streams. It borrows them, and keeps 8 bytes a process.
+/// The lines of all events of streams, and of acts below them, in the text of a bundle that has
+/// them. A contract sees it as the streams. It borrows them, and keeps 8 bytes a process.
 #[derive(Drop)]
 pub struct LineNumbers<'a> {
     streams: &'a Streams,
     firsts: Vec<u64>,
+    first_act: u64,
 }
 
 impl<'a> Model for LineNumbers<'a> {
@@ -56,7 +58,7 @@ impl<'a> Model for LineNumbers<'a> {
 
     ghost view = { λ a. a.streams.now };
 
-    ghost invariant = { λ a. AreFirsts a.streams.now a.firsts.items };
+    ghost invariant = { λ a. AreFirsts a.streams.now a.firsts.items a.first_act };
 }
 
 impl<'a> LineNumbers<'a> {
@@ -64,8 +66,12 @@ impl<'a> LineNumbers<'a> {
     pub fn new(alloc: Global, streams: &'a Streams) -> Result<Self, AllocError>
         ensures { IfOk result (λ numbers. numbers ≡ streams.now) }
     {
-        let firsts = all_firsts(alloc, streams)?;
-        Ok(LineNumbers { streams, firsts })
+        let (firsts, first_act) = all_firsts(alloc, streams)?;
+        Ok(LineNumbers {
+            streams,
+            firsts,
+            first_act,
+        })
     }
 
     /// The line of a process's first event; none if it isn't listed.
@@ -95,6 +101,15 @@ impl<'a> LineNumbers<'a> {
                 }
             }
         }
+    }
+
+    /// The line of the act with this number, counted from 0, if the bundle has acts; none if no
+    /// number is so great.
+    pub fn act_line(&self, number: u64) -> Option<u64>
+        ensures value { IfSome result (λ line. line ≡ act_line_of self.now number) }
+        ensures missing { IfNone result (2 ^ 64 ≤ act_line_of self.now number) }
+    {
+        self.first_act.checked_add(number)
     }
 
     /// The index of this process's event on a line; none if the line is none of its events'.

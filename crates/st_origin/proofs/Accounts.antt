@@ -17,7 +17,7 @@ use Rattle.st_core.specs.Laws.{greatest_count, is_reset, IsSound, KeepsSound, No
 use Rattle.st_core.proofs.ForCallers.{All_at, all_at, greatest_push, pid_same, pid_eq-swap, process_after}
 use Rattle.st_core.proofs.ForCallers.{process_holds, process_pid, run_parts, run_sound, step_parts, Stepped, zero_sound}
 use Rattle.st_origin.specs.Origin.{Origin, Follows, Begins, given, given_by, given_to, origin, state_before}
-use Rattle.st_origin.proofs.Acts.{acted_changes, changed_counts, Changes, SameCounts, KeepsLast}
+use Rattle.st_origin.proofs.Acts.{acted_changes, changed_same, Changes, SameButTraced, KeepsLast}
 use Rattle.st_origin.proofs.Rows.{AreInRow, stamp_in_row}
 
 -- what p reports by an act
@@ -167,7 +167,7 @@ module _ (acts : List Act) (os : List Outcome) (p : Pid) where
             (record { rest = []; row = tt; split = sym (append-nil events); below = omega arith });
       })
 
-  same_accounted : (es : List Event) (l m : LocalState) (o : Option Origin) → SameCounts l m
+  same_accounted : (es : List Event) (l m : LocalState) (o : Option Origin) → SameButTraced l m
       → IsAccounted acts os p es l o → IsAccounted acts os p es m o
   same_accounted es l m o same is =
       let counted = is.counted in
@@ -180,26 +180,26 @@ module _ (acts : List Act) (os : List Outcome) (p : Pid) where
 -- A STEP
 
 module _ (top : ℕ) (s : State) (a : Act) (o : Outcome) (t : Stepped top s a o) (plain : is_reset a ≡ false) where
-  other_counts : (p : Pid) → pid_eq (actor a) p ≡ false → SameCounts (local_in s p) (local_in o.after p)
-  other_counts p other =
-      subst (λ found. SameCounts (local_in s p) (local_found found)) (sym (process_after top s a o t p))
+  pub other_same : (p : Pid) → pid_eq (actor a) p ≡ false → SameButTraced (local_in s p) (local_in o.after p)
+  other_same p other =
+      subst (λ found. SameButTraced (local_in s p) (local_found found)) (sym (process_after top s a o t p))
       (elim (process s p) as (λ found. process s p ≡ found
-      → SameCounts (local_found found) (local_found (option_map (changed a t.done) found))) [
-        | None ↦ λ _. record { clock = refl; last = refl }
+      → SameButTraced (local_found found) (local_found (option_map (changed a t.done) found))) [
+        | None ↦ λ _. record { token = refl; clock = refl; last = refl }
         | Some r ↦ λ is.
             let apart = ap (λ q. pid_eq q (actor a)) (process_pid s p r is) ∙ pid_eq-swap p (actor a) ∙ other in
-            changed_counts a t.done r false plain apart
+            changed_same a t.done r false plain apart
       ] refl)
 
-  actor_counts : (p : Pid) → pid_eq (actor a) p ≡ true → SameCounts t.done.local (local_in o.after p)
-  actor_counts p mine =
+  pub actor_same : (p : Pid) → pid_eq (actor a) p ≡ true → SameButTraced t.done.local (local_in o.after p)
+  actor_same p mine =
       let who = pid_same (actor a) p mine in
       let is : process s p ≡ Some t.before = ap (process s) (sym who) ∙ t.is_before in
       let own : pid_eq t.before.pid (actor a) ≡ true =
       ap (λ q. pid_eq q (actor a)) (process_pid s p t.before is) ∙ pid_eq-swap p (actor a) ∙ mine in
-      subst (λ found. SameCounts t.done.local (local_found found))
+      subst (λ found. SameButTraced t.done.local (local_found found))
       (sym (process_after top s a o t p ∙ ap (option_map (changed a t.done)) is))
-      (changed_counts a t.done t.before true plain own)
+      (changed_same a t.done t.before true plain own)
 
   next : (acts : List Act) (os : List Outcome) (p : Pid) (n : ℕ) (before : Option Origin)
       → slice_get acts n ≡ Some a → slice_get os n ≡ Some o → All (IsSound top) s
@@ -223,7 +223,7 @@ module _ (top : ℕ) (s : State) (a : Act) (o : Outcome) (t : Stepped top s a o)
             let now = subst (λ x. IsAccounted acts os p here (local_found x) before) found is in
             let next = part acts os p n a t.before.local t.done.local gift before at who changes now in
             let after = same_accounted acts os p (here ++ option_to_list (reported os n)) t.done.local
-            (local_in o.after p) (latest gift before) (actor_counts p mine) next in
+            (local_in o.after p) (latest gift before) (actor_same p mine) next in
             subst (λ x. IsAccounted acts os p (here ++ option_to_list x) (local_in o.after p)
             (latest (option_and_then (λ r. given_by n r a) (process s p)) before))
             (ap (option_and_then (λ x. x.report)) out)
@@ -231,15 +231,15 @@ module _ (top : ℕ) (s : State) (a : Act) (o : Outcome) (t : Stepped top s a o)
             (latest (option_and_then (λ r. given_by n r a) x) before)) (sym found) after)
         | false ↦ λ other.
             subst (λ xs. IsAccounted acts os p xs (local_in o.after p) before) (sym (append-nil here))
-            (same_accounted acts os p here (local_in s p) (local_in o.after p) before (other_counts p other) is)
+            (same_accounted acts os p here (local_in s p) (local_in o.after p) before (other_same p other) is)
       ] refl
 
 -- RUNS
 
-record StepAt (top : ℕ) (s : State) (a : Act) (os : List Outcome) (n : ℕ) : Type 0 where
-  outcome : Outcome
-  at : slice_get os n ≡ Some outcome
-  steps : step top (state_before s os n) a ≡ Some outcome
+pub record StepAt (top : ℕ) (s : State) (a : Act) (os : List Outcome) (n : ℕ) : Type 0 where
+  pub outcome : Outcome
+  pub at : slice_get os n ≡ Some outcome
+  pub steps : step top (state_before s os n) a ≡ Some outcome
 
 step_at : (top : ℕ) (s : State) (acts : List Act) (os : List Outcome) (n : ℕ) (a : Act) → run_from top s acts ≡ Some os
     → slice_get acts n ≡ Some a → StepAt top s a os n
@@ -274,7 +274,7 @@ sound_before top s os (suc n) first all o at =
       | Some y ↦ λ there. (All_at (KeepsSound top) os n y there all).processes
     ] refl
 
-earlier_there : {X : Type 0} (xs : List X) (n : ℕ) (x : X) → slice_get xs (suc n) ≡ Some x
+pub earlier_there : {X : Type 0} (xs : List X) (n : ℕ) (x : X) → slice_get xs (suc n) ≡ Some x
     → (y : X) × (slice_get xs n ≡ Some y)
 earlier_there [] n x h = absurd (none-some x h)
 earlier_there (y ∷ xs) zero x h = (y, refl)
@@ -320,10 +320,10 @@ module _ (top : ℕ) (pids : List Pid) (acts : List Act) (os : List Outcome) (h 
   before n = state_before (zero_state pids) os n
 
   -- act n and its step
-  here : (n : ℕ) (a : Act) → slice_get acts n ≡ Some a → StepAt top (zero_state pids) a os n
+  pub here : (n : ℕ) (a : Act) → slice_get acts n ≡ Some a → StepAt top (zero_state pids) a os n
   here n a at = step_at top (zero_state pids) acts os n a h at
 
-  plain : (n : ℕ) (a : Act) → slice_get acts n ≡ Some a → is_reset a ≡ false
+  pub plain : (n : ℕ) (a : Act) → slice_get acts n ≡ Some a → is_reset a ≡ false
   plain n a at = all_at (λ x. is_reset x ≡ false) acts n a none at
 
   sound : (n : ℕ) (o : Outcome) → slice_get os n ≡ Some o → All (IsSound top) (before n)

@@ -31,7 +31,7 @@ use Rattle.st_core.proofs.ForCallers.{All_at, pick_found}
 use Rattle.st_origin.specs.Origin.{Origin, Follows, Begins, given_by}
 
 -- the event of a token
-abbrev event_of : Kind → Token → Option Pid → ℕ → Event
+abbrev pub event_of : Kind → Token → Option Pid → ℕ → Event
 event_of k t to v = record { label = t.label; kind = k; serial = t.serial; from = t.from; to = to; value = v }
 
 -- the act left last as it was, and what it reports is a stamp, which the clock now counts
@@ -200,45 +200,46 @@ acted_changes top n (act.Tracer p b) r done h sound = silent r _ _ done h refl (
 
 -- WHAT REACHES A PROCESS
 
--- both counts of m are those of l
-pub record SameCounts (l m : LocalState) : Type 0 where
+-- m is as l but for whether its process is traced
+pub record SameButTraced (l m : LocalState) : Type 0 where
+  pub token : m.token ≡ l.token
   pub clock : m.clock ≡ l.clock
   pub last : m.last ≡ l.last
 
-same_counts : (l : LocalState) → SameCounts l l
-same_counts l = record { clock = refl; last = refl }
+same_but_traced : (l : LocalState) → SameButTraced l l
+same_but_traced l = record { token = refl; clock = refl; last = refl }
 
-reached_counts : (a : Act) (t : Option Token) (r : Process) → is_reset a ≡ false
-    → SameCounts r.local (reached a t r).local
-reached_counts (act.Reset p) t r plain = absurd (false≢true (sym plain))
-reached_counts (act.Send p q v) t r plain =
+reached_same : (a : Act) (t : Option Token) (r : Process) → is_reset a ≡ false
+    → SameButTraced r.local (reached a t r).local
+reached_same (act.Reset p) t r plain = absurd (false≢true (sym plain))
+reached_same (act.Send p q v) t r plain =
     let m : Message = record { from = p; value = v; token = t } in
-    elim (pid_eq r.pid q) as (λ b. SameCounts r.local (cond b (record r { queue = r.queue ++ m ∷ [] }) r).local) [
-      | true ↦ same_counts r.local
-      | false ↦ same_counts r.local
+    elim (pid_eq r.pid q) as (λ b. SameButTraced r.local (cond b (record r { queue = r.queue ++ m ∷ [] }) r).local) [
+      | true ↦ same_but_traced r.local
+      | false ↦ same_but_traced r.local
     ]
-reached_counts (act.Tracer p on) t r plain =
+reached_same (act.Tracer p on) t r plain =
     elim (node_eq r.pid p) as (λ b.
-    SameCounts r.local (cond b (record r { local = record r.local { traced = on } }) r).local) [
-      | true ↦ record { clock = refl; last = refl }
-      | false ↦ same_counts r.local
+    SameButTraced r.local (cond b (record r { local = record r.local { traced = on } }) r).local) [
+      | true ↦ record { token = refl; clock = refl; last = refl }
+      | false ↦ same_but_traced r.local
     ]
-reached_counts (act.Receive p w) t r plain = same_counts r.local
-reached_counts (act.Print p v) t r plain = same_counts r.local
-reached_counts (act.PrintAt p n v) t r plain = same_counts r.local
-reached_counts (act.Set p c) t r plain = same_counts r.local
-reached_counts (act.Clear p) t r plain = same_counts r.local
-reached_counts (act.Restore p x) t r plain = same_counts r.local
-reached_counts (act.Look p) t r plain = same_counts r.local
+reached_same (act.Receive p w) t r plain = same_but_traced r.local
+reached_same (act.Print p v) t r plain = same_but_traced r.local
+reached_same (act.PrintAt p n v) t r plain = same_but_traced r.local
+reached_same (act.Set p c) t r plain = same_but_traced r.local
+reached_same (act.Clear p) t r plain = same_but_traced r.local
+reached_same (act.Restore p x) t r plain = same_but_traced r.local
+reached_same (act.Look p) t r plain = same_but_traced r.local
 
--- the actor's are those of its part, each other's as they were
-pub changed_counts : (a : Act) (done : Acted) (r : Process) (mine : Bool) → is_reset a ≡ false
-    → pid_eq r.pid (actor a) ≡ mine → SameCounts (cond mine done.local r.local) (changed a done r).local
-changed_counts a done r mine plain is =
+-- the actor's is that of its part, each other's as it was
+pub changed_same : (a : Act) (done : Acted) (r : Process) (mine : Bool) → is_reset a ≡ false
+    → pid_eq r.pid (actor a) ≡ mine → SameButTraced (cond mine done.local r.local) (changed a done r).local
+changed_same a done r mine plain is =
     let own : Process = record r { local = done.local; queue = done.queue } in
     let x = λ (b : Bool). cond b own r in
-    let reached = reached_counts a done.local.token (x (pid_eq r.pid (actor a))) plain in
-    let part : SameCounts (x mine).local (changed a done r).local =
-    subst (λ b. SameCounts (x b).local (changed a done r).local) is reached in
-    elim mine as (λ b. SameCounts (x b).local (changed a done r).local
-    → SameCounts (cond b done.local r.local) (changed a done r).local) [ true ↦ λ h. h | false ↦ λ h. h ] part
+    let reached = reached_same a done.local.token (x (pid_eq r.pid (actor a))) plain in
+    let part : SameButTraced (x mine).local (changed a done r).local =
+    subst (λ b. SameButTraced (x b).local (changed a done r).local) is reached in
+    elim mine as (λ b. SameButTraced (x b).local (changed a done r).local
+    → SameButTraced (cond b done.local r.local) (changed a done r).local) [ true ↦ λ h. h | false ↦ λ h. h ] part

@@ -227,7 +227,7 @@ given_to_number p n m s a h =
     ] h
 
 module _ (pids : List Pid) (acts : List Act) (os : List Outcome) (p : Pid) where
-  number_given : (n m : ℕ) → given pids acts os p n ≡ Some (Follows m) → n ≡ m
+  pub number_given : (n m : ℕ) → given pids acts os p n ≡ Some (Follows m) → n ≡ m
   number_given n m h =
       let s = state_before (zero_state pids) os n in
       option_and_then_some (given_to p n s) (slice_get acts n) (Follows m) h

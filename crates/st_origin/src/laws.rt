@@ -8,13 +8,14 @@ ghost use Rattle.st_core.specs.declared.types.Act.{Act};
 ghost use Rattle.st_core.specs.declared.types.Event.{Event};
 ghost use Rattle.st_core.specs.declared.types.Kind.TheVariants as kind;
 ghost use Rattle.st_core.specs.declared.types.Pid.{Pid};
-ghost use Rattle.st_core.specs.Laws.{NoReset, ReportsEvent, greatest_count};
+ghost use Rattle.st_core.specs.Laws.{NoReset, Reports, ReportsEvent, greatest_count};
 ghost use Rattle.st_core.specs.Run.{run, stream};
 ghost use Rattle.st_core.specs.Step.{Outcome};
 ghost use Rattle.st_core.specs.Pairs.{IsFollowing};
 ghost use Rattle.st_origin.specs.declared.told.Told.TheVariants as what;
 ghost use Rattle.st_origin.specs.Events.{row_start, told};
-ghost use Rattle.st_origin.specs.Origin.{Begins, ReportsReceives, origin};
+ghost use Rattle.st_origin.specs.Labels.{SetsLabelBetween};
+ghost use Rattle.st_origin.specs.Origin.{Begins, Follows, ReportsReceives, origin};
 ghost use Rattle.st_origin.specs.Truth.{BeginsAfter, FollowsEvent, IsBeginning, IsTrue};
 ghost use Rattle.st_origin.specs.Truth.{IsTrueIfReported, NeverBeginsAgain, last_receive};
 
@@ -80,6 +81,16 @@ pub fn one_label_tells_the_receive()
         → told e.serial.prev (stream acts os p) i ≡ what.AfterOrBegins j
         → slice_get (stream acts os p) j ≡ Some d → d.label ≡ e.label
         → FollowsEvent acts os p j (origin pids acts os p n) }
+{}
+
+/// If a stamp follows a receive that was reported and has another label, its process set that label
+/// on its token in between, or put back a whole token that has it.
+pub fn another_label_was_set()
+    ensures { (top : ℕ) (pids : List Pid) (acts : List Act) (os : List Outcome)
+        → run top pids acts ≡ Some os → NoReset acts → (p : Pid) (m n : ℕ) (d e : Event)
+        → Reports acts os p m d → Reports acts os p n e → e.kind ≢ kind.Receive
+        → origin pids acts os p n ≡ Some (Follows m) → ¬ (d.label ≡ e.label)
+        → SetsLabelBetween acts p m n e.label }
 {}
 
 /// Of a receive: a reported stamp of its sender with its count is the very send that it took.

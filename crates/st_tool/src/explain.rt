@@ -1,115 +1,28 @@
 //! The command `explain`: why `check` refuses a bundle. It makes the acts again up to the first
 //! that reports something else than the streams have, and shows that act, the event that was due,
-//! the report that came, and the actor's state before it.
+//! the report that came, and the actor's state before it with the messages that wait. If events are
+//! left at the end, it shows what the act would report that could report the next one.
 
 use crate::lines::OutputLine;
+use crate::queue::Sent;
+use crate::rerun::{Came, Rerun, TOP};
 use st_check::{CheckFault, Verdict, check};
 use st_commands::{status_of, tell_fault, tell_line};
-use st_core::{Act, ByteSink, ByteSource, Event, Pid, Streams, Token};
+use st_core::{Act, ByteSink, ByteSource, Event, Kind, Pid, Streams, Token};
+use st_lines::LineNumbers;
 use st_say::{say, say_act, say_count, say_event, say_number, say_pid, say_serial};
 use st_text::{Buffer, Bundle, Device, Limits, ReadFault, flush, read_within};
-use st_world::{NewFault, StepFault, World};
 use std::alloc::{AllocError, Global};
 
-/// The greatest count that a clock of the program can have.
-const TOP: u64 = u64::MAX;
+/// So many messages of a queue are shown.
+const SHOWN: u64 = 10;
 
-/// A run under way: the world, and by each process's place among the streams how many events it has
-/// reported and how many messages wait for it.
+/// What is explained: the streams and the acts of a bundle, with the lines of both.
 #[derive(Drop)]
-struct Rerun {
-    world: World<TOP>,
-    reported: Vec<u64>,
-    waiting: Vec<u64>,
-}
-
-/// What came of an act.
-#[derive(Clone, Copy, Debug, PartialEq, Eq)]
-enum Came {
-    /// It was a step, with this report or none.
-    Step(Option<Event>),
-    /// It had no step.
-    Stuck,
-}
-
-/// So many zeros.
-fn zeros(alloc: Global, count: usize) -> Result<Vec<u64>, AllocError> {
-    let mut zeros = Vec::new(alloc);
-    for _ in 0..count {
-        zeros.push(0)?;
-    }
-    Ok(zeros)
-}
-
-/// One more at a place.
-fn raise(counts: &mut Vec<u64>, place: Option<usize>) {
-    if let Some(place) = place {
-        if let Some(count) = counts.get_mut(place) {
-            *count = count.saturating_add(1);
-        }
-    }
-}
-
-/// One less at a place.
-fn lower(counts: &mut Vec<u64>, place: Option<usize>) {
-    if let Some(place) = place {
-        if let Some(count) = counts.get_mut(place) {
-            *count = count.saturating_sub(1);
-        }
-    }
-}
-
-/// What is counted at a process's place.
-fn count_at(counts: &Vec<u64>, streams: &Streams, pid: Pid) -> u64 {
-    match streams.place_of(pid) {
-        None => 0,
-        Some(place) => counts.get(place).copied().unwrap_or(0),
-    }
-}
-
-impl Rerun {
-    /// Before the first act.
-    fn new(alloc: Global, streams: &Streams) -> Result<Rerun, AllocError> {
-        let count = streams.pids().len();
-        let reported = zeros(alloc, count)?;
-        let waiting = zeros(alloc, count)?;
-        match World::new(alloc, streams.pids()) {
-            Ok(world) => Ok(Rerun {
-                world,
-                reported,
-                waiting,
-            }),
-            Err(NewFault::Memory | NewFault::NotRising) => Err(AllocError),
-        }
-    }
-
-    /// Makes an act.
-    fn take(&mut self, streams: &Streams, act: &Act) -> Result<Came, AllocError> {
-        let told = match self.world.step(act) {
-            Ok(told) => told,
-            Err(StepFault::Memory) => return Err(AllocError),
-            Err(StepFault::Unknown | StepFault::ClockFull) => return Ok(Came::Stuck),
-        };
-        let actor = streams.place_of(act.actor());
-        if let Act::Send(_, receiver, _) = act {
-            raise(&mut self.waiting, streams.place_of(*receiver));
-        }
-        if told.place.is_some() {
-            lower(&mut self.waiting, actor);
-        }
-        if told.report.is_some() {
-            raise(&mut self.reported, actor);
-        }
-        Ok(Came::Step(told.report))
-    }
-
-    /// Makes acts, one after the other.
-    fn take_all(&mut self, streams: &Streams, acts: &[Act]) -> Result<(), AllocError> {
-        for act in acts {
-            let _ = self.take(streams, act)?;
-        }
-        Ok(())
-    }
+struct Given<'a> {
+    streams: &'a Streams,
+    acts: &'a [Act],
+    numbers: LineNumbers<'a>,
 }
 
 /// Writes a flag's word if it is set.
@@ -146,11 +59,130 @@ fn say_token<W: ByteSink>(
     say_pid(writer, buffer, token.from)
 }
 
+/// Writes the line of an event or an act behind what names it, if it has one.
+fn say_line<W: ByteSink>(
+    writer: &mut W,
+    buffer: &mut Buffer,
+    line: Option<u64>,
+) -> Result<(), Device> {
+    match line {
+        Some(line) => {
+            say(writer, buffer, b", line ")?;
+            say_number(writer, buffer, line)
+        }
+        None => Ok(()),
+    }
+}
+
+/// Writes the message at this place of a queue, and whether it is the one that is due.
+fn say_message<W: ByteSink>(
+    writer: &mut W,
+    buffer: &mut Buffer,
+    given: &Given<'_>,
+    place: u64,
+    message: Sent,
+    is_due: bool,
+) -> Result<(), Device> {
+    say(writer, buffer, b"    place ")?;
+    say_number(writer, buffer, place)?;
+    if let Some(Act::Send(from, _, value)) = given.acts.get(message.act as usize) {
+        say(writer, buffer, b": ")?;
+        say_number(writer, buffer, *value)?;
+        say(writer, buffer, b" from ")?;
+        say_pid(writer, buffer, *from)?;
+    }
+    if message.count > 0 {
+        say(writer, buffer, b", count ")?;
+        say_number(writer, buffer, message.count)?;
+    } else {
+        say(writer, buffer, b", without a token")?;
+    }
+    say(writer, buffer, b", sent by act ")?;
+    say_number(writer, buffer, message.act)?;
+    say_line(writer, buffer, given.numbers.act_line(message.act))?;
+    say(
+        writer,
+        buffer,
+        if is_due {
+            b": this one is due\n"
+        } else {
+            b"\n"
+        },
+    )
+}
+
+/// Writes the messages that wait at places from `first` up to `end` of the queue.
+fn say_messages<W: ByteSink>(
+    writer: &mut W,
+    buffer: &mut Buffer,
+    given: &Given<'_>,
+    rerun: &Rerun,
+    due: Option<u64>,
+    first: u64,
+    end: u64,
+) -> Result<(), Device> {
+    for place in first..end {
+        if let Some(message) = rerun.queue.message(place) {
+            say_message(writer, buffer, given, place, message, due == Some(place))?;
+        }
+    }
+    Ok(())
+}
+
+/// Writes the queue of a process from which this event is due, if one is: its first messages, and
+/// the one that is due.
+fn say_queue<W: ByteSink>(
+    writer: &mut W,
+    buffer: &mut Buffer,
+    given: &Given<'_>,
+    rerun: &Rerun,
+    pid: Pid,
+    event: Option<Event>,
+) -> Result<(), Device> {
+    let count = rerun.queue.len();
+    say_count(writer, buffer, b"  messages in its queue ", count)?;
+    let receive = event.filter(|event| event.kind == Kind::Receive);
+    let due = receive
+        .as_ref()
+        .and_then(|event| rerun.place_of(pid, event));
+    say_messages(writer, buffer, given, rerun, due, 0, count.min(SHOWN))?;
+    match due {
+        Some(place) if place >= SHOWN => {
+            let behind = place.saturating_add(1);
+            say_messages(writer, buffer, given, rerun, due, place, behind)?;
+            say_more(
+                writer,
+                buffer,
+                count.saturating_sub(SHOWN).saturating_sub(1),
+            )
+        }
+        None if receive.is_some() => {
+            say_more(writer, buffer, count.saturating_sub(SHOWN))?;
+            say(
+                writer,
+                buffer,
+                b"    the message that is due doesn't wait there\n",
+            )
+        }
+        _ => say_more(writer, buffer, count.saturating_sub(SHOWN)),
+    }
+}
+
+/// Writes how many more messages wait, if some do.
+fn say_more<W: ByteSink>(writer: &mut W, buffer: &mut Buffer, count: u64) -> Result<(), Device> {
+    if count == 0 {
+        return Ok(());
+    }
+    say(writer, buffer, b"    and ")?;
+    say_number(writer, buffer, count)?;
+    say(writer, buffer, b" more\n")
+}
+
 /// Writes the state of a process.
 fn say_state<W: ByteSink>(
     writer: &mut W,
     buffer: &mut Buffer,
-    streams: &Streams,
+    given: &Given<'_>,
     rerun: &Rerun,
     pid: Pid,
 ) -> Result<(), Device> {
@@ -159,41 +191,30 @@ fn say_state<W: ByteSink>(
     say(writer, buffer, b"\n  token ")?;
     say_token(writer, buffer, rerun.world.token(pid))?;
     say(writer, buffer, b"\n")?;
-    say_count(
-        writer,
-        buffer,
-        b"  clock ",
-        rerun.world.clock(pid).unwrap_or(0),
-    )?;
-    say_count(
-        writer,
-        buffer,
-        b"  last ",
-        rerun.world.last(pid).unwrap_or(0),
-    )?;
-    say_count(
-        writer,
-        buffer,
-        b"  messages in its queue ",
-        count_at(&rerun.waiting, streams, pid),
-    )
+    let clock = rerun.world.clock(pid).unwrap_or(0);
+    say_count(writer, buffer, b"  clock ", clock)?;
+    let last = rerun.world.last(pid).unwrap_or(0);
+    say_count(writer, buffer, b"  last ", last)?;
+    let event = rerun.due(given.streams, pid);
+    say_queue(writer, buffer, given, rerun, pid, event)
 }
 
 /// Writes the event that is due from a process.
 fn say_due<W: ByteSink>(
     writer: &mut W,
     buffer: &mut Buffer,
-    streams: &Streams,
+    given: &Given<'_>,
     rerun: &Rerun,
     pid: Pid,
 ) -> Result<(), Device> {
-    let next = count_at(&rerun.reported, streams, pid);
-    match streams.event(pid, next) {
+    let next = rerun.next_index(given.streams, pid);
+    match given.streams.event(pid, next) {
         Some(event) => {
             say(writer, buffer, b"due: event ")?;
             say_number(writer, buffer, next)?;
             say(writer, buffer, b" of ")?;
             say_pid(writer, buffer, pid)?;
+            say_line(writer, buffer, given.numbers.line(pid, next))?;
             say(writer, buffer, b"\n  ")?;
             say_event(writer, buffer, &event)?;
         }
@@ -223,7 +244,7 @@ fn say_came<W: ByteSink>(writer: &mut W, buffer: &mut Buffer, came: &Came) -> Re
 /// before it.
 fn send_difference<W: ByteSink>(
     writer: &mut W,
-    streams: &Streams,
+    given: &Given<'_>,
     rerun: &Rerun,
     number: u64,
     act: &Act,
@@ -232,28 +253,70 @@ fn send_difference<W: ByteSink>(
     let mut buffer = Buffer::new();
     say(writer, &mut buffer, b"act ")?;
     say_number(writer, &mut buffer, number)?;
+    say_line(writer, &mut buffer, given.numbers.act_line(number))?;
     say(writer, &mut buffer, b": ")?;
     say_act(writer, &mut buffer, act)?;
     say(writer, &mut buffer, b"\n")?;
-    say_due(writer, &mut buffer, streams, rerun, act.actor())?;
+    say_due(writer, &mut buffer, given, rerun, act.actor())?;
     say_came(writer, &mut buffer, came)?;
-    say_state(writer, &mut buffer, streams, rerun, act.actor())?;
+    say_state(writer, &mut buffer, given, rerun, act.actor())?;
     flush(writer, &mut buffer)
 }
 
-/// Sends that a process has events left at the end of a run.
+/// Writes which act could report the event that is left, or what the only one that could do so at
+/// another token or clock would report now.
+fn say_next<W: ByteSink>(
+    writer: &mut W,
+    buffer: &mut Buffer,
+    event: &Event,
+    tried: Option<(Act, Came)>,
+) -> Result<(), Device> {
+    let Some((act, came)) = tried else {
+        return say(
+            writer,
+            buffer,
+            b"next: no single act would report it, since its message doesn't wait\n",
+        );
+    };
+    say(writer, buffer, b"next: ")?;
+    if came == Came::Step(Some(*event)) {
+        say_act(writer, buffer, &act)?;
+        return say(writer, buffer, b" would report it\n");
+    }
+    say(
+        writer,
+        buffer,
+        b"no single act would report it, since its token or its clock doesn't allow it\n  ",
+    )?;
+    say_act(writer, buffer, &act)?;
+    match came {
+        Came::Step(Some(other)) => {
+            say(writer, buffer, b" would report ")?;
+            say_event(writer, buffer, &other)?;
+            say(writer, buffer, b"\n")
+        }
+        Came::Step(None) | Came::Stuck => say(writer, buffer, b" would report nothing\n"),
+    }
+}
+
+/// Sends that a process has events left at the end of a run, of which this one is due, and what was
+/// tried for it.
 fn send_left<W: ByteSink>(
     writer: &mut W,
-    streams: &Streams,
+    given: &Given<'_>,
     rerun: &Rerun,
     pid: Pid,
+    tried: Option<(Act, Came)>,
 ) -> Result<(), Device> {
     let mut buffer = Buffer::new();
     say(writer, &mut buffer, b"the acts end, and ")?;
     say_pid(writer, &mut buffer, pid)?;
     say(writer, &mut buffer, b" has events left\n")?;
-    say_due(writer, &mut buffer, streams, rerun, pid)?;
-    say_state(writer, &mut buffer, streams, rerun, pid)?;
+    say_due(writer, &mut buffer, given, rerun, pid)?;
+    say_state(writer, &mut buffer, given, rerun, pid)?;
+    if let Some(event) = rerun.due(given.streams, pid) {
+        say_next(writer, &mut buffer, &event, tried)?;
+    }
     flush(writer, &mut buffer)
 }
 
@@ -268,20 +331,24 @@ fn send_accepted<W: ByteSink>(writer: &mut W) -> Result<(), Device> {
     flush(writer, &mut buffer)
 }
 
+/// The run of these acts, with the queue of this process.
+fn rerun_of(alloc: Global, given: &Given<'_>, acts: &[Act], pid: Pid) -> Result<Rerun, AllocError> {
+    let mut rerun = Rerun::new(alloc, given.streams, acts, pid)?;
+    rerun.take_all(given.streams, acts)?;
+    Ok(rerun)
+}
+
 /// The run right before the act with this number, and what comes of that act.
 fn rerun_before(
     alloc: Global,
-    streams: &Streams,
-    acts: &[Act],
+    given: &Given<'_>,
     number: usize,
     act: &Act,
 ) -> Result<(Rerun, Came), AllocError> {
-    let (before, _) = acts.split_at(number.min(acts.len()));
-    let mut rerun = Rerun::new(alloc, streams)?;
-    rerun.take_all(streams, before)?;
-    let mut further = Rerun::new(alloc, streams)?;
-    further.take_all(streams, before)?;
-    let came = further.take(streams, act)?;
+    let (before, _) = given.acts.split_at(number.min(given.acts.len()));
+    let rerun = rerun_of(alloc, given, before, act.actor())?;
+    let mut further = rerun_of(alloc, given, before, act.actor())?;
+    let came = further.take(given.streams, act)?;
     Ok((rerun, came))
 }
 
@@ -289,61 +356,73 @@ fn rerun_before(
 /// have.
 fn tell_difference<W: ByteSink>(
     alloc: Global,
-    streams: &Streams,
-    acts: &[Act],
+    given: &Given<'_>,
     number: u64,
     writer: &mut W,
 ) -> u8 {
-    let Some(act) = acts.get(number as usize) else {
+    let Some(act) = given.acts.get(number as usize) else {
         return status_of(send_accepted(writer), 0);
     };
-    match rerun_before(alloc, streams, acts, number as usize, act) {
+    match rerun_before(alloc, given, number as usize, act) {
         Ok((rerun, came)) => {
-            let sent = send_difference(writer, streams, &rerun, number, act, &came);
+            let sent = send_difference(writer, given, &rerun, number, act, &came);
             status_of(sent, 1)
         }
         Err(AllocError) => tell_fault(writer, ReadFault::Memory),
     }
 }
 
-/// Writes about a process with events left.
-fn tell_left<W: ByteSink>(
+/// The run of all acts, and what comes of the only act that could report the next event of this
+/// process, if one could.
+fn rerun_left(
     alloc: Global,
-    streams: &Streams,
-    acts: &[Act],
+    given: &Given<'_>,
     pid: Pid,
-    writer: &mut W,
-) -> u8 {
-    let Ok(mut rerun) = Rerun::new(alloc, streams) else {
-        return tell_fault(writer, ReadFault::Memory);
+) -> Result<(Rerun, Option<(Act, Came)>), AllocError> {
+    let rerun = rerun_of(alloc, given, given.acts, pid)?;
+    let next = rerun.due(given.streams, pid);
+    let Some(act) = next.and_then(|event| rerun.act_for(pid, &event)) else {
+        return Ok((rerun, None));
     };
-    match rerun.take_all(streams, acts) {
-        Ok(()) => {
-            let sent = send_left(writer, streams, &rerun, pid);
-            status_of(sent, 1)
-        }
+    let mut further = rerun_of(alloc, given, given.acts, pid)?;
+    let came = further.take(given.streams, &act)?;
+    Ok((rerun, Some((act, came))))
+}
+
+/// Writes about a process with events left.
+fn tell_left<W: ByteSink>(alloc: Global, given: &Given<'_>, pid: Pid, writer: &mut W) -> u8 {
+    match rerun_left(alloc, given, pid) {
+        Ok((rerun, tried)) => status_of(send_left(writer, given, &rerun, pid, tried), 1),
         Err(AllocError) => tell_fault(writer, ReadFault::Memory),
     }
 }
 
 /// Writes why the acts don't show the streams.
-fn explain_acts<W: ByteSink>(alloc: Global, streams: &Streams, acts: &[Act], writer: &mut W) -> u8 {
-    match check::<TOP>(alloc, streams, acts) {
+fn explain_acts<W: ByteSink>(alloc: Global, given: &Given<'_>, writer: &mut W) -> u8 {
+    match check::<TOP>(alloc, given.streams, given.acts) {
         Ok(Verdict::Yes(_)) => status_of(send_accepted(writer), 0),
         Ok(Verdict::Stuck(number) | Verdict::Differs(number)) => {
-            tell_difference(alloc, streams, acts, number, writer)
+            tell_difference(alloc, given, number, writer)
         }
-        Ok(Verdict::Left(pid)) => tell_left(alloc, streams, acts, pid, writer),
+        Ok(Verdict::Left(pid)) => tell_left(alloc, given, pid, writer),
         Err(CheckFault::Memory) => tell_fault(writer, ReadFault::Memory),
     }
 }
 
 /// Writes why `check` refuses a bundle.
 fn explain_bundle<W: ByteSink>(alloc: Global, bundle: &Bundle, writer: &mut W) -> u8 {
-    match &bundle.acts {
-        Some(acts) => explain_acts(alloc, &bundle.streams, acts.as_slice(), writer),
-        None => tell_line(writer, OutputLine::NoActs, 2),
-    }
+    let Some(acts) = &bundle.acts else {
+        return tell_line(writer, OutputLine::NoActs, 2);
+    };
+    let Ok(numbers) = LineNumbers::new(alloc, &bundle.streams) else {
+        return tell_fault(writer, ReadFault::Memory);
+    };
+    let given = Given {
+        streams: &bundle.streams,
+        acts: acts.as_slice(),
+        numbers,
+    };
+    explain_acts(alloc, &given, writer)
 }
 
 /// Reads a bundle and writes why `check` refuses it, with status 1, or that it doesn't, with status

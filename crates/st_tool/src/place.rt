@@ -44,12 +44,3 @@ pub fn tell_place<N: ByteSink>(
     say(notes, &mut buffer, b"; see seqtool lint\n")?;
     flush(notes, &mut buffer)
 }
-
-/// Writes a no that stands where another program waits for a bundle.
-pub fn tell_no<N: ByteSink>(words: &[u8], notes: &mut N) -> Result<(), Device> {
-    let mut buffer = Buffer::new();
-    say(notes, &mut buffer, b"no: ")?;
-    say(notes, &mut buffer, words)?;
-    say(notes, &mut buffer, b"\n")?;
-    flush(notes, &mut buffer)
-}

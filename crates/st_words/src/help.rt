@@ -71,8 +71,8 @@ pub(crate) const EXPLAIN: &str = "Says why check refuses acts: the act, what was
 
 pub(crate) const EXPLAIN_EXAMPLE: &str = "Example:
   seqtool explain acts.txt
-  act 10: send <0.32.0> <0.31.0> 4
-  due: event 1 of <0.32.0>
+  act 10, line 25: send <0.32.0> <0.31.0> 4
+  due: event 1 of <0.32.0>, line 13
     {seq_trace,17,{send,{2,4},<0.32.0>,<0.31.0>,4}}
   came:
     {seq_trace,17,{send,{3,4},<0.32.0>,<0.31.0>,4}}
@@ -87,7 +87,7 @@ pub(crate) const CHECK: &str = "Says whether the acts are a run that reports exa
 pub(crate) const CHECK_EXAMPLE: &str = "Example:
   seqtool audit trace.txt | seqtool check
 
-A no of audit is on standard error too, if the output isn't a terminal.";
+A no is on standard error too, in words and with the line of the trace.";
 
 pub(crate) const AUDIT: &str = "Finds acts that explain the trace, or names an event and a reason";
 

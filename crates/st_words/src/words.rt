@@ -7,7 +7,7 @@ use clap::{Arg, ArgAction, ArgMatches, Command, Error};
 use st_core::{Label, Pid};
 use st_hops::Reach;
 use st_list::{Filter, Span, Style};
-use st_tool::Form;
+use st_tool::{Form, pid_of};
 use st_why::{Direction, Question, Start};
 use std::alloc::{AllocError, Global};
 use std::convert::AsStr;
@@ -35,22 +35,6 @@ pub enum Task {
     Cut(Filter),
     /// `stats`: how many events and messages are there?
     Stats(Style),
-}
-
-impl Task {
-    /// Whether a yes of this command is a bundle, which another program may read.
-    pub fn writes_bundle(self) -> bool {
-        match self {
-            Task::Complete(form) => form != Form::Added,
-            Task::Renumber | Task::Audit | Task::Cut(_) => true,
-            Task::Why(..)
-            | Task::Lint
-            | Task::Explain
-            | Task::Check
-            | Task::List(..)
-            | Task::Stats(_) => false,
-        }
-    }
 }
 
 /// What the words ask for.
@@ -222,21 +206,6 @@ fn form_of(name: Option<&str>) -> Form {
             Form::Added
         }
         None => Form::Added,
-    }
-}
-
-/// The pid that a text writes, with its angle brackets or without.
-fn pid_of(text: &str) -> Option<Pid> {
-    let open = text.strip_prefix("<").unwrap_or(text);
-    let bare = open.strip_suffix(">").unwrap_or(open);
-    let (node, rest) = bare.split_once(".")?;
-    let (number, serial) = rest.split_once(".")?;
-    if serial != "0" {
-        return None;
-    }
-    match (node.parse::<u16>(), number.parse::<u16>()) {
-        (Ok(node), Ok(number)) => Some(Pid::on(node, number)),
-        _ => None,
     }
 }
 
