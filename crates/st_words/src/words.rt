@@ -1,10 +1,15 @@
 //! The command line: what the words ask for. `clap` reads them, and writes the help and the
 //! messages. The input isn't read here.
 
+use crate::export_words::{
+    chart_command, chart_of, complete_of, export_command, export_of, task_or_json, with_json,
+};
 use crate::help;
 use clap::error::ErrorKind;
 use clap::{Arg, ArgAction, ArgMatches, Command, Error};
 use st_core::{Label, Pid};
+use st_draw::Drawing;
+use st_export::Target;
 use st_hops::Reach;
 use st_list::{Filter, Span, Style};
 use st_tool::Form;
@@ -35,6 +40,16 @@ pub enum Task {
     Cut(Filter),
     /// `stats`: how many events and messages are there?
     Stats(Style),
+    /// `chart`: a drawing of the streams.
+    Chart(Drawing),
+    /// `export`: the streams for another tool.
+    Export(Target),
+    /// `check`, as JSON.
+    CheckJson,
+    /// `audit`, as JSON.
+    AuditJson,
+    /// `complete`: the added events, as JSON.
+    CompleteJson,
 }
 
 impl Task {
@@ -48,7 +63,12 @@ impl Task {
             | Task::Explain
             | Task::Check
             | Task::List(..)
-            | Task::Stats(_) => false,
+            | Task::Stats(_)
+            | Task::Chart(_)
+            | Task::Export(_)
+            | Task::CheckJson
+            | Task::AuditJson
+            | Task::CompleteJson => false,
         }
     }
 }
@@ -63,7 +83,7 @@ pub struct Request<'a> {
 }
 
 /// The trace's file, which every command takes last.
-fn file_arg<'a>(alloc: Global) -> Arg<'a> {
+pub(crate) fn file_arg<'a>(alloc: Global) -> Arg<'a> {
     Arg::new(alloc, "FILE").help("The trace's file; standard input if it is left out or -")
 }
 
@@ -91,6 +111,7 @@ fn complete_command<'a>(alloc: Global) -> Result<Command<'a>, AllocError> {
         .about(help::COMPLETE)
         .after_help(help::COMPLETE_EXAMPLE)
         .arg(form)?
+        .arg(json_arg(alloc))?
         .arg(file_arg(alloc))
 }
 
@@ -131,7 +152,7 @@ fn why_command<'a>(alloc: Global) -> Result<Command<'a>, AllocError> {
 }
 
 /// The option that asks for JSON.
-fn json_arg<'a>(alloc: Global) -> Arg<'a> {
+pub(crate) fn json_arg<'a>(alloc: Global) -> Arg<'a> {
     Arg::new(alloc, "json")
         .long("json")
         .action(ArgAction::SetTrue)
@@ -197,15 +218,17 @@ fn command_line<'a>(alloc: Global) -> Result<Command<'a>, AllocError> {
     let lint = plain_command(alloc, "lint", help::LINT, help::LINT_EXAMPLE)?;
     let renumber = plain_command(alloc, "renumber", help::RENUMBER, help::RENUMBER_EXAMPLE)?;
     program
-        .subcommand(audit)?
+        .subcommand(with_json(alloc, audit)?)?
         .subcommand(complete_command(alloc)?)?
         .subcommand(why_command(alloc)?)?
         .subcommand(lint)?
-        .subcommand(check)?
+        .subcommand(with_json(alloc, check)?)?
         .subcommand(explain)?
         .subcommand(list_command(alloc)?)?
         .subcommand(cut_command(alloc)?)?
         .subcommand(stats_command(alloc)?)?
+        .subcommand(chart_command(alloc)?)?
+        .subcommand(export_command(alloc)?)?
         .subcommand(renumber)
 }
 
@@ -292,7 +315,7 @@ fn process_option(found: &ArgMatches) -> Result<Option<Pid>, &'static str> {
 }
 
 /// The label of an option, none if it is left out.
-fn label_option(found: &ArgMatches) -> Option<Label> {
+pub(crate) fn label_option(found: &ArgMatches) -> Option<Label> {
     let number = found.get_one::<u32>("LABEL")?;
     Some(Label(number))
 }
@@ -362,15 +385,17 @@ fn why_of<'a>(found: &ArgMatches<'a>) -> Result<Request<'a>, &'static str> {
 /// The command of this name, of whose own words `clap` found these; or what a word of its has to be.
 fn task_of(name: &str, found: &ArgMatches) -> Result<Task, &'static str> {
     match name {
-        "complete" => Ok(Task::Complete(form_of(found.get_str("FORM")))),
+        "complete" => complete_of(found, form_of(found.get_str("FORM"))),
         "renumber" => Ok(Task::Renumber),
         "lint" => Ok(Task::Lint),
         "explain" => Ok(Task::Explain),
-        "check" => Ok(Task::Check),
+        "check" => Ok(task_or_json(found, Task::Check, Task::CheckJson)),
         "list" => Ok(Task::List(filter_of(found)?, style_of(found))),
         "cut" => Ok(Task::Cut(filter_of(found)?)),
         "stats" => Ok(Task::Stats(style_of(found))),
-        _ => Ok(Task::Audit),
+        "chart" => chart_of(found),
+        "export" => Ok(export_of(found)),
+        _ => Ok(task_or_json(found, Task::Audit, Task::AuditJson)),
     }
 }
 
@@ -379,6 +404,8 @@ fn wrong_word(alloc: Global, name: &str, words: &'static str) -> Result<Error, A
     let mut command = match name {
         "list" => list_command(alloc)?.bin_name("seqtool list")?,
         "cut" => cut_command(alloc)?.bin_name("seqtool cut")?,
+        "chart" => chart_command(alloc)?.bin_name("seqtool chart")?,
+        "complete" => complete_command(alloc)?.bin_name("seqtool complete")?,
         _ => why_command(alloc)?.bin_name("seqtool why")?,
     };
     command.error(ErrorKind::ValueValidation, words)
