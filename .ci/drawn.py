@@ -8,6 +8,7 @@ import re
 import shutil
 import subprocess
 import sys
+import tempfile
 from collections import Counter, defaultdict
 from itertools import pairwise
 from pathlib import Path
@@ -16,6 +17,7 @@ TOP = Path(__file__).resolve().parent.parent
 sys.path[:0] = [str(TOP / "bench"), str(TOP / "erlang/test")]
 
 import slow_seqaudit as model  # noqa: E402
+from hostile_use import shim  # noqa: E402
 from hostile_use.program import Answer, Check, expect  # noqa: E402
 from random_why import Calls, Wild  # noqa: E402
 
@@ -485,3 +487,93 @@ def verdicts(program):
             yield expect(f"{name_of}: its status", Answer(lines.status, got.output), got)
             seen.add((command, lines.status))
     yield Check("verdicts: a yes and a no of each command", None if len(seen) == 6 else f"only {sorted(seen)}")
+
+
+# ---- a hundred thousand events
+
+EVENTS = 100_000
+ROUND = (2, 1_000)  # So many processes pass a message round.
+LABELS = 1_000
+
+
+def passed_round(processes, labels=1):
+    """Processes that pass a message round; the labels take turns, each for the same number of messages."""
+    pids, each = [f"<0.{30 + k}.0>" for k in range(processes)], EVENTS // 2 // labels
+    streams = {pid: [f"process {pid}\n"] for pid in pids}
+    for n in range(1, EVENTS // 2 + 1):
+        sender, receiver = pids[(n - 1) % processes], pids[n % processes]
+        prev = 0 if (n - 1) % each == 0 else n - 1
+        for kind, pid in (("send", sender), ("'receive'", receiver)):
+            streams[pid].append(f"{{seq_trace,{(n - 1) // each},{{{kind},{{{prev},{n}}},{sender},{receiver},{n}}}}}\n")
+    return "seqtrace 1\n" + "".join(line for pid in pids for line in streams[pid])
+
+
+def count_of(output, marks):
+    return len(re.findall(marks, output))
+
+
+def judge_long_perfetto(_trace, output):
+    events = json.loads(output)["traceEvents"]
+    sends, receives = ({it["id"]: it["ts"] for it in events if it["ph"] == ph} for ph in "sf")
+    assert sends.keys() == receives.keys() and len(sends) == EVENTS // 2
+    assert all(sends[n] < receives[n] for n in sends) and sum(it["ph"] == "X" for it in events) == EVENTS
+
+
+def judge_long_shiviz(_trace, output):
+    found = list(SHIVIZ.finditer(output.decode()))
+    assert len(found) == EVENTS
+    # One message is under way, so each event has all before it in its past.
+    assert all(sum(json.loads(it["clock"]).values()) == n for n, it in enumerate(found, 1))
+
+
+def large(program):
+    """Each event is there at a size at which a body that is right on small inputs could be wrong."""
+    for processes in ROUND:
+        text = passed_round(processes).encode()
+        name = f"{EVENTS:,} events of {processes:,} processes"
+        for words, marks, wanted in (
+            (("chart", "--mermaid"), rb"(?m)^    P\d+->>P\d+: ", EVENTS // 2),
+            (("chart", "--dot"), rb"(?m)^        e\d+_\d+ \[label=", EVENTS),
+            (("chart", "--dot"), rb"color=blue", EVENTS // 2),
+        ):
+            got = program.run(words, text)
+            count = count_of(got.output, marks)
+            yield Check(f"{' '.join(words)} of {name}", None if (got.status, count) == (0, wanted) else f"{count}: {got}")
+        got = program.run(("export", "--as", "perfetto"), text)
+        yield judged(f"export --as perfetto of {name}", judge_long_perfetto, None, got.output)
+        if processes == min(ROUND):
+            got = program.run(("export", "--as", "shiviz"), text)
+            yield judged(f"export --as shiviz of {name}", judge_long_shiviz, None, got.output)
+    got = program.run(("chart",), passed_round(2, LABELS).encode())
+    shown = count_of(got.output, rb"(?m)^label \d+$"), count_of(got.output, rb"(?m)^   [.SR]   [.SR]  ")
+    yield Check(f"chart of {LABELS:,} labels", None if shown == (LABELS, EVENTS) else f"{shown}: {got}")
+
+
+# ---- memory that runs out
+
+MOST_REQUESTS = 10_000  # Far more than this input needs.
+NO_MEMORY = Answer(4, b"", b"error: memory ran out\n")
+TWO_LABELS = Calls(random.Random("drawn 6"))
+
+
+def breaks(program):
+    """If a request for memory is refused, it is said, and what was written before is the front of the right output."""
+    given = "".join(f"{line}\n" for line in model.write(TWO_LABELS.streams, None)).encode()
+    with tempfile.TemporaryDirectory() as folder:
+        library = shim.build(folder)
+        if library is None:
+            yield Check("memory refused to charts: there is no C compiler", skipped=True)
+            return
+        for words in (("chart",), ("export", "--as", "shiviz")):
+            right, parts = program.run(words, given), Counter()
+            for n in range(1, MOST_REQUESTS):
+                got, came = shim.run(program, library, words, given, refuse_request=n)
+                if not came:
+                    break
+                parts["some" if got.output else "none"] += 1
+                is_told = got == Answer(4, got.output, NO_MEMORY.complaint) and right.output.startswith(got.output)
+                yield Check(f"{' '.join(words)}: request {n} for memory refused",
+                            None if is_told or got == right else f"expected a part of {right}\ngot {got}")
+            yield Check(f"{' '.join(words)}: memory was refused", None if parts else "no request was")
+            if words == ("chart",):
+                yield Check("chart: it was refused behind the first table too", None if parts["some"] else str(parts))

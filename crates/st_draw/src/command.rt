@@ -74,11 +74,11 @@ fn draw_paired<H: Threads + Sync, W: ByteSink, N: ByteSink>(
 ) -> Result<u8, AllocError>
     requires { IsPairing streams.now pairing.now }
 {
-    let items = order(rt, alloc, streams, pairing)?;
     let scene = Scene::new(streams, pairing, drawing.label);
     if scene.is_empty() {
         return Ok(status_of(send_nothing(writer, drawing.label), 1));
     }
+    let items = order(rt, alloc, streams, pairing)?;
     match drawing.form {
         Form::Table => tell_tables(
             rt,

@@ -9,26 +9,43 @@ use st_list::Partner;
 use st_say::{say, say_pid};
 use st_text::{Buffer, Device, flush};
 
-/// Writes the name of the node of an event.
-fn say_node<W: ByteSink>(
-    writer: &mut W,
-    buffer: &mut Buffer,
-    number: u64,
-    index: u64,
-) -> Result<(), Device> {
-    say_part(writer, buffer, "e", number)?;
+/// A node of the graph, by the number of its process and the index of its event there.
+#[derive(Clone, Copy, Debug)]
+enum Node {
+    /// The event.
+    Event(u64, u64),
+    /// The other end of its message, which nobody reported.
+    Open(u64, u64),
+}
+
+/// How an edge between a send and its receive is drawn, and one to an end that nobody reported.
+const MESSAGE: &str = " [color=blue]";
+
+const OPEN_MESSAGE: &str = " [color=blue, style=dashed]";
+
+/// Writes the name of a node.
+fn say_node<W: ByteSink>(writer: &mut W, buffer: &mut Buffer, node: Node) -> Result<(), Device> {
+    let (letter, number, index) = match node {
+        Node::Event(number, index) => ("e", number, index),
+        Node::Open(number, index) => ("u", number, index),
+    };
+    say_part(writer, buffer, letter, number)?;
     say_part(writer, buffer, "_", index)
 }
 
-/// Writes the name of the node of the other end of a message, which nobody reported.
-fn say_open_node<W: ByteSink>(
+/// Writes an edge, with how it is drawn.
+fn say_edge<W: ByteSink>(
     writer: &mut W,
     buffer: &mut Buffer,
-    number: u64,
-    index: u64,
+    from: Node,
+    to: Node,
+    style: &str,
 ) -> Result<(), Device> {
-    say_part(writer, buffer, "u", number)?;
-    say_part(writer, buffer, "_", index)
+    say_node(writer, buffer, from)?;
+    say(writer, buffer, b" -> ")?;
+    say_node(writer, buffer, to)?;
+    say(writer, buffer, style.as_bytes())?;
+    say(writer, buffer, b";\n")
 }
 
 /// The word for what an event is.
@@ -50,8 +67,9 @@ fn say_event_node<W: ByteSink>(
     event: &Event,
     before: Option<u64>,
 ) -> Result<(), Device> {
+    let node = Node::Event(number, index);
     say(writer, buffer, b"        ")?;
-    say_node(writer, buffer, number, index)?;
+    say_node(writer, buffer, node)?;
     say(writer, buffer, b" [label=\"")?;
     say(writer, buffer, kind_word(event.kind).as_bytes())?;
     say_content(writer, buffer, scene, event)?;
@@ -60,10 +78,7 @@ fn say_event_node<W: ByteSink>(
         return Ok(());
     };
     say(writer, buffer, b"        ")?;
-    say_node(writer, buffer, number, before)?;
-    say(writer, buffer, b" -> ")?;
-    say_node(writer, buffer, number, index)?;
-    say(writer, buffer, b";\n")
+    say_edge(writer, buffer, Node::Event(number, before), node, "")
 }
 
 /// Writes the nodes of a process's events and the edges between them.
@@ -106,51 +121,43 @@ fn say_process<W: ByteSink>(
 fn say_open_end<W: ByteSink>(
     writer: &mut W,
     buffer: &mut Buffer,
-    number: u64,
-    index: u64,
+    node: Node,
     words: &str,
 ) -> Result<(), Device> {
     say(writer, buffer, b"    ")?;
-    say_open_node(writer, buffer, number, index)?;
+    say_node(writer, buffer, node)?;
     say(writer, buffer, b" [label=\"")?;
     say(writer, buffer, words.as_bytes())?;
     say(writer, buffer, b"\", style=dashed];\n    ")
 }
 
-/// Writes the edge of the message that an event received, or that it sent and nobody was reported
-/// to receive.
+/// Writes the edge of the message that an event received, or that it sent if nobody reported the
+/// receive.
 fn say_message<W: ByteSink>(
     writer: &mut W,
     buffer: &mut Buffer,
-    scene: &Scene<'_>,
     lanes: &Lanes<'_>,
     pid: Pid,
     index: u64,
-    event: &Event,
+    partner: Partner,
 ) -> Result<(), Device> {
     let number = lanes.number(pid);
-    match scene.partner(pid, index, event.kind) {
+    let node = Node::Event(number, index);
+    let open = Node::Open(number, index);
+    match partner {
         Partner::Nobody | Partner::Receive(..) => Ok(()),
         Partner::Send(from, sent) => {
             say(writer, buffer, b"    ")?;
-            say_node(writer, buffer, lanes.number(from), sent)?;
-            say(writer, buffer, b" -> ")?;
-            say_node(writer, buffer, number, index)?;
-            say(writer, buffer, b" [color=blue];\n")
+            let send = Node::Event(lanes.number(from), sent);
+            say_edge(writer, buffer, send, node, MESSAGE)
         }
         Partner::NoReceive => {
-            say_open_end(writer, buffer, number, index, "no receive reported")?;
-            say_node(writer, buffer, number, index)?;
-            say(writer, buffer, b" -> ")?;
-            say_open_node(writer, buffer, number, index)?;
-            say(writer, buffer, b" [color=blue, style=dashed];\n")
+            say_open_end(writer, buffer, open, "no receive reported")?;
+            say_edge(writer, buffer, node, open, OPEN_MESSAGE)
         }
         Partner::NoSend => {
-            say_open_end(writer, buffer, number, index, "send not reported")?;
-            say_open_node(writer, buffer, number, index)?;
-            say(writer, buffer, b" -> ")?;
-            say_node(writer, buffer, number, index)?;
-            say(writer, buffer, b" [color=blue, style=dashed];\n")
+            say_open_end(writer, buffer, open, "send not reported")?;
+            say_edge(writer, buffer, open, node, OPEN_MESSAGE)
         }
     }
 }
@@ -166,7 +173,8 @@ fn say_messages<W: ByteSink>(
     let mut index: u64 = 0;
     for event in scene.streams.events(pid) {
         if scene.has(event) {
-            say_message(writer, buffer, scene, lanes, pid, index, event)?;
+            let partner = scene.partner(pid, index, event.kind);
+            say_message(writer, buffer, lanes, pid, index, partner)?;
         }
         index = index.saturating_add(1);
     }

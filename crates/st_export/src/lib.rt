@@ -1,8 +1,8 @@
 //! Traces and what is found of them in the formats of other tools. No contract pins their text: that
 //! they are written safely is proved, and that other tools can read them is only tested.
 //!
-//! Perfetto and Chrome read trace events, ShiViz a log with vector clocks, and programs the verdicts
-//! as JSON. What is found comes from the crates below, as for the words of `seqaudit`.
+//! Perfetto and Chrome read trace events, ShiViz reads a log with vector clocks, and programs read the
+//! verdicts as JSON. What is found comes from the crates below, which the commands ask too.
 #![tactic(auto)]
 
 mod audit;
@@ -11,6 +11,7 @@ mod clock;
 mod command;
 mod complete;
 mod json;
+mod lint;
 mod perfetto;
 mod shiviz;
 mod times;
@@ -19,3 +20,4 @@ pub use audit::run_audit_json;
 pub use check::run_check_json;
 pub use command::{Target, run_export};
 pub use complete::run_complete_json;
+pub use lint::run_lint_json;

@@ -33,3 +33,4 @@ module _ {R W : Type 0} (reader : ReaderCall R) (writer : WriterCall W) where
   Does task.CheckJson status = Unit {0}
   Does task.AuditJson status = Unit {0}
   Does task.CompleteJson status = Unit {0}
+  Does task.LintJson status = Unit {0}

@@ -50,6 +50,8 @@ pub enum Task {
     AuditJson,
     /// `complete`: the added events, as JSON.
     CompleteJson,
+    /// `lint`, as JSON.
+    LintJson,
 }
 
 impl Task {
@@ -68,7 +70,8 @@ impl Task {
             | Task::Export(_)
             | Task::CheckJson
             | Task::AuditJson
-            | Task::CompleteJson => false,
+            | Task::CompleteJson
+            | Task::LintJson => false,
         }
     }
 }
@@ -221,7 +224,7 @@ fn command_line<'a>(alloc: Global) -> Result<Command<'a>, AllocError> {
         .subcommand(with_json(alloc, audit)?)?
         .subcommand(complete_command(alloc)?)?
         .subcommand(why_command(alloc)?)?
-        .subcommand(lint)?
+        .subcommand(with_json(alloc, lint)?)?
         .subcommand(with_json(alloc, check)?)?
         .subcommand(explain)?
         .subcommand(list_command(alloc)?)?
@@ -387,7 +390,7 @@ fn task_of(name: &str, found: &ArgMatches) -> Result<Task, &'static str> {
     match name {
         "complete" => complete_of(found, form_of(found.get_str("FORM"))),
         "renumber" => Ok(Task::Renumber),
-        "lint" => Ok(Task::Lint),
+        "lint" => Ok(task_or_json(found, Task::Lint, Task::LintJson)),
         "explain" => Ok(Task::Explain),
         "check" => Ok(task_or_json(found, Task::Check, Task::CheckJson)),
         "list" => Ok(Task::List(filter_of(found)?, style_of(found))),
