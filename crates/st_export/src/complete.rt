@@ -40,11 +40,11 @@ fn say_pids<W: ByteSink>(
     pids: &[Pid],
 ) -> Result<(), Device> {
     say_name(writer, buffer, name)?;
-    let mut mark = "[";
+    let mut mark: &[u8] = b"[";
     for pid in pids {
-        say(writer, buffer, mark.as_bytes())?;
+        say(writer, buffer, mark)?;
         say_pid_word(writer, buffer, *pid)?;
-        mark = ",";
+        mark = b",";
     }
     let end = if pids.is_empty() { "[]" } else { "]" };
     say(writer, buffer, end.as_bytes())

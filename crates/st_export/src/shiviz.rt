@@ -25,14 +25,14 @@ fn say_clock<W: ByteSink>(
     streams: &Streams,
     clock: &Clock,
 ) -> Result<(), Device> {
-    let mut mark = "{";
+    let mut mark: &[u8] = b"{";
     for (place, count) in clock {
         if let Some(pid) = streams.pids().get(*place) {
-            say(writer, buffer, mark.as_bytes())?;
+            say(writer, buffer, mark)?;
             say_pid_word(writer, buffer, *pid)?;
             say(writer, buffer, b":")?;
             say_number(writer, buffer, *count)?;
-            mark = ",";
+            mark = b",";
         }
     }
     say(writer, buffer, b"}")
