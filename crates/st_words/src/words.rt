@@ -208,24 +208,24 @@ fn stats_command<'a>(alloc: Global) -> Result<Command<'a>, AllocError> {
     plain_command(alloc, "stats", help::STATS, help::STATS_EXAMPLE)?.arg(json_arg(alloc))
 }
 
-/// The description of the command line for `clap`.
-fn command_line<'a>(alloc: Global) -> Result<Command<'a>, AllocError> {
-    let program = Command::new(alloc, "seqtool")
-        .about(help::PROGRAM)
-        .after_help(help::PROGRAM_EXAMPLE)
-        .version(help::VERSION)
-        .subcommand_required(true);
+/// The program with the commands that say what holds of a trace or a text.
+fn with_verdicts<'a>(alloc: Global, program: Command<'a>) -> Result<Command<'a>, AllocError> {
     let audit = plain_command(alloc, "audit", help::AUDIT, help::AUDIT_EXAMPLE)?;
     let check = plain_command(alloc, "check", help::CHECK, help::CHECK_EXAMPLE)?;
-    let explain = plain_command(alloc, "explain", help::EXPLAIN, help::EXPLAIN_EXAMPLE)?;
     let lint = plain_command(alloc, "lint", help::LINT, help::LINT_EXAMPLE)?;
-    let renumber = plain_command(alloc, "renumber", help::RENUMBER, help::RENUMBER_EXAMPLE)?;
     program
         .subcommand(with_json(alloc, audit)?)?
         .subcommand(complete_command(alloc)?)?
         .subcommand(why_command(alloc)?)?
         .subcommand(with_json(alloc, lint)?)?
-        .subcommand(with_json(alloc, check)?)?
+        .subcommand(with_json(alloc, check)?)
+}
+
+/// The program with the commands that show a trace, or write it in another form.
+fn with_views<'a>(alloc: Global, program: Command<'a>) -> Result<Command<'a>, AllocError> {
+    let explain = plain_command(alloc, "explain", help::EXPLAIN, help::EXPLAIN_EXAMPLE)?;
+    let renumber = plain_command(alloc, "renumber", help::RENUMBER, help::RENUMBER_EXAMPLE)?;
+    program
         .subcommand(explain)?
         .subcommand(list_command(alloc)?)?
         .subcommand(cut_command(alloc)?)?
@@ -233,6 +233,16 @@ fn command_line<'a>(alloc: Global) -> Result<Command<'a>, AllocError> {
         .subcommand(chart_command(alloc)?)?
         .subcommand(export_command(alloc)?)?
         .subcommand(renumber)
+}
+
+/// The description of the command line for `clap`.
+fn command_line<'a>(alloc: Global) -> Result<Command<'a>, AllocError> {
+    let program = Command::new(alloc, "seqtool")
+        .about(help::PROGRAM)
+        .after_help(help::PROGRAM_EXAMPLE)
+        .version(help::VERSION)
+        .subcommand_required(true);
+    with_views(alloc, with_verdicts(alloc, program)?)
 }
 
 /// The form of this name.

@@ -33,4 +33,4 @@ pub mod thread;
 pub mod time;
 pub mod vec;
 
-pub use std::{cmp, hint, mem, ops};
+pub use std::{cmp, hint, mem, ops, str};
