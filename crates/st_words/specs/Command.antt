@@ -28,3 +28,9 @@ module _ {R W : Type 0} (reader : ReaderCall R) (writer : WriterCall W) where
   Does (task.List filter style) status = Unit {0}
   Does (task.Cut filter) status = Unit {0}
   Does (task.Stats style) status = Unit {0}
+  Does (task.Chart drawing) status = Unit {0}
+  Does (task.Export target) status = Unit {0}
+  Does task.CheckJson status = Unit {0}
+  Does task.AuditJson status = Unit {0}
+  Does task.CompleteJson status = Unit {0}
+  Does task.LintJson status = Unit {0}

@@ -6,10 +6,8 @@ pub(crate) const PROGRAM: &str =
     "What a trace lacks, what caused an event, and what is wrong with a text.";
 
 pub(crate) const PROGRAM_EXAMPLE: &str =
-    "Example: audit refuses a trace, since messages in it were not reported.
-  seqtool audit trace.txt
-  seqtool complete --as streams trace.txt | seqaudit chart --label 17
-
+    "Example: messages in a trace were not reported; they are added, and drawn.
+  seqtool complete --as streams trace.txt | seqtool chart
 A trace is a text (docs/FORMATS.md; `seqtool COMMAND --help` has examples):
   seqtrace 1
   process <0.30.0>
@@ -127,3 +125,36 @@ pub(crate) const STATS_EXAMPLE: &str = "Example:
 Depth is the number of messages on the longest way of a label, each sent after
 the one before was received; width the most messages at one depth. The queue is
 that of the messages of which both ends are reported, in the charts' order.";
+
+pub(crate) const CHART: &str = "Draws the messages of each label, or of one";
+
+pub(crate) const CHART_MERMAID: &str = "Write a sequence diagram in Mermaid's language";
+
+pub(crate) const CHART_DOT: &str = "Write a graph of the events for Graphviz's dot";
+
+pub(crate) const CHART_EXAMPLE: &str = "Example:
+  seqtool chart --label 17 --mermaid trace.txt
+  sequenceDiagram
+      participant P1 as 0.30.0
+      participant P2 as 0.31.0
+      P1->>P2: 5 {0,2}
+      P2-xP1: 4 {0,1} (no receive reported)
+
+Without an option it writes the tables of seqaudit chart, one for each label. An
+arrow stands where its message was received. If the sender did something else in
+between, a note says where it sent, and the arrow is dotted. An arrow with a
+cross has no reported receive, and one from `not reported` no reported send.
+Status 1: nothing has the label, or the trace can't be paired (seqtool audit).";
+
+pub(crate) const EXPORT: &str = "Writes the trace for Perfetto or ShiViz";
+
+pub(crate) const EXPORT_EXAMPLE: &str = "Example:
+  seqtool export --as perfetto trace.txt > trace.json
+  seqtool export --as shiviz trace.txt > trace.log
+
+ui.perfetto.dev and chrome://tracing open the first: a thread for each process,
+a slice for each event, and a flow for each message. Its time isn't measured: it
+follows the ranks of the counts.
+ShiViz (bestchai.bitbucket.io/shiviz) opens the second as it is: two lines for
+each event, the second with its process and its vector clock.
+Status 1: the trace can't be paired (seqtool audit says why).";

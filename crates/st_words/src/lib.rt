@@ -3,6 +3,7 @@
 //! It stands apart from the commands, which know nothing of `clap`.
 #![tactic(auto)]
 
+mod export_words;
 mod help;
 mod program;
 mod words;

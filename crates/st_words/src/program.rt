@@ -6,6 +6,8 @@ ghost use Rattle.st_words.specs.Command.{Does};
 use crate::words::Task;
 use st_commands::{run_audit_within, run_check_within};
 use st_core::{ByteSink, ByteSource};
+use st_draw::run_draw;
+use st_export::{run_audit_json, run_check_json, run_complete_json, run_export, run_lint_json};
 use st_text::Limits;
 use st_tool::{run_complete, run_cut, run_explain, run_lint, run_list, run_renumber, run_stats};
 use st_why::run_why;
@@ -33,5 +35,11 @@ pub fn run<H: AllocGlobal + Threads + Sync, R: ByteSource, W: ByteSink, N: ByteS
         Task::List(filter, style) => run_list(rt.alloc(), reader, writer, &filter, style),
         Task::Cut(filter) => run_cut(rt.alloc(), reader, writer, notes, &filter),
         Task::Stats(style) => run_stats(rt.alloc(), reader, writer, style),
+        Task::Chart(drawing) => run_draw(rt, rt.alloc(), reader, writer, notes, drawing),
+        Task::Export(target) => run_export(rt, rt.alloc(), reader, writer, notes, target),
+        Task::CheckJson => run_check_json(rt.alloc(), reader, writer),
+        Task::AuditJson => run_audit_json(rt, rt.alloc(), reader, writer),
+        Task::CompleteJson => run_complete_json(rt.alloc(), reader, writer),
+        Task::LintJson => run_lint_json(rt.alloc(), reader, writer),
     }
 }

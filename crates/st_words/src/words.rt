@@ -1,10 +1,15 @@
 //! The command line: what the words ask for. `clap` reads them, and writes the help and the
 //! messages. The input isn't read here.
 
+use crate::export_words::{
+    chart_command, chart_of, complete_of, export_command, export_of, task_or_json, with_json,
+};
 use crate::help;
 use clap::error::ErrorKind;
 use clap::{Arg, ArgAction, ArgMatches, Command, Error};
 use st_core::{Label, Pid};
+use st_draw::Drawing;
+use st_export::Target;
 use st_hops::Reach;
 use st_list::{Filter, Span, Style};
 use st_tool::{Form, pid_of};
@@ -35,6 +40,18 @@ pub enum Task {
     Cut(Filter),
     /// `stats`: how many events and messages are there?
     Stats(Style),
+    /// `chart`: a drawing of the streams.
+    Chart(Drawing),
+    /// `export`: the streams for another tool.
+    Export(Target),
+    /// `check`, as JSON.
+    CheckJson,
+    /// `audit`, as JSON.
+    AuditJson,
+    /// `complete`: the added events, as JSON.
+    CompleteJson,
+    /// `lint`, as JSON.
+    LintJson,
 }
 
 /// What the words ask for.
@@ -47,7 +64,7 @@ pub struct Request<'a> {
 }
 
 /// The trace's file, which every command takes last.
-fn file_arg<'a>(alloc: Global) -> Arg<'a> {
+pub(crate) fn file_arg<'a>(alloc: Global) -> Arg<'a> {
     Arg::new(alloc, "FILE").help("The trace's file; standard input if it is left out or -")
 }
 
@@ -75,6 +92,7 @@ fn complete_command<'a>(alloc: Global) -> Result<Command<'a>, AllocError> {
         .about(help::COMPLETE)
         .after_help(help::COMPLETE_EXAMPLE)
         .arg(form)?
+        .arg(json_arg(alloc))?
         .arg(file_arg(alloc))
 }
 
@@ -115,7 +133,7 @@ fn why_command<'a>(alloc: Global) -> Result<Command<'a>, AllocError> {
 }
 
 /// The option that asks for JSON.
-fn json_arg<'a>(alloc: Global) -> Arg<'a> {
+pub(crate) fn json_arg<'a>(alloc: Global) -> Arg<'a> {
     Arg::new(alloc, "json")
         .long("json")
         .action(ArgAction::SetTrue)
@@ -168,6 +186,33 @@ fn stats_command<'a>(alloc: Global) -> Result<Command<'a>, AllocError> {
     plain_command(alloc, "stats", help::STATS, help::STATS_EXAMPLE)?.arg(json_arg(alloc))
 }
 
+/// The program with the commands that say what holds of a trace or a text.
+fn with_verdicts<'a>(alloc: Global, program: Command<'a>) -> Result<Command<'a>, AllocError> {
+    let audit = plain_command(alloc, "audit", help::AUDIT, help::AUDIT_EXAMPLE)?;
+    let check = plain_command(alloc, "check", help::CHECK, help::CHECK_EXAMPLE)?;
+    let lint = plain_command(alloc, "lint", help::LINT, help::LINT_EXAMPLE)?;
+    program
+        .subcommand(with_json(alloc, audit)?)?
+        .subcommand(complete_command(alloc)?)?
+        .subcommand(why_command(alloc)?)?
+        .subcommand(with_json(alloc, lint)?)?
+        .subcommand(with_json(alloc, check)?)
+}
+
+/// The program with the commands that show a trace, or write it in another form.
+fn with_views<'a>(alloc: Global, program: Command<'a>) -> Result<Command<'a>, AllocError> {
+    let explain = plain_command(alloc, "explain", help::EXPLAIN, help::EXPLAIN_EXAMPLE)?;
+    let renumber = plain_command(alloc, "renumber", help::RENUMBER, help::RENUMBER_EXAMPLE)?;
+    program
+        .subcommand(explain)?
+        .subcommand(list_command(alloc)?)?
+        .subcommand(cut_command(alloc)?)?
+        .subcommand(stats_command(alloc)?)?
+        .subcommand(chart_command(alloc)?)?
+        .subcommand(export_command(alloc)?)?
+        .subcommand(renumber)
+}
+
 /// The description of the command line for `clap`.
 fn command_line<'a>(alloc: Global) -> Result<Command<'a>, AllocError> {
     let program = Command::new(alloc, "seqtool")
@@ -175,22 +220,7 @@ fn command_line<'a>(alloc: Global) -> Result<Command<'a>, AllocError> {
         .after_help(help::PROGRAM_EXAMPLE)
         .version(help::VERSION)
         .subcommand_required(true);
-    let audit = plain_command(alloc, "audit", help::AUDIT, help::AUDIT_EXAMPLE)?;
-    let check = plain_command(alloc, "check", help::CHECK, help::CHECK_EXAMPLE)?;
-    let explain = plain_command(alloc, "explain", help::EXPLAIN, help::EXPLAIN_EXAMPLE)?;
-    let lint = plain_command(alloc, "lint", help::LINT, help::LINT_EXAMPLE)?;
-    let renumber = plain_command(alloc, "renumber", help::RENUMBER, help::RENUMBER_EXAMPLE)?;
-    program
-        .subcommand(audit)?
-        .subcommand(complete_command(alloc)?)?
-        .subcommand(why_command(alloc)?)?
-        .subcommand(lint)?
-        .subcommand(check)?
-        .subcommand(explain)?
-        .subcommand(list_command(alloc)?)?
-        .subcommand(cut_command(alloc)?)?
-        .subcommand(stats_command(alloc)?)?
-        .subcommand(renumber)
+    with_views(alloc, with_verdicts(alloc, program)?)
 }
 
 /// The form of this name.
@@ -261,7 +291,7 @@ fn process_option(found: &ArgMatches) -> Result<Option<Pid>, &'static str> {
 }
 
 /// The label of an option, none if it is left out.
-fn label_option(found: &ArgMatches) -> Option<Label> {
+pub(crate) fn label_option(found: &ArgMatches) -> Option<Label> {
     let number = found.get_one::<u32>("LABEL")?;
     Some(Label(number))
 }
@@ -331,15 +361,17 @@ fn why_of<'a>(found: &ArgMatches<'a>) -> Result<Request<'a>, &'static str> {
 /// The command of this name, of whose own words `clap` found these; or what a word of its has to be.
 fn task_of(name: &str, found: &ArgMatches) -> Result<Task, &'static str> {
     match name {
-        "complete" => Ok(Task::Complete(form_of(found.get_str("FORM")))),
+        "complete" => complete_of(found, form_of(found.get_str("FORM"))),
         "renumber" => Ok(Task::Renumber),
-        "lint" => Ok(Task::Lint),
+        "lint" => Ok(task_or_json(found, Task::Lint, Task::LintJson)),
         "explain" => Ok(Task::Explain),
-        "check" => Ok(Task::Check),
+        "check" => Ok(task_or_json(found, Task::Check, Task::CheckJson)),
         "list" => Ok(Task::List(filter_of(found)?, style_of(found))),
         "cut" => Ok(Task::Cut(filter_of(found)?)),
         "stats" => Ok(Task::Stats(style_of(found))),
-        _ => Ok(Task::Audit),
+        "chart" => chart_of(found),
+        "export" => Ok(export_of(found)),
+        _ => Ok(task_or_json(found, Task::Audit, Task::AuditJson)),
     }
 }
 
@@ -348,6 +380,8 @@ fn wrong_word(alloc: Global, name: &str, words: &'static str) -> Result<Error, A
     let mut command = match name {
         "list" => list_command(alloc)?.bin_name("seqtool list")?,
         "cut" => cut_command(alloc)?.bin_name("seqtool cut")?,
+        "chart" => chart_command(alloc)?.bin_name("seqtool chart")?,
+        "complete" => complete_command(alloc)?.bin_name("seqtool complete")?,
         _ => why_command(alloc)?.bin_name("seqtool why")?,
     };
     command.error(ErrorKind::ValueValidation, words)

@@ -145,6 +145,11 @@ impl<T: Ord> BTreeSet<T> {
     }
 
     /// As theirs.
+    pub fn contains(&self, item: &T) -> bool {
+        self.inner.contains(item)
+    }
+
+    /// As theirs.
     pub fn remove(&mut self, item: &T) -> bool {
         self.inner.remove(item)
     }

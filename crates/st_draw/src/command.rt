@@ -1,0 +1,135 @@
+//! The command `chart` of `seqtool`: a drawing of the streams whose text the input is. The acts in
+//! the input are ignored.
+
+ghost use Rattle.st_pair.specs.Links.{IsPairing};
+
+use crate::dot::send_dot;
+use crate::lanes::Lanes;
+use crate::mermaid::send_mermaid;
+use crate::overtaken::overtaken;
+use crate::scene::Scene;
+use crate::table::tell_tables;
+use crate::words::send_nothing;
+use st_audit::unfit_by;
+use st_commands::{status_of, tell_fault, tell_finding};
+use st_core::{ByteSink, ByteSource, Label, Streams};
+use st_order::{Item, order};
+use st_pair::{PairFault, Pairing, pair};
+use st_text::{Limits, ReadFault, read_within};
+use std::alloc::{AllocError, Global};
+use std::thread::Threads;
+
+/// How a drawing is written.
+#[derive(Clone, Copy, Debug, PartialEq, Eq)]
+pub enum Form {
+    /// A table for each label, as `seqaudit chart` writes it.
+    Table,
+    /// A sequence diagram in Mermaid's language.
+    Mermaid,
+    /// A graph of the events in the language of Graphviz.
+    Dot,
+}
+
+/// What is drawn, and how.
+#[derive(Clone, Copy, Debug, PartialEq, Eq)]
+pub struct Drawing {
+    /// The label of the events; those of all labels if there is none.
+    pub label: Option<Label>,
+    /// How they are drawn.
+    pub form: Form,
+}
+
+/// Draws a scene as a sequence diagram.
+fn draw_mermaid<W: ByteSink>(
+    alloc: Global,
+    scene: &Scene<'_>,
+    items: &[Item],
+    writer: &mut W,
+) -> Result<u8, AllocError> {
+    let lanes = Lanes::of(alloc, scene)?;
+    let overtaken = overtaken(alloc, scene, items)?;
+    let sent = send_mermaid(writer, scene, items, &lanes, &overtaken);
+    Ok(status_of(sent, 0))
+}
+
+/// Draws a scene as a graph.
+fn draw_dot<W: ByteSink>(
+    alloc: Global,
+    scene: &Scene<'_>,
+    writer: &mut W,
+) -> Result<u8, AllocError> {
+    let lanes = Lanes::of(alloc, scene)?;
+    Ok(status_of(send_dot(writer, scene, &lanes), 0))
+}
+
+/// Draws streams that are paired, and returns the status.
+fn draw_paired<H: Threads + Sync, W: ByteSink, N: ByteSink>(
+    rt: &H,
+    alloc: Global,
+    streams: &Streams,
+    pairing: &Pairing,
+    drawing: Drawing,
+    writer: &mut W,
+    notes: &mut N,
+) -> Result<u8, AllocError>
+    requires { IsPairing streams.now pairing.now }
+{
+    let scene = Scene::new(streams, pairing, drawing.label);
+    if scene.is_empty() {
+        return Ok(status_of(send_nothing(writer, drawing.label), 1));
+    }
+    let items = order(rt, alloc, streams, pairing)?;
+    match drawing.form {
+        Form::Table => tell_tables(
+            rt,
+            alloc,
+            streams,
+            pairing,
+            items.as_slice(),
+            drawing.label,
+            writer,
+            notes,
+        ),
+        Form::Mermaid => draw_mermaid(alloc, &scene, items.as_slice(), writer),
+        Form::Dot => draw_dot(alloc, &scene, writer),
+    }
+}
+
+/// Draws streams, or says why they can't be paired, and returns the status.
+fn draw_streams<H: Threads + Sync, W: ByteSink, N: ByteSink>(
+    rt: &H,
+    alloc: Global,
+    streams: &Streams,
+    drawing: Drawing,
+    writer: &mut W,
+    notes: &mut N,
+) -> u8 {
+    match pair(alloc, streams) {
+        Ok(pairing) => match draw_paired(rt, alloc, streams, &pairing, drawing, writer, notes) {
+            Ok(status) => status,
+            Err(AllocError) => tell_fault(writer, ReadFault::Memory),
+        },
+        Err(fault) => match unfit_by(fault) {
+            Some(finding) => tell_finding(writer, streams, &finding),
+            None => tell_fault(writer, ReadFault::Memory),
+        },
+    }
+}
+
+/// Reads a bundle and draws its streams, with status 0. If they can't be paired, or nothing is
+/// there to be drawn, it says so with status 1. Faulty input is 2; running out of memory, and a
+/// reader or a writer that fails, are 4. If memory runs out behind the first of several tables, they
+/// break off, and the notes say why. It sorts on several threads.
+pub fn run_draw<H: Threads + Sync, R: ByteSource, W: ByteSink, N: ByteSink>(
+    rt: &H,
+    alloc: Global,
+    reader: &mut R,
+    writer: &mut W,
+    notes: &mut N,
+    drawing: Drawing,
+) -> u8 {
+    match read_within(alloc, reader, Limits::GREATER) {
+        Ok(bundle) => draw_streams(rt, alloc, &bundle.streams, drawing, writer, notes),
+        Err(fault) => tell_fault(writer, fault),
+    }
+}

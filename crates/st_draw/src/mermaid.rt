@@ -1,0 +1,165 @@
+//! A sequence diagram in Mermaid's language: a participant for each process, and an arrow for each
+//! message, in the order of all events.
+//!
+//! An arrow stands at the place of its receive. If the sender did something else in between, the
+//! send has a note at its own place, and the arrow is dotted. So of each process the lines of the
+//! diagram tell its events in their order.
+
+use crate::lanes::Lanes;
+use crate::overtaken::Sends;
+use crate::scene::Scene;
+use crate::words::{say_bare_pid, say_content, say_part};
+use st_core::{ByteSink, Event, Pid};
+use st_list::Partner;
+use st_order::Item;
+use st_say::say;
+use st_text::{Buffer, Device, flush};
+
+/// What a diagram is drawn from.
+#[derive(Drop)]
+struct Diagram<'a> {
+    scene: &'a Scene<'a>,
+    lanes: &'a Lanes<'a>,
+    overtaken: &'a Sends,
+}
+
+/// Whether an item is the hidden send of a receive that is drawn.
+fn is_hidden(scene: &Scene<'_>, item: Item) -> bool {
+    match item {
+        Item::Hidden(pid, index) => scene.event(pid, index).is_some(),
+        Item::Reported(..) => false,
+    }
+}
+
+impl<'a> Diagram<'a> {
+    /// Writes a line for each process, by rising pid, and for what nobody reported.
+    fn say_participants<W: ByteSink>(
+        &self,
+        writer: &mut W,
+        buffer: &mut Buffer,
+        items: &[Item],
+    ) -> Result<(), Device> {
+        for (place, pid) in self.scene.streams.pids().iter().enumerate() {
+            if let Some(number) = self.lanes.at(place) {
+                say_part(writer, buffer, "    participant P", number)?;
+                say(writer, buffer, b" as ")?;
+                say_bare_pid(writer, buffer, *pid)?;
+                say(writer, buffer, b"\n")?;
+            }
+        }
+        if items.iter().any(|item| is_hidden(self.scene, *item)) {
+            say(writer, buffer, b"    participant U as not reported\n")?;
+        }
+        Ok(())
+    }
+
+    /// Writes a note at a process: words, and what the event carries.
+    fn say_note<W: ByteSink>(
+        &self,
+        writer: &mut W,
+        buffer: &mut Buffer,
+        event: &Event,
+        words: &[u8],
+    ) -> Result<(), Device> {
+        let number = self.lanes.number(event.from);
+        say_part(writer, buffer, "    Note over P", number)?;
+        say(writer, buffer, words)?;
+        say_content(writer, buffer, self.scene, event)?;
+        if let Some(to) = event.to {
+            say(writer, buffer, b" to ")?;
+            say_bare_pid(writer, buffer, to)?;
+        }
+        say(writer, buffer, b"\n")
+    }
+
+    /// Writes the arrow of a message from its sender to its receiver, with words behind it.
+    fn say_arrow<W: ByteSink>(
+        &self,
+        writer: &mut W,
+        buffer: &mut Buffer,
+        event: &Event,
+        arrow: &str,
+        words: &[u8],
+    ) -> Result<(), Device> {
+        let from = self.lanes.number(event.from);
+        let to = event.to.map(|to| self.lanes.number(to)).unwrap_or(0);
+        say_part(writer, buffer, "    P", from)?;
+        say_part(writer, buffer, arrow, to)?;
+        say(writer, buffer, b": ")?;
+        say_content(writer, buffer, self.scene, event)?;
+        say(writer, buffer, words)
+    }
+
+    /// Writes the arrow of a receive whose send nobody reported.
+    fn say_unsent<W: ByteSink>(
+        &self,
+        writer: &mut W,
+        buffer: &mut Buffer,
+        pid: Pid,
+        event: &Event,
+    ) -> Result<(), Device> {
+        say_part(writer, buffer, "    U->>P", self.lanes.number(pid))?;
+        say(writer, buffer, b": ")?;
+        say_content(writer, buffer, self.scene, event)?;
+        say(writer, buffer, b" from ")?;
+        say_bare_pid(writer, buffer, event.from)?;
+        say(writer, buffer, b"\n")
+    }
+
+    /// Writes the line of an event. A send whose arrow stands in its place has none.
+    fn say_event<W: ByteSink>(
+        &self,
+        writer: &mut W,
+        buffer: &mut Buffer,
+        pid: Pid,
+        index: u64,
+        event: &Event,
+    ) -> Result<(), Device> {
+        match self.scene.partner(pid, index, event.kind) {
+            Partner::Nobody => self.say_note(writer, buffer, event, b": print "),
+            Partner::Receive(..) => {
+                if self.overtaken.contains(&(pid, index)) {
+                    return self.say_note(writer, buffer, event, b": sends ");
+                }
+                Ok(())
+            }
+            Partner::NoReceive => {
+                self.say_arrow(writer, buffer, event, "-xP", b" (no receive reported)\n")
+            }
+            Partner::Send(from, sent) => {
+                if self.overtaken.contains(&(from, sent)) {
+                    return self.say_arrow(writer, buffer, event, "-->>P", b" (sent above)\n");
+                }
+                self.say_arrow(writer, buffer, event, "->>P", b"\n")
+            }
+            Partner::NoSend => self.say_unsent(writer, buffer, pid, event),
+        }
+    }
+}
+
+/// Sends the diagram of a scene whose items these are in their order, with its processes and those
+/// sends whose arrows stand elsewhere.
+pub(crate) fn send_mermaid<'a, W: ByteSink>(
+    writer: &mut W,
+    scene: &'a Scene<'a>,
+    items: &[Item],
+    lanes: &'a Lanes<'a>,
+    overtaken: &'a Sends,
+) -> Result<(), Device> {
+    let mut buffer = Buffer::new();
+    let diagram = Diagram {
+        scene,
+        lanes,
+        overtaken,
+    };
+    say(writer, &mut buffer, b"sequenceDiagram\n")?;
+    diagram.say_participants(writer, &mut buffer, items)?;
+    for item in items {
+        if let Item::Reported(pid, index) = *item {
+            if let Some(event) = scene.event(pid, index) {
+                diagram.say_event(writer, &mut buffer, pid, index, &event)?;
+            }
+        }
+    }
+    flush(writer, &mut buffer)
+}

@@ -1,0 +1,75 @@
+//! Tables, a chart of `st_chart` for each label.
+
+ghost use Rattle.std.specs.Prelude.{◌≡◌};
+ghost use Rattle.st_pair.specs.Links.{IsPairing};
+
+use crate::words::send_words;
+use st_chain::Chains;
+use st_chart::{ChartFault, chart};
+use st_core::{ByteSink, Label, Sequence, Streams};
+use st_order::{Item, by_label};
+use st_pair::Pairing;
+use std::alloc::{AllocError, Global};
+use std::thread::Threads;
+
+/// Writes the table of each group of items, which have a label, with an empty line between.
+fn write_groups<W: ByteSink>(
+    alloc: Global,
+    streams: &Streams,
+    chains: &Chains,
+    groups: &[(Label, Sequence<Item>)],
+    writer: &mut W,
+) -> Result<(), ChartFault>
+    requires { chains.now ≡ streams.now }
+{
+    let mut between: &[u8] = b"";
+    for (label, items) in groups {
+        if send_words(writer, between).is_err() {
+            return Err(ChartFault::Device);
+        }
+        chart(alloc, writer, streams, chains, items.as_slice(), *label)?;
+        between = b"\n";
+    }
+    Ok(())
+}
+
+/// The status of tables that weren't written, or not whole. What was written stays, so it is the
+/// notes that say why the rest isn't there.
+fn status_of_fault<N: ByteSink>(fault: ChartFault, notes: &mut N) -> u8 {
+    match fault {
+        ChartFault::Memory => {
+            let _ = send_words(notes, b"error: memory ran out\n");
+            4
+        }
+        ChartFault::Device => 4,
+        ChartFault::NoLabel => 1,
+    }
+}
+
+/// Writes the table of a label that an item has, or those of all labels, by rising label, and
+/// returns the status.
+pub(crate) fn tell_tables<H: Threads + Sync, W: ByteSink, N: ByteSink>(
+    rt: &H,
+    alloc: Global,
+    streams: &Streams,
+    pairing: &Pairing,
+    items: &[Item],
+    label: Option<Label>,
+    writer: &mut W,
+    notes: &mut N,
+) -> Result<u8, AllocError>
+    requires { IsPairing streams.now pairing.now }
+{
+    let chains = Chains::new(alloc, streams, pairing)?;
+    let written = match label {
+        Some(label) => chart(alloc, writer, streams, &chains, items, label),
+        None => {
+            let groups = by_label(rt, alloc, streams, items)?;
+            write_groups(alloc, streams, &chains, groups.as_slice(), writer)
+        }
+    };
+    match written {
+        Ok(()) => Ok(0),
+        Err(fault) => Ok(status_of_fault(fault, notes)),
+    }
+}

@@ -1,0 +1,150 @@
+//! What `complete` finds out, as JSON.
+
+use crate::audit::say_event_field;
+use crate::check::TOP;
+use crate::json::{say_field, say_first, say_name, say_pid_word, say_placed, say_word_field};
+use st_commands::{status_of, tell_fault};
+use st_complete::{Answer, CompleteFault, Completion, Never, complete};
+use st_core::{ByteSink, ByteSource, Pid, Streams};
+use st_say::say;
+use st_text::{Buffer, Device, Limits, ReadFault, flush, read_within};
+use std::alloc::Global;
+
+/// The word for a reason, which `complete` writes too.
+fn never_word(never: Never) -> &'static str {
+    match never {
+        Never::PrevNotBefore => "prevnotbefore",
+        Never::NotRising(_) => "notrising",
+        Never::Repeated(_, _) => "repeated",
+        Never::Mismatch(_, _) => "mismatch",
+        Never::Late(_) => "late",
+        Never::Unfounded => "unfounded",
+        Never::TooHigh => "toohigh",
+    }
+}
+
+/// The place of the second event that a reason against an event of this process is about.
+fn other_place(pid: Pid, never: Never) -> Option<(Pid, u64)> {
+    match never {
+        Never::NotRising(index) | Never::Late(index) => Some((pid, index)),
+        Never::Repeated(other, index) | Never::Mismatch(other, index) => Some((other, index)),
+        Never::PrevNotBefore | Never::Unfounded | Never::TooHigh => None,
+    }
+}
+
+/// Writes the next field, a list of pids.
+fn say_pids<W: ByteSink>(
+    writer: &mut W,
+    buffer: &mut Buffer,
+    name: &str,
+    pids: &[Pid],
+) -> Result<(), Device> {
+    say_name(writer, buffer, name)?;
+    let mut mark: &[u8] = b"[";
+    for pid in pids {
+        say(writer, buffer, mark)?;
+        say_pid_word(writer, buffer, *pid)?;
+        mark = b",";
+    }
+    let end = if pids.is_empty() { "[]" } else { "]" };
+    say(writer, buffer, end.as_bytes())
+}
+
+/// Writes an object for each added event of a process.
+fn say_added<W: ByteSink>(
+    writer: &mut W,
+    buffer: &mut Buffer,
+    completion: &Completion,
+    pid: Pid,
+) -> Result<(), Device> {
+    let events = completion.streams().events(pid);
+    for (index, event) in events.iter().enumerate() {
+        if completion.told(pid, index as u64) == Some(false) {
+            say_placed(writer, buffer, pid, index as u64, Some(*event))?;
+            say(writer, buffer, b"\n")?;
+        }
+    }
+    Ok(())
+}
+
+/// Writes what a completion adds.
+fn say_completion<W: ByteSink>(
+    writer: &mut W,
+    buffer: &mut Buffer,
+    completion: &Completion,
+) -> Result<(), Device> {
+    say_first(writer, buffer, "result", "completed")?;
+    say_field(writer, buffer, "added", completion.added())?;
+    say_pids(writer, buffer, "unlisted", completion.unlisted())?;
+    say(writer, buffer, b"}\n")?;
+    for pid in completion.streams().pids() {
+        say_added(writer, buffer, completion, *pid)?;
+    }
+    Ok(())
+}
+
+/// Writes a reason against the event at this place.
+fn say_never<W: ByteSink>(
+    writer: &mut W,
+    buffer: &mut Buffer,
+    streams: &Streams,
+    pid: Pid,
+    index: u64,
+    never: Never,
+) -> Result<(), Device> {
+    say_first(writer, buffer, "result", "never")?;
+    say_word_field(writer, buffer, "reason", never_word(never))?;
+    say_event_field(writer, buffer, "event", streams, pid, index)?;
+    if let Some((other, at)) = other_place(pid, never) {
+        say_event_field(writer, buffer, "other", streams, other, at)?;
+    }
+    say(writer, buffer, b"}\n")
+}
+
+/// Sends what was found out about streams.
+fn send_answer<W: ByteSink>(
+    writer: &mut W,
+    streams: &Streams,
+    answer: &Answer,
+) -> Result<(), Device> {
+    let mut buffer = Buffer::new();
+    match answer {
+        Answer::Whole(completion) => say_completion(writer, &mut buffer, completion)?,
+        Answer::Never(pid, index, never) => {
+            say_never(writer, &mut buffer, streams, *pid, *index, *never)?;
+        }
+    }
+    flush(writer, &mut buffer)
+}
+
+/// The status of what was found out.
+fn answer_status(answer: &Answer) -> u8 {
+    match answer {
+        Answer::Whole(_) => 0,
+        Answer::Never(_, _, _) => 1,
+    }
+}
+
+/// Writes what streams lack, and returns its status.
+fn complete_streams<W: ByteSink>(alloc: Global, streams: &Streams, writer: &mut W) -> u8 {
+    match complete::<TOP>(alloc, streams) {
+        Ok(answer) => {
+            let sent = send_answer(writer, streams, &answer);
+            status_of(sent, answer_status(&answer))
+        }
+        Err(CompleteFault::Memory) => tell_fault(writer, ReadFault::Memory),
+    }
+}
+
+/// Reads a bundle and writes which events its streams lack as `run_complete` of `st_tool` does, but
+/// as JSON, with the same status.
+pub fn run_complete_json<R: ByteSource, W: ByteSink>(
+    alloc: Global,
+    reader: &mut R,
+    writer: &mut W,
+) -> u8 {
+    match read_within(alloc, reader, Limits::GREATER) {
+        Ok(bundle) => complete_streams(alloc, &bundle.streams, writer),
+        Err(fault) => tell_fault(writer, fault),
+    }
+}
