@@ -225,7 +225,8 @@ collect(There) ->
     %% What the node was sent is what collects; what was collected is converted here.
     Loaded = [Module || Module <- erpc:call(There, erlang, loaded, []),
                         string:prefix(atom_to_list(Module), "seqaudit_") =/= nomatch],
-    [seqaudit_collector, seqaudit_scribe, seqaudit_spool, seqaudit_trace, seqaudit_trigger, seqaudit_watch] =
+    [seqaudit_asker, seqaudit_collector, seqaudit_scribe, seqaudit_spool, seqaudit_trace, seqaudit_trigger,
+     seqaudit_watch] =
         lists:sort(Loaded -- [?MODULE, seqaudit_test_server]),
     seqaudit_audits:fits(Name).
 

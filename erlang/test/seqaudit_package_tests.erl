@@ -89,7 +89,7 @@ unload_test_() ->
             Collect = [seqaudit_test_shell:node_command(), " collect --node ", atom_to_list(There), " --seconds 1 -o ",
                        seqaudit_audits:file("unload")],
             {0, Kept} = seqaudit_test_shell:run(Collect, seqaudit_test_shell:cookie()),
-            {_, _} = binary:match(Kept, iolist_to_binary(["  ", atom_to_list(There), " keeps the modules seqaudit_collector, "])),
+            {_, _} = binary:match(Kept, iolist_to_binary(["  ", atom_to_list(There), " keeps the modules seqaudit_asker, seqaudit_collector, "])),
             [_ | _] = ours(There),
             {0, Gone} = seqaudit_test_shell:run([Collect, " --unload"], seqaudit_test_shell:cookie()),
             nomatch = binary:match(Gone, <<"modules">>),

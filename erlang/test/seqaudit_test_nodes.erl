@@ -1,7 +1,7 @@
 %% A second node on this machine, waiting for what happens there, and what has to be there or gone for a test.
 -module(seqaudit_test_nodes).
 
--export([with_second/2, start/0, kill/1, on_port/2, clear/0, until/1, on_disk/2, met/2, await_collector/0,
+-export([with_second/2, start/0, kill/1, again/1, on_port/2, clear/0, until/1, on_disk/2, met/2, await_collector/0,
          keep_pace/0, met_here/0, is_traced/1, print_when_traced/1, peak/1]).
 
 %% A machine that is busy takes a while for what is done at once otherwise.
@@ -27,17 +27,25 @@ start() ->
     Id = os:getpid(),
     case named("seqaudit_a_" ++ Id ++ "@localhost", deadline()) of
         {ok, _} ->
-            Options = #{name => list_to_atom("seqaudit_b_" ++ Id), host => "localhost",
-                        connection => standard_io,
-                        args => ["-setcookie", atom_to_list(erlang:get_cookie())]},
-            {ok, Peer, Node} = peer:start_link(Options),
-            true = net_kernel:connect_node(Node),
-            {_, Binary, File} = code:get_object_code(seqaudit_test_server),
-            {module, _} = erpc:call(Node, code, load_binary, [seqaudit_test_server, File, Binary]),
+            {Peer, Node} = peer("seqaudit_b_" ++ Id),
             {ok, fun() -> stop(Peer) end, Node};
         {error, Reason} ->
             {error, Reason}
     end.
+
+peer(Name) ->
+    {ok, Peer, Node} = peer:start_link(#{name => list_to_atom(Name), host => "localhost", connection => standard_io,
+                                         args => ["-setcookie", atom_to_list(erlang:get_cookie())]}),
+    true = net_kernel:connect_node(Node),
+    {_, Binary, File} = code:get_object_code(seqaudit_test_server),
+    {module, _} = erpc:call(Node, code, load_binary, [seqaudit_test_server, File, Binary]),
+    {Peer, Node}.
+
+%% Starts a node anew that was killed, and returns how to stop it.
+again(Node) ->
+    [Name, _] = string:split(atom_to_list(Node), "@"),
+    {Peer, Node} = peer(Name),
+    fun() -> peer:stop(Peer) end.
 
 %% Kills the node, and waits until it is gone.
 kill(There) ->
