@@ -286,14 +286,19 @@ begun(There, Name, Programs, Test) ->
                    {ok, Text} = file:read_file(Said),
                    case re:run(Text, Pattern, [global, {capture, all, list}]) of {match, Found} -> Found; nomatch -> [] end
            end,
+    {ok, Pid} = file:read_file(filename:join(Folder, "pid")),
+    Kill = fun() -> os:cmd("kill -TERM " ++ string:trim(binary_to_list(Pid)) ++ " 2>&1") end,
     End = fun() ->
-                  {ok, Pid} = file:read_file(filename:join(Folder, "pid")),
-                  [] = os:cmd("kill -TERM " ++ string:trim(binary_to_list(Pid))),
+                  [] = Kill(),
                   {Status, _} = seqaudit_test_shell:ended(),
                   false = erpc:call(There, seq_trace, get_system_tracer, []),
                   Status
           end,
-    Test(There, filename:join(Folder, Name), Says, End),
+    try Test(There, filename:join(Folder, Name), Says, End)
+    after
+        %% A command that a test didn't end would watch the node of the next one.
+        Kill()
+    end,
     exit(Service, kill).
 
 %% The node has this module and a service.
@@ -305,8 +310,8 @@ served(There) ->
 watched(There, Name, Says, End) ->
     seqaudit_test_nodes:until(fun() -> length(Says("period [0-9]+: fits.*: .* not kept")) >= 3 end),
     _ = erpc:call(There, seq_trace, reset_trace, []),
-    seqaudit_test_nodes:until(fun() -> Says("period [0-9]+: doesn't fit: ") =/= [] end),
-    seqaudit_test_nodes:until(fun() -> Says("doesn't fit: .*\n.*period [0-9]+: fits.*: .*; kept as ") =/= [] end),
+    seqaudit_test_nodes:until(fun() -> Says("period [0-9]+: doesn't fit.*: ") =/= [] end),
+    seqaudit_test_nodes:until(fun() -> Says("doesn't fit.*: .*\n.*period [0-9]+: fits.*: .*; kept as ") =/= [] end),
     seqaudit_test_nodes:until(fun() -> length(Says("period [0-9]+: fits.*: .* not kept")) >= 5 end),
     Ended = erlang:monotonic_time(millisecond),
     1 = End(),
@@ -314,7 +319,7 @@ watched(There, Name, Says, End) ->
     io:format(user, "watch: ended in ~b ms~n", [Took]),
     %% On a machine with other work it may take longer than the second that it is to take.
     true = Took < 10_000,
-    [[_, Unfit]] = Says("period ([0-9]+): doesn't fit: "),
+    [[_, Unfit]] = Says("period ([0-9]+): doesn't fit.*: "),
     Around = lists:sort([integer_to_list(list_to_integer(Unfit) + N) || N <- [-1, 0, 1]]),
     Around = lists:sort([Number || One <- filelib:wildcard(Name ++ ".*.seqtrace"),
                                    ["w", Number, "seqtrace"] <- [string:split(filename:basename(One), ".", all)]]),
@@ -330,7 +335,7 @@ ended_test_() ->
             Says("period [0-9]+: .*; [^;]*: collecting ended early, at 2[^;]*: the trace file couldn't be written "
                  "\\(enospc\\); cut at its end, [^ ]* had stopped collecting and began again; not kept") =/= []
         end),
-        seqaudit_test_nodes:until(fun() -> length(Says("began again; .*\n(.*period [0-9]+: fits: [^\n]*; not kept\n){3}")) >= 1 end),
+        seqaudit_test_nodes:until(fun() -> Says("began again; .*\n(.*period [0-9]+: fits.*: .*; not kept\n){3}") =/= [] end),
         0 = End(),
         [] = filelib:wildcard(Name ++ ".*")
     end).
@@ -344,7 +349,7 @@ back_test_() ->
         Stop = seqaudit_test_nodes:again(There),
         seqaudit_test_nodes:until(fun() -> Says("had stopped collecting and began again") =/= [] end),
         _ = served(There),
-        seqaudit_test_nodes:until(fun() -> Says("began again; .*\n(.*\n)*.*period [0-9]+: fits: ") =/= [] end),
+        seqaudit_test_nodes:until(fun() -> Says("began again; .*\n(.*\n)*.*period [0-9]+: fits.*: ") =/= [] end),
         0 = End(),
         Stop()
     end).
