@@ -245,6 +245,4 @@ command(Words, Program) ->
     {Status, Said} = seqaudit_test_shell:run([seqaudit_test_shell:node_command(), $\s, Words],
                                              [{"SEQAUDIT", Program}, {"SEQTOOL", "/no/such/seqtool"}]),
     %% Whatever programs these are.
-    {Status, re:replace(Said, "^seqaudit-node: (built without proofs|plain Rust, not proved): .*\\n"
-                              "| \\(by programs without proofs\\)", "",
-                        [global, multiline, {return, binary}])}.
+    {Status, seqaudit_test_shell:as_proved(Said)}.
