@@ -131,6 +131,7 @@ write_on(Device, Folder, Collector, Written) ->
             file:close(Device)
     end.
 
+-spec failed(pid(), term()) -> no_return().
 failed(Collector, Reason) ->
     unlink(Collector),
     Collector ! {?MODULE, self(), Reason},
