@@ -4,7 +4,7 @@
 %% and the collector waits for neither. It ends with the collector.
 -module(seqaudit_asker).
 
--export([start/1, meet/2, turn/3, turned/1, close/1]).
+-export([start/1, meet/2, await/1, turn/3, turned/1, close/1]).
 -export_type([asker/0]).
 
 %% Nobody waits longer for names; a process whose name isn't known by then has a number alone.
@@ -28,6 +28,13 @@ meet([], _Asker) ->
 meet(Pids, Asker) ->
     Asker ! {meet, Pids},
     ok.
+
+%% @doc Waits until those are asked that were met, if that doesn't take too long.
+-spec await(asker()) -> ok.
+await(Asker) ->
+    Asked = make_ref(),
+    Asker ! {await, {self(), Asked}},
+    turned(Asked).
 
 %% @doc What is met from now on is noted in another folder, in which processes stand that are known already and live.
 %% When the former folder has what it gets, this process is told ({@link turned/1}).
@@ -67,6 +74,9 @@ ask_on(Folder, Known, Unnoted) ->
         {meet, Pids} ->
             New = maps:from_list([{Pid, seqaudit_spool:about(Pid)} || Pid <- Pids, not is_map_key(Pid, Known)]),
             ask_on(Folder, maps:merge(Known, New), maps:merge(Unnoted, New));
+        {await, {To, Asked}} ->
+            To ! {Asked, ok},
+            ask_on(Folder, Known, Unnoted);
         {turn, Next, {To, Turned}} ->
             _ = note(Folder, maps:merge(Unnoted, named_late(Known))),
             Living = living(Known),

@@ -256,11 +256,14 @@ release_trigger(_State) ->
 %% @private
 -spec handle_continue(names, #state{}) -> {noreply, #state{}}.
 handle_continue(names, State) ->
-    case erlang:system_info(process_count) =< ?PROCESSES of
-        true -> {noreply, meet(processes(), State)};
-        false -> {noreply, meet([Pid || Name <- registered(), Pid <- [whereis(Name)],
-                                        is_pid(Pid)], State)}
-    end.
+    Pids = case erlang:system_info(process_count) =< ?PROCESSES of
+               true -> processes();
+               false -> [Pid || Name <- registered(), Pid <- [whereis(Name)], is_pid(Pid)]
+           end,
+    Met = meet(Pids, State),
+    %% If the collector isn't the tracer, it may wait: whoever has begun knows that these have their names.
+    _ = [seqaudit_asker:await(State#state.asker) || State#state.watch =/= none],
+    {noreply, Met}.
 
 %% @private
 -spec handle_call(term(), gen_server:from(), #state{}) ->
