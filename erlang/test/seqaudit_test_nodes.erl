@@ -120,9 +120,28 @@ keep_pace() ->
 on_disk(Folder, Count) ->
     until(fun() -> in_folder(Folder, fun({event, _}, Sum) -> Sum + 1; (_, Sum) -> Sum end, 0) >= Count end).
 
-%% Waits until this node's collector has asked what its registered processes are called that reported something.
+%% Waits until this node's collector has asked what its registered processes are called that reported something. If it
+%% is the tracer itself, it asks as it gets the events, and has some time for that.
 met_here() ->
-    receive after 300 -> ok end.
+    [{_, Folder}] = seqaudit_trace:folders(),
+    case seq_trace:get_system_tracer() of
+        Port when is_port(Port) ->
+            until(fun() -> erlang:port_info(Port, output) =:= {output, in_folder(Folder, fun sizes/2, 0)} end),
+            met(Folder, lists:usort(in_folder(Folder, fun registered/2, [])));
+        _ ->
+            await_collector(),
+            receive after 300 -> ok end
+    end.
+
+sizes({event, Bytes}, Sum) -> 1 + byte_size(Bytes) + Sum;
+sizes(_, Sum) -> Sum.
+
+registered({event, Bytes}, Pids) ->
+    Info = element(3, binary_to_term(<<131, Bytes/binary>>)),
+    [Pid || Pid <- [element(3, Info), element(4, Info)], is_pid(Pid), node(Pid) =:= node(),
+            {registered_name, _} <- [process_info(Pid, registered_name)]] ++ Pids;
+registered(_, Pids) ->
+    Pids.
 
 %% Waits until a collector has asked what these processes are called.
 met(Folder, Pids) ->
