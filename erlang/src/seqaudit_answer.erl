@@ -330,8 +330,8 @@ told(Place, Rows, _Options, #{legend := Legend, timed := Times}) ->
 shown(#{parts := [], outcome := Outcome}) -> [Outcome];
 shown(#{parts := Parts}) -> [Outcome || {_, Outcome} <- Parts].
 
-%% @doc What comes before causes: that the trace doesn't fit, or that programs without proofs have found events in it that
-%% nobody reported.
+%% @doc What comes before causes: that the trace doesn't fit, or that programs without proofs have found events in it
+%% that nobody reported.
 -spec doubt(seqaudit_outcome:outcome(), seqaudit_legend:legend()) -> unicode:chardata().
 doubt(#{said := fits}, _Legend) -> "";
 doubt(#{said := completed, unproved := true} = Outcome, Legend) -> seqaudit_explain:headline(Outcome, Legend);

@@ -1,7 +1,7 @@
 %% @doc Asks for a collector what processes are called, and notes it in the collector's folder.
 %%
-%% A process says what it is called only when its turn comes, and the disk may be slow. So a process of its own does this,
-%% and the collector waits for neither. It ends with the collector.
+%% A process says what it is called only when its turn comes, and the disk may be slow. So a process of its own does
+%% this, and the collector waits for neither. It ends with the collector.
 -module(seqaudit_asker).
 
 -export([start/1, meet/2, await/1, turn/3, turned/1, close/1]).

@@ -124,8 +124,8 @@ unpaired(Streams, Paired) ->
                     #{kind := send, to := To, this := This, label := Label, at := At} <- Events,
                     not is_map_key({Pid, At}, Received)]).
 
-%% The tokens with which a process stamped sends that weren't reported, by label and prev, with the least count of such a
-%% send. Where they came from isn't known.
+%% The tokens with which a process stamped sends that weren't reported, by label and prev, with the least count of
+%% such a send. Where they came from isn't known.
 unreported(Streams, Paired) ->
     lists:foldl(fun({From, Key, This}, Known) ->
                         Own = maps:get(From, Known, #{}),

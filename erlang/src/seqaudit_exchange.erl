@@ -50,7 +50,8 @@ prevs(Streams, Which) ->
                        causes(Streams)),
     Given = [{Pid, element(1, lists:mapfoldl(fun(Event, Last) -> prev(Pid, Event, Last, PutBack) end, 0, Events))}
              || {Pid, Events} <- Streams],
-    Reported = maps:from_list([{message(Event), Prev} || {_, Events} <- Given, {#{kind := send} = Event, Prev} <- Events]),
+    Reported = maps:from_list([{message(Event), Prev} || {_, Events} <- Given,
+                                                         {#{kind := send} = Event, Prev} <- Events]),
     Sent = case Which of
                certain -> Reported;
                in_doubt -> maps:merge(unreported(Streams, Reported), Reported)
@@ -105,8 +106,8 @@ unreported_of([#{this := This} | Events], Sends, [Last | _] = Received) ->
     {Before, Behind} = lists:splitwith(fun({Count, _, _}) -> Count < This end, Sends),
     given(Before, lists:reverse(Received)) ++ unreported_of(Events, Behind, [Last]).
 
-%% A send follows a receive that isn't before that of the send before it, perhaps with a spawn's answer between; if none of
-%% these has its prev, a token was put back.
+%% A send follows a receive that isn't before that of the send before it, perhaps with a spawn's answer between; if
+%% none of these has its prev, a token was put back.
 given([], _Received) ->
     [];
 given([{_, Prev, Message} | Sends], [Last | _] = Received) ->
@@ -118,8 +119,9 @@ given([{_, Prev, Message} | Sends], [Last | _] = Received) ->
 %% @doc Whether tokens may have been put back, though it isn't certain.
 -spec may_be_put_back([seqaudit_causes:row()]) -> boolean().
 may_be_put_back(Rows) ->
-    lists:any(fun(#{cause := Cause, event := #{prev := Prev, this := This}}) -> is_perhaps(Cause) orelse This =< Prev end,
-              Rows).
+    lists:any(fun(#{cause := Cause, event := #{prev := Prev, this := This}}) ->
+                      is_perhaps(Cause) orelse This =< Prev
+              end, Rows).
 
 %% The label may also be set on a token that was put back.
 is_doubted({relabelled, _, _}) -> true;

@@ -2,8 +2,8 @@
 %% what to look at.
 -module(seqaudit_explain).
 
--export([count/2, number/1, headline/2, by_whom/1, outcome/3, parts/3, whole/2, sentence/2, sentence/4, reset_places/2, losses/1,
-         is_open/1]).
+-export([count/2, number/1, headline/2, by_whom/1, outcome/3, parts/3, whole/2, sentence/2, sentence/4,
+         reset_places/2, losses/1, is_open/1]).
 
 -import(seqaudit_legend, [process/2, label/2]).
 

@@ -58,7 +58,8 @@
 -type rotated() :: {ok, file:filename()} | {again, file:filename() | none} | {gone, file:filename(), term()}
                  | {error, term()}.
 %% What a rotation wrote of a node: its events, while its collecting goes on; those until its collecting ended, if they
-%% weren't written before, and it began again; those until it ended, and why it couldn't begin again; or nothing, and why.
+%% weren't written before, and it began again; those until it ended, and why it couldn't begin again; or nothing, and
+%% why.
 
 -record(node, {node :: node(),
                collector :: pid(),
@@ -346,15 +347,18 @@ lead_on(#node{collector = Collector, is = {away, Since}, split = {Times, Sum}} =
     try {seqaudit_collector:adopt(Collector, self()), seqaudit_collector:folder(Collector)} of
         {ok, Folder} ->
             Away = erlang:monotonic_time(millisecond) - Since,
-            in_folder(Folder, Node#node{is = on, monitor = monitor(process, Collector), split = {Times + 1, Sum + Away}})
+            in_folder(Folder, Node#node{is = on, monitor = monitor(process, Collector),
+                                        split = {Times + 1, Sum + Away}})
     catch
         exit:{Reason, _} when Reason =:= noproc; Reason =:= normal -> Node#node{is = {gone, noproc}};
         exit:_ -> try_later(Node)
     end.
 
 %% A collector may have gone on to other files, and nobody was told where.
-in_folder(Folder, #node{folder = Folder} = Node) -> Node;
-in_folder(Folder, #node{folder = Known, former = Former} = Node) -> Node#node{folder = Folder, former = Former ++ [Known]}.
+in_folder(Folder, #node{folder = Folder} = Node) ->
+    Node;
+in_folder(Folder, #node{folder = Known, former = Former} = Node) ->
+    Node#node{folder = Folder, former = Former ++ [Known]}.
 
 %% If one node fails, the collectors that are on already end with their owner, this process.
 start_all([], _Options, Started) ->

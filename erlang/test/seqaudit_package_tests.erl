@@ -73,7 +73,8 @@ xref_test_() ->
                 {ok, _} = xref:add_directory(Server, filename:dirname(code:which(seqaudit_trace))),
                 {ok, Undefined} = xref:analyze(Server, undefined_function_calls),
                 [] = [Call || {_, {Module, _, _}} = Call <- Undefined, Module =/= trace],
-                [{What, {ok, []}} = {What, xref:analyze(Server, What)} || What <- [locals_not_used, deprecated_function_calls]],
+                [{What, {ok, []}} = {What, xref:analyze(Server, What)}
+                 || What <- [locals_not_used, deprecated_function_calls]],
                 xref:stop(Server)
         end
     end}.

@@ -2,7 +2,8 @@
 -module(seqaudit_periods_tests).
 
 -export([rotate_test_/0, again_test_/0, other_tracer_test_/0, slow_disk_test_/0, cancel_on_slow_disk_test_/0,
-         large_event_test/0, ended_test_/0, back_test_/0, quiet_test/0, rest_test/0, never_quiet_test/0, watch_test_/0, too_many_test_/0]).
+         large_event_test/0, ended_test_/0, back_test_/0, quiet_test/0, rest_test/0, never_quiet_test/0, watch_test_/0,
+         too_many_test_/0]).
 %% Called by name.
 -export([serve/0, serve/1, answer/0, request/2]).
 
@@ -94,7 +95,7 @@ other_tracer_test_() ->
          _ = seq_trace:set_system_tracer(Other),
          [{_, {gone, File, other_tracer}}] = seqaudit_trace:rotate(Name ++ ".1"),
          {ok, #{notes := Notes}} = seqaudit_convert:from_files([File], Name),
-         [_] = [Note || Note <- Notes, string:find(Note, "another system tracer took the collector's place") =/= nomatch],
+         [_] = [Note || Note <- Notes, string:find(Note, "another system tracer took the collector's") =/= nomatch],
          [{_, {error, other_tracer}}] = seqaudit_trace:rotate(Name ++ ".2"),
          Other = seq_trace:get_system_tracer(),
          _ = seq_trace:set_system_tracer(false),
@@ -151,7 +152,8 @@ begin_slow() ->
 read_slow(Facts, Seconds) ->
     [] = os:cmd(lists:concat(["timeout ", Seconds, " cat <>", Facts, " >/dev/null"])).
 
-%% Of these events 1,000 would be too many for the collector's queue. A process that is new has to be asked for its name.
+%% Of these events 1,000 would be too many for the collector's queue. A process that is new has to be asked for its
+%% name.
 print_in_pace(First, Last) ->
     lists:foreach(fun(N) ->
                           {_, Monitor} = spawn_monitor(fun() -> print_large(N) end),
@@ -166,7 +168,8 @@ print_large(N) ->
 large_event_test() ->
     Name = seqaudit_audits:file("large_event"),
     ok = seqaudit_trace:start(#{name => Name, port => false}),
-    seqaudit_trace:with_trace(1, fun() -> [begin seq_trace:print(N), seqaudit_test_nodes:keep_pace() end || N <- lists:seq(1, 100)] end),
+    Print = fun(N) -> seq_trace:print(N), seqaudit_test_nodes:keep_pace() end,
+    seqaudit_trace:with_trace(1, fun() -> lists:foreach(Print, lists:seq(1, 100)) end),
     [{_, {ok, _}}] = seqaudit_trace:rotate(Name ++ ".1"),
     Collector = whereis(seqaudit_collector),
     true = erlang:suspend_process(Collector),
@@ -326,7 +329,8 @@ watched(There, Name, Says, End) ->
     [_ | _] = Says("cut at a quiet moment"),
     [[_]] = Says("[0-9]+ periods audited, 3 kept; period [0-9]+, which was running, isn't audited\n").
 
-%% A collector that ended by itself is begun again: the line says since when what is lost, and the next periods are whole.
+%% A collector that ended by itself is begun again: the line says since when what is lost, and the next periods are
+%% whole.
 ended_test_() ->
     with_watch("ended", fun(Program) -> Program end, fun(There, Name, Says, End) ->
         seqaudit_test_nodes:until(fun() -> Says("period [0-9]+: fits.*: .* not kept") =/= [] end),
@@ -335,7 +339,9 @@ ended_test_() ->
             Says("period [0-9]+: .*; [^;]*: collecting ended early, at 2[^;]*: the trace file couldn't be written "
                  "\\(enospc\\); cut at its end, [^ ]* had stopped collecting and began again; not kept") =/= []
         end),
-        seqaudit_test_nodes:until(fun() -> Says("began again; .*\n(.*period [0-9]+: fits.*: .*; not kept\n){3}") =/= [] end),
+        seqaudit_test_nodes:until(fun() ->
+            Says("began again; .*\n(.*period [0-9]+: fits.*: .*; not kept\n){3}") =/= []
+        end),
         0 = End(),
         [] = filelib:wildcard(Name ++ ".*")
     end).

@@ -393,7 +393,8 @@ slow_model_test_() ->
         case seqaudit_audits:model() of
             [] -> io:format(user, "slow model: skipped, there is no python3~n", []);
             [Model] ->
-                [unproved(Model, Case) || Case <- unproved_cases(filename:join(filename:dirname(Model), "slow_seqtool.py"))]
+                Tool = filename:join(filename:dirname(Model), "slow_seqtool.py"),
+                [unproved(Model, Case) || Case <- unproved_cases(Tool)]
         end
     end}.
 
@@ -402,12 +403,14 @@ unproved_cases(Tool) ->
     By = " (by programs without proofs)",
     A = list_to_pid("<0.80.0>"),
     Print = fun(Who, Serial) -> {seq_trace, 1, {print, Serial, Who, [], seen}} end,
-    [{[Print(A, {0, 1})], Tool, ["audit", "--each-label"], ["1: fits" ++ By ++ ": 1 event", "1 label" ++ By ++ ": 1 fit"]},
+    [{[Print(A, {0, 1})], Tool, ["audit", "--each-label"],
+      ["1: fits" ++ By ++ ": 1 event", "1 label" ++ By ++ ": 1 fit"]},
      {[Print(A, {0, 2}), Print(A, {0, 1})], Tool, ["audit"], ["doesn't fit" ++ By ++ ": no run without a reset"]},
      {[Print(A, {0, 1}), Print(A, {0, 5_000})], "/no/such/seqtool", ["audit"],
       ["not explained" ++ By ++ ": no run was found"]},
      %% Another process must have sent it a message.
-     {[Print(A, {0, 2}), Print(A, {1, 3})], Tool, ["why", "--event", "<0.80.0>#1"], ["fits" ++ By ++ ": 2 events of "]}].
+     {[Print(A, {0, 2}), Print(A, {1, 3})], Tool, ["why", "--event", "<0.80.0>#1"],
+      ["fits" ++ By ++ ": 2 events of "]}].
 
 unproved(Model, {Events, Tool, [Command | Options], First}) ->
     Name = seqaudit_audits:file("slow_model"),

@@ -146,11 +146,10 @@ registered(_, Pids) ->
 %% Waits until a collector has asked what these processes are called.
 met(Folder, Pids) ->
     Wanted = [seqaudit_external:from_term(Pid) || Pid <- Pids],
-    until(fun() ->
-              [] =:= Wanted -- in_folder(Folder, fun({facts, #{processes := Known}}, Sum) -> [Pid || {Pid, _} <- Known] ++ Sum;
-                                                    (_, Sum) -> Sum
-                                                 end, [])
-          end).
+    Noted = fun({facts, #{processes := Known}}, Sum) -> [Pid || {Pid, _} <- Known] ++ Sum;
+               (_, Sum) -> Sum
+            end,
+    until(fun() -> [] =:= Wanted -- in_folder(Folder, Noted, []) end).
 
 in_folder(Folder, Do, Acc) ->
     {ok, Result} = seqaudit_events:fold(Folder, Do, Acc),
