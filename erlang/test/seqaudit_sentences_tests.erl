@@ -1,10 +1,9 @@
 %% What the commands say of programs on real nodes whose truth is known.
 -module(seqaudit_sentences_tests).
 
--export([calls_under_labels_test_/0, token_put_back_test_/0, kept_tokens_test_/0, second_trace_test_/0,
-         unknown_message_test_/0, flags_test_/0, high_counter_test_/0, messages_alike_test_/0, split_test_/0,
-         forged_loss_test_/0,
-         unlisted_test_/0, slow_model_test_/0]).
+-export([calls_under_labels_test_/0, token_put_back_test_/0, put_back_in_doubt_test_/0, kept_tokens_test_/0,
+         second_trace_test_/0, unknown_message_test_/0, flags_test_/0, high_counter_test_/0, messages_alike_test_/0,
+         split_test_/0, forged_loss_test_/0, unlisted_test_/0, slow_model_test_/0]).
 
 -define(ALL, [send, 'receive', print]).
 
@@ -117,6 +116,42 @@ token_put_back_test_() ->
             ["because (a token was put back here) worker#0: worker receives {", "because asker#4: asker sends "]),
         has(Command(["chart", "--label", "1"]), ["{answer,7}  after worker#0, whose token was put back\n",
                                                  "answered  after worker#0, whose token was put back\n"])
+    end).
+
+%% With the send flag off nobody can tell which of two tokens was put back. No message is supposed in its place.
+put_back_in_doubt_test_() ->
+    traced("put_back_in_doubt", fun() ->
+        Self = self(),
+        begun(noting, fun() ->
+            [receive {note, N} -> ok end || N <- [1, 2]],
+            Token = seq_trace:set_token([]),
+            seq_trace:set_token(Token),
+            seq_trace:print(noted),
+            telling ! noted,
+            seq_trace:set_token([]),
+            Self ! done
+        end),
+        begun(telling, fun() ->
+            seq_trace:set_token(label, 1),
+            [seq_trace:set_token(Flag, true) || Flag <- ['receive', print]],
+            self() ! once,
+            receive once -> ok end,
+            [noting ! {note, N} || N <- [1, 2]],
+            receive noted -> ok end,
+            seq_trace:set_token([]),
+            Self ! done
+        end),
+        [receive done -> ok end || _ <- [1, 2]],
+        seqaudit_test_nodes:met_here(),
+        left([noting, telling])
+    end, fun(Command) ->
+        Audit = Command(["audit"]),
+        has(Audit, ["fits: 5 events of 2 processes, with 4 sends that nobody reported; the cause of 1 event isn't known\n",
+                    "The cause isn't known of noting#2: ",
+                    "Tokens may have been put back (seq_trace:set_token/1), so the audit took the prevs that the machine "
+                    "would have given the events behind them; "]),
+        has_none(Audit, ["unknown message", "1 receive"]),
+        has(Command(["why", "--event", "noting#2"]), ["because (perhaps: "])
     end).
 
 %% A server keeps the token of each client that waits, and puts it back to reply.
