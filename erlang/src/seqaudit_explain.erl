@@ -191,14 +191,14 @@ details(#{finding := {Reason, Found}} = Outcome, Legend) ->
      tool(maps:get(tool, Outcome))].
 
 %% Where tokens were put back, and what was audited then.
-put_back([], #{exchanged := none}, _Legend) ->
-    "";
-put_back([], #{exchanged := How}, _Legend) ->
+put_back([], #{exchanged := How}, _Legend) when How =/= none ->
     ["Tokens may have been put back (seq_trace:set_token/1), so the audit took ",
      case How of
          prevs -> "the prevs that the machine would have given the events behind them";
          counts -> "the counts that the machine would have given all events"
      end, "; the serials shown here are the node's own.\n"];
+put_back([], _Outcome, _Legend) ->
+    "";
 put_back(Rows, Outcome, Legend) ->
     ["A token was put back here (seq_trace:set_token/1): ",
      listed(fun(#{id := Id, cause := {_, Origin}}) ->
