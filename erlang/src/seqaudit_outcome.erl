@@ -93,17 +93,18 @@ ask_exchanged([How | Others], Streams, AsTheyAre) ->
         unknown -> ask_exchanged(Others, Streams, AsTheyAre);
         {ok, Exchanged} ->
             case ask_as_it_is(Exchanged) of
+                {ok, #{said := Said} = Outcome} when How =:= prevs_in_doubt, Said =:= fits;
+                                                     How =:= prevs_in_doubt, Said =:= completed ->
+                    fits_in_doubt(Outcome, Streams, Exchanged, AsTheyAre);
                 {ok, #{said := fits} = Outcome} ->
-                    {ok, Outcome#{streams := Streams, exchanged := kind(How), asked => Exchanged}};
-                {ok, #{said := completed} = Outcome} when How =:= prevs_in_doubt ->
-                    completed_in_doubt(Outcome, Streams, Exchanged, AsTheyAre);
+                    {ok, Outcome#{streams := Streams, exchanged := How, asked => Exchanged}};
                 {ok, _} -> ask_exchanged(Others, Streams, AsTheyAre);
                 {error, Reason} -> {error, Reason}
             end
     end.
 
 %% What nobody reported is shown with the node's own counts too.
-completed_in_doubt(#{streams := Completed} = Outcome, Streams, Exchanged, AsTheyAre) ->
+fits_in_doubt(#{streams := Completed} = Outcome, Streams, Exchanged, AsTheyAre) ->
     Own = Outcome#{streams := seqaudit_exchange:own(Completed, Streams, Exchanged)},
     case not invents(Own) andalso ids(Own) =:= ids(Outcome) of
         true -> {ok, Own#{exchanged := prevs, asked => Completed}};
@@ -116,9 +117,6 @@ ids(#{streams := Streams}) ->
 exchange(prevs, Streams) -> {ok, seqaudit_exchange:prevs(Streams, certain)};
 exchange(prevs_in_doubt, Streams) -> {ok, seqaudit_exchange:prevs(Streams, in_doubt)};
 exchange(counts, Streams) -> seqaudit_exchange:counts(Streams).
-
-kind(prevs_in_doubt) -> prevs;
-kind(How) -> How.
 
 ask_as_it_is(Streams) ->
     Text = iolist_to_binary(seqaudit_bundle:text(Streams)),
