@@ -330,13 +330,13 @@ told(Place, Rows, _Options, #{legend := Legend, timed := Times}) ->
 shown(#{parts := [], outcome := Outcome}) -> [Outcome];
 shown(#{parts := Parts}) -> [Outcome || {_, Outcome} <- Parts].
 
-%% @doc For a trace that doesn't fit, the doubt comes before the causes.
+%% @doc What comes before causes: that the trace doesn't fit, or that programs without proofs have found events in it
+%% that nobody reported.
 -spec doubt(seqaudit_outcome:outcome(), seqaudit_legend:legend()) -> unicode:chardata().
-doubt(Outcome, Legend) ->
-    case fits(Outcome) of
-        true -> "";
-        false -> seqaudit_explain:headline(Outcome, Legend)
-    end.
+doubt(#{said := fits}, _Legend) -> "";
+doubt(#{said := completed, unproved := true} = Outcome, Legend) -> seqaudit_explain:headline(Outcome, Legend);
+doubt(#{said := completed}, _Legend) -> "";
+doubt(Outcome, Legend) -> seqaudit_explain:headline(Outcome, Legend).
 
 %% @doc Writes what was asked for, for its owner alone.
 -spec keep(file:filename(), iodata(), status()) -> result().

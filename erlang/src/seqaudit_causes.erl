@@ -53,7 +53,9 @@ rows(Streams) ->
                                      lists:seq(1, length(Streams)))),
     Paired = paired(Streams),
     Unpaired = unpaired(Streams, Paired),
-    Keyed = lists:append([keyed(Stream, Ranks, Paired, Unpaired) || Stream <- Streams]),
+    Unreported = unreported(Streams, Paired),
+    Keyed = lists:append([keyed({Pid, Events}, {Ranks, Paired, Unpaired}, maps:get(Pid, Unreported, #{}))
+                          || {Pid, Events} <- Streams]),
     mark_invented([Row || {_, Row} <- lists:keysort(1, Keyed)]).
 
 mark_invented(Rows) ->
@@ -122,15 +124,27 @@ unpaired(Streams, Paired) ->
                     #{kind := send, to := To, this := This, label := Label, at := At} <- Events,
                     not is_map_key({Pid, At}, Received)]).
 
+%% The tokens with which a process stamped sends that weren't reported, by label and prev, with the least count of
+%% such a send. Where they came from isn't known.
+unreported(Streams, Paired) ->
+    lists:foldl(fun({From, Key, This}, Known) ->
+                        Own = maps:get(From, Known, #{}),
+                        Known#{From => Own#{Key => min(This, maps:get(Key, Own, This))}}
+                end, #{},
+                [{From, {Label, Prev}, This}
+                 || {Pid, Events} <- Streams,
+                    #{kind := 'receive', at := At, from := From, label := Label, prev := Prev, this := This} <- Events,
+                    not is_map_key({Pid, At}, Paired)]).
+
 %% What is known at an event of what its process did before: the greatest count, the last receive with its
 %% count and label, the last stamp if no receive came behind it, the tokens that it had, by label and prev, with
 %% their counts and what they came from, the least count of those with each prev, and the receives by label and count.
-keyed({Pid, Events}, Ranks, Paired, Unpaired) ->
-    Start = #{clock => 0, newest => none, row => none, tokens => #{}, prevs => #{}, received => #{}},
+keyed({Pid, Events}, Others, Unreported) ->
+    Start = #{clock => 0, newest => none, row => none, tokens => #{}, prevs => #{}, received => #{},
+              unreported => Unreported},
     {Rows, _} = lists:mapfoldl(
-                  fun({Position, Event}, Known) ->
-                          keyed_event(Event, {Pid, Position}, Known, {Ranks, Paired, Unpaired})
-                  end, Start, lists:enumerate(Events)),
+                  fun({Position, Event}, Known) -> keyed_event(Event, {Pid, Position}, Known, Others) end,
+                  Start, lists:enumerate(Events)),
     lists:append(Rows).
 
 keyed_event(#{kind := 'receive', from := From, this := This, label := Label, at := At} = Event,
@@ -206,7 +220,10 @@ stamp_cause(Pid, #{prev := Prev, label := Label} = Event, #{newest := Newest} = 
     Sends = [Send || {Of, Send} <- maps:get({Pid, Prev}, Unpaired, []), Of =:= Label],
     case {put_back(Event, Known), had_received(Event, Known), Sends} of
         {[{_, Origin}], Earlier, _} when Newest =/= none, Earlier =:= [] orelse Earlier =:= [Origin] ->
-            {restored, Origin};
+            case had_unreported(Event, Known) of
+                true -> {perhaps, Origin};
+                false -> {restored, Origin}
+            end;
         {[{_, Origin} | _], _, _} -> {perhaps, Origin};
         {[], _, [Send | _]} -> {unreported, Send};
         {[], [Earlier | _], []} -> {perhaps, Earlier};
@@ -232,6 +249,13 @@ without_token(#{prev := Prev, label := Label, this := This}, #{prevs := Prevs, r
 had_received(#{prev := Prev, label := Label}, #{received := Received}) ->
     [Id || Count <- [Prev] ++ [(Prev - 15) div 16 || Prev rem 16 =:= 15],
            #{{Label, Count} := Id} <- [Received]].
+
+%% Whether a send that wasn't reported shows that the process had a token of this label and prev.
+had_unreported(#{prev := Prev, label := Label, this := This}, #{unreported := Unreported}) ->
+    case Unreported of
+        #{{Label, Prev} := Least} -> Least < This;
+        #{} -> false
+    end.
 
 %% @doc The rows by what they are called.
 -spec index([row()]) -> #{id() => row()}.

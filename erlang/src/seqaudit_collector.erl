@@ -13,13 +13,15 @@
 %% when it grows faster than it is emptied.</li>
 %% </ul>
 %% A traced process pays for the write or the send of its events and waits for nothing. What a
-%% process is called is asked at the start, when the process is first seen, and at the end.
+%% process is called is asked at the start, when the process is first seen, and at the end, by
+%% {@link seqaudit_asker}. When its files are exchanged, the former ones are closed by a process that does
+%% nothing else.
 %%
 %% The collector has no token of its own: it drops one that a stray message brings.
 -module(seqaudit_collector).
 -behaviour(gen_server).
 
--export([start/1, folder/1, rotate/1, stop_all/1, adopt/2, names/1]).
+-export([start/1, folder/1, rotate_all/1, stop_all/1, adopt/2, names/1]).
 -export([init/1, handle_continue/2, handle_call/3, handle_cast/2, handle_info/2, terminate/2]).
 -export_type([options/0, use/0]).
 
@@ -42,8 +44,6 @@
 -define(QUEUE_FACTOR, 8).
 %% It has so many bytes written at once.
 -define(BUFFER_BYTES, 65_536).
-%% A busy disk may take a while to take what is left.
--define(ROTATE_MS, 60_000).
 %% The owner's node may come back within this time, as after a net split.
 -define(GRACE_MS, 60_000).
 
@@ -74,15 +74,18 @@
                 by :: {port, port()} | {scribe, seqaudit_scribe:scribe()} | closed,
                 watch = none :: none | seqaudit_watch:watch(),
                 paused = #{} :: seqaudit_spool:facts(),
+                asker :: seqaudit_asker:asker() | undefined,
                 buffer = {0, []} :: {non_neg_integer(), iolist()},
-                %% Bytes of all events, kept or dropped, if the collector itself is the tracer.
-                came = 0 :: non_neg_integer(),
+                %% All events since the start and their bytes, if the collector itself is the tracer.
+                came = {0, 0} :: {non_neg_integer(), non_neg_integer()},
                 kept = 0 :: non_neg_integer(),
                 written = 0 :: non_neg_integer(),
                 dropped = 0 :: non_neg_integer(),
                 strays = 0 :: non_neg_integer(),
                 look = {0, 0} :: {File :: non_neg_integer(), Offset :: non_neg_integer()},
-                processes = #{} :: #{pid() => seqaudit_spool:about()},
+                met = #{} :: #{pid() => met},
+                %% Who waits until the files are exchanged, and who prepares the next one.
+                turning = no :: no | {gen_server:from(), seqaudit_scribe:scribe()},
                 tracer = on :: on | put_back | taken | gone,
                 ended = no :: no | {term(), calendar:datetime()},
                 lost :: reference() | undefined,
@@ -116,10 +119,15 @@ start_beside(Other, Options) ->
 folder(Collector) ->
     gen_server:call(Collector, folder).
 
-%% @doc From now on events go to a new folder; the former one has all that came before. No event is lost between.
--spec rotate(pid()) -> {ok, file:filename()} | {error, term()}.
-rotate(Collector) ->
-    gen_server:call(Collector, rotate, ?ROTATE_MS).
+%% @doc From now on the events of each collector go to a new folder; the former one has all that came before. No event
+%% is lost between. In the place of a collector that has ended, or is gone, stands that.
+-spec rotate_all([pid()]) -> [{ok, file:filename()} | {error, ended | {gone, term()} | term()}].
+rotate_all(Collectors) ->
+    Requests = [gen_server:send_request(Collector, rotate) || Collector <- Collectors],
+    [case gen_server:receive_response(Request, infinity) of
+         {reply, Reply} -> Reply;
+         {error, {Reason, _}} -> {error, {gone, Reason}}
+     end || Request <- Requests].
 
 %% @doc Takes the collectors off, all at the same time: each puts the former tracer back, waits for
 %% events on their way, and ends. Its facts are in its folder. In the place of a collector that is
@@ -174,10 +182,10 @@ init(#{owner := Owner} = Options) ->
 begin_tracing(#state{folder = Folder} = State, Options) ->
     try
         By = open(maps:get(port, Options, false), State),
-        ok = seqaudit_spool:note(Folder, first_facts(By, State)),
+        ok = seqaudit_spool:note(Folder, first_facts(element(1, By), State)),
         _ = maps:get(reset, Options, false) andalso seq_trace:reset_trace(),
-        _ = seq_trace:set_system_tracer(case By of {port, Port} -> Port; _ -> self() end),
-        Opened = State#state{by = By, watch = watch(By, State)},
+        _ = seq_trace:set_system_tracer(own_tracer(By)),
+        Opened = State#state{by = By, watch = watch(By, State), asker = seqaudit_asker:start(Folder)},
         case pull_trigger(State#state.trigger) of
             {ok, Trigger} ->
                 erlang:send_after(?TICK_MS, self(), tick),
@@ -195,26 +203,35 @@ begin_tracing(#state{folder = Folder} = State, Options) ->
 
 first_facts(By, #state{bytes = Bytes}) ->
     #{node => node(), collector => self(), since => erlang:universaltime(), bytes => Bytes,
-      by => case By of {port, _} -> port; _ -> process end,
+      by => case By of port -> port; scribe -> process end,
       clock => {erlang:time_offset(), erlang:convert_time_unit(1, second, native)}}.
+
+open(true, #state{folder = Folder, bytes = Bytes} = State) ->
+    case trace_port(Folder, Bytes) of
+        {ok, Port} -> {port, Port};
+        error -> open(false, State)
+    end;
+open(false, #state{folder = Folder}) ->
+    _ = process_flag(priority, high),
+    {ok, Scribe} = seqaudit_scribe:open(Folder),
+    {scribe, Scribe}.
 
 %% The port is made by whoever calls the function of `dbg', and ends with that process. It can be
 %% watched if the node knows how much memory binaries take.
-open(true, #state{folder = Folder, bytes = Bytes} = State) ->
+trace_port(Folder, Bytes) ->
     {Base, Suffix} = seqaudit_spool:base(Folder),
     Size = max(1, Bytes div ?FILES),
     try
         _ = erlang:memory(binary),
         Port = (dbg:trace_port(file, {Base, wrap, Suffix, Size, ?FILES}))(),
         true = is_port(Port),
-        {port, Port}
+        {ok, Port}
     catch
-        _:_ -> open(false, State)
-    end;
-open(false, #state{folder = Folder}) ->
-    _ = process_flag(priority, high),
-    {ok, Scribe} = seqaudit_scribe:open(Folder),
-    {scribe, Scribe}.
+        _:_ -> error
+    end.
+
+own_tracer({port, Port}) -> Port;
+own_tracer({scribe, _}) -> self().
 
 watch({port, Port}, #state{folder = Folder}) -> seqaudit_watch:start(Port, Folder);
 watch({scribe, _}, _State) -> none.
@@ -239,15 +256,18 @@ release_trigger(_State) ->
 %% @private
 -spec handle_continue(names, #state{}) -> {noreply, #state{}}.
 handle_continue(names, State) ->
-    case erlang:system_info(process_count) =< ?PROCESSES of
-        true -> {noreply, seen(processes(), State)};
-        false -> {noreply, seen([Pid || Name <- registered(), Pid <- [whereis(Name)],
-                                        is_pid(Pid)], State)}
-    end.
+    Pids = case erlang:system_info(process_count) =< ?PROCESSES of
+               true -> processes();
+               false -> [Pid || Name <- registered(), Pid <- [whereis(Name)], is_pid(Pid)]
+           end,
+    Met = meet(Pids, State),
+    %% If the collector isn't the tracer, it may wait: whoever has begun knows that these have their names.
+    _ = [seqaudit_asker:await(State#state.asker) || State#state.watch =/= none],
+    {noreply, Met}.
 
 %% @private
 -spec handle_call(term(), gen_server:from(), #state{}) ->
-          {noreply, #state{}, timeout()} | {reply, term(), #state{}} | {stop, normal, ends, #state{}}.
+          gone_on() | {reply, term(), #state{}} | {stop, normal, ends, #state{}}.
 handle_call(folder, _From, State) ->
     {reply, State#state.folder, State};
 handle_call({adopt, Owner}, _From, State) ->
@@ -261,11 +281,13 @@ handle_call({in_use, _}, _From, #state{owner_node = Owner, folder = Folder, lost
                _ -> case erlang:read_timer(Lost) of false -> 0; Milliseconds -> Milliseconds end
            end,
     {reply, {in_use, #{owner => Owner, folder => Folder, left => Left}}, State};
-handle_call(rotate, _From, #state{tracer = on, ended = no} = State) ->
-    case rotated(State) of
-        {ok, #state{folder = Folder} = Rotated} -> {reply, {ok, Folder}, Rotated};
-        {error, Reason} -> {reply, {error, Reason}, State}
-    end;
+handle_call(rotate, From, #state{tracer = on, ended = no, turning = no, by = {port, _}} = State) ->
+    go_on(turn_port(From, State));
+handle_call(rotate, From, #state{tracer = on, ended = no, turning = no} = State) ->
+    Next = seqaudit_scribe:prepare(new_folder(scribe, State)),
+    go_on(State#state{turning = {From, Next}});
+handle_call(rotate, _From, #state{turning = {_, _}} = State) ->
+    {reply, {error, turning}, State};
 handle_call(rotate, _From, State) ->
     {reply, {error, ended}, State};
 handle_call(stop, From, State) ->
@@ -303,14 +325,24 @@ handle_info({'EXIT', Port, Reason}, #state{by = {port, Port}} = State) ->
 handle_info({timeout, _, owner}, State) ->
     go_on(State);
 handle_info(Message, State) ->
-    case failure(Message, State) of
-        {failed, Why} -> go_on(close(ended(Why, take_off(State))));
-        none -> stray(State)
+    case {failure(Message, State), prepared(Message, State)} of
+        {{failed, Why}, _} -> go_on(close(ended(Why, take_off(State))));
+        {none, {ready, Folder}} -> go_on(turn_scribe(Folder, State));
+        {none, {failed, {disk, Reason}}} -> go_on(not_turned({error, Reason}, State));
+        {none, none} -> stray(State)
     end.
 
 failure(Message, #state{by = {scribe, Scribe}}) -> seqaudit_scribe:failure(Message, Scribe);
 failure(_Message, #state{watch = none}) -> none;
 failure(Message, #state{watch = Watch}) -> seqaudit_watch:failure(Message, Watch).
+
+prepared(_Message, #state{turning = no}) ->
+    none;
+prepared(Message, #state{turning = {_, Next}}) ->
+    case seqaudit_scribe:ready(Message, Next) of
+        none -> seqaudit_scribe:failure(Message, Next);
+        Ready -> Ready
+    end.
 
 %% @private
 -spec terminate(term(), #state{}) -> ok.
@@ -337,11 +369,12 @@ ended(_Why, State) -> State.
 event(Event, Info, #state{by = {scribe, _}, kept = Kept, written = Written} = State0) ->
     Bytes = term_to_binary(Event),
     Size = byte_size(Bytes) + 5,
-    State = State0#state{came = State0#state.came + Size},
+    {Events, Sum} = State0#state.came,
+    State = State0#state{came = {Events + 1, Sum + Size}},
     case Kept < State#state.limit andalso Written + Size =< State#state.bytes of
         true ->
             Buffered = buffer([<<0, (byte_size(Bytes)):32>>, Bytes], Size, State),
-            look_at_queue(meet([Info], Buffered#state{kept = Kept + 1, written = Written + Size}));
+            look_at_queue(meet_all([Info], Buffered#state{kept = Kept + 1, written = Written + Size}));
         false ->
             look_at_queue(State#state{dropped = State#state.dropped + 1})
     end;
@@ -364,9 +397,9 @@ flush(State) ->
 
 %% The events in the queue are taken to be as large as those that came.
 look_at_queue(#state{tracer = on, by = {scribe, Scribe}} = State) ->
-    #state{came = Came, kept = Kept, dropped = Dropped} = State,
+    #state{came = {Events, Bytes}} = State,
     {message_queue_len, Length} = process_info(self(), message_queue_len),
-    Waiting = Length * (Came div (Kept + Dropped)) * ?QUEUE_FACTOR,
+    Waiting = Length * (Bytes div Events) * ?QUEUE_FACTOR,
     case Waiting + seqaudit_scribe:unwritten(Scribe) > ?QUEUE_BYTES of
         true -> take_off(ended(fell_behind, State));
         false -> State
@@ -408,13 +441,13 @@ look(#state{look = {File, Offset}, folder = Folder} = State) ->
     Next = (File + 1) rem (?FILES + 1),
     Place = case Used =:= 0 orelse Used > ?LOOK_BYTES div 2 of
                 true ->
-                    case filelib:is_regular(Name(Next)) of
-                        true -> {Next, 0};
-                        false -> {File, Offset + Used}
+                    case file:read_file_info(Name(Next), [raw]) of
+                        {ok, _} -> {Next, 0};
+                        {error, _} -> {File, Offset + Used}
                     end;
                 false -> {File, Offset + Used}
             end,
-    meet(Infos, State#state{look = Place}).
+    meet_all(Infos, State#state{look = Place}).
 
 infos(<<0, Size:32, Bytes:Size/binary, Rest/binary>>, Used, Infos) ->
     infos(Rest, Used + 5 + Size, info(Bytes) ++ Infos);
@@ -435,53 +468,51 @@ info(Bytes) ->
     end.
 
 %% Asks what the events' processes are called, once each.
-meet(Infos, #state{processes = Known} = State) ->
-    New = lists:usort([Pid || {_Kind, _Serial, From, To, _Message} <- Infos, Pid <- [From, To],
-                              is_pid(Pid), node(Pid) =:= node(), not is_map_key(Pid, Known)]),
-    seen(New, State).
+meet_all(Infos, State) ->
+    meet(lists:usort([Pid || {_Kind, _Serial, From, To, _Message} <- Infos, Pid <- [From, To],
+                             is_pid(Pid), node(Pid) =:= node()]), State).
 
-seen([], State) ->
-    State;
-seen(Pids, #state{processes = Known, by = {scribe, Scribe}} = State)
-  when map_size(Known) < ?PROCESSES ->
-    ok = seqaudit_scribe:meet(Pids, Scribe),
-    State#state{processes = maps:merge(Known, maps:from_keys(Pids, #{}))};
-seen(Pids, #state{processes = Known} = State) when map_size(Known) < ?PROCESSES ->
-    New = maps:from_list([{Pid, seqaudit_spool:about(Pid)} || Pid <- Pids]),
-    _ = seqaudit_spool:note(State#state.folder, #{processes => New}),
-    State#state{processes = maps:merge(Known, New)};
-seen(_Pids, State) ->
+meet(Pids, #state{met = Met, asker = Asker} = State) when map_size(Met) < ?PROCESSES ->
+    New = [Pid || Pid <- Pids, not is_map_key(Pid, Met)],
+    ok = seqaudit_asker:meet(New, Asker),
+    State#state{met = maps:merge(Met, maps:from_keys(New, met))};
+meet(_Pids, State) ->
     State.
-
-%% Those that had no name when they were first seen may have one now.
-named_late(#state{processes = Known} = State) ->
-    Nameless = [Pid || {Pid, About} <- maps:to_list(Known), not is_map_key(name, About)],
-    Late = maps:from_list([{Pid, About} || Pid <- Nameless, About <- [seqaudit_spool:about(Pid)],
-                                           is_map_key(name, About)]),
-    State#state{processes = Late}.
 
 %% Puts the former tracer back, unless somebody else's is in the collector's place. There may be
 %% none because the port is behind, or gone.
-take_off(#state{tracer = on, by = By, watch = Watch, former = Former} = State) ->
-    ok = release_trigger(State),
-    {Behind, Paused} = case Watch of
-                           none -> {false, #{}};
-                           _ -> seqaudit_watch:stop(Watch)
-                       end,
-    State#state{watch = none, paused = Paused,
-                tracer = case {seq_trace:get_system_tracer(), By} of
-                             {Port, {port, Port}} -> put_back(Former);
-                             {Self, _} when Self =:= self() -> put_back(Former);
-                             {false, {port, _}} when Behind -> put_back(Former);
-                             {false, {port, Port}} ->
-                                 case erlang:port_info(Port, id) of
-                                     undefined -> put_back(Former);
-                                     _ -> taken
-                                 end;
-                             _ -> taken
-                         end};
+take_off(#state{tracer = on} = State) ->
+    {Behind, Unwatched} = unwatched(State),
+    take_off(Behind, Unwatched);
 take_off(State) ->
     State.
+
+take_off(Behind, #state{by = By, former = Former} = State) ->
+    ok = release_trigger(State),
+    State#state{tracer = case {is_own(Behind, State), By} of
+                             {true, _} -> put_back(Former);
+                             {false, {port, Port}} ->
+                                 case {seq_trace:get_system_tracer(), erlang:port_info(Port, id)} of
+                                     {false, undefined} -> put_back(Former);
+                                     _ -> taken
+                                 end;
+                             {false, _} -> taken
+                         end}.
+
+%% Whether the tracer may be off because the port was behind.
+unwatched(#state{watch = none} = State) ->
+    {false, State};
+unwatched(#state{watch = Watch} = State) ->
+    {Behind, Paused} = seqaudit_watch:stop(Watch),
+    {Behind, State#state{watch = none, paused = Paused}}.
+
+%% Nobody else's tracer is in the place of this one.
+is_own(_Behind, #state{by = closed}) -> false;
+is_own(Behind, #state{by = By}) ->
+    case seq_trace:get_system_tracer() of
+        false -> Behind;
+        Tracer -> Tracer =:= own_tracer(By)
+    end.
 
 put_back(Former) ->
     try seq_trace:set_system_tracer(Former) of
@@ -492,59 +523,106 @@ put_back(Former) ->
             gone
     end.
 
-%% The new files take the events from the moment at which the tracer is exchanged; what is on its way to the
-%% former port then still goes there. Known processes that live are noted again, and the others forgotten.
-rotated(#state{folder = Former} = State) ->
-    case seqaudit_spool:create(filename:dirname(Former)) of
-        {ok, Folder} ->
-            Begun = State#state{folder = Folder, paused = #{}, buffer = {0, []}, came = 0, kept = 0, written = 0,
-                                dropped = 0, strays = 0, look = {0, 0}},
-            try exchange(State, Begun) of
-                Rotated -> {ok, Rotated}
-            catch
-                error:{badmatch, {error, Fault}} ->
-                    _ = seqaudit_spool:remove(Folder),
-                    {error, {file, Folder, Fault}}
-            end;
-        {error, Reason} ->
-            {error, Reason}
+%% Makes the folder of the next files, and notes its first facts.
+new_folder(By, #state{folder = Former} = State) ->
+    Parent = filename:dirname(Former),
+    Facts = first_facts(By, State),
+    fun() ->
+            case seqaudit_spool:create(Parent) of
+                {ok, Folder} -> noted(Folder, Facts);
+                {error, Reason} -> {error, Reason}
+            end
     end.
 
-exchange(#state{by = {port, Former}, watch = Watch} = State, Begun) ->
-    By = open(true, Begun),
-    ok = seqaudit_spool:note(Begun#state.folder, first_facts(By, Begun)),
-    {Behind, Paused} = seqaudit_watch:stop(Watch),
-    Is = seq_trace:get_system_tracer(),
-    _ = (Is =:= Former orelse Behind andalso Is =:= false)
-        andalso seq_trace:set_system_tracer(case By of {port, Port} -> Port; _ -> self() end),
-    receive after ?SETTLE_MS -> ok end,
-    _ = close(State#state{watch = none, paused = Paused, tracer = put_back}),
-    known_again(Begun#state{by = By, watch = watch(By, Begun)});
-exchange(State, Begun) ->
-    By = open(false, Begun),
-    ok = seqaudit_spool:note(Begun#state.folder, first_facts(By, Begun)),
-    #state{processes = Known} = close(State#state{tracer = put_back}),
-    known_again(Begun#state{by = By, processes = Known}).
+noted(Folder, Facts) ->
+    case seqaudit_spool:note(Folder, Facts) of
+        ok ->
+            {ok, Folder};
+        {error, Fault} ->
+            _ = seqaudit_spool:remove(Folder),
+            {error, {file, Folder, Fault}}
+    end.
 
-known_again(#state{processes = Known, folder = Folder} = State) ->
-    Living = maps:filter(fun(Pid, _) -> is_process_alive(Pid) end, Known),
-    _ = seqaudit_spool:note(Folder, #{processes => Living}),
-    State#state{processes = Living}.
+%% A port is opened here and at once: the collector isn't the tracer, so nothing waits for it meanwhile.
+turn_port(From, #state{bytes = Bytes} = State) ->
+    case (new_folder(port, State))() of
+        {ok, Folder} ->
+            case trace_port(Folder, Bytes) of
+                {ok, Port} ->
+                    {Behind, Unwatched} = unwatched(State),
+                    turn(is_own(Behind, Unwatched), From, Folder, {port, Port}, Unwatched);
+                error ->
+                    _ = seqaudit_spool:remove(Folder),
+                    gen_server:reply(From, {error, no_port}),
+                    State
+            end;
+        {error, Reason} ->
+            gen_server:reply(From, {error, Reason}),
+            State
+    end.
+
+turn_scribe(Folder, #state{turning = {From, Next}} = State) ->
+    turn(is_own(false, State), From, Folder, {scribe, Next}, (flush(State))#state{turning = no}).
+
+%% From the moment at which the tracer is exchanged events go to the next files. Somebody else's tracer stays.
+turn(true, From, Folder, By, #state{asker = Asker} = Former) ->
+    _ = seq_trace:set_system_tracer(own_tracer(By)),
+    _ = [unlink(Port) || {port, Port} <- [Former#state.by]],
+    Turned = make_ref(),
+    Finished = Former#state{tracer = put_back, met = #{}},
+    Finisher = spawn(fun() -> finish(Finished, Turned, From, Folder) end),
+    ok = seqaudit_asker:turn(Folder, {Finisher, Turned}, Asker),
+    Begun = Former#state{folder = Folder, by = By, paused = #{}, buffer = {0, []}, kept = 0, written = 0, dropped = 0,
+                         strays = 0, look = {0, 0}, met = #{}},
+    Begun#state{watch = watch(By, Begun)};
+turn(false, From, Folder, By, State) ->
+    _ = closed(State#state{by = By}),
+    _ = seqaudit_spool:remove(Folder),
+    gen_server:reply(From, {error, ended}),
+    close(take_off(false, State)).
+
+%% Closes the former files: what is on its way to their port still goes there.
+finish(#state{folder = Former} = State, Turned, From, Folder) ->
+    receive after ?SETTLE_MS -> ok end,
+    Closed = closed(State),
+    ok = seqaudit_asker:turned(Turned),
+    _ = seqaudit_spool:note(Former, last_facts(Closed)),
+    gen_server:reply(From, {ok, Folder}).
+
+not_turned(Reply, #state{turning = {From, _}} = State) ->
+    gen_server:reply(From, Reply),
+    State#state{turning = no}.
 
 %% Closes the files and writes the last facts beside them.
-close(#state{by = closed, folder = Folder} = State) ->
-    _ = seqaudit_spool:note(Folder, last_facts(State)),
+close(#state{turning = {_, Next}} = State) ->
+    ok = seqaudit_scribe:drop(Next),
+    close(not_turned({error, ended}, State));
+close(#state{asker = Asker} = State) ->
+    Closed = closed(flush(State)),
+    _ = Asker =:= undefined orelse seqaudit_asker:close(Asker),
+    _ = seqaudit_spool:note(State#state.folder, last_facts(Closed)),
+    Closed#state{asker = undefined}.
+
+%% What the files lack if the last of it couldn't be written is said by the facts.
+closed(#state{by = closed} = State) ->
     State;
-close(#state{by = {port, Port}} = State) ->
+closed(#state{by = {port, Port}} = State) ->
+    Monitor = monitor(port, Port),
     Written = written(Port),
     _ = (catch erlang:port_control(Port, $f, "")),
     unlink(Port),
     _ = (catch port_close(Port)),
-    close(State#state{by = closed, written = Written});
-close(#state{by = {scribe, _}} = State) ->
-    #state{by = {scribe, Scribe}} = Flushed = flush(State),
-    Processes = seqaudit_scribe:close(Scribe),
-    close(Flushed#state{by = closed, processes = Processes}).
+    Closed = State#state{by = closed, written = Written},
+    receive
+        {'DOWN', Monitor, port, _, normal} -> Closed;
+        {'DOWN', Monitor, port, _, Reason} -> ended({disk, Reason}, Closed)
+    end;
+closed(#state{by = {scribe, Scribe}} = State) ->
+    Closed = State#state{by = closed},
+    case seqaudit_scribe:close(Scribe) of
+        ok -> Closed;
+        {error, Reason} -> ended({disk, Reason}, Closed)
+    end.
 
 %% All that came to the port, once no more comes.
 written(Port) ->
@@ -553,11 +631,9 @@ written(Port) ->
         undefined -> 0
     end.
 
-last_facts(State) ->
-    Paused = State#state.paused,
+last_facts(#state{paused = Paused} = State) ->
     Facts = Paused#{written => State#state.written, dropped => State#state.dropped,
-                    strays => State#state.strays, tracer => State#state.tracer,
-                    processes => (named_late(State))#state.processes},
+                    strays => State#state.strays, tracer => State#state.tracer},
     case State#state.ended of
         no -> Facts;
         Ended -> Facts#{ended => Ended}

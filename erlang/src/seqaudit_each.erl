@@ -84,7 +84,8 @@ told(Counts, Labels, #{losses := Losses}, Options) ->
     Others = maps:without([fits, completed], Counts),
     Unknown = lists:sum(maps:values(maps:without([never, fault, failed], Others))),
     Refused = Of(fault) + Of(failed),
-    Summary = [count(Labels, "label"), ": ", number(Of(fits) + Of(completed)), " fit",
+    Summary = [count(Labels, "label"), seqaudit_explain:by_whom(seqaudit_program:lacks_proofs()), ": ",
+               number(Of(fits) + Of(completed)), " fit",
                [[" (", number(Of(completed)), " of them with events that nobody reported or that have another label)"]
                 || Of(completed) > 0],
                [[", ", number(Of(never)), " don't"] || Of(never) > 0],

@@ -6,7 +6,7 @@
 %% been used already. What is exchanged is known from the causes ({@link seqaudit_causes}).
 -module(seqaudit_exchange).
 
--export([put_back/1, may_be_put_back/1, prevs/1, counts/1]).
+-export([put_back/1, may_be_put_back/1, prevs/2, own/3, counts/1]).
 
 -type causes() :: #{seqaudit_causes:id() => seqaudit_causes:cause()}.
 
@@ -42,38 +42,94 @@ is_put_back(_) -> false.
 causes(Streams) ->
     maps:from_list([{Id, Cause} || #{id := Id, cause := Cause} <- seqaudit_causes:rows(Streams)]).
 
-%% @doc The streams with no other counts than the prevs behind tokens that were put back.
--spec prevs(seqaudit_bundle:streams()) -> seqaudit_bundle:streams().
-prevs(Streams) ->
-    Causes = causes(Streams),
-    Given = [{Pid, element(1, lists:mapfoldl(fun(Event, Last) -> prev(Pid, Event, Last, Causes) end, 0, Events))}
+%% @doc The streams with no other counts than the prevs behind tokens that were put back, or also behind those that may
+%% have been.
+-spec prevs(seqaudit_bundle:streams(), certain | in_doubt) -> seqaudit_bundle:streams().
+prevs(Streams, Which) ->
+    PutBack = maps:map(fun(_, Cause) -> is_put_back(Cause) orelse Which =:= in_doubt andalso is_doubted(Cause) end,
+                       causes(Streams)),
+    Given = [{Pid, element(1, lists:mapfoldl(fun(Event, Last) -> prev(Pid, Event, Last, PutBack) end, 0, Events))}
              || {Pid, Events} <- Streams],
-    Sent = maps:from_list([{message(Event), Prev} || {_, Events} <- Given, {#{kind := send} = Event, Prev} <- Events]),
+    Reported = maps:from_list([{message(Event), Prev} || {_, Events} <- Given,
+                                                         {#{kind := send} = Event, Prev} <- Events]),
+    Sent = case Which of
+               certain -> Reported;
+               in_doubt -> maps:merge(unreported(Streams, Reported), Reported)
+           end,
     [{Pid, [Event#{prev := case Kind of
                                'receive' -> maps:get(message(Event), Sent, Own);
                                _ -> Own
                            end} || {#{kind := Kind} = Event, Own} <- Events]} || {Pid, Events} <- Given].
 
 %% The event with the prev that the machine would have given, if that is another, and the count received last.
-prev(_Pid, #{kind := 'receive', prev := Prev, this := This} = Event, _Last, _Causes) ->
+prev(_Pid, #{kind := 'receive', prev := Prev, this := This} = Event, _Last, _PutBack) ->
     {{Event, Prev}, This};
-prev(Pid, #{prev := Prev, at := At} = Event, Last, Causes) ->
-    {{Event, case is_put_back(maps:get({Pid, At}, Causes)) of
-                 true -> Last;
-                 false -> Prev
+prev(Pid, #{prev := Prev, at := At} = Event, Last, PutBack) ->
+    {{Event, case PutBack of
+                 #{{Pid, At} := true} when Prev =/= 16 * Last + 15 -> Last;
+                 #{} -> Prev
              end}, Last}.
+
+%% @doc Streams that were completed with exchanged prevs, with the node's own. What was added has the own prev of the
+%% event with its count.
+-spec own(seqaudit_bundle:streams(), seqaudit_bundle:streams(), seqaudit_bundle:streams()) -> seqaudit_bundle:streams().
+own(Completed, Streams, Exchanged) ->
+    Reported = maps:from_list([{{Pid, At}, Event} || {Pid, Events} <- Streams, #{at := At} = Event <- Events]),
+    Prevs = maps:from_list([{stamp(New), Prev} || {{Pid, Events}, {Pid, News}} <- lists:zip(Streams, Exchanged),
+                                                  {#{prev := Prev}, New} <- lists:zip(Events, News)]),
+    [{Pid, [case Reported of
+                #{{Pid, At} := Own} -> Own;
+                #{} -> Event#{prev := maps:get(stamp(Event), Prevs, Prev)}
+            end || #{at := At, prev := Prev} = Event <- Events]} || {Pid, Events} <- Completed].
+
+stamp(#{from := From, prev := Prev, this := This, label := Label}) -> {From, Prev, This, Label}.
 
 message(#{from := From, to := To, prev := Prev, this := This, label := Label, value := Value}) ->
     {From, To, Prev, This, Label, Value}.
 
+%% The prevs that the machine would have given sends which only their receives tell of.
+unreported(Streams, Reported) ->
+    Sends = maps:groups_from_list(fun({From, _}) -> From end, fun({_, Send}) -> Send end,
+                                  [{From, {This, Prev, message(Event)}}
+                                   || {_, Events} <- Streams,
+                                      #{kind := 'receive', from := From, prev := Prev, this := This} = Event <- Events,
+                                      not is_map_key(message(Event), Reported)]),
+    maps:from_list(lists:append([unreported_of(Events, lists:usort(maps:get(Pid, Sends, [])), [0])
+                                 || {Pid, Events} <- Streams])).
+
+%% Such a send is before the first stamp with a greater count.
+unreported_of([], Sends, Received) ->
+    given(Sends, lists:reverse(Received));
+unreported_of([#{kind := 'receive', this := This} | Events], Sends, Received) ->
+    unreported_of(Events, Sends, [This | Received]);
+unreported_of([#{this := This} | Events], Sends, [Last | _] = Received) ->
+    {Before, Behind} = lists:splitwith(fun({Count, _, _}) -> Count < This end, Sends),
+    given(Before, lists:reverse(Received)) ++ unreported_of(Events, Behind, [Last]).
+
+%% A send follows a receive that isn't before that of the send before it, perhaps with a spawn's answer between; if
+%% none of these has its prev, a token was put back.
+given([], _Received) ->
+    [];
+given([{_, Prev, Message} | Sends], [Last | _] = Received) ->
+    case lists:dropwhile(fun(Count) -> Prev =/= Count andalso Prev =/= 16 * Count + 15 end, Received) of
+        [] -> [{Message, Last} | given(Sends, Received)];
+        [_ | Later] -> [{Message, Prev} | given(Sends, [Prev | Later])]
+    end.
+
 %% @doc Whether tokens may have been put back, though it isn't certain.
 -spec may_be_put_back([seqaudit_causes:row()]) -> boolean().
 may_be_put_back(Rows) ->
-    lists:any(fun(#{cause := {perhaps, _}}) -> true;
-                 (#{cause := {relabelled, _, open}}) -> true;
-                 (#{event := #{prev := Prev, this := This}}) -> This =< Prev;
-                 (_) -> false
+    lists:any(fun(#{cause := Cause, event := #{prev := Prev, this := This}}) ->
+                      is_perhaps(Cause) orelse This =< Prev
               end, Rows).
+
+%% The label may also be set on a token that was put back.
+is_doubted({relabelled, _, _}) -> true;
+is_doubted(Cause) -> is_perhaps(Cause).
+
+is_perhaps({perhaps, _}) -> true;
+is_perhaps({relabelled, _, open}) -> true;
+is_perhaps(_) -> false.
 
 %% @doc The streams with all counts that the machine would have given. A message whose send wasn't reported
 %% keeps its counts.

@@ -2,8 +2,8 @@
 %% what to look at.
 -module(seqaudit_explain).
 
--export([count/2, number/1, headline/2, outcome/3, parts/3, whole/2, sentence/2, sentence/4, reset_places/2, losses/1,
-         is_open/1]).
+-export([count/2, number/1, headline/2, by_whom/1, outcome/3, parts/3, whole/2, sentence/2, sentence/4,
+         reset_places/2, losses/1, is_open/1]).
 
 -import(seqaudit_legend, [process/2, label/2]).
 
@@ -20,22 +20,27 @@ headline(#{said := Said, streams := Streams} = Outcome, Legend) when Said =:= fi
     [format("fits~ts: ~ts of ~ts", [by(Outcome), count(length(reported(Streams)), "event"),
                                     count(length(Streams) - length(unlisted(Outcome)), "process")]),
      left_out(missing(Outcome, Legend), Outcome), $\n];
-headline(#{said := never, finding := {Reason, Found}}, Legend) ->
-    format("doesn't fit: no run~ts reports this trace~ts (~ts)~n",
-           [case seqaudit_reasons:allows_reset(Reason) of
+headline(#{said := never, finding := {Reason, Found}} = Outcome, Legend) ->
+    format("doesn't fit~ts: no run~ts reports this trace~ts (~ts)~n",
+           [by(Outcome),
+            case seqaudit_reasons:allows_reset(Reason) of
                 true -> " without a reset";
                 false -> ""
             end, about(", because of ", Found, Legend), Reason]);
-headline(#{said := unexplained, finding := {Reason, Found}}, Legend) ->
-    format("not explained: no run was found that reports this trace~ts (~ts)~n",
-           [about("; the search ended at ", Found, Legend), Reason]);
-headline(#{said := fault, fault := <<"fault ", _/binary>> = Fault}, _Legend) ->
-    format("not audited: ~ts~n", [fault(Fault)]);
-headline(#{said := fault, fault := Words}, _Legend) ->
-    format("not audited: the program said \"~ts\"; does it know `audit'?~n", [Words]).
+headline(#{said := unexplained, finding := {Reason, Found}} = Outcome, Legend) ->
+    format("not explained~ts: no run was found that reports this trace~ts (~ts)~n",
+           [by(Outcome), about("; the search ended at ", Found, Legend), Reason]);
+headline(#{said := fault, fault := <<"fault ", _/binary>> = Fault} = Outcome, _Legend) ->
+    format("not audited~ts: ~ts~n", [by(Outcome), fault(Fault)]);
+headline(#{said := fault, fault := Words} = Outcome, _Legend) ->
+    format("not audited~ts: the program said \"~ts\"; does it know `audit'?~n", [by(Outcome), Words]).
 
-by(#{unproved := true}) -> " (by programs without proofs)";
-by(#{}) -> "".
+by(Outcome) -> by_whom(maps:get(unproved, Outcome, false)).
+
+%% @doc What is to be said of a result if programs without proofs have found it.
+-spec by_whom(Unproved :: boolean()) -> string().
+by_whom(true) -> " (by programs without proofs)";
+by_whom(false) -> "".
 
 unlisted(Outcome) -> maps:get(unlisted, Outcome, []).
 
@@ -186,9 +191,12 @@ details(#{finding := {Reason, Found}} = Outcome, Legend) ->
      tool(maps:get(tool, Outcome))].
 
 %% Where tokens were put back, and what was audited then.
-put_back([], #{exchanged := counts}, _Legend) ->
-    ["Tokens were put back (seq_trace:set_token/1), so the audit took the counts that the machine would have given all "
-     "events; the serials shown here are the node's own.\n"];
+put_back([], #{exchanged := How}, _Legend) when How =/= none ->
+    ["Tokens may have been put back (seq_trace:set_token/1), so the audit took ",
+     case How of
+         prevs -> "the prevs that the machine would have given the events behind them";
+         counts -> "the counts that the machine would have given all events"
+     end, "; the serials shown here are the node's own.\n"];
 put_back([], _Outcome, _Legend) ->
     "";
 put_back(Rows, Outcome, Legend) ->

@@ -151,9 +151,10 @@ watch(_) ->
 watch({error, Reason}, _Start, _How) ->
     failed(?SYSTEM, seqaudit_reach:format_error(Reason));
 watch(ok, Start, {Periods, Unload}) ->
-    started(Start, Unload, fun(Asked) ->
+    started(Start, Unload, fun(Asked, Sight) ->
         io:format("watching ~ts until Ctrl-C~ts", [node_list(Start), advice(Start)]),
-        case seqaudit_periods:watch(Periods, Asked, fun(Line) -> io:put_chars(Line) end) of
+        Again = fun(Node) -> seqaudit_sight:again(Sight, Node) end,
+        case seqaudit_periods:watch(Periods#{again => Again}, Asked, fun(Line) -> io:put_chars(Line) end) of
             {Status, Text} -> failed(Status, Text);
             Status -> Status
         end
@@ -238,7 +239,7 @@ label(Word) ->
 collect({error, Reason}, _Start, _How) ->
     failed(?SYSTEM, seqaudit_reach:format_error(Reason));
 collect(ok, Start, {Wait, Unload}) ->
-    started(Start, Unload, fun(Asked) ->
+    started(Start, Unload, fun(Asked, _Sight) ->
         io:format("tracing ~ts ~ts~ts", [node_list(Start), how_long(Wait), advice(Start)]),
         [io:format("  ~ts writes its events to ~ts~n", [Node, Folder])
          || {Node, Folder} <- seqaudit_trace:folders()],
@@ -255,7 +256,7 @@ started(#{nodes := Nodes} = Start, Unload, Do) ->
     case seqaudit_trace:start(Start) of
         ok ->
             Sight = seqaudit_sight:keep(Nodes, fun(Sentence) -> complain("~ts", [Sentence]) end),
-            try Do(Asked)
+            try Do(Asked, Sight)
             after
                 ok = seqaudit_sight:stop(Sight),
                 io:put_chars([seqaudit_loaded:say(Node, Unload) || Node <- Nodes])

@@ -56,9 +56,9 @@
 ask(Streams) ->
     Rows = seqaudit_causes:rows(Streams),
     case {seqaudit_exchange:put_back(Rows), seqaudit_exchange:may_be_put_back(Rows)} of
-        {[_ | _], _} -> ask_exchanged([prevs, counts], Streams, fun() -> ask_as_it_is(Streams) end);
-        {[], true} -> ask_in_doubt(Streams);
-        {[], false} -> ask_as_it_is(Streams)
+        {[_ | _], _} -> ask_exchanged([prevs, counts], Streams, fun() -> ask_in_doubt([prevs_in_doubt], Streams) end);
+        {[], true} -> ask_in_doubt([counts, prevs_in_doubt], Streams);
+        {[], false} -> ask_in_doubt([], Streams)
     end.
 
 %% @doc The rows of the streams that are shown, in an order in which no event comes before its cause. The
@@ -70,11 +70,20 @@ rows(#{streams := Streams, asked := Asked}) ->
 rows(#{streams := Streams}) ->
     seqaudit_causes:rows(Streams).
 
-ask_in_doubt(Streams) ->
+%% Other counts are tried if the streams don't fit as they are; and before a message is invented, also the prevs behind
+%% each token that may have been put back.
+ask_in_doubt(Hows, Streams) ->
     case ask_as_it_is(Streams) of
-        {ok, #{said := Said}} = AsItIs when Said =/= fits -> ask_exchanged([counts], Streams, fun() -> AsItIs end);
-        Asked -> Asked
+        {ok, #{said := fits}} = Fits -> Fits;
+        {ok, #{said := completed} = Outcome} = AsItIs ->
+            Doubted = [prevs_in_doubt || invents(Outcome)],
+            ask_exchanged((Hows -- [prevs_in_doubt]) ++ Doubted, Streams, fun() -> AsItIs end);
+        {ok, _} = AsItIs -> ask_exchanged(Hows, Streams, fun() -> AsItIs end);
+        {error, Reason} -> {error, Reason}
     end.
+
+invents(#{streams := Completed}) ->
+    lists:any(fun(#{invented := Invented}) -> Invented end, seqaudit_causes:rows(Completed)).
 
 %% What is said of the streams with other counts, if these fit; else what is said of the streams.
 ask_exchanged([], _Streams, AsTheyAre) ->
@@ -84,6 +93,9 @@ ask_exchanged([How | Others], Streams, AsTheyAre) ->
         unknown -> ask_exchanged(Others, Streams, AsTheyAre);
         {ok, Exchanged} ->
             case ask_as_it_is(Exchanged) of
+                {ok, #{said := Said} = Outcome} when How =:= prevs_in_doubt, Said =:= fits;
+                                                     How =:= prevs_in_doubt, Said =:= completed ->
+                    fits_in_doubt(Outcome, Streams, Exchanged, AsTheyAre);
                 {ok, #{said := fits} = Outcome} ->
                     {ok, Outcome#{streams := Streams, exchanged := How, asked => Exchanged}};
                 {ok, _} -> ask_exchanged(Others, Streams, AsTheyAre);
@@ -91,7 +103,19 @@ ask_exchanged([How | Others], Streams, AsTheyAre) ->
             end
     end.
 
-exchange(prevs, Streams) -> {ok, seqaudit_exchange:prevs(Streams)};
+%% What nobody reported is shown with the node's own counts too.
+fits_in_doubt(#{streams := Completed} = Outcome, Streams, Exchanged, AsTheyAre) ->
+    Own = Outcome#{streams := seqaudit_exchange:own(Completed, Streams, Exchanged)},
+    case not invents(Own) andalso ids(Own) =:= ids(Outcome) of
+        true -> {ok, Own#{exchanged := prevs, asked => Completed}};
+        false -> AsTheyAre()
+    end.
+
+ids(#{streams := Streams}) ->
+    lists:sort([Id || #{id := Id} <- seqaudit_causes:rows(Streams)]).
+
+exchange(prevs, Streams) -> {ok, seqaudit_exchange:prevs(Streams, certain)};
+exchange(prevs_in_doubt, Streams) -> {ok, seqaudit_exchange:prevs(Streams, in_doubt)};
 exchange(counts, Streams) -> seqaudit_exchange:counts(Streams).
 
 ask_as_it_is(Streams) ->

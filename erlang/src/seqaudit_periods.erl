@@ -16,15 +16,18 @@
 %% Of the periods that are kept the last ones stay, if the command isn't told how many.
 -define(KEPT, 100).
 
--type options() :: #{name := file:filename(), every := pos_integer(), keep => pos_integer()}.
+-type options() :: #{name := file:filename(), every := pos_integer(), keep => pos_integer(),
+                     again => fun((node()) -> term())}.
 %% `name': what the files of each period are called, with the number of the period behind it; `every': its length in
-%% milliseconds; `keep': how many periods that didn't fit, or are neighbours of such, stay.
+%% milliseconds; `keep': how many periods that didn't fit, or are neighbours of such, stay; `again': what to call with a
+%% node on which collecting had ended and began again.
 
 -record(state, {name :: file:filename(),
                 every :: pos_integer(),
                 keep :: pos_integer(),
                 asked :: reference(),
                 say :: fun((iodata()) -> ok),
+                again :: fun((node()) -> term()),
                 number = 1 :: pos_integer(),
                 %% What was behind the cut of the last period.
                 rest = [] :: [file:filename()],
@@ -37,7 +40,8 @@
 %% @doc Runs until it is asked to end; collecting has begun. Says a line for each period.
 -spec watch(options(), reference(), fun((iodata()) -> ok)) -> ?FITS | ?UNFIT | {?SYSTEM, iodata()}.
 watch(#{name := Name, every := Every} = Options, Asked, Say) ->
-    run(#state{name = Name, every = Every, keep = maps:get(keep, Options, ?KEPT), asked = Asked, say = Say},
+    run(#state{name = Name, every = Every, keep = maps:get(keep, Options, ?KEPT), asked = Asked, say = Say,
+               again = maps:get(again, Options, fun(_) -> ok end)},
         erlang:monotonic_time(millisecond)).
 
 run(#state{asked = Asked, every = Every} = State, Began) ->
@@ -79,22 +83,41 @@ ended(#state{name = Name, number = Number, unfit = Unfit, open = Open, say = Say
     case Unfit of 0 -> ?FITS; _ -> ?UNFIT end.
 
 %% Fetches the events of a period, and finds out whether they fit.
-audited(#state{name = Name, number = Number, rest = Rest}) ->
+audited(#state{name = Name, number = Number, rest = Rest, again = Again}) ->
     Period = name(Name, Number),
     Rotated = seqaudit_trace:rotate(Period),
-    Files = Rest ++ [File || {_, {ok, File}} <- Rotated],
-    Failed = [[", ", atom_to_list(Node), " wasn't asked (", io_lib:format("~0tP", [Reason, 10]), ")"]
-              || {Node, {error, Reason}} <- Rotated],
+    _ = [Again(Node) || {Node, {again, _}} <- Rotated],
+    Files = Rest ++ [File || {_, Written} <- Rotated, File <- file(Written)],
     case joined(Files, Period) of
         {ok, Joined} ->
-            {Own, Later, How} = cut(Joined, Period),
+            {Own, Later, How} = cut(Joined, Period, lists:any(fun({_, Written}) -> has_ended(Written) end, Rotated)),
             case seqaudit_convert:from_files(Own, Period) of
-                {ok, #{events := Events}} -> outcome(Period, Events, [How | Failed], Later);
+                {ok, #{events := Events}} ->
+                    outcome(Period, Events, [How | lists:map(fun became/1, Rotated)], Later);
                 {error, Reason} -> {error, seqaudit_events:format_error(Reason)}
             end;
         {error, Reason} ->
             {error, seqaudit_events:format_error(Reason)}
     end.
+
+file({ok, File}) -> [File];
+file({again, none}) -> [];
+file({again, File}) -> [File];
+file({gone, File, _}) -> [File];
+file({error, _}) -> [].
+
+has_ended({again, _}) -> true;
+has_ended({gone, _, _}) -> true;
+has_ended(_) -> false.
+
+became({_, {ok, _}}) -> "";
+became({Node, {again, _}}) -> [", ", atom_to_list(Node), " had stopped collecting and began again"];
+became({Node, {gone, _, Reason}}) -> [", ", atom_to_list(Node), " stopped collecting (", why(Node, Reason), ")"];
+became({Node, {error, Reason}}) -> [", ", atom_to_list(Node), " wasn't asked (", why(Node, Reason), ")"].
+
+why(_Node, unreachable) -> "it can't be reached";
+why(_Node, other_tracer) -> "somebody else's system tracer is on there";
+why(Node, Reason) -> seqaudit_trace:format_error({node, Node, Reason}).
 
 %% What was left of the last period comes first, in the file of the same node.
 joined(Files, Period) ->
@@ -127,9 +150,12 @@ join([{_, [Former, Later]} | Others], Period, Joined) ->
         {_, {error, Reason}} -> {error, {file, Former, Reason}}
     end.
 
-cut([], _Period) ->
+%% What came before a node stopped collecting isn't joined with what comes after that.
+cut([], _Period, _HasEnded) ->
     {[], [], "no node was asked"};
-cut(Files, _Period) ->
+cut(Files, _Period, true) ->
+    {Files, [], "cut at its end"};
+cut(Files, _Period, false) ->
     Own = [part(File, "own") || File <- Files],
     Rest = [part(File, "rest") || File <- Files],
     case seqaudit_quiet:cut(Files, Own, Rest) of
@@ -144,15 +170,19 @@ cut(Files, _Period) ->
 
 part(File, Which) -> filename:rootname(File) ++ "." ++ Which ++ ".events".
 
-outcome(_Period, 0, How, Later) ->
-    {ok, fits, ["nothing came", tl(How)], Later};
+%% The first thing that is gone then is all.
+outcome(Period, 0, [_ | Became], Later) ->
+    [_All | Lost] = seqaudit_answer:losses(Period),
+    {ok, fits, ["nothing came", losses(Lost), Became], Later};
 outcome(Period, _Events, How, Later) ->
     {ok, Legend} = seqaudit_legend:read(Period ++ ".terms"),
     {ok, Streams} = seqaudit_bundle:read(Period ++ ".seqtrace"),
     Lost = seqaudit_answer:losses(Period),
     {Verdict, Line} = said(seqaudit_outcome:ask(Streams), Streams, Lost =/= [], Legend),
-    Losses = [["; the trace isn't whole (", Period, ".notes)"] || Lost =/= []],
-    {ok, Verdict, [Line, Losses, "; ", How], Later}.
+    {ok, Verdict, [Line, losses(Lost), "; ", How], Later}.
+
+%% The files of a period that fits go, so what it lacks is said here.
+losses(Losses) -> [["; ", Loss] || Loss <- Losses].
 
 said({ok, #{said := fault, fault := <<"fault too ", _/binary>>}}, Streams, _IsLost, _Legend) ->
     too_many(Streams);
@@ -170,7 +200,8 @@ count(Streams) -> seqaudit_explain:count(seqaudit_bundle:events(Streams), "event
 %% A period that is too large as a whole may fit label by label.
 too_many(Streams) ->
     {Verdict, Line} = each_label(Streams),
-    {Verdict, [count(Streams), ", too many for the programs at once; ", Line]}.
+    {Verdict, [count(Streams), ", too many for the programs at once; ", Line,
+               seqaudit_explain:by_whom(seqaudit_program:lacks_proofs())]}.
 
 each_label(Streams) ->
     Labels = seqaudit_each:by_label(Streams),

@@ -1,8 +1,8 @@
 %% @doc Runs the programs `seqaudit' and `seqtool'.
 -module(seqaudit_program).
 
--export([ask/2, ask/3, ask_if_known/3, find/0, find/1, unproved/0, lacks_proofs/0, how_built/0, how_proved/0, run/3, with_text/2,
-         format_error/1]).
+-export([ask/2, ask/3, ask_if_known/3, find/0, find/1, unproved/0, lacks_proofs/0, how_built/0, how_proved/0, run/3,
+         with_text/2, format_error/1]).
 
 -import(seqaudit_errors, [text/2]).
 
@@ -76,7 +76,8 @@ find(Name) ->
 home() ->
     filename:dirname(filename:dirname(filename:absname(code:which(?MODULE)))).
 
-%% The folder that `make dist' packed, if this application lies in one: it has the plain Rust, and nothing that is proved.
+%% The folder that `make dist' packed, if this application lies in one: it has the plain Rust, and nothing that is
+%% proved.
 packed() ->
     Top = filename:dirname(home()),
     case filelib:is_regular(filename:join([Top, "workspace", "Cargo.toml"])) of

@@ -15,6 +15,9 @@
 %% So often the moment is moved before a message that is under way.
 -define(MOVES, 1_000).
 
+%% Where an event is: the number of its file and its place among the events there.
+-type place() :: {pos_integer(), non_neg_integer()}.
+
 %% What a collection has behind the moment: the entry that begins it, what is known of its node and its processes, and
 %% its events, the last first.
 -record(later, {collection :: iodata(),
@@ -43,7 +46,7 @@ written([{{File, Count}, {Before, Behind}} | Others]) ->
         {error, Reason} -> {error, Reason}
     end.
 
-%% How many events each file has, and where the ends of each message are.
+%% How many events each file has, and where messages were sent and received.
 read([], Read) ->
     {Counts, Messages} = lists:unzip(lists:reverse(Read)),
     Ends = lists:foldl(fun({Number, Places}, Known) ->
@@ -60,10 +63,18 @@ read([File | Files], Read) ->
         {error, Reason} -> {error, Reason}
     end.
 
+%% The places come from the last to the first, of the last file first.
+-spec put_end(sent | received, binary(), place(), #{binary() => {[place()], [place()]}}) ->
+          #{binary() => {[place()], [place()]}}.
 put_end(End, Key, Place, Ends) ->
-    maps:update_with(Key, fun(Known) -> Known#{End => Place} end, #{End => Place}, Ends).
+    {Sent, Received} = maps:get(Key, Ends, {[], []}),
+    Ends#{Key => case End of
+                     sent -> {[Place | Sent], Received};
+                     received -> {Sent, [Place | Received]}
+                 end}.
 
-%% A process stamps a count once, so that and the label say which message it is.
+%% A process stamps a count once, so that and the label say which message it is, unless a token is put back: then
+%% several may have both.
 message(Event, Place) ->
     try
         [_, Label, Info | _] = seqaudit_external:tuple(Event),
@@ -80,10 +91,29 @@ message_end(_) -> [].
 %% The numbers of first events, moved back until nothing is under way.
 moment({Counts, Messages}) ->
     Half = [Count div 2 || Count <- Counts],
-    Known = [{Sent, maps:get(received, Ends, none)}
-             || #{sent := {Number, Place} = Sent} = Ends <- Messages,
-                is_map_key(received, Ends) orelse Place >= lists:nth(Number, Half)],
+    Pairs = lists:append([pairs(lists:sort(Sent), lists:sort(Received)) || {Sent, Received} <- Messages]),
+    Known = [{Sent, Received} || {{Number, Place} = Sent, Received} <- Pairs,
+                                 Received =/= none orelse Place >= lists:nth(Number, Half)],
     moved(list_to_tuple(Counts), list_to_tuple(Half), Known, ?MOVES).
+
+%% Each send with its receive. Of several messages that are alike the first that is received at a node is the first
+%% that was sent: which it is makes no difference there. If they are received at several nodes, all of them are under
+%% way from the first send to the last receive.
+-spec pairs([place()], [place()]) -> [{place(), place() | none}].
+pairs([], _Received) ->
+    [];
+pairs(Sent, []) ->
+    [{Send, none} || Send <- Sent];
+pairs([First | _] = Sent, [Received | _] = All) ->
+    case lists:usort([Number || {Number, _} <- All]) of
+        [_] -> in_turn(Sent, All);
+        _ -> [{First, Receive} || Receive <- All] ++ [{Send, Received} || Send <- Sent]
+                 ++ [{Send, none} || Send <- lists:nthtail(min(length(Sent), length(All)), Sent)]
+    end.
+
+in_turn([], _Received) -> [];
+in_turn([Send | Sent], [Receive | Received]) -> [{Send, Receive} | in_turn(Sent, Received)];
+in_turn(Sent, []) -> [{Send, none} || Send <- Sent].
 
 moved(_Ends, _Half, _Messages, 0) ->
     none;

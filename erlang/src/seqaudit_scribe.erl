@@ -1,18 +1,15 @@
-%% @doc Does for a collector what takes time: writes to the disk, and asks what processes are called.
+%% @doc Writes for a collector that is the tracer itself.
 %%
-%% A collector that is the tracer itself has to be back at its queue at once. What is written goes
-%% through another thread, and a process says what it is called only when its turn comes: a node
-%% under load fills the collector's queue meanwhile. So two processes do this, and the collector
-%% waits for neither; it knows how many bytes they still have to write.
+%% Such a collector has to be back at its queue at once, and a disk may be slow. So a process of its own writes, through
+%% a thread that may wait, and the collector knows how many bytes that process still has to write.
 %%
-%% Both end with the collector. The writer first writes what it was given.
+%% It ends with the collector, and first writes what it was given.
 -module(seqaudit_scribe).
 
--export([open/1, write/3, unwritten/1, meet/2, failure/2, close/1, closed/2]).
+-export([open/1, prepare/1, ready/2, drop/1, write/3, unwritten/1, failure/2, close/1, closed/2]).
 -export_type([scribe/0]).
 
 -record(scribe, {writer :: pid(),
-                 asker :: pid(),
                  given = 0 :: non_neg_integer(),
                  written :: counters:counters_ref()}).
 
@@ -22,24 +19,49 @@
 %% ({@link failure/2}).
 -spec open(file:filename()) -> {ok, scribe()} | {error, term()}.
 open(Folder) ->
-    {Base, Suffix} = seqaudit_spool:base(Folder),
-    File = Base ++ "0" ++ Suffix,
+    #scribe{writer = Writer} = Scribe = prepare(fun() -> {ok, Folder} end),
+    receive
+        {?MODULE, Writer, {ready, Folder}} -> {ok, Scribe};
+        {?MODULE, Writer, {file, _, Reason}} -> {error, Reason}
+    end.
+
+%% @doc Begins to write the first file of the folder that this function makes. The caller waits for nothing: it is told
+%% when the file is there ({@link ready/2}), or that there can be none ({@link failure/2}).
+-spec prepare(fun(() -> {ok, file:filename()} | {error, term()})) -> scribe().
+prepare(Make) ->
     Collector = self(),
     Written = counters:new(1, []),
-    Opened = make_ref(),
     Writer = spawn_opt(fun() ->
                                process_flag(trap_exit, true),
-                               Device = file:open(File, [append, raw, binary]),
-                               Collector ! {Opened, Device},
-                               write_on(Device, Collector, Written)
+                               case opened(Make()) of
+                                   {ok, Folder, Device} ->
+                                       Collector ! {?MODULE, self(), {ready, Folder}},
+                                       write_on(Device, Folder, Collector, Written);
+                                   {error, Reason} ->
+                                       failed(Collector, Reason)
+                               end
                        end, [link, {priority, high}]),
-    receive
-        {Opened, {ok, _}} ->
-            Asker = spawn_link(fun() -> ask_on(Folder, #{}) end),
-            {ok, #scribe{writer = Writer, asker = Asker, written = Written}};
-        {Opened, {error, Reason}} ->
-            {error, Reason}
-    end.
+    #scribe{writer = Writer, written = Written}.
+
+opened({ok, Folder}) ->
+    {Base, Suffix} = seqaudit_spool:base(Folder),
+    case file:open(Base ++ "0" ++ Suffix, [append, raw, binary]) of
+        {ok, Device} -> {ok, Folder, Device};
+        {error, Reason} -> {error, {file, Folder, Reason}}
+    end;
+opened({error, Reason}) ->
+    {error, Reason}.
+
+%% @doc Whether this message to the collector says that the scribe has its file, and in which folder.
+-spec ready(term(), scribe()) -> {ready, file:filename()} | none.
+ready({?MODULE, Writer, {ready, Folder}}, #scribe{writer = Writer}) -> {ready, Folder};
+ready(_, _) -> none.
+
+%% @doc Ends a scribe that has nothing to write, and removes its folder.
+-spec drop(scribe()) -> ok.
+drop(#scribe{writer = Writer}) ->
+    Writer ! drop,
+    ok.
 
 %% @doc Gives so many bytes to be written.
 -spec write(iodata(), non_neg_integer(), scribe()) -> scribe().
@@ -52,25 +74,26 @@ write(Entries, Size, #scribe{writer = Writer, given = Given} = Scribe) ->
 unwritten(#scribe{given = Given, written = Written}) ->
     Given - counters:get(Written, 1).
 
-%% @doc Asks what these processes are called, and notes it in the folder.
--spec meet([pid()], scribe()) -> ok.
-meet([], _Scribe) ->
-    ok;
-meet(Pids, #scribe{asker = Asker}) ->
-    Asker ! {meet, Pids},
-    ok.
-
 %% @doc Whether this message to the collector says that nothing can be written any more.
 -spec failure(term(), scribe()) -> {failed, term()} | none.
 failure({?MODULE, Writer, Reason}, #scribe{writer = Writer}) -> {failed, {disk, Reason}};
 failure({'EXIT', Writer, Reason}, #scribe{writer = Writer}) -> {failed, {disk, Reason}};
 failure(_, _) -> none.
 
-%% @doc Ends both, once all that was given is written. What the processes are called that were asked.
--spec close(scribe()) -> #{pid() => seqaudit_spool:about()}.
-close(#scribe{writer = Writer, asker = Asker}) ->
-    _ = closed(Writer, ok),
-    closed(Asker, #{}).
+%% @doc Ends it, once all that was given is written.
+-spec close(scribe()) -> ok | {error, term()}.
+close(#scribe{writer = Writer}) ->
+    Closed = monitor(process, Writer),
+    Writer ! {close, self(), Closed},
+    receive
+        {Closed, Result} ->
+            demonitor(Closed, [flush]),
+            Result;
+        {'DOWN', Closed, process, _, {shutdown, Reason}} ->
+            {error, Reason};
+        {'DOWN', Closed, process, _, Reason} ->
+            {error, Reason}
+    end.
 
 %% @doc Asks a process of the collector to end, and returns what it says then, or `Else' if it is gone.
 -spec closed(pid(), Result) -> Result.
@@ -85,37 +108,31 @@ closed(Process, Else) ->
             Else
     end.
 
-write_on({error, _}, _Collector, _Written) ->
-    ok;
-write_on({ok, Device} = Opened, Collector, Written) ->
+write_on(Device, Folder, Collector, Written) ->
     receive
         {write, Entries, Size} ->
             case file:write(Device, Entries) of
                 ok ->
                     ok = counters:add(Written, 1, Size),
-                    write_on(Opened, Collector, Written);
+                    write_on(Device, Folder, Collector, Written);
                 {error, Reason} ->
                     _ = file:close(Device),
-                    unlink(Collector),
-                    Collector ! {?MODULE, self(), Reason},
-                    ok
+                    failed(Collector, Reason)
             end;
         {close, From, Closed} ->
-            unlink(From),
+            unlink(Collector),
             From ! {Closed, file:close(Device)},
+            ok;
+        drop ->
+            _ = file:close(Device),
+            _ = seqaudit_spool:remove(Folder),
             ok;
         {'EXIT', Collector, _} ->
             file:close(Device)
     end.
 
-ask_on(Folder, Known) ->
-    receive
-        {meet, Pids} ->
-            New = maps:from_list([{Pid, seqaudit_spool:about(Pid)} || Pid <- Pids]),
-            _ = seqaudit_spool:note(Folder, #{processes => New}),
-            ask_on(Folder, maps:merge(Known, New));
-        {close, From, Closed} ->
-            unlink(From),
-            From ! {Closed, Known},
-            ok
-    end.
+-spec failed(pid(), term()) -> no_return().
+failed(Collector, Reason) ->
+    unlink(Collector),
+    Collector ! {?MODULE, self(), Reason},
+    exit({shutdown, Reason}).

@@ -2,7 +2,7 @@
 %% that its collector is gone.
 -module(seqaudit_sight).
 
--export([keep/2, stop/1]).
+-export([keep/2, again/2, stop/1]).
 
 -import(seqaudit_errors, [text/2]).
 
@@ -15,6 +15,12 @@ keep(Nodes, Say) ->
                        ok = net_kernel:monitor_nodes(true, [{node_type, all}]),
                        look(maps:from_list([{monitored(Node), Node} || Node <- Nodes]), Nodes, Say)
                end).
+
+%% @doc A node whose collector was gone has a new one.
+-spec again(sight(), node()) -> ok.
+again(Sight, Node) ->
+    Sight ! {again, Node},
+    ok.
 
 %% @doc Ends it.
 -spec stop(sight()) -> ok.
@@ -35,6 +41,9 @@ look(Collectors, Nodes, Say) ->
             {Node, Others} = maps:take(Monitor, Collectors),
             _ = Say(gone(Node, Reason)),
             look(Others, Nodes, Say);
+        {again, Node} ->
+            Others = maps:filter(fun(_, Other) -> Other =/= Node end, Collectors),
+            look(Others#{monitored(Node) => Node}, Nodes, Say);
         {nodeup, Node, _} ->
             case lists:member(Node, Nodes) andalso not lists:member(Node, maps:values(Collectors)) of
                 true ->
@@ -51,10 +60,10 @@ gone(Node, noconnection) ->
     text("~ts: node ~ts can't be reached any more; if it still runs, collecting goes on there for a minute",
          [now_text(), Node]);
 gone(Node, noproc) ->
-    text("~ts: node ~ts has no collector any more; what came before is read from its disk at the end",
+    text("~ts: node ~ts has no collector any more; what came before is still read from its disk",
          [now_text(), Node]);
 gone(Node, Reason) ->
-    text("~ts: the collector of node ~ts ended (~0tP); what came before is read from its disk at the end",
+    text("~ts: the collector of node ~ts ended (~0tP); what came before is still read from its disk",
          [now_text(), Node, Reason, 10]).
 
 now_text() ->

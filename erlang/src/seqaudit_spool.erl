@@ -57,10 +57,10 @@ crypto_bytes() ->
 base(Folder) ->
     {filename:join(Folder, "events"), ?SUFFIX}.
 
-%% @doc Adds facts.
+%% @doc Adds facts. The caller alone waits for the disk, and not the node's file server, which others need.
 -spec note(file:filename(), facts()) -> ok | {error, term()}.
 note(Folder, Facts) ->
-    file:write_file(filename:join(Folder, ?FACTS), entry(Facts), [append]).
+    file:write_file(filename:join(Folder, ?FACTS), entry(Facts), [append, raw]).
 
 %% @doc Facts as they are in a file.
 -spec entry(facts()) -> iolist().

@@ -49,6 +49,7 @@ write(Sorted, Streams, Packed, Out) ->
                                      Listed)
                end,
         Each(fun(Event, Record) -> event(Event, Record, First, Sends) end),
+        Each(fun(_Event, Record) -> count(Record, Sends) end),
         Each(fun(Event, Record) -> message(Event, Record, Sends) end)
     after
         ets:delete(Sends)
@@ -63,23 +64,61 @@ each(Places, Spelled, Packed, Do, Out) ->
 event(_Event, <<?PACKED(_K, _L, _P, _T, _F, _O, _V, ?NO_TIME)>>, _First, _Sends) ->
     [];
 event({Spelled, I}, <<?PACKED(Kind, Label, Prev, This, From, _To, Value, Time)>>, First, Sends) ->
-    Message = {Label, Prev, This, From, Value},
-    %% Of messages that are alike nobody knows here which receive is whose.
-    _ = Kind =:= ?SEND andalso not ets:insert_new(Sends, {Message, Spelled, I, Time})
-        andalso ets:update_element(Sends, Message, {4, unknown}),
+    Kind =:= ?SEND andalso sent({Label, Prev, This, From, Value}, Spelled, {I, Time}, Sends),
     [<<"event ">>, Spelled, $\s, integer_to_binary(I), $\s, integer_to_binary(Time - First), $\n].
+
+%% Of messages that are alike the sends are gathered, the last one first.
+sent(Message, Sender, Send, Sends) ->
+    case ets:insert_new(Sends, {Message, Sender, [Send], 0, nobody}) of
+        true -> true;
+        false -> ets:update_element(Sends, Message, {3, [Send | ets:lookup_element(Sends, Message, 3)]})
+    end.
+
+%% How many receives of a message there are, and whose they are.
+count(<<?PACKED(?RECEIVE, Label, Prev, This, From, To, Value, _Time)>>, Sends) ->
+    Message = {Label, Prev, This, From, Value},
+    _ = case ets:lookup(Sends, Message) of
+            [{_, _, _, 0, nobody}] -> ets:update_element(Sends, Message, [{4, 1}, {5, To}]);
+            [{_, _, _, Count, To}] -> ets:update_element(Sends, Message, {4, Count + 1});
+            [{_, _, _, Count, _}] -> ets:update_element(Sends, Message, [{4, Count + 1}, {5, several}]);
+            [] -> false
+        end,
+    [];
+count(_Record, _Sends) ->
+    [].
 
 message(_Event, <<?PACKED(_K, _L, _P, _T, _F, _O, _V, ?NO_TIME)>>, _Sends) ->
     [];
 message({Spelled, J}, <<?PACKED(?RECEIVE, Label, Prev, This, From, _To, Value, Time)>>, Sends) ->
-    case ets:take(Sends, {Label, Prev, This, From, Value}) of
-        [{_, Sender, I, Sent}] when is_integer(Sent) ->
+    case received({Label, Prev, This, From, Value}, Sends) of
+        {Sender, {I, Sent}} ->
             [<<"message ">>, Sender, $\s, integer_to_binary(I), $\s, Spelled, $\s,
              integer_to_binary(J), $\s, integer_to_binary(Time - Sent), $\n];
-        _ -> []
+        unknown ->
+            []
     end;
 message(_Event, _Record, _Sends) ->
     [].
+
+%% The send of the next receive of a message. If several are alike, it is known if one process received all of them: the
+%% first is that of the first send.
+received(Message, Sends) ->
+    case ets:lookup(Sends, Message) of
+        [{_, Sender, [Only], 1, _}] ->
+            {Sender, Only};
+        [{_, Sender, [Next | Others], in_turn, _}] ->
+            true = ets:update_element(Sends, Message, {3, Others}),
+            {Sender, Next};
+        [{_, _, Sent, Count, To}] when is_integer(Count) ->
+            true = ets:update_element(Sends, Message,
+                                      case length(Sent) =:= Count andalso To =/= several of
+                                          true -> [{3, lists:reverse(Sent)}, {4, in_turn}];
+                                          false -> {4, unknown}
+                                      end),
+            received(Message, Sends);
+        _ ->
+            unknown
+    end.
 
 %% @doc Reads the file.
 -spec read(file:filename()) -> {ok, times()} | {error, term()}.

@@ -19,7 +19,7 @@
 
 -export([start/0, start/1, stop/0, rotate/1, cancel/0, folders/0, with_trace/2, with_trace/3, format_error/1]).
 -export([init/1, handle_call/3, handle_cast/2, handle_info/2]).
--export_type([options/0, flag/0]).
+-export_type([options/0, flag/0, rotated/0]).
 
 -define(BYTES, 268_435_456).
 %% A trace file smaller than this is no use: a message is often as large.
@@ -27,7 +27,8 @@
 -define(FLAGS, [send, 'receive', print, timestamp, strict_monotonic_timestamp,
                 monotonic_timestamp]).
 %% Modules that another node needs: the collector, what it depends on, and this one for `with_trace'.
--define(MODULES, [seqaudit_spool, seqaudit_scribe, seqaudit_watch, seqaudit_trigger, seqaudit_collector, ?MODULE]).
+-define(MODULES, [seqaudit_spool, seqaudit_asker, seqaudit_scribe, seqaudit_watch, seqaudit_trigger, seqaudit_collector,
+                  ?MODULE]).
 -define(REMOTE_MS, 15_000).
 %% A node that is out of reach is tried again in these steps.
 -define(REACH_MS, 500).
@@ -54,17 +55,29 @@
 -type flag() :: send | 'receive' | print
               | timestamp | strict_monotonic_timestamp | monotonic_timestamp.
 
+-type rotated() :: {ok, file:filename()} | {again, file:filename() | none} | {gone, file:filename(), term()}
+                 | {error, term()}.
+%% What a rotation wrote of a node: its events, while its collecting goes on; those until its collecting ended, if they
+%% weren't written before, and it began again; those until it ended, and why it couldn't begin again; or nothing, and
+%% why.
+
 -record(node, {node :: node(),
                collector :: pid(),
                monitor :: reference() | undefined,
-               folder :: file:filename(),
+               %% Where its events go, unless it is gone and they were fetched; and files that weren't fetched yet.
+               folder :: file:filename() | none,
+               former = [] :: [file:filename()],
                %% Whether the collector is led from here, is out of reach since this time, or is gone.
                is = on :: on | {away, integer()} | {gone, term()},
                split = {0, 0} :: {Times :: non_neg_integer(), Milliseconds :: non_neg_integer()}}).
 
 -record(state, {name :: file:filename(),
                 limit :: non_neg_integer() | infinity,
-                nodes :: [#node{}]}).
+                %% How a collector is started.
+                options :: map(),
+                nodes :: [#node{}],
+                %% The process that exchanges files, and who waits for it.
+                turning = no :: no | {pid(), reference(), gen_server:from()}}).
 
 %% @equiv start(#{})
 -spec start() -> ok | {error, term()}.
@@ -120,8 +133,9 @@ stop() ->
     end.
 
 %% @doc Writes what came since the start, or since this was last called, while collecting goes on without a gap: a file
-%% of events for each node that can be reached, with this name, a number and `.events'.
--spec rotate(file:filename()) -> [{node(), {ok, file:filename()} | {error, term()}}].
+%% of events for each node that can be reached, with this name, a number and `.events'. Where collecting ended by itself
+%% meanwhile, as on a disk that was full, and on a node that was started anew, it begins again.
+-spec rotate(file:filename()) -> [{node(), rotated()}].
 rotate(Name) ->
     gen_server:call(?MODULE, {rotate, Name}, infinity).
 
@@ -237,9 +251,7 @@ init(#{nodes := Nodes, name := Name, limit := Limit} = Options) ->
         {Release, ok} ->
             case is_enough(Release) andalso start_all(lists:usort(Nodes), Each, []) of
                 {ok, Started} ->
-                    State = #state{name = Name, limit = Limit, nodes = Started},
-                    ok = application:set_env(seqaudit, collection, State),
-                    {ok, State};
+                    {ok, noted(#state{name = Name, limit = Limit, options = Each, nodes = Started})};
                 {error, Reason} -> {stop, {shutdown, Reason}};
                 false -> {stop, {shutdown, {otp, Release}}}
             end;
@@ -249,12 +261,17 @@ init(#{nodes := Nodes, name := Name, limit := Limit} = Options) ->
 
 is_enough(Release) -> list_to_integer(Release) >= ?LEAST_OTP.
 
+%% Who takes over if this process is killed reads it there.
+noted(State) ->
+    ok = application:set_env(seqaudit, collection, State#state{turning = no}),
+    State.
+
 %% @private
 -spec handle_call(term(), gen_server:from(), #state{}) ->
           {stop, normal, {ok, seqaudit_convert:summary()} | ok, #state{}}
-        | {reply, term(), #state{}}.
+        | {reply, term(), #state{}} | {noreply, #state{}}.
 handle_call(stop, _From, State0) ->
-    State = stopped(State0),
+    State = stopped(awaited(State0)),
     case gather(State) of
         {ok, Summary} ->
             ok = application:unset_env(seqaudit, collection),
@@ -262,19 +279,19 @@ handle_call(stop, _From, State0) ->
         {error, Reason} ->
             {reply, {error, Reason}, State}
     end;
-handle_call({rotate, Name}, _From, #state{nodes = Nodes} = State) ->
-    {Rotated, Written} = lists:unzip([rotate(Node, Name ++ "." ++ integer_to_list(Number), State)
-                                      || {Number, Node} <- lists:enumerate(Nodes)]),
-    Now = State#state{nodes = Rotated},
-    ok = application:set_env(seqaudit, collection, Now),
-    {reply, Written, Now};
+handle_call({rotate, Name}, From, #state{turning = no} = State) ->
+    Self = self(),
+    {Worker, Monitor} = spawn_monitor(fun() -> Self ! {turned, self(), rotated(Name, State)} end),
+    {noreply, State#state{turning = {Worker, Monitor, From}}};
+handle_call({rotate, Name}, From, State) ->
+    handle_call({rotate, Name}, From, awaited(State));
 handle_call(cancel, _From, State0) ->
-    #state{nodes = Nodes} = State = stopped(State0),
+    #state{nodes = Nodes} = State = stopped(given_up(State0)),
     lists:foreach(fun remove/1, Nodes),
     ok = application:unset_env(seqaudit, collection),
     {stop, normal, ok, State};
 handle_call(folders, _From, #state{nodes = Nodes} = State) ->
-    {reply, [{Node, Folder} || #node{node = Node, folder = Folder} <- Nodes], State};
+    {reply, [{Node, Folder} || #node{node = Node, folder = Folder} <- Nodes, Folder =/= none], State};
 handle_call(_Stray, _From, State) ->
     {reply, {error, unknown_call}, State}.
 
@@ -285,6 +302,10 @@ handle_cast(_Stray, State) ->
 
 %% @private
 -spec handle_info(term(), #state{}) -> {noreply, #state{}}.
+handle_info({turned, Worker, Rotated}, #state{turning = {Worker, _, _}} = State) ->
+    {noreply, turned(Rotated, State)};
+handle_info({'DOWN', Monitor, process, _, Reason}, #state{turning = {_, Monitor, _}} = State) ->
+    {noreply, not_turned(Reason, State)};
 handle_info({'DOWN', Monitor, process, _, Reason}, #state{nodes = Nodes} = State) ->
     case lists:keyfind(Monitor, #node.monitor, Nodes) of
         #node{} = Node -> {noreply, put_node(down(Node, Reason), State)};
@@ -323,14 +344,21 @@ connected(Node) -> net_kernel:connect_node(Node) =:= true.
 
 %% Leads a collector again that was out of reach.
 lead_on(#node{collector = Collector, is = {away, Since}, split = {Times, Sum}} = Node) ->
-    try seqaudit_collector:adopt(Collector, self()) of
-        ok ->
+    try {seqaudit_collector:adopt(Collector, self()), seqaudit_collector:folder(Collector)} of
+        {ok, Folder} ->
             Away = erlang:monotonic_time(millisecond) - Since,
-            Node#node{is = on, monitor = monitor(process, Collector), split = {Times + 1, Sum + Away}}
+            in_folder(Folder, Node#node{is = on, monitor = monitor(process, Collector),
+                                        split = {Times + 1, Sum + Away}})
     catch
         exit:{Reason, _} when Reason =:= noproc; Reason =:= normal -> Node#node{is = {gone, noproc}};
         exit:_ -> try_later(Node)
     end.
+
+%% A collector may have gone on to other files, and nobody was told where.
+in_folder(Folder, #node{folder = Folder} = Node) ->
+    Node;
+in_folder(Folder, #node{folder = Known, former = Former} = Node) ->
+    Node#node{folder = Folder, former = Former ++ [Known]}.
 
 %% If one node fails, the collectors that are on already end with their owner, this process.
 start_all([], _Options, Started) ->
@@ -412,23 +440,63 @@ end_of(#node{monitor = Monitor}) ->
         noproc
     end.
 
-%% A node's files go on; what they had so far is fetched and removed there.
-rotate(#node{node = Name, is = on, collector = Collector, folder = Former} = Node, File, #state{limit = Limit}) ->
-    try seqaudit_collector:rotate(Collector) of
-        {ok, Folder} ->
-            {Node#node{folder = Folder}, {Name, fetched(Node#node{folder = Former, is = {gone, normal}}, File, Limit)}};
-        {error, Reason} ->
-            {Node, {Name, {error, Reason}}}
-    catch
-        exit:{Reason, _} -> {Node, {Name, {error, Reason}}}
-    end;
-rotate(#node{node = Name} = Node, _File, _State) ->
-    {Node, {Name, {error, unreachable}}}.
+%% Each collector goes on to other files; then what came before is fetched and removed where it was.
+rotated(Name, #state{nodes = Nodes} = State) ->
+    On = [Node || #node{is = on} = Node <- Nodes],
+    Replies = lists:zip([Node#node.node || Node <- On],
+                        seqaudit_collector:rotate_all([Node#node.collector || Node <- On])),
+    [{Node#node.node, rotated(lists:keyfind(Node#node.node, 1, Replies), Node,
+                              Name ++ "." ++ integer_to_list(Number), State)}
+     || {Number, Node} <- lists:enumerate(Nodes)].
 
-fetched(Node, File, Limit) ->
+%% What the node has now, and what was written.
+rotated({_, {ok, Folder}}, Node, File, State) ->
+    {{on, Folder}, fetched(Node#node{is = {gone, normal}}, File, State)};
+rotated({_, {error, ended}}, #node{collector = Collector} = Node, File, State) ->
+    _ = seqaudit_collector:stop_all([Collector]),
+    begun_again(Node#node{is = {gone, normal}}, File, State);
+rotated({_, {error, {gone, noconnection}}}, _Node, _File, _State) ->
+    {same, {error, unreachable}};
+rotated({_, {error, {gone, Reason}}}, Node, File, State) ->
+    begun_again(Node#node{is = {gone, Reason}}, File, State);
+rotated({_, {error, Reason}}, _Node, _File, _State) ->
+    {same, {error, Reason}};
+rotated(false, #node{is = {gone, _}} = Node, File, State) ->
+    begun_again(Node, File, State);
+rotated(false, _Node, _File, _State) ->
+    {same, {error, unreachable}}.
+
+%% Somebody else's tracer isn't replaced, nor are tokens taken off a second time.
+begun_again(#node{node = Name} = Node, File, #state{options = Options} = State) ->
+    Written = fetched(Node, File, State),
+    Started = try erpc:call(Name, seq_trace, get_system_tracer, [], ?REMOTE_MS) of
+                  false -> start_on(Name, Options#{reset => false});
+                  _ -> {error, other_tracer}
+              catch
+                  error:{erpc, _} -> {error, unreachable}
+              end,
+    case Started of
+        {ok, Collector} ->
+            {{again, Collector, seqaudit_collector:folder(Collector)},
+             case Written of
+                 {ok, Events} -> {again, Events};
+                 {error, nothing} -> {again, none};
+                 {error, Reason} -> {error, Reason}
+             end};
+        {error, {shutdown, Reason}} -> not_again(Reason, Written);
+        {error, Reason} -> not_again(Reason, Written)
+    end.
+
+not_again(Reason, {ok, File}) -> {gone, {gone, File, Reason}};
+not_again(Reason, {error, _}) -> {gone, {error, Reason}}.
+
+%% All that the node's folders have, in one file.
+fetched(#node{folder = none}, _File, _State) ->
+    {error, nothing};
+fetched(Node, File, #state{limit = Limit}) ->
     case seqaudit_events:open(File) of
         {ok, Device} ->
-            _ = fetch(Node, Limit, Device),
+            _ = [fetch(One, Limit, Device) || One <- each_folder(Node)],
             ok = seqaudit_events:close(Device),
             ok = remove(Node),
             {ok, File ++ ".events"};
@@ -436,12 +504,64 @@ fetched(Node, File, Limit) ->
             {error, Reason}
     end.
 
+each_folder(#node{folder = none}) -> [];
+each_folder(#node{folder = Folder, former = Former} = Node) ->
+    [Node#node{folder = One, former = []} || One <- Former ++ [Folder]].
+
+%% Waits until files are exchanged.
+awaited(#state{turning = no} = State) ->
+    State;
+awaited(#state{turning = {Worker, Monitor, _}} = State) ->
+    receive
+        {turned, Worker, Rotated} -> turned(Rotated, State);
+        {'DOWN', Monitor, process, _, Reason} -> not_turned(Reason, State)
+    end.
+
+turned(Rotated, #state{turning = {_, Monitor, From}} = State) ->
+    demonitor(Monitor, [flush]),
+    Now = lists:foldl(fun({Name, {Has, _}}, #state{nodes = Nodes} = Sum) ->
+                              put_node(has(Has, lists:keyfind(Name, #node.node, Nodes)), Sum)
+                      end, State#state{turning = no}, Rotated),
+    gen_server:reply(From, [{Name, Written} || {Name, {_, Written}} <- Rotated]),
+    noted(Now).
+
+has({on, Folder}, Node) ->
+    Node#node{folder = Folder, former = [], split = {0, 0}};
+has({again, Collector, Folder}, Node) ->
+    Node#node{collector = Collector, monitor = monitor(process, Collector), folder = Folder, former = [], is = on,
+              split = {0, 0}};
+has(gone, Node) ->
+    Node#node{folder = none, former = []};
+has(same, Node) ->
+    Node.
+
+%% Whether a collector has gone on to other files isn't known then.
+not_turned(Reason, #state{turning = {_, _, From}, nodes = Nodes} = State) ->
+    gen_server:reply(From, [{Name, {error, Reason}} || #node{node = Name} <- Nodes]),
+    noted(State#state{turning = no, nodes = [asked_again(Node) || Node <- Nodes]}).
+
+asked_again(#node{is = on, collector = Collector} = Node) ->
+    try in_folder(seqaudit_collector:folder(Collector), Node)
+    catch exit:_ -> Node
+    end;
+asked_again(Node) ->
+    Node.
+
+given_up(#state{turning = {Worker, Monitor, _}} = State) ->
+    exit(Worker, kill),
+    receive {'DOWN', Monitor, process, _, Reason} -> ok end,
+    receive {turned, Worker, Rotated} -> turned(Rotated, State)
+    after 0 -> not_turned(Reason, State)
+    end;
+given_up(State) ->
+    State.
+
 %% Fetches what the collectors wrote, converts it, and removes it where it was.
 gather(#state{name = Name, limit = Limit, nodes = Nodes}) ->
     case seqaudit_events:open(Name) of
         {ok, Device} ->
             try
-                Fetched = [{Node, fetch(Node, Limit, Device)} || Node <- Nodes],
+                Fetched = [{One, fetch(One, Limit, Device)} || Node <- Nodes, One <- each_folder(Node)],
                 ok = seqaudit_events:close(Device),
                 convert(Name, Fetched)
             catch
@@ -454,7 +574,7 @@ gather(#state{name = Name, limit = Limit, nodes = Nodes}) ->
     end.
 
 convert(Name, Fetched) ->
-    Ask = fun(Wanted) -> ask(Wanted, [Node || {#node{node = Node}, _} <- Fetched], Name) end,
+    Ask = fun(Wanted) -> ask(Wanted, lists:usort([Node || {#node{node = Node}, _} <- Fetched]), Name) end,
     case seqaudit_convert:from_files([Name ++ ".events"], Name, Ask) of
         {ok, #{files := Files} = Summary} ->
             _ = [remove(Node) || {Node, fetched} <- Fetched],
@@ -479,15 +599,16 @@ names(Node, Wanted) ->
     catch _:_ -> #{}
     end.
 
-remove(#node{folder = Folder} = Node) ->
-    _ = case at(Node) of
-            here -> seqaudit_spool:remove(Folder);
-            there -> try erpc:call(Node#node.node, seqaudit_spool, remove, [Folder], ?REMOTE_MS)
-                     catch _:_ -> ok
-                     end;
-            nowhere -> ok
-        end,
-    ok.
+remove(Node) ->
+    lists:foreach(fun(#node{node = Name, folder = Folder} = One) ->
+                          case at(One) of
+                              here -> seqaudit_spool:remove(Folder);
+                              there -> try erpc:call(Name, seqaudit_spool, remove, [Folder], ?REMOTE_MS)
+                                       catch _:_ -> ok
+                                       end;
+                              nowhere -> ok
+                          end
+                  end, each_folder(Node)).
 
 %% The folder's name is random: if it is here, this is the disk that the collector wrote to. (Tests
 %% say that it isn't.)

@@ -429,7 +429,7 @@ completes(Program) ->
 command([Command | Words], Name, Tool) ->
     {Status, Output} = seqaudit_test_shell:execute(seqaudit_test_shell:node_command(), [Command, Name | Words],
                                                    [{"SEQAUDIT", auditor()}, {"SEQTOOL", Tool}]),
-    Said = re:replace(Output, "fits \\(by programs without proofs\\)", "fits", [global, {return, binary}]),
+    Said = seqaudit_test_shell:as_proved(Output),
     <<Said/binary, "(status ", (integer_to_binary(Status))/binary, ")\n">>.
 
 %% Pids and references are numbered, nodes named, spaces that align set to two.
@@ -440,9 +440,7 @@ normal(Text) ->
     lists:foldl(fun({Pattern, With}, Done) -> re:replace(Done, Pattern, With, [global, multiline, {return, binary}]) end,
                 Numbered, [{"[a-z_]+:[a-z_]+/[0-9]+ (?=<[0-9])", ""}, {"(?<=\\S)  +", "  "}, {"^ {3,}(?=\\S)", "  "},
                            %% Where a term is cut short depends on the pids in it.
-                           {"\\S*\\.\\.\\.", "..."}, {"#Fun<[^>\\n]*>", "#Fun<>"},
-                           %% Whatever program was built last.
-                           {"^seqaudit-node: built without proofs: .*\\n", ""}]).
+                           {"\\S*\\.\\.\\.", "..."}, {"#Fun<[^>\\n]*>", "#Fun<>"}]).
 
 number(Pattern, Word, Text) ->
     case re:run(Text, Pattern, [global, {capture, first, binary}]) of

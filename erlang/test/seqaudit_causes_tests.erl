@@ -218,11 +218,13 @@ thinned(Streams) ->
      || {Pid, Lines} <- Streams].
 
 completed(Streams) ->
-    {ok, #{said := Said, streams := Shown}} = seqaudit_outcome:ask(Streams),
+    {ok, #{said := Said, streams := Shown} = Outcome} = seqaudit_outcome:ask(Streams),
     true = Said =:= fits orelse Said =:= completed,
     Said =:= completed andalso
         begin
-            {ok, {0, <<"added 0\n">>}} = seqaudit_program:with_text(seqaudit_bundle:text(Shown), fun(File) ->
+            %% If tokens may have been put back, with the counts that the machine would have given.
+            Whole = seqaudit_bundle:text(maps:get(asked, Outcome, Shown)),
+            {ok, {0, <<"added 0\n">>}} = seqaudit_program:with_text(Whole, fun(File) ->
                                               seqaudit_program:ask("seqtool", ["complete"], File)
                                           end),
             %% What was reported is there, in its order.

@@ -70,4 +70,4 @@ refused_test_() ->
 %% Whether the program has proofs doesn't matter here.
 command(Words, Variables) ->
     {Status, Said} = seqaudit_test_shell:run([seqaudit_test_shell:node_command(), $\s, Words], Variables),
-    {Status, binary:replace(Said, <<" (by programs without proofs)">>, <<>>, [global])}.
+    {Status, seqaudit_test_shell:as_proved(Said)}.

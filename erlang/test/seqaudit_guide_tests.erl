@@ -118,8 +118,7 @@ same(Command, Quoted, Folder, Programs) ->
     Ours = ["seqaudit() { \"$SEQAUDIT\" \"$@\"; }; seqtool() { \"$SEQTOOL\" \"$@\"; }; cd ", Folder, " && "],
     Here = string:replace(Command, "erlang/seqaudit-node", seqaudit_test_shell:node_command()),
     {_, Said} = seqaudit_test_shell:run([Ours, Here], Programs),
-    Lines = [Line || Line <- binary:split(normal(Said), <<"\n">>, [global, trim]),
-                     string:prefix(Line, "seqaudit-node: built without proofs") =:= nomatch],
+    Lines = binary:split(normal(seqaudit_test_shell:as_proved(Said)), <<"\n">>, [global, trim]),
     {Command, ok} = {Command, compared([normal(Line) || Line <- Quoted], Lines)}.
 
 %% Two dots stand for what isn't quoted: the rest of a line, or lines.
@@ -145,4 +144,4 @@ fits(Quote, Line) ->
 %% Pids differ from run to run, and with them how names are aligned.
 normal(Text) ->
     lists:foldl(fun({Pattern, With}, Done) -> re:replace(Done, Pattern, With, [global, {return, binary}]) end,
-                binary:replace(iolist_to_binary(Text), ?UNPROVED, <<>>, [global]), [{"<[0-9]+\\.[0-9]+\\.[0-9]+>", "<>"}, {" +", " "}]).
+                iolist_to_binary(Text), [{"<[0-9]+\\.[0-9]+\\.[0-9]+>", "<>"}, {" +", " "}]).

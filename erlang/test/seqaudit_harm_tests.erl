@@ -124,8 +124,8 @@ collect_until_kill_test_() ->
         %% The node traced and did nothing else: only what collects is loaded there.
         Loaded = [Module || {Module, _} <- erpc:call(There, code, all_loaded, []),
                             string:prefix(atom_to_list(Module), "seqaudit_") =/= nomatch],
-        [] = Loaded -- [seqaudit_trace, seqaudit_collector, seqaudit_scribe, seqaudit_spool, seqaudit_trigger, seqaudit_watch,
-                         seqaudit_test_server]
+        [] = Loaded -- [seqaudit_trace, seqaudit_asker, seqaudit_collector, seqaudit_scribe, seqaudit_spool,
+                        seqaudit_trigger, seqaudit_watch, seqaudit_test_server]
     end).
 
 %% Calls of a function set the token, with timestamps, until the end; the program has no word of it.

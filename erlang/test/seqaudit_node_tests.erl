@@ -225,7 +225,8 @@ collect(There) ->
     %% What the node was sent is what collects; what was collected is converted here.
     Loaded = [Module || Module <- erpc:call(There, erlang, loaded, []),
                         string:prefix(atom_to_list(Module), "seqaudit_") =/= nomatch],
-    [seqaudit_collector, seqaudit_scribe, seqaudit_spool, seqaudit_trace, seqaudit_trigger, seqaudit_watch] =
+    [seqaudit_asker, seqaudit_collector, seqaudit_scribe, seqaudit_spool, seqaudit_trace, seqaudit_trigger,
+     seqaudit_watch] =
         lists:sort(Loaded -- [?MODULE, seqaudit_test_server]),
     seqaudit_audits:fits(Name).
 
@@ -244,6 +245,4 @@ command(Words, Program) ->
     {Status, Said} = seqaudit_test_shell:run([seqaudit_test_shell:node_command(), $\s, Words],
                                              [{"SEQAUDIT", Program}, {"SEQTOOL", "/no/such/seqtool"}]),
     %% Whatever programs these are.
-    {Status, re:replace(Said, "^seqaudit-node: (built without proofs|plain Rust, not proved): .*\\n"
-                              "| \\(by programs without proofs\\)", "",
-                        [global, multiline, {return, binary}])}.
+    {Status, seqaudit_test_shell:as_proved(Said)}.

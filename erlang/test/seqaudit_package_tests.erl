@@ -1,7 +1,7 @@
 %% The application as rebar3 packages it, where there is a rebar3 (Debian has one).
 -module(seqaudit_package_tests).
 
--export([rebar3_test_/0, metadata_test/0, release_test/0, documented_test/0, unload_test_/0]).
+-export([rebar3_test_/0, metadata_test/0, release_test/0, xref_test_/0, documented_test/0, unload_test_/0]).
 
 %% rebar3 compiles, tests, makes the pages of the modules and the escript, with nothing from the network.
 %% The escript does from another folder what the command does: it collects, converts, audits and makes a page.
@@ -60,6 +60,25 @@ release_test() ->
     "node a@h is OTP 24, and collecting needs OTP 25 or later" =
         seqaudit_trace:format_error({node, 'a@h', {otp, "24"}}).
 
+%% Each function that is called is there, and each one that isn't exported is called. What OTP has from 27 on is called
+%% there alone.
+xref_test_() ->
+    {timeout, 120, fun() ->
+        case code:which(xref) of
+            non_existing -> io:format(user, "xref: skipped, it needs tools (erlang-tools)~n", []);
+            _ ->
+                {ok, Server} = xref:start([]),
+                ok = xref:set_default(Server, [{warnings, false}]),
+                ok = xref:set_library_path(Server, code:get_path()),
+                {ok, _} = xref:add_directory(Server, filename:dirname(code:which(seqaudit_trace))),
+                {ok, Undefined} = xref:analyze(Server, undefined_function_calls),
+                [] = [Call || {_, {Module, _, _}} = Call <- Undefined, Module =/= trace],
+                [{What, {ok, []}} = {What, xref:analyze(Server, What)}
+                 || What <- [locals_not_used, deprecated_function_calls]],
+                xref:stop(Server)
+        end
+    end}.
+
 %% Each function that another module may call says what it does, or that it is private.
 documented_test() ->
     Sources = filelib:wildcard(filename:join([seqaudit_audits:home(), "src", "*.erl"])),
@@ -89,7 +108,7 @@ unload_test_() ->
             Collect = [seqaudit_test_shell:node_command(), " collect --node ", atom_to_list(There), " --seconds 1 -o ",
                        seqaudit_audits:file("unload")],
             {0, Kept} = seqaudit_test_shell:run(Collect, seqaudit_test_shell:cookie()),
-            {_, _} = binary:match(Kept, iolist_to_binary(["  ", atom_to_list(There), " keeps the modules seqaudit_collector, "])),
+            {_, _} = binary:match(Kept, iolist_to_binary(["  ", atom_to_list(There), " keeps the modules seqaudit_asker, seqaudit_collector, "])),
             [_ | _] = ours(There),
             {0, Gone} = seqaudit_test_shell:run([Collect, " --unload"], seqaudit_test_shell:cookie()),
             nomatch = binary:match(Gone, <<"modules">>),

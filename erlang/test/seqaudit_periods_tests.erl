@@ -1,7 +1,9 @@
 %% Collecting goes on without a gap while it is looked at, period by period.
 -module(seqaudit_periods_tests).
 
--export([rotate_test_/0, quiet_test/0, rest_test/0, never_quiet_test/0, watch_test_/0, too_many_test_/0]).
+-export([rotate_test_/0, again_test_/0, other_tracer_test_/0, slow_disk_test_/0, cancel_on_slow_disk_test_/0,
+         large_event_test/0, ended_test_/0, back_test_/0, quiet_test/0, rest_test/0, never_quiet_test/0, watch_test_/0,
+         too_many_test_/0]).
 %% Called by name.
 -export([serve/0, serve/1, answer/0, request/2]).
 
@@ -43,7 +45,141 @@ print(N, To) ->
 
 numbers(File) ->
     {ok, [#{events := Events}]} = seqaudit_events:read(File),
-    [N || {seq_trace, 1, {print, _, _, _, N}} <- Events].
+    [case Printed of {N, _} -> N; N -> N end || {seq_trace, 1, {print, _, _, _, Printed}} <- Events].
+
+%% A collector that ended by itself, or was killed, is begun again, and what it has is written with the reason.
+again_test_() ->
+    [{timeout, 60, fun() -> begun_again(Port, Why, Break) end}
+     || {Port, Why, Break} <- [{true, "the trace file couldn't be written (enospc)", fun break_port/0},
+                               {false, "the trace file couldn't be written (enospc)", fun break_scribe/0},
+                               {true, "its collector went down (killed)", fun kill_collector/0},
+                               {false, "its collector went down (killed)", fun kill_collector/0}]].
+
+begun_again(Port, Why, Break) ->
+    Name = seqaudit_audits:file("again"),
+    ok = seqaudit_trace:start(#{name => Name, port => Port}),
+    seqaudit_trace:with_trace(1, fun() -> seq_trace:print(1) end),
+    [{_, Folder}] = seqaudit_trace:folders(),
+    seqaudit_test_nodes:on_disk(Folder, 1),
+    Break(),
+    seqaudit_test_nodes:until(fun() -> seq_trace:get_system_tracer() =:= false end),
+    seqaudit_trace:with_trace(1, fun() -> seq_trace:print(2) end),
+    [{_, {again, Before}}] = seqaudit_trace:rotate(Name ++ ".1"),
+    seqaudit_trace:with_trace(1, fun() -> seq_trace:print(3) end),
+    [{_, {ok, Behind}}] = seqaudit_trace:rotate(Name ++ ".2"),
+    {ok, _} = seqaudit_trace:stop(),
+    {[1], [3]} = {numbers(Before), numbers(Behind)},
+    {ok, #{notes := Notes}} = seqaudit_convert:from_files([Before], Name),
+    [_] = [Note || Note <- Notes, string:find(Note, Why) =/= nomatch],
+    false = filelib:is_dir(Folder).
+
+break_port() ->
+    case seq_trace:get_system_tracer() of
+        Port when is_port(Port) -> exit(Port, enospc);
+        _ -> break_scribe()
+    end.
+
+break_scribe() ->
+    {links, Links} = process_info(whereis(seqaudit_collector), links),
+    [Writer] = [Pid || Pid <- Links, process_info(Pid, priority) =:= {priority, high}],
+    seqaudit_collector ! {seqaudit_scribe, Writer, enospc}.
+
+kill_collector() -> exit(whereis(seqaudit_collector), kill).
+
+%% A tracer that somebody else put there stays, and once it is gone collecting begins again.
+other_tracer_test_() ->
+    [{timeout, 60, fun() ->
+         Name = seqaudit_audits:file("other_tracer"),
+         ok = seqaudit_trace:start(#{name => Name, port => Port}),
+         Other = spawn(timer, sleep, [infinity]),
+         _ = seq_trace:set_system_tracer(Other),
+         [{_, {gone, File, other_tracer}}] = seqaudit_trace:rotate(Name ++ ".1"),
+         {ok, #{notes := Notes}} = seqaudit_convert:from_files([File], Name),
+         [_] = [Note || Note <- Notes, string:find(Note, "another system tracer took the collector's") =/= nomatch],
+         [{_, {error, other_tracer}}] = seqaudit_trace:rotate(Name ++ ".2"),
+         Other = seq_trace:get_system_tracer(),
+         _ = seq_trace:set_system_tracer(false),
+         [{_, {again, none}}] = seqaudit_trace:rotate(Name ++ ".3"),
+         seqaudit_trace:with_trace(1, fun() -> seq_trace:print(1) end),
+         [{_, {ok, Behind}}] = seqaudit_trace:rotate(Name ++ ".4"),
+         [1] = numbers(Behind),
+         ok = seqaudit_trace:cancel(),
+         exit(Other, kill)
+     end} || Port <- [true, false]].
+
+%% If the collector itself is the tracer, it goes on while a disk stands still that takes its former files; nothing is
+%% lost. The file of facts is a pipe here, which nobody reads at first.
+slow_disk_test_() ->
+    {timeout, 120, fun() ->
+        {Name, Facts} = begin_slow(),
+        Self = self(),
+        _ = spawn_link(fun() -> Self ! {rotated, seqaudit_trace:rotate(Name ++ ".1")} end),
+        print_in_pace(1, 4_000),
+        receive {rotated, _} = Early -> error(Early) after 0 -> ok end,
+        _ = spawn(fun() -> read_slow(Facts, 20) end),
+        [{_, {ok, File}}] = receive {rotated, Rotated} -> Rotated end,
+        print_in_pace(4_001, 4_010),
+        {ok, #{notes := Notes}} = seqaudit_trace:stop(),
+        [] = [Note || Note <- Notes, string:find(Note, "ended early") =/= nomatch],
+        true = numbers(File) ++ numbers(Name ++ ".events") =:= lists:seq(1, 4_010),
+        ok = file:del_dir_r(filename:dirname(Facts))
+    end}.
+
+%% Nor does whoever ends it wait for that disk.
+cancel_on_slow_disk_test_() ->
+    {timeout, 120, fun() ->
+        {Name, Facts} = begin_slow(),
+        _ = spawn(fun() -> seqaudit_trace:rotate(Name ++ ".1") end),
+        Collector = whereis(seqaudit_collector),
+        seqaudit_test_nodes:until(fun() -> seqaudit_collector:folder(Collector) =/= filename:dirname(Facts) end),
+        print_in_pace(1, 10),
+        ok = seqaudit_trace:cancel(),
+        false = seq_trace:get_system_tracer(),
+        read_slow(Facts, 1),
+        ok = file:del_dir_r(filename:dirname(Facts))
+    end}.
+
+begin_slow() ->
+    Name = seqaudit_audits:file("slow_disk"),
+    ok = seqaudit_trace:start(#{name => Name, port => false}),
+    [{_, Folder}] = seqaudit_trace:folders(),
+    seqaudit_test_nodes:met(Folder, [whereis(init)]),
+    Facts = filename:join(Folder, "facts"),
+    ok = file:delete(Facts),
+    [] = os:cmd("mkfifo " ++ Facts),
+    {Name, Facts}.
+
+read_slow(Facts, Seconds) ->
+    [] = os:cmd(lists:concat(["timeout ", Seconds, " cat <>", Facts, " >/dev/null"])).
+
+%% Of these events 1,000 would be too many for the collector's queue. A process that is new has to be asked for its
+%% name.
+print_in_pace(First, Last) ->
+    lists:foreach(fun(N) ->
+                          {_, Monitor} = spawn_monitor(fun() -> print_large(N) end),
+                          receive {'DOWN', Monitor, process, _, normal} -> ok end,
+                          N rem 100 =:= 0 andalso seqaudit_test_nodes:await_collector()
+                  end, lists:seq(First, Last)).
+
+print_large(N) ->
+    seqaudit_trace:with_trace(1, fun() -> seq_trace:print({N, binary:copy(<<0>>, 1_024)}) end).
+
+%% One large event says nothing of those that wait behind it, and least of all right after the files were exchanged.
+large_event_test() ->
+    Name = seqaudit_audits:file("large_event"),
+    ok = seqaudit_trace:start(#{name => Name, port => false}),
+    Print = fun(N) -> seq_trace:print(N), seqaudit_test_nodes:keep_pace() end,
+    seqaudit_trace:with_trace(1, fun() -> lists:foreach(Print, lists:seq(1, 100)) end),
+    [{_, {ok, _}}] = seqaudit_trace:rotate(Name ++ ".1"),
+    Collector = whereis(seqaudit_collector),
+    true = erlang:suspend_process(Collector),
+    seqaudit_trace:with_trace(1, fun() ->
+        seq_trace:print(binary:copy(<<0>>, 100_000)),
+        [seq_trace:print(N) || N <- lists:seq(1, 100)]
+    end),
+    true = erlang:resume_process(Collector),
+    {ok, #{events := 101, notes := Notes}} = seqaudit_trace:stop(),
+    [] = [Note || Note <- Notes, string:find(Note, "ended early") =/= nomatch].
 
 %% The last moment without a message under way is before the send of a message that nobody received yet; one that waits
 %% since long doesn't count, nor does one whose send isn't there.
@@ -55,6 +191,13 @@ quiet_test() ->
     {4, 2} = cut([[Send(1), Receive(1), Send(2), Receive(2), Send(3), Print(4)]]),
     {6, 0} = cut([[Send(1), Send(2), Receive(2), Send(3), Receive(3), Print(4)]]),
     {4, 0} = cut([[Receive(9), Send(2), Receive(2), Print(4)]]),
+    %% Of two that are alike, as when a token is put back, one is under way yet; of three that were received, none is.
+    {2, 3} = cut([[Send(1), Receive(1), Send(1), Print(3), Print(4)]]),
+    {4, 1} = cut([[Send(1), Send(1), Receive(1), Receive(1), Send(1)]]),
+    {7, 0} = cut([[Send(1), Send(1), Receive(1), Send(1), Receive(1), Receive(1), Print(3)]]),
+    %% Of three on two nodes one is under way.
+    {4, 4, 2, 1} = cut([[Print(7), Print(8), Send(1), Receive(1), Send(2), Send(2), Send(2), Receive(2)],
+                        [Print(3), Print(4), Receive(2)]]),
     %% On two nodes: what was sent here wasn't received there yet.
     {3, 1, 2, 0} = cut([[Send(1), Print(2), Print(3), Send(4)], [Receive(1), Print(5)]]).
 
@@ -133,8 +276,6 @@ with_watch(Name, Asked, Test) ->
 
 %% The command watches a node with a service, and what it says goes to a file.
 begun(There, Name, Programs, Test) ->
-    {_, Binary, File} = code:get_object_code(?MODULE),
-    {module, _} = erpc:call(There, code, load_binary, [?MODULE, File, Binary]),
     Folder = seqaudit_audits:file("watched_" ++ Name),
     _ = file:del_dir_r(Folder),
     ok = file:make_dir(Folder),
@@ -143,26 +284,37 @@ begun(There, Name, Programs, Test) ->
                                        atom_to_list(There), " --every 2 -o ", filename:join(Folder, Name), " >", Said, " 2>&1"],
                                       seqaudit_test_shell:cookie() ++ Programs),
     seqaudit_test_nodes:until(fun() -> seqaudit_test_nodes:is_traced(There) end),
-    Service = erpc:call(There, erlang, spawn, [?MODULE, serve, []]),
+    Service = served(There),
     Says = fun(Pattern) ->
                    {ok, Text} = file:read_file(Said),
                    case re:run(Text, Pattern, [global, {capture, all, list}]) of {match, Found} -> Found; nomatch -> [] end
            end,
+    {ok, Pid} = file:read_file(filename:join(Folder, "pid")),
+    Kill = fun() -> os:cmd("kill -TERM " ++ string:trim(binary_to_list(Pid)) ++ " 2>&1") end,
     End = fun() ->
-                  {ok, Pid} = file:read_file(filename:join(Folder, "pid")),
-                  [] = os:cmd("kill -TERM " ++ string:trim(binary_to_list(Pid))),
+                  [] = Kill(),
                   {Status, _} = seqaudit_test_shell:ended(),
                   false = erpc:call(There, seq_trace, get_system_tracer, []),
                   Status
           end,
-    Test(There, filename:join(Folder, Name), Says, End),
+    try Test(There, filename:join(Folder, Name), Says, End)
+    after
+        %% A command that a test didn't end would watch the node of the next one.
+        Kill()
+    end,
     exit(Service, kill).
+
+%% The node has this module and a service.
+served(There) ->
+    {_, Binary, File} = code:get_object_code(?MODULE),
+    {module, _} = erpc:call(There, code, load_binary, [?MODULE, File, Binary]),
+    erpc:call(There, erlang, spawn, [?MODULE, serve, []]).
 
 watched(There, Name, Says, End) ->
     seqaudit_test_nodes:until(fun() -> length(Says("period [0-9]+: fits.*: .* not kept")) >= 3 end),
     _ = erpc:call(There, seq_trace, reset_trace, []),
-    seqaudit_test_nodes:until(fun() -> Says("period [0-9]+: doesn't fit: ") =/= [] end),
-    seqaudit_test_nodes:until(fun() -> Says("doesn't fit: .*\n.*period [0-9]+: fits.*: .*; kept as ") =/= [] end),
+    seqaudit_test_nodes:until(fun() -> Says("period [0-9]+: doesn't fit.*: ") =/= [] end),
+    seqaudit_test_nodes:until(fun() -> Says("doesn't fit.*: .*\n.*period [0-9]+: fits.*: .*; kept as ") =/= [] end),
     seqaudit_test_nodes:until(fun() -> length(Says("period [0-9]+: fits.*: .* not kept")) >= 5 end),
     Ended = erlang:monotonic_time(millisecond),
     1 = End(),
@@ -170,12 +322,43 @@ watched(There, Name, Says, End) ->
     io:format(user, "watch: ended in ~b ms~n", [Took]),
     %% On a machine with other work it may take longer than the second that it is to take.
     true = Took < 10_000,
-    [[_, Unfit]] = Says("period ([0-9]+): doesn't fit: "),
+    [[_, Unfit]] = Says("period ([0-9]+): doesn't fit.*: "),
     Around = lists:sort([integer_to_list(list_to_integer(Unfit) + N) || N <- [-1, 0, 1]]),
     Around = lists:sort([Number || One <- filelib:wildcard(Name ++ ".*.seqtrace"),
                                    ["w", Number, "seqtrace"] <- [string:split(filename:basename(One), ".", all)]]),
     [_ | _] = Says("cut at a quiet moment"),
     [[_]] = Says("[0-9]+ periods audited, 3 kept; period [0-9]+, which was running, isn't audited\n").
+
+%% A collector that ended by itself is begun again: the line says since when what is lost, and the next periods are
+%% whole.
+ended_test_() ->
+    with_watch("ended", fun(Program) -> Program end, fun(There, Name, Says, End) ->
+        seqaudit_test_nodes:until(fun() -> Says("period [0-9]+: fits.*: .* not kept") =/= [] end),
+        ok = erpc:call(There, fun() -> _ = break_port(), ok end),
+        seqaudit_test_nodes:until(fun() ->
+            Says("period [0-9]+: .*; [^;]*: collecting ended early, at 2[^;]*: the trace file couldn't be written "
+                 "\\(enospc\\); cut at its end, [^ ]* had stopped collecting and began again; not kept") =/= []
+        end),
+        seqaudit_test_nodes:until(fun() ->
+            Says("began again; .*\n(.*period [0-9]+: fits.*: .*; not kept\n){3}") =/= []
+        end),
+        0 = End(),
+        [] = filelib:wildcard(Name ++ ".*")
+    end).
+
+%% A node that went down and was started anew is watched again.
+back_test_() ->
+    with_watch("back", fun(Program) -> Program end, fun(There, _Name, Says, End) ->
+        seqaudit_test_nodes:until(fun() -> Says("period [0-9]+: fits.*: .* not kept") =/= [] end),
+        seqaudit_test_nodes:kill(There),
+        seqaudit_test_nodes:until(fun() -> Says("wasn't asked \\(it can't be reached\\)") =/= [] end),
+        Stop = seqaudit_test_nodes:again(There),
+        seqaudit_test_nodes:until(fun() -> Says("had stopped collecting and began again") =/= [] end),
+        _ = served(There),
+        seqaudit_test_nodes:until(fun() -> Says("began again; .*\n(.*\n)*.*period [0-9]+: fits.*: ") =/= [] end),
+        0 = End(),
+        Stop()
+    end).
 
 %% A period with more processes than the programs take is audited label by label. These take three; of more, seqtool
 %% audits those of every second period, and finds no run.

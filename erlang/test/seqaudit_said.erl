@@ -81,7 +81,8 @@ headline(#{said := Said, streams := Shown} = Outcome, Log, #{flags := Flags, lat
     All = not Late andalso [] =:= [send, 'receive', print] -- Flags,
     Whole = has(Text, "nothing is known to be missing"),
     %% A process that puts a token back and whose sends aren't reported can't be seen to.
-    Premises = not Late andalso lists:member('receive', Flags) andalso lists:member(send, Flags),
+    Received = not Late andalso lists:member('receive', Flags),
+    Premises = Received andalso lists:member(send, Flags),
     Missing = missing(Rows, Log),
     ShownRows = seqaudit_causes:rows(Shown),
     Invented = [Id || #{id := Id, invented := true} <- ShownRows],
@@ -95,7 +96,10 @@ headline(#{said := Said, streams := Shown} = Outcome, Log, #{flags := Flags, lat
                    ++ [{exchanged, 1} || Exchanged <- [maps:get(exchanged, Outcome)], Exchanged =/= none]
                    ++ [{doesnt_fit, [{Name, reason(Outcome)}]} || Said =:= never]
                    ++ [{false, [{Name, What, Of} || {What, Of} <- False]}]
-                   ++ [{{programs, without_all_reported, with_invented_messages}, 1} || not Premises, Invented =/= []]).
+                   ++ [{{programs, case Received of
+                                       true -> sends_unreported;
+                                       false -> receives_unreported
+                                   end, with_invented_messages}, 1} || not Premises, Invented =/= []]).
 
 has(Text, Words) -> binary:match(Text, list_to_binary(Words)) =/= nomatch.
 

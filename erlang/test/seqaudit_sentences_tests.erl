@@ -1,10 +1,9 @@
 %% What the commands say of programs on real nodes whose truth is known.
 -module(seqaudit_sentences_tests).
 
--export([calls_under_labels_test_/0, token_put_back_test_/0, kept_tokens_test_/0, second_trace_test_/0,
-         unknown_message_test_/0, flags_test_/0, high_counter_test_/0, messages_alike_test_/0, split_test_/0,
-         forged_loss_test_/0,
-         unlisted_test_/0, slow_model_test_/0]).
+-export([calls_under_labels_test_/0, token_put_back_test_/0, put_back_in_doubt_test_/0, kept_tokens_test_/0,
+         second_trace_test_/0, unknown_message_test_/0, flags_test_/0, high_counter_test_/0, messages_alike_test_/0,
+         split_test_/0, forged_loss_test_/0, unlisted_test_/0, slow_model_test_/0]).
 
 -define(ALL, [send, 'receive', print]).
 
@@ -117,6 +116,42 @@ token_put_back_test_() ->
             ["because (a token was put back here) worker#0: worker receives {", "because asker#4: asker sends "]),
         has(Command(["chart", "--label", "1"]), ["{answer,7}  after worker#0, whose token was put back\n",
                                                  "answered  after worker#0, whose token was put back\n"])
+    end).
+
+%% With the send flag off nobody can tell which of two tokens was put back. No message is supposed in its place.
+put_back_in_doubt_test_() ->
+    traced("put_back_in_doubt", fun() ->
+        Self = self(),
+        begun(noting, fun() ->
+            [receive {note, N} -> ok end || N <- [1, 2]],
+            Token = seq_trace:set_token([]),
+            seq_trace:set_token(Token),
+            seq_trace:print(noted),
+            telling ! noted,
+            seq_trace:set_token([]),
+            Self ! done
+        end),
+        begun(telling, fun() ->
+            seq_trace:set_token(label, 1),
+            [seq_trace:set_token(Flag, true) || Flag <- ['receive', print]],
+            self() ! once,
+            receive once -> ok end,
+            [noting ! {note, N} || N <- [1, 2]],
+            receive noted -> ok end,
+            seq_trace:set_token([]),
+            Self ! done
+        end),
+        [receive done -> ok end || _ <- [1, 2]],
+        seqaudit_test_nodes:met_here(),
+        left([noting, telling])
+    end, fun(Command) ->
+        Audit = Command(["audit"]),
+        has(Audit, ["fits: 5 events of 2 processes, with 4 sends that nobody reported; the cause of 1 event isn't known\n",
+                    "The cause isn't known of noting#2: ",
+                    "Tokens may have been put back (seq_trace:set_token/1), so the audit took the prevs that the machine "
+                    "would have given the events behind them; "]),
+        has_none(Audit, ["unknown message", "1 receive"]),
+        has(Command(["why", "--event", "noting#2"]), ["because (perhaps: "])
     end).
 
 %% A server keeps the token of each client that waits, and puts it back to reply.
@@ -387,19 +422,35 @@ unlisted(Name) ->
     {ok, Drawing} = file:read_file(Svg),
     has(Drawing, ["stroke-dasharray=\"4 4\"", "a process that the trace doesn't list"]).
 
-%% A fit that a slow model found says so in its first line.
+%% What a slow model found says so in its first line, whatever it is.
 slow_model_test_() ->
     {timeout, 60, fun() ->
         case seqaudit_audits:model() of
             [] -> io:format(user, "slow model: skipped, there is no python3~n", []);
             [Model] ->
-                Name = seqaudit_audits:file("slow_model"),
-                ok = seqaudit_trace:start(#{name => Name}),
-                ok = seqaudit_test_server:print(1, seen),
-                {ok, _} = seqaudit_trace:stop(),
                 Tool = filename:join(filename:dirname(Model), "slow_seqtool.py"),
-                {0, Said} = seqaudit_test_shell:execute(seqaudit_test_shell:node_command(), ["audit", Name],
-                                                        [{"SEQAUDIT", Model}, {"SEQTOOL", Tool}]),
-                has(Said, ["fits (by programs without proofs): 1 event of 1 process"])
+                [unproved(Model, Case) || Case <- unproved_cases(Tool)]
         end
     end}.
+
+%% The events, which tool is there, the command, and what it says.
+unproved_cases(Tool) ->
+    By = " (by programs without proofs)",
+    A = list_to_pid("<0.80.0>"),
+    Print = fun(Who, Serial) -> {seq_trace, 1, {print, Serial, Who, [], seen}} end,
+    [{[Print(A, {0, 1})], Tool, ["audit", "--each-label"],
+      ["1: fits" ++ By ++ ": 1 event", "1 label" ++ By ++ ": 1 fit"]},
+     {[Print(A, {0, 2}), Print(A, {0, 1})], Tool, ["audit"], ["doesn't fit" ++ By ++ ": no run without a reset"]},
+     {[Print(A, {0, 1}), Print(A, {0, 5_000})], "/no/such/seqtool", ["audit"],
+      ["not explained" ++ By ++ ": no run was found"]},
+     %% Another process must have sent it a message.
+     {[Print(A, {0, 2}), Print(A, {1, 3})], Tool, ["why", "--event", "<0.80.0>#1"],
+      ["fits" ++ By ++ ": 2 events of "]}].
+
+unproved(Model, {Events, Tool, [Command | Options], First}) ->
+    Name = seqaudit_audits:file("slow_model"),
+    ok = file:write_file(Name ++ ".list", term_to_binary(Events)),
+    {ok, _} = seqaudit_convert:from_files([Name ++ ".list"], Name),
+    {_, Said} = seqaudit_test_shell:execute(seqaudit_test_shell:node_command(), [Command, Name | Options],
+                                            [{"SEQAUDIT", Model}, {"SEQTOOL", Tool}]),
+    has(Said, First).

@@ -1,7 +1,7 @@
 %% A second node on this machine, waiting for what happens there, and what has to be there or gone for a test.
 -module(seqaudit_test_nodes).
 
--export([with_second/2, start/0, kill/1, on_port/2, clear/0, until/1, on_disk/2, met/2, await_collector/0,
+-export([with_second/2, start/0, kill/1, again/1, on_port/2, clear/0, until/1, on_disk/2, met/2, await_collector/0,
          keep_pace/0, met_here/0, is_traced/1, print_when_traced/1, peak/1]).
 
 %% A machine that is busy takes a while for what is done at once otherwise.
@@ -27,17 +27,25 @@ start() ->
     Id = os:getpid(),
     case named("seqaudit_a_" ++ Id ++ "@localhost", deadline()) of
         {ok, _} ->
-            Options = #{name => list_to_atom("seqaudit_b_" ++ Id), host => "localhost",
-                        connection => standard_io,
-                        args => ["-setcookie", atom_to_list(erlang:get_cookie())]},
-            {ok, Peer, Node} = peer:start_link(Options),
-            true = net_kernel:connect_node(Node),
-            {_, Binary, File} = code:get_object_code(seqaudit_test_server),
-            {module, _} = erpc:call(Node, code, load_binary, [seqaudit_test_server, File, Binary]),
+            {Peer, Node} = peer("seqaudit_b_" ++ Id),
             {ok, fun() -> stop(Peer) end, Node};
         {error, Reason} ->
             {error, Reason}
     end.
+
+peer(Name) ->
+    {ok, Peer, Node} = peer:start_link(#{name => list_to_atom(Name), host => "localhost", connection => standard_io,
+                                         args => ["-setcookie", atom_to_list(erlang:get_cookie())]}),
+    true = net_kernel:connect_node(Node),
+    {_, Binary, File} = code:get_object_code(seqaudit_test_server),
+    {module, _} = erpc:call(Node, code, load_binary, [seqaudit_test_server, File, Binary]),
+    {Peer, Node}.
+
+%% Starts a node anew that was killed, and returns how to stop it.
+again(Node) ->
+    [Name, _] = string:split(atom_to_list(Node), "@"),
+    {Peer, Node} = peer(Name),
+    fun() -> peer:stop(Peer) end.
 
 %% Kills the node, and waits until it is gone.
 kill(There) ->
@@ -112,18 +120,36 @@ keep_pace() ->
 on_disk(Folder, Count) ->
     until(fun() -> in_folder(Folder, fun({event, _}, Sum) -> Sum + 1; (_, Sum) -> Sum end, 0) >= Count end).
 
-%% Waits until this node's collector has asked what its registered processes are called that reported something.
+%% Waits until this node's collector has asked what its registered processes are called that reported something. If it
+%% is the tracer itself, it asks as it gets the events, and has some time for that.
 met_here() ->
-    receive after 300 -> ok end.
+    [{_, Folder}] = seqaudit_trace:folders(),
+    case seq_trace:get_system_tracer() of
+        Port when is_port(Port) ->
+            until(fun() -> erlang:port_info(Port, output) =:= {output, in_folder(Folder, fun sizes/2, 0)} end),
+            met(Folder, lists:usort(in_folder(Folder, fun registered/2, [])));
+        _ ->
+            await_collector(),
+            receive after 300 -> ok end
+    end.
+
+sizes({event, Bytes}, Sum) -> 1 + byte_size(Bytes) + Sum;
+sizes(_, Sum) -> Sum.
+
+registered({event, Bytes}, Pids) ->
+    Info = element(3, binary_to_term(<<131, Bytes/binary>>)),
+    [Pid || Pid <- [element(3, Info), element(4, Info)], is_pid(Pid), node(Pid) =:= node(),
+            {registered_name, _} <- [process_info(Pid, registered_name)]] ++ Pids;
+registered(_, Pids) ->
+    Pids.
 
 %% Waits until a collector has asked what these processes are called.
 met(Folder, Pids) ->
     Wanted = [seqaudit_external:from_term(Pid) || Pid <- Pids],
-    until(fun() ->
-              [] =:= Wanted -- in_folder(Folder, fun({facts, #{processes := Known}}, Sum) -> [Pid || {Pid, _} <- Known] ++ Sum;
-                                                    (_, Sum) -> Sum
-                                                 end, [])
-          end).
+    Noted = fun({facts, #{processes := Known}}, Sum) -> [Pid || {Pid, _} <- Known] ++ Sum;
+               (_, Sum) -> Sum
+            end,
+    until(fun() -> [] =:= Wanted -- in_folder(Folder, Noted, []) end).
 
 in_folder(Folder, Do, Acc) ->
     {ok, Result} = seqaudit_events:fold(Folder, Do, Acc),

@@ -1,7 +1,7 @@
 %% How long messages took, the wall clock, JSON, and what other programs draw.
 -module(seqaudit_timing_tests).
 
--export([statistics_test/0, kinds_test/0, clock_test/0, json_test/0, commands_test_/0]).
+-export([statistics_test/0, kinds_test/0, clock_test/0, alike_test/0, json_test/0, commands_test_/0]).
 
 statistics_test() ->
     Streams = [{<<"<0.1.0>">>, []},
@@ -41,6 +41,25 @@ clock_test() ->
     "1.500000 s" = seqaudit_times:at({<<"<0.1.0>">>, 1}, Times#{start := -576_460_750_652_114_560}),
     "1500 ms from the first event to the last" = seqaudit_times:summary(Times#{start := -576_460_750_652_114_560}),
     "9999-12-31T23:59:59.999999Z" = seqaudit_times:clock(1 bsl 80).
+
+%% Of messages that are alike, as when a token is put back for each, the first that one process receives is the first that
+%% was sent. How long they took isn't known if several processes receive them, or if one end of one wasn't reported.
+alike_test() ->
+    [[4_000, 5_000], [], [], [], [], [3_000]] =
+        [took(Sent, Received) || {Sent, Received} <- [{[1, 2], [{b, 5}, {b, 7}]}, {[1], [{b, 5}, {b, 7}]},
+                                                      {[1, 2], [{b, 5}]}, {[1, 2], [{b, 5}, {c, 7}]}, {[], [{b, 5}]},
+                                                      {[2], [{c, 5}]}]].
+
+%% How many milliseconds each message took that A sent and others received at these seconds.
+took(Sent, Received) ->
+    Pids = #{a := A} = maps:from_list([{Name, spawn(fun() -> ok end)} || Name <- [a, b, c]]),
+    Name = seqaudit_audits:file("alike"),
+    Events = [{seq_trace, 1, {send, {0, 1}, A, maps:get(b, Pids), m}, {0, Second, 0}} || Second <- Sent]
+        ++ [{seq_trace, 1, {'receive', {0, 1}, A, maps:get(To, Pids), m}, {0, Second, 0}} || {To, Second} <- Received],
+    ok = file:write_file(Name ++ ".list", term_to_binary(Events)),
+    {ok, _} = seqaudit_convert:from_files([Name ++ ".list"], Name),
+    {ok, #{messages := Messages}} = seqaudit_times:read(Name ++ ".times"),
+    lists:sort([Took div 1_000_000 || {_, Took} <- maps:values(Messages)]).
 
 json_test() ->
     <<"{\"a\":[1,1.500,null,true,\"k\\u00e4se\\u0022\\u000a\"],\"b\":{}}">> =
