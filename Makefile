@@ -118,7 +118,7 @@ test-rust: ## plain Rust: its own tests, and each output beside the programs' (3
 	@if command -v python3 >/dev/null; then rust/test $(BUILT) $(BUILT_TOOL); \
 	else echo "There is no python3 here: the plain Rust is skipped."; fi
 
-bench: bin/seqaudit ## times the commands on bundles of 600,000 events, beside plain Rust (5 minutes, after program; needs rustc)
+bench: bin/seqaudit ## times the commands on bundles of 600,000 events, beside plain Rust (11 minutes, after program; needs rustc)
 	bench/run
 
 hostile: bin/seqaudit bin/seqtool ## faults, tampered text and inputs at the limits, docs/HOSTILE.md (2 minutes, after program)
