@@ -240,7 +240,7 @@ files(Name) ->
     has(command(["chart", "--label", "l7", "--svg", Name ++ ".svg", "--html", Name ++ ".html"], Name, Tool), ["part 1 of 2\n", "part 2 of 2\n"]),
     [{ok, <<"<?xml", _/binary>>} = file:read_file(Name ++ Which ++ ".svg") || Which <- ["-1", "-2"]],
     {ok, <<"<!doctype html>", Page/binary>>} = file:read_file(Name ++ ".html"),
-    has(Page, ["doesn't fit: no run without a reset reports this trace"]),
+    has(Page, ["doesn't fit", ": no run without a reset reports this trace"]),
     %% Both have messages in them, so they are their owner's alone.
     [8#600 = seqaudit_audits:mode(Name ++ Which) || Which <- ["-1.svg", "-2.svg", ".html"]],
     %% More rows than a drawing takes.
