@@ -1,6 +1,7 @@
 """Floods: texts whose counts or pids fall into a few places of a hash table, or into one slot of a table of guesses.
 Whoever writes a text can choose them so, and a table that doesn't expect it takes time that grows as their square."""
 
+from collections import namedtuple
 from functools import cache
 from itertools import count as counted, cycle, islice, product
 
@@ -10,7 +11,9 @@ from .program import Check
 # halves are joined.
 SEED, MULTIPLIER, WORD = 0x243F_6A88_85A3_08D3, 0x9E37_79B9_7F4A_7C15, (1 << 64) - 1
 # So many receives, and the few places that their keys fall into, of as many as a table for them has.
-RECEIVES, PLACES, CHOSEN = 50_000, 1 << 16, 1 << 9
+Size = namedtuple("Size", "receives places chosen")
+SMALL = Size(50_000, 1 << 16, 1 << 9)
+GREAT = Size(900_000, 1 << 21, 1 << 17)  # A text of 50 MB. To find the counts takes half a minute.
 # So many processes whose pids share places, as many as `seqtool` reads, and their acts.
 PROCESSES, ACTS = 16_000, 400_000
 # How far apart the slots of equal numbers on neighbouring nodes lie in the tables of guesses; the numbers of a node.
@@ -24,44 +27,47 @@ def joined(left, right):
     return (whole ^ whole >> 64) & WORD
 
 
-def place(hashed):
-    return (hashed ^ hashed >> 32) % PLACES
+def folded(hashed):
+    """What a table takes the low bits of."""
+    return hashed ^ hashed >> 32
 
 
-def place_of_count(number):
-    return place(joined(SEED ^ number, MULTIPLIER ^ 16))
+def hash_of_count(number):
+    return folded(joined(SEED ^ number, MULTIPLIER ^ 16))
 
 
-def place_of_key(number):
+def hash_of_key(number):
     """That of a count and the sender <0.0.0>, as 16 bytes."""
-    return place(joined(SEED + 16 ^ number, MULTIPLIER))
+    return folded(joined(SEED + 16 ^ number, MULTIPLIER))
 
 
-def place_of_pid(node, number):
+def hash_of_pid(node, number):
     """That of a pid, as two numbers of two bytes, of which the library takes the second byte twice."""
     state = SEED
     for part in (node, number):
         state = joined(state ^ (part | part >> 8 << 16), MULTIPLIER ^ 4)
-    return place(state)
+    return folded(state)
 
 
 @cache
-def sharing(place_of):
-    return [number for number in islice(counted(1), RECEIVES * PLACES // CHOSEN) if place_of(number) < CHOSEN]
+def sharing(hash_of, size):
+    tried_counts = islice(counted(1), size.receives * size.places // size.chosen)
+    return [number for number in tried_counts if hash_of(number) % size.places < size.chosen]
 
 
 # Counts of receives from one process. A hash that begins with a digest of all keys leaves nobody to know which meet; the
 # last counts are alike in their low bits.
 COUNTS = {
-    "counts that share places by the library's hash": lambda: sharing(place_of_count),
-    "counts that share places with their sender": lambda: sharing(place_of_key),
-    "counts whose low 44 bits are 0": lambda: [number << 44 for number in range(1, RECEIVES)],
+    "counts that share places by the library's hash": lambda size: sharing(hash_of_count, size),
+    "counts that share places with their sender": lambda size: sharing(hash_of_key, size),
+    "counts whose low 44 bits are 0": lambda size: [number << 44 for number in range(1, size.receives)],
 }
 
 
 def pids_sharing_places():
     every = ((node, number) for number, node in product(range(NUMBERS), range(64)))
-    return sorted(islice((pid for pid in every if place_of_pid(*pid) < CHOSEN), PROCESSES))
+    shared = (pid for pid in every if hash_of_pid(*pid) % SMALL.places < SMALL.chosen)
+    return sorted(islice(shared, PROCESSES))
 
 
 def pids_sharing_a_slot():
@@ -102,10 +108,10 @@ def compared(program, words, name, other, flood):
     return Check(label, problem, f"{taken[1]:.2f} s, others {taken[0]:.2f} s")
 
 
-def tried(program, words):
+def tried(program, words, size=SMALL):
     """A flood of counts takes about as long as as many receives with counts that follow one another."""
     for name, chosen in COUNTS.items():
-        flood = chosen()
+        flood = chosen(size)
         other = range(flood[0], flood[0] + len(flood))
         yield compared(program, words, f"{len(flood):,} {name}", received(other), received(flood))
 
