@@ -13,7 +13,7 @@ sys.dont_write_bytecode = True
 
 from one_run import run_once  # noqa: E402
 from same import count_events, difference  # noqa: E402
-from traces import COMMANDS, TRACES, words_of  # noqa: E402
+from cases import COMMANDS, TRACES, words_of  # noqa: E402
 
 PROVED, TUNED, PLAIN = "proved", "tuned", "the same source in plain Rust"
 
