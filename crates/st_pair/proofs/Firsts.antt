@@ -126,7 +126,8 @@ module _ {X : Type 0} (rule : Pid → ℕ → Event
   -- of events that are the process's
   pub first-events : (pids : List Pid) (k : ℕ) (d : Pid) (es : List Event) → pids ≡ pids_of streams → k < length pids
       → es ≡ events_of streams (get_or pids k d)
-      → first rule (drop k streams) ≡ or_else (first_from rule (get_or pids k d) 0 es) (first rule (drop (k + 1) streams))
+      → first rule (drop k streams)
+      ≡ or_else (first_from rule (get_or pids k d) 0 es) (first rule (drop (k + 1) streams))
   first-events pids k d es are within events = first-loop pids k d are within
       ∙ ap (λ (l : List Event). or_else (first_from rule (get_or pids k d) 0 l) (first rule (drop (k + 1) streams)))
       (sym events)

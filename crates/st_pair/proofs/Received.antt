@@ -1,7 +1,9 @@
--- The first receive of each key: a table that takes receives in their order, and keeps the first of each key, is told by
--- a key that is there already that its message was received before.
-use Rattle.std.proofs.Common.{◌≡◌, ℕ, ◌+◌, ◌==◌, ◌&&◌, ◌||◌, ◌⊎◌, inl, inr, Bool, true, false, cond, List, length, get_or, drop, ◌<◌}
-use Rattle.std.proofs.Common.{Option, None, Some, slice_get, refl, sym, ◌∙◌, ap, subst, if◌then◌else◌, option_and_then, Result, Ok, Err, IfErr}
+-- The first receive of each key: a table that takes receives in their order, and keeps the first
+-- of each key, is told by a key that is there already that its message was received before.
+use Rattle.std.proofs.Common.{◌≡◌, ℕ, ◌+◌, ◌==◌, ◌&&◌, ◌||◌, ◌⊎◌, inl, inr, Bool, true, false}
+use Rattle.std.proofs.Common.{cond, List, length, get_or, drop, ◌<◌}
+use Rattle.std.proofs.Common.{Option, None, Some, slice_get, refl, sym, ◌∙◌, ap, subst}
+use Rattle.std.proofs.Common.{if◌then◌else◌, option_and_then, Result, Ok, Err, IfErr}
 use Rattle.std.proofs.lemmas.Bool.{eqb-true, eq-eqb, and_parts, and_from}
 use Rattle.st_core.specs.declared.types.Pid.{Pid}
 use Rattle.st_core.specs.declared.types.Event.{Event}
@@ -51,12 +53,14 @@ pub noted : (before after : Table) (key : Key) (place : Pid × ℕ)
     → ((k : Key) → after k ≡ cond (key_eq key k) (Some place) (before k))
     → (before key ≡ None) ⊎ (before key ≡ Some place) → (k : Key) → after k ≡ or_else (before k) (here key place k)
 noted before after key place written was k =
-    written k ∙ put_under (key_eq key k) place (before k) (λ same. subst (λ l. (before l ≡ None) ⊎ (before l ≡ Some place))
+    written k ∙ put_under (key_eq key k) place (before k)
+    (λ same. subst (λ l. (before l ≡ None) ⊎ (before l ≡ Some place))
     (key_eq-true key k same) was)
 
 -- WHAT A RECEIVE GIVES
 
-here_rule : (k : Key) (p : Pid) (i : ℕ) (e : Event) → is_stamp e ≡ false → receive_rule k p i e ≡ here (key_in e) (p, i) k
+here_rule : (k : Key) (p : Pid) (i : ℕ) (e : Event) → is_stamp e ≡ false
+    → receive_rule k p i e ≡ here (key_in e) (p, i) k
 here_rule k p i e receives = ap (λ (b : Bool). cond b None (here (key_in e) (p, i) k)) receives
 
 key_eq-same : (k : Key) → key_eq k k ≡ true
@@ -93,10 +97,12 @@ module _ (before now : Table) (p : Pid) (i : ℕ) (es : List Event) (e : Event)
       let found : or_else (before k) given ≡ Some first =
       sym (so_far k) ∙ ap (or_else (now k)) front ∙ sym is in
       let sought : receive_of streams e.from e.serial.this ≡ Some first =
-      sym (all k) ∙ sym (or_assoc (before k) given (rest k)) ∙ ap (λ (o : Option (Pid × ℕ)). or_else o (rest k)) found in
+      sym (all k) ∙ sym (or_assoc (before k) given (rest k))
+      ∙ ap (λ (o : Option (Pid × ℕ)). or_else o (rest k)) found in
       ap (option_and_then (λ (at : Pid × ℕ). if is_stamp e || (pid_eq at.0 p && at.1 == i) then None
       else Some (fault.Repeated p i at.0 at.1))) sought
-      ∙ ap (λ (b : Bool). cond (b || (pid_eq first.0 p && first.1 == i)) None (Some (fault.Repeated p i first.0 first.1)))
+      ∙ ap (λ (b : Bool). cond (b || (pid_eq first.0 p && first.1 == i)) None
+      (Some (fault.Repeated p i first.0 first.1)))
       receives
 
 -- a send or print gives nothing
@@ -114,7 +120,8 @@ stamp_unrepeated streams p i e stamps = elim (receive_of streams e.from e.serial
     as (λ o. option_and_then (λ (at : Pid × ℕ). if is_stamp e || (pid_eq at.0 p && at.1 == i) then None
     else Some (fault.Repeated p i at.0 at.1)) o ≡ None) [
       | None ↦ refl
-      | Some at ↦ ap (λ (b : Bool). cond (b || (pid_eq at.0 p && at.1 == i)) None (Some (fault.Repeated p i at.0 at.1))) stamps
+      | Some at ↦ ap (λ (b : Bool). cond (b || (pid_eq at.0 p && at.1 == i)) None
+          (Some (fault.Repeated p i at.0 at.1))) stamps
     ]
 
 -- a process's receives between those before it and those after it

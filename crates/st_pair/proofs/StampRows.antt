@@ -1,7 +1,8 @@
 -- The sends and prints of a process as rows: the first with a count is the one that `stamp_of` finds, and since counts
 -- rise it is the only one, so that a search by halves finds it.
 use Rattle.std.proofs.Common.{◌≡◌, ℕ, ◌+◌, ◌<◌, ◌==◌, ◌&&◌, zero, suc, ltb, Bool, true, false, cond, List, []}
-use Rattle.std.proofs.Common.{◌∷◌, length, get_or, find, drop, ◌++◌, Option, None, Some, option_map, option_and_then, slice_get, refl}
+use Rattle.std.proofs.Common.{◌∷◌, length, get_or, find, drop, ◌++◌, Option, None, Some}
+use Rattle.std.proofs.Common.{option_map, option_and_then, slice_get, refl}
 use Rattle.std.proofs.Common.{inl, inr, sym, ◌∙◌, ap, arith, append_assoc}
 use Rattle.std.specs.List.{AllByRecursion}
 use Rattle.std.specs.List.Sorted.{IsNonDecreasingBy, IsPartitionPoint}
@@ -130,7 +131,8 @@ rise_from k (e ∷ es) h =
     let rest = stamp_rows (k + 1) es in
     let later = rise_from (k + 1) es (λ j i d f less at_d at_f. h (suc j) (suc i) d f (omega arith) at_d at_f) in
     elim (is_stamp e) as (λ b. is_stamp e ≡ b → AreRising (cond b (row ∷ rest) rest)) [
-      | true ↦ λ is. (above e.serial.this (k + 1) es (λ j f at stamps. h 0 (suc j) e f (omega arith) refl at is stamps), later)
+      | true ↦ λ is.
+          (above e.serial.this (k + 1) es (λ j f at stamps. h 0 (suc j) e f (omega arith) refl at is stamps), later)
       | false ↦ λ is. later
     ] refl
 
@@ -165,7 +167,8 @@ find_at (x ∷ rows) this zero r rising at is =
     ap (λ (b : Bool). cond b (Some x) (row_of this rows)) equal ∙ ap Some same
 find_at (x ∷ rows) this (suc n) r rising at is =
     let within = slice_get_within rows n r at in
-    let more : x.count < (get_or rows n r).count = All-from_recursion (λ s. x.count < s.count) rows rising.0 n r within in
+    let more : x.count < (get_or rows n r).count = All-from_recursion (λ s. x.count < s.count)
+    rows rising.0 n r within in
     let here : get_or rows n r ≡ r = get_or_from_slice_get rows n r r at in
     let less : x.count < this = rw (← is, ← here) more in
     ap (λ (b : Bool). cond b (Some x) (row_of this rows)) (less_apart x.count this less)

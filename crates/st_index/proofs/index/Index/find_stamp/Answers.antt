@@ -26,7 +26,8 @@ pub rank-requires : goal.rank-requires
 rank-requires c =
     let index = c.args.self.now in
     let has = c.requires.index.is.has_slots in
-    in_ranks index c.requires.index.is.slots has pid_count_cmp bears_key index.stamps has.stamps c.requires.kept (c.args.from, c.args.this)
+    in_ranks index c.requires.index.is.slots has pid_count_cmp bears_key index.stamps has.stamps
+    c.requires.kept (c.args.from, c.args.this)
     c.in_ok-behind.behind c.in_ok-slot.slot
     (subst (λ (o : Option ℕ).
     IsFirst (has_key pid_count_cmp index.stamps (c.args.from, c.args.this)) c.in_ok-behind.behind o)

@@ -20,7 +20,8 @@ pub rank-requires : goal.rank-requires
 rank-requires c =
     let index = c.args.self.now in
     let has = c.requires.index.is.has_slots in
-    in_ranks index c.requires.index.is.slots has nat_cmp is_of_value index.values has.values c.requires.kept c.args.value 0 c.in_ok-slot.slot
+    in_ranks index c.requires.index.is.slots has nat_cmp is_of_value index.values has.values
+    c.requires.kept c.args.value 0 c.in_ok-slot.slot
     (subst (λ (o : Option ℕ). IsFirst (has_key nat_cmp index.values c.args.value) 0 o) c.in_ok-slot.was c.first.ensures)
 
 pub returns : goal.returns

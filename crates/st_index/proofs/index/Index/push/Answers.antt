@@ -41,10 +41,12 @@ returns-clause-pushed c queue is =
             old.used has.used c.in_ok-insert-2.ensures.inserted c.in_ok-insert-2.ensures.kept has.senders;
         pairs =
             keyed-push pid_count_cmp is_of_both slots m (λ k. is_eq (pid_count_cmp (m.from, m.value) k)) (both_key m)
-            old.pairs c.insert-3.new.self old.used has.used c.in_ok-insert-3.ensures.inserted c.in_ok-insert-3.ensures.kept has.pairs;
+            old.pairs c.insert-3.new.self old.used has.used c.in_ok-insert-3.ensures.inserted
+            c.in_ok-insert-3.ensures.kept has.pairs;
         stamps =
             keyed-push pid_count_cmp bears_key slots m (λ k. bears_key k m) (λ k. refl) old.stamps
             c.insert_stamp.new.stamps
-            old.used has.used (λ was k. c.in_ok-insert_stamp.ensures.inserted was k.0 k.1) c.in_ok-insert_stamp.ensures.kept has.stamps;
+            old.used has.used (λ was k. c.in_ok-insert_stamp.ensures.inserted was k.0 k.1)
+            c.in_ok-insert_stamp.ensures.kept has.stamps;
       };
     }

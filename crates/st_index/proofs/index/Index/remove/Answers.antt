@@ -54,6 +54,7 @@ returns-clause-removed c queue is at =
             old.pairs c.remove-3.new.self c.remove-3.ensures.removed c.remove-3.ensures.kept has.pairs;
         stamps =
             keyed-set pid_count_cmp bears_key slots m (λ k. bears_key k m) (λ k. refl) slot there old.stamps
-            c.remove_stamp.new.stamps (λ k. c.remove_stamp.ensures.removed k.0 k.1) c.remove_stamp.ensures.kept has.stamps;
+            c.remove_stamp.new.stamps (λ k. c.remove_stamp.ensures.removed k.0 k.1)
+            c.remove_stamp.ensures.kept has.stamps;
       };
     }
