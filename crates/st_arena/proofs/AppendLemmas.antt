@@ -25,7 +25,7 @@ module _ {T : Type 0} (old new : ℕ → Option (Node T)) (ends : Ends) (key : �
   append_holds : (place : ℕ) → place ≡ ends.len → item_of (new (row place)) ≡ Some value
   append_holds place is = rw (is, at_end) change.holds
 
-  -- no node before it stands under the new key
+  -- no node before it is under the new key
   append_differs : (place other : ℕ) → place < ends.len → other ≡ ends.len → row place ≢ row other
   append_differs place other within is same =
       vacant_apart old new ends key chain change.key place change.was_vacant within
@@ -209,7 +209,7 @@ module _ {T : Type 0} (old new : ℕ → Option (Node T)) (ends : List Ends) (co
       (omega (arith, change.len))
       within
 
-  -- and of all lists only that one changed: the value stands at its end
+  -- and of all lists only that one changed: the value is at its end
   pub append_lists : map (items_of new) (set ends list after)
       ≡ set (map (items_of old) ends) list (get_or (map (items_of old) ends) list [] ++ value ∷ [])
   append_lists =

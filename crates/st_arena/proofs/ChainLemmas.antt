@@ -1,4 +1,4 @@
--- A chain has an item under each of its keys, which stand apart: so a list has as many items as its ends say, and
+-- A chain has an item under each of its keys, which are apart: so a list has as many items as its ends say, and
 -- keeps them if the slots of its keys stay.
 use Rattle.std.proofs.Common.{◌≡◌, ◌≢◌, ℕ, zero, suc, ◌+◌, ◌<◌, false, List, [], ◌∷◌, length, get_or, drop}
 use Rattle.std.proofs.Common.{Option, Some, None, IsSome, is_some, unwrap_or, slice_get, refl, sym, ap, ◌∙◌}

@@ -101,7 +101,7 @@ module _ {T : Type 0} (slots : ℕ → Option (Node T)) (ends : List Ends) (coun
           → AreChains new (set ends list after) new_count new_capacity
       push_sound = append_sound slots new ends count capacity sound list in_ends after value appends
 
-      -- and the value stands at the end of that list alone
+      -- and the value is at the end of that list alone
       pub push_lists : map (items_of new) (set ends list after) ≡ set lists list (get_or lists list [] ++ value ∷ [])
       push_lists = rw view at (append_lists slots new ends count capacity sound list in_ends after value appends)
 

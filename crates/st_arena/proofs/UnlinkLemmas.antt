@@ -17,7 +17,7 @@ module _ {T : Type 0} (old new : ℕ → Option (Node T)) (ends : Ends) (key : �
     (within : place < ends.len) (is_there : gone ≡ key place) (row : ℕ → ℕ)
     (below : (other : ℕ) → other < place → row other ≡ key other)
     (above : (other : ℕ) → place ≤ other → row other ≡ key (suc other)) where
-  -- only the node at the place stands under its key
+  -- only the node at the place is under its key
   not_gone : (other : ℕ) → other < ends.len → other ≢ place → key other ≢ gone
   not_gone other inside differs same = differs (chain.apart other place inside within (same ∙ is_there))
 

@@ -19,7 +19,7 @@ abbrev pub ends_at : List Ends → ℕ → Ends
 ends_at ends list = slice_index_or ends list no_ends
 
 module _ {T : Type 0} where
-  -- what stands in a slot: its value, and the keys of its neighbours (0 if the slot is empty)
+  -- what is in a slot: its value, and the keys of its neighbours (0 if the slot is empty)
   abbrev pub item_of : Option (Node T) → Option T
   item_of slot = option_map (λ node. node.value) slot
 
@@ -37,7 +37,7 @@ pub record Turns {T : Type 0} (R : T → T → Type 0) (old new : Option T) : Ty
   pub is : new ≡ Some after
   pub related : R before after
 
--- from here on, `slots` gives what stands under a key
+-- from here on, `slots` gives what is under a key
 module _ {T : Type 0} (slots : ℕ → Option (Node T)) where
   -- the values of so many nodes in a row, from a key on
   abbrev pub items : ℕ → ℕ → List T
@@ -67,7 +67,7 @@ module _ {T : Type 0} (slots : ℕ → Option (Node T)) where
   AreLadders ends ladders = (list : ℕ)
       → IfSome (ladders list) (λ ladder. ladder ≡ keys_of (ends_at ends list))
 
-  -- the nodes of a list stand under the keys key 0, key 1, .., each once, and each names its
+  -- the nodes of a list are under the keys key 0, key 1, .., each once, and each names its
   -- neighbours. What the last node names as its next, and the first as its previous, is left open
   pub record IsChain (ends : Ends) (key : ℕ → ℕ) : Type 0 where
     pub held : (place : ℕ) → place < ends.len → IsSome (item_of (slots (key place)))

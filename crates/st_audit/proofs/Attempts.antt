@@ -133,7 +133,7 @@ tries_more top s (x ∷ xs) ys o p tries = tries_by top s x (xs ++ ys) p
 
 -- ACTS THAT WERE PERFORMED
 
--- the acts ran, and stand at the end
+-- the acts ran, and are at the end
 pub record Performed {top : ℕ} (acts : List Act) (old new : Construction top) : Type 0 where
   pub outcomes : List Outcome
   pub runs : run_from top old.world acts ≡ Some outcomes

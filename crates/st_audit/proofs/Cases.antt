@@ -33,11 +33,11 @@ uncaused_first : ends (of a [] ∷ of b (got 1 0 5 a b 7 ∷ printed 1 2 2006 b 
     ≡ Unfounded (b, 1) reason.Uncaused
 uncaused_first = refl
 
--- a hidden send before which too many counts are missing; it stands where its receive does
+-- a hidden send before which too many counts are missing; it is where its receive is
 hidden_too_wide : ends (of a [] ∷ of b (got 1 0 1002 a b 7 ∷ []) ∷ []) ≡ Unfounded (b, 0) reason.TooWide
 hidden_too_wide = refl
 
--- a receive that stands in the order before its send, since its sender received a greater count first: its message
+-- a receive that is in the order before its send, since its sender received a greater count first: its message
 -- isn't there, and no act is tried for it
 not_there : ends (of a (got 1 0 9 c a 4 ∷ sent 1 1 3 a b 5 ∷ []) ∷ of b (got 1 1 3 a b 5 ∷ []) ∷ of c [] ∷ [])
     ≡ Judged (act.Tracer a true ∷ []) (Some (b, 0))

@@ -1,4 +1,4 @@
--- An item of the order has an event at its place, and its move stands between those of the items before and after it.
+-- An item of the order has an event at its place, and its move is between those of the items before and after it.
 use Rattle.std.proofs.Common.{◌≡◌, ℕ, zero, suc, ◌<◌, List, [], ◌∷◌, ◌++◌, reverse, take, drop, Option, Some, IsSome}
 use Rattle.std.proofs.Common.{slice_get, length, get_or, refl, sym, ◌∙◌, ap, subst}
 use Rattle.std.proofs.lemmas.List.{reverse-reverse}

@@ -51,7 +51,7 @@ IsStampOf p (act.Send q to v) = p ≡ q
 IsStampOf p (act.Print q v) = p ≡ q
 IsStampOf p a = ⊥
 
--- p was brought to stand ready for the event's serial, and then stamped it with this outcome
+-- p was brought to be ready for the event's serial, and then stamped it with this outcome
 pub record Stamps (top : ℕ) (old : State) (p : Pid) (e : Event) (end : Outcome) : Type 0 where
   pub before : Process
   pub is_before : process old p ≡ Some before

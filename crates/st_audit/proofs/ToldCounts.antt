@@ -73,7 +73,7 @@ tells_one streams p i place count old is_place was put =
       others = λ k apart. set_other old place k count apart;
     }
 
--- a pid stands at one place
+-- a pid is at one place
 one_place : (ps : List Pid) (j k : ℕ) (p : Pid) → IsRising ps → slice_get ps j ≡ Some p → slice_get ps k ≡ Some p
     → j ≡ k
 one_place ps j k p rising one two =

@@ -1,5 +1,5 @@
 -- The finding that the streams determine holds of them: it names the place of an item, at which an
--- event stands, and the
+-- event is, and the
 -- construction stops for a reason of its own only if this holds of the item's move.
 use Rattle.std.proofs.Common.{◌≡◌, ℕ, ◌++◌, Bool, true, false, cond, List, [], ◌∷◌, length, reverse, get_or}
 use Rattle.std.proofs.Common.{Option, Some}
@@ -47,7 +47,7 @@ use Rattle.st_audit.proofs.Track.{none}
 
 -- THE PLACES
 
--- an event stands at this place
+-- an event is at this place
 abbrev IsThereAt : List Stream → Pid × ℕ → Type 0
 IsThereAt streams at = IsSome (event_at streams at.0 at.1)
 

@@ -1,5 +1,5 @@
 -- For the parts alone: what the construction keeps along the items, what comes of an item from
--- where it stands, and that a call did what comes of it.
+-- where it is, and that a call did what comes of it.
 use Rattle.std.specs.Prelude.{◌≡◌, ℕ, ◌+◌, ◌-◌, ◌==◌, ◌&&◌, ◌||◌, nat_lt, Bool, true, false, not}
 use Rattle.std.specs.Prelude.{List, [], ◌∷◌, ◌++◌, ◌<◌, ◌^◌, ◌≢◌, length, slice_get, Option, Some}
 use Rattle.std.specs.Prelude.{None, if◌then◌else◌, Result, Ok, Err, option_map}
@@ -177,7 +177,7 @@ pub record WentThrough {top : ℕ} {T : Type 0} (says : T → List Outcome → T
   pub after : new.world ≡ state_after old.world outcomes
   pub put : new.acts ≡ old.acts ++ acts
 
--- the acts that were tried stand at the end
+-- the acts that were tried are at the end
 pub record WasStopped {top : ℕ} (t : Turn) (old new : Construction top) : Type 0 where
   pub acts : List Act
   pub stopped : t ≡ Stopped acts

@@ -231,7 +231,7 @@ impl<const TOP: u64> Construction<TOP> {
         })
     }
 
-    /// Brings the process to stand ready for the event's serial, and stamps it by this act.
+    /// Brings the process to be ready for the event's serial, and stamps it by this act.
     fn stamp(
         &mut self,
         alloc: Global,

@@ -6,7 +6,7 @@ use Rattle.st_core.specs.declared.types.Event.{Event}
 use Rattle.st_core.specs.Run.{Stream}
 use Rattle.st_core.specs.Streams.{events_of}
 
--- the indexes of those of these events that have the label, if the first of them stands at index i
+-- the indexes of those of these events that have the label, if the first of them is at index i
 abbrev pub labelled_indexes : Label → ℕ → List Event → List ℕ
 labelled_indexes label i [] = []
 labelled_indexes label i (e ∷ es) =

@@ -66,7 +66,7 @@ is_at x p = elim x.item [
   ]
 ]
 
--- the mark where the item happened; each mark stands right in four places
+-- the mark where the item happened; each mark is right in four places
 abbrev pub letter : Item → Kind → List ℕ
 letter (item.Hidden p i) k = codes "   H"
 letter (item.Reported p i) kind.Send = codes "   S"

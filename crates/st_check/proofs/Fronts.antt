@@ -1,4 +1,4 @@
--- What follows a front of a list stands at the length of the front.
+-- What follows a front of a list is at the length of the front.
 use Rattle.std.proofs.Common.{◌≡◌, List, [], ◌∷◌, ◌++◌, length, Some, refl, sym, ◌∙◌, ap, append_assoc}
 use mathlib.Core.List.{IsPrefix}
 use Rattle.std.specs.List.{slice_get}

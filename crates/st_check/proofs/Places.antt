@@ -40,7 +40,7 @@ above p [] k d all within = absurd (omega arith)
 above p (x ∷ streams) zero d all within = all.0
 above p (x ∷ streams) (suc k) d all within = above p streams k d all.1 (omega arith)
 
--- the stream of each pid that stands among streams is its own
+-- the stream of each pid that is among streams is its own
 pub events_at : (streams : List Stream) (k : ℕ) (d : Stream) → IsRising (pids_of streams) → k < length streams
     → events_of streams (get_or streams k d).pid ≡ (get_or streams k d).events
 events_at [] k d rising within = absurd (omega arith)

@@ -24,13 +24,13 @@ verdict_of (told.Differs n) = verdicts.Differs n
 verdict_of (told.Left p) = verdicts.Left p
 verdict_of (told.Yes ps) = verdicts.Yes ps
 
--- on a yes, in the run of the acts each pair's receive follows its send, and no send stands twice
+-- on a yes, in the run of the acts each pair's receive follows its send, and no send occurs twice
 abbrev pub FollowsAll : ℕ → List Stream → List Act → verdicts.Verdict → Type 0
 FollowsAll top streams acts (verdicts.Yes ps) =
     (os : List Outcome) → run top (pids_of streams) acts ≡ Some os → Follows acts os ps
 FollowsAll top streams acts v = Unit {0}
 
--- on a yes, each reported receive of that run stands in a pair
+-- on a yes, each reported receive of that run is in a pair
 abbrev pub PairsAll : ℕ → List Stream → List Act → verdicts.Verdict → Type 0
 PairsAll top streams acts (verdicts.Yes ps) =
     (os : List Outcome) → run top (pids_of streams) acts ≡ Some os → AllPaired os ps

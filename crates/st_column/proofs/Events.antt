@@ -15,7 +15,7 @@ use Rattle.st_column.proofs.Pieces.{FitsNode, fits_pid, are_bytes, actor_out, co
 use Rattle.st_column.proofs.Pieces.{actor_in, count_in, word_last}
 use Rattle.st_column.proofs.Acts.{at}
 
--- an event's text put together from the front, up to what stands behind its first pid; the kind's word has the commas
+-- an event's text put together from the front, up to what is behind its first pid; the kind's word has the commas
 -- and brackets around it
 abbrev begun : List ℕ → ℕ → ℕ → ℕ → Pid → List ℕ → List ℕ
 begun word l prev this p rest =
@@ -49,7 +49,7 @@ module _ (wide : Bool) where
       let first = count_out wide word 78 most_number prev (codes ",N},<M.P.0>" ++ tail) _ bytes refl fp second in
       count_out wide (codes "{seq_trace,") 76 most_label l (word ++ (codes "N,N},<M.P.0>" ++ tail)) _ refl refl fl first
 
-  -- what stands behind an event's first pid
+  -- what is behind an event's first pid
   to_out : (q : Pid) (v : ℕ) → FitsNode wide q → v ≤ most_number
       → Spells wide (codes ",<M.P.0>,N}}") (codes "," ++ (spelled.pid q ++ (codes "," ++ (decimal v ++ codes "}}"))))
   to_out q v f le =

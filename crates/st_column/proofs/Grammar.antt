@@ -1,4 +1,4 @@
--- The templates spell the very lines of the grammar that may stand there, so the longest front of the ones is that of
+-- The templates spell the very lines of the grammar that may be there, so the longest front of the ones is that of
 -- the others.
 use Rattle.std.proofs.Common.{◌≡◌, ℕ, Bool, true, false, not, ◌&&◌, ◌||◌, List, [], ◌∷◌, ◌++◌, take}
 use Rattle.std.proofs.Common.{Option, Some, None, refl, sym, ap, subst, ◌∙◌, ◌⊎◌, inl, inr}
@@ -27,7 +27,7 @@ use Rattle.st_column.proofs.Pieces.{FitsNode, fits_pid, last_pid, last_word, pid
 use Rattle.st_column.proofs.Acts.{act_in, act_out}
 use Rattle.st_column.proofs.Events.{event_in, event_out}
 
--- a line that may stand below this, whatever its pids
+-- a line that may be below this, whatever its pids
 abbrev stands : Above → Line → Bool
 stands above.Nothing l = is_header l
 stands above.Header l = may_follow false None l
@@ -39,7 +39,7 @@ stands above.Acts l = may_follow true None l
 abbrev is_let_in : Bool → Line → Bool
 is_let_in wide l = wide || not (is_remote l)
 
--- it is spelled so, and may stand there
+-- it is spelled so, and may be there
 record IsLine (wide : Bool) (a : Above) (text : List ℕ) : Type 0 where
   value : Line
   fits : Fits value
@@ -198,7 +198,7 @@ module _ (wide : Bool) where
   line_in above.Process text x = below_in text (any_split wide event_lines rare_lines text x)
   line_in above.Acts text x = acts_in text x
 
--- ---- what may stand behind lines
+-- ---- what may be behind lines
 
 follow_is : (begun : Bool) (last : Option Pid) (l : Line) → may_follow begun last l ≡ stands (above_by begun last) l
 follow_is true last (lines.Header b) = refl

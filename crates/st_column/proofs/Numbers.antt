@@ -110,7 +110,7 @@ next_digit most line i lt d =
     let high : get_or line i 0 ≤ 57 = omega (arith, range, same) in
     grind (arith, nat_tests)
 
--- nothing stands behind a 0 in front
+-- nothing is behind a 0 in front
 pub next_lead : (most : ℕ) (line : List ℕ) (i : ℕ) → i < length line → 0 < i → get_or line 0 0 ≡ 48
     → IsDecimal most (take (i + 1) line) → ⊥
 next_lead most line i lt some zeros d =

@@ -1,4 +1,4 @@
--- How many bytes at the front of a line some line that may stand there begins with. Columns count
+-- How many bytes at the front of a line some line that may be there begins with. Columns count
 -- from 1, so the column of the first byte that is wrong is one more.
 use Rattle.std.specs.Prelude.{◌≡◌, ℕ, ◌≤◌, Bool, true, false, List, [], ◌∷◌, ◌++◌, length, take}
 use Rattle.std.specs.Prelude.{Option, Some, None}
@@ -20,7 +20,7 @@ pub record IsLongest (IsText : List ℕ → Type 0) (line : List ℕ) (n : ℕ) 
   pub begins : Begins IsText (take n line)
   pub most : (m : ℕ) → m ≤ length line → Begins IsText (take m line) → m ≤ n
 
--- the bytes are a line of the grammar that the reader lets stand behind these lines
+-- the bytes are a line of the grammar that the reader lets be behind these lines
 abbrev pub IsLineBehind : List Line → List ℕ → Type 0
 IsLineBehind ls bytes = (l : Line) × Fits l × (may_stand ls l ≡ true) × (bytes ≡ spelled.line l)
 

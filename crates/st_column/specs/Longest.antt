@@ -1,5 +1,5 @@
 -- The lines of the grammar by templates, for the functions that compute the column. That they are
--- the very lines that may stand there is proved (proofs/Grammar.antt).
+-- the very lines that may be there is proved (proofs/Grammar.antt).
 use Rattle.std.specs.Prelude.{◌≡◌, ℕ, ◌≤◌, ◌<◌, ◌==◌, if◌then◌else◌, Bool, true, false, List, []}
 use Rattle.std.specs.Prelude.{◌∷◌, ◌++◌, ◌⊎◌, length, take, Option, Some, None, MatchOption, codes}
 use Rattle.std.specs.Prelude.{decimal}
@@ -40,7 +40,7 @@ module _ (wide : Bool) where
   IsAnyOf [] text = ⊥
   IsAnyOf (template ∷ templates) text = Spells template text ⊎ IsAnyOf templates text
 
--- ---- the lines that may stand below what stands above them
+-- ---- the lines that may be below what is above them
 
 abbrev pub header_lines : List (List ℕ)
 header_lines = codes "seqtrace 1" ∷ codes "seqtrace 2" ∷ []

@@ -1,6 +1,6 @@
-//! What stands above a line of a text, as far as it decides what may stand there.
+//! What is above a line of a text, as far as it decides what may be there.
 
-/// What stands above a line.
+/// What is above a line.
 #[derive(Clone, Copy, Debug, PartialEq, Eq)]
 pub enum Above {
     /// Nothing.

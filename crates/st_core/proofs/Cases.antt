@@ -294,6 +294,6 @@ queues_apart = (
   tt,
 )
 
--- and do if one count stands in both
+-- and they do if one count is in both
 queues_share : ¬ AreAllApart (waiting 1 ∷ []) (waiting 2 ∷ waiting 1 ∷ [])
 queues_share apart = apart.0.1.0 _ _ refl refl refl refl

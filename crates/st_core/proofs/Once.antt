@@ -1,4 +1,4 @@
--- Without a reset no stamp stands twice in a queue: a send's new stamp is above its actor's clock, and all that this
+-- Without a reset no stamp occurs twice in a queue: a send's new stamp is above its actor's clock, and all that this
 -- process stamped before is not. A receive takes a message out, and no other act touches a queue;
 -- and clocks don't fall.
 use Rattle.std.proofs.Common.{◌≡◌, ℕ, zero, suc, true, false, cond, List, [], ◌∷◌, ◌++◌}

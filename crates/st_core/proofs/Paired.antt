@@ -1,4 +1,4 @@
--- Each reported receive stands in a pair: a receive that reports took a message, the number of whose send lay at the
+-- Each reported receive is in a pair: a receive that reports took a message, the number of whose send lay at the
 -- same place of the tags, and no later act takes a pair away.
 use Rattle.std.proofs.Common.{◌≡◌, ℕ, ◌+◌, ◌&&◌, zero, suc, Bool, true, false, cond, List, [], ◌∷◌, ◌++◌}
 use Rattle.std.proofs.Common.{get_or, Option, Some, None, is_some, option_map, option_and_then}

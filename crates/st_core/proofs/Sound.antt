@@ -87,7 +87,7 @@ pick_from_found k w (m ∷ ms) found h =
           (suc rest.0, omega arith, rest.2)
     ] h
 
--- what is picked stands at its place
+-- what is picked is at its place
 pub pick_found : (w : Want) (queue : List Message) (found : ℕ × Message) → pick w queue ≡ Some found
     → slice_get queue found.0 ≡ Some found.1
 pick_found w queue found h =

@@ -1,5 +1,5 @@
 -- A tag is a number below that of the act to come, a send puts in a number that is new, and a receive takes one out:
--- so each stands once, is a send's to that queue's process, and doesn't come back.
+-- so each occurs once, is a send's to that queue's process, and doesn't come back.
 use Rattle.std.proofs.Common.{◌≡◌, ℕ, ◌+◌, ◌<◌, ◌≢◌, true, false, cond, List, [], ◌∷◌, ◌++◌, get_or, Option, Some, None}
 use Rattle.std.proofs.Common.{is_some, All, AllPairs, refl, sym, ◌∙◌, ap, subst, arith}
 use Rattle.std.specs.List.{slice_get, remove}
@@ -24,7 +24,7 @@ pub record SendsTo (acts : List Act) (p : Pid) (i : ℕ) : Type 0 where
   pub value : ℕ
   pub is : slice_get acts i ≡ Some (act.Send from p value)
 
--- each tag is below n, is a send's to its process, and stands once
+-- each tag is below n, is a send's to its process, and occurs once
 pub record AreKnown (acts : List Act) (n : ℕ) (tags : Tags) : Type 0 where
   pub below : (p : Pid) → All (λ i. i < n) (tags p)
   pub to : (p : Pid) → All (SendsTo acts p) (tags p)
@@ -166,7 +166,7 @@ pair_gone tags n (act.Look p) place i g = All-nil (λ x. i ≢ x.1)
 pair_gone tags n (act.Reset p) place i g = All-nil (λ x. i ≢ x.1)
 pair_gone tags n (act.Tracer p b) place i g = All-nil (λ x. i ≢ x.1)
 
--- what is gone stands in no later pair
+-- what is gone is in no later pair
 pub pairs_gone : (tags : Tags) (n : ℕ) (acts : List Act) (os : List Outcome) (i : ℕ) → IsGone tags n i
     → All (λ x. i ≢ x.1) (pairs_from tags n acts os)
 pairs_gone tags n [] os i g = All-nil (λ x. i ≢ x.1)

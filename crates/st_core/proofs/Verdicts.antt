@@ -42,13 +42,13 @@ abbrev pub event_eq : Event → Event → Bool
 event_eq d e = d.label.0 == e.label.0 && (kind_eq d.kind e.kind && (d.serial.prev == e.serial.prev
     && (d.serial.this == e.serial.this && (pid_eq d.from e.from && (to_eq d.to e.to && d.value == e.value)))))
 
--- the first events stand at the front of the second ones
+-- the first events are at the front of the second ones
 abbrev pub is_front : List Event → List Event → Bool
 is_front [] es = true
 is_front (d ∷ ds) [] = false
 is_front (d ∷ ds) (e ∷ es) = event_eq d e && is_front ds es
 
--- what each process reported stands at the front of its stream, if the acts run
+-- what each process reported is at the front of its stream, if the acts run
 abbrev pub fronts : List Stream → List Act → Option (List Outcome) → Bool
 fronts streams acts None = false
 fronts streams acts (Some os) = list_all (λ x. is_front (stream acts os x.pid) x.events) streams

@@ -72,7 +72,7 @@ AllPairs_cons R x xs all pairs zero (suc j) d below within = all j d (omega arit
 AllPairs_cons R x xs all pairs (suc i) zero d below within = absurd (omega arith)
 AllPairs_cons R x xs all pairs (suc i) (suc j) d below within = pairs i j d (omega arith) (omega arith)
 
--- in a list of distinct numbers, the one at k stands nowhere else
+-- in a list of distinct numbers, the one at k is nowhere else
 pub removed_once : (xs : List ℕ) (k i : ℕ) → AllPairs (λ a b. a ≢ b) xs → slice_get xs k ≡ Some i
     → All (λ j. i ≢ j) (remove xs k)
 removed_once xs k i once at m d below =

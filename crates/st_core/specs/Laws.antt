@@ -118,7 +118,7 @@ StampsStandOnce (m ∷ ms) = AllByRecursion (AreApart m) ms × StampsStandOnce m
 abbrev pub IsStampedBefore : State → Message → Type 0
 IsStampedBefore s m = ForSome m.token (λ t. t.serial.this ≤ clock_in s t.from)
 
--- no stamp stands twice in a queue, and none is yet to come
+-- no stamp occurs twice in a queue, and none is yet to come
 pub record HasStampsOnce (s : State) : Type 0 where
   pub once : (p : Pid) (r : Process) → process s p ≡ Some r → StampsStandOnce r.queue
   pub before : (p : Pid) (r : Process) → process s p ≡ Some r
@@ -133,7 +133,7 @@ abbrev pub HasQueuesApart : State → Type 0
 HasQueuesApart s = (p q : Pid) (x y : Process) → p ≢ q → process s p ≡ Some x → process s q ≡ Some y
     → AreAllApart x.queue y.queue
 
--- act n lifts p's clock to this count: the clock stands at it after the act, and below it after
+-- act n lifts p's clock to this count: the clock is at it after the act, and below it after
 -- each earlier one. So one act at most lifts a clock to a count, and to a greater count a later act
 pub record LiftsClock (os : List Outcome) (p : Pid) (this n : ℕ) : Type 0 where
   pub outcome : Outcome

@@ -14,7 +14,7 @@ row_consumes left gives each a b bytes (OneMore x y z xs ys row call) =
     Consumes-trans (left x) (left y) (left z) xs ys (row_consumes left gives each x y xs row)
     (each y ys z call)
 
--- what calls in a row wrote stands at the end of what was written
+-- what calls in a row wrote is at the end of what was written
 pub row_appends : {S : Type 0} (written : S → Option (List ℕ)) (puts : S → List ℕ → S → Type 0)
     → ((a : S) (bytes : List ℕ) (b : S) → puts a bytes b → Appends (written a) (written b) bytes)
     → (a b : S) (bytes : List ℕ) → InARow puts a bytes b → Appends (written a) (written b) bytes

@@ -66,7 +66,7 @@ unlisted_among all (x ∷ rest) = elim (position (λ e. not (names_listed all e)
 abbrev pub unlisted : List Stream → Option (Pid × ℕ)
 unlisted streams = unlisted_among streams streams
 
--- each event stands in the stream of a process that reports it
+-- each event is in the stream of a process that reports it
 abbrev pub AreOwn : List Stream → Type 0
 AreOwn streams = AllByRecursion (λ x. AllByRecursion (λ e. is_own x.pid e ≡ true) x.events) streams
 

@@ -1,6 +1,6 @@
 //! Devices: where bytes come from and go to, in pieces.
 //!
-//! The traits and what stands over std's readers and writers and over memory. Nothing here knows
+//! The traits and what is over std's readers and writers and over memory. Nothing here knows
 //! of tracing. What crosses the border of the program crosses it here: no clause can say which
 //! bytes standard input holds, so a `take` says by `gives` what it gave, whatever the source tells.
 

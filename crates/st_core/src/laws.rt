@@ -56,7 +56,7 @@ pub fn receives_follow()
         → run top pids acts ≡ Some os → Follows acts os (pairs acts os) }
 {}
 
-/// In every run each act that reported a receive stands in a pair.
+/// In every run each act that reported a receive is in a pair.
 pub fn receives_are_paired()
     ensures { (top : ℕ) (pids : List Pid) (acts : List Act) (os : List Outcome)
         → run top pids acts ≡ Some os → AllPaired os (pairs acts os) }
@@ -77,7 +77,7 @@ pub fn events_are_reports()
         → slice_get (stream acts os p) i ≡ Some e → (n : ℕ) × ReportsEvent acts os p i e n }
 {}
 
-/// Each report of an act stands in its process's stream, behind those of the acts before.
+/// Each report of an act is in its process's stream, behind those of the acts before.
 pub fn reports_are_events()
     ensures { (acts : List Act) (os : List Outcome) (p : Pid) (n : ℕ) (e : Event)
         → Reports acts os p n e

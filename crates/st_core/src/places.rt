@@ -1,7 +1,7 @@
-//! Where a pid stands among pids that rise.
+//! Where a pid is among pids that rise.
 //!
 //! Each act and each event of a large bundle names pids, so that this is asked often. A table says
-//! where a pid may stand; a guess is tested before it is believed, so nothing has to hold of the
+//! where a pid may be; a guess is tested before it is believed, so nothing has to hold of the
 //! table, and a wrong guess costs a binary search.
 
 ghost use Rattle.std.specs.Prelude.{◌≡◌, ◌<◌, false, Some, IfSome, IfNone, slice_get};
@@ -15,7 +15,7 @@ use std::alloc::Global;
 /// twice the most processes of a text.
 pub(crate) const SLOTS: usize = 2_048;
 
-/// For each slot, where the last pid of that slot stands. The table is on the heap, so that whoever
+/// For each slot, where the last pid of that slot is. The table is on the heap, so that whoever
 /// hands streams on copies no guesses; without memory for it there are none, and each pid is searched.
 #[derive(Debug, Drop)]
 pub(crate) struct Places {
@@ -50,7 +50,7 @@ impl Places {
         }
     }
 
-    /// Guesses from now on that the pid stands at this place. One past what a guess can hold is
+    /// Guesses from now on that the pid is at this place. One past what a guess can hold is
     /// found by the search.
     pub(crate) fn expect(&mut self, pid: Pid, place: usize) {
         if self.guesses.is_empty() {
@@ -61,14 +61,14 @@ impl Places {
         }
     }
 
-    /// The guess at where the pid stands; none if there is no table.
+    /// The guess at where the pid is; none if there is no table.
     #[inline]
     fn guess(&self, pid: Pid) -> Option<usize> {
         let guess = self.guesses.get(slot_of(pid))?;
         Some(usize::from(*guess))
     }
 
-    /// Where the pid stands among pids that rise.
+    /// Where the pid is among pids that rise.
     #[inline]
     pub(crate) fn place_of(&self, pids: &[Pid], pid: Pid) -> Option<usize>
         requires { IsRising pids.now }

@@ -184,7 +184,7 @@ impl Draft {
         }
     }
 
-    /// Where the pid stands among the processes so far.
+    /// Where the pid is among the processes so far.
     fn place_of(&self, pid: Pid) -> Option<usize>
         ensures found { IfSome result (λ i. slice_get (pids_of self.now) i ≡ Some pid) }
         ensures missing { IfNone result
@@ -207,7 +207,7 @@ impl Draft {
 pub struct Unlisted {
     /// The draft as it was.
     pub draft: Draft,
-    /// The process in whose stream the event stands.
+    /// The process in whose stream the event is.
     pub pid: Pid,
     /// The event's index there, counted from 0.
     pub index: u64,
@@ -241,7 +241,7 @@ impl Streams {
         self.draft.pids()
     }
 
-    /// Where the process stands in `pids`; none if it isn't listed. Constant time for most pids,
+    /// Where the process is in `pids`; none if it isn't listed. Constant time for most pids,
     /// and at worst that of a binary search.
     pub fn place_of(&self, pid: Pid) -> Option<usize>
         ensures found { IfSome result (λ i. slice_get (pids_of self.now) i ≡ Some pid) }

@@ -1,6 +1,6 @@
 //! The plain values of the machine: pids, tokens, messages, events, acts and replies.
 //!
-//! Data alone, all of it copied; what an act does stands in `specs/` and, for one process, in
+//! Data alone, all of it copied; what an act does is in `specs/` and, for one process, in
 //! `local`. "Manual" means the manual page `seq_trace` of Erlang's kernel, "own profile" what this
 //! project chose where the manual is silent or leaves a choice.
 
@@ -155,7 +155,7 @@ pub enum Kind {
 }
 
 /// What the system tracer gets (manual: `{seq_trace, Label, {Kind, Serial, From, To, Value}}`). The
-/// fields stand in an order that leaves no gaps between them in memory.
+/// fields are in an order that leaves no gaps between them in memory.
 #[derive(Clone, Copy, Debug, PartialEq, Eq, PartialOrd, Ord, Hash)]
 pub struct Event {
     /// The label of the token in force: the stamped one of a send or a print, the message's of a
@@ -216,7 +216,7 @@ pub enum Want {
     Place(u64),
 }
 
-/// One act of a process, which stands first: one atomic step of the machine (own profile).
+/// One act of a process, which is first: one atomic step of the machine (own profile).
 #[derive(Clone, Copy, Debug, PartialEq, Eq, PartialOrd, Ord, Hash)]
 pub enum Act {
     /// Sends the value to the second process.

@@ -64,7 +64,7 @@ pub(crate) fn row_starts(alloc: Global, events: &[Event]) -> Result<Vec<usize>, 
     Ok(found)
 }
 
-/// The index before this one, if a receive of this count stands there.
+/// The index before this one, if a receive of this count is there.
 pub(crate) fn received_before(this: u64, events: &[Event], index: usize) -> Option<u64>
     requires { index ≤ length events.now }
     ensures { result ≡ received_before this events.now index }
@@ -85,7 +85,7 @@ pub(crate) fn received_before(this: u64, events: &[Event], index: usize) -> Opti
     }
 }
 
-/// What is told, by whether a count above the prev stands before the row, and by the receive
+/// What is told, by whether a count above the prev is before the row, and by the receive
 /// directly before it.
 pub(crate) fn told_by(prev: u64, above: bool, receive: Option<u64>) -> Told
     ensures { result ≡ told_by prev above receive }

@@ -1,4 +1,4 @@
--- The slots of one key stand together in the order of the pairs and rise there, so the first pair from (key, start) on
+-- The slots of one key are together in the order of the pairs and rise there, so the first pair from (key, start) on
 -- has the least slot of the key, or another key if the key has none.
 use Rattle.std.proofs.Common.{◌≡◌, ℕ, ◌≤◌, Bool, true, false, cond, not, ◌==◌, ◌&&◌, ◌||◌}
 use Rattle.std.proofs.Common.{List, [], ◌∷◌, Option, Some, None, refl, sym, ap, subst, ◌∙◌, arith}

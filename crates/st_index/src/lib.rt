@@ -1,6 +1,6 @@
 //! An index of one queue of messages, by which a message is found without a walk.
 //!
-//! [`Index`] stands beside a queue and follows it: each message that joins the queue is pushed, and
+//! [`Index`] is beside a queue and follows it: each message that joins the queue is pushed, and
 //! each that leaves is removed. It finds the least place with a message from a process, of a value,
 //! of both, or with a stamp: by those of these [`Keys`] that it was made for. What it holds of a
 //! message is keys and a slot, and not the message.

@@ -1,5 +1,5 @@
--- If a pattern doesn't ask for a place, the message that pick gives stands at the first position that passes a
--- test, and if it does, at that place: so a search by the test finds the place, and what stands there is what pick
+-- If a pattern doesn't ask for a place, the message that pick gives is at the first position that passes a
+-- test, and if it does, at that place: so a search by the test finds the place, and what is there is what pick
 -- gives.
 use Rattle.std.proofs.Common.{◌≡◌, ℕ, ◌+◌, ◌<◌, ◌≤◌, suc, ◌==◌, Bool, true, false, cond, nat_lt, List, [], ◌∷◌}
 use Rattle.std.proofs.Common.{length, Option, Some, None, option_map, position, slice_get, refl, sym, ◌∙◌, ap, arith}
@@ -84,7 +84,7 @@ firsts (m ∷ ms) = rw (lt_true 0 (suc (length ms)) (omega arith)) refl
 
 -- WHAT STANDS THERE
 
--- what stands at the place that pick gives is the message that it gives
+-- what is at the place that pick gives is the message that it gives
 pub record IsPicked (w : Want) (ms : List Message) (k : ℕ) : Type 0 where
   pub message : Message
   pub stands : slice_get ms k ≡ Some message
@@ -103,7 +103,7 @@ picked_at w ms k e = by (pick w ms) refl e
           given = is ∙ ap (λ j. Some (j, found.1)) at;
         }
 
--- so a message that stands at its place is the one that it gives
+-- so a message that is at its place is the one that it gives
 pub given_at : (w : Want) (ms : List Message) (k : ℕ) (m : Message)
     → place_picked w ms ≡ Some k → slice_get ms k ≡ Some m → Some (k, m) ≡ pick w ms
 given_at w ms k m e there =

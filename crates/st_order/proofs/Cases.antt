@@ -35,7 +35,7 @@ hidden_heights : height hidden_sends a 0
     ∷ [] ≡ 1 ∷ 2 ∷ 3 ∷ 4 ∷ []
 hidden_heights = refl
 
--- each process's events stand in turn
+-- each process's events are in turn
 hidden_turns : filter (is_event_of a) hidden_order ≡ in_turn a 0 2
 hidden_turns = refl
 
@@ -47,7 +47,7 @@ six_times false = refl
 hidden_by_label : IsByLabel hidden_sends hidden_order ((record { 0 = 17 }, hidden_order) ∷ [])
 hidden_by_label = record { rises = (tt, tt); labels = λ label. six_times (17 == label.0); lists = (refl, tt) }
 
--- a receive of a low count stands at the height of its process
+-- a receive of a low count is at the height of its process
 abbrev low_counts : List Stream
 low_counts = of a [] ∷ of b (got 1 0 2 a b 0 ∷ got 1 0 1 c b 0 ∷ printed 1 1 2 b 0 ∷ []) ∷ of c [] ∷ []
 
@@ -55,12 +55,12 @@ low_counts_are : order low_counts
     ≡ item.Hidden b 1 ∷ item.Hidden b 0 ∷ item.Reported b 2 ∷ item.Reported b 0 ∷ item.Reported b 1 ∷ []
 low_counts_are = refl
 
--- its print doesn't count more than the receives before it, and stands in front of them
+-- its print doesn't count more than the receives before it, and is in front of them
 low_counts_out_of_turn : filter (is_event_of b) (order low_counts)
     ≡ item.Reported b 2 ∷ item.Reported b 0 ∷ item.Reported b 1 ∷ []
 low_counts_out_of_turn = refl
 
--- a reported send stands before its receive, and neither is hidden
+-- a reported send is before its receive, and neither is hidden
 abbrev passed : List Stream
 passed = of a (sent 17 0 1 a b 0 ∷ []) ∷ of b (got 17 0 1 a b 0 ∷ []) ∷ []
 
@@ -74,6 +74,6 @@ repeats = of a [] ∷ of b (got 17 0 1 a b 0 ∷ got 17 0 1 a b 0 ∷ []) ∷ []
 one_key : key repeats (item.Hidden b 0) ≡ key repeats (item.Hidden b 1)
 one_key = refl
 
--- nothing stands past the end of a stream, nor in one that isn't listed
+-- nothing is past the end of a stream, nor in one that isn't listed
 past_the_end : label_of passed (item.Reported a 1) ∷ label_of passed (item.Hidden c 0) ∷ [] ≡ None ∷ None ∷ []
 past_the_end = refl

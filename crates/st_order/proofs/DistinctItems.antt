@@ -29,7 +29,7 @@ abbrev is_reported : Item → Bool
 is_reported (item.Reported p i) = true
 is_reported (item.Hidden p i) = false
 
--- the item stands at index i of p, or later
+-- the item is at index i of p, or later
 record IsFrom (p : Pid) (i : ℕ) (x : Item) : Type 0 where
   pub reporter : reporter_of x ≡ p
   pub index : i ≤ index_of x

@@ -6,7 +6,7 @@ use Rattle.st_order.specs.declared.item.Item.{Item}
 use Rattle.st_order.specs.declared.labels.LabelledItem.{LabelledItem}
 use Rattle.st_order.specs.Labels.{label_of}
 
--- an item with its label; none if nothing stands at its place
+-- an item with its label; none if nothing is at its place
 abbrev pub with_label : List Stream → Item → Option LabelledItem
 with_label streams x = option_map (λ l. record { label = l; item = x }) (label_of streams x)
 

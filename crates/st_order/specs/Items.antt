@@ -28,17 +28,17 @@ is_hidden streams e = if is_stamp e then false else elim (source_of streams e) [
   | source.Event q j ↦ false
 ]
 
--- what stands at a place: its event, and before it the hidden send of a receive that has one
+-- what is at a place: its event, and before it the hidden send of a receive that has one
 abbrev pub items_at : List Stream → Pid → ℕ → Event → List Item
 items_at streams p i e =
     if is_hidden streams e then item.Hidden p i ∷ item.Reported p i ∷ [] else item.Reported p i ∷ []
 
--- what stands at the places of these events of p, from index i on
+-- what is at the places of these events of p, from index i on
 abbrev pub items_from : List Stream → Pid → ℕ → List Event → List Item
 items_from streams p i [] = []
 items_from streams p i (e ∷ es) = items_at streams p i e ++ items_from streams p (i + 1) es
 
--- what stands at the places of some of all streams
+-- what is at the places of some of all streams
 abbrev pub items_among : List Stream → List Stream → List Item
 items_among all [] = []
 items_among all (s ∷ rest) = items_from all s.pid 0 s.events ++ items_among all rest
@@ -47,12 +47,12 @@ items_among all (s ∷ rest) = items_from all s.pid 0 s.events ++ items_among al
 abbrev pub items : List Stream → List Item
 items streams = items_among streams streams
 
--- where an item stands in the streams: a hidden send where its receive does
+-- where an item is in the streams: a hidden send where its receive is
 abbrev pub item_place : Item → Pid × ℕ
 item_place (item.Reported p i) = (p, i)
 item_place (item.Hidden p i) = (p, i)
 
--- the event that an item is about: of a hidden send its receive; none if nothing stands at the
+-- the event that an item is about: of a hidden send its receive; none if nothing is at the
 -- item's place
 abbrev pub event_of : List Stream → Item → Option Event
 event_of streams (item.Reported p i) = event_at streams p i

@@ -7,7 +7,7 @@ use Rattle.st_core.specs.Run.{Stream}
 use Rattle.st_order.specs.declared.item.Item.{Item}
 use Rattle.st_order.specs.Items.{event_of}
 
--- the label of the event that an item is about; none if nothing stands at the item's place
+-- the label of the event that an item is about; none if nothing is at the item's place
 abbrev pub label_of : List Stream → Item → Option Label
 label_of streams x = option_map (λ e. e.label) (event_of streams x)
 
@@ -22,7 +22,7 @@ LabelsRise [] = Unit {0}
 LabelsRise (g ∷ gs) = AllByRecursion (λ h. g.0.0 < h.0.0) gs × LabelsRise gs
 
 -- items by label: the labels rise strictly, a label is there exactly if an item has it,
--- and with each label stand the items that have it, in their order
+-- and with each label are the items that have it, in their order
 pub record IsByLabel (streams : List Stream) (xs : List Item)
     (groups : List (Label × List Item)) : Type 0 where
   pub rises : LabelsRise groups

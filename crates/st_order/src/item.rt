@@ -16,7 +16,7 @@ pub enum Item {
 }
 
 impl Item {
-    /// Its place: a hidden send stands where its receive does.
+    /// Its place: a hidden send is where its receive is.
     pub fn place(self) -> (Pid, u64)
         ensures { result ≡ item_place self }
     {

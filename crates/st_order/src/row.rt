@@ -23,7 +23,7 @@ pub struct Row {
     pub pid: Pid,
     /// Whether the item is an event. A hidden send comes before its sender's events.
     pub reported: bool,
-    /// In whose stream the event, or the hidden send's receive, stands.
+    /// In whose stream the event, or the hidden send's receive, is.
     pub reporter: Pid,
     /// Its index there.
     pub index: u64,

@@ -1,4 +1,4 @@
--- What stands between an index and a later one decides where the row begins that goes up to the later one: nothing but
+-- What is between an index and a later one decides where the row begins that goes up to the later one: nothing but
 -- sends and prints of one prev, back to the first event that is none.
 use Rattle.std.proofs.Common.{◌≡◌, ◌≢◌, ℕ, ◌+◌, ◌<◌, ◌≤◌, ◌&&◌, ◌==◌, zero, suc, Bool, true, false}
 use Rattle.std.proofs.Common.{cond, List, [], ◌∷◌, ◌++◌, length, take, Option, Some, None, inl, inr, refl, sym, ◌∙◌}

@@ -93,7 +93,7 @@ module _ (acts : List Act) (os : List Outcome) (p : Pid) where
   abbrev all_events : List Event
   all_events = stream acts os p
 
-  -- a receive that was reported stands where the row begins
+  -- a receive that was reported is where the row begins
   record IsReceivedAt (prev i m : ℕ) (r : Event) : Type 0 where
     within : length (front acts os p m) < i
     at : slice_get all_events (length (front acts os p m)) ≡ Some r

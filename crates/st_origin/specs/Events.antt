@@ -23,7 +23,7 @@ row_start prev es (suc i) = elim (slice_get es i) [
   | Some e ↦ if in_row prev e then row_start prev es i else suc i
 ]
 
--- the index before this one, if a receive of this count stands there
+-- the index before this one, if a receive of this count is there
 abbrev pub received_before : ℕ → List Event → ℕ → Option ℕ
 received_before this es zero = None
 received_before this es (suc j) = elim (slice_get es j) [
@@ -31,11 +31,11 @@ received_before this es (suc j) = elim (slice_get es j) [
   | Some e ↦ if is_receive e && e.serial.this == this then Some j else None
 ]
 
--- a count above this one stands before index k
+-- a count above this one is before index k
 abbrev pub has_above : ℕ → List Event → ℕ → Bool
 has_above prev es k = nat_lt prev (greatest_count (take k es))
 
--- by whether a count above the prev stands before the row, and by the receive directly before it
+-- by whether a count above the prev is before the row, and by the receive directly before it
 abbrev pub told_by : ℕ → Bool → Option ℕ → Told
 told_by prev above (Some j) = if above then what.After j else what.AfterOrBegins j
 told_by prev above None =

@@ -1,5 +1,5 @@
 -- The lemmas that proofs of the crates above may cite: what an accepting pairing says of each event, what a refusing
--- one says of all acts, what a rule gives first, and where the stream of a process stands. They hold by the
+-- one says of all acts, what a rule gives first, and where the stream of a process is. They hold by the
 -- definitions alone.
 
 -- ---- what `refusal streams ≡ None` says of each event

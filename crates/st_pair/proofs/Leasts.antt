@@ -62,7 +62,7 @@ least_from {X} rule p k (e ∷ es) x h = elim (rule p k e) as (λ given. rule p 
 
 -- IN ALL
 
--- a process with an event stands above one that is below all listed
+-- a process with an event is above one that is below all listed
 listed_above : (streams : List Stream) (p q : Pid) (j : ℕ) (f : Event) → AllByRecursion (IsBelow p) (pids_of streams)
     → event_at streams q j ≡ Some f → IsBelow p q
 listed_above [] p q j f all at = absurd (none-some f at)

@@ -121,7 +121,7 @@ module _ (streams : List Stream) (p : Pid) (i : ℕ) (e : Event) (f : PairFault)
       let tests = neither (is_stamp e) (agrees g.1 e) parts.0 in
       record { other = g; sent = is; receives = tests.0; differs = tests.1; is = parts.1 })
 
--- the last send or print before index i is one, and stands before it
+-- the last send or print before index i is one, and is before it
 pub record IsStampBefore (es : List Event) (i : ℕ) (g : ℕ × Event) : Type 0 where
   pub below : g.0 < i
   pub at : slice_get es g.0 ≡ Some g.1

@@ -205,7 +205,7 @@ unequal this x h = elim (x.count == this) as (λ b. None ≡ cond b (Some x) Non
   | false ↦ λ given. refl
 ] h
 
--- if none stands where the lesser counts end, there is none
+-- if none is where the lesser counts end, there is none
 pub none_at : (rows : List Row) (this n : ℕ) → AreRising rows
     → IsPartitionPoint (λ r. ltb r.count this ≡ true) (λ r. ltb r.count this ≡ false) rows n
     → None ≡ option_and_then (row_under this) (slice_get rows n) → None ≡ row_of this rows

@@ -52,7 +52,7 @@ agrees f e = is_send f &&
     (f.serial.prev == e.serial.prev && (to_eq f.to e.to && f.value == e.value)))
 
 -- A rule is a test on one event and its place, and gives the fault if it refuses the streams there.
--- They are tried in the order in which they stand here, each over all places.
+-- They are tried in the order in which they are here, each over all places.
 
 -- prev isn't less than this
 abbrev pub prev_not_before : Pid → ℕ → Event → Option PairFault

@@ -20,7 +20,7 @@ is_stamp e = elim e.kind [ kind.Send ↦ true | kind.Receive ↦ false | kind.Pr
 abbrev pub or_else : {X : Type 0} → Option X → Option X → Option X
 or_else o rest = elim o [ None ↦ rest | Some x ↦ Some x ]
 
--- what the rule gives first for these events of p, which stand from index i on
+-- what the rule gives first for these events of p, which are from index i on
 abbrev pub first_from : {X : Type 0} → (Pid → ℕ → Event → Option X) → Pid → ℕ → List Event
     → Option X
 first_from rule p i [] = None

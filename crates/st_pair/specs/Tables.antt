@@ -46,7 +46,7 @@ abbrev pub HasReceivesWith : List Stream → (Key → Option (Pid × ℕ)) → (
     → Type 0
 HasReceivesWith streams table rest = HasReceives streams (λ k. or_else (table k) (rest k))
 
--- the sends and prints among events that stand from index i on
+-- the sends and prints among events that are from index i on
 abbrev pub stamp_rows : ℕ → List Event → List Row
 stamp_rows i [] = []
 stamp_rows i (e ∷ es) = if is_stamp e then record { count = e.serial.this; index = i }

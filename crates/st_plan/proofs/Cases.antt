@@ -47,7 +47,7 @@ hidden_acts : construction top hidden_sends all_told hidden ≡ Some (
     ∷ restored b 17 false true false ∷ act.Send b a 6 ∷ act.Receive a (want.Place 0) ∷ [])
 hidden_acts = refl
 
--- a hidden send from a process that took a message before it; it stands where its receive does
+-- a hidden send from a process that took a message before it; it is where its receive is
 abbrev crossing : List Stream
 crossing = of a (got 1 0 1 b a 4 ∷ []) ∷ of b (got 1 0 2 a b 5 ∷ []) ∷ []
 

@@ -37,7 +37,7 @@ pub record HasCome (streams : List Stream) (y : Move) : Type 0 where
   pub is : move_by y.item y.event ≡ y
   pub top : IsTop streams y.item y.event
 
--- where the reported item (q, k) stands among the moves that came
+-- where the reported item (q, k) is among the moves that came
 pub record Stands (earlier : List Move) (q : Pid) (k : ℕ) : Type 0 where
   pub number : ℕ
   pub move : Move

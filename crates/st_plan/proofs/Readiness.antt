@@ -299,7 +299,7 @@ renew_reaches top p l n prev least within =
       traced = up.traced;
     }
 
--- p stands ready: its clock is one below the count, its last count is prev, and its token has the label and the flags
+-- p is ready: its clock is one below the count, its last count is prev, and its token has the label and the flags
 pub is_ready : (top : ℕ) (p : Pid) (l : LocalState) (n : Label) (s : Serial) (f : Flags) → s.prev < s.this
     → s.this ≤ top → l.clock < s.this → (s.prev ≡ l.last) ⊎ (l.clock ≤ s.prev)
     → Reaches top p l (ready p (start_of l) n s f) (s.this - 1) s.prev n f

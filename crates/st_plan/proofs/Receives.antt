@@ -63,7 +63,7 @@ got_of p v t = record {
   value = v;
 }
 
--- the message that a receive takes stands in its queue, gives its event, and is seen where that is told
+-- the message that a receive takes is in its queue, gives its event, and is seen where that is told
 pub record IsWaiting (streams : List Stream) (marks : Marks) (earlier : List Move) (m : Move) : Type 0 where
   pub place : ℕ
   pub message : Message

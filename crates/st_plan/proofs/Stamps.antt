@@ -46,7 +46,7 @@ pub record CanStamp (top : ℕ) (streams : List Stream) (marks : Marks) (earlier
   pub below : clock m.who earlier < m.event.serial.this
   pub free : uncaused earlier m ≡ false
 
--- the record that stands ready for the stamp of a move, and what it took
+-- the record that is ready for the stamp of a move, and what it took
 pub record StandsReady (top : ℕ) (streams : List Stream) (marks : Marks) (earlier : List Move) (s : State) (m : Move)
     : Type 0 where
   pub before : Process

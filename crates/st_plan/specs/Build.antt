@@ -78,7 +78,7 @@ abbrev pub renewed_start : Pid → Start → Label → ℕ → Start
 renewed_start p x n prev =
     record { token = Some (unstamped_token p n quiet); clock = max x.clock prev; last = prev }
 
--- the acts after which p stands ready to stamp this serial under this label and these flags
+-- the acts after which p is ready to stamp this serial under this label and these flags
 abbrev pub ready : Pid → Start → Label → Serial → Flags → List Act
 ready p x n s f = if s.prev == x.last
     then raise p x n (s.this - 1) f

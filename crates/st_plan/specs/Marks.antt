@@ -46,7 +46,7 @@ marks_of wholes p i = elim (find (λ w. pid_eq w.pid p) wholes) [
   | Some w ↦ option_map_or (λ m. m.told) (slice_get w.marked i) false
 ]
 
--- the told ones of these events, which stand from index i on
+-- the told ones of these events, which are from index i on
 abbrev pub told_events_from : (ℕ → Bool) → ℕ → List Event → List Event
 told_events_from told i [] = []
 told_events_from told i (e ∷ es) =

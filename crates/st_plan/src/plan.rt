@@ -1,4 +1,4 @@
-//! The acts after which a process stands ready to stamp a serial, as a list that is only planned:
+//! The acts after which a process is ready to stamp a serial, as a list that is only planned:
 //! nothing here steps a world.
 
 ghost use Rattle.std.specs.Prelude.{◌≡◌, ◌++◌, OnOk};
@@ -123,7 +123,7 @@ fn raise(
     dress(plan, pid, start.token, label, flags)
 }
 
-/// The acts after which the process stands ready to stamp this serial under this label and these
+/// The acts after which the process is ready to stamp this serial under this label and these
 /// flags.
 pub fn ready(
     plan: &mut Vec<Act>,

@@ -18,7 +18,7 @@ no_mark (suc spare) (suc slot) = no_mark spare slot
 
 module _ {T : Type 0} where
   -- ---- slots and the queue
-  -- the item of a live slot stands in the queue at the slot's rank
+  -- the item of a live slot is in the queue at the slot's rank
   pub kept-get : (slots : List (Option T)) (slot : ℕ) (item : T) → slice_get slots slot ≡ Some (Some item)
       → slice_get (kept slots) (before slots slot) ≡ Some item
   kept-get [] slot item is = absurd cc
@@ -170,7 +170,7 @@ module _ {T : Type 0} (ranks : List ℕ) (slots : List (Option T)) (of : AreRank
       ∙ length-append (marks slots) (replicate of.spare 0)
       ∙ (λ i. length-marks slots i + length-replicate of.spare zero i)
 
-  -- what `rank` returns for a slot is how many live slots stand before it
+  -- what `rank` returns for a slot is how many live slots are before it
   pub rank-before : (slot : ℕ) → slot ≤ length slots → sum (take slot ranks) ≡ before slots slot
   rank-before slot inside = ap (λ l. sum (take slot l)) of.are ∙ rank_in slots of.spare slot inside
 

@@ -77,7 +77,7 @@ rank_below_all (x ∷ xs) (suc slot) live =
     let all = sum_by-cons (λ n. n) x xs in
     omega (arith, rest, here, all)
 
--- where all slots from one on are dead, all live ones stand before it
+-- where all slots from one on are dead, all live ones are before it
 pub rank_past_live : (marks : List ℕ) (slot : ℕ) → ((other : ℕ) → slot ≤ other → get_or marks other 0 ≡ 0)
     → sum (take slot marks) ≡ sum marks
 rank_past_live [] zero dead = refl

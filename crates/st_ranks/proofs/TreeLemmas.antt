@@ -46,7 +46,7 @@ module _ (f : ℕ → ℕ) where
       let here = leaf count (omega (arith, within)) in
       omega (arith, before, here)
 
--- a node of a level stands in the tree
+-- a node of a level is in the tree
 pub within : (counts : List ℕ) (height : ℕ) → IsTree counts height → (level start place : ℕ) → level ≤ height
     → start ≡ wide level → place < start → start + place < length counts
 within counts height tree level start place low is inside =
@@ -81,7 +81,7 @@ sums-up counts height tree level start place low is inside =
     (omega (arith, two, inside, le))
     tree.inner)
 
--- one level down, the same slots stand before the node's first child, and its children count what it counts
+-- one level down, the same slots are before the node's first child, and its children count what it counts
 pub down : (counts : List ℕ) (height : ℕ) → IsTree counts height → (level start place : ℕ) → level < height
     → start ≡ wide level → place < start
     → (sums (count_at counts) start place ≡ sums (count_at counts) (start + start) (place + place))
@@ -123,7 +123,7 @@ module _ (counts : List ℕ) (height from : ℕ) (adds : AddsUpFrom (count_at co
       let is : wide height + slot ≡ node = omega (arith, past) in
       rw (← is) (leaf slot (omega (arith, inside, past)))
 
-  -- a node so many levels above the leaves counts as many as stand below it at most
+  -- a node so many levels above the leaves counts as many as are below it at most
   bound-by : (deep node : ℕ) → 0 < node → from ≤ node → node < wide height + wide height
       → wide height ≤ reach deep node → count_at counts node ≤ wide deep
   unfolding reach

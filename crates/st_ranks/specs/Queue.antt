@@ -2,7 +2,7 @@
 use Rattle.std.specs.Prelude.{◌≡◌, ℕ, zero, suc, List, [], ◌∷◌, ◌++◌, Option, Some, None, replicate}
 
 module _ {T : Type 0} where
-  -- the queue: what stands in the slots that are live
+  -- the queue: what is in the slots that are live
   abbrev pub kept : List (Option T) → List T
   kept [] = []
   kept (None ∷ slots) = kept slots
@@ -14,7 +14,7 @@ module _ {T : Type 0} where
   marks (None ∷ slots) = 0 ∷ marks slots
   marks (Some item ∷ slots) = 1 ∷ marks slots
 
-  -- how many live slots stand before this one
+  -- how many live slots are before this one
   abbrev pub before : List (Option T) → ℕ → ℕ
   before [] slot = 0
   before (o ∷ slots) zero = 0

@@ -11,7 +11,7 @@ abbrev pub sums : (ℕ → ℕ) → ℕ → ℕ → ℕ
 sums f from zero = 0
 sums f from (suc count) = sums f from count + f (from + count)
 
--- how many nodes stand on a level, and where the level begins
+-- how many nodes are on a level, and where the level begins
 abbrev pub wide : ℕ → ℕ
 wide zero = 1
 wide (suc height) = wide height + wide height
@@ -42,7 +42,7 @@ pub record IsAllBut (f : ℕ → ℕ) (height but : ℕ) : Type 0 where
       → f node ≡ f (node + node) + f (suc (node + node))
   -- this node, if it has children
   pub more : 0 < but → but < wide height → f but ≡ suc (f (but + but) + f (suc (but + but)))
-  -- the node is a leaf or stands above the leaves; a leaf that is to be counted down is 1
+  -- the node is a leaf or is above the leaves; a leaf that is to be counted down is 1
   pub some : wide height ≤ but → f but ≡ 1
 
 -- the leaves are as they were, but for one, which was counted down once the climb has left it

@@ -2,7 +2,7 @@
 //!
 //! A queue whose items leave from anywhere gives each item a slot, in the order in which they came,
 //! and marks the slot dead when its item leaves. An item's place in the queue is then the rank of
-//! its slot: how many live slots stand before it. [`Ranks`] finds the rank of a slot, and the slot
+//! its slot: how many live slots are before it. [`Ranks`] finds the rank of a slot, and the slot
 //! of a rank.
 //!
 //! | Call | Cost | Memory |

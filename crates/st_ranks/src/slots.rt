@@ -83,7 +83,7 @@ impl Ranks {
         is_live_in(&self.counts, self.size, self.height, slot)
     }
 
-    /// How many live slots stand before this one.
+    /// How many live slots are before this one.
     pub fn rank(&self, slot: usize) -> u64
         requires { slot < length self.now }
         ensures { result ≡ sum (take slot self.now) }
@@ -91,7 +91,7 @@ impl Ranks {
         rank_in(&self.counts, self.size, self.height, slot)
     }
 
-    /// The live slot before which so many live slots stand, if there is one.
+    /// The live slot before which so many live slots are, if there is one.
     pub fn select(&self, rank: u64) -> Option<usize>
         ensures in_range { IfSome result (λ slot. slot < length self.now) }
         ensures live { IfSome result (λ slot. slice_index_or self.now slot 0 ≡ 1) }

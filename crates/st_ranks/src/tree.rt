@@ -27,7 +27,7 @@ pub(crate) fn is_live_in(counts: &[u64], size: usize, height: usize, slot: usize
     counts[size + slot] == 1
 }
 
-/// How many live slots stand before this one.
+/// How many live slots are before this one.
 #[tactic(auto, using(crate::proofs::TreeLemmas::within))]
 pub(crate) fn rank_in(counts: &[u64], size: usize, height: usize, slot: usize) -> u64
     requires tree { IsTree counts.now height }
@@ -53,7 +53,7 @@ pub(crate) fn rank_in(counts: &[u64], size: usize, height: usize, slot: usize) -
     sum
 }
 
-/// The live slot before which so many live slots stand.
+/// The live slot before which so many live slots are.
 pub(crate) fn select_in(counts: &[u64], size: usize, height: usize, wanted: u64) -> usize
     requires tree { IsTree counts.now height }
     requires size { size ≡ wide height }

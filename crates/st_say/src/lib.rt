@@ -49,7 +49,7 @@ pub fn say_count<W: ByteSink>(
     say(writer, buffer, b"\n")
 }
 
-/// Writes where an event stands: its process and its index there.
+/// Writes where an event is: its process and its index there.
 pub fn say_place<W: ByteSink>(
     writer: &mut W,
     buffer: &mut Buffer,

@@ -1,4 +1,4 @@
--- The lines stand in the order of the streams and acts that are kept, so that the first that names an unlisted pid is
+-- The lines are in the order of the streams and acts that are kept, so that the first that names an unlisted pid is
 -- read off them.
 use Rattle.std.proofs.Common.{◌≡◌, ℕ, ◌+◌, ◌<◌, Bool, true, false, not, cond, ◌&&◌, ◌||◌, List, [], ◌∷◌, ◌++◌, length}
 use Rattle.std.proofs.Common.{map, Option, Some, None, refl, sym, ap, subst, ◌∙◌, append_assoc, arith}
@@ -111,7 +111,7 @@ events_stop all es n i rest e =
 
 -- ---- streams
 
--- no event names an unlisted pid, or the first that does stands at this line, one of these
+-- no event names an unlisted pid, or the first that does is at this line, one of these
 abbrev pub place_of : List Stream → ℕ → List Stream → List Line → Option (Pid × ℕ) → Type 0
 place_of all n ss rest None =
     unknown_from (pids_of all) n (flat_map process_lines ss ++ rest)

@@ -18,7 +18,7 @@ abbrev pub IsAnswer : Limits → List ℕ → Result Bundle ReadFault → Type 0
 IsAnswer limits bytes (Ok b) = Reads limits bytes (contents b)
 IsAnswer limits bytes (Err f) = fault_within limits bytes ≡ Some f
 
--- The same, but Memory may stand in place of each but TooLarge.
+-- The same, but Memory may be in place of each but TooLarge.
 abbrev pub Answers : Limits → List ℕ → Result Bundle ReadFault → Type 0
 Answers limits bytes (Ok b) = Reads limits bytes (contents b)
 Answers limits bytes (Err faults.Memory) = Unit {0}

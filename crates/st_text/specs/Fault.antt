@@ -70,7 +70,7 @@ abbrev pub last_passes : (Pid → Bool) → Option Pid → Bool
 last_passes test None = false
 last_passes test (Some q) = test q
 
--- may the line stand behind a header, by whether acts have begun and by the last process?
+-- may the line come behind a header, by whether acts have begun and by the last process?
 abbrev pub may_follow : Bool → Option Pid → Line → Bool
 may_follow begun last (lines.Header b) = false
 may_follow begun last (lines.Process p) = not begun

@@ -269,7 +269,7 @@ act_at bytes =
 
 -- ---- lines
 
--- a line that stands once in a text, or once for each process
+-- a line that occurs once in a text, or once for each process
 unfoldable pub rare_at : List ℕ → Option (Line × List ℕ)
 rare_at bytes =
     begins (codes "process ") bytes (λ rest. pid_at rest >>= λ p. Some (lines.Process p.0, p.1))

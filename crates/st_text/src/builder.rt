@@ -41,7 +41,7 @@ pub(crate) struct BundleBuilder {
     ghost counted: { lines ≡ 1 + processes + events + acts_lines acts },
 }
 
-/// Whether a line that names a pid of another node may not stand: under header 1. A call of its
+/// Whether a line that names a pid of another node is refused: under header 1. A call of its
 /// own, as those of `is_either`, so that a line takes one path and not two through its function's
 /// proof.
 fn keeps_out(wide: bool, away: bool) -> bool

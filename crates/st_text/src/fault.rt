@@ -17,7 +17,7 @@ pub enum ReadFault {
     /// More bytes than the limits allow.
     #[error("the text is too large")]
     TooLarge,
-    /// The line isn't one of the grammar's, or may not stand there; at line 1 also, at last, a
+    /// The line isn't one of the grammar's, or may not be there; at line 1 also, at last, a
     /// needless `seqtrace 2`.
     #[error("line {0} is no line of a bundle that may stand there")]
     Line(u64),

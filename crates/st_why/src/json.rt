@@ -84,7 +84,7 @@ fn put_after(buffer: &mut Buffer, numbers: &LineNumbers, pid: Pid, index: u64)
     put_bytes(buffer, b"}");
 }
 
-/// Appends the receive of another label that stands before an event.
+/// Appends the receive of another label that is before an event.
 fn put_other_label(
     buffer: &mut Buffer,
     numbers: &LineNumbers,

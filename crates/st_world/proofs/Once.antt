@@ -1,4 +1,4 @@
--- A message with a stamp that stands once in a queue is the only one that a search for it can find; and while no act is
+-- A message with a stamp that occurs once in a queue is the only one that a search for it can find; and while no act is
 -- a reset, each stamp does.
 use Rattle.std.proofs.Common.{◌≡◌, ℕ, ◌==◌, zero, suc, true, false, List, [], ◌∷◌, Option, Some, None}
 use Rattle.std.proofs.Common.{IfSome, Result, Ok, Err, slice_get, refl, sym, ◌∙◌, ap, subst}

@@ -1,4 +1,4 @@
--- Pids that rise strictly stand once and by rising node, since the order goes by node first: so a search for where a
+-- Pids that rise strictly occur once and by rising node, since the order goes by node first: so a search for where a
 -- test on nodes changes its answer finds the processes of a node.
 use Rattle.std.proofs.Common.{◌≡◌, ℕ, ◌<◌, ◌≤◌, Bool, true, false, List, length, get_or, cond, position}
 use Rattle.std.proofs.Common.{ltb, leb, refl, sym, ◌∙◌, ap, subst, arith, inl, inr, ◌⊎◌}
@@ -44,7 +44,7 @@ nodes_rise ps rising i j d le h =
 
 -- THE NUMBERS OF PIDS
 
--- a pid that stands at a place stands at no earlier one
+-- a pid that is at a place is at no earlier one
 pub number_at : (ps : List Pid) (i : ℕ) (p : Pid) → IsRising ps → slice_get ps i ≡ Some p
     → Some i ≡ position (λ q. pid_eq q p) ps
 number_at ps i p rising at =

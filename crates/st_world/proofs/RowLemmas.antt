@@ -1,5 +1,5 @@
 -- The number of a pid among the pids is the place of its process in the state, since the rows are of one length and
--- pids that rise stand once: so look-ups and writes at one number of the rows are those at one place of the state.
+-- pids that rise occur once: so look-ups and writes at one number of the rows are those at one place of the state.
 use Rattle.std.proofs.Common.{◌≡◌, ℕ, ◌+◌, ◌<◌, ◌≤◌, nat_lt, zero, suc, Bool, true, false, cond, List, [], ◌∷◌, length}
 use Rattle.std.proofs.Common.{get_or, set, replicate, Some, None, position, slice_get, refl, sym, ◌∙◌, ap, arith}
 use Rattle.std.specs.List.{AllByRecursion, position_or_len}
@@ -81,7 +81,7 @@ apart_rows_from (x ∷ ps) [] bs p all = tt
 apart_rows_from (x ∷ ps) (y ∷ ls) [] p all = tt
 apart_rows_from (x ∷ ps) (y ∷ ls) (z ∷ bs) p all = (below_apart p x all.0, apart_rows_from ps ls bs p all.1)
 
--- pids that rise stand once
+-- pids that rise occur once
 pub apart_rows : (ps : List Pid) (ls : List LocalState) (bs : List (List Message))
     → IsRising ps → AreApart (state_of ps ls bs)
 apart_rows [] ls bs rising = tt
@@ -101,13 +101,13 @@ cond_none : (b : Bool) (n : ℕ) → cond b (Some n) None ≡ None → b ≡ fal
 cond_none true n h = absurd (cc)
 cond_none false n h = refl
 
--- where a pid stands is within the rows
+-- the place of a pid is within the rows
 pub number_within : (ps : List Pid) (q : Pid) (i : ℕ) → position (λ p. pid_eq p q) ps ≡ Some i → i < length ps
 number_within ps q i h = (position-Some (λ p. pid_eq p q) ps i q h).0
 
 module _ (ps : List Pid) (ls : List LocalState) (bs : List (List Message)) (aligned : AreAligned ps ls bs)
     (q : Pid) where
-  -- a pid that stands nowhere is unknown
+  -- a pid that is nowhere is unknown
   pub unknown : position (λ p. pid_eq p q) ps ≡ None → process (state_of ps ls bs) q ≡ None
   unknown h =
       let place : ℕ = number_in ps q in
@@ -117,7 +117,7 @@ module _ (ps : List Pid) (ls : List LocalState) (bs : List (List Message)) (alig
       place_rows ps ls bs q aligned.locals_len aligned.queues_len ∙ slice_get_past (state_of ps ls bs) place past
 
   module _ (i : ℕ) (at : position (λ p. pid_eq p q) ps ≡ Some i) where
-    -- its process stands there, where it keeps l
+    -- its process is there, where it keeps l
     pub stands : (l : LocalState) → l ≡ get_or ls i l
         → StandsAt (state_of ps ls bs) q i (process_of q l (get_or bs i []))
     stands l el =

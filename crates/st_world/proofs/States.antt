@@ -1,4 +1,4 @@
--- In a state in which no pid stands twice, the definition's step changes the actor's record alone, at its place,
+-- In a state in which no pid occurs twice, the definition's step changes the actor's record alone, at its place,
 -- before the act reaches others: a map that leaves all records but one is a write at that one's place.
 use Rattle.std.proofs.Common.{◌≡◌, ℕ, zero, suc, false, if◌then◌else◌, List, [], ◌∷◌, map, set, Some, None, slice_get}
 use Rattle.std.proofs.Common.{option_map, option_and_then, refl, sym, ◌∙◌, ap, subst}
@@ -13,12 +13,12 @@ use Rattle.st_core.specs.State.{Process, State, process}
 use Rattle.st_core.specs.Step.{Acted, acted, actor, receiver, reached, changed, outcome_of, step}
 use Rattle.st_core.proofs.ForCallers.{all_at, pid_eq-same, pid_eq-swap}
 
--- no pid stands twice
+-- no pid occurs twice
 abbrev pub AreApart : State → Type 0
 AreApart [] = Unit {0}
 AreApart (r ∷ s) = AllByRecursion (λ x. pid_eq x.pid r.pid ≡ false) s × AreApart s
 
--- the record of p is r, which stands at place i
+-- the record of p is r, which is at place i
 pub record StandsAt (s : State) (p : Pid) (i : ℕ) (r : Process) : Type 0 where
   pub at : slice_get s i ≡ Some r
   pub found : process s p ≡ Some r
@@ -33,7 +33,7 @@ map_agree f g (x ∷ xs) same = rw (same x, map_agree f g xs same) refl
 pub map_same : {A : Type 0} (f : A → A) (xs : List A) → ((x : A) → f x ≡ x) → map f xs ≡ xs
 map_same f xs same = map_agree f (λ x. x) xs same ∙ map-id xs
 
--- to write what stands there changes nothing
+-- to write what is there changes nothing
 pub set_back : {A : Type 0} (xs : List A) (i : ℕ) (x : A) → slice_get xs i ≡ Some x → set xs i x ≡ xs
 set_back [] i x h = refl
 set_back (z ∷ xs) zero x h = ap (λ w. w ∷ xs) (sym (same_Some z x h))

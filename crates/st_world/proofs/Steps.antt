@@ -76,7 +76,7 @@ stamped_fits top p (Some t) stamped = (stamped t refl).within
 
 module _ (top : ℕ) (ps : List Pid) (ls : List LocalState) (bs : List (List Message))
     (aligned : AreAligned ps ls bs) where
-  -- q stands at number i
+  -- q is at number i
   abbrev IsAt : Pid → ℕ → Type 0
   IsAt q i = position (λ p. pid_eq p q) ps ≡ Some i
 

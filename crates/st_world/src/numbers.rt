@@ -88,7 +88,7 @@ fn guess_of(guesses: &[u16], pid: Pid) -> usize {
     }
 }
 
-/// Where the pid stands among these, which rise: at the guess, or where a binary search finds it.
+/// Where the pid is among these, which rise: at the guess, or where a binary search finds it.
 #[inline]
 fn place_of(pids: &[Pid], guess: usize, pid: Pid) -> Option<usize>
     requires { IsRising pids.now }

@@ -22,7 +22,7 @@ pub(crate) fn zeros<const TOP: u64>(
     Ok(locals)
 }
 
-/// From which number on and up to which the processes of the node stand.
+/// From which number on and up to which the processes of the node are.
 pub(crate) fn node_range(pids: &[Pid], node: u16) -> (usize, usize)
     requires { IsRising pids.now }
     ensures { IsNodeRange node pids.now result.0 result.1 }

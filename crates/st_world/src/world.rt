@@ -24,7 +24,7 @@ use std::marker::Model;
 pub struct World<const TOP: u64> {
     processes: Processes<TOP>,
 
-    // Whether no reset was asked for yet. Until then no stamp stands twice in a queue, so that a
+    // Whether no reset was asked for yet. Until then no stamp occurs twice in a queue, so that a
     // message may be looked for from either end.
     one_trace: bool,
 }

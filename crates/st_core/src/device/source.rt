@@ -1,4 +1,4 @@
-//! What a source of bytes promises. Only the trait: the sources stand beside it.
+//! What a source of bytes promises. Only the trait: the sources are beside it.
 
 ghost use Rattle.std.specs.Prelude.{◌≡◌, ◌≤◌, ◌<◌, take, List, [], ℕ, Bool, Option, IfOk};
 ghost use Rattle.std.specs.Prelude.{MatchResult, length};

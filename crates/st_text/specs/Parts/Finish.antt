@@ -12,7 +12,7 @@ use Rattle.st_text.specs.declared.builder.BundleBuilder.{BundleBuilder}
 use Rattle.st_text.specs.Fault.{closing_fault}
 use Rattle.st_text.specs.Parts.Builder.{so_far}
 
--- the line of the event at this index of p, if the first of these processes stands at line n
+-- the line of the event at this index of p, if the first of these processes is at line n
 abbrev pub line_at_place : (Pid → ℕ) → ℕ → List Pid → Pid → ℕ → ℕ
 line_at_place count n [] p i = n
 line_at_place count n (q ∷ ps) p i =

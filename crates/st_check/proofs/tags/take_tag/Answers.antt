@@ -1,4 +1,4 @@
--- The list loses what stands at the place, if anything does.
+-- The list loses what is at the place, if anything does.
 use Rattle.std.proofs.Common.{sym, ◌∙◌, ap}
 use Rattle.st_check.specs.Progress.{without_tag}
 use Rattle.st_check.proofs.TagLists.{take_leaves}

@@ -1,4 +1,4 @@
--- The template's first piece is a byte or a number, and what stands behind it goes on as the call says.
+-- The template's first piece is a byte or a number, and what is behind it goes on as the call says.
 use Rattle.std.proofs.Common.{◌≡◌, ◌<◌, ◌+◌, ◌∙◌, ℕ, List, length, Option}
 use Rattle.std.proofs.Common.{sym, subst, arith}
 use Rattle.std.specs.Borrow.{Bor}

@@ -1,4 +1,4 @@
--- The templates spell the lines that may stand there.
+-- The templates spell the lines that may be there.
 use Rattle.st_column.proofs.Grammar.{column_is}
 use Rattle.st_column.proofs.column.column_below.Goals as goal
 

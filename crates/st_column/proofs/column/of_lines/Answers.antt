@@ -1,4 +1,4 @@
--- Below a process stand events and what may stand below the header.
+-- Below a process are events and what may be below the header.
 use Rattle.std.proofs.Common.{sym, subst}
 use Rattle.st_column.specs.declared.above.Above.{Above}
 use Rattle.st_column.specs.Column.{IsLongest}

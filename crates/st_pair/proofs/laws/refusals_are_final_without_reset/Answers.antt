@@ -1,4 +1,4 @@
--- Acts without a reset show no streams against which a reason stands: see Final.
+-- Acts without a reset show no streams of which a reason holds: see Final.
 use Rattle.st_pair.proofs.FinalReasons.{refused_never_shown}
 use Rattle.st_pair.proofs.laws.refusals_are_final_without_reset.Goals as goal
 

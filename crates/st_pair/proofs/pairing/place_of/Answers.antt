@@ -1,4 +1,4 @@
--- A pid stands in rising pids where a search by halves finds it, and nowhere if that fails.
+-- A pid is in rising pids where a search by halves finds it, and nowhere if that fails.
 use Rattle.st_core.proofs.ForCallers.{missing_from_search}
 use Rattle.st_pair.proofs.pairing.place_of.Goals as goal
 

@@ -1,4 +1,4 @@
--- The climb: each node that it adds stands in the tree, and a level up the same slots stand before the place.
+-- The climb: each node that it adds is in the tree, and a level up the same slots are before the place.
 use Rattle.std.proofs.Common.{◌≡◌, ◌+◌, ◌∙◌, suc, ◌-◌, ◌/◌, arith, ap}
 use Rattle.st_ranks.specs.Tree.{count_at, sums, wide}
 use Rattle.st_ranks.proofs.TreeLemmas.{within, rank-fits, sums-up}

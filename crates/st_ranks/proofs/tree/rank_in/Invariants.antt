@@ -3,7 +3,7 @@ use Rattle.std.proofs.Common.{◌≡◌, ◌+◌, ◌<◌, ◌≤◌}
 use Rattle.st_ranks.specs.Tree.{count_at, sums, wide}
 use Rattle.st_ranks.proofs.tree.rank_in.Given as goal
 
--- what was added and what stands before the place on this level are what stands before the slot
+-- what was added, and what is before the place on this level, make up what is before the slot
 abbrev pub invariant-loop-level : goal.invariant-loop-level
 invariant-loop-level l =
     (l.sum + sums (count_at l.counts) l.start l.place ≡ sums (count_at l.counts) l.fn.size l.fn.slot)

@@ -1,4 +1,4 @@
--- The descent: the child stands in the tree, and holds what is left.
+-- The descent: the child is in the tree, and holds what is left.
 use Rattle.std.proofs.Common.{◌≡◌, ◌+◌, ◌∙◌, suc, arith, sym, ap}
 use Rattle.st_ranks.specs.Tree.{count_at, sums, wide}
 use Rattle.st_ranks.proofs.TreeLemmas.{within, down}

@@ -3,7 +3,7 @@ use Rattle.std.proofs.Common.{◌≡◌, ◌+◌, ◌-◌, ◌<◌, ◌≤◌}
 use Rattle.st_ranks.specs.Tree.{count_at, sums, wide}
 use Rattle.st_ranks.proofs.tree.select_in.Given as goal
 
--- what is left stands within the node, and the rest before it
+-- what is left is within the node, and the rest before it
 abbrev pub invariant-loop-level : goal.invariant-loop-level
 invariant-loop-level l =
     (l.left + sums (count_at l.counts) l.start l.place ≡ l.fn.wanted)

@@ -1,4 +1,4 @@
--- The process is brought to stand ready and then stamps: acts in a row, of which no reason holds.
+-- The process is brought to be ready and then stamps: acts in a row, of which no reason holds.
 use Rattle.std.proofs.Common.{◌≡◌, ◌+◌, cond, None, Some, [], ◌∷◌, ◌++◌, Err, refl, sym, ◌∙◌, ap, subst}
 use Rattle.st_plan.specs.Build.{ready}
 use Rattle.st_audit.specs.Progress.{acts_turn, is_too_wide, stamp_turn, Meets, SaysNothing, TellsLast, TriesAct}

@@ -1,4 +1,4 @@
--- A second header may never stand. The word before the acts is judged by no limit, so by each.
+-- A second header never may. The word before the acts is judged by no limit, so by each.
 use Rattle.st_text.proofs.BuilderFaults.{header_fault}
 use Rattle.st_text.proofs.builder.BundleBuilder.accept_line.Goals as goal
 

@@ -1,4 +1,4 @@
--- The word may stand if the acts haven't begun, whatever came before.
+-- The word may come if the acts haven't begun, whatever came before.
 use Rattle.std.proofs.Common.{◌≡◌, ◌+◌, ◌∙◌, not, false, refl, sym, ap, Some}
 use Rattle.std.specs.Prelude.{is_some}
 use Rattle.st_text.proofs.BuilderFaults.{begin_fault, no_line, no_fault, begun_out, let_in, not_begun, none_of_acts}

@@ -1,4 +1,4 @@
--- Pids that rise stand once, so that where a pid stands is its number.
+-- Pids that rise occur once, so that a pid's place is its number.
 use Rattle.st_world.proofs.Pids.{number_found}
 use Rattle.st_world.proofs.numbers.Numbers.number_of.Goals as goal
 

@@ -1,4 +1,4 @@
--- As for `place_of`; and that the stamp stands once in the process's queue is said of the queue of its number.
+-- As for `place_of`; and that the stamp occurs once in the process's queue is said of the queue of its number.
 use Rattle.std.proofs.Common.{◌≡◌, Option, Some, None, ◌<◌, length, option_and_then, position, get_or, [], sym}
 use Rattle.std.proofs.Common.{◌∙◌, arith, IfSome, subst}
 use Rattle.std.proofs.lemmas.List.{get_or_default}

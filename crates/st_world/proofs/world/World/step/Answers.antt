@@ -1,4 +1,4 @@
--- No act but a reset lets a stamp stand twice.
+-- No act but a reset lets a stamp occur twice.
 use Rattle.st_world.proofs.Once.{kept_once}
 use Rattle.st_world.proofs.world.World.step.Goals as goal
 
