@@ -1,5 +1,5 @@
 -- Acts are tried up to the first that has no step: after acts that ran it is the first of the later ones, and what
--- comes after it isn't tried. So calls in a row did what comes of their acts in a row.
+-- comes after it isn't tried. So calls in a row had the outcome of their acts in a row.
 use Rattle.std.proofs.Common.{◌≡◌, ℕ, Bool, true, false, List, [], ◌∷◌, ◌++◌, Option, Some, None, option_map}
 use Rattle.std.proofs.Common.{option_and_then, Result, Ok, Err, append_assoc, refl, sym, ◌∙◌, ap, subst}
 use Rattle.std.proofs.lemmas.List.{append-nil}
@@ -200,7 +200,7 @@ then_performed {top} xs ys old mid new one two = record {
 
 -- ONE CALL AFTER THE OTHER
 
--- what comes of acts that halt comes of them with others behind them
+-- acts that halt have the same outcome with others behind them
 pub halts_before : {top : ℕ} {T U : Type 0} (one : T → List Outcome → Type 0) (two : U → List Outcome → Type 0)
     (xs ys : List Act) (old : Construction top) (h : Halt) (new : Construction top)
     → Meets one (acts_turn top old.world xs) old (Err h) new
@@ -220,7 +220,7 @@ halts_before {top} one two xs ys old halt.Stopped new meets =
       put = meets.put ∙ ap (λ zs. old.acts ++ zs) (sym (more.same ∙ was.1));
     }
 
--- what comes of acts after others that were performed
+-- the outcome of acts after others that were performed
 pub halts_after : {top : ℕ} {T U : Type 0} (one : T → List Outcome → Type 0) (two : U → List Outcome → Type 0)
     (xs : List Act) (a : Act) (ys : List Act) (old mid : Construction top) (h : Halt) (new : Construction top)
     → Performed xs old mid → Meets one (acts_turn top mid.world (a ∷ ys)) mid (Err h) new

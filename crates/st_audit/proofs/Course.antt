@@ -1,5 +1,5 @@
 -- The course of the items, from one item to the next: the construction is where the items so far led, so
--- what comes of the next one decides how the course goes on, or where it ends.
+-- the outcome of the next one decides how the course goes on, or where it ends.
 use Rattle.std.proofs.Common.{◌≡◌, ℕ, ◌+◌, ◌-◌, ◌<◌, ◌≤◌, ◌==◌, zero, suc, false, List, [], ◌∷◌, ◌++◌}
 use Rattle.std.proofs.Common.{take, drop, length, get_or, Option, Some, None, option_map, slice_get}
 use Rattle.std.proofs.Common.{unwrap_or, refl, sym, ◌∙◌, ap, arith}
@@ -101,7 +101,7 @@ module _ (top : ℕ) (streams : List Stream) (rising : IsRising (pids_of streams
             ∙ ap (went_on top streams (last_place xs) s earlier acts m rest) is;
       }
 
-  -- what comes of the next item
+  -- the outcome of the next item
   abbrev pub here_turn : Turn
   here_turn = turn top streams all_told s (earlier_of streams (take n xs)) (move_by here course_item.event)
 

@@ -1,4 +1,4 @@
--- What comes of a stamp, of a report and of an item is what comes of its move: the state's counts give the same reasons
+-- The outcome of a stamp, of a report and of an item is that of its move: the state's counts give the same reasons
 -- as the moves do, and a report is the event exactly if it is shown.
 use Rattle.std.proofs.Common.{◌≡◌, ℕ, ◌+◌, ◌-◌, ◌≤◌, ◌==◌, ◌&&◌, ◌||◌, nat_lt, zero, suc, Bool, true, false, not, cond}
 use Rattle.std.proofs.Common.{List, [], ◌∷◌, ◌++◌, take, length, Option, Some, None, option_map}
@@ -355,7 +355,7 @@ module _ {top : ℕ} (streams : List Stream) (marks : Marks) (earlier : List Mov
         nowhere : process c.world m.who ≡ None → move_turn streams marks c m ≡ by_moves
         nowhere at = rw at refl
 
--- what comes of a report is what comes of its item
+-- the outcome of a report is that of its item
 pub report_turn_is : {top : ℕ} (streams : List Stream) (marks : Marks) (earlier : List Move) (c : Construction top)
     → IsSoFar streams earlier c → (p : Pid) (i : ℕ) (e : Event)
     → report_turn streams marks c (event_count p earlier) (move_by (item.Reported p i) e)

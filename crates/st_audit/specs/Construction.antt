@@ -57,7 +57,7 @@ abbrev pub last_report : Option Event → List Outcome → Option Event
 last_report r [] = r
 last_report r (o ∷ os) = last_report o.report os
 
--- What comes of an item. Through: its acts, with their outcomes. Stopped: the streams go on another
+-- The outcome of an item. Through: its acts, with their outcomes. Stopped: the streams go on another
 -- way than the acts, of which these were tried. Refused: one of the auditor's own reasons
 pub data Turn : Type 0 where
   Through : List Act → List Outcome → Turn
@@ -94,7 +94,7 @@ compared_turn m (Through acts os) = if is_shown m os then Through acts os else S
 compared_turn m (Stopped acts) = Stopped acts
 compared_turn m (Refused r) = Refused r
 
--- what comes of a move from this state, after those earlier ones, if its event is told
+-- the outcome of a move from this state, after those earlier ones, if its event is told
 abbrev pub turn : ℕ → List Stream → Marks → State → List Move → Move → Turn
 turn top streams marks s earlier m = if out_of_turn earlier m then Stopped [] else
     compared_turn m (attempt top s (uncaused earlier m) (too_wide earlier m)
@@ -108,7 +108,7 @@ pub data End : Type 0 where
   Judged : List Act → Option (Pid × ℕ) → End
   Unfounded : Pid × ℕ → Reason → End
 
--- What comes of these moves, with these acts before them. If none of them stops it, it ends at the
+-- The outcome of these moves, with these acts before them. If none of them stops it, it ends at the
 -- place `end`
 abbrev pub course : ℕ → List Stream → Option (Pid × ℕ) → State → List Move → List Act → List Move
     → End

@@ -1,5 +1,5 @@
--- For the parts alone: what the construction keeps along the items, what comes of an item from
--- where it is, and that a call did what comes of it.
+-- For the parts alone: what the construction keeps along the items, the outcome of an item from
+-- where it is, and that a call had this outcome.
 use Rattle.std.specs.Prelude.{◌≡◌, ℕ, ◌+◌, ◌-◌, ◌==◌, ◌&&◌, ◌||◌, nat_lt, Bool, true, false, not}
 use Rattle.std.specs.Prelude.{List, [], ◌∷◌, ◌++◌, ◌<◌, ◌^◌, ◌≢◌, length, slice_get, Option, Some}
 use Rattle.std.specs.Prelude.{None, if◌then◌else◌, Result, Ok, Err, option_map}
@@ -100,24 +100,24 @@ is_below s p e = option_map_or (λ r. nat_lt r.local.clock e.serial.this) (proce
 
 -- WHAT COMES OF AN ITEM, BY THE STATE
 
--- what comes of acts of which no reason holds
+-- the outcome of acts of which no reason holds
 abbrev pub acts_turn : ℕ → State → List Act → Turn
 acts_turn top s acts = turn_by top s acts (run_from top s acts)
 
--- what comes of this stamp of the event's serial by p
+-- the outcome of this stamp of the event's serial by p
 abbrev pub stamp_turn : {top : ℕ} → Construction top → Pid → Event → Flags → Act → Turn
 stamp_turn {top} c p e f a =
     attempt top c.world (test_at (λ x. is_uncaused x e.serial) c.world p)
     (test_at (λ x. is_too_wide c.skipped (missing_count x e.serial)) c.world p)
     (option_map (λ r. ready p (start_of r.local) e.label e.serial f ++ a ∷ []) (process c.world p))
 
--- what comes of p's taking the event's message
+-- the outcome of p's taking the event's message
 abbrev pub take_turn : {top : ℕ} → Construction top → Pid → Event → Turn
 take_turn {top} c p e = attempt top c.world false false
     (option_map (λ k. act.Receive p (want.Place k) ∷ [])
     (place_in c.world p e.from e.serial.this))
 
--- what comes of a move's acts
+-- the outcome of a move's acts
 abbrev pub move_turn : {top : ℕ} → List Stream → Marks → Construction top → Move → Turn
 move_turn {top} streams marks c m = attempt top c.world
     (not (is_taking m) && test_at (λ x. is_uncaused x m.event.serial) c.world m.who)
@@ -150,14 +150,14 @@ marked_turn marks m (Through acts os) =
 marked_turn marks m (Stopped acts) = Stopped acts
 marked_turn marks m (Refused r) = Refused r
 
--- what comes of a reported event, if its process told so many before
+-- the outcome of a reported event, if its process told so many before
 abbrev pub report_turn : {top : ℕ} → List Stream → Marks → Construction top → ℕ → Move → Turn
 report_turn streams marks c n m =
     if elim m.item [ item.Reported p i ↦ not (n == i) | item.Hidden p i ↦ false ] then Stopped []
     else if is_high marks c.world m then Stopped []
     else marked_turn marks m (move_turn streams marks c m)
 
--- what comes of a move after those earlier ones, by an act that reports its event exactly if it is
+-- the outcome of a move after those earlier ones, by an act that reports its event exactly if it is
 -- told: if each is, its turn
 abbrev pub item_turn : {top : ℕ} → List Stream → Marks → Construction top → List Move → Move → Turn
 item_turn {top} streams marks c earlier m =
@@ -189,7 +189,7 @@ TriesAct (Through (a ∷ acts) os) = Unit {0}
 TriesAct (Stopped (a ∷ acts)) = Unit {0}
 TriesAct t = ⊥
 
--- a call did what comes of the turn, unless memory ran out on its acts
+-- a call had the outcome of the turn, unless memory ran out on its acts
 abbrev pub Meets : {top : ℕ} {T : Type 0} → (T → List Outcome → Type 0) → Turn
     → Construction top → Result T Halt → Construction top → Type 0
 Meets says t old (Ok x) new = WentThrough says t old x new

@@ -27,7 +27,7 @@ pub enum CheckFault {
     Memory,
 }
 
-/// What comes of acts that are replayed.
+/// The outcome of acts that are replayed.
 #[derive(Debug, Drop)]
 pub enum Replayed {
     /// The acts have a run: what each process reported in it, and each act's reply.

@@ -38,7 +38,7 @@ starts top pids acts os h = record {
   are = no_tags_are acts os pids;
 }
 
--- the next act, what comes of it, and the run after it
+-- the next act, its outcome, and the run after it
 pub record Next (top : ℕ) (acts : List Act) (os : List Outcome)
     (n : ℕ) (s : State) (tags : Tags) (a : Act) (rest : List Act) (outs : List Outcome) : Type 0 where
   pub outcome : Outcome

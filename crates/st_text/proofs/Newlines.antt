@@ -155,7 +155,7 @@ said_back (l ∷ ls) = ap (λ (x : List Line). l ∷ x) (said_back ls)
 pub no_lines : (bytes : List ℕ) → sayings bytes ≡ [] → length (cut bytes).0 ≡ 0
 no_lines bytes e = sym (length-map (cut bytes).0 line_of) ∙ ap length e
 
--- ---- what comes of the whole of the bytes
+-- ---- the outcome of the whole of the bytes
 
 pub fault_too_large : (limits : Limits) (bytes : List ℕ) → limits.bytes < length bytes
     → fault_within limits bytes ≡ Some faults.TooLarge

@@ -25,7 +25,7 @@ use Rattle.st_world.proofs.Kept.{trace_flagged}
 use Rattle.st_world.proofs.RowLemmas.{number_within}
 use Rattle.st_world.proofs.Steps.{step_node}
 
--- what comes of an act on a node
+-- the outcome of an act on a node
 abbrev pub told_of : Reply → Told
 told_of y = record { reply = y; report = None; place = None }
 

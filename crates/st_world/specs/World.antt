@@ -20,7 +20,7 @@ use Rattle.st_world.specs.declared.outcome.NewFault.TheVariants as new_fault
 use Rattle.st_world.specs.declared.outcome.StepFault.{StepFault}
 use Rattle.st_world.specs.declared.outcome.StepFault.TheVariants as fault
 
--- what comes of a step that tells this and leaves the state so
+-- the outcome of a step that tells this and leaves the state so
 abbrev pub outcome_to : Told → State → Outcome
 outcome_to told new = record {
   reply = told.reply;
