@@ -15,6 +15,7 @@ pub use device::{
     WriteTo,
 };
 pub use local::{ClockFull, Local};
+pub use places::place_of;
 pub use rising::is_rising;
 pub use sequence::Sequence;
 pub use streams::{AddFault, Draft, OpenFault, Streams, Unlisted};

@@ -14,12 +14,16 @@ ghost use Rattle.st_core.specs.Streams.{ComesLast, IsOpenFault, is_among, names_
 ghost use Rattle.st_core.specs.Streams.{IsDraft, IsStreams};
 ghost use Rattle.st_core.specs.Collected.{first_failing};
 
-use crate::places::Places;
+use crate::places::place_of;
 use crate::sequence::Sequence;
 use crate::types::{Event, Pid};
+use st_guesses::Guesses;
 use std::alloc::{AllocError, Global};
 use std::marker::Model;
 use thiserror::Error;
+
+/// For so many pids there are guesses: as many processes as `seqaudit` reads.
+const EXPECTED_PIDS: usize = 1_024;
 
 /// Why a process wasn't opened.
 #[derive(Clone, Copy, Debug, PartialEq, Eq, Error)]
@@ -53,7 +57,7 @@ pub struct Draft {
     pids: Vec<Pid>,
     events: Vec<Sequence<Event>>,
     total: u64,
-    places: Places,
+    guesses: Guesses,
 }
 
 impl Model for Draft {
@@ -77,7 +81,7 @@ impl Draft {
             pids: Vec::new(alloc),
             events: Vec::new(alloc),
             total: 0,
-            places: Places::new(alloc),
+            guesses: Guesses::none(alloc),
         }
     }
 
@@ -98,7 +102,8 @@ impl Draft {
         let Ok(()) = self.events.push(Sequence::new(alloc)) else {
             return Err(OpenFault::Memory);
         };
-        self.places.expect(pid, self.pids.len());
+        self.guesses.fill(EXPECTED_PIDS);
+        self.guesses.expect(pid.node(), pid.number(), self.pids.len());
         self.pids.push(pid).unwrap();
         Ok(())
     }
@@ -108,7 +113,7 @@ impl Draft {
     pub fn reserve(&mut self, pid: Pid, more: usize) -> Result<(), AllocError>
         ensures { self.new ≡ self.old }
     {
-        match self.places.place_of(&self.pids, pid) {
+        match place_of(&self.guesses, &self.pids, pid) {
             None => Ok(()),
             Some(place) => reserve_at(&mut self.events, place, more),
         }
@@ -122,7 +127,7 @@ impl Draft {
         ensures fault { IfErr result (IsAddFault self.old pid event) }
         ensures err { OnErr result (self.new ≡ self.old) }
     {
-        let Some(place) = self.places.place_of(&self.pids, pid) else {
+        let Some(place) = place_of(&self.guesses, &self.pids, pid) else {
             return Err(AddFault::Unknown);
         };
         if !event.is_own(pid) {
@@ -162,7 +167,7 @@ impl Draft {
         ensures place { result ≡ unlisted self.now }
         ensures draft { IsDraft self.now }
     {
-        first_failing(&self.places, &self.pids, &self.events)
+        first_failing(&self.guesses, &self.pids, &self.events)
     }
 
     /// The processes so far, by strictly rising pid.
@@ -178,7 +183,7 @@ impl Draft {
         ensures value { result.now ≡ events_of self.now pid }
         ensures draft { IsDraft self.now }
     {
-        match self.places.place_of(&self.pids, pid) {
+        match place_of(&self.guesses, &self.pids, pid) {
             None => &[],
             Some(place) => self.events[place].as_slice(),
         }
@@ -190,7 +195,7 @@ impl Draft {
         ensures missing { IfNone result
             (AllByRecursion (λ p. pid_eq p pid ≡ false) (pids_of self.now)) }
     {
-        self.places.place_of(&self.pids, pid)
+        place_of(&self.guesses, &self.pids, pid)
     }
 
     /// The number of all events.
@@ -316,32 +321,32 @@ fn push_at(events: &mut [Sequence<Event>], place: usize, event: Event) -> Result
 }
 
 /// Whether the pid is among these, which rise.
-fn is_among(places: &Places, pids: &[Pid], pid: Pid) -> bool
+fn is_among(guesses: &Guesses, pids: &[Pid], pid: Pid) -> bool
     requires { IsRising pids.now }
     ensures { result ≡ is_among pids.now pid }
 {
-    match places.place_of(pids, pid) {
+    match place_of(guesses, pids, pid) {
         None => false,
         Some(_) => true,
     }
 }
 
 /// Whether the pids that the event names are among these, which rise.
-fn names_among(places: &Places, pids: &[Pid], event: &Event) -> bool
+fn names_among(guesses: &Guesses, pids: &[Pid], event: &Event) -> bool
     requires { IsRising pids.now }
     ensures { result ≡ names_among pids.now event.now }
 {
-    if !is_among(places, pids, event.from) {
+    if !is_among(guesses, pids, event.from) {
         return false;
     }
     match event.to {
         None => true,
-        Some(to) => is_among(places, pids, to),
+        Some(to) => is_among(guesses, pids, to),
     }
 }
 
 /// The first event that names a pid that isn't among these, which rise.
-fn unlisted_index(places: &Places, pids: &[Pid], events: &[Event]) -> Option<usize>
+fn unlisted_index(guesses: &Guesses, pids: &[Pid], events: &[Event]) -> Option<usize>
     requires { IsRising pids.now }
     ensures { result ≡ position (λ e. not (names_among pids.now e)) events.now }
 {
@@ -349,18 +354,18 @@ fn unlisted_index(places: &Places, pids: &[Pid], events: &[Event]) -> Option<usi
         |event: &Event| -> bool
             requires { IsRising pids.now }
             ensures { result ≡ not (names_among pids.entry.now event.now) }
-        { !names_among(places, pids, event) },
+        { !names_among(guesses, pids, event) },
     )
 }
 
 /// The first process with such an event, and the event's index.
-fn first_failing(places: &Places, pids: &[Pid], lists: &[Sequence<Event>]) -> Option<(Pid, u64)>
+fn first_failing(guesses: &Guesses, pids: &[Pid], lists: &[Sequence<Event>]) -> Option<(Pid, u64)>
     requires rising { IsRising pids.now }
     requires even { length lists.now ≡ length pids.now }
     ensures { result ≡ first_failing (names_among pids.now) pids.now lists.now }
 {
     for (place, events) in lists.iter().enumerate() {
-        if let Some(index) = unlisted_index(places, pids, events.as_slice()) {
+        if let Some(index) = unlisted_index(guesses, pids, events.as_slice()) {
             return Some((pids[place], index as u64));
         }
     }

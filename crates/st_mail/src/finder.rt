@@ -44,7 +44,9 @@ impl Search {
     /// The search of a receive with this pattern. One that takes a message by its place may have
     /// asked for it by its stamp before: from both ends (`place_of_one`), or from the front once
     /// messages were wiped (`place_of`).
-    pub(crate) fn of(want: &Want, was_wiped: bool) -> Search {
+    pub(crate) fn of(want: &Want, was_wiped: bool) -> Search
+        ensures { result ≡ search.Nothing ↔ want.now ≡ want.First }
+    {
         match want {
             Want::First => Search::Nothing,
             Want::From(_) => Search::Front(Key::Sender),
@@ -56,7 +58,9 @@ impl Search {
     }
 
     /// The walk to the message that lay at this place, before so many others.
-    fn to_place(self, place: u64, others: u64, message: &Message) -> Option<Walk> {
+    fn to_place(self, place: u64, others: u64, message: &Message) -> Option<Walk>
+        ensures { IfSome result (λ walk. walk.passed ≤ place) }
+    {
         let (key, passed) = match self {
             Search::Nothing => return None,
             Search::Front(key) => (key, place),
@@ -70,7 +74,9 @@ impl Search {
     }
 
     /// The walk through a queue of this length that found nothing.
-    pub(crate) fn to_end(self, len: u64) -> Option<Walk> {
+    pub(crate) fn to_end(self, len: u64) -> Option<Walk>
+        ensures { IfSome result (λ walk. walk.passed ≡ len) }
+    {
         match self {
             Search::Front(key) => Some(Walk { key, passed: len }),
             _ => None,
@@ -89,7 +95,9 @@ struct Walks {
 
 impl Walks {
     /// Counts a walk, and returns how many messages those by its key have passed.
-    fn count(&mut self, walk: Walk) -> u64 {
+    fn count(&mut self, walk: Walk) -> u64
+        ensures { walk.passed ≤ result }
+    {
         let passed = match walk.key {
             Key::Value => &mut self.value,
             Key::Sender => &mut self.sender,

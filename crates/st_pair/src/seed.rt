@@ -4,7 +4,7 @@
 //! share a hash. Here the first thing that each of them takes is a digest of all keys of the table: to change a key
 //! changes the hash of each.
 
-ghost use Rattle.std.specs.Prelude.{◌≡◌};
+ghost use Rattle.std.specs.Prelude.{◌≡◌, ℕ, List};
 ghost use Rattle.std.specs.Hash.DefaultHasher as sip;
 
 use sha2::{Digest, Sha256};
@@ -19,7 +19,9 @@ pub struct Seeded {
 
 impl Seeded {
     /// For the keys that were digested.
-    pub fn new(keys: Sha256) -> Seeded {
+    pub fn new(keys: Sha256) -> Seeded
+        ensures { (bytes : List ℕ) → holds keys bytes → result.keys ≡ sha256 bytes }
+    {
         Seeded {
             keys: keys.finalize(),
         }

@@ -1,6 +1,6 @@
 -- The search looks at pids that rise, so if it finds none there is none.
-use Rattle.st_core.proofs.ForCallers.{missing_from_search}
-use Rattle.st_world.proofs.numbers.place_of.Goals as goal
+use Rattle.st_core.proofs.Pids.{missing_from_search}
+use Rattle.st_core.proofs.places.place_of.Goals as goal
 
 pub returns-clause-missing : goal.returns-clause-missing
 returns-clause-missing c =

@@ -1,9 +1,0 @@
--- The search looks at pids that rise, so if it finds none there is none.
-use Rattle.st_core.proofs.Pids.{missing_from_search}
-use Rattle.st_core.proofs.places.Places.place_of.Goals as goal
-
-pub returns-clause-missing : goal.returns-clause-missing
-returns-clause-missing c =
-    rw c.ok.ensures.value
-    (missing_from_search c.args.pids.now c.args.pid c.binary_search.result c.requires
-    c.binary_search.ensures.position)
