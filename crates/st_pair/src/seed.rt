@@ -5,6 +5,7 @@
 //! changes the hash of each.
 
 ghost use Rattle.std.specs.Prelude.{◌≡◌, ℕ, List};
+ghost use Rattle.sha2.specs.Sha256.{sha256};
 ghost use Rattle.std.specs.Hash.DefaultHasher as sip;
 
 use sha2::{Digest, Sha256};
