@@ -1,6 +1,6 @@
 //! How the messages of one queue are found: by a walk, or by an index of what long walks looked for.
 
-ghost use Rattle.std.specs.Prelude.{◌≡◌, ◌++◌, [], ◌∷◌, List, Some, IfSome, length, remove, true};
+ghost use Rattle.std.specs.Prelude.{◌≡◌, ◌≤◌, ◌↔◌, ◌++◌, [], ◌∷◌, List, Some, IfSome, length, remove, true};
 ghost use Rattle.std.specs.Prelude.{slice_get};
 ghost use Rattle.st_arena.specs.Arena.{list_at};
 ghost use Rattle.st_core.specs.declared.types.Message.{Message};
@@ -45,7 +45,7 @@ impl Search {
     /// asked for it by its stamp before: from both ends (`place_of_one`), or from the front once
     /// messages were wiped (`place_of`).
     pub(crate) fn of(want: &Want, was_wiped: bool) -> Search
-        ensures { result ≡ search.Nothing ↔ want.now ≡ want.First }
+        ensures { result ≡ Search.Nothing ↔ want.now ≡ Want.First }
     {
         match want {
             Want::First => Search::Nothing,

@@ -5,6 +5,7 @@
 //! changes the hash of each.
 
 ghost use Rattle.std.specs.Prelude.{◌≡◌, ℕ, List};
+ghost use Rattle.sha2.specs.Hashers.{Holds256};
 ghost use Rattle.sha2.specs.Sha256.{sha256};
 ghost use Rattle.std.specs.Hash.DefaultHasher as sip;
 
@@ -21,7 +22,7 @@ pub struct Seeded {
 impl Seeded {
     /// For the keys that were digested.
     pub fn new(keys: Sha256) -> Seeded
-        ensures { (bytes : List ℕ) → holds keys bytes → result.keys ≡ sha256 bytes }
+        ensures { (bytes : List ℕ) → Holds256 keys bytes → result.keys ≡ sha256 bytes }
     {
         Seeded {
             keys: keys.finalize(),
