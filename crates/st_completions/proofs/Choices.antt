@@ -3,8 +3,8 @@
 -- reason holds of them. To a run: what has no reason has a completion, which completes the streams as well.
 use Rattle.std.proofs.Common.{◌≡◌, ◌↔◌, ℕ, zero, suc, ◌&&◌, ◌||◌, Bool, true, false, cond, List, [], ◌∷◌, map, filter}
 use Rattle.std.proofs.Common.{◌+◌, ◌==◌, Option, Some, None, find, is_some, option_and_then, slice_get}
-use Rattle.std.proofs.Common.{refl, sym, ◌∙◌, ap, subst}
-use Rattle.std.proofs.lemmas.Bool.{false≢true, and_from, and_parts, eq-eqb, eqb-true}
+use Rattle.std.proofs.Common.{refl, sym, ◌∙◌, ap, subst, take}
+use Rattle.std.proofs.lemmas.Bool.{false≢true, and_from, and_parts, eq-eqb, eqb-true, or_parts}
 use Rattle.std.proofs.lemmas.Option.{none-some, same_Some}
 use Rattle.st_core.specs.declared.types.Pid.{Pid}
 use Rattle.st_core.specs.declared.types.Event.{Event}
@@ -22,18 +22,19 @@ use Rattle.st_pair.proofs.ForCallers.{cond_none, event_none, from_none, given_fr
 use Rattle.st_pair.proofs.ForCallers.{refused_never_shown}
 use Rattle.st_order.specs.Items.{is_hidden}
 use Rattle.st_plan.specs.Marks.{all_streams, Marked, told_events, told_streams, Whole}
-use Rattle.st_completions.specs.Choice.{HasChoice, IsChoice, is_taken}
+use Rattle.st_completions.specs.Choice.{HasChoice, HasNeedlessChoice, IsChoice, is_taken}
 use Rattle.st_completions.specs.Completed.{IsCompleted, IsShownInOneTrace}
 use Rattle.st_plan.specs.Full.{IsFull}
 use Rattle.st_completions.specs.Local.{IsNeedless}
-use Rattle.st_completions.specs.Needs.{marked_of}
+use Rattle.st_completions.specs.Needs.{HoldsOfNone, is_need, marked_of}
+use Rattle.st_completions.specs.Wholes.{AreReceivesTold}
 use Rattle.st_completions.proofs.CompletionsOfCompletions.{completed_again}
 use Rattle.st_completions.proofs.NeedlessCompletions.{decided}
 use Rattle.st_completions.proofs.Decision.{no_reason}
 use Rattle.st_completions.proofs.Equivalences.{full_settled, settled_shown, shown_full}
 use Rattle.st_completions.proofs.FedNeeds.{events}
 use Rattle.st_completions.proofs.NeedlessStreams.{needless_shown}
-use Rattle.st_completions.proofs.Needs.{at_mark, events_all, events_told}
+use Rattle.st_completions.proofs.Needs.{at_mark, events_all, events_told, needs_fed}
 use Rattle.st_completions.proofs.ShownStreams.{shown_are_streams}
 use Rattle.st_completions.proofs.Suppliers.{given_if}
 
@@ -132,6 +133,25 @@ module _ (streams : List Stream) where
   -- all, of which these are told
   abbrev retold : List Whole → List Whole
   retold wholes = map (λ w. record { pid = w.pid; marked = map (mark w.pid) w.marked }) wholes
+
+  marked_retold : (wholes : List Whole) (p : Pid) → marked_of (retold wholes) p ≡ map (mark p) (marked_of wholes p)
+  marked_retold [] p = refl
+  marked_retold (w ∷ wholes) p =
+      let out = λ (o : Option Whole). let ms : List Marked = elim o [ None ↦ [] | Some x ↦ x.marked ] in ms in
+      let again : Whole = record { pid = w.pid; marked = map (mark w.pid) w.marked } in
+      elim (pid_eq w.pid p) as (λ b. pid_eq w.pid p ≡ b
+      → out (cond b (Some again) (find (λ (x : Whole). pid_eq x.pid p) (retold wholes)))
+      ≡ map (mark p) (out (cond b (Some w) (find (λ (x : Whole). pid_eq x.pid p) wholes)))) [
+        | true ↦ λ is. ap (λ q. map (mark q) w.marked) (pid_same w.pid p is)
+        | false ↦ λ _. marked_retold wholes p
+      ] refl
+
+  -- what is marked anew was marked before
+  marked_before : (p : Pid) (ms : List Marked) (k : ℕ) (n : Marked) → slice_get (map (mark p) ms) k ≡ Some n
+      → (m : Marked) × ((slice_get ms k ≡ Some m) × (mark p m ≡ n))
+  marked_before p [] k n at = absurd (none-some n at)
+  marked_before p (m ∷ ms) zero n at = (m, (refl, same_Some (mark p m) n at))
+  marked_before p (m ∷ ms) (suc k) n at = marked_before p ms k n at
 
   told_kept : (p : Pid) (ms : List Marked) → told_events (filter (keep p) ms) ≡ told_events ms
   told_kept p [] = refl
@@ -406,6 +426,28 @@ module _ (top : ℕ) (streams : List Stream) (rising : IsRising (pids_of streams
     };
   }
 
+  -- A need among the chosen is fed by a receive that isn't chosen, so by one that wasn't told.
+  pub no_need : AreReceivesTold wholes → HoldsOfNone is_need (all_streams picked)
+  no_need told p i e at =
+      let test = λ (ss : List Stream). is_need (take i (events_of ss p)) e in
+      elim (test (all_streams picked)) as (λ b. test (all_streams picked) ≡ b → b ≡ false) [
+        | false ↦ λ _. refl
+        | true ↦ λ need.
+            let same = told_retold streams wholes in
+            let there = ap (λ ss. event_at ss p i) same ∙ at in
+            let again = subst (IsFull top) (sym (all_retold streams wholes)) full.is in
+            let fed = (needs_fed top (retold streams wholes) again p i e there (ap test same ∙ need)).fed in
+            let before = marked_before streams p (marked_of wholes p) fed.index _
+            (ap (λ ms. slice_get ms fed.index) (sym (marked_retold streams wholes p)) ∙ fed.at) in
+            let m = before.0 in
+            let receive = ap (λ (n : Marked). is_stamp n.event) before.1.1 ∙ fed.receives in
+            let untold = or_parts m.told _ (ap (λ (n : Marked). n.told) before.1.1) in
+            absurd (false≢true (sym untold.0 ∙ told p fed.index m before.1.0 receive))
+      ] refl
+
+  pub needless_choice : AreReceivesTold wholes → HasNeedlessChoice streams
+  needless_choice told = record { wholes = picked; choice = is_choice; none = no_need told }
+
   has_choice : HasChoice top streams
   has_choice = record {
     wholes = picked;
@@ -415,7 +457,7 @@ module _ (top : ℕ) (streams : List Stream) (rising : IsRising (pids_of streams
 
 -- THE EQUIVALENCE
 
-accepted_if_shown : (top : ℕ) (streams : List Stream) → IsShownInOneTrace top streams → refusal streams ≡ None
+pub accepted_if_shown : (top : ℕ) (streams : List Stream) → IsShownInOneTrace top streams → refusal streams ≡ None
 accepted_if_shown top streams shown = elim (refusal streams) as (λ o. refusal streams ≡ o → o ≡ None) [
   | None ↦ λ _. refl
   | Some f ↦ λ is. absurd (refused_never_shown streams f is top shown.acts shown.one_trace shown.shows)

@@ -41,6 +41,7 @@ pub mod CompletionsOfCompletions
 pub mod Choices
 pub mod UntoldEvents
 pub mod FreeSenders
+pub mod ReportedReceives
 pub mod ReportedSends
 pub mod Zeros
 pub mod StampsTold

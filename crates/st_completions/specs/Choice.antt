@@ -7,7 +7,7 @@ use Rattle.st_core.specs.Run.{Stream}
 use Rattle.st_core.specs.Streams.{IsStreams}
 use Rattle.st_pair.specs.Pairing.{is_send, receive_of}
 use Rattle.st_plan.specs.Marks.{all_streams, Marked, told_streams, Whole}
-use Rattle.st_completions.specs.Needs.{marked_of}
+use Rattle.st_completions.specs.Needs.{HoldsOfNone, is_need, marked_of}
 use Rattle.st_completions.specs.Reasons.{HasEachSend, HasNoReason}
 
 -- p's event is a send whose message a reported receive took
@@ -30,3 +30,9 @@ pub record HasChoice (top : ℕ) (streams : List Stream) : Type 0 where
   pub wholes : List Whole
   pub choice : IsChoice streams wholes
   pub none : HasNoReason top (all_streams wholes)
+
+-- there is a choice in which nothing is needed
+pub record HasNeedlessChoice (streams : List Stream) : Type 0 where
+  pub wholes : List Whole
+  pub choice : IsChoice streams wholes
+  pub none : HoldsOfNone is_need (all_streams wholes)

@@ -16,7 +16,7 @@ ghost use Rattle.st_pair.specs.Places.{event_at};
 ghost use Rattle.st_plan.specs.Full.{IsFull};
 ghost use Rattle.st_plan.specs.Marks.{all_streams, told_streams, Marked, Whole};
 ghost use Rattle.st_plan.specs.Plain.{IsSettled};
-ghost use Rattle.st_completions.specs.Choice.{HasChoice};
+ghost use Rattle.st_completions.specs.Choice.{HasChoice, HasNeedlessChoice};
 ghost use Rattle.st_completions.specs.Completed.{IsCompleted, IsShownInOneTrace};
 ghost use Rattle.st_completions.specs.Completion.{completion};
 ghost use Rattle.st_completions.specs.FinalReasons.{HasZeroBehindReceive, HasZeroBehindStamp};
@@ -30,7 +30,7 @@ ghost use Rattle.st_completions.specs.Renumbering.{renumbered_streams, with_coun
 ghost use Rattle.st_completions.specs.Reasons.{HasEachSend, HasNoReason, HasReason, Reason};
 ghost use Rattle.st_completions.specs.Reasons.{StandsAgainst};
 ghost use Rattle.st_completions.specs.Supply.{is_own_supply, needs, needs_from, IsSupplied};
-ghost use Rattle.st_completions.specs.Wholes.{wholes_of, AreSendsTold};
+ghost use Rattle.st_completions.specs.Wholes.{wholes_of, AreReceivesTold, AreSendsTold};
 
 /// Whatever acts without a reset report: all that they do, reported or not, is full streams, and
 /// what is told of these are the streams that the acts show. So each run without a reset has a full
@@ -78,6 +78,15 @@ pub fn reported_sends_feed_all_needs()
         → NoReset acts → AreSendsTold (wholes_of top streams acts shows.0)
         → IsRising (pids_of streams) → (v : ℕ) (p : Pid)
         → needs streams v p ≤ count_by (is_own_supply streams v p) (pids_of streams) }
+{}
+
+/// If all receives of a run were reported, the sends that nobody reported have places among the
+/// reported events at which nothing is needed, whatever else was stamped and not reported: those
+/// that they had in the run. So no message has to be invented.
+pub fn reported_receives_leave_no_need()
+    ensures { (top : ℕ) (streams : List Stream) (acts : List Act) (shows : Shows top streams acts)
+        → NoReset acts → AreReceivesTold (wholes_of top streams acts shows.0)
+        → IsRising (pids_of streams) → HasNeedlessChoice streams }
 {}
 
 /// Streams have acts without a reset exactly if they have a full completion, and exactly if they
