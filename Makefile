@@ -34,11 +34,15 @@ try: bin/quick/seqaudit ## runs the unproved seqaudit: COMMAND=.. FILE=.. (at on
 	@echo 'An unproved run: "make program" proves seqaudit.' >&2
 	@bin/quick/seqaudit $(COMMAND) < $(FILE)
 
-program: ## proves both programs and all below them, and builds them in bin/ (up to 50 minutes; after an edit less)
-	@.ci/prove $(PROGRAMS)
+# Without KEEP=1 no checked module is kept. That takes a fraction of the disk, but after an edit the edited crate and all above
+# it are proved from nothing.
+PROVE = .ci/prove $(if $(KEEP),--keep)
+
+program: ## proves both programs and all below them, and builds them in bin/ (up to 50 minutes; KEEP=1 takes more disk and makes it short after an edit)
+	@$(PROVE) $(PROGRAMS)
 
 bin/%: $(SOURCES)
-	@.ci/prove $*
+	@$(PROVE) $*
 
 demo: bin/seqaudit bin/seqtool ## runs the proved programs on examples/ and compares what they write (seconds, after program)
 	@examples/demo bin/seqaudit

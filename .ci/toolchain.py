@@ -7,6 +7,8 @@ import types
 from pathlib import Path
 
 TOP = Path(__file__).resolve().parent.parent
+# In out/rlib/ of a library of which .ci/prove kept the statements alone: the stamp of what they were made from.
+STATEMENTS = "statements"
 
 
 def load():

@@ -17,7 +17,7 @@ const MOST_CALLS: usize = 4_294_967_295;
 const MOST_PLACE: u64 = 4_294_967_295;
 
 /// A call: all of it, if it is of a frequent form, or where it stands whole.
-#[derive(Clone, Copy, Debug, PartialEq, Eq)]
+#[derive(Clone, Copy)]
 pub enum Brief {
     /// A send from the first to the second process, which returned `Done`.
     Send(Pid, Pid, u64),

@@ -13,7 +13,7 @@ use crate::pcb::traced::Traced;
 use st_core::{Act, Event, Pid, Reply, Token};
 
 /// The rank of an entry, and where the rest of it is.
-#[derive(Clone, Copy, Debug, PartialEq, Eq)]
+#[derive(Clone, Copy)]
 pub struct Row {
     /// The entry's rank.
     pub rank: u64,
@@ -27,7 +27,7 @@ const _: () = prove!(size_of::<Row>() == 16);
 
 /// What an entry says beside its rank: of an act of a whole node all of it, of any other where it
 /// is.
-#[derive(Clone, Copy, Debug, PartialEq, Eq)]
+#[derive(Clone, Copy)]
 pub enum Content {
     /// A reset by this process, which returned `Done`.
     Reset(Pid),
@@ -43,7 +43,7 @@ pub enum Content {
 }
 
 /// An entry without its rank.
-#[derive(Clone, Copy, Debug, PartialEq, Eq)]
+#[derive(Clone, Copy)]
 pub struct Unranked {
     /// The act.
     pub act: Act,

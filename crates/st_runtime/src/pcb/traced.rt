@@ -11,7 +11,7 @@ use crate::pcb::same::is_same;
 use st_core::{Act, Event, Flags, Kind, Label, Pid, Reply, Serial, Token, Want};
 
 /// An entry without its rank, of an act under a token.
-#[derive(Clone, Copy, Debug, PartialEq, Eq)]
+#[derive(Clone, Copy)]
 pub enum Traced {
     /// A send from the first to the second process that wasn't reported. It carried the token of
     /// these flags, this label and this serial, which its sender stamped.
