@@ -3,9 +3,9 @@
 use crate::json::{say_name, say_word};
 use st_commands::{status_of, tell_fault};
 use st_core::{ByteSink, ByteSource, WriteTo};
+use st_lint::run_lint;
 use st_say::{say, say_number};
 use st_text::{Buffer, Device, ReadFault, flush};
-use st_tool::run_lint;
 use std::alloc::Global;
 use std::str;
 
@@ -168,7 +168,7 @@ fn send_words<W: ByteSink>(writer: &mut W, words: &str) -> Result<(), Device> {
     flush(writer, &mut buffer)
 }
 
-/// Reads a text and writes what `run_lint` of `st_tool` does, but as JSON, with the same status. A
+/// Reads a text and writes what `run_lint` of `st_lint` does, but as JSON, with the same status. A
 /// fault without a place, as a text that is too large, is written in the reader's words.
 pub fn run_lint_json<R: ByteSource, W: ByteSink>(
     alloc: Global,

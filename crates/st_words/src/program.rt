@@ -7,9 +7,12 @@ use crate::words::Task;
 use st_commands::{run_audit_within, run_check_within};
 use st_core::{ByteSink, ByteSource};
 use st_draw::run_draw;
+use st_events::{run_cut, run_list, run_stats};
+use st_explain::run_explain;
 use st_export::{run_audit_json, run_check_json, run_complete_json, run_export, run_lint_json};
+use st_lint::run_lint;
 use st_text::Limits;
-use st_tool::{run_complete, run_cut, run_explain, run_lint, run_list, run_renumber, run_stats};
+use st_tool::{run_complete, run_renumber};
 use st_why::run_why;
 use std::thread::Threads;
 

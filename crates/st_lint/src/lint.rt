@@ -1,9 +1,9 @@
 //! The command `lint`: what is wrong with a text that the reader refuses, or what is in one that it
 //! takes.
 
+use crate::answer::{FAULTY, status_of, tell_unread};
 use crate::diagnosis::{Diagnosis, Wanted, diagnose};
 use crate::scan::Expected;
-use st_commands::{status_of, tell_fault};
 use st_core::{Act, ByteSink, ByteSource, Event, MemorySource, Pid, Sequence, Streams};
 use st_say::{say, say_count, say_number, say_pid};
 use st_text::{Buffer, Bundle, Device, Limits, ReadFault, flush, read_within};
@@ -266,15 +266,15 @@ fn send_diagnosis<W: ByteSink>(writer: &mut W, diagnosis: &Diagnosis<'_>) -> Res
 fn tell_counts<W: ByteSink>(alloc: Global, bundle: &Bundle, writer: &mut W) -> u8 {
     match label_counts(alloc, &bundle.streams) {
         Ok(counts) => status_of(send_counts(writer, bundle, &counts), 0),
-        Err(AllocError) => tell_fault(writer, ReadFault::Memory),
+        Err(AllocError) => tell_unread(writer, ReadFault::Memory),
     }
 }
 
 /// Tells what is wrong with these bytes.
 fn tell_wrong<W: ByteSink>(bytes: &[u8], fault: ReadFault, writer: &mut W) -> u8 {
     match diagnose(bytes, fault) {
-        Some(diagnosis) => status_of(send_diagnosis(writer, &diagnosis), 2),
-        None => tell_fault(writer, fault),
+        Some(diagnosis) => status_of(send_diagnosis(writer, &diagnosis), FAULTY),
+        None => tell_unread(writer, fault),
     }
 }
 
@@ -283,7 +283,7 @@ fn tell_wrong<W: ByteSink>(bytes: &[u8], fault: ReadFault, writer: &mut W) -> u8
 pub fn run_lint<R: ByteSource, W: ByteSink>(alloc: Global, reader: &mut R, writer: &mut W) -> u8 {
     let bytes = match gather(alloc, reader) {
         Ok(bytes) => bytes,
-        Err(fault) => return tell_fault(writer, fault),
+        Err(fault) => return tell_unread(writer, fault),
     };
     match read_within(
         alloc,
