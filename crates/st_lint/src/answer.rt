@@ -7,6 +7,12 @@ use st_text::{Buffer, Device, ReadFault, flush};
 /// The status if memory runs out, or a reader or a writer fails.
 const FAILED: u8 = 4;
 
+/// The status of a text without a mistake.
+pub(crate) const YES: u8 = 0;
+
+/// The status of a text that the reader takes, and that no run reports.
+pub(crate) const NO: u8 = 1;
+
 /// The status of a faulty text.
 pub(crate) const FAULTY: u8 = 2;
 

@@ -5,10 +5,25 @@
 #![tactic(auto)]
 
 mod answer;
-mod diagnosis;
+mod counts;
+mod findings;
+mod fix;
+mod form;
+mod input;
+mod judge;
+mod kind;
 mod lint;
+mod mend;
+mod mistake;
 mod place;
+mod remedy;
+mod report;
+mod rising;
 mod scan;
+mod survey;
+mod text;
 
+pub use findings::NAMED;
+pub use fix::run_fix;
 pub use lint::run_lint;
 pub use place::tell_place;

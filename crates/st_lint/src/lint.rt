@@ -1,296 +1,113 @@
-//! The command `lint`: what is wrong with a text that the reader refuses, or what is in one that it
-//! takes.
+//! The command `lint`: the mistakes of a text, or what is in one that has none.
 
-use crate::answer::{FAULTY, status_of, tell_unread};
-use crate::diagnosis::{Diagnosis, Wanted, diagnose};
-use crate::scan::Expected;
-use st_core::{Act, ByteSink, ByteSource, Event, MemorySource, Pid, Sequence, Streams};
-use st_say::{say, say_count, say_number, say_pid};
-use st_text::{Buffer, Bundle, Device, Limits, ReadFault, flush, read_within};
+use crate::answer::{FAULTY, NO, YES, status_of, tell_unread};
+use crate::counts::{label_counts, send_counts};
+use crate::findings::{Findings, findings_of};
+use crate::input::gather;
+use crate::judge::LIMITS;
+use crate::report::say_findings;
+use st_core::{ByteSink, ByteSource, MemorySource, Streams};
+use st_text::{Buffer, Bundle, Device, ReadFault, flush, read_within};
 use std::alloc::{AllocError, Global};
-use std::collections::BTreeMap;
 
-/// How much is read, as by each command of `seqtool`.
-pub(crate) const LIMITS: Limits = Limits::GREATER;
+/// What a text is.
+#[derive(Drop)]
+pub(crate) enum Judgement<'a> {
+    /// A bundle of which a run may report each event.
+    Good(Bundle),
+    /// A bundle of which no run reports some events: the reader takes it, and these are its mistakes.
+    Impossible(Findings<'a>),
+    /// No bundle: the reader refuses it, and these are its mistakes.
+    Faulty(Findings<'a>),
+}
 
-/// The longest line that is shown.
-const SHOWN: usize = 150;
+/// Whether no run reports some event of streams, since its serial doesn't rise.
+fn is_impossible(streams: &Streams) -> bool {
+    streams.pids().iter().any(|pid| {
+        streams
+            .events(*pid)
+            .iter()
+            .any(|event| event.serial.prev >= event.serial.this)
+    })
+}
 
-/// All bytes of a source.
-fn gather<R: ByteSource>(alloc: Global, reader: &mut R) -> Result<Vec<u8>, ReadFault> {
-    let mut bytes = Vec::new(alloc);
-    let mut piece = [0u8; 65_536];
-    for _ in 0..u64::MAX {
-        match reader.take(&mut piece) {
-            Err(_) => return Err(ReadFault::Device),
-            Ok(0) => return Ok(bytes),
-            Ok(n) => {
-                if n > (LIMITS.bytes as usize).saturating_sub(bytes.len()) {
-                    return Err(ReadFault::TooLarge);
-                }
-                let Ok(()) = bytes.extend_from_slice(&piece[..n]) else {
-                    return Err(ReadFault::Memory);
-                };
-            }
+/// The mistakes of a text, of which so many are to be named.
+fn named_of<'a>(alloc: Global, bytes: &'a [u8], most: u64) -> Result<Findings<'a>, ReadFault> {
+    match findings_of(alloc, bytes, most) {
+        Ok(findings) => Ok(findings),
+        Err(AllocError) => Err(ReadFault::Memory),
+    }
+}
+
+/// What the text of these bytes is. So many mistakes are to be named.
+pub(crate) fn judgement_of<'a>(
+    alloc: Global,
+    bytes: &'a [u8],
+    most: u64,
+) -> Result<Judgement<'a>, ReadFault> {
+    match read_within(alloc, &mut MemorySource::new(bytes, None), LIMITS) {
+        Ok(bundle) if is_impossible(&bundle.streams) => {
+            Ok(Judgement::Impossible(named_of(alloc, bytes, most)?))
         }
+        Ok(bundle) => Ok(Judgement::Good(bundle)),
+        Err(fault @ (ReadFault::Memory | ReadFault::Device | ReadFault::TooLarge)) => Err(fault),
+        Err(_) => Ok(Judgement::Faulty(named_of(alloc, bytes, most)?)),
     }
-    Ok(bytes)
 }
 
-/// How many events have each label.
-fn label_counts(alloc: Global, streams: &Streams) -> Result<BTreeMap<u32, u64>, AllocError> {
-    let mut counts = BTreeMap::new(alloc);
-    for pid in streams.pids() {
-        count_labels(&mut counts, streams, *pid)?;
-    }
-    Ok(counts)
-}
-
-/// Counts the labels of a process's events.
-fn count_labels(
-    counts: &mut BTreeMap<u32, u64>,
-    streams: &Streams,
-    pid: Pid,
-) -> Result<(), AllocError> {
-    for event in streams.events(pid) {
-        let count = counts.entry(event.label.0)?.or_insert(0);
-        *count = count.saturating_add(1);
-    }
-    Ok(())
-}
-
-/// Writes how many acts there are.
-fn say_acts<W: ByteSink>(
+/// Sends the mistakes of a text.
+pub(crate) fn send_findings<W: ByteSink>(
     writer: &mut W,
-    buffer: &mut Buffer,
-    acts: &Option<Sequence<Act>>,
-) -> Result<(), Device> {
-    match acts {
-        None => say(writer, buffer, b"no acts\n"),
-        Some(acts) => say_count(writer, buffer, b"acts ", acts.len() as u64),
-    }
-}
-
-/// Writes a line for each label.
-fn say_labels<W: ByteSink>(
-    writer: &mut W,
-    buffer: &mut Buffer,
-    counts: &BTreeMap<u32, u64>,
-) -> Result<(), Device> {
-    for (label, count) in counts {
-        say(writer, buffer, b"label ")?;
-        say_number(writer, buffer, u64::from(*label))?;
-        say_count(writer, buffer, b", events ", *count)?;
-    }
-    Ok(())
-}
-
-/// The place of the first event of a process whose prev isn't below its this.
-fn first_unrising(events: &[Event]) -> Option<usize> {
-    events
-        .iter()
-        .position(|event| event.serial.prev >= event.serial.this)
-}
-
-/// Writes the first event of each process that no acts report, since its serial doesn't rise.
-fn say_unrising<W: ByteSink>(
-    writer: &mut W,
-    buffer: &mut Buffer,
-    streams: &Streams,
-) -> Result<(), Device> {
-    for pid in streams.pids() {
-        if let Some(index) = first_unrising(streams.events(*pid)) {
-            say(writer, buffer, b"warning: no acts report event ")?;
-            say_number(writer, buffer, index as u64)?;
-            say(writer, buffer, b" of ")?;
-            say_pid(writer, buffer, *pid)?;
-            say(writer, buffer, b", since its prev isn't below its this\n")?;
-        }
-    }
-    Ok(())
-}
-
-/// Sends what is in a bundle.
-fn send_counts<W: ByteSink>(
-    writer: &mut W,
-    bundle: &Bundle,
-    counts: &BTreeMap<u32, u64>,
+    findings: &Findings<'_>,
 ) -> Result<(), Device> {
     let mut buffer = Buffer::new();
-    say(writer, &mut buffer, b"ok\n")?;
-    say_unrising(writer, &mut buffer, &bundle.streams)?;
-    let processes = bundle.streams.pids().len() as u64;
-    say_count(writer, &mut buffer, b"processes ", processes)?;
-    say_count(writer, &mut buffer, b"events ", bundle.streams.total())?;
-    say_acts(writer, &mut buffer, &bundle.acts)?;
-    say_labels(writer, &mut buffer, counts)?;
+    say_findings(writer, &mut buffer, findings)?;
     flush(writer, &mut buffer)
 }
 
-/// Writes what the grammar has at a column.
-fn say_expected<W: ByteSink>(
+/// Writes what a text is.
+fn tell_judgement<W: ByteSink>(
+    alloc: Global,
+    judgement: &Judgement<'_>,
     writer: &mut W,
-    buffer: &mut Buffer,
-    expected: Expected,
-) -> Result<(), Device> {
-    match expected {
-        Expected::Text(text) => {
-            if text == " " {
-                return say(writer, buffer, b"one space");
-            }
-            say(writer, buffer, text.as_bytes())
-        }
-        Expected::Thing(thing) => say(writer, buffer, thing.as_bytes()),
-        Expected::Number(noun, most) => {
-            say(writer, buffer, noun.as_bytes())?;
-            say(writer, buffer, b" up to ")?;
-            say_number(writer, buffer, most)
-        }
-        Expected::NoLeadingZero => say(writer, buffer, b"no digit behind a leading 0"),
-        Expected::End => say(writer, buffer, b"the end of the line"),
+) -> Result<u8, ReadFault> {
+    match judgement {
+        Judgement::Good(bundle) => match label_counts(alloc, &bundle.streams) {
+            Ok(counts) => Ok(status_of(send_counts(writer, bundle, &counts), YES)),
+            Err(AllocError) => Err(ReadFault::Memory),
+        },
+        Judgement::Impossible(findings) => Ok(status_of(send_findings(writer, findings), NO)),
+        Judgement::Faulty(findings) => Ok(status_of(send_findings(writer, findings), FAULTY)),
     }
 }
 
-/// Writes what could stand at a column.
-fn say_wanted<W: ByteSink>(
-    writer: &mut W,
-    buffer: &mut Buffer,
-    wanted: Wanted<'_>,
-) -> Result<(), Device> {
-    match wanted {
-        Wanted::Grammar(expected) => say_expected(writer, buffer, expected),
-        Wanted::Above(pid) => {
-            say(writer, buffer, b"a pid above ")?;
-            say(writer, buffer, pid)
-        }
-        Wanted::EventOf(pid, other) => {
-            say(writer, buffer, b"an event of ")?;
-            say(writer, buffer, pid)?;
-            say(writer, buffer, b", this is one of ")?;
-            say(writer, buffer, other)
-        }
-        Wanted::Listed(pid) => {
-            say(writer, buffer, b"a pid with a process line, ")?;
-            say(writer, buffer, pid)?;
-            say(writer, buffer, b" has none")
-        }
-        Wanted::Words(words) => say(writer, buffer, words.as_bytes()),
-    }
-}
-
-/// The digits of a byte that isn't shown as it is.
-const DIGITS: &[u8; 16] = b"0123456789abcdef";
-
-/// As many blanks as a byte takes places where a line is shown.
-fn blanks(byte: u8) -> &'static [u8] {
-    match byte {
-        b' '..=b'~' => b" ",
-        b'\t' => b"  ",
-        _ => b"    ",
-    }
-}
-
-/// Writes a byte: one that isn't seen, or isn't ASCII, as `\\t` or `\\xNN`.
-fn say_byte<W: ByteSink>(writer: &mut W, buffer: &mut Buffer, byte: u8) -> Result<(), Device> {
-    match byte {
-        b' '..=b'~' => say(writer, buffer, &[byte]),
-        b'\t' => say(writer, buffer, b"\\t"),
-        _ => {
-            let high = DIGITS[(byte / 16) as usize];
-            let low = DIGITS[(byte % 16) as usize];
-            say(writer, buffer, &[b'\\', b'x', high, low])
-        }
-    }
-}
-
-/// Writes the line and a mark below the column.
-fn say_line<W: ByteSink>(
-    writer: &mut W,
-    buffer: &mut Buffer,
-    line: &[u8],
-    column: usize,
-) -> Result<(), Device> {
-    if line.is_empty() || line.len() > SHOWN {
-        return Ok(());
-    }
-    say(writer, buffer, b"  ")?;
-    for byte in line {
-        say_byte(writer, buffer, *byte)?;
-    }
-    say(writer, buffer, b"\n  ")?;
-    say_blanks(writer, buffer, line.split_at(column.min(line.len())).0)?;
-    say(writer, buffer, b"^\n")
-}
-
-/// Writes blanks below these bytes of a line.
-fn say_blanks<W: ByteSink>(
-    writer: &mut W,
-    buffer: &mut Buffer,
+/// Writes what the text of these bytes is.
+fn tell_text<W: ByteSink>(
+    alloc: Global,
     bytes: &[u8],
-) -> Result<(), Device> {
-    for byte in bytes {
-        say(writer, buffer, blanks(*byte))?;
-    }
-    Ok(())
-}
-
-/// Writes the place of a mistake and what could stand there.
-pub(crate) fn say_mistake<W: ByteSink>(
+    most: u64,
     writer: &mut W,
-    buffer: &mut Buffer,
-    diagnosis: &Diagnosis<'_>,
-) -> Result<(), Device> {
-    say(writer, buffer, b"line ")?;
-    say_number(writer, buffer, diagnosis.number)?;
-    say(writer, buffer, b", column ")?;
-    let column = (diagnosis.column as u64).saturating_add(1);
-    say_number(writer, buffer, column)?;
-    say(writer, buffer, b": expected ")?;
-    say_wanted(writer, buffer, diagnosis.wanted)
+) -> Result<u8, ReadFault> {
+    let judgement = judgement_of(alloc, bytes, most)?;
+    tell_judgement(alloc, &judgement, writer)
 }
 
-/// Sends what is wrong with a text.
-fn send_diagnosis<W: ByteSink>(writer: &mut W, diagnosis: &Diagnosis<'_>) -> Result<(), Device> {
-    let mut buffer = Buffer::new();
-    say_mistake(writer, &mut buffer, diagnosis)?;
-    say(writer, &mut buffer, b"\n")?;
-    say_line(writer, &mut buffer, diagnosis.line, diagnosis.column)?;
-    if !diagnosis.remedy.is_empty() {
-        say(writer, &mut buffer, diagnosis.remedy.as_bytes())?;
-        say(writer, &mut buffer, b"\n")?;
-    }
-    flush(writer, &mut buffer)
-}
-
-/// Tells what is in a bundle.
-fn tell_counts<W: ByteSink>(alloc: Global, bundle: &Bundle, writer: &mut W) -> u8 {
-    match label_counts(alloc, &bundle.streams) {
-        Ok(counts) => status_of(send_counts(writer, bundle, &counts), 0),
-        Err(AllocError) => tell_unread(writer, ReadFault::Memory),
-    }
-}
-
-/// Tells what is wrong with these bytes.
-fn tell_wrong<W: ByteSink>(bytes: &[u8], fault: ReadFault, writer: &mut W) -> u8 {
-    match diagnose(bytes, fault) {
-        Some(diagnosis) => status_of(send_diagnosis(writer, &diagnosis), FAULTY),
-        None => tell_unread(writer, fault),
-    }
-}
-
-/// Reads a text and writes `ok` and what is in it, with status 0, or what is wrong with it, with
-/// status 2. Running out of memory, and a reader or a writer that fails, are 4.
-pub fn run_lint<R: ByteSource, W: ByteSink>(alloc: Global, reader: &mut R, writer: &mut W) -> u8 {
-    let bytes = match gather(alloc, reader) {
-        Ok(bytes) => bytes,
-        Err(fault) => return tell_unread(writer, fault),
+/// Reads a text and writes its mistakes, of which so many are named, with status 2; or with status 1
+/// if the reader takes the text and no run reports some of its events. If there are none, it writes
+/// `ok` and what is in the text, with status 0. Running out of memory, and a reader or a writer that
+/// fails, are 4.
+pub fn run_lint<R: ByteSource, W: ByteSink>(
+    alloc: Global,
+    reader: &mut R,
+    writer: &mut W,
+    most: u64,
+) -> u8 {
+    let told = match gather(alloc, reader) {
+        Ok(bytes) => tell_text(alloc, bytes.as_slice(), most, writer),
+        Err(fault) => Err(fault),
     };
-    match read_within(
-        alloc,
-        &mut MemorySource::new(bytes.as_slice(), None),
-        LIMITS,
-    ) {
-        Ok(bundle) => tell_counts(alloc, &bundle, writer),
-        Err(fault) => tell_wrong(bytes.as_slice(), fault, writer),
+    match told {
+        Ok(status) => status,
+        Err(fault) => tell_unread(writer, fault),
     }
 }

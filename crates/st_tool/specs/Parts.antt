@@ -1,7 +1,7 @@
 -- The outputs of streams that were read, and which bundles `seqaudit` reads, for the contracts of the
 -- functions that a command is made of.
 use Rattle.std.specs.Prelude.{ℕ, ◌≤◌, List, length}
-use Rattle.st_core.specs.Run.{Stream}
+use Rattle.st_core.specs.Run.{Stream, pids_of}
 use Rattle.st_core.specs.Streams.{total_of}
 use Rattle.st_text.specs.Limits.{standard}
 use Rattle.st_completions.specs.Renumbering.{renumbered_streams}
@@ -25,7 +25,7 @@ pub data RenumbersTo (streams : List Stream) : Output → Type 0 where
   NoRoomToRenumber : RenumbersTo streams no_memory
 
 -- `seqaudit` reads streams and so many acts
-pub record IsStandard (streams : List Stream) (acts : ℕ) : Type 0 where
-  pub processes : length streams ≤ standard.processes
-  pub events : total_of streams ≤ standard.events
-  pub acts : acts ≤ standard.acts
+abbrev pub IsStandard : List Stream → ℕ → Type 0
+IsStandard streams acts = (length (pids_of streams) ≤ standard.processes)
+    × (total_of streams ≤ standard.events)
+    × (acts ≤ standard.acts)

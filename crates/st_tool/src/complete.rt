@@ -2,6 +2,7 @@
 //! reset has them, whatever processes report nothing. The acts in the input are ignored.
 
 ghost use Rattle.std.specs.Prelude.{◌≡◌, ◌<◌, ◌↔◌, ¬◌, IsTrue, length};
+ghost use Rattle.st_core.specs.Run.{pids_of};
 ghost use Rattle.st_text.specs.Limits.{greater};
 ghost use Rattle.st_text.specs.Spelling.{ended_line};
 ghost use Rattle.st_text.specs.Writing.{WritesText};
@@ -120,7 +121,7 @@ fn tell_acts<H: Threads + Sync, W: ByteSink, N: ByteSink>(
 
 /// Whether the completion has more processes than the reader takes.
 fn is_long(completion: &Completion) -> bool
-    ensures { IsTrue result ↔ (MOST_PROCESSES < length (all_streams completion.now.wholes)) }
+    ensures { IsTrue result ↔ (MOST_PROCESSES < length (pids_of (all_streams completion.now.wholes))) }
 {
     completion.streams().pids().len() > MOST_PROCESSES
 }
