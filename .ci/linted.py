@@ -82,6 +82,7 @@ BY_HAND = (
      "the text is UTF-16: write it as ASCII, as by iconv -f UTF-16 -t ASCII"),
     ("UTF-16 without a mark", HEAD.encode("utf-16-le"), 1, 1, HEADER,
      "the text is UTF-16: write it as ASCII, as by iconv -f UTF-16 -t ASCII"),
+    ("bytes that are no text", b"\x7fELF\x02\x01\x01\n", 1, 1, HEADER, "this is no text: a bundle is lines of ASCII"),
     ("an Erlang list", f"[{PRINT},\n {PRINT}]\n", 1, 1, HEADER,
      "an Erlang list: write each event on a line of its own, below that of its process"),
     ("a list of JSON", '[{"label":17}]\n', 1, 1, HEADER, "a list or JSON: a bundle is lines of text"),
@@ -90,6 +91,8 @@ BY_HAND = (
      "an event of another tracer: only those of seq_trace have a line, so leave it out"),
     ("zeros between", "seqtrace 1\n\0p\n", 2, 1, BELOW_THE_HEADER,
      "a byte of 0, as in a file that wasn't written to its end: leave it out"),
+    ("a line of something else", f"{HEAD}\thello\n", 3, 1, BELOW_A_PROCESS,
+     "this is nothing that a bundle has: leave the line out"),
     ("an accent", HEAD + PRINT.replace("17", "1é7") + "\n", 3, 13, ",", "a byte that isn't ASCII: leave it out"),
     ("an event above the first process", f"seqtrace 1\n{PRINT}\n", 2, 1, BELOW_THE_HEADER, BELOW_ITS_LINE),
     ("an act above acts", f"{HEAD}look <0.30.0>\n", 3, 1, BELOW_A_PROCESS, "acts stand below a line acts"),
@@ -335,7 +338,7 @@ MENDED = (
      diagnosis((HEAD + PRINT.replace("{0,1}", "{1,1}") + "\n").encode(), 3, 25, "a number above 1", RISES), 1),
 )
 NO_BUNDLE = ("an empty text", "the report of a no", "a text packed by gzip", "a text packed by zstd", "UTF-16 with a mark",
-             "UTF-16 without a mark", "an Erlang list", "a list of JSON", "an object of JSON")
+             "UTF-16 without a mark", "bytes that are no text", "an Erlang list", "a list of JSON", "an object of JSON")
 
 
 def fixes(program):

@@ -1,5 +1,7 @@
 //! Texts that are no bundle as a whole: one mistake is named, and nothing is mended.
 
+use crate::kind::{Kind, kind_of};
+
 /// The words that a report of a command begins with.
 const REPORTS: [&str; 8] = [
     "unfit ", "never ", "no ", "yes", "added ", "fault ", "long", "error: ",
@@ -23,6 +25,15 @@ fn is_utf16(bytes: &[u8]) -> bool {
         bytes,
         [0xfe, 0xff, ..] | [0xff, 0xfe, ..] | [0, 1..=127, ..] | [1..=127, 0, ..]
     )
+}
+
+/// So many bytes at the front tell whether bytes are text.
+const FRONT: usize = 512;
+
+/// Whether bytes are no text: they don't begin as a bundle does, and have bytes of control.
+fn is_binary(bytes: &[u8]) -> bool {
+    let (front, _) = bytes.split_at(FRONT.min(bytes.len()));
+    kind_of(front) == Kind::Other && front.iter().any(|byte| matches!(*byte, 0..=8 | 14..=31))
 }
 
 /// What a text that begins with a bracket or a brace is, if it is no bundle.
@@ -60,6 +71,9 @@ pub(crate) fn remedy_of_text(bytes: &[u8]) -> Option<&'static str> {
         return Some(
             "this is what a command found, and no bundle: see what the command before said",
         );
+    }
+    if is_binary(bytes) {
+        return Some("this is no text: a bundle is lines of ASCII");
     }
     remedy_of_structure(bytes)
 }

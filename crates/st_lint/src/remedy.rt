@@ -88,6 +88,7 @@ fn remedy_of_byte(rest: &[u8], kind: Kind, expected: Expected) -> Option<&'stati
         b' ' | b'\t' if rest.trim_ascii().is_empty() => {
             Some("a blank ends the line: leave it out")
         }
+        b' ' | b'\t' if kind == Kind::Other => None,
         b'\t' if kind != Kind::Event => Some("one space separates words, and no tab"),
         b' ' | b'\t' if expected != Expected::End => Some("a blank too many: leave it out"),
         b'#' => Some("a pid is written <0.30.0>, without #Pid before it"),
