@@ -345,7 +345,7 @@ impl<'a> Judge<'a> {
         }
         for place in scan.pids() {
             // Below a process line that can't be read its own process is taken to report.
-            if self.current.is_some() || reporter != Some(place) {
+            if self.current.is_some() || reporter.copied() != Some(*place) {
                 self.take_pid(line, *place, found)?;
             }
         }
