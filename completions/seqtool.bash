@@ -24,7 +24,9 @@ _seqtool() {
         mapfile -t COMPREPLY < <(compgen -W "--label --process --lines --counts --json --help" -- "$word")
     elif [ "$command" = cut ] && [ "${word#-}" != "$word" ]; then
         mapfile -t COMPREPLY < <(compgen -W "--label --process --lines --counts --help" -- "$word")
-    elif [[ $command == @(stats|audit|check|lint) ]] && [ "${word#-}" != "$word" ]; then
+    elif [ "$command" = lint ] && [ "${word#-}" != "$word" ]; then
+        mapfile -t COMPREPLY < <(compgen -W "--most --fix --json --help" -- "$word")
+    elif [[ $command == @(stats|audit|check) ]] && [ "${word#-}" != "$word" ]; then
         mapfile -t COMPREPLY < <(compgen -W "--json --help" -- "$word")
     elif [ "$command" = why ] && [ "${word#-}" != "$word" ]; then
         mapfile -t COMPREPLY < <(compgen -W "--line --depth --effects --label --json --help" -- "$word")

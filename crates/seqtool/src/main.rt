@@ -9,7 +9,7 @@ use clap::Error;
 use clap::error::ErrorKind;
 use st_console::{Inlet, Outlet};
 use st_core::{ByteSink, ReadFrom, WriteTo};
-use st_tool::{tell_no, tell_trouble, tell_unopened, tell_unwritten};
+use st_notes::{tell_no, tell_trouble, tell_unopened, tell_unwritten};
 use st_words::{Request, read_words, run};
 use std::io::{Read, Write};
 use std::process::ExitCode;

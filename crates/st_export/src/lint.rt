@@ -3,14 +3,17 @@
 use crate::json::{say_name, say_word};
 use st_commands::{status_of, tell_fault};
 use st_core::{ByteSink, ByteSource, WriteTo};
+use st_lint::run_lint;
 use st_say::{say, say_number};
 use st_text::{Buffer, Device, ReadFault, flush};
-use st_tool::run_lint;
 use std::alloc::Global;
 use std::str;
 
 /// The status of a text that is faulty.
 const FAULTY: u8 = 2;
+
+/// The status of a text of which no run reports some event.
+const NO: u8 = 1;
 
 /// A mistake, by its line and column, and what could stand there.
 #[derive(Clone, Copy, Debug)]
@@ -62,8 +65,8 @@ fn say_mistake<W: ByteSink>(
     say_words(writer, buffer, mistake.expected)
 }
 
-/// Writes what a line of a faulty text's report tells, and says whether an object is open behind it.
-/// Lines that show the text begin with blanks and are left out.
+/// Writes what a line of a report tells, and says whether an object is open behind it. Lines that show
+/// the text begin with blanks and are left out.
 fn say_report_line<W: ByteSink>(
     writer: &mut W,
     buffer: &mut Buffer,
@@ -110,11 +113,6 @@ fn say_fact<W: ByteSink>(writer: &mut W, buffer: &mut Buffer, words: &str) -> Re
     if words == "no acts" {
         return say(writer, buffer, b"{\"acts\":null}\n");
     }
-    if let Some(warning) = words.strip_prefix("warning: ") {
-        say(writer, buffer, b"{\"warning\":")?;
-        say_words(writer, buffer, warning)?;
-        return say(writer, buffer, b"}\n");
-    }
     match words.split_once(" ") {
         Some((name, count)) => say_number_of(writer, buffer, name, count),
         None => Ok(()),
@@ -147,17 +145,59 @@ fn send_facts<W: ByteSink>(writer: &mut W, said: &str) -> Result<(), Device> {
     flush(writer, &mut buffer)
 }
 
-/// Sends the objects of what was said of a faulty text.
-fn send_report<W: ByteSink>(writer: &mut W, said: &str) -> Result<(), Device> {
+/// How many mistakes a text has, and how many of them `--fix` mends.
+#[derive(Clone, Copy, Debug)]
+struct Counts {
+    mistakes: u64,
+    by_fix: u64,
+}
+
+/// The counts of which the last line of a report tells; it isn't written of one mistake that a
+/// person has to mend.
+fn counts_of(words: &str) -> Option<Counts> {
+    let (mistakes, rest) = words.split_once(" mistake")?;
+    let by_fix = match rest.split_once("; --fix mends ") {
+        Some((_, count)) => count.parse::<u64>().ok()?,
+        None => 0,
+    };
+    Some(Counts {
+        mistakes: mistakes.parse::<u64>().ok()?,
+        by_fix,
+    })
+}
+
+/// Writes the counts of a text's mistakes.
+fn say_counts<W: ByteSink>(
+    writer: &mut W,
+    buffer: &mut Buffer,
+    counts: Counts,
+) -> Result<(), Device> {
+    say(writer, buffer, b"{\"mistakes\":")?;
+    say_number(writer, buffer, counts.mistakes)?;
+    say_name(writer, buffer, "by_fix")?;
+    say_number(writer, buffer, counts.by_fix)?;
+    say(writer, buffer, b"}\n")
+}
+
+/// Sends the objects of what was said of a text with mistakes.
+fn send_report<W: ByteSink>(writer: &mut W, said: &str, is_faulty: bool) -> Result<(), Device> {
     let mut buffer = Buffer::new();
     let mut is_open = false;
-    say(writer, &mut buffer, b"{\"result\":\"faulty\"}\n")?;
+    let mut counts = Counts {
+        mistakes: 1,
+        by_fix: 0,
+    };
+    let result = if is_faulty { "faulty" } else { "unfit" };
+    say(writer, &mut buffer, b"{\"result\":")?;
+    say_word(writer, &mut buffer, result)?;
+    say(writer, &mut buffer, b"}\n")?;
     for words in said.lines() {
-        is_open = say_report_line(writer, &mut buffer, words, is_open)?;
+        match counts_of(words) {
+            Some(found) if !is_open => counts = found,
+            _ => is_open = say_report_line(writer, &mut buffer, words, is_open)?,
+        }
     }
-    if is_open {
-        say(writer, &mut buffer, b"}\n")?;
-    }
+    say_counts(writer, &mut buffer, counts)?;
     flush(writer, &mut buffer)
 }
 
@@ -168,15 +208,16 @@ fn send_words<W: ByteSink>(writer: &mut W, words: &str) -> Result<(), Device> {
     flush(writer, &mut buffer)
 }
 
-/// Reads a text and writes what `run_lint` of `st_tool` does, but as JSON, with the same status. A
+/// Reads a text and writes what `run_lint` of `st_lint` does, but as JSON, with the same status. A
 /// fault without a place, as a text that is too large, is written in the reader's words.
 pub fn run_lint_json<R: ByteSource, W: ByteSink>(
     alloc: Global,
     reader: &mut R,
     writer: &mut W,
+    most: u64,
 ) -> u8 {
     let mut bytes = Vec::new(alloc);
-    let status = run_lint(alloc, reader, &mut WriteTo::new(&mut bytes));
+    let status = run_lint(alloc, reader, &mut WriteTo::new(&mut bytes), most);
     let Ok(said) = str::from_utf8(bytes.as_slice()) else {
         return tell_fault(writer, ReadFault::Memory);
     };
@@ -186,7 +227,7 @@ pub fn run_lint_json<R: ByteSource, W: ByteSink>(
     }
     let sent = match status {
         _ if said.starts_with("fault ") => send_words(writer, said),
-        FAULTY => send_report(writer, said),
+        FAULTY | NO => send_report(writer, said, status == FAULTY),
         _ => send_facts(writer, said),
     };
     status_of(sent, status)

@@ -8,7 +8,6 @@ use Rattle.st_tool.specs.declared.lines.OutputLine.TheVariants as lines
 use Rattle.st_tool.specs.Complete.{never_words}
 
 abbrev pub words_of : OutputLine → List ℕ
-words_of lines.NoActs = codes "fault no acts"
 words_of lines.Long = codes "long"
 words_of lines.ForSeqtool = codes "note: seqaudit doesn't read so much; seqtool check does"
 words_of (lines.Added n) = codes "added " ++ decimal n

@@ -1,14 +1,20 @@
 //! The command `complete`: what the streams whose text the input is lack, or why no run without a
 //! reset has them, whatever processes report nothing. The acts in the input are ignored.
 
-ghost use Rattle.std.specs.Prelude.{◌≡◌};
+ghost use Rattle.std.specs.Prelude.{◌≡◌, ◌<◌, ◌↔◌, ¬◌, IsTrue, length};
+ghost use Rattle.st_core.specs.Run.{pids_of};
 ghost use Rattle.st_text.specs.Limits.{greater};
+ghost use Rattle.st_text.specs.Spelling.{ended_line};
+ghost use Rattle.st_text.specs.Writing.{WritesText};
+ghost use Rattle.st_plan.specs.Marks.{all_streams};
 ghost use Rattle.st_commands.specs.Command.{OwesWithin, Tells, call};
 ghost use Rattle.st_commands.specs.Meaning.{SaysWithin};
 ghost use Rattle.st_complete.specs.Answers.{IsAnswer, IsWhole};
 ghost use Rattle.st_open.specs.Silent.{with_silent};
 ghost use Rattle.st_tool.specs.Complete.{IsCompleted, MeansCompleted, MeansNever};
-ghost use Rattle.st_tool.specs.Parts.{CompletesTo};
+ghost use Rattle.st_tool.specs.declared.lines.OutputLine.TheVariants as lines;
+ghost use Rattle.st_tool.specs.Lines.{words_of};
+ghost use Rattle.st_tool.specs.Parts.{CompletesTo, IsStandard};
 
 use crate::answer::tell_streams;
 use crate::completion_lines::{send_added, send_never};
@@ -18,7 +24,7 @@ use st_complete::{
     Answer, CertificateFault, CompleteFault, Completion, certificate, complete, with_silent,
 };
 use st_core::{ByteSink, ByteSource, Streams};
-use st_text::{Limits, ReadFault, read_within};
+use st_text::{Device, Limits, ReadFault, read_within, send_line};
 use std::alloc::Global;
 use std::thread::Threads;
 
@@ -41,25 +47,27 @@ pub enum Form {
     Added,
 }
 
-/// How many events streams have.
-fn count_events(streams: &Streams) -> u64 {
-    streams
-        .pids()
-        .iter()
-        .map(|pid| streams.len(*pid))
-        .fold(0, u64::saturating_add)
+/// Whether `seqaudit` reads a bundle of these streams and so many acts.
+fn is_standard(streams: &Streams, acts: usize) -> bool
+    ensures { IsTrue result ↔ IsStandard streams.now acts }
+{
+    let limits = Limits::STANDARD;
+    streams.pids().len() <= limits.processes as usize
+        && streams.total() <= limits.events as u64
+        && acts <= limits.acts as usize
 }
 
 /// Notes that `seqtool check` reads a bundle of these streams and so many acts, if `seqaudit`
 /// doesn't.
-fn note_reader<N: ByteSink>(notes: &mut N, streams: &Streams, acts: usize) {
-    let limits = Limits::STANDARD;
-    let is_more = streams.pids().len() > limits.processes as usize
-        || acts > limits.acts as usize
-        || count_events(streams) > limits.events as u64;
-    if is_more {
-        let _ = tell_line(notes, OutputLine::ForSeqtool, 0);
+fn note_reader<N: ByteSink>(notes: &mut N, streams: &Streams, acts: usize) -> Result<(), Device>
+    ensures standard { IsStandard streams.now acts → notes.new ≡ notes.old }
+    ensures greater { ¬ IsStandard streams.now acts → WritesText N.puts N.failed
+        (ended_line (words_of lines.ForSeqtool)) notes.old notes.new result }
+{
+    if is_standard(streams, acts) {
+        return Ok(());
     }
+    send_line(notes, OutputLine::ForSeqtool)
 }
 
 /// Writes the streams with their unlisted processes, which are these, and acts that show them.
@@ -80,7 +88,7 @@ fn tell_shown<H: Threads + Sync, W: ByteSink, N: ByteSink>(
     let _streams = streams;
     match certificate::<TOP>(rt, alloc, more, completion, MOST_ACTS) {
         Ok(found) => {
-            note_reader(notes, more, found.acts.len());
+            let _ = note_reader(notes, more, found.acts.len());
             tell_bundle(writer, more, found.acts.as_slice())
         }
         Err(CertificateFault::TooMany) => tell_line(writer, OutputLine::Long, 5),
@@ -112,7 +120,9 @@ fn tell_acts<H: Threads + Sync, W: ByteSink, N: ByteSink>(
 }
 
 /// Whether the completion has more processes than the reader takes.
-fn is_long(completion: &Completion) -> bool {
+fn is_long(completion: &Completion) -> bool
+    ensures { IsTrue result ↔ (MOST_PROCESSES < length (pids_of (all_streams completion.now.wholes))) }
+{
     completion.streams().pids().len() > MOST_PROCESSES
 }
 
@@ -136,7 +146,7 @@ fn tell_completion<H: Threads + Sync, W: ByteSink, N: ByteSink>(
         Form::Acts => tell_acts(rt, alloc, streams, completion, writer, notes),
         Form::Streams => {
             let whole = completion.streams();
-            note_reader(notes, whole, 0);
+            let _ = note_reader(notes, whole, 0);
             tell_streams(writer, whole)
         }
         Form::Added => {

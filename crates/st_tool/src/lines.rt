@@ -1,8 +1,9 @@
 //! The lines that stand alone. They are written through a buffer on the stack, so that writing
 //! takes no memory.
 
-ghost use Rattle.std.specs.Prelude.{◌+◌, ◌++◌, codes, length};
-ghost use Rattle.st_text.specs.Room.{HasRoom, Puts};
+ghost use Rattle.std.specs.Prelude.{◌≡◌, ◌<◌, ◌+◌, ◌++◌, codes, length};
+ghost use Rattle.arrayvec.specs.ArrayVec.{array_vec_len};
+ghost use Rattle.st_text.specs.Room.{line_room, HasRoom, Puts};
 ghost use Rattle.st_text.specs.Spelling as spelled;
 ghost use Rattle.st_chart.specs.Words.{place_words};
 ghost use Rattle.st_chart.specs.Room.{place_room};
@@ -17,8 +18,6 @@ use st_text::{Buffer, TextLine, put_bytes, put_numbered, put_pid};
 /// A line that stands alone.
 #[derive(Clone, Copy, Debug)]
 pub(crate) enum OutputLine {
-    /// The input has no acts.
-    NoActs,
     /// The acts, or the processes, are more than the reader takes.
     Long,
     /// `seqaudit` doesn't read so much.
@@ -82,9 +81,12 @@ fn put_unlisted(buffer: &mut Buffer, pid: Pid)
 impl TextLine for OutputLine {
     ghost words = { words_of };
 
-    fn put_words(self, buffer: &mut Buffer) {
+    fn put_words(self, buffer: &mut Buffer)
+        requires { HasRoom line_room buffer.old }
+        ensures items { buffer.new.items ≡ buffer.old.items ++ words_of self }
+        ensures len { array_vec_len buffer.new < array_vec_len buffer.old + line_room }
+    {
         match self {
-            OutputLine::NoActs => put_bytes(buffer, b"fault no acts"),
             OutputLine::Long => put_bytes(buffer, b"long"),
             OutputLine::ForSeqtool => {
                 put_bytes(

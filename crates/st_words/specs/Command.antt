@@ -23,7 +23,8 @@ module _ {R W : Type 0} (reader : ReaderCall R) (writer : WriterCall W) where
   Does task.Renumber status = TellsOf IsRenumbered status
   Does task.Check status = TellsOf (IsCheckedWithin greater) status
   Does task.Audit status = TellsOf (IsAuditedWithin greater) status
-  Does task.Lint status = Unit {0}
+  Does (task.Lint most) status = Unit {0}
+  Does task.Fix status = Unit {0}
   Does task.Explain status = Unit {0}
   Does (task.List filter style) status = Unit {0}
   Does (task.Cut filter) status = Unit {0}
@@ -33,4 +34,4 @@ module _ {R W : Type 0} (reader : ReaderCall R) (writer : WriterCall W) where
   Does task.CheckJson status = Unit {0}
   Does task.AuditJson status = Unit {0}
   Does task.CompleteJson status = Unit {0}
-  Does task.LintJson status = Unit {0}
+  Does (task.LintJson most) status = Unit {0}

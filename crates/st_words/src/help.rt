@@ -56,14 +56,22 @@ The numbers behind a line are the premises that it rests on. `here` is the event
 or an earlier one of the same prev directly before it.
 Status 1: there is no such event, or the trace can't be paired.";
 
-pub(crate) const LINT: &str = "Says what is wrong with a text that the reader refuses, and where";
+pub(crate) const LINT: &str = "Names the mistakes of a text, or mends them";
+
+pub(crate) const LINT_MOST: &str = "Name at most so many mistakes; else 10";
+
+pub(crate) const LINT_FIX: &str = "Write the text with those mistakes mended that have one remedy";
 
 pub(crate) const LINT_EXAMPLE: &str = "Example:
   seqtool lint trace.txt
   line 3, column 12: expected a label up to 4294967295
     {seq_trace,foo,{print,{0,1},<0.30.0>,[],7}}
                ^
-  labels are numbers here: give each term a number";
+  labels are numbers here: give each term a number
+
+--fix mends line ends, blanks, a mark of UTF-8, the last newline, the quotes of
+'receive', the header and #Pid; standard error says what, and what is left.
+Status 1: it can be read, but no run reports some event (its counts don't rise).";
 
 pub(crate) const EXPLAIN: &str = "Says why check refuses acts: the act, what was due, what came";
 

@@ -5,6 +5,7 @@
 
 mod export_words;
 mod help;
+mod lint_words;
 mod program;
 mod words;
 

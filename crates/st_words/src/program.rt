@@ -7,9 +7,12 @@ use crate::words::Task;
 use st_commands::{run_audit_within, run_check_within};
 use st_core::{ByteSink, ByteSource};
 use st_draw::run_draw;
+use st_events::{run_cut, run_list, run_stats};
+use st_explain::run_explain;
 use st_export::{run_audit_json, run_check_json, run_complete_json, run_export, run_lint_json};
+use st_lint::{run_fix, run_lint};
 use st_text::Limits;
-use st_tool::{run_complete, run_cut, run_explain, run_lint, run_list, run_renumber, run_stats};
+use st_tool::{run_complete, run_renumber};
 use st_why::run_why;
 use std::thread::Threads;
 
@@ -27,7 +30,8 @@ pub fn run<H: AllocGlobal + Threads + Sync, R: ByteSource, W: ByteSink, N: ByteS
     match task {
         Task::Complete(form) => run_complete(rt, rt.alloc(), reader, writer, notes, form),
         Task::Renumber => run_renumber(rt.alloc(), reader, writer),
-        Task::Lint => run_lint(rt.alloc(), reader, writer),
+        Task::Lint(most) => run_lint(rt.alloc(), reader, writer, most),
+        Task::Fix => run_fix(rt.alloc(), reader, writer, notes),
         Task::Explain => run_explain(rt.alloc(), reader, writer),
         Task::Why(question) => run_why(rt.alloc(), reader, writer, question),
         Task::Check => run_check_within(rt.alloc(), reader, writer, Limits::GREATER),
@@ -40,6 +44,6 @@ pub fn run<H: AllocGlobal + Threads + Sync, R: ByteSource, W: ByteSink, N: ByteS
         Task::CheckJson => run_check_json(rt.alloc(), reader, writer),
         Task::AuditJson => run_audit_json(rt, rt.alloc(), reader, writer),
         Task::CompleteJson => run_complete_json(rt.alloc(), reader, writer),
-        Task::LintJson => run_lint_json(rt.alloc(), reader, writer),
+        Task::LintJson(most) => run_lint_json(rt.alloc(), reader, writer, most),
     }
 }

@@ -5,6 +5,7 @@ use crate::export_words::{
     chart_command, chart_of, complete_of, export_command, export_of, task_or_json, with_json,
 };
 use crate::help;
+use crate::lint_words::{lint_command, lint_of};
 use clap::error::ErrorKind;
 use clap::{Arg, ArgAction, ArgMatches, Command, Error};
 use st_core::{Label, Pid};
@@ -12,7 +13,8 @@ use st_draw::Drawing;
 use st_export::Target;
 use st_hops::Reach;
 use st_list::{Filter, Span, Style};
-use st_tool::{Form, pid_of};
+use st_notes::pid_of;
+use st_tool::Form;
 use st_why::{Direction, Question, Start};
 use std::alloc::{AllocError, Global};
 use std::convert::AsStr;
@@ -26,8 +28,10 @@ pub enum Task {
     Renumber,
     /// `why`: what does an event follow, or what follows it?
     Why(Question),
-    /// `lint`: why does the reader refuse the text?
-    Lint,
+    /// `lint`: which mistakes has the text? So many are named.
+    Lint(u64),
+    /// `lint --fix`: the text with those mistakes mended that have one remedy.
+    Fix,
     /// `explain`: why does `check` refuse the acts?
     Explain,
     /// `check`, as `seqaudit` has it, within greater limits.
@@ -51,7 +55,7 @@ pub enum Task {
     /// `complete`: the added events, as JSON.
     CompleteJson,
     /// `lint`, as JSON.
-    LintJson,
+    LintJson(u64),
 }
 
 /// What the words ask for.
@@ -190,12 +194,11 @@ fn stats_command<'a>(alloc: Global) -> Result<Command<'a>, AllocError> {
 fn with_verdicts<'a>(alloc: Global, program: Command<'a>) -> Result<Command<'a>, AllocError> {
     let audit = plain_command(alloc, "audit", help::AUDIT, help::AUDIT_EXAMPLE)?;
     let check = plain_command(alloc, "check", help::CHECK, help::CHECK_EXAMPLE)?;
-    let lint = plain_command(alloc, "lint", help::LINT, help::LINT_EXAMPLE)?;
     program
         .subcommand(with_json(alloc, audit)?)?
         .subcommand(complete_command(alloc)?)?
         .subcommand(why_command(alloc)?)?
-        .subcommand(with_json(alloc, lint)?)?
+        .subcommand(lint_command(alloc)?)?
         .subcommand(with_json(alloc, check)?)
 }
 
@@ -363,7 +366,7 @@ fn task_of(name: &str, found: &ArgMatches) -> Result<Task, &'static str> {
     match name {
         "complete" => complete_of(found, form_of(found.get_str("FORM"))),
         "renumber" => Ok(Task::Renumber),
-        "lint" => Ok(task_or_json(found, Task::Lint, Task::LintJson)),
+        "lint" => lint_of(found),
         "explain" => Ok(Task::Explain),
         "check" => Ok(task_or_json(found, Task::Check, Task::CheckJson)),
         "list" => Ok(Task::List(filter_of(found)?, style_of(found))),
@@ -378,6 +381,7 @@ fn task_of(name: &str, found: &ArgMatches) -> Result<Task, &'static str> {
 /// The message that a word of this command isn't what it has to be.
 fn wrong_word(alloc: Global, name: &str, words: &'static str) -> Result<Error, AllocError> {
     let mut command = match name {
+        "lint" => lint_command(alloc)?.bin_name("seqtool lint")?,
         "list" => list_command(alloc)?.bin_name("seqtool list")?,
         "cut" => cut_command(alloc)?.bin_name("seqtool cut")?,
         "chart" => chart_command(alloc)?.bin_name("seqtool chart")?,

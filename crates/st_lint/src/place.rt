@@ -1,17 +1,19 @@
 //! Where a text is at fault, in one line, for those who didn't ask `lint`.
 
-use crate::diagnosis::{Diagnosis, diagnose};
-use crate::lint::{LIMITS, say_mistake};
+use crate::findings::findings_of;
+use crate::judge::LIMITS;
+use crate::mistake::Mistake;
+use crate::report::say_place;
 use st_core::{ByteSink, MemorySource};
 use st_say::say;
 use st_text::{Buffer, Device, flush, read_within};
 use std::alloc::Global;
 
-/// What is wrong with a text, if anything, and if there is memory to find out.
-fn diagnosis_of(alloc: Global, text: &[u8]) -> Option<Diagnosis<'_>> {
+/// The first mistake of a text that the reader refuses, if there is memory to find it.
+fn mistake_of(alloc: Global, text: &[u8]) -> Option<Mistake<'_>> {
     match read_within(alloc, &mut MemorySource::new(text, None), LIMITS) {
         Ok(_) => None,
-        Err(fault) => diagnose(text, fault),
+        Err(_) => findings_of(alloc, text, 0).ok()?.first_refused,
     }
 }
 
@@ -27,14 +29,12 @@ pub fn tell_place<N: ByteSink>(
     let mut buffer = Buffer::new();
     say(notes, &mut buffer, b"error: ")?;
     say(notes, &mut buffer, name.as_bytes())?;
-    match text.and_then(|text| diagnosis_of(alloc, text)) {
-        Some(diagnosis) => {
+    match text.and_then(|text| mistake_of(alloc, text)) {
+        Some(mistake) => {
             say(notes, &mut buffer, b", ")?;
-            say_mistake(notes, &mut buffer, &diagnosis)?;
-            if !diagnosis.remedy.is_empty() {
-                say(notes, &mut buffer, b"; ")?;
-                say(notes, &mut buffer, diagnosis.remedy.as_bytes())?;
-            }
+            say_place(notes, &mut buffer, &mistake)?;
+            say(notes, &mut buffer, b"; ")?;
+            say(notes, &mut buffer, mistake.remedy.as_bytes())?;
         }
         None => {
             say(notes, &mut buffer, b": ")?;

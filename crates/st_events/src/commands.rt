@@ -1,13 +1,12 @@
 //! The commands `list`, `cut` and `stats`: `st_list` on the streams whose text the input is. The
 //! acts in the input are ignored.
 
-use crate::answer::tell_streams;
 use st_audit::unfit_by;
 use st_commands::{status_of, tell_fault, tell_finding};
 use st_core::{ByteSink, ByteSource, Streams};
 use st_list::{Filter, Row, Style, count, count_open, cut, list, send_open, send_rows, send_stats};
 use st_pair::{PairFault, Pairing, pair};
-use st_text::{Limits, ReadFault, read_within};
+use st_text::{Limits, ReadFault, read_within, write_parts};
 use std::alloc::Global;
 
 /// The pairing of streams, none if they can't be paired.
@@ -83,7 +82,8 @@ fn cut_streams<W: ByteSink, N: ByteSink>(
         return Err(ReadFault::Memory);
     };
     note_open(alloc, streams, rows.as_slice(), notes)?;
-    Ok(tell_streams(writer, &smaller))
+    let sent = write_parts(writer, &smaller, None);
+    Ok(status_of(sent, 0))
 }
 
 /// Reads a bundle and writes that of the events that are asked for, with status 0; the notes say

@@ -3,11 +3,10 @@
 //! the report that came, and the actor's state before it with the messages that wait. If events are
 //! left at the end, it shows what the act would report that could report the next one.
 
-use crate::lines::OutputLine;
 use crate::queue::Sent;
 use crate::rerun::{Came, Rerun, TOP};
 use st_check::{CheckFault, Verdict, check};
-use st_commands::{status_of, tell_fault, tell_line};
+use st_commands::{status_of, tell_fault};
 use st_core::{Act, ByteSink, ByteSource, Event, Kind, Pid, Streams, Token};
 use st_lines::LineNumbers;
 use st_say::{say, say_act, say_count, say_event, say_number, say_pid, say_serial};
@@ -409,10 +408,17 @@ fn explain_acts<W: ByteSink>(alloc: Global, given: &Given<'_>, writer: &mut W) -
     }
 }
 
+/// Sends that a bundle has no acts.
+fn send_no_acts<W: ByteSink>(writer: &mut W) -> Result<(), Device> {
+    let mut buffer = Buffer::new();
+    say(writer, &mut buffer, b"fault no acts\n")?;
+    flush(writer, &mut buffer)
+}
+
 /// Writes why `check` refuses a bundle.
 fn explain_bundle<W: ByteSink>(alloc: Global, bundle: &Bundle, writer: &mut W) -> u8 {
     let Some(acts) = &bundle.acts else {
-        return tell_line(writer, OutputLine::NoActs, 2);
+        return status_of(send_no_acts(writer), 2);
     };
     let Ok(numbers) = LineNumbers::new(alloc, &bundle.streams) else {
         return tell_fault(writer, ReadFault::Memory);

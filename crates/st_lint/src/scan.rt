@@ -17,17 +17,29 @@ pub(crate) enum Expected {
     Number(&'static str, u64),
     /// No digit: a number but 0 begins with no 0.
     NoLeadingZero,
+    /// The brace that ends an event.
+    EventEnd,
     /// The end of the line.
     End,
 }
 
-/// A pid of a line, by the columns at which it begins and ends, counted from 0.
+/// A pid of a line, by the columns at which it begins and ends, counted from 0, and its numbers.
 #[derive(Clone, Copy, Debug, Default, PartialEq, Eq)]
 pub(crate) struct Place {
-    /// Of its `<`.
+    /// The column of its `<`.
     pub(crate) start: usize,
-    /// Behind its `>`.
+    /// The column behind its `>`.
     pub(crate) end: usize,
+    /// Its node and its number.
+    pub(crate) pid: (u64, u64),
+}
+
+/// The two numbers of an event's serial, and the column at which the second begins.
+#[derive(Clone, Copy, Debug, PartialEq, Eq)]
+pub(crate) struct Counts {
+    pub(crate) prev: u64,
+    pub(crate) this: u64,
+    pub(crate) start: usize,
 }
 
 /// What a line is.
@@ -64,6 +76,8 @@ pub(crate) struct Scan<'a> {
     line: &'a [u8],
     rest: &'a [u8],
     pids: ArrayVec<Place, PIDS>,
+    counts: Option<Counts>,
+    is_remote: bool,
 }
 
 /// How many bytes two texts have in common at their front.
@@ -93,6 +107,8 @@ impl<'a> Scan<'a> {
             line,
             rest: line,
             pids: ArrayVec::new(),
+            counts: None,
+            is_remote: false,
         }
     }
 
@@ -104,6 +120,16 @@ impl<'a> Scan<'a> {
     /// The pids that have passed.
     pub(crate) fn pids(&self) -> &[Place] {
         self.pids.as_slice()
+    }
+
+    /// The serial of an event, once it has passed.
+    pub(crate) fn counts(&self) -> Option<Counts> {
+        self.counts
+    }
+
+    /// Whether a pid's node other than 0 has passed.
+    pub(crate) fn is_remote(&self) -> bool {
+        self.is_remote
     }
 
     /// Passes so many bytes.
@@ -172,8 +198,13 @@ impl<'a> Scan<'a> {
     }
 
     /// Passes a number of 64 bits.
-    fn count(&mut self, noun: &'static str) -> Result<(), Expected> {
-        self.number(noun, u64::MAX)?;
+    fn count(&mut self, noun: &'static str) -> Result<u64, Expected> {
+        self.number(noun, u64::MAX)
+    }
+
+    /// Passes a value.
+    fn value(&mut self) -> Result<(), Expected> {
+        self.count("a value, a number")?;
         Ok(())
     }
 
@@ -187,15 +218,23 @@ impl<'a> Scan<'a> {
     fn pid(&mut self) -> Result<(), Expected> {
         let start = self.at();
         self.text("<")?;
-        self.number("a pid's node", MOST_PID)?;
+        let node = self.number("a pid's node", MOST_PID)?;
+        self.is_remote = self.is_remote || node > 0;
         self.text(".")?;
-        self.number("a pid's number", MOST_PID)?;
+        let number = self.number("a pid's number", MOST_PID)?;
         self.text(".")?;
         self.choose(["0"].as_slice(), "0, the third part of a pid")?;
         self.text(">")?;
         let end = self.at();
-        let _ = self.pids.try_push(Place { start, end });
+        let pid = (node, number);
+        let _ = self.pids.try_push(Place { start, end, pid });
         Ok(())
+    }
+
+    /// Passes a pid, and says how many bytes it has.
+    pub(crate) fn pid_bytes(&mut self) -> Option<usize> {
+        self.pid().ok()?;
+        Some(self.at())
     }
 
     /// Passes a truth value.
@@ -207,9 +246,11 @@ impl<'a> Scan<'a> {
     /// Passes a serial.
     fn serial(&mut self) -> Result<(), Expected> {
         self.text("{")?;
-        self.count("a number")?;
+        let prev = self.count("a number")?;
         self.text(",")?;
-        self.count("a number")?;
+        let start = self.at();
+        let this = self.count("a number")?;
+        self.counts = Some(Counts { prev, this, start });
         self.text("}")
     }
 
@@ -232,9 +273,9 @@ impl<'a> Scan<'a> {
             self.pid()?;
         }
         self.text(",")?;
-        self.count("a value, a number")?;
+        self.value()?;
         self.text("}")?;
-        self.text("}")?;
+        self.text("}").map_err(|_| Expected::EventEnd)?;
         Ok(if kind == 1 {
             Sort::Receive
         } else {
@@ -251,9 +292,9 @@ impl<'a> Scan<'a> {
             3 => {
                 self.pid()?;
                 self.text(" ")?;
-                self.count("a number")
+                self.value()
             }
-            _ => self.count("a number"),
+            _ => self.value(),
         }
     }
 
@@ -289,14 +330,14 @@ impl<'a> Scan<'a> {
             0 => {
                 self.pid()?;
                 self.text(" ")?;
-                self.count("a value, a number")
+                self.value()
             }
             1 => self.want(),
-            2 => self.count("a value, a number"),
+            2 => self.value(),
             3 => {
                 self.label()?;
                 self.text(" ")?;
-                self.count("a value, a number")
+                self.value()
             }
             4 => self.component(),
             5 => self.token(),
@@ -367,68 +408,5 @@ const ACTS: [&str; 10] = [
     "reset ",
 ];
 
-/// Whether a line begins with an act's word.
-pub(crate) fn begins_act(line: &[u8]) -> bool {
-    ACTS.iter().any(|word| line.starts_with(word.as_bytes()))
-}
-
 /// The number of the first act that has nothing behind its actor.
 const BARE: usize = 7;
-
-/// The greatest number of at most 65,535 whose digits begin with those of this one.
-fn greatest_from(value: u64) -> u64 {
-    if value == 0 {
-        return 0;
-    }
-    let mut least = value;
-    let mut span: u64 = 1;
-    for _ in 0..5 {
-        match least.checked_mul(10) {
-            Some(tens) if tens <= MOST_PID => {
-                least = tens;
-                span = span.saturating_mul(10);
-            }
-            _ => return MOST_PID.min(least.saturating_add(span.saturating_sub(1))),
-        }
-    }
-    value
-}
-
-/// The node and the number that the digits at the front of a pid's text give so far, at most; and
-/// whether the node is all there.
-fn greatest_pid(text: &[u8]) -> (u64, u64) {
-    let mut node: Option<u64> = None;
-    let mut value: u64 = 0;
-    let mut some = false;
-    for byte in text {
-        if byte.is_ascii_digit() {
-            value = value
-                .saturating_mul(10)
-                .saturating_add(u64::from(byte.saturating_sub(b'0')));
-            some = true;
-        } else if *byte == b'.' && node.is_none() {
-            node = Some(value);
-            value = 0;
-            some = false;
-        } else if *byte == b'.' {
-            return (node.unwrap_or(0), value);
-        }
-    }
-    let most = if some { greatest_from(value) } else { MOST_PID };
-    match node {
-        Some(node) => (node, most),
-        None => (most, MOST_PID),
-    }
-}
-
-/// How many bytes of a pid's text some pid above the last one begins with.
-pub(crate) fn rising_bytes(last: &[u8], pid: &[u8]) -> usize {
-    let bound = greatest_pid(last);
-    for count in 0..pid.len() {
-        let most = greatest_pid(pid.split_at(count.saturating_add(1).min(pid.len())).0);
-        if most.0 < bound.0 || (most.0 == bound.0 && most.1 <= bound.1) {
-            return count;
-        }
-    }
-    pid.len()
-}

@@ -1,8 +1,8 @@
 //! What standard error says if a run came to no result.
 
-use crate::place::tell_place;
 use st_console::{Inlet, Outlet};
 use st_core::ByteSink;
+use st_lint::tell_place;
 use st_text::Limits;
 use std::alloc::Global;
 use std::io::{Error, Read, Write};

@@ -1,0 +1,277 @@
+//! The command `lint --fix`: a text with those mistakes mended that have one remedy.
+
+use crate::answer::{FAULTY, NO, YES, status_of, tell_unread};
+use crate::findings::NAMED;
+use crate::form::remedy_of_text;
+use crate::input::gather;
+use crate::kind::{Kind, MARK, kind_of};
+use crate::lint::{Judgement, judgement_of, send_findings};
+use crate::mend::{Mended, mend_line};
+use crate::survey::Survey;
+use crate::text::Text;
+use st_core::{ByteSink, ByteSource};
+use st_say::{say, say_number};
+use st_text::{Buffer, Device, ReadFault, flush};
+use std::alloc::{AllocError, Global};
+
+/// A text that is mended, line by line.
+#[derive(Drop)]
+struct Fixer {
+    header: &'static [u8],
+    // Whether the header was met, or put in front.
+    has_header: bool,
+    line: Vec<u8>,
+    text: Vec<u8>,
+    mended: Mended,
+}
+
+/// Whether the first line that is neither a comment nor empty is a header, right or wrong.
+fn begins_with_header(text: &Text<'_>) -> bool {
+    for line in text.lines() {
+        match kind_of(line.bytes) {
+            Kind::Comment | Kind::Other => {}
+            Kind::Header => return true,
+            _ => return false,
+        }
+    }
+    false
+}
+
+impl Fixer {
+    /// Before the first line of a text whose header should be this one.
+    fn new(alloc: Global, header: &'static [u8]) -> Fixer {
+        Fixer {
+            header,
+            has_header: false,
+            line: Vec::new(alloc),
+            text: Vec::new(alloc),
+            mended: Mended::default(),
+        }
+    }
+
+    /// Appends the header.
+    fn put_header(&mut self) -> Result<(), AllocError> {
+        self.has_header = true;
+        self.text.extend_from_slice(self.header)?;
+        self.text.push(b'\n')?;
+        Ok(())
+    }
+
+    /// Appends a line, mended; nothing if nothing is left of it.
+    fn put_line(&mut self, bytes: &[u8]) -> Result<(), AllocError> {
+        mend_line(bytes, &mut self.line, &mut self.mended)?;
+        if self.line.is_empty() {
+            self.mended.empty = self.mended.empty.saturating_add(1);
+            return Ok(());
+        }
+        if !self.has_header && kind_of(self.line.as_slice()) == Kind::Header {
+            if self.line.as_slice() != self.header {
+                self.mended.headers = 1;
+            }
+            return self.put_header();
+        }
+        self.text.extend_from_slice(self.line.as_slice())?;
+        self.text.push(b'\n')?;
+        Ok(())
+    }
+
+    /// Appends a line of the text, or several that carriage returns end.
+    fn put_pieces(&mut self, bytes: &[u8]) -> Result<(), AllocError> {
+        let bytes = match bytes.strip_suffix(b"\r".as_slice()) {
+            Some(front) => {
+                self.mended.ends = self.mended.ends.saturating_add(1);
+                front
+            }
+            None => bytes,
+        };
+        let mut is_first = true;
+        for piece in bytes.split(|byte| *byte == b'\r') {
+            if !is_first {
+                self.mended.ends = self.mended.ends.saturating_add(1);
+            }
+            is_first = false;
+            self.put_line(piece)?;
+        }
+        Ok(())
+    }
+}
+
+/// The text of these bytes, mended.
+fn fixed(alloc: Global, bytes: &[u8]) -> Result<Fixer, AllocError> {
+    let (bytes, marks) = match bytes.strip_prefix(MARK.as_slice()) {
+        Some(behind) => (behind, 1),
+        None => (bytes, 0),
+    };
+    let text = Text::new(bytes);
+    let is_remote = Survey::new(alloc, &text)?.is_remote;
+    let header: &'static [u8] = if is_remote {
+        b"seqtrace 2"
+    } else {
+        b"seqtrace 1"
+    };
+    let mut fixer = Fixer::new(alloc, header);
+    fixer.mended.marks = marks;
+    if !begins_with_header(&text) {
+        fixer.mended.headers = 1;
+        fixer.put_header()?;
+    }
+    for line in text.lines() {
+        if text.is_of_mac() && line.is_ended {
+            fixer.mended.ends = fixer.mended.ends.saturating_add(1);
+        }
+        if !line.is_ended {
+            fixer.mended.newlines = 1;
+        }
+        fixer.put_pieces(line.bytes)?;
+    }
+    Ok(fixer)
+}
+
+/// Writes the mistakes of a sort and how many were mended, behind those of other sorts.
+fn say_sort<N: ByteSink>(
+    notes: &mut N,
+    buffer: &mut Buffer,
+    is_any: &mut bool,
+    words: &str,
+    count: u64,
+) -> Result<(), Device> {
+    if count == 0 {
+        return Ok(());
+    }
+    let comma: &[u8] = if *is_any { b", " } else { b" " };
+    *is_any = true;
+    say(notes, buffer, comma)?;
+    say(notes, buffer, words.as_bytes())?;
+    say(notes, buffer, b" ")?;
+    say_number(notes, buffer, count)
+}
+
+/// Writes what was mended, on a line.
+fn say_mended<N: ByteSink>(
+    notes: &mut N,
+    buffer: &mut Buffer,
+    mended: &Mended,
+) -> Result<(), Device> {
+    let mut is_any = false;
+    say(notes, buffer, b"mended:")?;
+    say_sort(notes, buffer, &mut is_any, "mark of UTF-8", mended.marks)?;
+    say_sort(notes, buffer, &mut is_any, "line ends", mended.ends)?;
+    say_sort(
+        notes,
+        buffer,
+        &mut is_any,
+        "newline at the end",
+        mended.newlines,
+    )?;
+    say_sort(notes, buffer, &mut is_any, "empty lines", mended.empty)?;
+    say_sort(
+        notes,
+        buffer,
+        &mut is_any,
+        "lines with blanks",
+        mended.blanks,
+    )?;
+    say_sort(
+        notes,
+        buffer,
+        &mut is_any,
+        "quotes of 'receive'",
+        mended.quotes,
+    )?;
+    say_sort(notes, buffer, &mut is_any, "#Pid", mended.pids)?;
+    say_sort(notes, buffer, &mut is_any, "header", mended.headers)?;
+    let end: &[u8] = if is_any { b"\n" } else { b" nothing\n" };
+    say(notes, buffer, end)
+}
+
+/// Sends what was mended, and what is left.
+fn send_notes<N: ByteSink>(
+    notes: &mut N,
+    mended: &Mended,
+    judgement: &Judgement<'_>,
+) -> Result<(), Device> {
+    let mut buffer = Buffer::new();
+    say_mended(notes, &mut buffer, mended)?;
+    match judgement {
+        Judgement::Good(_) => {
+            say(notes, &mut buffer, b"left: nothing\n")?;
+            flush(notes, &mut buffer)
+        }
+        Judgement::Impossible(findings) | Judgement::Faulty(findings) => {
+            say(
+                notes,
+                &mut buffer,
+                b"left, by the lines of what is written:\n",
+            )?;
+            flush(notes, &mut buffer)?;
+            send_findings(notes, findings)
+        }
+    }
+}
+
+/// Sends a text.
+fn send_text<W: ByteSink>(writer: &mut W, text: &[u8]) -> Result<(), Device> {
+    let mut buffer = Buffer::new();
+    say(writer, &mut buffer, text)?;
+    flush(writer, &mut buffer)
+}
+
+/// Writes the text of these bytes, mended.
+fn tell_fixed<W: ByteSink, N: ByteSink>(
+    alloc: Global,
+    bytes: &[u8],
+    writer: &mut W,
+    notes: &mut N,
+) -> Result<u8, ReadFault> {
+    let Ok(fixer) = fixed(alloc, bytes) else {
+        return Err(ReadFault::Memory);
+    };
+    let judgement = judgement_of(alloc, fixer.text.as_slice(), NAMED)?;
+    let sent = send_text(writer, fixer.text.as_slice());
+    if sent.is_ok() {
+        let _ = send_notes(notes, &fixer.mended, &judgement);
+    }
+    let status = match judgement {
+        Judgement::Good(_) => YES,
+        Judgement::Impossible(_) => NO,
+        Judgement::Faulty(_) => FAULTY,
+    };
+    Ok(status_of(sent, status))
+}
+
+/// Says of a text that is no bundle as a whole what to do about it; nothing else is written.
+fn tell_form<N: ByteSink>(notes: &mut N, remedy: &str) -> u8 {
+    let mut buffer = Buffer::new();
+    let _ = say(
+        notes,
+        &mut buffer,
+        b"mended: nothing, and nothing is written: ",
+    );
+    let _ = say(notes, &mut buffer, remedy.as_bytes());
+    let _ = say(notes, &mut buffer, b"\n");
+    let _ = flush(notes, &mut buffer);
+    FAULTY
+}
+
+/// Reads a text and writes it with those mistakes mended that have one remedy; the notes say what was
+/// mended, and what is left. Status 0 if nothing is left, 1 if no run reports some of its events, 2 if
+/// other mistakes are left. A text that is no bundle as a whole, as a packed one, is 2 too, and nothing
+/// is written. Running out of memory, and a reader or a writer that fails, are 4.
+pub fn run_fix<R: ByteSource, W: ByteSink, N: ByteSink>(
+    alloc: Global,
+    reader: &mut R,
+    writer: &mut W,
+    notes: &mut N,
+) -> u8 {
+    let told = match gather(alloc, reader) {
+        Ok(bytes) => match remedy_of_text(bytes.as_slice()) {
+            Some(remedy) => Ok(tell_form(notes, remedy)),
+            None => tell_fixed(alloc, bytes.as_slice(), writer, notes),
+        },
+        Err(fault) => Err(fault),
+    };
+    match told {
+        Ok(status) => status,
+        Err(fault) => tell_unread(writer, fault),
+    }
+}

@@ -1,0 +1,79 @@
+//! Texts that are no bundle as a whole: one mistake is named, and nothing is mended.
+
+use crate::kind::{Kind, kind_of};
+
+/// The words that a report of a command begins with.
+const REPORTS: [&str; 8] = [
+    "unfit ", "never ", "no ", "yes", "added ", "fault ", "long", "error: ",
+];
+
+/// The first bytes of packed files, each with how it is unpacked.
+const PACKED: [(&[u8], &str); 5] = [
+    (b"\x1f\x8b", "the text is packed: unpack it by gunzip"),
+    (
+        b"\x28\xb5\x2f\xfd",
+        "the text is packed: unpack it by unzstd",
+    ),
+    (b"\xfd7zXZ", "the text is packed: unpack it by unxz"),
+    (b"BZh", "the text is packed: unpack it by bunzip2"),
+    (b"PK\x03\x04", "the text is packed: unpack it by unzip"),
+];
+
+/// Whether bytes are text in UTF-16: a mark at the front, or a byte of 0 beside the first.
+fn is_utf16(bytes: &[u8]) -> bool {
+    matches!(
+        bytes,
+        [0xfe, 0xff, ..] | [0xff, 0xfe, ..] | [0, 1..=127, ..] | [1..=127, 0, ..]
+    )
+}
+
+/// So many bytes at the front tell whether bytes are text.
+const FRONT: usize = 512;
+
+/// Whether bytes are no text: they don't begin as a bundle does, and have bytes of control.
+fn is_binary(bytes: &[u8]) -> bool {
+    let (front, _) = bytes.split_at(FRONT.min(bytes.len()));
+    kind_of(front) == Kind::Other && front.iter().any(|byte| matches!(*byte, 0..=8 | 14..=31))
+}
+
+/// What a text that begins with a bracket or a brace is, if it is no bundle.
+fn remedy_of_structure(bytes: &[u8]) -> Option<&'static str> {
+    match bytes.split_first()? {
+        (b'[', rest)
+            if rest
+                .trim_ascii_start()
+                .starts_with(b"{seq_trace".as_slice()) => Some(
+            "an Erlang list: write each event on a line of its own, below that of its process",
+        ),
+        (b'[', _) => Some("a list or JSON: a bundle is lines of text"),
+        (b'{', rest) if rest.trim_ascii_start().starts_with(b"\"".as_slice()) => {
+            Some("JSON: a bundle is lines of text")
+        }
+        _ => None,
+    }
+}
+
+/// What to do about a text that is no bundle as a whole; none if it may be one.
+pub(crate) fn remedy_of_text(bytes: &[u8]) -> Option<&'static str> {
+    if bytes.is_empty() {
+        return Some("the text is empty");
+    }
+    if let Some(packed) = PACKED.iter().find(|packed| bytes.starts_with(packed.0)) {
+        return Some(packed.1);
+    }
+    if is_utf16(bytes) {
+        return Some("the text is UTF-16: write it as ASCII, as by iconv -f UTF-16 -t ASCII");
+    }
+    if REPORTS
+        .iter()
+        .any(|word| bytes.starts_with(word.as_bytes()))
+    {
+        return Some(
+            "this is what a command found, and no bundle: see what the command before said",
+        );
+    }
+    if is_binary(bytes) {
+        return Some("this is no text: a bundle is lines of ASCII");
+    }
+    remedy_of_structure(bytes)
+}

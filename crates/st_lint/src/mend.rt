@@ -1,0 +1,178 @@
+//! The mistakes of a line that have one remedy, mended: blanks, the quotes of 'receive', and `#Pid`.
+
+use crate::kind::{Kind, kind_of};
+use crate::scan::Scan;
+use st_column::Above;
+use std::alloc::{AllocError, Global};
+
+/// How many of each mistake were mended.
+#[derive(Clone, Copy, Debug, Default)]
+pub(crate) struct Mended {
+    /// Carriage returns at the ends of lines.
+    pub(crate) ends: u64,
+    /// Lines with a blank too many, or a tab for one.
+    pub(crate) blanks: u64,
+    /// Lines with nothing on them.
+    pub(crate) empty: u64,
+    /// Quotes of 'receive'.
+    pub(crate) quotes: u64,
+    /// Words `#Pid` in front of a pid.
+    pub(crate) pids: u64,
+    /// Marks of UTF-8 at the front.
+    pub(crate) marks: u64,
+    /// Headers.
+    pub(crate) headers: u64,
+    /// Newlines at the end.
+    pub(crate) newlines: u64,
+}
+
+/// How many bytes at the front are blanks.
+fn blank_bytes(bytes: &[u8]) -> usize {
+    let mut rest = bytes;
+    for _ in 0..bytes.len() {
+        match rest {
+            [b' ' | b'\t', tail @ ..] => rest = tail,
+            [0xc2, 0xa0, tail @ ..] => rest = tail,
+            _ => break,
+        }
+    }
+    bytes.len().saturating_sub(rest.len())
+}
+
+/// What is behind a quote at the front, straight or curly; all of it if there is none.
+pub(crate) fn behind_quote(bytes: &[u8]) -> &[u8] {
+    match bytes {
+        [b'\'' | b'"' | b'`', tail @ ..] => tail,
+        [0xe2, 0x80, 0x98..=0x9f, tail @ ..] => tail,
+        _ => bytes,
+    }
+}
+
+/// How many bytes at the front are the brace, the word receive in whatever quotes, and the comma.
+fn receive_bytes(bytes: &[u8]) -> Option<usize> {
+    let brace = bytes.strip_prefix(b"{".as_slice())?;
+    let word = behind_quote(brace).strip_prefix(b"receive".as_slice())?;
+    let tail = behind_quote(word).strip_prefix(b",".as_slice())?;
+    Some(bytes.len().saturating_sub(tail.len()))
+}
+
+/// How many bytes at the front are a text in double quotes.
+fn quoted_bytes(bytes: &[u8]) -> usize {
+    match bytes.split_first() {
+        Some((b'"', tail)) => match tail.iter().position(|byte| *byte == b'"') {
+            Some(end) => end.saturating_add(2).min(bytes.len()),
+            None => bytes.len(),
+        },
+        _ => 0,
+    }
+}
+
+/// Whether a byte is part of a word, or of a number.
+fn is_word(byte: Option<&u8>) -> bool {
+    match byte {
+        Some(byte) => byte.is_ascii_alphanumeric() || *byte == b'_',
+        None => false,
+    }
+}
+
+/// A line under way.
+#[derive(Drop)]
+struct Mender<'a> {
+    rest: &'a [u8],
+    is_event: bool,
+    // Whether a blank was left out or replaced.
+    is_blank_mended: bool,
+}
+
+impl<'a> Mender<'a> {
+    /// Passes so many bytes.
+    fn skip(&mut self, count: usize) {
+        self.rest = self.rest.split_at(count.min(self.rest.len())).1;
+    }
+
+    /// Appends so many bytes as they are.
+    fn copy(&mut self, count: usize, out: &mut Vec<u8>) -> Result<(), AllocError> {
+        let (bytes, rest) = self.rest.split_at(count.min(self.rest.len()));
+        out.extend_from_slice(bytes)?;
+        self.rest = rest;
+        Ok(())
+    }
+
+    /// Appends what remains of so many blanks: one between the words of a line that is no event, or
+    /// if two words would become one.
+    fn put_blanks(&mut self, count: usize, out: &mut Vec<u8>) -> Result<(), AllocError> {
+        let is_space = count == 1 && self.rest.starts_with(b" ".as_slice());
+        self.skip(count);
+        let is_between = !out.is_empty() && !self.rest.is_empty();
+        let is_kept = if self.is_event {
+            is_word(out.last()) && is_word(self.rest.first())
+        } else {
+            is_between
+        };
+        if is_kept {
+            out.push(b' ')?;
+        }
+        self.is_blank_mended = self.is_blank_mended || !is_kept || !is_space;
+        Ok(())
+    }
+
+    /// Appends what the line goes on with.
+    fn put_next(&mut self, out: &mut Vec<u8>, mended: &mut Mended) -> Result<(), AllocError> {
+        let blanks = blank_bytes(self.rest);
+        if blanks > 0 {
+            return self.put_blanks(blanks, out);
+        }
+        if let Some(count) = receive_bytes(self.rest) {
+            if !self.rest.starts_with(b"{'receive',".as_slice()) {
+                mended.quotes = mended.quotes.saturating_add(1);
+            }
+            self.skip(count);
+            out.extend_from_slice(b"{'receive',")?;
+            return Ok(());
+        }
+        let pid = b"#Pid<".as_slice();
+        if self.rest.starts_with(pid) || self.rest.starts_with(b"#PID<".as_slice()) {
+            mended.pids = mended.pids.saturating_add(1);
+            self.skip(4);
+            return Ok(());
+        }
+        self.copy(quoted_bytes(self.rest).max(1), out)
+    }
+}
+
+/// Puts a line with these mistakes mended in place of what is there.
+pub(crate) fn mend_line(
+    line: &[u8],
+    out: &mut Vec<u8>,
+    mended: &mut Mended,
+) -> Result<(), AllocError> {
+    out.clear();
+    let kind = kind_of(line);
+    if kind == Kind::Comment {
+        out.extend_from_slice(line)?;
+        return Ok(());
+    }
+    let mut mender = Mender {
+        rest: line,
+        is_event: kind == Kind::Event,
+        is_blank_mended: false,
+    };
+    for _ in 0..line.len() {
+        if mender.rest.is_empty() {
+            break;
+        }
+        mender.put_next(out, mended)?;
+    }
+    if mender.is_blank_mended && !out.is_empty() {
+        mended.blanks = mended.blanks.saturating_add(1);
+    }
+    Ok(())
+}
+
+/// Whether a line is right below what is above once it is mended, or nothing is left of it.
+pub(crate) fn mends(alloc: Global, line: &[u8], above: Above) -> Result<bool, AllocError> {
+    let line = line.strip_suffix(b"\r".as_slice()).unwrap_or(line);
+    let mut out = Vec::new(alloc);
+    mend_line(line, &mut out, &mut Mended::default())?;
+    Ok(out.is_empty() || Scan::new(out.as_slice()).whole(above).is_ok())
+}

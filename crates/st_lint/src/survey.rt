@@ -1,0 +1,67 @@
+//! What a text has as a whole: the processes that it lists, and whether it names a pid of another
+//! node.
+//!
+//! A process line counts if it begins as one, even if something else in it is wrong: its own
+//! mistake is enough.
+
+use crate::scan::{Scan, common};
+use crate::text::Text;
+use std::alloc::{AllocError, Global};
+use std::str;
+
+/// What a text has as a whole.
+#[derive(Drop)]
+pub(crate) struct Survey<'a> {
+    // The pids of all process lines, sorted as texts.
+    listed: Vec<&'a str>,
+    /// A pid of a node other than 0 is named.
+    pub(crate) is_remote: bool,
+}
+
+/// The pid of a line that begins as a process line, if it can be read.
+pub(crate) fn process_pid(line: &[u8]) -> Option<&str> {
+    let rest = line.trim_ascii_start().strip_prefix(b"process".as_slice())?;
+    let start = rest.iter().position(|byte| *byte == b'<')?;
+    let (_, open) = rest.split_at(start.min(rest.len()));
+    let count = Scan::new(open).pid_bytes()?;
+    str::from_utf8(open.split_at(count.min(open.len())).0).ok()
+}
+
+/// Whether a line names a pid of a node other than 0, which begins with `<` and another number.
+fn names_remote(line: &[u8]) -> bool {
+    line.windows(2)
+        .any(|pair| matches!(pair, [b'<', b'1'..=b'9']))
+}
+
+impl<'a> Survey<'a> {
+    /// What this text has.
+    pub(crate) fn new(alloc: Global, text: &Text<'a>) -> Result<Survey<'a>, AllocError> {
+        let mut listed = Vec::new(alloc);
+        let mut is_remote = false;
+        for line in text.lines() {
+            if let Some(pid) = process_pid(line.bytes) {
+                listed.push(pid)?;
+            }
+            is_remote = is_remote || names_remote(line.bytes);
+        }
+        listed.sort()?;
+        Ok(Survey { listed, is_remote })
+    }
+
+    /// How many bytes of a pid's text that of some listed pid begins with; none if it is listed
+    /// itself.
+    pub(crate) fn unlisted_bytes(&self, pid: &str) -> Option<usize> {
+        let Err(place) = self.listed.binary_search(&pid) else {
+            return None;
+        };
+        // Of sorted texts, those that have the most in common with another are its neighbours.
+        let (below, above) = self.listed.split_at(place.min(self.listed.len()));
+        let before = below
+            .last()
+            .map_or(0, |other| common(other.as_bytes(), pid.as_bytes()));
+        let behind = above
+            .first()
+            .map_or(0, |other| common(other.as_bytes(), pid.as_bytes()));
+        Some(before.max(behind))
+    }
+}
