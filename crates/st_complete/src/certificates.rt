@@ -6,13 +6,10 @@ ghost use Rattle.st_core.specs.Run.{Shows};
 ghost use Rattle.st_core.specs.Verdict.{IsVerdict, Yes};
 
 use crate::answer::{Certificate, CertificateFault};
-use crate::climbs::with_shared_climbs;
-use crate::homes::with_near_homes;
-use crate::lean::{LeanFault, lean_acts};
-use crate::marked::MarkedStreams;
 use st_audit::told_acts;
 use st_check::{Verdict, check};
 use st_core::{Act, Sequence, Streams};
+use st_lean::{LeanFault, lean_acts};
 use st_needs::Completion;
 use std::alloc::{AllocError, Global};
 use std::thread::Threads;
@@ -80,52 +77,6 @@ fn certify_lean<const TOP: u64>(
     rt: &(impl Threads + Sync),
     alloc: Global,
     streams: &Streams,
-    whole: MarkedStreams<'_>,
-    most: u64,
-) -> Result<Option<Certificate>, AllocError>
-    ensures verdict { IfOk result (λ some. IfSome some
-        (λ found. IsVerdict TOP streams.now found.acts (Yes found.pairs))) }
-    ensures shows { IfOk result (λ some. IfSome some (λ found. Shows TOP streams.now found.acts)) }
-    ensures one_trace { IfOk result (λ some. IfSome some (λ found. NoReset found.acts)) }
-    ensures within { IfOk result (λ some. IfSome some (λ found. length found.acts ≤ most)) }
-{
-    let acts = match lean_acts::<TOP>(rt, alloc, whole, most) {
-        Ok(acts) => acts,
-        Err(LeanFault::Memory) => return Err(AllocError),
-        Err(LeanFault::TooMany | LeanFault::Stopped) => return Ok(None),
-    };
-    match certify::<TOP>(alloc, streams, acts, most) {
-        Ok(found) => Ok(Some(found)),
-        Err(CertificateFault::Memory) => Err(AllocError),
-        Err(CertificateFault::TooMany) => Ok(None),
-    }
-}
-
-/// The same with shared climbs.
-fn certify_shared<const TOP: u64>(
-    rt: &(impl Threads + Sync),
-    alloc: Global,
-    streams: &Streams,
-    whole: MarkedStreams<'_>,
-    most: u64,
-) -> Result<Option<Certificate>, AllocError>
-    ensures verdict { IfOk result (λ some. IfSome some
-        (λ found. IsVerdict TOP streams.now found.acts (Yes found.pairs))) }
-    ensures shows { IfOk result (λ some. IfSome some (λ found. Shows TOP streams.now found.acts)) }
-    ensures one_trace { IfOk result (λ some. IfSome some (λ found. NoReset found.acts)) }
-    ensures within { IfOk result (λ some. IfSome some (λ found. length found.acts ≤ most)) }
-{
-    match with_shared_climbs(alloc, whole)? {
-        None => certify_lean::<TOP>(rt, alloc, streams, whole, most),
-        Some(longer) => certify_lean::<TOP>(rt, alloc, streams, longer.whole(), most),
-    }
-}
-
-/// The same with invented messages from processes that need few silent stamps for them.
-fn certify_completion<const TOP: u64>(
-    rt: &(impl Threads + Sync),
-    alloc: Global,
-    streams: &Streams,
     completion: &Completion,
     most: u64,
 ) -> Result<Option<Certificate>, AllocError>
@@ -135,13 +86,15 @@ fn certify_completion<const TOP: u64>(
     ensures one_trace { IfOk result (λ some. IfSome some (λ found. NoReset found.acts)) }
     ensures within { IfOk result (λ some. IfSome some (λ found. length found.acts ≤ most)) }
 {
-    let whole = MarkedStreams {
-        streams: completion.streams(),
-        told: completion.marks(),
+    let acts = match lean_acts::<TOP>(rt, alloc, completion, most) {
+        Ok(acts) => acts,
+        Err(LeanFault::Memory) => return Err(AllocError),
+        Err(LeanFault::TooMany | LeanFault::Stopped) => return Ok(None),
     };
-    match with_near_homes(alloc, whole)? {
-        None => certify_shared::<TOP>(rt, alloc, streams, whole, most),
-        Some(longer) => certify_shared::<TOP>(rt, alloc, streams, longer.whole(), most),
+    match certify::<TOP>(alloc, streams, acts, most) {
+        Ok(found) => Ok(Some(found)),
+        Err(CertificateFault::Memory) => Err(AllocError),
+        Err(CertificateFault::TooMany) => Ok(None),
     }
 }
 
@@ -197,7 +150,7 @@ pub fn certificate<const TOP: u64>(
     ensures one_trace { IfOk result (λ found. NoReset found.acts) }
     ensures within { IfOk result (λ found. length found.acts ≤ most) }
 {
-    match certify_completion::<TOP>(rt, alloc, streams, completion, most) {
+    match certify_lean::<TOP>(rt, alloc, streams, completion, most) {
         Err(AllocError) => Err(CertificateFault::Memory),
         Ok(Some(found)) => Ok(found),
         Ok(None) => certificate_by_construction::<TOP>(rt, alloc, streams, completion, most),

@@ -12,8 +12,8 @@ ghost use Rattle.st_complete.specs.Answers.{IsAnswer, IsFound, IsReason};
 ghost use Rattle.st_complete.specs.Higher.{LastHigher};
 
 use crate::answer::{Answer, CompleteFault, Never};
-use crate::candidate::build_candidate;
 use crate::judge::judge;
+use st_candidate::build_candidate;
 use st_completions::laws::shown_exactly_where_nothing_is_needed;
 use st_core::{Event, Pid, Streams};
 use st_needs::{Completion, Flaw, complete_by_definition, find_flaw, find_unfounded};

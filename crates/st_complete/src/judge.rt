@@ -13,8 +13,7 @@ ghost use Rattle.st_plan.specs.Marks.{told_events, told_streams};
 ghost use Rattle.st_needs.specs.Completions.{marked_with, wholes_with, Completes};
 ghost use Rattle.st_complete.specs.Links.{other_end, receipt_of, AreEventsFit, IsLinked};
 
-use crate::candidate::{Candidate, receive_of};
-use crate::links::links_of;
+use st_candidate::{Candidate, links_of};
 use st_core::{Event, Kind, Pid, Sequence, Streams, is_rising};
 use st_needs::{Completion, Left, completion_of, is_marked, is_unlisted, marks_at, with_silent};
 use std::alloc::{AllocError, Global};
@@ -82,6 +81,16 @@ fn other_end(links: &[Sequence<u32>], place: usize, index: usize) -> u32
     match links.get(place) {
         None => 0,
         Some(row) => row.as_slice().get(index).copied().unwrap_or(0),
+    }
+}
+
+/// The receive of a send.
+fn receive_of(sent: &Event) -> Event
+    ensures { result ≡ receipt_of sent.now }
+{
+    Event {
+        kind: Kind::Receive,
+        ..*sent
     }
 }
 

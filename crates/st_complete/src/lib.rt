@@ -6,26 +6,9 @@
 #![tactic(auto)]
 
 mod answer;
-mod asks;
-mod assembly;
-mod candidate;
 mod certificates;
-mod climbs;
 mod decision;
-mod entries;
-mod hidden;
-mod homes;
-mod insertion;
-mod inventions;
 mod judge;
-mod lean;
-mod links;
-mod lost;
-mod marked;
-mod senders;
-mod stretch;
-mod unlisted;
-mod walk;
 
 pub use answer::{Answer, Certificate, CertificateFault, CompleteFault, Never};
 pub use certificates::{certificate, certificate_by_construction};

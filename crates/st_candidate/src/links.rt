@@ -98,7 +98,7 @@ fn link_receives(
 /// process, by its place, and each of its events the index of the other end of its message, of a
 /// receive among the events of its sender, of a send among those of its receiver. That of an event
 /// without another end may be any number.
-pub(crate) fn links_of(alloc: Global, streams: &Streams) -> Result<Vec<Sequence<u32>>, AllocError> {
+pub fn links_of(alloc: Global, streams: &Streams) -> Result<Vec<Sequence<u32>>, AllocError> {
     let count = streams.pids().len();
     let mut stamps = Vec::with_capacity(alloc, count)?;
     let mut rows = Vec::with_capacity(alloc, count)?;

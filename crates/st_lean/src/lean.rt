@@ -18,7 +18,7 @@ use std::thread::Threads;
 
 /// Why there are no lean acts.
 #[derive(Clone, Copy, Debug, PartialEq, Eq)]
-pub(crate) enum LeanFault {
+pub enum LeanFault {
     /// Memory ran out.
     Memory,
     /// More acts are needed than the caller takes.
@@ -396,7 +396,7 @@ fn acts_in_order<const TOP: u64>(
 /// Acts without a reset that show the told events, at most so many.
 ///
 /// It sorts on several threads, with one result for every number of threads.
-pub(crate) fn lean_acts<const TOP: u64>(
+pub(crate) fn acts_of<const TOP: u64>(
     rt: &(impl Threads + Sync),
     alloc: Global,
     whole: MarkedStreams<'_>,

@@ -8,9 +8,6 @@
 //! 3. The needs that are left get messages that are invented, of listed processes that stamp their
 //!    count nowhere, then of processes that the streams don't list (`senders`, `inventions`).
 
-ghost use Rattle.std.specs.Prelude.{◌≡◌};
-ghost use Rattle.st_complete.specs.Links.{receipt_of};
-
 use crate::asks::Asks;
 use crate::assembly::{Parts, assemble};
 use crate::hidden::hidden_sends;
@@ -18,29 +15,19 @@ use crate::inventions::invent;
 use crate::lost::give_lost;
 use crate::senders::give_senders;
 use crate::walk::place_hidden;
-use st_core::{Event, Kind, Pid, Sequence, Streams};
+use st_core::{Pid, Sequence, Streams};
 use st_pair::Pairing;
 use std::alloc::{AllocError, Global};
 
 /// Whole streams that may be a completion.
 #[derive(Debug, Drop)]
-pub(crate) struct Candidate {
+pub struct Candidate {
     /// All events, of the listed processes and the unlisted ones.
     pub streams: Streams,
     /// For each process, by its place, whether each of its events is told.
     pub told: Vec<Sequence<bool>>,
     /// The processes that weren't listed, by rising pid.
     pub unlisted: Vec<Pid>,
-}
-
-/// The receive of a send.
-pub(crate) fn receive_of(sent: &Event) -> Event
-    ensures { result ≡ receipt_of sent.now }
-{
-    Event {
-        kind: Kind::Receive,
-        ..*sent
-    }
 }
 
 /// The items from this index on.
@@ -62,7 +49,7 @@ pub(crate) fn items_between<T>(items: &[T], start: usize, end: usize) -> &[T] {
 /// Builds the candidate of streams of which no reason holds: pairing accepts them, no event is
 /// late, none is unfounded, none counts too high. Nothing has to hold of what it builds: the judge
 /// looks at all of it. It returns none only if what it builds isn't streams, which never happens.
-pub(crate) fn build_candidate(
+pub fn build_candidate(
     alloc: Global,
     streams: &Streams,
     pairing: &Pairing,

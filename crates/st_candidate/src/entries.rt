@@ -3,9 +3,8 @@
 ghost use Rattle.std.specs.Iterator.{at_most};
 
 use crate::asks::Ask;
-use crate::candidate::receive_of;
 use crate::hidden::HiddenSend;
-use st_core::{Event, Streams};
+use st_core::{Event, Kind, Streams};
 
 /// An event of a process, and whether it was reported.
 #[derive(Clone, Copy, Debug)]
@@ -73,7 +72,10 @@ impl<'a> Entries<'a> {
         }
         self.asks = others;
         let sent = ask.sent(self.streams)?;
-        Some(receive_of(&sent))
+        Some(Event {
+            kind: Kind::Receive,
+            ..sent
+        })
     }
 
     /// The hidden send that stands before the next reported event, if there is one.

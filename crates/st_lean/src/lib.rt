@@ -1,0 +1,15 @@
+//! Nothing is proved of the acts that are written here but that writing them is safe and returns.
+//! `st_complete` lets the checker judge them, and wrong acts cost time and no more.
+//!
+//! `lean_acts` writes few acts for a completion, as a person would write them.
+#![tactic(auto)]
+
+mod acts;
+mod climbs;
+mod homes;
+mod insertion;
+mod lean;
+mod marked;
+
+pub use acts::lean_acts;
+pub use lean::LeanFault;
