@@ -7,7 +7,7 @@ use crate::words::Task;
 use st_commands::{run_audit_within, run_check_within};
 use st_core::{ByteSink, ByteSource};
 use st_draw::run_draw;
-use st_events::{run_cut, run_list, run_stats};
+use st_event_commands::{run_cut, run_list, run_stats};
 use st_explain::run_explain;
 use st_export::{run_audit_json, run_check_json, run_complete_json, run_export, run_lint_json};
 use st_lint::{run_fix, run_lint};
