@@ -23,6 +23,7 @@ mod scan;
 mod trouble;
 
 pub use complete::{Form, run_complete};
+pub use completion_lines::send_never;
 pub use events::{run_cut, run_list, run_stats};
 pub use explain::run_explain;
 pub use lint::run_lint;
