@@ -9,24 +9,24 @@ _seqtool() {
         word=
     fi
     if [ "$COMP_CWORD" -eq 1 ]; then
-        mapfile -t COMPREPLY < <(compgen -W "audit complete why lint check explain list cut stats chart export renumber --help --version" -- "$word")
+        mapfile -t COMPREPLY < <(compgen -W "audit complete why lint check explain list cut stats diff chart export renumber --help --version" -- "$word")
     elif [ "$command" = complete ] && [ "$before" = --as ]; then
         mapfile -t COMPREPLY < <(compgen -W "added streams acts" -- "$word")
     elif [ "$command" = complete ] && [ "${word#-}" != "$word" ]; then
         mapfile -t COMPREPLY < <(compgen -W "--as --json --help" -- "$word")
     elif [ "$command" = export ] && [ "$before" = --as ]; then
-        mapfile -t COMPREPLY < <(compgen -W "perfetto shiviz" -- "$word")
+        mapfile -t COMPREPLY < <(compgen -W "perfetto shiviz otlp" -- "$word")
     elif [ "$command" = export ] && [ "${word#-}" != "$word" ]; then
-        mapfile -t COMPREPLY < <(compgen -W "--as --help" -- "$word")
+        mapfile -t COMPREPLY < <(compgen -W "--as --times --help" -- "$word")
     elif [ "$command" = chart ] && [ "${word#-}" != "$word" ]; then
-        mapfile -t COMPREPLY < <(compgen -W "--label --mermaid --dot --help" -- "$word")
+        mapfile -t COMPREPLY < <(compgen -W "--label --complete --mermaid --dot --help" -- "$word")
     elif [ "$command" = list ] && [ "${word#-}" != "$word" ]; then
         mapfile -t COMPREPLY < <(compgen -W "--label --process --lines --counts --json --help" -- "$word")
     elif [ "$command" = cut ] && [ "${word#-}" != "$word" ]; then
         mapfile -t COMPREPLY < <(compgen -W "--label --process --lines --counts --help" -- "$word")
     elif [ "$command" = lint ] && [ "${word#-}" != "$word" ]; then
         mapfile -t COMPREPLY < <(compgen -W "--most --fix --json --help" -- "$word")
-    elif [[ $command == @(stats|audit|check) ]] && [ "${word#-}" != "$word" ]; then
+    elif [[ $command == @(stats|diff|audit|check) ]] && [ "${word#-}" != "$word" ]; then
         mapfile -t COMPREPLY < <(compgen -W "--json --help" -- "$word")
     elif [ "$command" = why ] && [ "${word#-}" != "$word" ]; then
         mapfile -t COMPREPLY < <(compgen -W "--line --depth --effects --label --json --help" -- "$word")

@@ -9,13 +9,18 @@ use clap::Error;
 use clap::error::ErrorKind;
 use st_console::{Inlet, Outlet};
 use st_core::{ByteSink, ReadFrom, WriteTo};
+use st_diff::Input;
+use st_export::TimesFault;
 use st_notes::{tell_no, tell_trouble, tell_unopened, tell_unwritten};
-use st_words::{Request, read_words, run};
+use st_words::{PairTask, Request, Task, read_words, run, run_pair};
 use std::io::{Read, Write};
 use std::process::ExitCode;
 use std::rt::Files;
 use std::thread::Threads;
 use std::{env, fs, io};
+
+/// The name of standard input in messages.
+const STANDARD_INPUT: &str = "standard input";
 
 /// The status of a no.
 const NO: u8 = 1;
@@ -36,7 +41,7 @@ fn words_of(rt: &HostRuntime) -> io::Result<Vec<String>> {
 /// fault, or what a no is about.
 fn serve<H, R, W, N>(
     rt: &H,
-    request: &Request<'_>,
+    task: Task,
     name: &str,
     inlet: &mut Inlet<R>,
     outlet: &mut Outlet<W>,
@@ -50,7 +55,7 @@ where
 {
     let status = run(
         rt,
-        request.task,
+        task,
         &mut ReadFrom::new(&mut *inlet),
         &mut WriteTo::new(&mut *outlet),
         notes,
@@ -63,13 +68,7 @@ where
 }
 
 /// Does what the words ask for, on the file that they name.
-fn serve_file<H, W, N>(
-    rt: &H,
-    request: &Request<'_>,
-    path: &str,
-    outlet: &mut Outlet<W>,
-    notes: &mut N,
-) -> u8
+fn serve_file<H, W, N>(rt: &H, task: Task, path: &str, outlet: &mut Outlet<W>, notes: &mut N) -> u8
 where
     H: AllocGlobal + Files + Threads + Sync + Eprint,
     W: Write,
@@ -78,7 +77,120 @@ where
     match fs::open(rt, path) {
         Ok(file) => {
             let mut inlet = Inlet::new(rt.alloc(), file);
-            serve(rt, request, path, &mut inlet, outlet, notes)
+            serve(rt, task, path, &mut inlet, outlet, notes)
+        }
+        Err(reason) => {
+            tell_unopened(rt, path, &reason);
+            FAILED
+        }
+    }
+}
+
+/// Says what is wrong with the times of this name.
+fn tell_times<H: Eprint>(rt: &H, name: &str, fault: TimesFault) {
+    let _ = match fault {
+        // The commands' own words tell of these.
+        TimesFault::Read(_) => Ok(()),
+        TimesFault::Line(line) => eprintln!(rt;
+            "error: {name}, line {line}: not a line of NAME.times as seqaudit-node writes it"
+        ),
+        TimesFault::Unknown(line) => {
+            eprintln!(rt; "error: {name}, line {line}: the trace has no such event")
+        }
+        TimesFault::NoClock => eprintln!(rt;
+            "error: {name}: collected without the clock of the node, which spans need"
+        ),
+        TimesFault::Empty => eprintln!(rt; "error: {name}: no event has a time"),
+    };
+}
+
+/// Does what a command on two inputs of these names asks for, and says on standard error what was at
+/// fault.
+fn serve_both<H, R, S, W, N>(
+    rt: &H,
+    task: PairTask,
+    names: (&str, &str),
+    first: &mut Inlet<R>,
+    second: &mut Inlet<S>,
+    outlet: &mut Outlet<W>,
+    notes: &mut N,
+) -> u8
+where
+    H: AllocGlobal + Eprint,
+    R: Read,
+    S: Read,
+    W: Write,
+    N: ByteSink,
+{
+    let ended = run_pair(
+        rt,
+        task,
+        &mut ReadFrom::new(&mut *first),
+        &mut ReadFrom::new(&mut *second),
+        &mut WriteTo::new(&mut *outlet),
+    );
+    if let Some(fault) = ended.times {
+        tell_times(rt, names.1, fault);
+    }
+    match ended.input {
+        Input::First => tell_trouble(rt, rt.alloc(), names.0, first, outlet, notes),
+        Input::Second => tell_trouble(rt, rt.alloc(), names.1, second, outlet, notes),
+    }
+    if ended.status == NO {
+        let _ = tell_no(
+            rt.alloc(),
+            names.0,
+            first.text(),
+            outlet.first_line(),
+            notes,
+        );
+    }
+    ended.status
+}
+
+/// The same, with the second input of this path still to be opened.
+fn serve_second<R: Read, W: Write, N: ByteSink>(
+    rt: &HostRuntime,
+    task: PairTask,
+    name: &str,
+    first: &mut Inlet<R>,
+    path: Option<&str>,
+    outlet: &mut Outlet<W>,
+    notes: &mut N,
+) -> u8 {
+    let Some(path) = path else {
+        let names = (name, STANDARD_INPUT);
+        let mut second = Inlet::new(rt.alloc(), rt.stdin());
+        return serve_both(rt, task, names, first, &mut second, outlet, notes);
+    };
+    match fs::open(rt, path) {
+        Ok(file) => {
+            let mut second = Inlet::new(rt.alloc(), file);
+            serve_both(rt, task, (name, path), first, &mut second, outlet, notes)
+        }
+        Err(reason) => {
+            tell_unopened(rt, path, &reason);
+            FAILED
+        }
+    }
+}
+
+/// The same, with both inputs of these paths still to be opened.
+fn serve_two<W: Write, N: ByteSink>(
+    rt: &HostRuntime,
+    task: PairTask,
+    paths: (Option<&str>, Option<&str>),
+    outlet: &mut Outlet<W>,
+    notes: &mut N,
+) -> u8 {
+    let Some(path) = paths.0 else {
+        let mut first = Inlet::new(rt.alloc(), rt.stdin());
+        return serve_second(rt, task, STANDARD_INPUT, &mut first, paths.1, outlet, notes);
+    };
+    match fs::open(rt, path) {
+        Ok(file) => {
+            let mut first = Inlet::new(rt.alloc(), file);
+            serve_second(rt, task, path, &mut first, paths.1, outlet, notes)
         }
         Err(reason) => {
             tell_unopened(rt, path, &reason);
@@ -135,12 +247,23 @@ fn main(rt: HostRuntime) -> ExitCode {
             Ok(request) => {
                 let mut outlet = Outlet::new(rt.stdout());
                 let mut notes = WriteTo::new(rt.stderr());
-                match request.file {
-                    Some(path) => serve_file(&rt, &request, path, &mut outlet, &mut notes),
-                    None => {
-                        let name = "standard input";
+                match request {
+                    Request::One(task, Some(path)) => {
+                        serve_file(&rt, task, path, &mut outlet, &mut notes)
+                    }
+                    Request::One(task, None) => {
                         let mut inlet = Inlet::new(rt.alloc(), rt.stdin());
-                        serve(&rt, &request, name, &mut inlet, &mut outlet, &mut notes)
+                        serve(
+                            &rt,
+                            task,
+                            STANDARD_INPUT,
+                            &mut inlet,
+                            &mut outlet,
+                            &mut notes,
+                        )
+                    }
+                    Request::Two(task, first, second) => {
+                        serve_two(&rt, task, (first, second), &mut outlet, &mut notes)
                     }
                 }
             }

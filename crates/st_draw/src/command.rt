@@ -12,12 +12,17 @@ use crate::table::tell_tables;
 use crate::words::send_nothing;
 use st_audit::unfit_by;
 use st_commands::{status_of, tell_fault, tell_finding};
+use st_complete::{Answer, CompleteFault, Completion, complete};
 use st_core::{ByteSink, ByteSource, Label, Streams};
 use st_order::{Item, order};
 use st_pair::{PairFault, Pairing, pair};
 use st_text::{Limits, ReadFault, read_within};
+use st_tool::send_never;
 use std::alloc::{AllocError, Global};
 use std::thread::Threads;
+
+/// The greatest count that a clock of the program can have.
+const TOP: u64 = u64::MAX;
 
 /// How a drawing is written.
 #[derive(Clone, Copy, Debug, PartialEq, Eq)]
@@ -35,6 +40,8 @@ pub enum Form {
 pub struct Drawing {
     /// The label of the events; those of all labels if there is none.
     pub label: Option<Label>,
+    /// Whether the events that nobody reported are added and marked.
+    pub completes: bool,
     /// How they are drawn.
     pub form: Form,
 }
@@ -62,19 +69,21 @@ fn draw_dot<W: ByteSink>(
     Ok(status_of(send_dot(writer, scene, &lanes), 0))
 }
 
-/// Draws streams that are paired, and returns the status.
+/// Draws streams that are paired, and returns the status. The completion is the one that they are of,
+/// if they are completed.
 fn draw_paired<H: Threads + Sync, W: ByteSink, N: ByteSink>(
     rt: &H,
     alloc: Global,
     streams: &Streams,
     pairing: &Pairing,
+    completion: Option<&Completion>,
     drawing: Drawing,
     writer: &mut W,
     notes: &mut N,
 ) -> Result<u8, AllocError>
     requires { IsPairing streams.now pairing.now }
 {
-    let scene = Scene::new(streams, pairing, drawing.label);
+    let scene = Scene::new(streams, pairing, drawing.label, completion);
     if scene.is_empty() {
         return Ok(status_of(send_nothing(writer, drawing.label), 1));
     }
@@ -83,7 +92,7 @@ fn draw_paired<H: Threads + Sync, W: ByteSink, N: ByteSink>(
         Form::Table => tell_tables(
             rt,
             alloc,
-            streams,
+            &scene,
             pairing,
             items.as_slice(),
             drawing.label,
@@ -100,15 +109,21 @@ fn draw_streams<H: Threads + Sync, W: ByteSink, N: ByteSink>(
     rt: &H,
     alloc: Global,
     streams: &Streams,
+    completion: Option<&Completion>,
     drawing: Drawing,
     writer: &mut W,
     notes: &mut N,
 ) -> u8 {
     match pair(alloc, streams) {
-        Ok(pairing) => match draw_paired(rt, alloc, streams, &pairing, drawing, writer, notes) {
-            Ok(status) => status,
-            Err(AllocError) => tell_fault(writer, ReadFault::Memory),
-        },
+        Ok(pairing) => {
+            let drawn = draw_paired(
+                rt, alloc, streams, &pairing, completion, drawing, writer, notes,
+            );
+            match drawn {
+                Ok(status) => status,
+                Err(AllocError) => tell_fault(writer, ReadFault::Memory),
+            }
+        }
         Err(fault) => match unfit_by(fault) {
             Some(finding) => tell_finding(writer, streams, &finding),
             None => tell_fault(writer, ReadFault::Memory),
@@ -116,8 +131,31 @@ fn draw_streams<H: Threads + Sync, W: ByteSink, N: ByteSink>(
     }
 }
 
+/// Draws streams with the events that nobody reported, or says that no run has them, and returns the
+/// status.
+fn draw_completed<H: Threads + Sync, W: ByteSink, N: ByteSink>(
+    rt: &H,
+    alloc: Global,
+    streams: &Streams,
+    drawing: Drawing,
+    writer: &mut W,
+    notes: &mut N,
+) -> u8 {
+    match complete::<TOP>(alloc, streams) {
+        Ok(Answer::Whole(found)) => {
+            let whole = found.streams();
+            draw_streams(rt, alloc, whole, Some(&found), drawing, writer, notes)
+        }
+        Ok(Answer::Never(pid, index, never)) => {
+            status_of(send_never(writer, streams, pid, index, never), 1)
+        }
+        Err(CompleteFault::Memory) => tell_fault(writer, ReadFault::Memory),
+    }
+}
+
 /// Reads a bundle and draws its streams, with status 0. If they can't be paired, or nothing is
-/// there to be drawn, it says so with status 1. Faulty input is 2; running out of memory, and a
+/// there to be drawn, it says so with status 1; and so if they are to be completed, and no run has
+/// them. Faulty input is 2; running out of memory, and a
 /// reader or a writer that fails, are 4. If memory runs out behind the first of several tables, they
 /// break off, and the notes say why. It sorts on several threads.
 pub fn run_draw<H: Threads + Sync, R: ByteSource, W: ByteSink, N: ByteSink>(
@@ -129,7 +167,13 @@ pub fn run_draw<H: Threads + Sync, R: ByteSource, W: ByteSink, N: ByteSink>(
     drawing: Drawing,
 ) -> u8 {
     match read_within(alloc, reader, Limits::GREATER) {
-        Ok(bundle) => draw_streams(rt, alloc, &bundle.streams, drawing, writer, notes),
+        Ok(bundle) => {
+            let streams = &bundle.streams;
+            if drawing.completes {
+                return draw_completed(rt, alloc, streams, drawing, writer, notes);
+            }
+            draw_streams(rt, alloc, streams, None, drawing, writer, notes)
+        }
         Err(fault) => tell_fault(writer, fault),
     }
 }

@@ -18,7 +18,8 @@ enum Node {
     Open(u64, u64),
 }
 
-/// How an edge between a send and its receive is drawn, and one to an end that nobody reported.
+/// How an edge between a send and its receive is drawn, and one to an end that nobody reported. An end
+/// that a completion adds is one of these.
 const MESSAGE: &str = " [color=blue]";
 
 const OPEN_MESSAGE: &str = " [color=blue, style=dashed]";
@@ -62,7 +63,7 @@ fn say_event_node<W: ByteSink>(
     writer: &mut W,
     buffer: &mut Buffer,
     scene: &Scene<'_>,
-    number: u64,
+    (number, pid): (u64, Pid),
     index: u64,
     event: &Event,
     before: Option<u64>,
@@ -73,7 +74,12 @@ fn say_event_node<W: ByteSink>(
     say(writer, buffer, b" [label=\"")?;
     say(writer, buffer, kind_word(event.kind).as_bytes())?;
     say_content(writer, buffer, scene, event)?;
-    say(writer, buffer, b"\"];\n")?;
+    let end = if scene.is_added(pid, index) {
+        "\", style=dashed];\n"
+    } else {
+        "\"];\n"
+    };
+    say(writer, buffer, end.as_bytes())?;
     let Some(before) = before else {
         return Ok(());
     };
@@ -86,14 +92,14 @@ fn say_event_nodes<W: ByteSink>(
     writer: &mut W,
     buffer: &mut Buffer,
     scene: &Scene<'_>,
-    number: u64,
+    (number, pid): (u64, Pid),
     events: &[Event],
 ) -> Result<(), Device> {
     let mut before = None;
     let mut index: u64 = 0;
     for event in events {
         if scene.has(event) {
-            say_event_node(writer, buffer, scene, number, index, event, before)?;
+            say_event_node(writer, buffer, scene, (number, pid), index, event, before)?;
             before = Some(index);
         }
         index = index.saturating_add(1);
@@ -112,8 +118,14 @@ fn say_process<W: ByteSink>(
     say_part(writer, buffer, "    subgraph cluster_", number)?;
     say(writer, buffer, b" {\n        label=\"")?;
     say_pid(writer, buffer, pid)?;
-    say(writer, buffer, b"\";\n")?;
-    say_event_nodes(writer, buffer, scene, number, scene.streams.events(pid))?;
+    let end = if scene.is_unlisted(pid) {
+        " (unlisted)\";\n        style=dashed;\n"
+    } else {
+        "\";\n"
+    };
+    say(writer, buffer, end.as_bytes())?;
+    let events = scene.streams.events(pid);
+    say_event_nodes(writer, buffer, scene, (number, pid), events)?;
     say(writer, buffer, b"    }\n")
 }
 
@@ -136,6 +148,7 @@ fn say_open_end<W: ByteSink>(
 fn say_message<W: ByteSink>(
     writer: &mut W,
     buffer: &mut Buffer,
+    scene: &Scene<'_>,
     lanes: &Lanes<'_>,
     pid: Pid,
     index: u64,
@@ -149,7 +162,9 @@ fn say_message<W: ByteSink>(
         Partner::Send(from, sent) => {
             say(writer, buffer, b"    ")?;
             let send = Node::Event(lanes.number(from), sent);
-            say_edge(writer, buffer, send, node, MESSAGE)
+            let has_added = scene.is_added(from, sent) || scene.is_added(pid, index);
+            let style = if has_added { OPEN_MESSAGE } else { MESSAGE };
+            say_edge(writer, buffer, send, node, style)
         }
         Partner::NoReceive => {
             say_open_end(writer, buffer, open, "no receive reported")?;
@@ -174,7 +189,7 @@ fn say_messages<W: ByteSink>(
     for event in scene.streams.events(pid) {
         if scene.has(event) {
             let partner = scene.partner(pid, index, event.kind);
-            say_message(writer, buffer, lanes, pid, index, partner)?;
+            say_message(writer, buffer, scene, lanes, pid, index, partner)?;
         }
         index = index.saturating_add(1);
     }

@@ -7,6 +7,7 @@
 mod command;
 mod dot;
 mod lanes;
+mod marked;
 mod mermaid;
 mod overtaken;
 mod scene;

@@ -4,6 +4,8 @@
 //! An arrow stands at the place of its receive. If the sender did something else in between, the
 //! send has a note at its own place, and the arrow is dotted. So of each process the lines of the
 //! diagram tell its events in their order.
+//!
+//! An arrow with an end that a completion adds is dotted too, and says which end that is.
 
 use crate::lanes::Lanes;
 use crate::overtaken::Sends;
@@ -22,6 +24,9 @@ struct Diagram<'a> {
     lanes: &'a Lanes<'a>,
     overtaken: &'a Sends,
 }
+
+/// What stands behind a note of an event that a completion adds.
+const ADDED: &[u8] = b" (added)";
 
 /// Whether an item is the hidden send of a receive that is drawn.
 fn is_hidden(scene: &Scene<'_>, item: Item) -> bool {
@@ -44,6 +49,9 @@ impl<'a> Diagram<'a> {
                 say_part(writer, buffer, "    participant P", number)?;
                 say(writer, buffer, b" as ")?;
                 say_bare_pid(writer, buffer, *pid)?;
+                if self.scene.is_unlisted(*pid) {
+                    say(writer, buffer, b" (unlisted)")?;
+                }
                 say(writer, buffer, b"\n")?;
             }
         }
@@ -60,6 +68,7 @@ impl<'a> Diagram<'a> {
         buffer: &mut Buffer,
         event: &Event,
         words: &[u8],
+        is_added: bool,
     ) -> Result<(), Device> {
         let number = self.lanes.number(event.from);
         say_part(writer, buffer, "    Note over P", number)?;
@@ -69,10 +78,12 @@ impl<'a> Diagram<'a> {
             say(writer, buffer, b" to ")?;
             say_bare_pid(writer, buffer, to)?;
         }
+        say(writer, buffer, if is_added { ADDED } else { b"" })?;
         say(writer, buffer, b"\n")
     }
 
-    /// Writes the arrow of a message from its sender to its receiver, with words behind it.
+    /// Writes the arrow of a message from its sender to its receiver, with words behind it, and a line
+    /// end.
     fn say_arrow<W: ByteSink>(
         &self,
         writer: &mut W,
@@ -87,7 +98,33 @@ impl<'a> Diagram<'a> {
         say_part(writer, buffer, arrow, to)?;
         say(writer, buffer, b": ")?;
         say_content(writer, buffer, self.scene, event)?;
-        say(writer, buffer, words)
+        say(writer, buffer, words)?;
+        say(writer, buffer, b"\n")
+    }
+
+    /// Writes the arrow of a message of which both ends are there, at its receive.
+    fn say_received<W: ByteSink>(
+        &self,
+        writer: &mut W,
+        buffer: &mut Buffer,
+        event: &Event,
+        receive: (Pid, u64),
+        sent: (Pid, u64),
+    ) -> Result<(), Device> {
+        let is_above = self.overtaken.contains(&sent);
+        // A send that is told above has its mark there.
+        let send_added = !is_above && self.scene.is_added(sent.0, sent.1);
+        let receive_added = self.scene.is_added(receive.0, receive.1);
+        let words: &[u8] = match (is_above, send_added, receive_added) {
+            (true, _, false) => b" (sent above)",
+            (true, _, true) => b" (sent above, receive added)",
+            (false, false, false) => b"",
+            (false, true, false) => b" (send added)",
+            (false, false, true) => b" (receive added)",
+            (false, true, true) => b" (send and receive added)",
+        };
+        let arrow = if words.is_empty() { "->>P" } else { "-->>P" };
+        self.say_arrow(writer, buffer, event, arrow, words)
     }
 
     /// Writes the arrow of a receive whose send nobody reported.
@@ -115,22 +152,25 @@ impl<'a> Diagram<'a> {
         index: u64,
         event: &Event,
     ) -> Result<(), Device> {
+        let is_added = self.scene.is_added(pid, index);
         match self.scene.partner(pid, index, event.kind) {
-            Partner::Nobody => self.say_note(writer, buffer, event, b": print "),
+            Partner::Nobody => self.say_note(writer, buffer, event, b": print ", is_added),
             Partner::Receive(..) => {
                 if self.overtaken.contains(&(pid, index)) {
-                    return self.say_note(writer, buffer, event, b": sends ");
+                    return self.say_note(writer, buffer, event, b": sends ", is_added);
                 }
                 Ok(())
             }
             Partner::NoReceive => {
-                self.say_arrow(writer, buffer, event, "-xP", b" (no receive reported)\n")
+                let words: &[u8] = if is_added {
+                    b" (send added, no receive reported)"
+                } else {
+                    b" (no receive reported)"
+                };
+                self.say_arrow(writer, buffer, event, "-xP", words)
             }
             Partner::Send(from, sent) => {
-                if self.overtaken.contains(&(from, sent)) {
-                    return self.say_arrow(writer, buffer, event, "-->>P", b" (sent above)\n");
-                }
-                self.say_arrow(writer, buffer, event, "->>P", b"\n")
+                self.say_received(writer, buffer, event, (pid, index), (from, sent))
             }
             Partner::NoSend => self.say_unsent(writer, buffer, pid, event),
         }

@@ -1,5 +1,6 @@
 //! The events that are drawn, and what each pairs with.
 
+use st_complete::Completion;
 use st_core::{Event, Kind, Label, Pid, Streams};
 use st_list::{Partner, partner_at};
 use st_pair::Pairing;
@@ -10,6 +11,8 @@ pub(crate) struct Scene<'a> {
     pub(crate) streams: &'a Streams,
     pairing: &'a Pairing,
     label: Option<Label>,
+    /// The completion that the streams are of, if they were completed.
+    completion: Option<&'a Completion>,
     /// Whether the labels of the events differ.
     pub(crate) names_labels: bool,
 }
@@ -36,16 +39,19 @@ fn has_other_label(events: &[Event], label: u32) -> bool {
 }
 
 impl<'a> Scene<'a> {
-    /// The events of these streams with this label; those of all labels if there is none.
+    /// The events of these streams with this label; those of all labels if there is none. The
+    /// completion is the one that they are of, if they are completed.
     pub(crate) fn new(
         streams: &'a Streams,
         pairing: &'a Pairing,
         label: Option<Label>,
+        completion: Option<&'a Completion>,
     ) -> Scene<'a> {
         Scene {
             streams,
             pairing,
             label,
+            completion,
             names_labels: label.is_none() && has_several_labels(streams),
         }
     }
@@ -81,5 +87,30 @@ impl<'a> Scene<'a> {
     /// What the event of this kind at this place pairs with.
     pub(crate) fn partner(&self, pid: Pid, index: u64, kind: Kind) -> Partner {
         partner_at(self.pairing, pid, index, kind)
+    }
+    /// Whether nobody reported the event at this place, and a completion has it.
+    pub(crate) fn is_added(&self, pid: Pid, index: u64) -> bool {
+        match self.completion {
+            None => false,
+            Some(completion) => completion.told(pid, index) == Some(false),
+        }
+    }
+
+    /// Whether the trace doesn't list the process, and a completion has it.
+    pub(crate) fn is_unlisted(&self, pid: Pid) -> bool {
+        match self.completion {
+            None => false,
+            Some(completion) => completion.unlisted().contains(&pid),
+        }
+    }
+
+    /// Whether the streams are completed.
+    pub(crate) fn is_completed(&self) -> bool {
+        self.completion.is_some()
+    }
+
+    /// The same with the events of one label alone.
+    pub(crate) fn of_label(&self, label: Label) -> Scene<'a> {
+        Scene::new(self.streams, self.pairing, Some(label), self.completion)
     }
 }

@@ -1,10 +1,11 @@
-//! The commands `list`, `cut` and `stats`: `st_list` on the streams whose text the input is. The
-//! acts in the input are ignored.
+//! The commands `list`, `cut` and `stats`: `st_list` and `st_events` on the streams whose text the
+//! input is. The acts in the input are ignored.
 
 use st_audit::unfit_by;
 use st_commands::{status_of, tell_fault, tell_finding};
 use st_core::{ByteSink, ByteSource, Streams};
-use st_list::{Filter, Row, Style, count, count_open, cut, list, send_open, send_rows, send_stats};
+use st_events::{Style, count, count_open, cut, send_open, send_rows, send_stats};
+use st_list::{Filter, Row, list};
 use st_pair::{PairFault, Pairing, pair};
 use st_text::{Limits, ReadFault, read_within, write_parts};
 use std::alloc::Global;

@@ -1,8 +1,8 @@
 //! Traces and what is found of them in the formats of other tools. No contract pins their text: that
 //! they are written safely is proved, and that other tools can read them is only tested.
 //!
-//! Perfetto and Chrome read trace events, ShiViz reads a log with vector clocks, and programs read the
-//! verdicts as JSON. What is found comes from the crates below, which the commands ask too.
+//! Perfetto and Chrome read trace events, ShiViz reads a log with vector clocks, OpenTelemetry reads
+//! spans if there are times, and programs read the verdicts as JSON. What is found comes from the crates below, which the commands ask too.
 #![tactic(auto)]
 
 mod audit;
@@ -12,6 +12,8 @@ mod command;
 mod complete;
 mod json;
 mod lint;
+mod measured;
+mod otlp;
 mod perfetto;
 mod shiviz;
 mod times;
@@ -21,3 +23,5 @@ pub use check::run_check_json;
 pub use command::{Target, run_export};
 pub use complete::run_complete_json;
 pub use lint::run_lint_json;
+pub use measured::TimesFault;
+pub use otlp::{OtlpFault, run_otlp};

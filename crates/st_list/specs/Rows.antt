@@ -56,6 +56,14 @@ partner_of streams p i kind.Print = partner.Nobody
 partner_of streams p i kind.Send = partner_of_send (receiver_at streams p i)
 partner_of streams p i kind.Receive = partner_of_receive (source_at streams p i)
 
+-- its place, if it is an event
+abbrev pub place_of_partner : Partner → Option (Pid × ℕ)
+place_of_partner (partner.Receive p i) = Some (p, i)
+place_of_partner (partner.Send p i) = Some (p, i)
+place_of_partner partner.NoReceive = None
+place_of_partner partner.NoSend = None
+place_of_partner partner.Nobody = None
+
 -- ---- the rows
 
 abbrev pub row_of : Pid → ℕ → ℕ → Event → Row

@@ -3,7 +3,7 @@
 ghost use Rattle.std.specs.Prelude.{◌≡◌, List};
 ghost use Rattle.st_core.specs.Run.{Stream};
 ghost use Rattle.st_pair.specs.Links.{IsPairing};
-ghost use Rattle.st_list.specs.Rows.{partner_of, partner_of_receive, partner_of_send};
+ghost use Rattle.st_list.specs.Rows.{partner_of, partner_of_receive, partner_of_send, place_of_partner};
 
 use st_core::{Kind, Pid};
 use st_pair::{Pairing, Source};
@@ -25,7 +25,9 @@ pub enum Partner {
 
 impl Partner {
     /// Its place, if it is an event.
-    pub fn place(self) -> Option<(Pid, u64)> {
+    pub fn place(self) -> Option<(Pid, u64)>
+        ensures { result ≡ place_of_partner self }
+    {
         match self {
             Partner::Receive(pid, index) | Partner::Send(pid, index) => Some((pid, index)),
             Partner::Nobody | Partner::NoReceive | Partner::NoSend => None,

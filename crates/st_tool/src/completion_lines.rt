@@ -211,7 +211,7 @@ fn write_never<W: ByteSink>(
 }
 
 /// Sends a reason against the event at this place, and the events that it names.
-pub(crate) fn send_never<W: ByteSink>(
+pub fn send_never<W: ByteSink>(
     writer: &mut W,
     streams: &Streams,
     pid: Pid,

@@ -11,4 +11,5 @@ mod lines;
 mod renumber;
 
 pub use complete::{Form, run_complete};
+pub use completion_lines::send_never;
 pub use renumber::run_renumber;

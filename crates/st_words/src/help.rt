@@ -134,7 +134,24 @@ Depth is the number of messages on the longest way of a label, each sent after
 the one before was received; width the most messages at one depth. The queue is
 that of the messages of which both ends are reported, in the charts' order.";
 
+pub(crate) const DIFF: &str = "Compares two traces of one program, up to pids and counts";
+
+pub(crate) const DIFF_EXAMPLE: &str = "Example, for a trace before and one after a change:
+  seqtool diff before.txt after.txt
+  different: events gone 0, new 1, elsewhere 0; processes gone 0, new 0, matched
+  by a guess 1
+  process <0.31.0> is <0.131.0>, a guess: they are at the other ends of messages
+  that are alike
+  new 5: <0.131.0> 1  print   label 17 {1,2} value 9
+
+`same` with status 0 is exact: one renaming of pids and one of counts, which
+keeps their order, makes the one trace the other. Else status 1 and what is gone
+from A, new in B, or alike but elsewhere there. Labels and values are compared
+as the numbers that they are. Status 2: faulty text.";
+
 pub(crate) const CHART: &str = "Draws the messages of each label, or of one";
+
+pub(crate) const CHART_COMPLETE: &str = "Add the events that complete adds, and mark them";
 
 pub(crate) const CHART_MERMAID: &str = "Write a sequence diagram in Mermaid's language";
 
@@ -152,17 +169,21 @@ Without an option it writes the tables of seqaudit chart, one for each label. An
 arrow stands where its message was received. If the sender did something else in
 between, a note says where it sent, and the arrow is dotted. An arrow with a
 cross has no reported receive, and one from `not reported` no reported send.
+With --complete what was added is dashed or dotted, and says `added`.
 Status 1: nothing has the label, or the trace can't be paired (seqtool audit).";
 
-pub(crate) const EXPORT: &str = "Writes the trace for Perfetto or ShiViz";
+pub(crate) const EXPORT: &str = "Writes the trace for Perfetto, ShiViz or OpenTelemetry";
 
 pub(crate) const EXPORT_EXAMPLE: &str = "Example:
   seqtool export --as perfetto trace.txt > trace.json
   seqtool export --as shiviz trace.txt > trace.log
+  seqtool export --as otlp --times order.times order.seqtrace > spans.json
 
 ui.perfetto.dev and chrome://tracing open the first: a thread for each process,
 a slice for each event, and a flow for each message. Its time isn't measured: it
 follows the ranks of the counts.
 ShiViz (bestchai.bitbucket.io/shiviz) opens the second as it is: two lines for
 each event, the second with its process and its vector clock.
+A collector of OpenTelemetry takes the third: a line of OTLP as JSON, a span for
+each message. Spans need times, which seqaudit-node collect --times measures.
 Status 1: the trace can't be paired (seqtool audit says why).";

@@ -9,5 +9,5 @@ mod lint_words;
 mod program;
 mod words;
 
-pub use program::run;
-pub use words::{Request, Task, read_words};
+pub use program::{run, run_pair};
+pub use words::{PairTask, Request, Task, read_words};

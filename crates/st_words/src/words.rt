@@ -10,9 +10,10 @@ use clap::error::ErrorKind;
 use clap::{Arg, ArgAction, ArgMatches, Command, Error};
 use st_core::{Label, Pid};
 use st_draw::Drawing;
+use st_events::Style;
 use st_export::Target;
 use st_hops::Reach;
-use st_list::{Filter, Span, Style};
+use st_list::{Filter, Span};
 use st_notes::pid_of;
 use st_tool::Form;
 use st_why::{Direction, Question, Start};
@@ -58,13 +59,22 @@ pub enum Task {
     LintJson(u64),
 }
 
-/// What the words ask for.
+/// A command of the program on two inputs.
 #[derive(Clone, Copy, Debug, PartialEq, Eq)]
-pub struct Request<'a> {
-    /// The command.
-    pub task: Task,
-    /// The path of the file to read; standard input if there is none.
-    pub file: Option<&'a str>,
+pub enum PairTask {
+    /// `diff`: what is new, gone or elsewhere in the second trace?
+    Diff(Style),
+    /// `export --as otlp`: the spans of the trace, with the times that the second input has.
+    Otlp,
+}
+
+/// What the words ask for. A path is that of a file to read; if there is none it is standard input.
+#[derive(Clone, Copy, Debug, PartialEq, Eq)]
+pub enum Request<'a> {
+    /// A command on one input.
+    One(Task, Option<&'a str>),
+    /// A command on two.
+    Two(PairTask, Option<&'a str>, Option<&'a str>),
 }
 
 /// The trace's file, which every command takes last.
@@ -190,6 +200,22 @@ fn stats_command<'a>(alloc: Global) -> Result<Command<'a>, AllocError> {
     plain_command(alloc, "stats", help::STATS, help::STATS_EXAMPLE)?.arg(json_arg(alloc))
 }
 
+/// `diff [--json] A B`.
+fn diff_command<'a>(alloc: Global) -> Result<Command<'a>, AllocError> {
+    let first = Arg::new(alloc, "A")
+        .required(true)
+        .help("The trace before (a single -: standard input)");
+    let second = Arg::new(alloc, "B")
+        .required(true)
+        .help("The trace after, of the same program");
+    Command::new(alloc, "diff")
+        .about(help::DIFF)
+        .after_help(help::DIFF_EXAMPLE)
+        .arg(json_arg(alloc))?
+        .arg(first)?
+        .arg(second)
+}
+
 /// The program with the commands that say what holds of a trace or a text.
 fn with_verdicts<'a>(alloc: Global, program: Command<'a>) -> Result<Command<'a>, AllocError> {
     let audit = plain_command(alloc, "audit", help::AUDIT, help::AUDIT_EXAMPLE)?;
@@ -211,6 +237,7 @@ fn with_views<'a>(alloc: Global, program: Command<'a>) -> Result<Command<'a>, Al
         .subcommand(list_command(alloc)?)?
         .subcommand(cut_command(alloc)?)?
         .subcommand(stats_command(alloc)?)?
+        .subcommand(diff_command(alloc)?)?
         .subcommand(chart_command(alloc)?)?
         .subcommand(export_command(alloc)?)?
         .subcommand(renumber)
@@ -248,6 +275,8 @@ const PID_WORDS: &str =
 
 const EVENT_WORDS: &str =
     "name the event by PID and I, or by --line alone; PID is 0.31.0 or '<0.31.0>', up to 65535";
+
+pub(crate) const PAIR_WORDS: &str = "both inputs are standard input: one of them has to be a file";
 
 const SPAN_WORDS: &str = "A-B are no numbers: write one as 7, several as 7-9, all from 7 on as 7-";
 
@@ -355,10 +384,16 @@ fn why_of<'a>(found: &ArgMatches<'a>) -> Result<Request<'a>, &'static str> {
         reach,
         style,
     };
-    Ok(Request {
-        task: Task::Why(question),
-        file: file_of(path),
-    })
+    Ok(Request::One(Task::Why(question), file_of(path)))
+}
+
+/// What `diff` is asked, by what `clap` found in its words.
+fn diff_of<'a>(found: &ArgMatches<'a>) -> Result<Request<'a>, &'static str> {
+    let (first, second) = (file_of(found.get_str("A")), file_of(found.get_str("B")));
+    if first.is_none() && second.is_none() {
+        return Err(PAIR_WORDS);
+    }
+    Ok(Request::Two(PairTask::Diff(style_of(found)), first, second))
 }
 
 /// The command of this name, of whose own words `clap` found these; or what a word of its has to be.
@@ -373,7 +408,6 @@ fn task_of(name: &str, found: &ArgMatches) -> Result<Task, &'static str> {
         "cut" => Ok(Task::Cut(filter_of(found)?)),
         "stats" => Ok(Task::Stats(style_of(found))),
         "chart" => chart_of(found),
-        "export" => Ok(export_of(found)),
         _ => Ok(task_or_json(found, Task::Audit, Task::AuditJson)),
     }
 }
@@ -386,26 +420,30 @@ fn wrong_word(alloc: Global, name: &str, words: &'static str) -> Result<Error, A
         "cut" => cut_command(alloc)?.bin_name("seqtool cut")?,
         "chart" => chart_command(alloc)?.bin_name("seqtool chart")?,
         "complete" => complete_command(alloc)?.bin_name("seqtool complete")?,
+        "diff" => diff_command(alloc)?.bin_name("seqtool diff")?,
+        "export" => export_command(alloc)?.bin_name("seqtool export")?,
         _ => why_command(alloc)?.bin_name("seqtool why")?,
     };
     command.error(ErrorKind::ValueValidation, words)
 }
 
 /// The path of the file to read, none for standard input.
-fn file_of(path: Option<&str>) -> Option<&str> {
+pub(crate) fn file_of(path: Option<&str>) -> Option<&str> {
     let path = path?;
     if path == "-" { None } else { Some(path) }
 }
 
 /// What the words behind the command's name ask for; or what a word of its has to be.
 fn request_of<'a>(name: &str, found: &ArgMatches<'a>) -> Result<Request<'a>, &'static str> {
-    if name == "why" {
-        return why_of(found);
+    match name {
+        "why" => why_of(found),
+        "diff" => diff_of(found),
+        "export" => export_of(found),
+        _ => {
+            let file = file_of(found.get_str("FILE"));
+            Ok(Request::One(task_of(name, found)?, file))
+        }
     }
-    Ok(Request {
-        task: task_of(name, found)?,
-        file: file_of(found.get_str("FILE")),
-    })
 }
 
 /// What the words ask for. The first word is the program's name. The error is a message for the

@@ -1,8 +1,7 @@
 //! A smaller bundle: the events that are asked for, and what is open at its edges.
 
-use crate::partner::{Partner, partner_at};
-use crate::rows::Row;
 use st_core::{ByteSink, Draft, Pid, Streams};
+use st_list::{Partner, Row, partner_at};
 use st_pair::Pairing;
 use st_say::{say, say_number};
 use st_text::{Buffer, Device, flush};

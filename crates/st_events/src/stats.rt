@@ -1,8 +1,8 @@
 //! How many events and messages a trace has, by process, by pair of processes and by label.
 
-use crate::partner::{Partner, partner_at};
 use crate::sweep::{Shape, Tallies, sweep};
 use st_core::{Event, Kind, Pid, Streams};
+use st_list::{Partner, partner_at};
 use st_pair::Pairing;
 use std::alloc::{AllocError, Global};
 use std::collections::BTreeMap;

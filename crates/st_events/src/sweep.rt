@@ -4,8 +4,8 @@
 //! The order is that of the charts: by height, which is the greatest count of the process so far,
 //! sends and prints before receives.
 
-use crate::partner::{Partner, partner_at};
 use st_core::{Event, Kind, Pid, Streams};
+use st_list::{Partner, partner_at};
 use st_pair::Pairing;
 use std::alloc::{AllocError, Global};
 use std::collections::BTreeMap;

@@ -1,8 +1,7 @@
 //! A list as text or as JSON, a line for each event.
 
-use crate::partner::{Partner, partner_at};
-use crate::rows::Row;
 use st_core::{ByteSink, Event, Kind, Pid};
+use st_list::{Partner, Row, partner_at};
 use st_pair::Pairing;
 use st_say::{say, say_number, say_pid, say_place, say_serial};
 use st_text::{Buffer, Device, flush};
@@ -56,7 +55,7 @@ fn say_partner<W: ByteSink>(
 }
 
 /// Writes the other process of a message.
-fn say_other<W: ByteSink>(
+pub fn say_other<W: ByteSink>(
     writer: &mut W,
     buffer: &mut Buffer,
     event: &Event,
@@ -74,13 +73,8 @@ fn say_other<W: ByteSink>(
     }
 }
 
-/// Writes a row for people.
-fn say_row<W: ByteSink>(
-    writer: &mut W,
-    buffer: &mut Buffer,
-    row: &Row,
-    partner: Option<Partner>,
-) -> Result<(), Device> {
+/// Writes an event for people, with its line and its place.
+pub fn say_row<W: ByteSink>(writer: &mut W, buffer: &mut Buffer, row: &Row) -> Result<(), Device> {
     let event = &row.event;
     say_number(writer, buffer, row.line)?;
     say(writer, buffer, b": ")?;
@@ -94,13 +88,23 @@ fn say_row<W: ByteSink>(
     say_serial(writer, buffer, event.serial)?;
     say(writer, buffer, b" value ")?;
     say_number(writer, buffer, event.value)?;
-    say_other(writer, buffer, event)?;
+    say_other(writer, buffer, event)
+}
+
+/// Writes a row of a list for people.
+fn say_listed<W: ByteSink>(
+    writer: &mut W,
+    buffer: &mut Buffer,
+    row: &Row,
+    partner: Option<Partner>,
+) -> Result<(), Device> {
+    say_row(writer, buffer, row)?;
     say_partner(writer, buffer, partner)?;
     say(writer, buffer, b"\n")
 }
 
 /// Writes a field of an object, a number.
-pub(crate) fn say_field<W: ByteSink>(
+pub fn say_field<W: ByteSink>(
     writer: &mut W,
     buffer: &mut Buffer,
     name: &str,
@@ -113,7 +117,7 @@ pub(crate) fn say_field<W: ByteSink>(
 }
 
 /// Writes a field of an object, a pid.
-pub(crate) fn say_pid_field<W: ByteSink>(
+pub fn say_pid_field<W: ByteSink>(
     writer: &mut W,
     buffer: &mut Buffer,
     name: &str,
@@ -145,15 +149,14 @@ fn say_partner_field<W: ByteSink>(
     }
 }
 
-/// Writes a row as an object.
-fn say_object<W: ByteSink>(
+/// Writes the fields of an event, with its line and its place.
+pub fn say_row_fields<W: ByteSink>(
     writer: &mut W,
     buffer: &mut Buffer,
     row: &Row,
-    partner: Option<Partner>,
 ) -> Result<(), Device> {
     let event = &row.event;
-    say(writer, buffer, b"{\"line\":")?;
+    say(writer, buffer, b"\"line\":")?;
     say_number(writer, buffer, row.line)?;
     say_pid_field(writer, buffer, "pid", row.pid)?;
     say_field(writer, buffer, "index", row.index)?;
@@ -167,7 +170,18 @@ fn say_object<W: ByteSink>(
     if let Some(to) = event.to {
         say_pid_field(writer, buffer, "to", to)?;
     }
-    say_field(writer, buffer, "value", event.value)?;
+    say_field(writer, buffer, "value", event.value)
+}
+
+/// Writes a row of a list as an object.
+fn say_object<W: ByteSink>(
+    writer: &mut W,
+    buffer: &mut Buffer,
+    row: &Row,
+    partner: Option<Partner>,
+) -> Result<(), Device> {
+    say(writer, buffer, b"{")?;
+    say_row_fields(writer, buffer, row)?;
     say_partner_field(writer, buffer, partner)?;
     say(writer, buffer, b"}\n")
 }
@@ -183,7 +197,7 @@ pub fn send_rows<W: ByteSink>(
     for row in rows {
         let found = pairing.map(|pairing| partner_at(pairing, row.pid, row.index, row.event.kind));
         match style {
-            Style::Text => say_row(writer, &mut buffer, row, found)?,
+            Style::Text => say_listed(writer, &mut buffer, row, found)?,
             Style::Json => say_object(writer, &mut buffer, row, found)?,
         }
     }

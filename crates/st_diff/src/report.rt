@@ -1,0 +1,270 @@
+//! What is written of two traces: a line for all, and then process by process what is gone, new and
+//! elsewhere.
+
+use crate::changes::{Change, Changes};
+use crate::counts::Moved;
+use crate::items::Which;
+use crate::pairs::{Pair, Pairs};
+use crate::trace::Trace;
+use crate::words::{
+    Match, Sums, say_alone, say_change, say_match, say_match_object, say_same, say_sums,
+};
+use st_core::ByteSink;
+use st_events::Style;
+use st_text::{Buffer, Device, flush};
+
+/// Two traces with what differs in them.
+#[derive(Drop)]
+pub(crate) struct Report<'a> {
+    pub(crate) first: &'a Trace<'a>,
+    pub(crate) second: &'a Trace<'a>,
+    pub(crate) pairs: &'a Pairs,
+    pub(crate) changes: &'a Changes,
+    pub(crate) style: Style,
+}
+
+/// The changes of a process.
+fn of_process(changes: &[Change], process: usize) -> &[Change] {
+    let is_before = |change: &Change| -> bool { change.process < process };
+    let is_within = |change: &Change| -> bool { change.process <= process };
+    let start = changes.partition_point(is_before);
+    let end = changes.partition_point(is_within);
+    changes.get(start..end).unwrap_or(&[])
+}
+
+/// How many of these are elsewhere.
+fn count_elsewhere(changes: &[Change]) -> u64 {
+    let mut count: u64 = 0;
+    for change in changes {
+        if change.elsewhere.is_some() {
+            count = count.saturating_add(1);
+        }
+    }
+    count
+}
+
+/// How many of so many processes of a trace are in no pair.
+fn count_free(pairs: &Pairs, which: Which, processes: usize) -> u64 {
+    let mut count: u64 = 0;
+    for place in 0..processes {
+        if pairs.is_free(which, place) {
+            count = count.saturating_add(1);
+        }
+    }
+    count
+}
+
+impl<'a> Report<'a> {
+    /// How many processes with changes are matched by a guess.
+    fn count_guesses(&self) -> u64 {
+        let mut count: u64 = 0;
+        for pair in self.pairs.all() {
+            if pair.ground.is_guess() && self.has_changes(*pair) {
+                count = count.saturating_add(1);
+            }
+        }
+        count
+    }
+
+    /// How much is different.
+    pub(crate) fn sums(&self) -> Sums {
+        let elsewhere = count_elsewhere(self.changes.first.as_slice());
+        let (first, second) = (self.changes.first.len(), self.changes.second.len());
+        Sums {
+            gone: (first as u64).saturating_sub(elsewhere),
+            new: (second as u64).saturating_sub(elsewhere),
+            elsewhere,
+            gone_processes: count_free(self.pairs, Which::First, self.first.len()),
+            new_processes: count_free(self.pairs, Which::Second, self.second.len()),
+            guesses: self.count_guesses(),
+        }
+    }
+
+    /// Whether an event of two matched processes is in no alignment.
+    fn has_changes(&self, pair: Pair) -> bool {
+        let gone = of_process(self.changes.first.as_slice(), pair.first);
+        let new = of_process(self.changes.second.as_slice(), pair.second);
+        !gone.is_empty() || !new.is_empty()
+    }
+
+    /// Two matched processes, in words.
+    fn found(&self, pair: Pair) -> Option<Match> {
+        Some(Match {
+            first: self.first.pid(pair.first)?,
+            second: self.second.pid(pair.second)?,
+            ground: pair.ground,
+            is_coarse: self.changes.is_coarse.get(pair.first).copied()?,
+        })
+    }
+
+    /// Writes a change of the first trace.
+    fn say_first<W: ByteSink>(
+        &self,
+        writer: &mut W,
+        buffer: &mut Buffer,
+        change: &Change,
+    ) -> Result<(), Device> {
+        let Some(row) = self.first.row(change.process, change.index) else {
+            return Ok(());
+        };
+        let other = change.elsewhere.and_then(|at| self.changes.second.get(at));
+        match other.and_then(|other| self.second.row(other.process, other.index)) {
+            Some(now) => say_change(writer, buffer, "elsewhere", &row, Some(&now), self.style),
+            None => say_change(writer, buffer, "gone", &row, None, self.style),
+        }
+    }
+
+    /// Writes a change of the second trace, unless it is told with one of the first.
+    fn say_second<W: ByteSink>(
+        &self,
+        writer: &mut W,
+        buffer: &mut Buffer,
+        change: &Change,
+    ) -> Result<(), Device> {
+        if change.elsewhere.is_some() {
+            return Ok(());
+        }
+        match self.second.row(change.process, change.index) {
+            Some(row) => say_change(writer, buffer, "new", &row, None, self.style),
+            None => Ok(()),
+        }
+    }
+
+    /// Writes the changes of two processes, in the order of both.
+    fn say_changes<W: ByteSink>(
+        &self,
+        writer: &mut W,
+        buffer: &mut Buffer,
+        gone: &[Change],
+        new: &[Change],
+    ) -> Result<(), Device> {
+        let mut next: usize = 0;
+        for change in gone {
+            let is_before = |other: &Change| -> bool { other.before < change.before };
+            let until = new.partition_point(is_before);
+            for other in new.get(next..until).unwrap_or(&[]) {
+                self.say_second(writer, buffer, other)?;
+            }
+            next = next.max(until);
+            self.say_first(writer, buffer, change)?;
+        }
+        for other in new.get(next..).unwrap_or(&[]) {
+            self.say_second(writer, buffer, other)?;
+        }
+        Ok(())
+    }
+
+    /// Writes what differs in two processes that are matched.
+    fn say_pair<W: ByteSink>(
+        &self,
+        writer: &mut W,
+        buffer: &mut Buffer,
+        pair: Pair,
+    ) -> Result<(), Device> {
+        if self.style == Style::Text && self.has_changes(pair) {
+            if let Some(found) = self.found(pair) {
+                say_match(writer, buffer, &found)?;
+            }
+        }
+        let gone = of_process(self.changes.first.as_slice(), pair.first);
+        let new = of_process(self.changes.second.as_slice(), pair.second);
+        self.say_changes(writer, buffer, gone, new)
+    }
+
+    /// Writes what differs in a process of the first trace.
+    fn say_process<W: ByteSink>(
+        &self,
+        writer: &mut W,
+        buffer: &mut Buffer,
+        place: usize,
+    ) -> Result<(), Device> {
+        if let Some(pair) = self.pairs.of(Which::First, place) {
+            return self.say_pair(writer, buffer, pair);
+        }
+        if let Some(pid) = self.first.pid(place) {
+            say_alone(writer, buffer, "gone", pid, self.style)?;
+        }
+        let gone = of_process(self.changes.first.as_slice(), place);
+        self.say_changes(writer, buffer, gone, &[])
+    }
+
+    /// Writes a process of the second trace that is matched with none.
+    fn say_new_process<W: ByteSink>(
+        &self,
+        writer: &mut W,
+        buffer: &mut Buffer,
+        place: usize,
+    ) -> Result<(), Device> {
+        if let Some(pid) = self.second.pid(place) {
+            say_alone(writer, buffer, "new", pid, self.style)?;
+        }
+        let new = of_process(self.changes.second.as_slice(), place);
+        self.say_changes(writer, buffer, &[], new)
+    }
+
+    /// Writes an object for each two processes that are matched, by rising pid of the first.
+    fn say_matches<W: ByteSink>(&self, writer: &mut W, buffer: &mut Buffer) -> Result<(), Device> {
+        if self.style == Style::Text {
+            return Ok(());
+        }
+        for place in 0..self.first.len() {
+            let pair = self.pairs.of(Which::First, place);
+            if let Some(found) = pair.and_then(|pair| self.found(pair)) {
+                say_match_object(writer, buffer, &found)?;
+            }
+        }
+        Ok(())
+    }
+
+    /// Writes all that differs.
+    fn say_all<W: ByteSink>(&self, writer: &mut W, buffer: &mut Buffer) -> Result<(), Device> {
+        for place in 0..self.first.len() {
+            self.say_process(writer, buffer, place)?;
+        }
+        for place in 0..self.second.len() {
+            if self.pairs.is_free(Which::Second, place) {
+                self.say_new_process(writer, buffer, place)?;
+            }
+        }
+        Ok(())
+    }
+
+    /// Writes the first event whose counts have another order, of two traces that are the same but for
+    /// that.
+    fn say_moved<W: ByteSink>(
+        &self,
+        writer: &mut W,
+        buffer: &mut Buffer,
+        moved: Moved,
+    ) -> Result<(), Device> {
+        let row = self.first.row(moved.pair.first, moved.index);
+        let now = self.second.row(moved.pair.second, moved.index);
+        match row {
+            Some(row) => say_change(writer, buffer, "counts", &row, now.as_ref(), self.style),
+            None => Ok(()),
+        }
+    }
+
+    /// Sends what differs, and returns the status.
+    pub(crate) fn send<W: ByteSink>(
+        &self,
+        writer: &mut W,
+        sums: &Sums,
+        moved: Option<Moved>,
+    ) -> Result<u8, Device> {
+        let mut buffer = Buffer::new();
+        let is_same = sums.are_none() && moved.is_none();
+        if is_same {
+            say_same(writer, &mut buffer, self.style)?;
+        } else {
+            say_sums(writer, &mut buffer, sums, self.style)?;
+        }
+        self.say_matches(writer, &mut buffer)?;
+        self.say_all(writer, &mut buffer)?;
+        if let Some(moved) = moved {
+            self.say_moved(writer, &mut buffer, moved)?;
+        }
+        flush(writer, &mut buffer)?;
+        Ok(if is_same { 0 } else { 1 })
+    }
+}

@@ -1,0 +1,147 @@
+//! The table of a label, with what a completion adds marked at the ends of its lines.
+//!
+//! The table is that of `st_chart`, whose bytes pass through: its first line is that of the label,
+//! then comes a line for each process, and then one for each item.
+
+ghost use Rattle.std.specs.Prelude.{◌≡◌};
+
+use crate::lanes::Lanes;
+use crate::scene::Scene;
+use st_chain::Chains;
+use st_chart::{ChartFault, chart};
+use st_core::{ByteSink, Label, WriteTo};
+use st_order::Item;
+use st_say::say;
+use st_text::{Buffer, Device, flush};
+use std::alloc::{AllocError, Global};
+use std::io;
+use std::io::{Error, ErrorKind, Write};
+
+/// What is behind the line of a process or of an event that nobody listed or reported.
+const UNLISTED: &[u8] = b"  (unlisted)";
+
+const ADDED: &[u8] = b"  (added)";
+
+/// A writer over another one that puts a mark before the ends of some lines.
+#[derive(Drop)]
+struct Marker<'a, W> {
+    writer: &'a mut W,
+    buffer: Buffer,
+    /// Of each line, from the first on, what its end is marked with.
+    marks: Vec<&'static [u8]>,
+    /// How many lines have ended.
+    ended: usize,
+}
+
+impl<'a, W: ByteSink> Marker<'a, W> {
+    /// Ends a line.
+    fn end_line(&mut self) -> Result<(), Device> {
+        let mark = self.marks.get(self.ended).copied().unwrap_or(b"");
+        self.ended = self.ended.saturating_add(1);
+        say(&mut *self.writer, &mut self.buffer, mark)?;
+        say(&mut *self.writer, &mut self.buffer, b"\n")
+    }
+
+    /// Passes bytes on.
+    fn pass(&mut self, bytes: &[u8]) -> Result<(), Device> {
+        let mut is_first = true;
+        for piece in bytes.split(|byte| *byte == b'\n') {
+            if !is_first {
+                self.end_line()?;
+            }
+            is_first = false;
+            say(&mut *self.writer, &mut self.buffer, piece)?;
+        }
+        Ok(())
+    }
+}
+
+impl<W: ByteSink> Write for Marker<'_, W> {
+    fn write(&mut self, bytes: &[u8]) -> io::Result<usize> {
+        match self.pass(bytes) {
+            Ok(()) => Ok(bytes.len()),
+            Err(Device) => Err(Error::new(ErrorKind::WriteZero, "the writer failed")),
+        }
+    }
+
+    fn flush(&mut self) -> io::Result<()> {
+        match flush(&mut *self.writer, &mut self.buffer) {
+            Ok(()) => Ok(()),
+            Err(Device) => Err(Error::new(ErrorKind::WriteZero, "the writer failed")),
+        }
+    }
+}
+
+/// The mark of an item's line.
+fn mark_of(scene: &Scene<'_>, item: Item) -> &'static [u8] {
+    match item {
+        Item::Reported(pid, index) if scene.is_added(pid, index) => ADDED,
+        Item::Reported(..) | Item::Hidden(..) => b"",
+    }
+}
+
+/// Whether an item has a line in the table of a scene.
+fn has_line(scene: &Scene<'_>, item: Item) -> bool {
+    let (pid, index) = item.place();
+    scene.event(pid, index).is_some()
+}
+
+/// The marks of the lines of a table.
+fn marks_of(
+    alloc: Global,
+    scene: &Scene<'_>,
+    items: &[Item],
+) -> Result<Vec<&'static [u8]>, AllocError> {
+    let mut marks = lane_marks(alloc, scene)?;
+    for item in items {
+        if has_line(scene, *item) {
+            marks.push(mark_of(scene, *item))?;
+        }
+    }
+    Ok(marks)
+}
+
+/// The marks of the lines of the label and of the processes.
+fn lane_marks(alloc: Global, scene: &Scene<'_>) -> Result<Vec<&'static [u8]>, AllocError> {
+    let lanes = Lanes::of(alloc, scene)?;
+    let mut marks: Vec<&'static [u8]> = Vec::new(alloc);
+    marks.push(b"")?;
+    for (place, pid) in scene.streams.pids().iter().enumerate() {
+        if lanes.at(place).is_some() {
+            marks.push(if scene.is_unlisted(*pid) {
+                UNLISTED
+            } else {
+                b""
+            })?;
+        }
+    }
+    Ok(marks)
+}
+
+/// Writes the chart of a label's items, with its marks.
+pub(crate) fn marked_chart<W: ByteSink>(
+    alloc: Global,
+    scene: &Scene<'_>,
+    chains: &Chains,
+    items: &[Item],
+    label: Label,
+    writer: &mut W,
+) -> Result<(), ChartFault>
+    requires { chains.now ≡ scene.now.streams.now }
+{
+    let Ok(marks) = marks_of(alloc, &scene.of_label(label), items) else {
+        return Err(ChartFault::Memory);
+    };
+    let mut marker = Marker {
+        writer,
+        buffer: Buffer::new(),
+        marks,
+        ended: 0,
+    };
+    let mut sink = WriteTo::new(&mut marker);
+    chart(alloc, &mut sink, scene.streams, chains, items, label)?;
+    match marker.flush() {
+        Ok(()) => Ok(()),
+        Err(_) => Err(ChartFault::Device),
+    }
+}

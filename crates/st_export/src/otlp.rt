@@ -1,0 +1,437 @@
+//! Spans for OpenTelemetry, as a line of OTLP in its JSON form, which a collector's file receiver takes.
+//!
+//! A message is a span, from its send to its receive, below the span of the message that its sender had
+//! received last; a print is a span that takes no time. A label is a trace. Nothing is made up: a message
+//! of which one end has no time takes none, and says which end was reported; what has no time has no span.
+
+ghost use Rattle.st_pair.specs.Links.{IsPairing};
+
+use crate::json::{say_name, say_pid_word, say_word};
+use crate::measured::{Measured, TimesFault};
+use sha2::{Digest, Sha256};
+use st_audit::unfit_by;
+use st_chain::{Cause, Chains};
+use st_commands::{status_of, tell_finding};
+use st_core::{ByteSink, ByteSource, Event, Label, Pid, Streams};
+use st_list::{Partner, partner_at};
+use st_pair::{Pairing, pair};
+use st_say::{say, say_number, say_pid, say_place};
+use st_text::{Buffer, Device, Limits, ReadFault, flush, read_within};
+use std::alloc::{AllocError, Global};
+
+/// Why spans weren't written.
+#[derive(Clone, Copy, Debug, PartialEq, Eq)]
+pub enum OtlpFault {
+    /// The bundle can't be read, or memory runs out.
+    Trace(ReadFault),
+    /// The times can't be read.
+    Times(TimesFault),
+}
+
+/// The numbers of bytes of the names of a trace and of a span.
+const TRACE_BYTES: usize = 16;
+
+const SPAN_BYTES: usize = 8;
+
+/// What is before all spans, and behind them.
+const HEAD: &str = "{\"resourceSpans\":[{\"resource\":{\"attributes\":[{\"key\":\"service.name\",\
+\"value\":{\"stringValue\":\"seqtool\"}}]},\"scopeSpans\":[{\"scope\":{\"name\":\"seqtool\"},\
+\"spans\":[";
+
+const TAIL: &[u8] = b"]}]}]}\n";
+
+/// What a span is named after.
+#[derive(Clone, Copy, Debug, PartialEq, Eq)]
+enum Origin {
+    /// The send or print at this place.
+    Event(Pid, u64),
+    /// The send that nobody reported, of the receive at this place.
+    Hidden(Pid, u64),
+}
+
+/// A span: an event that begins it, and the receive of its message if that was reported.
+#[derive(Clone, Copy, Debug)]
+struct Span {
+    origin: Origin,
+    event: Event,
+    receive: Option<(Pid, u64)>,
+}
+
+/// Paired streams and their times.
+#[derive(Drop)]
+struct Spans<'a> {
+    streams: &'a Streams,
+    pairing: &'a Pairing,
+    chains: &'a Chains<'a>,
+    measured: &'a Measured<'a>,
+}
+
+/// The hexadecimal digit of a number below 16.
+fn hex_digit(number: u8) -> u8 {
+    match number {
+        0..=9 => b'0' + number,
+        10..=15 => b'a' + (number - 10),
+        _ => b'?',
+    }
+}
+
+/// Writes so many bytes of a digest in hexadecimal digits, as a string.
+fn say_name_of<W: ByteSink>(
+    writer: &mut W,
+    buffer: &mut Buffer,
+    digest: Sha256,
+    count: usize,
+) -> Result<(), Device> {
+    say(writer, buffer, b"\"")?;
+    for byte in digest.finalize().iter().take(count) {
+        say(
+            writer,
+            buffer,
+            &[hex_digit(*byte / 16), hex_digit(*byte % 16)],
+        )?;
+    }
+    say(writer, buffer, b"\"")
+}
+
+/// Writes an attribute, a text.
+fn say_attribute<W: ByteSink>(
+    writer: &mut W,
+    buffer: &mut Buffer,
+    key: &str,
+    is_first: bool,
+) -> Result<(), Device> {
+    say(writer, buffer, if is_first { b"" } else { b"," })?;
+    say(writer, buffer, b"{\"key\":")?;
+    say_word(writer, buffer, key)?;
+    say(writer, buffer, b",\"value\":{")
+}
+
+/// Writes the end of an attribute.
+fn end_attribute<W: ByteSink>(writer: &mut W, buffer: &mut Buffer) -> Result<(), Device> {
+    say(writer, buffer, b"}}")
+}
+
+/// Writes an attribute, a pid.
+fn say_pid_attribute<W: ByteSink>(
+    writer: &mut W,
+    buffer: &mut Buffer,
+    key: &str,
+    pid: Pid,
+    is_first: bool,
+) -> Result<(), Device> {
+    say_attribute(writer, buffer, key, is_first)?;
+    say(writer, buffer, b"\"stringValue\":")?;
+    say_pid_word(writer, buffer, pid)?;
+    end_attribute(writer, buffer)
+}
+
+/// Writes an attribute, a number, as a string: it may be greater than a reader keeps of a number.
+fn say_number_attribute<W: ByteSink>(
+    writer: &mut W,
+    buffer: &mut Buffer,
+    key: &str,
+    number: u64,
+) -> Result<(), Device> {
+    say_attribute(writer, buffer, key, false)?;
+    say(writer, buffer, b"\"stringValue\":\"")?;
+    say_number(writer, buffer, number)?;
+    say(writer, buffer, b"\"")?;
+    end_attribute(writer, buffer)
+}
+
+/// Writes an attribute, a truth value.
+fn say_bool_attribute<W: ByteSink>(
+    writer: &mut W,
+    buffer: &mut Buffer,
+    key: &str,
+    value: bool,
+) -> Result<(), Device> {
+    say_attribute(writer, buffer, key, false)?;
+    let text = if value { "true" } else { "false" };
+    say(writer, buffer, b"\"boolValue\":")?;
+    say(writer, buffer, text.as_bytes())?;
+    end_attribute(writer, buffer)
+}
+
+/// Writes a field that has a time.
+fn say_time<W: ByteSink>(
+    writer: &mut W,
+    buffer: &mut Buffer,
+    name: &str,
+    time: u64,
+) -> Result<(), Device> {
+    say_name(writer, buffer, name)?;
+    say(writer, buffer, b"\"")?;
+    say_number(writer, buffer, time)?;
+    say(writer, buffer, b"\"")
+}
+
+/// Writes what is sent to whom, or printed.
+fn say_title<W: ByteSink>(
+    writer: &mut W,
+    buffer: &mut Buffer,
+    event: &Event,
+) -> Result<(), Device> {
+    say_name(writer, buffer, "name")?;
+    say(writer, buffer, b"\"")?;
+    say_pid(writer, buffer, event.from)?;
+    match event.to {
+        Some(to) => {
+            say(writer, buffer, b" -> ")?;
+            say_pid(writer, buffer, to)?;
+            say(writer, buffer, b": ")?;
+        }
+        None => say(writer, buffer, b" prints ")?,
+    }
+    say_number(writer, buffer, event.value)?;
+    say(writer, buffer, b"\"")
+}
+
+impl<'a> Spans<'a> {
+    /// The span that the event at this place begins; none of a receive whose send was reported.
+    fn span_at(&self, pid: Pid, index: u64, event: &Event) -> Option<Span> {
+        let (origin, receive) = match partner_at(self.pairing, pid, index, event.kind) {
+            Partner::Send(..) => return None,
+            Partner::NoSend => (Origin::Hidden(pid, index), Some((pid, index))),
+            Partner::Receive(to, at) => (Origin::Event(pid, index), Some((to, at))),
+            Partner::NoReceive | Partner::Nobody => (Origin::Event(pid, index), None),
+        };
+        Some(Span {
+            origin,
+            event: *event,
+            receive,
+        })
+    }
+
+    /// When a span begins and ends, if one of its ends has a time. By the clocks of two nodes a receive
+    /// may seem to come first.
+    fn times(&self, span: &Span) -> Option<(u64, u64)> {
+        let sent = match span.origin {
+            Origin::Event(pid, index) => self.measured.time(pid, index),
+            Origin::Hidden(..) => None,
+        };
+        let got = span
+            .receive
+            .and_then(|(pid, index)| self.measured.time(pid, index));
+        let begin = sent.or(got)?;
+        Some((begin, got.unwrap_or(begin).max(begin)))
+    }
+
+    /// The span that the event at this place begins, with its times, if it has some.
+    fn timed_at(&self, pid: Pid, index: u64, event: &Event) -> Option<(Span, (u64, u64))> {
+        let span = self.span_at(pid, index, event)?;
+        let times = self.times(&span)?;
+        Some((span, times))
+    }
+
+    /// The span of the message of the receive at this place, if it has a time.
+    fn span_of_receive(&self, pid: Pid, index: u64) -> Option<Span> {
+        let receive = self.streams.event(pid, index)?;
+        let span = match partner_at(self.pairing, pid, index, receive.kind) {
+            Partner::Send(from, sent) => {
+                let event = self.streams.event(from, sent)?;
+                self.span_at(from, sent, &event)?
+            }
+            _ => self.span_at(pid, index, &receive)?,
+        };
+        self.times(&span)?;
+        Some(span)
+    }
+
+    /// The span of the message that the sender of a span, or who printed it, received last.
+    fn parent(&self, span: &Span) -> Option<Span> {
+        let Origin::Event(pid, index) = span.origin else {
+            return None;
+        };
+        match self.chains.cause(pid, index)? {
+            Cause::Event(at, place) => self.span_of_receive(at, place),
+            Cause::Hidden | Cause::Start => None,
+        }
+    }
+
+    /// The digest that names the trace of a label.
+    fn trace_digest(&self, label: Label) -> Sha256 {
+        let mut digest = Sha256::new();
+        digest.update(&self.measured.begin.to_le_bytes());
+        digest.update(&label.0.to_le_bytes());
+        digest
+    }
+
+    /// The digest that names a span.
+    fn span_digest(&self, origin: Origin) -> Sha256 {
+        let (kind, pid, index) = match origin {
+            Origin::Event(pid, index) => (0u8, pid, index),
+            Origin::Hidden(pid, index) => (1u8, pid, index),
+        };
+        let mut digest = Sha256::new();
+        digest.update(&self.measured.begin.to_le_bytes());
+        digest.update(&[kind]);
+        digest.update(&pid.node().to_le_bytes());
+        digest.update(&pid.number().to_le_bytes());
+        digest.update(&index.to_le_bytes());
+        digest
+    }
+
+    /// Writes the names of the trace and of a span.
+    fn say_names<W: ByteSink>(
+        &self,
+        writer: &mut W,
+        buffer: &mut Buffer,
+        span: &Span,
+    ) -> Result<(), Device> {
+        say(writer, buffer, b"{\"traceId\":")?;
+        let trace = self.trace_digest(span.event.label);
+        say_name_of(writer, buffer, trace, TRACE_BYTES)?;
+        say_name(writer, buffer, "spanId")?;
+        say_name_of(writer, buffer, self.span_digest(span.origin), SPAN_BYTES)
+    }
+
+    /// Writes the span that a span is below, or with which it is linked if that is of another label.
+    fn say_parent<W: ByteSink>(
+        &self,
+        writer: &mut W,
+        buffer: &mut Buffer,
+        span: &Span,
+    ) -> Result<(), Device> {
+        let Some(parent) = self.parent(span) else {
+            return Ok(());
+        };
+        if parent.event.label.0 == span.event.label.0 {
+            say_name(writer, buffer, "parentSpanId")?;
+            return say_name_of(writer, buffer, self.span_digest(parent.origin), SPAN_BYTES);
+        }
+        say_name(writer, buffer, "links")?;
+        say(writer, buffer, b"[")?;
+        self.say_names(writer, buffer, &parent)?;
+        say(writer, buffer, b"}]")
+    }
+
+    /// Writes what else the trace tells of a span.
+    fn say_attributes<W: ByteSink>(
+        &self,
+        writer: &mut W,
+        buffer: &mut Buffer,
+        span: &Span,
+    ) -> Result<(), Device> {
+        let event = &span.event;
+        let (is_sent, place) = match span.origin {
+            Origin::Event(pid, index) => (true, (pid, index)),
+            Origin::Hidden(pid, index) => (false, (pid, index)),
+        };
+        say_name(writer, buffer, "attributes")?;
+        say(writer, buffer, b"[")?;
+        say_pid_attribute(writer, buffer, "erlang.from", event.from, true)?;
+        if let Some(to) = event.to {
+            say_pid_attribute(writer, buffer, "erlang.to", to, false)?;
+            say_bool_attribute(writer, buffer, "seqaudit.send_reported", is_sent)?;
+            let is_received = span.receive.is_some();
+            say_bool_attribute(writer, buffer, "seqaudit.receive_reported", is_received)?;
+        }
+        say_number_attribute(writer, buffer, "erlang.message", event.value)?;
+        say_number_attribute(writer, buffer, "erlang.label", u64::from(event.label.0))?;
+        say_attribute(writer, buffer, "seqaudit.event", false)?;
+        say(writer, buffer, b"\"stringValue\":\"")?;
+        say_place(writer, buffer, place.0, place.1)?;
+        say(writer, buffer, b"\"")?;
+        end_attribute(writer, buffer)?;
+        say(writer, buffer, b"]")
+    }
+
+    /// Writes a span with these times.
+    fn say_span<W: ByteSink>(
+        &self,
+        writer: &mut W,
+        buffer: &mut Buffer,
+        span: &Span,
+        times: (u64, u64),
+    ) -> Result<(), Device> {
+        self.say_names(writer, buffer, span)?;
+        self.say_parent(writer, buffer, span)?;
+        say(writer, buffer, b",\"kind\":1")?;
+        say_title(writer, buffer, &span.event)?;
+        say_time(writer, buffer, "startTimeUnixNano", times.0)?;
+        say_time(writer, buffer, "endTimeUnixNano", times.1)?;
+        self.say_attributes(writer, buffer, span)?;
+        say(writer, buffer, b"}")
+    }
+
+    /// Writes the spans that the events of a process begin, and says whether there are some before.
+    fn say_process<W: ByteSink>(
+        &self,
+        writer: &mut W,
+        buffer: &mut Buffer,
+        pid: Pid,
+        mut is_first: bool,
+    ) -> Result<bool, Device> {
+        for (index, event) in self.streams.events(pid).iter().enumerate() {
+            if let Some((span, times)) = self.timed_at(pid, index as u64, event) {
+                say(writer, buffer, if is_first { b"" } else { b"," })?;
+                self.say_span(writer, buffer, &span, times)?;
+                is_first = false;
+            }
+        }
+        Ok(is_first)
+    }
+
+    /// Sends all spans.
+    fn send<W: ByteSink>(&self, writer: &mut W) -> Result<(), Device> {
+        let mut buffer = Buffer::new();
+        let mut is_first = true;
+        say(writer, &mut buffer, HEAD.as_bytes())?;
+        for pid in self.streams.pids() {
+            is_first = self.say_process(writer, &mut buffer, *pid, is_first)?;
+        }
+        say(writer, &mut buffer, TAIL)?;
+        flush(writer, &mut buffer)
+    }
+}
+
+/// Writes the spans of paired streams, and returns the status.
+fn export_paired<W: ByteSink>(
+    alloc: Global,
+    streams: &Streams,
+    pairing: &Pairing,
+    measured: &Measured<'_>,
+    writer: &mut W,
+) -> Result<u8, AllocError>
+    requires { IsPairing streams.now pairing.now }
+{
+    let chains = Chains::new(alloc, streams, pairing)?;
+    let spans = Spans {
+        streams,
+        pairing,
+        chains: &chains,
+        measured,
+    };
+    Ok(status_of(spans.send(writer), 0))
+}
+
+/// Reads a bundle and the times of its events, and writes its spans, with status 0. If its streams can't
+/// be paired, it writes that with status 1; a writer that fails is 4. On a fault nothing is written. The
+/// times are read once the bundle was whole and right.
+pub fn run_otlp<R: ByteSource, S: ByteSource, W: ByteSink>(
+    alloc: Global,
+    reader: &mut R,
+    times: &mut S,
+    writer: &mut W,
+) -> Result<u8, OtlpFault> {
+    let bundle = match read_within(alloc, reader, Limits::GREATER) {
+        Ok(bundle) => bundle,
+        Err(fault) => return Err(OtlpFault::Trace(fault)),
+    };
+    let measured = match Measured::read(alloc, &bundle.streams, times) {
+        Ok(measured) => measured,
+        Err(fault) => return Err(OtlpFault::Times(fault)),
+    };
+    let memory = OtlpFault::Trace(ReadFault::Memory);
+    match pair(alloc, &bundle.streams) {
+        Ok(pairing) => match export_paired(alloc, &bundle.streams, &pairing, &measured, writer) {
+            Ok(status) => Ok(status),
+            Err(AllocError) => Err(memory),
+        },
+        Err(fault) => match unfit_by(fault) {
+            Some(finding) => Ok(tell_finding(writer, &bundle.streams, &finding)),
+            None => Err(memory),
+        },
+    }
+}
