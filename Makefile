@@ -95,7 +95,7 @@ docs: ## holds the docs to the sources, and plants falsehoods, which must be ref
 BUILT = $(firstword $(wildcard $(CURDIR)/crates/seqaudit/out/seqaudit $(CURDIR)/bin/seqaudit))
 BUILT_TOOL = $(firstword $(wildcard $(CURDIR)/crates/seqtool/out/seqtool $(CURDIR)/bin/seqtool))
 
-# All parts of bench/hostile but the growth of times, which a busy machine could spoil, and the floods of 50 MB: make
+# All parts of bench/hostile but the growth of times, which a busy machine could spoil, and the floods of 64 MB: make
 # hostile has these too.
 FAULTS = memory stacks calls devices tampering limits queues floods scripts completions
 

@@ -13,9 +13,14 @@ SEED, MULTIPLIER, WORD = 0x243F_6A88_85A3_08D3, 0x9E37_79B9_7F4A_7C15, (1 << 64)
 # So many receives, and the few places that their keys fall into, of as many as a table for them has.
 Size = namedtuple("Size", "receives places chosen")
 SMALL = Size(50_000, 1 << 16, 1 << 9)
-GREAT = Size(900_000, 1 << 21, 1 << 17)  # A text of 50 MB. To find the counts takes half a minute.
-# So many processes whose pids share places, as many as `seqtool` reads, and their acts.
-PROCESSES, ACTS = 16_000, 400_000
+GREAT = Size(980_000, 1 << 21, 1 << 17)  # Texts of 64 MB and more. To find the counts takes half a minute.
+# The bytes of a receive's line, which its value fills up if the count is short.
+LINE = 66
+# The first of the counts that follow one another, at which `audit` stops (toowide), as it stops early in a flood: else a
+# flood would be compared with a text for which acts are built to its end.
+FIRST = 1 << 44
+# So many processes whose pids share places, as many as `seqtool` reads, and their acts: of MANY, 64 MB.
+PROCESSES, ACTS, MANY = 16_000, 400_000, 3_400_000
 # How far apart the slots of equal numbers on neighbouring nodes lie in the tables of guesses; the numbers of a node.
 NODE_STEP, NUMBERS = 67, 1 << 16
 # How many times as long as another text of its size a flood may take, and the seconds that don't count.
@@ -80,19 +85,24 @@ PIDS = {
 }
 
 
+def receive_line(this):
+    front, end = b"{seq_trace,1,{'receive',{0,%d},<0.0.0>,<0.1.0>," % this, b"}}\n"
+    return front + b"1".ljust(LINE - len(front + end), b"0") + end
+
+
 def received(counts):
     """The streams of a process that receives with these counts from one that reported nothing."""
     yield b"seqtrace 1\nprocess <0.0.0>\nprocess <0.1.0>\n"
-    yield from (b"{seq_trace,1,{'receive',{0,%d},<0.0.0>,<0.1.0>,0}}\n" % this for this in counts)
+    yield from map(receive_line, counts)
 
 
-def looked_at(pids):
-    """Acts of these processes, one after the other."""
+def looked_at(pids, acts):
+    """So many acts of these processes, one after the other."""
     names = [b"<%d.%d.0>" % pid for pid in pids]
     yield b"seqtrace %d\n" % (2 if any(node for node, _ in pids) else 1)
     yield from (b"process %s\n" % name for name in names)
     yield b"acts\n"
-    yield from (b"look %s\n" % name for name in islice(cycle(names), ACTS))
+    yield from (b"look %s\n" % name for name in islice(cycle(names), acts))
 
 
 def compared(program, words, name, other, flood):
@@ -112,13 +122,14 @@ def tried(program, words, size=SMALL):
     """A flood of counts takes about as long as as many receives with counts that follow one another."""
     for name, chosen in COUNTS.items():
         flood = chosen(size)
-        other = range(flood[0], flood[0] + len(flood))
+        other = range(FIRST, FIRST + len(flood))
         yield compared(program, words, f"{len(flood):,} {name}", received(other), received(flood))
 
 
-def pids_tried(program, words):
+def pids_tried(program, words, acts=ACTS):
     """A flood of pids takes about as long as as many acts of processes whose numbers follow one another."""
     for name, chosen in PIDS.items():
         flood = chosen()
         other = [(0, number) for number in range(len(flood))]
-        yield compared(program, words, f"{len(flood):,} {name}", looked_at(other), looked_at(flood))
+        label = f"{acts:,} acts of {len(flood):,} {name}"
+        yield compared(program, words, label, looked_at(other, acts), looked_at(flood, acts))

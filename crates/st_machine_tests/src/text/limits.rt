@@ -1,6 +1,6 @@
 //! The reader's limits, on generated texts.
 
-use super::refusal;
+use super::{assert_refused, in_pieces, refusal};
 use crate::shared::same;
 use st_core::MemorySource;
 use st_text::{Feed, ReadFault, read};
@@ -46,24 +46,25 @@ fn acts(rt: HostRuntime) {
     );
 }
 
-/// A feed of so many processes, line by line.
-fn of_processes(rt: &impl Abort, alloc: Global, count: u16) -> Result<Feed, AllocError> {
-    let mut feed = Feed::new(alloc);
-    same(rt, &feed.piece(b"seqtrace 1\n"), &Ok(()));
+/// A text of so many processes.
+fn of_processes(alloc: Global, count: u16) -> Result<Vec<u8>, AllocError> {
+    let mut text = Vec::new(alloc);
+    text.extend_from_slice(b"seqtrace 1\n")?;
     for n in 0..count {
         let line = format!(in alloc; "process <0.{n}.0>\n")?;
-        same(rt, &feed.piece(line.as_bytes()), &Ok(()));
+        text.extend_from_slice(line.as_bytes())?;
     }
-    Ok(feed)
+    Ok(text)
 }
 
 #[test]
 fn processes(rt: HostRuntime) -> Result<(), Fail> {
     let alloc = rt.alloc();
-    let bundle = of_processes(&rt, alloc, 1_024)?.end()?;
+    let most = of_processes(alloc, 1_024)?;
+    let bundle = in_pieces(alloc, &most, 1)?;
     same(&rt, &bundle.streams.pids().len(), &1_024);
-    let answer = of_processes(&rt, alloc, 1_025)?.end();
-    same(&rt, &refusal(&rt, answer), &ReadFault::TooMany(1_026));
+    let more = of_processes(alloc, 1_025)?;
+    assert_refused(&rt, alloc, &more, ReadFault::TooMany(1_026));
     Ok(())
 }
 
