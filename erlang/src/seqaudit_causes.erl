@@ -125,7 +125,7 @@ unpaired(Streams, Paired) ->
                     not is_map_key({Pid, At}, Received)]).
 
 %% The tokens with which a process stamped sends that weren't reported, by label and prev, with the least count of
-%% such a send. Where they came from isn't known.
+%% such a send. Where they came from isn't known, even if a completion has put such sends somewhere.
 unreported(Streams, Paired) ->
     lists:foldl(fun({From, Key, This}, Known) ->
                         Own = maps:get(From, Known, #{}),
@@ -134,21 +134,43 @@ unreported(Streams, Paired) ->
                 [{From, {Label, Prev}, This}
                  || {Pid, Events} <- Streams,
                     #{kind := 'receive', at := At, from := From, label := Label, prev := Prev, this := This} <- Events,
-                    not is_map_key({Pid, At}, Paired)]).
+                    is_unreported(maps:get({Pid, At}, Paired, none))]).
 
-%% What is known at an event of what its process did before: the greatest count, the last receive with its
-%% count and label, the last stamp if no receive came behind it, the tokens that it had, by label and prev, with
-%% their counts and what they came from, the least count of those with each prev, and the receives by label and count.
+is_unreported({_, {_, At}}) -> is_tuple(At);
+is_unreported(none) -> true.
+
+%% What is known at an event of what its process did before: the greatest count, the count at which its counter stood,
+%% the last receive with its count and label, the last stamp if no receive came behind it, the tokens that it had, by
+%% label and prev, with their counts and what they came from, the least count of those with each prev, and the receives
+%% by label and count. `all' is what it received before and behind. `puts_back' says whether it is known to put tokens
+%% back: if so, a token that is like the newest one may have been put back too.
 keyed({Pid, Events}, Others, Unreported) ->
-    Start = #{clock => 0, newest => none, row => none, tokens => #{}, prevs => #{}, received => #{},
-              unreported => Unreported},
-    {Rows, _} = lists:mapfoldl(
-                  fun({Position, Event}, Known) -> keyed_event(Event, {Pid, Position}, Known, Others) end,
-                  Start, lists:enumerate(Events)),
-    lists:append(Rows).
+    Start = #{clock => 0, counter => 0, newest => none, row => none, tokens => #{}, prevs => #{}, received => #{},
+              unreported => Unreported, all => all_received(Pid, Events), puts_back => false},
+    case keyed(Pid, Events, Start, Others) of
+        {Keyed, #{puts_back := false}} -> Keyed;
+        {_, #{puts_back := true}} -> element(1, keyed(Pid, Events, Start#{puts_back := true}, Others))
+    end.
+
+keyed(Pid, Events, Start, Others) ->
+    {Rows, End} = lists:mapfoldl(
+                    fun({Position, Event}, Known) -> keyed_event(Event, {Pid, Position}, Known, Others) end,
+                    Start, lists:enumerate(Events)),
+    {lists:append(Rows), End}.
+
+%% The reported receives of a process that unreported sends may follow.
+all_received(Pid, Events) ->
+    case lists:any(fun is_added_send/1, Events) of
+        true -> [{{Pid, At}, Event} || #{kind := 'receive', at := At} = Event <- Events, is_integer(At)];
+        false -> []
+    end.
+
+is_added_send(#{kind := send, at := {_, _}}) -> true;
+is_added_send(_) -> false.
 
 keyed_event(#{kind := 'receive', from := From, this := This, label := Label, at := At} = Event,
-            {Pid, Position}, #{clock := Clock, received := Received} = Known, {Ranks, Paired, _}) ->
+            {Pid, Position}, #{clock := Clock, counter := Counter, received := Received} = Known,
+            {Ranks, Paired, _}) ->
     Height = max(Clock, This),
     Id = {Pid, At},
     {_, Send} = Cause = maps:get(Id, Paired, {sent, {sent_to, Id}}),
@@ -157,16 +179,26 @@ keyed_event(#{kind := 'receive', from := From, this := This, label := Label, at 
                (row(Send, Event#{kind := send}, From, unseen))#{hidden := true}}
               || {sent_to, _} <- [Send]],
     {[{{Height, 1, maps:get(Pid, Ranks), Position}, Row} | Hidden],
-     (had_token(Event, Id, Known))#{clock := Height, newest := {This, Label, Id}, row := none,
-                                    received := Received#{{Label, This} => Id, This => Id}}};
+     (had_token(Event, Id, Known))#{clock := Height, counter := max(Counter, This), newest := {This, Label, Id},
+                                    row := none, received := add({Label, This}, [Id], Received#{This => Id})}};
 keyed_event(#{this := This, prev := Prev, label := Label, at := At} = Event, {Pid, Position},
-            #{clock := Clock, row := Row} = Known, {Ranks, _, Unpaired}) ->
+            #{clock := Clock} = Known, {Ranks, _, Unpaired}) ->
     Id = {Pid, At},
-    Cause = stamp_cause(Pid, Event, Known, Unpaired),
-    Origin = origin(Cause, Id, Event, Row),
     Height = max(Clock, This),
-    {[{{Height, 0, maps:get(Pid, Ranks), Position}, row(Id, Event, Pid, Cause)}],
-     (had_token(Event, Origin, Known))#{clock := Height, row := {Label, Prev, This, Cause, Origin}}}.
+    {Cause, Next} = case is_added_send(Event) of
+                        true ->
+                            {added_cause(Event, Known), Known};
+                        false ->
+                            Found = stamp_cause(Pid, Event, Known, Unpaired),
+                            Origin = origin(Found, Id, Event, maps:get(row, Known)),
+                            {Found, (had_token(Event, Origin, Known))#{
+                                      counter := This, row := {Label, Prev, This, Found, Origin},
+                                      puts_back := maps:get(puts_back, Known) orelse is_put_back(Found)}}
+                    end,
+    {[{{Height, 0, maps:get(Pid, Ranks), Position}, row(Id, Event, Pid, Cause)}], Next#{clock := Height}}.
+
+is_put_back({How, _}) -> How =:= restored orelse How =:= perhaps;
+is_put_back(_) -> false.
 
 row(Id, Event, Actor, Cause) ->
     #{id => Id, event => Event, actor => Actor, hidden => false, invented => false, cause => Cause}.
@@ -199,12 +231,18 @@ nearest(0, _) -> [];
 nearest(_, none) -> [];
 nearest(Left, {{Count, Origin}, More}) -> [{-Count, Origin} | nearest(Left - 1, gb_sets:next(More))].
 
-%% After an answered spawn OTP puts the counters to 16 T + 15, T being the answer's count.
-stamp_cause(_Pid, #{prev := Prev, label := Label} = Event, #{newest := {Count, Other, Id}} = Known, _)
-  when Prev =:= Count; Prev =:= 16 * Count + 15 ->
+%% After an answered spawn OTP puts the counters to 16 T + 15, T being the answer's count. A counter that isn't above
+%% where it stood went back, so what was received last isn't the cause.
+stamp_cause(_Pid, #{prev := Prev, label := Label, this := This} = Event,
+            #{newest := {Count, Other, Id}, counter := Counter} = Known, _)
+  when Prev =:= Count, This > Counter; Prev =:= 16 * Count + 15, This > Counter ->
     case {Other =:= Label, put_back(Event, Known), had_received(Event, Known)} of
-        {true, _, _} when Prev =:= Count -> {received, Id};
-        {true, _, _} -> {spawned, Id};
+        {true, Tokens, Earlier} ->
+            case maps:get(puts_back, Known) andalso [Id] =/= lists:usort([Id | Earlier] ++ [One || {_, One} <- Tokens]) of
+                true -> {perhaps, Id};
+                false when Prev =:= Count -> {received, Id};
+                false -> {spawned, Id}
+            end;
         {false, [{_, Origin} | _], _} -> {perhaps, Origin};
         {false, [], [Earlier | _]} -> {perhaps, Earlier};
         {false, [], []} -> {relabelled, Label, {Id, Other}}
@@ -219,8 +257,8 @@ stamp_cause(_Pid, #{prev := Prev, label := Label, this := This} = Event,
 stamp_cause(Pid, #{prev := Prev, label := Label} = Event, #{newest := Newest} = Known, Unpaired) ->
     Sends = [Send || {Of, Send} <- maps:get({Pid, Prev}, Unpaired, []), Of =:= Label],
     case {put_back(Event, Known), had_received(Event, Known), Sends} of
-        {[{_, Origin}], Earlier, _} when Newest =/= none, Earlier =:= [] orelse Earlier =:= [Origin] ->
-            case had_unreported(Event, Known) of
+        {[{_, Origin}], Earlier, _} when Newest =/= none ->
+            case lists:delete(Origin, Earlier) =/= [] orelse had_unreported(Event, Known) of
                 true -> {perhaps, Origin};
                 false -> {restored, Origin}
             end;
@@ -248,7 +286,38 @@ without_token(#{prev := Prev, label := Label, this := This}, #{prevs := Prevs, r
 %% put back behind a stamp that wasn't reported.
 had_received(#{prev := Prev, label := Label}, #{received := Received}) ->
     [Id || Count <- [Prev] ++ [(Prev - 15) div 16 || Prev rem 16 =:= 15],
-           #{{Label, Count} := Id} <- [Received]].
+           Id <- maps:get({Label, Count}, Received, [])].
+
+%% What is known of the cause of a send that nobody reported. It was sent at any time: the place that a completion gives
+%% it is only a possible one. So it follows a receive for certain only if no other one fits it, before or behind.
+added_cause(#{prev := Prev, label := Label, this := This, at := {Before, _}} = Event, #{all := All} = Known) ->
+    Fitting = [{How, Id} || {Id, #{label := Of} = Received} <- All, Of =:= Label,
+                            How <- follows(Received, Prev, This)],
+    case {Fitting, [{How, Id} || {How, {_, At} = Id} <- lists:reverse(Fitting), At < Before]} of
+        {[{How, Id}], [{How, Id}]} when How =/= restored -> {How, Id};
+        {_, [{_, Id} | _]} -> {perhaps, Id};
+        {[_ | _], []} -> unseen;
+        {[], []} -> added_begins(Event, Known)
+    end.
+
+%% How a stamp may follow a receive of its label: as it is, behind a spawn's answer, or as that token was put back.
+follows(#{this := Count}, Prev, This) when Count =:= Prev, Count < This -> [received];
+follows(#{this := Count}, Prev, _This) when 16 * Count + 15 =:= Prev -> [spawned];
+follows(#{prev := Prev, this := Count}, Prev, This) when Count < This -> [restored];
+follows(_, _, _) -> [].
+
+%% It may begin its trace, or its label, or follow a receive that wasn't reported.
+added_begins(#{prev := Prev, label := Label}, #{newest := {Prev, Label, {_, {_, _}} = Id}}) -> {received, Id};
+added_begins(#{prev := 0, this := This, label := Label}, #{all := All}) ->
+    case [One || {_, #{prev := 0, this := Count}} = One <- All, Count < This] of
+        [] -> start;
+        [_ | _] -> {relabelled, Label, open}
+    end;
+added_begins(#{prev := Prev, label := Label}, #{all := All}) ->
+    case [One || {_, #{prev := Had, this := Count}} = One <- All, lists:member(Prev, [Had, Count, 16 * Count + 15])] of
+        [] -> open;
+        [_ | _] -> {relabelled, Label, open}
+    end.
 
 %% Whether a send that wasn't reported shows that the process had a token of this label and prev.
 had_unreported(#{prev := Prev, label := Label, this := This}, #{unreported := Unreported}) ->
