@@ -31,7 +31,7 @@
 %% <dt>`spawned'</dt><dd>the same, but a spawn's answer has moved the counter on, as OTP does</dd>
 %% <dt>`restored'</dt><dd>the same, but the token of that receive was put back</dd>
 %% <dt>`unreported'</dt><dd>nobody reported the receive that it follows; this send fits it</dd>
-%% <dt>`perhaps'</dt><dd>the token of that receive may have been put back</dd>
+%% <dt>`perhaps'</dt><dd>stamped with the token of that receive, or with another one that fits too</dd>
 %% <dt>`relabelled'</dt><dd>its process began a trace with this label there, or set the label on its
 %% token; it had received the other event last, which has another label. If `open', that was a token that
 %% was put back, or it follows a message whose receive wasn't reported</dd>
@@ -140,12 +140,12 @@ is_unreported({_, {_, At}}) -> is_tuple(At);
 is_unreported(none) -> true.
 
 %% What is known at an event of what its process did before: the greatest count, the count at which its counter stood,
-%% the last receive with its count and label, the last stamp if no receive came behind it, the tokens that it had, by
-%% label and prev, with their counts and what they came from, the least count of those with each prev, and the receives
-%% by label and count. `all' is what it received before and behind. `puts_back' says whether it is known to put tokens
-%% back: if so, a token that is like the newest one may have been put back too.
+%% the prev with which it goes on, the last receive with its count and label, the last stamp if no receive came behind
+%% it, the tokens that it had, by label and prev, with their counts and what they came from, the least count of those with
+%% each prev, and the receives by label and count. `all' is what it received before and behind. `puts_back' says whether
+%% any of its counts shows that it puts tokens back: if so, a token that is like the newest one may have been put back too.
 keyed({Pid, Events}, Others, Unreported) ->
-    Start = #{clock => 0, counter => 0, newest => none, row => none, tokens => #{}, prevs => #{}, received => #{},
+    Start = #{clock => 0, counter => 0, left => 0, newest => none, row => none, tokens => #{}, prevs => #{}, received => #{},
               unreported => Unreported, all => all_received(Pid, Events), puts_back => false},
     case keyed(Pid, Events, Start, Others) of
         {Keyed, #{puts_back := false}} -> Keyed;
@@ -179,23 +179,31 @@ keyed_event(#{kind := 'receive', from := From, this := This, label := Label, at 
                (row(Send, Event#{kind := send}, From, unseen))#{hidden := true}}
               || {sent_to, _} <- [Send]],
     {[{{Height, 1, maps:get(Pid, Ranks), Position}, Row} | Hidden],
-     (had_token(Event, Id, Known))#{clock := Height, counter := max(Counter, This), newest := {This, Label, Id},
-                                    row := none, received := add({Label, This}, [Id], Received#{This => Id})}};
-keyed_event(#{this := This, prev := Prev, label := Label, at := At} = Event, {Pid, Position},
-            #{clock := Clock} = Known, {Ranks, _, Unpaired}) ->
+     (had_token(Event, Id, Known))#{clock := Height, counter := max(Counter, This), left := This,
+                                    newest := {This, Label, Id}, row := none,
+                                    received := add({Label, This}, [Id], Received#{This => Id})}};
+keyed_event(#{this := This, prev := Prev, at := At} = Event, {Pid, Position}, #{clock := Clock} = Known,
+            {Ranks, _, Unpaired}) ->
     Id = {Pid, At},
     Height = max(Clock, This),
     {Cause, Next} = case is_added_send(Event) of
-                        true ->
-                            {added_cause(Event, Known), Known};
-                        false ->
-                            Found = stamp_cause(Pid, Event, Known, Unpaired),
-                            Origin = origin(Found, Id, Event, maps:get(row, Known)),
-                            {Found, (had_token(Event, Origin, Known))#{
-                                      counter := This, row := {Label, Prev, This, Found, Origin},
-                                      puts_back := maps:get(puts_back, Known) orelse is_put_back(Found)}}
+                        true -> added(Event, Known);
+                        false -> stamped(Id, Event, Known, Unpaired)
                     end,
-    {[{{Height, 0, maps:get(Pid, Ranks), Position}, row(Id, Event, Pid, Cause)}], Next#{clock := Height}}.
+    {[{{Height, 0, maps:get(Pid, Ranks), Position}, row(Id, Event, Pid, Cause)}],
+     Next#{clock := Height, left := Prev}}.
+
+stamped({Pid, _} = Id, #{prev := Prev, this := This, label := Label} = Event,
+        #{row := Row, counter := Counter, puts_back := PutsBack} = Known, Unpaired) ->
+    Cause = stamp_cause(Pid, Event, Known, Unpaired),
+    Origin = origin(Cause, Id, Event, Row),
+    {Cause, (had_token(Event, Origin, Known))#{counter := This, row := {Label, Prev, This, Cause, Origin},
+                                               puts_back := PutsBack orelse This =< Counter orelse is_put_back(Cause)}}.
+
+%% A completion has only such prevs as a process goes on with or begins with, unless it takes tokens for put back.
+added(#{prev := Prev} = Event, #{clock := Clock, left := Left, puts_back := PutsBack} = Known) ->
+    {added_cause(Event, Known),
+     Known#{puts_back := PutsBack orelse Prev < Clock andalso not lists:member(Prev, [Left, 16 * Left + 15])}}.
 
 is_put_back({How, _}) -> How =:= restored orelse How =:= perhaps;
 is_put_back(_) -> false.
@@ -231,17 +239,15 @@ nearest(0, _) -> [];
 nearest(_, none) -> [];
 nearest(Left, {{Count, Origin}, More}) -> [{-Count, Origin} | nearest(Left - 1, gb_sets:next(More))].
 
-%% After an answered spawn OTP puts the counters to 16 T + 15, T being the answer's count. A counter that isn't above
-%% where it stood went back, so what was received last isn't the cause.
-stamp_cause(_Pid, #{prev := Prev, label := Label, this := This} = Event,
-            #{newest := {Count, Other, Id}, counter := Counter} = Known, _)
-  when Prev =:= Count, This > Counter; Prev =:= 16 * Count + 15, This > Counter ->
+%% After an answered spawn OTP puts the counters to 16 T + 15, T being the answer's count.
+stamp_cause(_Pid, #{prev := Prev, label := Label} = Event, #{newest := {Count, Other, Id}} = Known, _)
+  when Prev =:= Count; Prev =:= 16 * Count + 15 ->
     case {Other =:= Label, put_back(Event, Known), had_received(Event, Known)} of
         {true, Tokens, Earlier} ->
-            case maps:get(puts_back, Known) andalso [Id] =/= lists:usort([Id | Earlier] ++ [One || {_, One} <- Tokens]) of
-                true -> {perhaps, Id};
-                false when Prev =:= Count -> {received, Id};
-                false -> {spawned, Id}
+            case is_of_newest(Event, Id, [Origin || {_, Origin} <- Tokens] ++ Earlier, Known) of
+                false -> {perhaps, Id};
+                true when Prev =:= Count -> {received, Id};
+                true -> {spawned, Id}
             end;
         {false, [{_, Origin} | _], _} -> {perhaps, Origin};
         {false, [], [Earlier | _]} -> {perhaps, Earlier};
@@ -268,6 +274,10 @@ stamp_cause(Pid, #{prev := Prev, label := Label} = Event, #{newest := Newest} = 
         {[], [], []} -> without_token(Event, Known)
     end.
 
+%% Whether a stamp follows what its process received last, of all that gave it a token which can be stamped so.
+is_of_newest(#{this := This}, Newest, Origins, #{counter := Counter, puts_back := PutsBack}) ->
+    [] =:= [Origin || Origin <- Origins, Origin =/= Newest] orelse This > Counter andalso not PutsBack.
+
 without_token(#{prev := Prev, label := Label}, #{newest := none, row := {Other, Prev, _, _, _}}) when Other =/= Label ->
     {relabelled, Label, none};
 without_token(#{prev := Prev, label := Label}, #{newest := {_, Had, Id}, row := {Other, Prev, _, _, _}})
@@ -290,33 +300,36 @@ had_received(#{prev := Prev, label := Label}, #{received := Received}) ->
 
 %% What is known of the cause of a send that nobody reported. It was sent at any time: the place that a completion gives
 %% it is only a possible one. So it follows a receive for certain only if no other one fits it, before or behind.
-added_cause(#{prev := Prev, label := Label, this := This, at := {Before, _}} = Event, #{all := All} = Known) ->
-    Fitting = [{How, Id} || {Id, #{label := Of} = Received} <- All, Of =:= Label,
-                            How <- follows(Received, Prev, This)],
-    case {Fitting, [{How, Id} || {How, {_, At} = Id} <- lists:reverse(Fitting), At < Before]} of
+added_cause(#{at := {Before, _}} = Event, Known) ->
+    Fitting = fitting(Event, Known),
+    case {Fitting, [One || {_, {_, At}} = One <- lists:reverse(Fitting), At < Before]} of
         {[{How, Id}], [{How, Id}]} when How =/= restored -> {How, Id};
         {_, [{_, Id} | _]} -> {perhaps, Id};
         {[_ | _], []} -> unseen;
         {[], []} -> added_begins(Event, Known)
     end.
 
-%% How a stamp may follow a receive of its label: as it is, behind a spawn's answer, or as that token was put back.
-follows(#{this := Count}, Prev, This) when Count =:= Prev, Count < This -> [received];
-follows(#{this := Count}, Prev, _This) when 16 * Count + 15 =:= Prev -> [spawned];
-follows(#{prev := Prev, this := Count}, Prev, This) when Count < This -> [restored];
-follows(_, _, _) -> [].
+%% The receives of its label that it may follow: by their count, as the answer of a spawn, or as that token was put back,
+%% if the process puts tokens back.
+fitting(#{prev := Prev, label := Label, this := This}, #{all := All, puts_back := PutsBack}) ->
+    [{How, Id} || {Id, #{label := Of, prev := Had, this := Count}} <- All, Of =:= Label, Count < This,
+                  How <- if
+                             Count =:= Prev -> [received];
+                             16 * Count + 15 =:= Prev -> [spawned];
+                             Had =:= Prev, PutsBack -> [restored];
+                             true -> []
+                         end].
 
 %% It may begin its trace, or its label, or follow a receive that wasn't reported.
 added_begins(#{prev := Prev, label := Label}, #{newest := {Prev, Label, {_, {_, _}} = Id}}) -> {received, Id};
-added_begins(#{prev := 0, this := This, label := Label}, #{all := All}) ->
-    case [One || {_, #{prev := 0, this := Count}} = One <- All, Count < This] of
-        [] -> start;
-        [_ | _] -> {relabelled, Label, open}
-    end;
-added_begins(#{prev := Prev, label := Label}, #{all := All}) ->
-    case [One || {_, #{prev := Had, this := Count}} = One <- All, lists:member(Prev, [Had, Count, 16 * Count + 15])] of
-        [] -> open;
-        [_ | _] -> {relabelled, Label, open}
+added_begins(#{prev := Prev, this := This, label := Label}, #{all := All, puts_back := PutsBack}) ->
+    %% What gave it a token with another label that has its prev.
+    Others = [One || {_, #{prev := Had, this := Count}} = One <- All, Count < This,
+                     Prev =:= Count orelse Prev =:= 16 * Count + 15 orelse PutsBack andalso Prev =:= Had],
+    case Others of
+        [_ | _] -> {relabelled, Label, open};
+        [] when Prev =:= 0 -> start;
+        [] -> open
     end.
 
 %% Whether a send that wasn't reported shows that the process had a token of this label and prev.

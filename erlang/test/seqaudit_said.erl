@@ -96,9 +96,8 @@ headline(#{said := Said, streams := Shown} = Outcome, Log, #{flags := Flags, lat
     Text = unicode:characters_to_binary(seqaudit_explain:headline(Outcome, Legend)),
     All = not Late andalso [] =:= [send, 'receive', print] -- Flags,
     Whole = has(Text, "nothing is known to be missing"),
-    %% A process that puts a token back and whose sends aren't reported can't be seen to.
-    Received = not Late andalso lists:member('receive', Flags),
-    Premises = Received andalso lists:member(send, Flags),
+    %% A message of which no event tells can be supposed only if receives weren't reported.
+    Premises = not Late andalso lists:member('receive', Flags),
     Missing = missing(Rows, Log),
     ShownRows = seqaudit_causes:rows(Shown),
     Invented = [Id || #{id := Id, invented := true} <- ShownRows],
@@ -112,10 +111,8 @@ headline(#{said := Said, streams := Shown} = Outcome, Log, #{flags := Flags, lat
                    ++ [{exchanged, 1} || Exchanged <- [maps:get(exchanged, Outcome)], Exchanged =/= none]
                    ++ [{doesnt_fit, [{Name, reason(Outcome)}]} || Said =:= never]
                    ++ [{false, [{Name, What, Of} || {What, Of} <- False]}]
-                   ++ [{{programs, case Received of
-                                       true -> sends_unreported;
-                                       false -> receives_unreported
-                                   end, with_invented_messages}, 1} || not Premises, Invented =/= []]).
+                   ++ [{{programs, receives_unreported, with_invented_messages}, 1}
+                       || not Premises, Invented =/= []]).
 
 has(Text, Words) -> binary:match(Text, list_to_binary(Words)) =/= nomatch.
 
