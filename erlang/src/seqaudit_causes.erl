@@ -202,8 +202,10 @@ stamped({Pid, _} = Id, #{prev := Prev, this := This, label := Label} = Event,
 
 %% A completion has only such prevs as a process goes on with or begins with, unless it takes tokens for put back.
 added(#{prev := Prev} = Event, #{clock := Clock, left := Left, puts_back := PutsBack} = Known) ->
-    {added_cause(Event, Known),
-     Known#{puts_back := PutsBack orelse Prev < Clock andalso not lists:member(Prev, [Left, 16 * Left + 15])}}.
+    Fitting = fitting(Event, Known),
+    IsPutBack = PutsBack orelse Prev < Clock andalso not lists:member(Prev, [Left, 16 * Left + 15])
+        orelse Fitting =/= [] andalso lists:all(fun is_put_back/1, Fitting),
+    {added_cause(Event, Fitting, Known), Known#{puts_back := IsPutBack}}.
 
 is_put_back({How, _}) -> How =:= restored orelse How =:= perhaps;
 is_put_back(_) -> false.
@@ -286,22 +288,24 @@ without_token(#{prev := Prev, label := Label}, #{newest := {_, Had, Id}, row := 
 without_token(#{prev := 0}, #{newest := none}) ->
     start;
 without_token(#{prev := Prev, label := Label, this := This}, #{prevs := Prevs, received := Received}) ->
-    case {Received, Prevs} of
-        {#{Prev := _}, _} -> {relabelled, Label, open};
+    case {lists:any(fun(Count) -> is_map_key(Count, Received) end, stamped_behind(Prev)), Prevs} of
+        {true, _} -> {relabelled, Label, open};
         {_, #{Prev := Count}} when Count < This -> {relabelled, Label, open};
         {_, _} -> open
     end.
 
-%% A receive that gave a token of this label with which this prev can be stamped, also behind a spawn. That token may be
-%% put back behind a stamp that wasn't reported.
+%% The receives that gave a token of this label with which this prev can be stamped. That token may be put back behind a
+%% stamp that wasn't reported.
 had_received(#{prev := Prev, label := Label}, #{received := Received}) ->
-    [Id || Count <- [Prev] ++ [(Prev - 15) div 16 || Prev rem 16 =:= 15],
-           Id <- maps:get({Label, Count}, Received, [])].
+    [Id || Count <- stamped_behind(Prev), Id <- maps:get({Label, Count}, Received, [])].
+
+%% The counts of the messages behind which a process stamps this prev: itself, or that of a spawn's answer.
+stamped_behind(Prev) ->
+    [Prev] ++ [(Prev - 15) div 16 || Prev rem 16 =:= 15].
 
 %% What is known of the cause of a send that nobody reported. It was sent at any time: the place that a completion gives
 %% it is only a possible one. So it follows a receive for certain only if no other one fits it, before or behind.
-added_cause(#{at := {Before, _}} = Event, Known) ->
-    Fitting = fitting(Event, Known),
+added_cause(#{at := {Before, _}} = Event, Fitting, Known) ->
     case {Fitting, [One || {_, {_, At}} = One <- lists:reverse(Fitting), At < Before]} of
         {[{How, Id}], [{How, Id}]} when How =/= restored -> {How, Id};
         {_, [{_, Id} | _]} -> {perhaps, Id};
@@ -309,24 +313,22 @@ added_cause(#{at := {Before, _}} = Event, Known) ->
         {[], []} -> added_begins(Event, Known)
     end.
 
-%% The receives of its label that it may follow: by their count, as the answer of a spawn, or as that token was put back,
-%% if the process puts tokens back.
-fitting(#{prev := Prev, label := Label, this := This}, #{all := All, puts_back := PutsBack}) ->
+%% The receives of its label that it may follow: by their count, as the answer of a spawn, or as that token was put back.
+fitting(#{prev := Prev, label := Label, this := This}, #{all := All}) ->
     [{How, Id} || {Id, #{label := Of, prev := Had, this := Count}} <- All, Of =:= Label, Count < This,
                   How <- if
                              Count =:= Prev -> [received];
                              16 * Count + 15 =:= Prev -> [spawned];
-                             Had =:= Prev, PutsBack -> [restored];
+                             Had =:= Prev -> [restored];
                              true -> []
                          end].
 
 %% It may begin its trace, or its label, or follow a receive that wasn't reported.
 added_begins(#{prev := Prev, label := Label}, #{newest := {Prev, Label, {_, {_, _}} = Id}}) -> {received, Id};
-added_begins(#{prev := Prev, this := This, label := Label}, #{all := All, puts_back := PutsBack}) ->
+added_begins(#{prev := Prev, this := This, label := Label}, #{all := All}) ->
     %% What gave it a token with another label that has its prev.
-    Others = [One || {_, #{prev := Had, this := Count}} = One <- All, Count < This,
-                     Prev =:= Count orelse Prev =:= 16 * Count + 15 orelse PutsBack andalso Prev =:= Had],
-    case Others of
+    case [One || {_, #{prev := Had, this := Count}} = One <- All, Count < This,
+                 lists:member(Prev, [Had, Count, 16 * Count + 15])] of
         [_ | _] -> {relabelled, Label, open};
         [] when Prev =:= 0 -> start;
         [] -> open
