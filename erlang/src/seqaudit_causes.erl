@@ -242,12 +242,14 @@ nearest(_, none) -> [];
 nearest(Left, {{Count, Origin}, More}) -> [{-Count, Origin} | nearest(Left - 1, gb_sets:next(More))].
 
 %% After an answered spawn OTP puts the counters to 16 T + 15, T being the answer's count.
-stamp_cause(_Pid, #{prev := Prev, label := Label} = Event, #{newest := {Count, Other, Id}} = Known, _)
+stamp_cause(_Pid, #{prev := Prev, label := Label, this := This} = Event,
+            #{newest := {Count, Other, Id}, counter := Counter} = Known, _)
   when Prev =:= Count; Prev =:= 16 * Count + 15 ->
     case {Other =:= Label, put_back(Event, Known), had_received(Event, Known)} of
         {true, Tokens, Earlier} ->
             case is_of_newest(Event, Id, [Origin || {_, Origin} <- Tokens] ++ Earlier, Known) of
-                false -> {perhaps, Id};
+                false when This > Counter -> {perhaps, Id};
+                false -> {perhaps, hd([Origin || {_, Origin} <- Tokens] ++ [Id])};
                 true when Prev =:= Count -> {received, Id};
                 true -> {spawned, Id}
             end;
