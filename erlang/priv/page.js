@@ -88,7 +88,7 @@
              a: "perhaps after " + before + ", or after another message like it",
              r: after, w: "after " + before + ", a spawn's answer",
              t: "after " + before + ", whose token was put back",
-             v: "perhaps after " + before + ", whose token was put back",
+             v: "perhaps after " + before + ", as counts alone don't tell",
              u: "perhaps after " + before + ", whose receive wasn't reported",
              l: "begins label " + visible(labels[rows.label[row]]) + " here, or set it on its token"
                 + (had === undefined ? "" : "; it had last received " + eventName(had) + " of label " + visible(labels[rows.label[had]])),

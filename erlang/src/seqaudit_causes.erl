@@ -31,7 +31,7 @@
 %% <dt>`spawned'</dt><dd>the same, but a spawn's answer has moved the counter on, as OTP does</dd>
 %% <dt>`restored'</dt><dd>the same, but the token of that receive was put back</dd>
 %% <dt>`unreported'</dt><dd>nobody reported the receive that it follows; this send fits it</dd>
-%% <dt>`perhaps'</dt><dd>the token of that receive may have been put back</dd>
+%% <dt>`perhaps'</dt><dd>stamped with the token of that receive, or with another one that fits too</dd>
 %% <dt>`relabelled'</dt><dd>its process began a trace with this label there, or set the label on its
 %% token; it had received the other event last, which has another label. If `open', that was a token that
 %% was put back, or it follows a message whose receive wasn't reported</dd>
@@ -125,7 +125,7 @@ unpaired(Streams, Paired) ->
                     not is_map_key({Pid, At}, Received)]).
 
 %% The tokens with which a process stamped sends that weren't reported, by label and prev, with the least count of
-%% such a send. Where they came from isn't known.
+%% such a send. Where they came from isn't known, even if a completion has put such sends somewhere.
 unreported(Streams, Paired) ->
     lists:foldl(fun({From, Key, This}, Known) ->
                         Own = maps:get(From, Known, #{}),
@@ -134,21 +134,43 @@ unreported(Streams, Paired) ->
                 [{From, {Label, Prev}, This}
                  || {Pid, Events} <- Streams,
                     #{kind := 'receive', at := At, from := From, label := Label, prev := Prev, this := This} <- Events,
-                    not is_map_key({Pid, At}, Paired)]).
+                    is_unreported(maps:get({Pid, At}, Paired, none))]).
 
-%% What is known at an event of what its process did before: the greatest count, the last receive with its
-%% count and label, the last stamp if no receive came behind it, the tokens that it had, by label and prev, with
-%% their counts and what they came from, the least count of those with each prev, and the receives by label and count.
+is_unreported({_, {_, At}}) -> is_tuple(At);
+is_unreported(none) -> true.
+
+%% What is known at an event of what its process did before: the greatest count, the count at which its counter stood,
+%% the prev with which it goes on, the last receive with its count and label, the last stamp if no receive came behind
+%% it, the tokens that it had, by label and prev, with their counts and what they came from, the least count of those with
+%% each prev, and the receives by label and count. `all' is what it received before and behind. `puts_back' says whether
+%% any of its counts shows that it puts tokens back: if so, a token that is like the newest one may have been put back too.
 keyed({Pid, Events}, Others, Unreported) ->
-    Start = #{clock => 0, newest => none, row => none, tokens => #{}, prevs => #{}, received => #{},
-              unreported => Unreported},
-    {Rows, _} = lists:mapfoldl(
-                  fun({Position, Event}, Known) -> keyed_event(Event, {Pid, Position}, Known, Others) end,
-                  Start, lists:enumerate(Events)),
-    lists:append(Rows).
+    Start = #{clock => 0, counter => 0, left => 0, newest => none, row => none, tokens => #{}, prevs => #{}, received => #{},
+              unreported => Unreported, all => all_received(Pid, Events), puts_back => false},
+    case keyed(Pid, Events, Start, Others) of
+        {Keyed, #{puts_back := false}} -> Keyed;
+        {_, #{puts_back := true}} -> element(1, keyed(Pid, Events, Start#{puts_back := true}, Others))
+    end.
+
+keyed(Pid, Events, Start, Others) ->
+    {Rows, End} = lists:mapfoldl(
+                    fun({Position, Event}, Known) -> keyed_event(Event, {Pid, Position}, Known, Others) end,
+                    Start, lists:enumerate(Events)),
+    {lists:append(Rows), End}.
+
+%% The reported receives of a process that unreported sends may follow.
+all_received(Pid, Events) ->
+    case lists:any(fun is_added_send/1, Events) of
+        true -> [{{Pid, At}, Event} || #{kind := 'receive', at := At} = Event <- Events, is_integer(At)];
+        false -> []
+    end.
+
+is_added_send(#{kind := send, at := {_, _}}) -> true;
+is_added_send(_) -> false.
 
 keyed_event(#{kind := 'receive', from := From, this := This, label := Label, at := At} = Event,
-            {Pid, Position}, #{clock := Clock, received := Received} = Known, {Ranks, Paired, _}) ->
+            {Pid, Position}, #{clock := Clock, counter := Counter, received := Received} = Known,
+            {Ranks, Paired, _}) ->
     Height = max(Clock, This),
     Id = {Pid, At},
     {_, Send} = Cause = maps:get(Id, Paired, {sent, {sent_to, Id}}),
@@ -157,16 +179,36 @@ keyed_event(#{kind := 'receive', from := From, this := This, label := Label, at 
                (row(Send, Event#{kind := send}, From, unseen))#{hidden := true}}
               || {sent_to, _} <- [Send]],
     {[{{Height, 1, maps:get(Pid, Ranks), Position}, Row} | Hidden],
-     (had_token(Event, Id, Known))#{clock := Height, newest := {This, Label, Id}, row := none,
-                                    received := Received#{{Label, This} => Id, This => Id}}};
-keyed_event(#{this := This, prev := Prev, label := Label, at := At} = Event, {Pid, Position},
-            #{clock := Clock, row := Row} = Known, {Ranks, _, Unpaired}) ->
+     (had_token(Event, Id, Known))#{clock := Height, counter := max(Counter, This), left := This,
+                                    newest := {This, Label, Id}, row := none,
+                                    received := add({Label, This}, [Id], Received#{This => Id})}};
+keyed_event(#{this := This, prev := Prev, at := At} = Event, {Pid, Position}, #{clock := Clock} = Known,
+            {Ranks, _, Unpaired}) ->
     Id = {Pid, At},
+    Height = max(Clock, This),
+    {Cause, Next} = case is_added_send(Event) of
+                        true -> added(Event, Known);
+                        false -> stamped(Id, Event, Known, Unpaired)
+                    end,
+    {[{{Height, 0, maps:get(Pid, Ranks), Position}, row(Id, Event, Pid, Cause)}],
+     Next#{clock := Height, left := Prev}}.
+
+stamped({Pid, _} = Id, #{prev := Prev, this := This, label := Label} = Event,
+        #{row := Row, counter := Counter, puts_back := PutsBack} = Known, Unpaired) ->
     Cause = stamp_cause(Pid, Event, Known, Unpaired),
     Origin = origin(Cause, Id, Event, Row),
-    Height = max(Clock, This),
-    {[{{Height, 0, maps:get(Pid, Ranks), Position}, row(Id, Event, Pid, Cause)}],
-     (had_token(Event, Origin, Known))#{clock := Height, row := {Label, Prev, This, Cause, Origin}}}.
+    {Cause, (had_token(Event, Origin, Known))#{counter := This, row := {Label, Prev, This, Cause, Origin},
+                                               puts_back := PutsBack orelse This =< Counter orelse is_put_back(Cause)}}.
+
+%% A completion has only such prevs as a process goes on with or begins with, unless it takes tokens for put back.
+added(#{prev := Prev} = Event, #{clock := Clock, left := Left, puts_back := PutsBack} = Known) ->
+    Fitting = fitting(Event, Known),
+    IsPutBack = PutsBack orelse Prev < Clock andalso not lists:member(Prev, [Left, 16 * Left + 15])
+        orelse Fitting =/= [] andalso lists:all(fun is_put_back/1, Fitting),
+    {added_cause(Event, Fitting, Known), Known#{puts_back := IsPutBack}}.
+
+is_put_back({How, _}) -> How =:= restored orelse How =:= perhaps;
+is_put_back(_) -> false.
 
 row(Id, Event, Actor, Cause) ->
     #{id => Id, event => Event, actor => Actor, hidden => false, invented => false, cause => Cause}.
@@ -200,11 +242,17 @@ nearest(_, none) -> [];
 nearest(Left, {{Count, Origin}, More}) -> [{-Count, Origin} | nearest(Left - 1, gb_sets:next(More))].
 
 %% After an answered spawn OTP puts the counters to 16 T + 15, T being the answer's count.
-stamp_cause(_Pid, #{prev := Prev, label := Label} = Event, #{newest := {Count, Other, Id}} = Known, _)
+stamp_cause(_Pid, #{prev := Prev, label := Label, this := This} = Event,
+            #{newest := {Count, Other, Id}, counter := Counter} = Known, _)
   when Prev =:= Count; Prev =:= 16 * Count + 15 ->
     case {Other =:= Label, put_back(Event, Known), had_received(Event, Known)} of
-        {true, _, _} when Prev =:= Count -> {received, Id};
-        {true, _, _} -> {spawned, Id};
+        {true, Tokens, Earlier} ->
+            case is_of_newest(Event, Id, [Origin || {_, Origin} <- Tokens] ++ Earlier, Known) of
+                false when This > Counter -> {perhaps, Id};
+                false -> {perhaps, hd([Origin || {_, Origin} <- Tokens] ++ [Id])};
+                true when Prev =:= Count -> {received, Id};
+                true -> {spawned, Id}
+            end;
         {false, [{_, Origin} | _], _} -> {perhaps, Origin};
         {false, [], [Earlier | _]} -> {perhaps, Earlier};
         {false, [], []} -> {relabelled, Label, {Id, Other}}
@@ -219,8 +267,8 @@ stamp_cause(_Pid, #{prev := Prev, label := Label, this := This} = Event,
 stamp_cause(Pid, #{prev := Prev, label := Label} = Event, #{newest := Newest} = Known, Unpaired) ->
     Sends = [Send || {Of, Send} <- maps:get({Pid, Prev}, Unpaired, []), Of =:= Label],
     case {put_back(Event, Known), had_received(Event, Known), Sends} of
-        {[{_, Origin}], Earlier, _} when Newest =/= none, Earlier =:= [] orelse Earlier =:= [Origin] ->
-            case had_unreported(Event, Known) of
+        {[{_, Origin}], Earlier, _} when Newest =/= none ->
+            case lists:delete(Origin, Earlier) =/= [] orelse had_unreported(Event, Known) of
                 true -> {perhaps, Origin};
                 false -> {restored, Origin}
             end;
@@ -230,6 +278,10 @@ stamp_cause(Pid, #{prev := Prev, label := Label} = Event, #{newest := Newest} = 
         {[], [], []} -> without_token(Event, Known)
     end.
 
+%% Whether a stamp follows what its process received last, of all that gave it a token which can be stamped so.
+is_of_newest(#{this := This}, Newest, Origins, #{counter := Counter, puts_back := PutsBack}) ->
+    [] =:= [Origin || Origin <- Origins, Origin =/= Newest] orelse This > Counter andalso not PutsBack.
+
 without_token(#{prev := Prev, label := Label}, #{newest := none, row := {Other, Prev, _, _, _}}) when Other =/= Label ->
     {relabelled, Label, none};
 without_token(#{prev := Prev, label := Label}, #{newest := {_, Had, Id}, row := {Other, Prev, _, _, _}})
@@ -238,17 +290,51 @@ without_token(#{prev := Prev, label := Label}, #{newest := {_, Had, Id}, row := 
 without_token(#{prev := 0}, #{newest := none}) ->
     start;
 without_token(#{prev := Prev, label := Label, this := This}, #{prevs := Prevs, received := Received}) ->
-    case {Received, Prevs} of
-        {#{Prev := _}, _} -> {relabelled, Label, open};
+    case {lists:any(fun(Count) -> is_map_key(Count, Received) end, stamped_behind(Prev)), Prevs} of
+        {true, _} -> {relabelled, Label, open};
         {_, #{Prev := Count}} when Count < This -> {relabelled, Label, open};
         {_, _} -> open
     end.
 
-%% A receive that gave a token of this label with which this prev can be stamped, also behind a spawn. That token may be
-%% put back behind a stamp that wasn't reported.
+%% The receives that gave a token of this label with which this prev can be stamped. That token may be put back behind a
+%% stamp that wasn't reported.
 had_received(#{prev := Prev, label := Label}, #{received := Received}) ->
-    [Id || Count <- [Prev] ++ [(Prev - 15) div 16 || Prev rem 16 =:= 15],
-           #{{Label, Count} := Id} <- [Received]].
+    [Id || Count <- stamped_behind(Prev), Id <- maps:get({Label, Count}, Received, [])].
+
+%% The counts of the messages behind which a process stamps this prev: itself, or that of a spawn's answer.
+stamped_behind(Prev) ->
+    [Prev] ++ [(Prev - 15) div 16 || Prev rem 16 =:= 15].
+
+%% What is known of the cause of a send that nobody reported. It was sent at any time: the place that a completion gives
+%% it is only a possible one. So it follows a receive for certain only if no other one fits it, before or behind.
+added_cause(#{at := {Before, _}} = Event, Fitting, Known) ->
+    case {Fitting, [One || {_, {_, At}} = One <- lists:reverse(Fitting), At < Before]} of
+        {[{How, Id}], [{How, Id}]} when How =/= restored -> {How, Id};
+        {_, [{_, Id} | _]} -> {perhaps, Id};
+        {[_ | _], []} -> unseen;
+        {[], []} -> added_begins(Event, Known)
+    end.
+
+%% The receives of its label that it may follow: by their count, as the answer of a spawn, or as that token was put back.
+fitting(#{prev := Prev, label := Label, this := This}, #{all := All}) ->
+    [{How, Id} || {Id, #{label := Of, prev := Had, this := Count}} <- All, Of =:= Label, Count < This,
+                  How <- if
+                             Count =:= Prev -> [received];
+                             16 * Count + 15 =:= Prev -> [spawned];
+                             Had =:= Prev -> [restored];
+                             true -> []
+                         end].
+
+%% It may begin its trace, or its label, or follow a receive that wasn't reported.
+added_begins(#{prev := Prev, label := Label}, #{newest := {Prev, Label, {_, {_, _}} = Id}}) -> {received, Id};
+added_begins(#{prev := Prev, this := This, label := Label}, #{all := All}) ->
+    %% What gave it a token with another label that has its prev.
+    case [One || {_, #{prev := Had, this := Count}} = One <- All, Count < This,
+                 lists:member(Prev, [Had, Count, 16 * Count + 15])] of
+        [_ | _] -> {relabelled, Label, open};
+        [] when Prev =:= 0 -> start;
+        [] -> open
+    end.
 
 %% Whether a send that wasn't reported shows that the process had a token of this label and prev.
 had_unreported(#{prev := Prev, label := Label, this := This}, #{unreported := Unreported}) ->

@@ -6,7 +6,7 @@
 %% been used already. What is exchanged is known from the causes ({@link seqaudit_causes}).
 -module(seqaudit_exchange).
 
--export([put_back/1, may_be_put_back/1, prevs/2, own/3, counts/1]).
+-export([put_back/1, may_be_put_back/1, prevs/1, founded/1, without_invented/3, own/3, counts/1]).
 
 -type causes() :: #{seqaudit_causes:id() => seqaudit_causes:cause()}.
 
@@ -42,33 +42,122 @@ is_put_back(_) -> false.
 causes(Streams) ->
     maps:from_list([{Id, Cause} || #{id := Id, cause := Cause} <- seqaudit_causes:rows(Streams)]).
 
-%% @doc The streams with no other counts than the prevs behind tokens that were put back, or also behind those that may
-%% have been.
--spec prevs(seqaudit_bundle:streams(), certain | in_doubt) -> seqaudit_bundle:streams().
-prevs(Streams, Which) ->
-    PutBack = maps:map(fun(_, Cause) -> is_put_back(Cause) orelse Which =:= in_doubt andalso is_doubted(Cause) end,
-                       causes(Streams)),
-    Given = [{Pid, element(1, lists:mapfoldl(fun(Event, Last) -> prev(Pid, Event, Last, PutBack) end, 0, Events))}
-             || {Pid, Events} <- Streams],
-    Reported = maps:from_list([{message(Event), Prev} || {_, Events} <- Given,
-                                                         {#{kind := send} = Event, Prev} <- Events]),
-    Sent = case Which of
-               certain -> Reported;
-               in_doubt -> maps:merge(unreported(Streams, Reported), Reported)
-           end,
-    [{Pid, [Event#{prev := case Kind of
-                               'receive' -> maps:get(message(Event), Sent, Own);
-                               _ -> Own
-                           end} || {#{kind := Kind} = Event, Own} <- Events]} || {Pid, Events} <- Given].
+%% @doc The streams with no other counts than the prevs behind tokens that were put back.
+-spec prevs(seqaudit_bundle:streams()) -> seqaudit_bundle:streams().
+prevs(Streams) ->
+    Causes = causes(Streams),
+    exchanged(Streams, maps:from_list(lists:append([prevs_of(Pid, Events, Causes) || {Pid, Events} <- Streams]))).
 
-%% The event with the prev that the machine would have given, if that is another, and the count received last.
-prev(_Pid, #{kind := 'receive', prev := Prev, this := This} = Event, _Last, _PutBack) ->
-    {{Event, Prev}, This};
-prev(Pid, #{prev := Prev, at := At} = Event, Last, PutBack) ->
-    {{Event, case PutBack of
-                 #{{Pid, At} := true} when Prev =/= 16 * Last + 15 -> Last;
-                 #{} -> Prev
-             end}, Last}.
+prevs_of(Pid, Events, Causes) ->
+    {Found, _} = lists:foldl(fun(#{kind := 'receive', this := This}, {Found, _}) ->
+                                     {Found, This};
+                                (#{at := At, prev := Prev} = Event, {Found, Last}) ->
+                                     Moved = is_put_back(maps:get({Pid, At}, Causes)) andalso Prev =/= 16 * Last + 15,
+                                     {[{{Pid, Event}, Last} || Moved] ++ Found, Last}
+                             end, {[], 0}, Events),
+    Found.
+
+%% The streams with these prevs of some stamps. A receive has the prev of its send, which may not be reported.
+exchanged(Streams, Prevs) ->
+    Sent = maps:from_list([{message(Event), Prev} || {{_, #{kind := send} = Event}, Prev} <- maps:to_list(Prevs)]),
+    [{Pid, [case {Event, Prevs} of
+                {#{kind := 'receive', prev := Own}, _} -> Event#{prev := maps:get(message(Event), Sent, Own)};
+                {_, #{{Pid, Event} := Prev}} -> Event#{prev := Prev};
+                {_, _} -> Event
+            end || Event <- Events]} || {Pid, Events} <- Streams].
+
+%% @doc Other prevs for stamps with prev 0 that have it as a token was put back, if they have it for no other reason: a
+%% process that has received something, or stamped something behind that, stamps no 0 any more.
+-spec founded(seqaudit_bundle:streams()) -> seqaudit_bundle:streams().
+founded(Streams) ->
+    Hidden = hidden(Streams),
+    exchanged(Streams, maps:from_list(lists:append([founded_of(Pid, merged(Events, maps:get(Pid, Hidden, [])))
+                                                    || {Pid, Events} <- Streams]))).
+
+founded_of(Pid, Events) ->
+    {Found, _} = lists:foldl(fun(#{kind := 'receive', this := This}, {Found, _}) -> {Found, This};
+                                (#{prev := 0} = Event, {Found, Left}) when Left > 0 ->
+                                     {[{{Pid, Event}, Left} | Found], Left};
+                                (#{prev := Prev}, {Found, _}) -> {Found, Prev}
+                             end, {[], 0}, Events),
+    Found.
+
+%% The sends of each process that only their receives tell of, by rising count.
+hidden(Streams) ->
+    Sent = maps:from_keys([message(Event) || {_, Events} <- Streams, #{kind := send} = Event <- Events], reported),
+    maps:map(fun(_, Sends) -> lists:sort(fun(#{this := A}, #{this := B}) -> A =< B end, Sends) end,
+             maps:groups_from_list(fun(#{from := From}) -> From end,
+                                   [Event#{kind := send}
+                                    || {_, Events} <- Streams, #{kind := 'receive'} = Event <- Events,
+                                       not is_map_key(message(Event), Sent)])).
+
+%% The events of a process with such sends, each at its last place: before its count is reached.
+merged([#{this := Count} | _] = Events, [#{this := This} = Send | Sends]) when This =< Count ->
+    [Send | merged(Events, Sends)];
+merged([Event | Events], Sends) ->
+    [Event | merged(Events, Sends)];
+merged([], Sends) ->
+    Sends.
+
+%% @doc The streams as they were asked about with other prevs for those stamps for whose sake a completion of them
+%% invents a message, if a token that was put back explains them as well: one with the stamp's own prev, as `Streams' have
+%% it, that the process may have had.
+-spec without_invented(Streams :: seqaudit_bundle:streams(), Asked :: seqaudit_bundle:streams(),
+                       Completed :: seqaudit_bundle:streams()) -> seqaudit_bundle:streams().
+without_invented(Streams, Asked, Completed) ->
+    Invented = maps:from_keys([Id || #{id := Id, invented := true} <- seqaudit_causes:rows(Completed)], invented),
+    Own = own_prevs(Streams, Asked),
+    Hidden = hidden(Streams),
+    exchanged(Asked, maps:from_list(
+        lists:append([explained(Pid, Events, Invented, Own,
+                                had(proplists:get_value(Pid, Streams, []), maps:get(Pid, Hidden, [])))
+                      || {Pid, Events} <- Completed]))).
+
+%% The own prev of each stamp of the asked streams, also of those that only a receive tells of.
+own_prevs(Streams, Asked) ->
+    maps:from_list([{case Event of
+                         #{kind := 'receive'} -> message(Event);
+                         #{at := At} -> {Pid, At}
+                     end, Prev}
+                    || {{Pid, Owns}, {Pid, Events}} <- lists:zip(Streams, Asked),
+                       {#{prev := Prev}, Event} <- lists:zip(Owns, Events)]).
+
+%% The prevs of the tokens that a process may have had, each with the first place and the least count with which an
+%% event shows it.
+had(Events, Hidden) ->
+    Shown = [{Prev, {At, This}} || #{at := At, this := This} = Event <- Events, Prev <- shows(Event)]
+        ++ [{Prev, {-1, This}} || #{prev := Prev, this := This} <- Hidden],
+    maps:map(fun(_, Places) -> lists:usort(Places) end,
+             maps:groups_from_list(fun({Prev, _}) -> Prev end, fun({_, Place}) -> Place end, Shown)).
+
+shows(#{kind := 'receive', prev := Prev, this := This}) -> [Prev, This, 16 * This + 15];
+shows(#{prev := Prev}) -> [Prev].
+
+%% The stamps of a process behind each invented receive that have its count, with the prev that is left without it.
+explained(Pid, Events, Invented, Own, Had) ->
+    {Found, _, _} = lists:foldl(fun(#{at := At} = Event, State) ->
+                                        explain(Event, is_map_key({Pid, At}, Invented), Pid, Own, Had, State)
+                                end, {[], 0, none}, Events),
+    Found.
+
+explain(#{kind := 'receive', this := This}, true, _Pid, _Own, _Had, {Found, Left, _}) ->
+    {Found, Left, This};
+explain(#{kind := 'receive', this := This}, false, _Pid, _Own, _Had, {Found, _, _}) ->
+    {Found, This, none};
+explain(_, true, _Pid, _Own, _Had, State) ->
+    State;
+explain(#{prev := Prev} = Event, false, Pid, Own, Had, {Found, Left, Prev}) ->
+    case may_have_had(Event, Pid, Own, Had) of
+        true -> {[{{Pid, Event}, Left} | Found], Left, Prev};
+        false -> {Found, Prev, none}
+    end;
+explain(#{prev := Prev}, false, _Pid, _Own, _Had, {Found, _, _}) ->
+    {Found, Prev, none}.
+
+%% A send that wasn't reported may come behind any event.
+may_have_had(#{at := At, this := This} = Event, Pid, Own, Had) ->
+    Prev = maps:get(case At of {_, _} -> message(Event); _ -> {Pid, At} end, Own),
+    lists:any(fun({Place, Count}) -> Count < This andalso (is_tuple(At) orelse Place < At) end, maps:get(Prev, Had, [])).
 
 %% @doc Streams that were completed with exchanged prevs, with the node's own. What was added has the own prev of the
 %% event with its count.
@@ -87,45 +176,19 @@ stamp(#{from := From, prev := Prev, this := This, label := Label}) -> {From, Pre
 message(#{from := From, to := To, prev := Prev, this := This, label := Label, value := Value}) ->
     {From, To, Prev, This, Label, Value}.
 
-%% The prevs that the machine would have given sends which only their receives tell of.
-unreported(Streams, Reported) ->
-    Sends = maps:groups_from_list(fun({From, _}) -> From end, fun({_, Send}) -> Send end,
-                                  [{From, {This, Prev, message(Event)}}
-                                   || {_, Events} <- Streams,
-                                      #{kind := 'receive', from := From, prev := Prev, this := This} = Event <- Events,
-                                      not is_map_key(message(Event), Reported)]),
-    maps:from_list(lists:append([unreported_of(Events, lists:usort(maps:get(Pid, Sends, [])), [0])
-                                 || {Pid, Events} <- Streams])).
-
-%% Such a send is before the first stamp with a greater count.
-unreported_of([], Sends, Received) ->
-    given(Sends, lists:reverse(Received));
-unreported_of([#{kind := 'receive', this := This} | Events], Sends, Received) ->
-    unreported_of(Events, Sends, [This | Received]);
-unreported_of([#{this := This} | Events], Sends, [Last | _] = Received) ->
-    {Before, Behind} = lists:splitwith(fun({Count, _, _}) -> Count < This end, Sends),
-    given(Before, lists:reverse(Received)) ++ unreported_of(Events, Behind, [Last]).
-
-%% A send follows a receive that isn't before that of the send before it, perhaps with a spawn's answer between; if
-%% none of these has its prev, a token was put back.
-given([], _Received) ->
-    [];
-given([{_, Prev, Message} | Sends], [Last | _] = Received) ->
-    case lists:dropwhile(fun(Count) -> Prev =/= Count andalso Prev =/= 16 * Count + 15 end, Received) of
-        [] -> [{Message, Last} | given(Sends, Received)];
-        [_ | Later] -> [{Message, Prev} | given(Sends, [Prev | Later])]
-    end.
-
-%% @doc Whether tokens may have been put back, though it isn't certain.
+%% @doc Whether tokens may have been put back, though it isn't certain: a stamp has another prev than the message that its
+%% process received last, or no greater count. A counter that only went back is a reset's as well.
 -spec may_be_put_back([seqaudit_causes:row()]) -> boolean().
 may_be_put_back(Rows) ->
-    lists:any(fun(#{cause := Cause, event := #{prev := Prev, this := This}}) ->
-                      is_perhaps(Cause) orelse This =< Prev
-              end, Rows).
+    {Found, _} = lists:foldl(fun(Row, {Found, Last}) -> may_be_put_back(Row, Found, Last) end, {false, #{}}, Rows),
+    Found.
 
-%% The label may also be set on a token that was put back.
-is_doubted({relabelled, _, _}) -> true;
-is_doubted(Cause) -> is_perhaps(Cause).
+may_be_put_back(#{event := #{prev := Prev, this := This}}, _Found, Last) when This =< Prev ->
+    {true, Last};
+may_be_put_back(#{event := #{kind := 'receive', label := Label, this := This}, actor := Actor}, Found, Last) ->
+    {Found, Last#{Actor => {Label, This}}};
+may_be_put_back(#{event := #{label := Label, prev := Prev}, actor := Actor, cause := Cause}, Found, Last) ->
+    {Found orelse is_perhaps(Cause) andalso maps:get(Actor, Last, none) =/= {Label, Prev}, Last}.
 
 is_perhaps({perhaps, _}) -> true;
 is_perhaps({relabelled, _, open}) -> true;

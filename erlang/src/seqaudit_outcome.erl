@@ -56,9 +56,9 @@
 ask(Streams) ->
     Rows = seqaudit_causes:rows(Streams),
     case {seqaudit_exchange:put_back(Rows), seqaudit_exchange:may_be_put_back(Rows)} of
-        {[_ | _], _} -> ask_exchanged([prevs, counts], Streams, fun() -> ask_in_doubt([prevs_in_doubt], Streams) end);
-        {[], true} -> ask_in_doubt([counts, prevs_in_doubt], Streams);
-        {[], false} -> ask_in_doubt([], Streams)
+        {[_ | _], _} -> ask_exchanged([prevs, counts], Streams, fun() -> ask_in_doubt([], may, Streams) end);
+        {[], true} -> ask_in_doubt([counts], may, Streams);
+        {[], false} -> ask_in_doubt([], never, Streams)
     end.
 
 %% @doc The rows of the streams that are shown, in an order in which no event comes before its cause. The
@@ -70,20 +70,60 @@ rows(#{streams := Streams, asked := Asked}) ->
 rows(#{streams := Streams}) ->
     seqaudit_causes:rows(Streams).
 
-%% Other counts are tried if the streams don't fit as they are; and before a message is invented, also the prevs behind
-%% each token that may have been put back.
-ask_in_doubt(Hows, Streams) ->
+%% Other counts are tried if the streams don't fit as they are. If a stamp's prev of 0 has no reason, a reset explains it,
+%% and so does a token that was put back, if tokens may have been. The latter also explains stamps for whose sake messages
+%% were invented.
+ask_in_doubt(Hows, PutBack, Streams) ->
     case ask_as_it_is(Streams) of
-        {ok, #{said := fits}} = Fits -> Fits;
-        {ok, #{said := completed} = Outcome} = AsItIs ->
-            Doubted = [prevs_in_doubt || invents(Outcome)],
-            ask_exchanged((Hows -- [prevs_in_doubt]) ++ Doubted, Streams, fun() -> AsItIs end);
-        {ok, _} = AsItIs -> ask_exchanged(Hows, Streams, fun() -> AsItIs end);
+        {ok, #{said := fits}} = Fits ->
+            Fits;
+        {ok, #{said := completed} = Outcome} ->
+            ask_exchanged(Hows, Streams, fun() -> ask_with_fewer_invented(Streams, Streams, Outcome, Outcome) end);
+        {ok, #{said := never, finding := {<<"unfounded">>, _}}} = AsItIs when PutBack =:= may ->
+            ask_exchanged(Hows, Streams, fun() -> ask_founded(Streams, AsItIs) end);
+        {ok, _} = AsItIs ->
+            ask_exchanged(Hows, Streams, fun() -> AsItIs end);
+        {error, Reason} ->
+            {error, Reason}
+    end.
+
+ask_founded(Streams, AsItIs) ->
+    Founded = seqaudit_exchange:founded(Streams),
+    case ask_as_it_is(Founded) of
+        {ok, #{said := Said} = Outcome} when Said =:= fits; Said =:= completed ->
+            case with_own(Outcome, Streams, Founded) of
+                {ok, Own} -> ask_with_fewer_invented(Streams, Founded, Outcome, Own);
+                differs -> AsItIs
+            end;
+        {ok, _} -> AsItIs;
         {error, Reason} -> {error, Reason}
     end.
 
-invents(#{streams := Completed}) ->
-    lists:any(fun(#{invented := Invented}) -> Invented end, seqaudit_causes:rows(Completed)).
+%% `Outcome' is of the asked streams, and `Best' is it with the node's own counts.
+ask_with_fewer_invented(Streams, Asked, #{streams := Completed}, Best) ->
+    case invented(Best) > 0 andalso seqaudit_exchange:without_invented(Streams, Asked, Completed) of
+        false -> {ok, Best};
+        Asked -> {ok, Best};
+        Exchanged -> ask_with_fewer_invented(Streams, Exchanged, Best)
+    end.
+
+ask_with_fewer_invented(Streams, Exchanged, Best) ->
+    case ask_as_it_is(Exchanged) of
+        {ok, #{said := Said} = Outcome} when Said =:= fits; Said =:= completed ->
+            case with_own(Outcome, Streams, Exchanged) of
+                {ok, Own} ->
+                    case invented(Own) < invented(Best) of
+                        true -> ask_with_fewer_invented(Streams, Exchanged, Outcome, Own);
+                        false -> {ok, Best}
+                    end;
+                differs -> {ok, Best}
+            end;
+        {ok, _} -> {ok, Best};
+        {error, Reason} -> {error, Reason}
+    end.
+
+invented(#{streams := Completed}) ->
+    length([Id || #{id := Id, invented := true} <- seqaudit_causes:rows(Completed)]).
 
 %% What is said of the streams with other counts, if these fit; else what is said of the streams.
 ask_exchanged([], _Streams, AsTheyAre) ->
@@ -93,9 +133,6 @@ ask_exchanged([How | Others], Streams, AsTheyAre) ->
         unknown -> ask_exchanged(Others, Streams, AsTheyAre);
         {ok, Exchanged} ->
             case ask_as_it_is(Exchanged) of
-                {ok, #{said := Said} = Outcome} when How =:= prevs_in_doubt, Said =:= fits;
-                                                     How =:= prevs_in_doubt, Said =:= completed ->
-                    fits_in_doubt(Outcome, Streams, Exchanged, AsTheyAre);
                 {ok, #{said := fits} = Outcome} ->
                     {ok, Outcome#{streams := Streams, exchanged := How, asked => Exchanged}};
                 {ok, _} -> ask_exchanged(Others, Streams, AsTheyAre);
@@ -103,19 +140,18 @@ ask_exchanged([How | Others], Streams, AsTheyAre) ->
             end
     end.
 
-%% What nobody reported is shown with the node's own counts too.
-fits_in_doubt(#{streams := Completed} = Outcome, Streams, Exchanged, AsTheyAre) ->
+%% The outcome of exchanged streams with the node's own counts, in what nobody reported too.
+with_own(#{streams := Completed} = Outcome, Streams, Exchanged) ->
     Own = Outcome#{streams := seqaudit_exchange:own(Completed, Streams, Exchanged)},
-    case not invents(Own) andalso ids(Own) =:= ids(Outcome) of
+    case ids(Own) =:= ids(Outcome) of
         true -> {ok, Own#{exchanged := prevs, asked => Completed}};
-        false -> AsTheyAre()
+        false -> differs
     end.
 
 ids(#{streams := Streams}) ->
     lists:sort([Id || #{id := Id} <- seqaudit_causes:rows(Streams)]).
 
-exchange(prevs, Streams) -> {ok, seqaudit_exchange:prevs(Streams, certain)};
-exchange(prevs_in_doubt, Streams) -> {ok, seqaudit_exchange:prevs(Streams, in_doubt)};
+exchange(prevs, Streams) -> {ok, seqaudit_exchange:prevs(Streams)};
 exchange(counts, Streams) -> seqaudit_exchange:counts(Streams).
 
 ask_as_it_is(Streams) ->

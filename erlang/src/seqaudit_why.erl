@@ -30,7 +30,7 @@ time(Id, Times) ->
 
 by({spawned, _}) -> "(OTP moved the counter when it answered a spawn) ";
 by({restored, _}) -> "(a token was put back here) ";
-by({perhaps, _}) -> "(perhaps: a token may have been put back here) ";
+by({perhaps, _}) -> "(perhaps: counts alone don't tell) ";
 by({alike, _}) -> "(perhaps: another message is like it) ";
 by({unreported, _}) -> "(perhaps: its receive wasn't reported) ";
 by({received, {_, {_, _}}}) -> "(perhaps: it wasn't reported) ";
@@ -84,7 +84,7 @@ cause({sent, {sent_to, _}}, _Legend) -> "its send wasn't reported";
 cause({alike, Id}, Legend) -> ["perhaps after ", name(Id, Legend), ", or after another message like it"];
 cause({spawned, Id}, Legend) -> ["after ", name(Id, Legend), ", a spawn's answer"];
 cause({restored, Id}, Legend) -> ["after ", name(Id, Legend), ", whose token was put back"];
-cause({perhaps, Id}, Legend) -> ["perhaps after ", name(Id, Legend), ", whose token was put back"];
+cause({perhaps, Id}, Legend) -> ["perhaps after ", name(Id, Legend), ", as counts alone don't tell"];
 cause({unreported, Id}, Legend) -> ["perhaps after ", name(Id, Legend), ", whose receive wasn't reported"];
 cause({received, {_, {_, _}} = Id}, Legend) -> ["perhaps after ", name(Id, Legend), ", which wasn't reported"];
 cause({_, {_, {_, _}} = Id}, Legend) -> ["after ", name(Id, Legend), ", which wasn't reported"];

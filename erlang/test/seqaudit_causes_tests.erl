@@ -136,7 +136,17 @@ put_back_test() ->
     [{perhaps, {P, 0}}] = causes([{'receive', 7, 2, 8}, {'receive', 5, 1, 8}, {print, 7, 8, 11}]),
     [{perhaps, {P, 1}}] = causes([{'receive', 5, 1, 2}, {'receive', 7, 0, 1}, {'receive', 7, 3, 4}, {print, 7, 1, 4}]),
     [{perhaps, {P, 0}}] = causes([{'receive', 7, 6, 7}, {'receive', 7, 130, 131}, {print, 7, 127, 131}]),
-    [{relabelled, <<"6">>, open}] = causes([{'receive', 7, 2, 8}, {'receive', 7, 9, 10}, {print, 6, 8, 11}]).
+    [{relabelled, <<"6">>, open}] = causes([{'receive', 7, 2, 8}, {'receive', 7, 9, 10}, {print, 6, 8, 11}]),
+    [{relabelled, <<"6">>, open}] = causes([{'receive', 7, 9, 11}, {'receive', 7, 192, 193}, {print, 6, 191, 194}]),
+    %% A counter that isn't above where it stood went back, so what was received last isn't the cause.
+    [{received, {P, 0}}, {received, {P, 0}}, {perhaps, {P, 0}}] =
+        causes([{'receive', 7, 1, 3}, {print, 7, 3, 4}, {print, 7, 3, 5}, {'receive', 7, 2, 3}, {print, 7, 3, 5}]),
+    %% Nor is it certain to be if another message has its count, in a process that puts tokens back.
+    [{received, {P, 0}}, {received, {P, 2}}] =
+        causes([{'receive', 7, 1, 3}, {print, 7, 3, 4}, {'receive', 7, 2, 3}, {print, 7, 3, 5}]),
+    [{received, {P, 0}}, {perhaps, {P, 2}}, {restored, {P, 4}}] =
+        causes([{'receive', 7, 1, 3}, {print, 7, 3, 4}, {'receive', 7, 2, 3}, {print, 7, 3, 5}, {'receive', 8, 9, 10},
+                {print, 8, 9, 11}]).
 
 %% Where all is reported, the parts begin exactly where the reset stood, for each process for which
 %% an event tells; and what isn't told by any is never cut off a message that it belongs to.

@@ -12,9 +12,22 @@ check(Name, Log, #{flags := Flags, late := Late} = How) ->
     Had = maps:from_keys([{Actor, Number} || #{actor := Actor, event := #{kind := 'receive'},
                                                content := {Number, _, _}} <- Rows], had),
     Premises = lists:member('receive', Flags) andalso not Late,
-    Judged = [judged(Row, Index, Had, Premises, Name) || #{hidden := false, content := {_, _, _}} = Row <- Rows],
     {ok, Outcome} = seqaudit_outcome:ask(Streams),
+    %% What `audit', `why' and charts show has what nobody reported too, in the run that was found.
+    Shown = [Row#{content => content(Row, Legend)} || Row <- seqaudit_outcome:rows(Outcome)],
+    Judged = [judged(Row, Index, Had, Premises, Name) || Row <- Rows, is_told(Row)]
+        ++ [shown(judged(Row, seqaudit_causes:index(Shown), Had, Premises, Name)) || Row <- Shown, is_told(Row)],
     lists:foldl(fun seqaudit_truth:sum/2, headline(Outcome, Log, How, {Name, Legend, Rows}), Judged).
+
+%% Whether the truth of an event is known.
+is_told(#{hidden := false, invented := false, content := {_, _, _}}) -> true;
+is_told(_) -> false.
+
+%% Counted apart from what is said of the trace alone.
+shown(Said) -> maps:fold(fun(What, Count, Sum) -> Sum#{shown_as(What) => Count} end, #{}, Said).
+
+shown_as(false) -> false;
+shown_as(What) -> {shown, What}.
 
 content(#{event := #{value := Value}}, Legend) ->
     Text = seqaudit_legend:value(Value, Legend),
@@ -53,6 +66,8 @@ is_true({sent, Send}, #{content := Content}, Index, _Had) ->
                           Other =:= Content];
         #{Send := #{content := Other}} -> Other =:= Content
     end;
+%% What follows something unreported is said to do so perhaps.
+is_true({received, {_, {_, _}}}, _Row, _Index, _Had) -> not_said;
 is_true({How, Id}, #{content := {_, True, _}}, Index, _Had) when How =:= received; How =:= spawned; How =:= restored ->
     case maps:get(Id, Index) of
         #{content := spawn_reply, event := #{kind := 'receive'}} -> true;
@@ -73,16 +88,16 @@ is_true(open, #{actor := Actor, content := {_, <<"spawned">>, _}}, Index, _Had) 
                       <- maps:values(Index),
                   One =:= Actor];
 is_true(open, #{actor := Actor, content := {_, True, _}}, _Index, Had) -> not is_map_key({Actor, True}, Had);
-is_true({How, _}, _Row, _Index, _Had) when How =:= unreported; How =:= perhaps; How =:= alike -> not_said.
+is_true({How, _}, _Row, _Index, _Had) when How =:= unreported; How =:= perhaps; How =:= alike -> not_said;
+is_true(unseen, _Row, _Index, _Had) -> not_said.
 
 %% What is said of the whole trace. Where everything was reported, nothing that nobody reported can be missing.
 headline(#{said := Said, streams := Shown} = Outcome, Log, #{flags := Flags, late := Late}, {Name, Legend, Rows}) ->
     Text = unicode:characters_to_binary(seqaudit_explain:headline(Outcome, Legend)),
     All = not Late andalso [] =:= [send, 'receive', print] -- Flags,
     Whole = has(Text, "nothing is known to be missing"),
-    %% A process that puts a token back and whose sends aren't reported can't be seen to.
-    Received = not Late andalso lists:member('receive', Flags),
-    Premises = Received andalso lists:member(send, Flags),
+    %% A message of which no event tells can be supposed only if receives weren't reported.
+    Premises = not Late andalso lists:member('receive', Flags),
     Missing = missing(Rows, Log),
     ShownRows = seqaudit_causes:rows(Shown),
     Invented = [Id || #{id := Id, invented := true} <- ShownRows],
@@ -96,10 +111,8 @@ headline(#{said := Said, streams := Shown} = Outcome, Log, #{flags := Flags, lat
                    ++ [{exchanged, 1} || Exchanged <- [maps:get(exchanged, Outcome)], Exchanged =/= none]
                    ++ [{doesnt_fit, [{Name, reason(Outcome)}]} || Said =:= never]
                    ++ [{false, [{Name, What, Of} || {What, Of} <- False]}]
-                   ++ [{{programs, case Received of
-                                       true -> sends_unreported;
-                                       false -> receives_unreported
-                                   end, with_invented_messages}, 1} || not Premises, Invented =/= []]).
+                   ++ [{{programs, receives_unreported, with_invented_messages}, 1}
+                       || not Premises, Invented =/= []]).
 
 has(Text, Words) -> binary:match(Text, list_to_binary(Words)) =/= nomatch.
 

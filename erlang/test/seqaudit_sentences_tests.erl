@@ -1,7 +1,8 @@
 %% What the commands say of programs on real nodes whose truth is known.
 -module(seqaudit_sentences_tests).
 
--export([calls_under_labels_test_/0, token_put_back_test_/0, put_back_in_doubt_test_/0, kept_tokens_test_/0,
+-export([calls_under_labels_test_/0, token_put_back_test_/0, put_back_in_doubt_test_/0, unreported_put_back_test_/0,
+         unreported_send_test_/0, tokens_alike_test_/0, kept_tokens_test_/0,
          second_trace_test_/0, unknown_message_test_/0, flags_test_/0, high_counter_test_/0, messages_alike_test_/0,
          split_test_/0, forged_loss_test_/0, unlisted_test_/0, slow_model_test_/0]).
 
@@ -152,6 +153,112 @@ put_back_in_doubt_test_() ->
                     "would have given the events behind them; "]),
         has_none(Audit, ["unknown message", "1 receive"]),
         has(Command(["why", "--event", "noting#2"]), ["because (perhaps: "])
+    end).
+
+%% The same of a token that was put back to send something, which nobody reported. The send's count is below that of
+%% message 7, and its prev is the count of message 4 and the prev of message 5, whose token it was.
+unreported_put_back_test_() ->
+    traced("unreported_put_back", fun() ->
+        Self = self(),
+        begun(told, fun() -> receive answer -> seq_trace:set_token([]) end, Self ! done end),
+        begun(keeper, fun() ->
+            receive 3 -> [seq_trace:print(N) || N <- [1, 2]] end,
+            [receive N -> ok end || N <- [7, 4, 5]],
+            Token = seq_trace:set_token([]),
+            seq_trace:set_token(Token),
+            told ! answer,
+            seq_trace:set_token([])
+        end),
+        begun(passes, fun() -> receive pass -> keeper ! 5, seq_trace:set_token([]) end end),
+        Tell = fun(Count, To, What) ->
+                   seq_trace:set_token(label, 1),
+                   [seq_trace:set_token(Flag, true) || Flag <- ['receive', print]],
+                   [seq_trace:print(N) || N <- lists:seq(2, Count)],
+                   To ! What,
+                   seq_trace:set_token([])
+               end,
+        Tellers = [begin
+                       Name = list_to_atom("teller" ++ integer_to_list(N)),
+                       begun(Name, fun() -> Tell(N, keeper, N) end),
+                       Name
+                   end || N <- [3, 7, 4]],
+        begun(begins, fun() -> Tell(4, passes, pass) end),
+        receive done -> ok end,
+        seqaudit_test_nodes:met_here(),
+        left([told, keeper, passes, begins | Tellers])
+    end, fun(Command) ->
+        Audit = Command(["audit"]),
+        has(Audit, ["fits: ", "Tokens may have been put back (seq_trace:set_token/1), so the audit took the prevs"]),
+        has_none(Audit, ["unknown message", " receive that nobody reported"]),
+        has(Command(["why", "--event", "told#0"]),
+            ["keeper sends answer to told, serial {4,6}, label 1\n"
+             "That send wasn't reported, so its cause isn't known.\n"])
+    end).
+
+%% What an unreported send follows is certain only if one receive alone fits it. A send whose prev is 0 needn't begin the
+%% trace.
+unreported_send_test_() ->
+    traced("unreported_send", fun() ->
+        Self = self(),
+        begun(told, fun() -> [receive N -> ok end || N <- [1, 2]], seq_trace:set_token([]), Self ! done end),
+        begun(teller, fun() ->
+            receive {tell, 1} -> ok end,
+            Token = seq_trace:set_token([]),
+            seq_trace:set_token(Token),
+            told ! 1,
+            receive {tell, 2} -> told ! 2, seq_trace:set_token([]) end
+        end),
+        begun(begins, fun() ->
+            [begin
+                 seq_trace:set_token(label, Label),
+                 [seq_trace:set_token(Flag, true) || Flag <- ['receive', print]],
+                 teller ! {tell, Label}
+             end || Label <- [1, 2]],
+            seq_trace:set_token([])
+        end),
+        receive done -> ok end,
+        seqaudit_test_nodes:met_here(),
+        left([told, teller, begins])
+    end, fun(Command) ->
+        has(Command(["audit"]), ["fits: 4 events of 3 processes, with 4 sends that nobody reported\n"]),
+        has(Command(["why", "--event", "told#0"]),
+            ["teller sends 1 to told, serial {0,2}, label 1\nThat send wasn't reported, so its cause isn't known.\n"]),
+        has(Command(["why", "--event", "told#1"]),
+            ["teller sends 2 to told, serial {2,3}, label 2\nbecause teller#1: teller receives {tell,2} from begins, ",
+             "\nThere begins begins here.\n"])
+    end).
+
+%% Two messages of one label have one count, and the token of the first is put back behind the second, with a count that
+%% the second's token would have too. But before that a lower count shows that the process puts tokens back.
+tokens_alike_test_() ->
+    traced("tokens_alike", fun() ->
+        Self = self(),
+        begun(twice, fun() ->
+            First = receive {first, _} -> seq_trace:print(1), seq_trace:set_token([]) end,
+            receive {second, _} -> ok end,
+            Second = seq_trace:set_token([]),
+            seq_trace:set_token(Second),
+            [seq_trace:print(N) || N <- [2, 3, 4]],
+            seq_trace:set_token(First),
+            seq_trace:print(5),
+            seq_trace:set_token([]),
+            Self ! done
+        end),
+        [begin
+             begun(Name, fun() ->
+                 with_all(1),
+                 [seq_trace:print(N) || N <- [1, 2]],
+                 twice ! {Name, 1},
+                 seq_trace:set_token([])
+             end),
+             seqaudit_test_nodes:until(fun() -> process_info(whereis(Name), status) =:= {status, waiting} end)
+         end || Name <- [first, second]],
+        receive done -> ok end,
+        seqaudit_test_nodes:met_here(),
+        left([first, second, twice])
+    end, fun(Command) ->
+        Why = Command(["why", "--event", "twice#6"]),
+        has(Why, ["twice#6: twice prints 5, serial {3,5}, label 1\nbecause (perhaps: counts alone don't tell) twice#0: "])
     end).
 
 %% A server keeps the token of each client that waits, and puts it back to reply.
