@@ -227,7 +227,9 @@ pub struct EndlessSource {
 
 impl EndlessSource {
     /// The endless source, which has no state.
-    pub fn new() -> EndlessSource {
+    pub fn new() -> EndlessSource
+        ensures { result.unit ≡ tt }
+    {
         EndlessSource { unit: () }
     }
 }
