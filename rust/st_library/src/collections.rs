@@ -139,6 +139,11 @@ impl<T: Ord> BTreeSet<T> {
         BTreeSet { inner: std::collections::BTreeSet::new() }
     }
 
+    /// As theirs.
+    pub fn len(&self) -> usize {
+        self.inner.len()
+    }
+
     /// See `BTreeMap`.
     pub fn insert(&mut self, item: T) -> Result<bool, AllocFailed<T>> {
         Ok(self.inner.insert(item))
