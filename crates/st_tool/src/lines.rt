@@ -21,6 +21,8 @@ pub(crate) enum OutputLine {
     NoActs,
     /// The acts, or the processes, are more than the reader takes.
     Long,
+    /// The checker doesn't accept the acts that were built.
+    Uncertified,
     /// `seqaudit` doesn't read so much.
     ForSeqtool,
     /// So many events were added.
@@ -86,6 +88,7 @@ impl TextLine for OutputLine {
         match self {
             OutputLine::NoActs => put_bytes(buffer, b"fault no acts"),
             OutputLine::Long => put_bytes(buffer, b"long"),
+            OutputLine::Uncertified => put_bytes(buffer, b"fault certificate"),
             OutputLine::ForSeqtool => {
                 put_bytes(
                     buffer,
