@@ -75,7 +75,7 @@ fn a_token_is_set_once(rt: HostRuntime) -> Result<(), Fail> {
     // A tracer, a token, and the five events.
     same(&rt, &found.acts.len(), &7);
     let fewer = certificate::<MOST>(&rt, rt.alloc(), &streams, &completion, 6);
-    assert!(rt; matches!(fewer, Err(CertificateFault::TooMany)));
+    assert!(rt; matches!(fewer, Err(CertificateFault::TooManyActs)));
     Ok(())
 }
 

@@ -92,7 +92,7 @@ fn a_completion_has_acts(rt: HostRuntime) -> Result<(), Fail> {
         let found = certificate::<MOST>(&rt, alloc, &streams, &completion, 100)?;
         assert!(rt; !found.acts.is_empty());
         let few = certificate::<MOST>(&rt, alloc, &streams, &completion, 3);
-        assert!(rt; matches!(few, Err(CertificateFault::TooMany)));
+        assert!(rt; matches!(few, Err(CertificateFault::TooManyActs)));
     }
     Ok(())
 }

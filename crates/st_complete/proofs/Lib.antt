@@ -1,4 +1,5 @@
 -- The lemmas. Upper crates cite none of them.
 pub mod Answered
+pub mod Bounded
 pub mod Judged
 pub mod Linked

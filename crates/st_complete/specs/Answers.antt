@@ -1,11 +1,12 @@
 -- What the results mean: a completion, or a place and a reason why no acts without a reset show the
 -- streams, whatever other processes report nothing.
-use Rattle.std.specs.Prelude.{◌≡◌, ℕ, ◌<◌, ◌≤◌, false, List, Some, None}
+use Rattle.std.specs.Prelude.{◌≡◌, ℕ, ◌<◌, ◌≤◌, false, length, List, Some, None}
 use Rattle.st_core.specs.declared.types.Act.{Act}
 use Rattle.st_core.specs.declared.types.Pid.{Pid}
 use Rattle.st_core.specs.declared.types.Event.{Event}
 use Rattle.st_core.specs.Laws.{NoReset}
 use Rattle.st_core.specs.Run.{Shows, Stream}
+use Rattle.st_core.specs.Verdict.{IsVerdict, Yes}
 use Rattle.st_pair.specs.declared.answer.PairFault.TheVariants as fault
 use Rattle.st_pair.specs.Pairing.{refusal}
 use Rattle.st_pair.specs.Places.{event_at, is_stamp}
@@ -17,6 +18,7 @@ use Rattle.st_open.specs.Silent.{with_silent}
 use Rattle.st_needs.specs.Completions.{Completed, Completes}
 use Rattle.st_complete.specs.declared.answer.Never.{Never}
 use Rattle.st_complete.specs.declared.answer.Never.TheVariants as never
+use Rattle.st_complete.specs.declared.answer.Certificate.{Certificate}
 use Rattle.st_complete.specs.declared.answer.Answer.{Answer}
 use Rattle.st_complete.specs.declared.answer.Answer.TheVariants as answer
 
@@ -82,6 +84,15 @@ pub record IsNever (top : ℕ) (streams : List Stream) (p : Pid) (i : ℕ) (reas
     : Type 0 where
   pub holds : IsReason top streams p i reason
   pub final : IsFinal top streams reason
+
+-- these acts show the streams without a reset and are at most so many, and the checker's yes has these
+-- pairs
+pub record IsCertificate (top : ℕ) (streams : List Stream) (most : ℕ) (found : Certificate)
+    : Type 0 where
+  pub verdict : IsVerdict top streams found.acts (Yes found.pairs)
+  pub shows : Shows top streams found.acts
+  pub one_trace : NoReset found.acts
+  pub within : length found.acts ≤ most
 
 -- For the parts alone: a completion, or a reason that holds.
 abbrev pub IsFound : ℕ → List Stream → Answer → Type 0

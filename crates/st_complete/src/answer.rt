@@ -61,7 +61,13 @@ pub enum CertificateFault {
     /// Memory ran out. The same call may succeed later.
     #[error("no memory")]
     Memory,
-    /// More acts are needed than the caller takes.
+    /// The acts that were tried are too many or don't serve, and the completion surely has room only
+    /// in more acts than the caller takes: six for each event, one for each count that a process
+    /// passes unreported, and one for each process.
     #[error("too many acts")]
-    TooMany,
+    TooManyActs,
+    /// The acts that were tried are too many or don't serve, though the caller takes so many. No test
+    /// has seen it.
+    #[error("no certificate")]
+    Uncertified,
 }

@@ -1,11 +1,13 @@
 //! The acts of a completion.
 
-ghost use Rattle.std.specs.Prelude.{◌≡◌, ◌≤◌, length, true, IfOk, IfSome};
+ghost use Rattle.std.specs.Prelude.{◌≡◌, ◌<◌, true, IfErr, IfOk, IfSome};
 ghost use Rattle.st_core.specs.Laws.{is_reset, NoReset};
-ghost use Rattle.st_core.specs.Run.{Shows};
-ghost use Rattle.st_core.specs.Verdict.{IsVerdict, Yes};
+ghost use Rattle.st_plan.specs.Marks.{all_streams};
+ghost use Rattle.st_complete.specs.Answers.{IsCertificate};
+ghost use Rattle.st_complete.specs.Bounds.{act_bound};
 
 use crate::answer::{Certificate, CertificateFault};
+use crate::bounds::act_bound;
 use st_audit::told_acts;
 use st_check::{Verdict, check};
 use st_core::{Act, Sequence, Streams};
@@ -51,28 +53,23 @@ fn certify<const TOP: u64>(
     streams: &Streams,
     acts: Sequence<Act>,
     most: u64,
-) -> Result<Certificate, CertificateFault>
-    ensures verdict { IfOk result
-        (λ found. IsVerdict TOP streams.now found.acts (Yes found.pairs)) }
-    ensures shows { IfOk result (λ found. Shows TOP streams.now found.acts) }
-    ensures one_trace { IfOk result (λ found. NoReset found.acts) }
-    ensures within { IfOk result (λ found. length found.acts ≤ most) }
+) -> Result<Option<Certificate>, AllocError>
+    ensures { IfOk result (λ some. IfSome some (IsCertificate TOP streams.now most)) }
 {
     if acts.len() as u64 > most {
-        return Err(CertificateFault::TooMany);
+        return Ok(None);
     }
     if !has_no_reset(acts.as_slice()) {
-        return Err(CertificateFault::TooMany);
+        return Ok(None);
     }
     match check::<TOP>(alloc, streams, acts.as_slice()) {
-        Err(_) => Err(CertificateFault::Memory),
-        Ok(Verdict::Yes(pairs)) => Ok(Certificate { acts, pairs }),
-        Ok(_) => Err(CertificateFault::TooMany),
+        Err(_) => Err(AllocError),
+        Ok(Verdict::Yes(pairs)) => Ok(Some(Certificate { acts, pairs })),
+        Ok(_) => Ok(None),
     }
 }
 
-/// Asks the checker whether the lean acts show the streams. If there are none, or it doesn't say
-/// yes, nothing is certified.
+/// The same of the lean acts.
 fn certify_lean<const TOP: u64>(
     rt: &(impl Threads + Sync),
     alloc: Global,
@@ -80,28 +77,47 @@ fn certify_lean<const TOP: u64>(
     completion: &Completion,
     most: u64,
 ) -> Result<Option<Certificate>, AllocError>
-    ensures verdict { IfOk result (λ some. IfSome some
-        (λ found. IsVerdict TOP streams.now found.acts (Yes found.pairs))) }
-    ensures shows { IfOk result (λ some. IfSome some (λ found. Shows TOP streams.now found.acts)) }
-    ensures one_trace { IfOk result (λ some. IfSome some (λ found. NoReset found.acts)) }
-    ensures within { IfOk result (λ some. IfSome some (λ found. length found.acts ≤ most)) }
+    ensures { IfOk result (λ some. IfSome some (IsCertificate TOP streams.now most)) }
 {
-    let acts = match lean_acts::<TOP>(rt, alloc, completion, most) {
-        Ok(acts) => acts,
-        Err(LeanFault::Memory) => return Err(AllocError),
-        Err(LeanFault::TooMany | LeanFault::Stopped) => return Ok(None),
-    };
-    match certify::<TOP>(alloc, streams, acts, most) {
-        Ok(found) => Ok(Some(found)),
-        Err(CertificateFault::Memory) => Err(AllocError),
-        Err(CertificateFault::TooMany) => Ok(None),
+    match lean_acts::<TOP>(rt, alloc, completion, most) {
+        Ok(acts) => certify::<TOP>(alloc, streams, acts, most),
+        Err(LeanFault::Memory) => Err(AllocError),
+        Err(LeanFault::TooMany | LeanFault::Stopped) => Ok(None),
+    }
+}
+
+/// The same of the acts of the auditor's construction, which builds none if more than 1,000 counts are
+/// missing before one event, or 1,000,000 in all.
+fn certify_construction<const TOP: u64>(
+    rt: &(impl Threads + Sync),
+    alloc: Global,
+    streams: &Streams,
+    completion: &Completion,
+    most: u64,
+) -> Result<Option<Certificate>, AllocError>
+    ensures { IfOk result (λ some. IfSome some (IsCertificate TOP streams.now most)) }
+{
+    match told_acts::<TOP, Completion>(rt, alloc, completion.streams(), completion)? {
+        None => Ok(None),
+        Some(acts) => certify::<TOP>(alloc, streams, acts, most),
+    }
+}
+
+/// Why a completion has no certificate, if none of the acts that were tried serves.
+fn fault_of(completion: &Completion, most: u64) -> CertificateFault
+    ensures { result ≡ CertificateFault.TooManyActs →
+        most < act_bound (all_streams completion.now.wholes) }
+{
+    if act_bound(completion.streams()) > most {
+        CertificateFault::TooManyActs
+    } else {
+        CertificateFault::Uncertified
     }
 }
 
 /// Writes the acts of a completion by the auditor's construction, for which it is proved that they
 /// show the told events of plain streams. They are more than those of `certificate`, which takes them
-/// only if its own don't serve. It fails with `TooMany` if they are more than `most`, or more than
-/// 1,000 counts are missing before one event, or 1,000,000 in all.
+/// only if its own don't serve.
 pub fn certificate_by_construction<const TOP: u64>(
     rt: &(impl Threads + Sync),
     alloc: Global,
@@ -109,18 +125,14 @@ pub fn certificate_by_construction<const TOP: u64>(
     completion: &Completion,
     most: u64,
 ) -> Result<Certificate, CertificateFault>
-    ensures verdict { IfOk result
-        (λ found. IsVerdict TOP streams.now found.acts (Yes found.pairs)) }
-    ensures shows { IfOk result (λ found. Shows TOP streams.now found.acts) }
-    ensures one_trace { IfOk result (λ found. NoReset found.acts) }
-    ensures within { IfOk result (λ found. length found.acts ≤ most) }
+    ensures certified { IfOk result (IsCertificate TOP streams.now most) }
+    ensures too_many { IfErr result (λ fault. fault ≡ CertificateFault.TooManyActs →
+        most < act_bound (all_streams completion.now.wholes)) }
 {
-    let Ok(built) = told_acts::<TOP, Completion>(rt, alloc, completion.streams(), completion) else {
-        return Err(CertificateFault::Memory);
-    };
-    match built {
-        Some(acts) => certify::<TOP>(alloc, streams, acts, most),
-        None => Err(CertificateFault::TooMany),
+    match certify_construction::<TOP>(rt, alloc, streams, completion, most) {
+        Err(AllocError) => Err(CertificateFault::Memory),
+        Ok(Some(found)) => Ok(found),
+        Ok(None) => Err(fault_of(completion, most)),
     }
 }
 
@@ -132,9 +144,7 @@ pub fn certificate_by_construction<const TOP: u64>(
 /// raises the clock of another process, if that saves more than half of the acts there.
 ///
 /// If these acts are more than `most`, or the checker refuses them, which no test has seen, the
-/// acts of the auditor's construction are tried. So it fails with `TooMany` only if these don't
-/// serve either: they are more than `most`, or more than 1,000 counts are missing before one event,
-/// or 1,000,000 in all.
+/// acts of the auditor's construction are tried.
 ///
 /// It sorts on several threads, and the result is the same for every number of threads.
 pub fn certificate<const TOP: u64>(
@@ -144,11 +154,9 @@ pub fn certificate<const TOP: u64>(
     completion: &Completion,
     most: u64,
 ) -> Result<Certificate, CertificateFault>
-    ensures verdict { IfOk result
-        (λ found. IsVerdict TOP streams.now found.acts (Yes found.pairs)) }
-    ensures shows { IfOk result (λ found. Shows TOP streams.now found.acts) }
-    ensures one_trace { IfOk result (λ found. NoReset found.acts) }
-    ensures within { IfOk result (λ found. length found.acts ≤ most) }
+    ensures certified { IfOk result (IsCertificate TOP streams.now most) }
+    ensures too_many { IfErr result (λ fault. fault ≡ CertificateFault.TooManyActs →
+        most < act_bound (all_streams completion.now.wholes)) }
 {
     match certify_lean::<TOP>(rt, alloc, streams, completion, most) {
         Err(AllocError) => Err(CertificateFault::Memory),

@@ -6,6 +6,7 @@
 #![tactic(auto)]
 
 mod answer;
+mod bounds;
 mod certificates;
 mod decision;
 mod judge;

@@ -43,6 +43,8 @@ fn tell_fault<H: Eprint, N: ByteSink>(
         let _ = eprintln!(rt; "error: {name} has more than {most} bytes");
     } else if words == b"no acts".as_slice() {
         let _ = eprintln!(rt; "error: {name} has no acts: `seqtool audit` finds some");
+    } else if words == b"certificate".as_slice() {
+        let _ = eprintln!(rt; "error: the acts that were built don't show the streams of {name}");
     } else {
         let _ = tell_place(alloc, name, text, words, notes);
     }

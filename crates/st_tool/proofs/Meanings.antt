@@ -1,8 +1,10 @@
--- A status belongs to one kind of output: 0 to a completion, 1 to a reason. So an output with it tells
--- the rest.
-use Rattle.std.proofs.Common.{◌≡◌, ℕ, List, refl, sym, ap, arith}
+-- A status belongs to one kind of output: 0 to a completion, 1 to a reason, 5 to a completion that is too
+-- long. So an output with it tells the rest.
+use Rattle.std.proofs.Common.{◌≡◌, ◌≤◌, ℕ, List, refl, sym, ap, arith}
 use Rattle.st_core.specs.Run.{Stream}
-use Rattle.st_commands.specs.Output.{Output}
+use Rattle.st_text.specs.declared.fault.ReadFault.{ReadFault}
+use Rattle.st_text.specs.declared.fault.ReadFault.TheVariants as faults
+use Rattle.st_commands.specs.Output.{fault_status, Output}
 use Rattle.st_commands.specs.Checked.{top}
 use Rattle.st_commands.proofs.ForCallers.{fault_status_high}
 use Rattle.st_complete.specs.declared.answer.Never.TheVariants as never
@@ -11,9 +13,8 @@ use Rattle.st_complete.specs.declared.answer.Answer.{Answer}
 use Rattle.st_complete.specs.Answers.{IsFinal, NeverShownWithOthers}
 use Rattle.st_tool.specs.declared.complete.Form.{Form}
 use Rattle.st_tool.specs.Complete.{Adds, Answered, Answers, Certifies, Completes, Faulty, HasAnswer}
-use Rattle.st_tool.specs.Complete.{IsCompleted, IsLong}
-use Rattle.st_tool.specs.Complete.{completed_text}
-use Rattle.st_tool.specs.Complete.{IsNever, MeansCompleted, MeansNever}
+use Rattle.st_tool.specs.Complete.{IsCompleted, IsLong, IsNever, IsUncertified}
+use Rattle.st_tool.specs.Complete.{completed_text, MeansCompleted, MeansLong, MeansNever}
 
 final_here : (streams : List Stream) (r : Never) → IsFinal top streams r → NeverShownWithOthers top streams
 final_here streams never.PrevNotBefore final = final top
@@ -68,7 +69,8 @@ completion_of f bytes streams _ _ has (Certifies c acts is shows one_trace) e =
       needless = has.is.completes.is.needless;
       text = sym (ap (λ (g : Form). completed_text g streams c (acts)) is);
     }
-completion_of f bytes streams _ _ has (IsLong c) e = absurd (omega arith)
+completion_of f bytes streams _ _ has (IsLong c is) e = absurd (omega arith)
+completion_of f bytes streams _ _ has (IsUncertified c is) e = absurd (omega arith)
 completion_of f bytes streams _ _ has (IsNever p i r) e = absurd (omega arith)
 
 pub completed_means : (f : Form) (bytes : List ℕ) (out : Output) → IsCompleted f bytes out → out.status ≡ 0
@@ -81,7 +83,8 @@ reason_of : (f : Form) (bytes : List ℕ) (streams : List Stream) (found : Answe
 reason_of f bytes streams _ _ has (Adds c is) e = absurd (omega arith)
 reason_of f bytes streams _ _ has (Completes c is) e = absurd (omega arith)
 reason_of f bytes streams _ _ has (Certifies c acts is shows one_trace) e = absurd (omega arith)
-reason_of f bytes streams _ _ has (IsLong c) e = absurd (omega arith)
+reason_of f bytes streams _ _ has (IsLong c is) e = absurd (omega arith)
+reason_of f bytes streams _ _ has (IsUncertified c is) e = absurd (omega arith)
 reason_of f bytes streams _ _ has (IsNever p i r) e =
     record {
       streams = streams;
@@ -99,3 +102,37 @@ pub never_means : (f : Form) (bytes : List ℕ) (out : Output) → IsCompleted f
     → MeansNever bytes out
 never_means f bytes out (Answered b streams found o has is) e = reason_of f bytes streams found out has is e
 never_means f bytes out (Faulty b x is) e = let high = fault_status_high x in absurd (omega arith)
+
+long_of : (f : Form) (bytes : List ℕ) (streams : List Stream) (found : Answer) (out : Output)
+    → HasAnswer bytes streams found → Answers f streams found out → out.status ≡ 5 → MeansLong f bytes out
+long_of f bytes streams _ _ has (Adds c is) e = absurd (omega arith)
+long_of f bytes streams _ _ has (Completes c is) e = absurd (omega arith)
+long_of f bytes streams _ _ has (Certifies c acts is shows one_trace) e = absurd (omega arith)
+long_of f bytes streams _ _ has (IsLong c is) e =
+    record {
+      streams = streams;
+      given = has.given;
+      completed = c;
+      spelled = has.spelled;
+      whole = has.is;
+      too_long = is;
+      text = refl;
+    }
+long_of f bytes streams _ _ has (IsUncertified c is) e = absurd (omega arith)
+long_of f bytes streams _ _ has (IsNever p i r) e = absurd (omega arith)
+
+fault_status_low : (x : ReadFault) → fault_status x ≤ 4
+fault_status_low faults.Memory = omega arith
+fault_status_low faults.Device = omega arith
+fault_status_low faults.TooLarge = omega arith
+fault_status_low (faults.Line n) = omega arith
+fault_status_low (faults.Order n) = omega arith
+fault_status_low (faults.Foreign n) = omega arith
+fault_status_low (faults.Unknown n) = omega arith
+fault_status_low (faults.TooMany n) = omega arith
+fault_status_low faults.Truncated = omega arith
+
+pub long_means : (f : Form) (bytes : List ℕ) (out : Output) → IsCompleted f bytes out → out.status ≡ 5
+    → MeansLong f bytes out
+long_means f bytes out (Answered b streams found o has is) e = long_of f bytes streams found out has is e
+long_means f bytes out (Faulty b x is) e = let low = fault_status_low x in absurd (omega arith)

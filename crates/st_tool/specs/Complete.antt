@@ -1,6 +1,6 @@
 -- What `complete` makes of bytes: what the streams that they spell lack, or why no run without a
 -- reset has them, whatever processes report nothing. The acts in the input are ignored.
-use Rattle.std.specs.Prelude.{◌≡◌, ℕ, zero, suc, Bool, true, false, List, [], ◌++◌, Option}
+use Rattle.std.specs.Prelude.{◌≡◌, ℕ, ◌<◌, zero, suc, Bool, true, false, List, [], ◌++◌, Option}
 use Rattle.std.specs.Prelude.{Some, None, codes, decimal, length, option_map}
 use Rattle.std.specs.Prelude.{slice_get}
 use Rattle.std.specs.List.{flat_map, AllByRecursion}
@@ -23,7 +23,8 @@ use Rattle.st_complete.specs.declared.answer.Never.{Never}
 use Rattle.st_complete.specs.declared.answer.Never.TheVariants as never
 use Rattle.st_complete.specs.declared.answer.Answer.{Answer}
 use Rattle.st_complete.specs.declared.answer.Answer.TheVariants as answer
-use Rattle.st_complete.specs.Answers.{IsAnswer, IsReason}
+use Rattle.st_complete.specs.Answers.{IsAnswer, IsReason, IsWhole}
+use Rattle.st_complete.specs.Bounds.{act_bound}
 use Rattle.st_needs.specs.Completions.{added_in, Completed}
 use Rattle.st_text.specs.Spelling as spelled
 use Rattle.st_chart.specs.Words.{place_words}
@@ -111,6 +112,16 @@ text_of_status text status = record { text = text; status = status }
 abbrev pub long : Output
 long = text_of_status (ended_line (codes "long")) 5
 
+-- they have one, and of the acts that were built none are accepted
+abbrev pub uncertified : Output
+uncertified = text_of_status (ended_line (codes "fault certificate")) 4
+
+-- A completion has more processes than the reader takes; or acts are wanted, and six for each event
+-- of it, one for each count that a process passes unreported and one for each process are more.
+pub data IsTooLong (f : Form) (c : Completed) : Type 0 where
+  HasProcesses : greater.processes < length (pids_of (all_streams c.wholes)) → IsTooLong f c
+  HasActs : f ≡ form.Acts → greater.acts < act_bound (all_streams c.wholes) → IsTooLong f c
+
 -- the output of an answer in a form; acts that are written show the streams with the processes that
 -- they don't list, and none of them is a reset
 pub data Answers (f : Form) (streams : List Stream) : Answer → Output → Type 0 where
@@ -121,7 +132,9 @@ pub data Answers (f : Form) (streams : List Stream) : Answer → Output → Type
   Certifies : (c : Completed) (acts : List Act) → f ≡ form.Acts
       → Shows top (with_silent streams c.unlisted) acts → NoReset acts
       → Answers f streams (answer.Whole c) (bundled (with_silent streams c.unlisted) acts)
-  IsLong : (c : Completed) → Answers f streams (answer.Whole c) long
+  IsLong : (c : Completed) → IsTooLong f c → Answers f streams (answer.Whole c) long
+  IsUncertified : (c : Completed) → f ≡ form.Acts
+      → Answers f streams (answer.Whole c) uncertified
   IsNever : (p : Pid) (i : ℕ) (r : Never) → Answers f streams (answer.Never p i r)
       (text_of_status (never_text streams p i r) 1)
 
@@ -184,3 +197,17 @@ pub record MeansNever (bytes : List ℕ) (out : Output) : Type 0 where
   pub holds : IsReason top streams pid index reason
   -- the text names the event and the reason
   pub text : out.text ≡ never_text streams pid index reason
+
+-- a completion that is too long to be written as a bundle: status 5
+pub record MeansLong (f : Form) (bytes : List ℕ) (out : Output) : Type 0 where
+  pub streams : List Stream
+  pub given : Option (List Act)
+  pub completed : Completed
+  -- the bytes spell streams, within the reader's limits; acts among them are ignored
+  pub spelled : SpellsWithin greater bytes streams given
+  -- acts without a reset show the streams, with unlisted processes, and this is a completion
+  pub whole : IsWhole top streams completed
+  -- it has more processes than the reader takes, or surely has room only in more acts
+  pub too_long : IsTooLong f completed
+  -- the text is the line long
+  pub text : out.text ≡ ended_line (codes "long")

@@ -9,6 +9,7 @@ use Rattle.st_tool.specs.Complete.{never_words}
 
 abbrev pub words_of : OutputLine → List ℕ
 words_of lines.Long = codes "long"
+words_of lines.Uncertified = codes "fault certificate"
 words_of lines.ForSeqtool = codes "note: seqaudit doesn't read so much; seqtool check does"
 words_of (lines.Added n) = codes "added " ++ decimal n
 words_of (lines.Never p i r) = codes "never " ++ place_words p i ++ codes " " ++ never_words p r

@@ -1,7 +1,7 @@
 //! The command `complete`: what the streams whose text the input is lack, or why no run without a
 //! reset has them, whatever processes report nothing. The acts in the input are ignored.
 
-ghost use Rattle.std.specs.Prelude.{◌≡◌, ◌<◌, ◌↔◌, ¬◌, IsTrue, length};
+ghost use Rattle.std.specs.Prelude.{◌≡◌, ◌<◌, ◌↔◌, ¬◌, IsTrue, length, true};
 ghost use Rattle.st_core.specs.Run.{pids_of};
 ghost use Rattle.st_text.specs.Limits.{greater};
 ghost use Rattle.st_text.specs.Spelling.{ended_line};
@@ -11,7 +11,7 @@ ghost use Rattle.st_commands.specs.Command.{OwesWithin, Tells, call};
 ghost use Rattle.st_commands.specs.Meaning.{SaysWithin};
 ghost use Rattle.st_complete.specs.Answers.{IsAnswer, IsWhole};
 ghost use Rattle.st_open.specs.Silent.{with_silent};
-ghost use Rattle.st_tool.specs.Complete.{IsCompleted, MeansCompleted, MeansNever};
+ghost use Rattle.st_tool.specs.Complete.{IsCompleted, MeansCompleted, MeansLong, MeansNever};
 ghost use Rattle.st_tool.specs.declared.lines.OutputLine.TheVariants as lines;
 ghost use Rattle.st_tool.specs.Lines.{words_of};
 ghost use Rattle.st_tool.specs.Parts.{CompletesTo, IsStandard};
@@ -91,7 +91,8 @@ fn tell_shown<H: Threads + Sync, W: ByteSink, N: ByteSink>(
             let _ = note_reader(notes, more, found.acts.len());
             tell_bundle(writer, more, found.acts.as_slice())
         }
-        Err(CertificateFault::TooMany) => tell_line(writer, OutputLine::Long, 5),
+        Err(CertificateFault::TooManyActs) => tell_line(writer, OutputLine::Long, 5),
+        Err(CertificateFault::Uncertified) => tell_line(writer, OutputLine::Uncertified, 4),
         Err(CertificateFault::Memory) => tell_fault(writer, ReadFault::Memory),
     }
 }
@@ -121,7 +122,7 @@ fn tell_acts<H: Threads + Sync, W: ByteSink, N: ByteSink>(
 
 /// Whether the completion has more processes than the reader takes.
 fn is_long(completion: &Completion) -> bool
-    ensures { IsTrue result ↔ (MOST_PROCESSES < length (pids_of (all_streams completion.now.wholes))) }
+    ensures { result ≡ true → greater.processes < length (pids_of (all_streams completion.now.wholes)) }
 {
     completion.streams().pids().len() > MOST_PROCESSES
 }
@@ -199,10 +200,11 @@ fn complete_streams<H: Threads + Sync, W: ByteSink, N: ByteSink>(
 
 /// Reads a bundle and writes what its streams lack, in this form, with status 0. If no run without a
 /// reset has them, whatever processes report nothing, it writes an event and the reason, with status
-/// 1. If a bundle is asked for, and its acts or its processes are more than the reader of the greater
-/// limits takes, it writes `long` with status 5; if they are only more than `seqaudit` reads, a line in
-/// `notes` says who reads them, if it can be written. Faulty input is 2; running out of memory, and a
-/// reader or a writer that fails, are 4. It sorts on several threads.
+/// 1. If a bundle is asked for, and its processes are more than the reader of the greater limits takes,
+/// or it surely has room only in more acts, it writes `long` with status 5; if they are only more than
+/// `seqaudit` reads, a line in `notes` says who reads them, if it can be written. Faulty input is 2;
+/// running out of memory, and a reader or a writer that fails, are 4, and so is a completion whose acts
+/// the checker doesn't accept, which no test has seen. It sorts on several threads.
 pub fn run_complete<H: Threads + Sync, R: ByteSource, W: ByteSink, N: ByteSink>(
     rt: &H,
     alloc: Global,
@@ -214,11 +216,14 @@ pub fn run_complete<H: Threads + Sync, R: ByteSource, W: ByteSink, N: ByteSink>(
     ensures told { Tells (call W.ByteSink writer.old writer.new)
         (OwesWithin greater (call R.ByteSource reader.old reader.new) (IsCompleted form)) result }
 
-    // What that says of a completion and of a reason, in the machine's own words.
+    // What that says of a completion, of a reason and of a completion that is too long, in the
+    // machine's own words.
     ensures completed { result ≡ 0 → SaysWithin greater (call R.ByteSource reader.old reader.new)
         (call W.ByteSink writer.old writer.new) (MeansCompleted form) }
     ensures never { result ≡ 1 → SaysWithin greater (call R.ByteSource reader.old reader.new)
         (call W.ByteSink writer.old writer.new) MeansNever }
+    ensures long { result ≡ 5 → SaysWithin greater (call R.ByteSource reader.old reader.new)
+        (call W.ByteSink writer.old writer.new) (MeansLong form) }
 {
     match read_within(alloc, reader, Limits::GREATER) {
         Ok(bundle) => complete_streams(rt, alloc, &bundle.streams, form, writer, notes),

@@ -20,6 +20,8 @@ use st_text::{Buffer, TextLine, put_bytes, put_numbered, put_pid};
 pub(crate) enum OutputLine {
     /// The acts, or the processes, are more than the reader takes.
     Long,
+    /// The checker doesn't accept the acts that were built.
+    Uncertified,
     /// `seqaudit` doesn't read so much.
     ForSeqtool,
     /// So many events were added.
@@ -88,6 +90,7 @@ impl TextLine for OutputLine {
     {
         match self {
             OutputLine::Long => put_bytes(buffer, b"long"),
+            OutputLine::Uncertified => put_bytes(buffer, b"fault certificate"),
             OutputLine::ForSeqtool => {
                 put_bytes(
                     buffer,

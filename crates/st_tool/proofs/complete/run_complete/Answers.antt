@@ -3,7 +3,7 @@ use Rattle.st_text.specs.Limits.{greater}
 use Rattle.st_commands.specs.Command.{call}
 use Rattle.st_commands.proofs.ForCallers.{says, tells_as, tells_fault, was_read}
 use Rattle.st_tool.specs.Complete.{IsCompleted, Faulty}
-use Rattle.st_tool.proofs.Meanings.{completed_means, never_means}
+use Rattle.st_tool.proofs.Meanings.{completed_means, long_means, never_means}
 use Rattle.st_tool.proofs.Deliveries.{owes_complete}
 use Rattle.st_tool.proofs.complete.run_complete.Goals as goal
 
@@ -30,3 +30,9 @@ returns-in-Err-clause-completed g c =
 
 pub returns-in-Err-clause-never : goal.returns-in-Err-clause-never
 returns-in-Err-clause-never g c = says 1 (λ same. cc) (never_means c.args.form) (returns-in-Err-clause-told g c)
+
+pub returns-in-Ok-clause-long : goal.returns-in-Ok-clause-long
+returns-in-Ok-clause-long g c = says 5 (λ same. cc) (long_means c.args.form) (returns-in-Ok-clause-told g c)
+
+pub returns-in-Err-clause-long : goal.returns-in-Err-clause-long
+returns-in-Err-clause-long g c = says 5 (λ same. cc) (long_means c.args.form) (returns-in-Err-clause-told g c)

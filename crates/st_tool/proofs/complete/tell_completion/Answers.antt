@@ -5,7 +5,7 @@ use Rattle.st_complete.specs.declared.answer.Answer.TheVariants as answer
 use Rattle.st_commands.specs.Command.{call}
 use Rattle.st_commands.proofs.ForCallers.{delivers}
 use Rattle.st_tool.specs.Renumber.{streams_output}
-use Rattle.st_tool.specs.Complete.{Adds, Completes, IsLong, added_text, long, text_of_status}
+use Rattle.st_tool.specs.Complete.{Adds, Completes, HasProcesses, IsLong, added_text, long, text_of_status}
 use Rattle.st_tool.specs.Parts.{CompletesTo, Finds}
 use Rattle.st_tool.proofs.complete.tell_completion.Goals as goal
 
@@ -13,7 +13,8 @@ pub returns-then-is_long : goal.returns-then-is_long
 returns-then-is_long g c =
     record {
       output = long;
-      owed = Finds (answer.Whole c.args.completion.now) long c.requires (IsLong c.args.completion.now);
+      owed = Finds (answer.Whole c.args.completion.now) long c.requires (IsLong c.args.completion.now
+          (HasProcesses (c.is_long.ensures c.if-is_long.true)));
       delivered = c.tell_line.ensures;
     }
 

@@ -5,7 +5,7 @@ use Rattle.st_commands.specs.Output.{no_memory, bundled}
 use Rattle.st_commands.specs.Checked.{top}
 use Rattle.st_complete.specs.declared.answer.Answer.TheVariants as answer
 use Rattle.st_open.specs.Silent.{with_silent}
-use Rattle.st_tool.specs.Complete.{Certifies, IsLong, long}
+use Rattle.st_tool.specs.Complete.{Certifies, HasActs, IsLong, IsUncertified, long, uncertified}
 use Rattle.st_tool.specs.Parts.{Finds, NoRoomToComplete}
 use Rattle.st_tool.proofs.complete.tell_shown.Goals as goal
 
@@ -17,16 +17,26 @@ returns-in-Ok g c =
       output = bundled more acts;
       owed = Finds (answer.Whole c.args.completion.now) (bundled more acts) c.requires.whole
           (Certifies c.args.completion.now acts refl
-          (subst (λ (xs : List Stream). Shows top xs acts) c.requires.more c.in-Ok.ensures.shows)
-          c.in-Ok.ensures.one_trace);
+          (subst (λ (xs : List Stream). Shows top xs acts) c.requires.more c.in-Ok.ensures.certified.shows)
+          c.in-Ok.ensures.certified.one_trace);
       delivered = rw (c.as_slice.ensures, c.requires.more) at c.tell_bundle.ensures;
     }
 
-pub returns-in-Err-TooMany : goal.returns-in-Err-TooMany
-returns-in-Err-TooMany g c =
+pub returns-in-Err-TooManyActs : goal.returns-in-Err-TooManyActs
+returns-in-Err-TooManyActs g c =
     record {
       output = long;
-      owed = Finds (answer.Whole c.args.completion.now) long c.requires.whole (IsLong c.args.completion.now);
+      owed = Finds (answer.Whole c.args.completion.now) long c.requires.whole (IsLong c.args.completion.now
+          (HasActs refl (c.in-Err-TooManyActs.ensures.too_many c.in-Err-TooManyActs.field-0-is)));
+      delivered = c.tell_line.ensures;
+    }
+
+pub returns-in-Err-Uncertified : goal.returns-in-Err-Uncertified
+returns-in-Err-Uncertified g c =
+    record {
+      output = uncertified;
+      owed = Finds (answer.Whole c.args.completion.now) uncertified c.requires.whole
+          (IsUncertified c.args.completion.now refl);
       delivered = c.tell_line.ensures;
     }
 

@@ -1,0 +1,60 @@
+//! How many acts a completion surely has room in.
+
+ghost use Rattle.std.specs.Prelude.{◌≡◌, ◌+◌, ◌≤◌, [], List};
+ghost use Rattle.st_core.specs.declared.types.Event.{Event as EventValue};
+ghost use Rattle.st_needs.specs.Flaws.{left_by};
+ghost use Rattle.st_complete.specs.Bounds.{act_bound, acts_after, skipped};
+
+use st_core::{Event, Kind, Streams};
+use st_needs::Left;
+
+/// A stamp takes at most so many: before its own act the token gets its label and flags, and if it
+/// begins a trace, or counts are skipped, three more prepare for that.
+const ACTS_OF_EVENT: u64 = 6;
+
+/// The sum, or the greatest number if it is above.
+fn plus(first: u64, second: u64) -> u64
+    ensures { result ≤ first + second }
+{
+    first.saturating_add(second)
+}
+
+/// How many counts a process passes unreported before an event.
+fn skipped(left: Left, event: &Event) -> u64
+    ensures { (es : List EventValue) → left ≡ left_by es → result ≡ skipped es event.now }
+{
+    match event.kind {
+        Kind::Receive => 0,
+        Kind::Send | Kind::Print => event
+            .serial
+            .this
+            .saturating_sub(1)
+            .saturating_sub(left.greatest),
+    }
+}
+
+/// How many acts all events of a process have room in.
+fn acts_of_events(events: &[Event]) -> u64
+    ensures { result ≤ acts_after [] events.now }
+{
+    let mut left = Left::by_none();
+    let mut count: u64 = 0;
+    for event in events {
+        let more = plus(ACTS_OF_EVENT, skipped(left, event));
+        count = plus(count, more);
+        left = left.after(event);
+    }
+    count
+}
+
+/// How many acts these events have room in, or the greatest number if there are more.
+pub(crate) fn act_bound(streams: &Streams) -> u64
+    ensures { result ≤ act_bound streams.now }
+{
+    let mut count: u64 = 0;
+    for &pid in streams.pids() {
+        let more = plus(1, acts_of_events(streams.events(pid)));
+        count = plus(count, more);
+    }
+    count
+}
