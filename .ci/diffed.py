@@ -17,7 +17,7 @@ EXAMPLES = ("request", "send_missing", "crossing", "unlisted", "collected", "alt
 MOST_EDITS = 4
 SECONDS = 20  # More than any of the large traces takes on a busy machine.
 
-KINDS = {"send": "send   ", "receive": "receive", "print": "print  "}
+KINDS = {"send": "send    ", "receive": "receive ", "print": "print   "}
 
 
 def text_of(streams):
@@ -306,17 +306,11 @@ def edits(program):
 # ---- worked cases
 
 BEFORE, AFTER = ((TOP / f"examples/{name}.txt").read_text() for name in ("before", "after"))
-TOLD = """different: events gone 0, new 2, elsewhere 1; processes gone 0, new 1, matched by a guess 1
-process <0.31.0> is <0.92.0>, a guess: they are at the other ends of messages that are alike
-elsewhere 7: <0.31.0> 1  print   label 17 {1,2} value 7, now 11: <0.92.0> 3
-new 9: <0.92.0> 1  send    label 17 {1,3} value 3 to <0.80.0>
-new process <0.80.0>
-new 3: <0.80.0> 0  receive label 17 {1,3} value 3 from <0.92.0>
-"""
+TOLD = (TOP / "examples/after.diff.answer").read_text()
 # The counts of the print and of the send behind it are exchanged.
 COUNTS = BEFORE.replace("{1,2}", "{1,9}")
 TOLD_OF_COUNTS = """different: events gone 0, new 0, elsewhere 0; processes gone 0, new 0, matched by a guess 0
-counts 4: <0.30.0> 1  receive label 17 {1,3} value 2 from <0.31.0>, now 4: <0.30.0> 1 from <0.31.0>
+counts 4: <0.30.0> 1  receive  label 17 {1,3} value 2 from <0.31.0>, now 4: <0.30.0> 1 from <0.31.0>
 """
 
 
@@ -390,7 +384,8 @@ def large(program):
     yield Check(f"diff: a print more in each of {LOOPS:,} rounds", None if is_right else str(got)[:500])
     other = loops(1).replace("seq_trace,17", "seq_trace,18")
     got = differ(program, loops(0), other, seconds=SECONDS)
-    is_right = got.status == 1 and got.output.count(b"\ngone ") == LOOPS and got.output.count(b"\nnew ") == 2 * LOOPS
+    wanted = f"different: events gone {LOOPS}, new {2 * LOOPS}, elsewhere 0; ".encode()
+    is_right = got.status == 1 and got.output.startswith(wanted) and got.output.count(b"\n") == 3 * LOOPS + 3
     yield Check("diff: two traces that have nothing in common", None if is_right else str(got)[:500])
 
 
