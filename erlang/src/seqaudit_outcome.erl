@@ -70,9 +70,9 @@ rows(#{streams := Streams, asked := Asked}) ->
 rows(#{streams := Streams}) ->
     seqaudit_causes:rows(Streams).
 
-%% Other counts are tried if the streams don't fit as they are. If a stamp has a prev of 0 for no other reason, there
-%% was a reset, or a token was put back, if tokens may have been at all. Such a token may also explain the stamps for whose
-%% sake messages were invented.
+%% Other counts are tried if the streams don't fit as they are. A stamp with a prev of 0 for no other reason shows a
+%% reset, or a token that was put back, if tokens may have been at all. Such a token may also explain the stamps for
+%% whose sake messages were invented.
 ask_in_doubt(Hows, PutBack, Streams) ->
     case ask_as_it_is(Streams) of
         {ok, #{said := fits}} = Fits ->
