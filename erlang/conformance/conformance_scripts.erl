@@ -116,7 +116,7 @@ word(Atom) when is_atom(Atom) -> atom_to_list(Atom).
 name(Pid, #{names := Names}) ->
     maps:get(Pid, Names, io_lib:format("~p", [Pid])).
 
-%% Each process's own events. An event of no process of the script stands at the end as it came.
+%% Each process's own events. An event of no process of the script is at the end as it came.
 streams(Names, #{parts := Parts} = World) ->
     Events = [{owner(Event, World), Event} || Part <- Parts, Event <- conformance_actors:events(Part)],
     lists:append([[["process ", Name] | [event(Event, World) || {Owner, Event} <- Events, Owner =:= Name]]

@@ -4,7 +4,7 @@ Acts have semicolons between; a and b are processes of one node, c is one of ano
 """
 
 #: The script, and the rules by which it differs. A component set on no token always replies
-#: otherwise, so `set-reply` stands wherever a script makes its token so.
+#: otherwise, so each script that does that names `set-reply`.
 WRITTEN = {
     "set-last": ("tracer a true; set a print true; print a 1; clear a; set a print true; print a 2",
                  ["set-last", "set-reply"]),

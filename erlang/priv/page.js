@@ -258,7 +258,7 @@
       }
   }
 
-  // Whether a reset stands between a place and the one before.
+  // Whether a reset is between a place and the one before.
   const isReset = at => at > 0 && data.resets.some(row => shown[at] >= row && shown[at - 1] < row);
 
   const isLit = row => row === chosen || causes.has(row) || effects.has(row);
@@ -363,7 +363,7 @@
     pen.stroke();
     pen.setLineDash([]);
     if (row === chosen) { pen.strokeStyle = INK.text; pen.lineWidth = 2; pen.strokeRect(cx - 9, cy - 9, 18, 18); }
-    // Right above the mark neither a term nor a tip stands.
+    // Right above the mark there is neither a term nor a tip.
     if (isDoubtful(row)) writeOver(pen, "?", cx, cy - size - 3, "center", INK.unreported);
     if (rowHeight >= 14 && laneWidth >= 60 && rows.kind[row] !== "r") drawTerm(pen, row, cx, isReset(at) ? cy - 1 : cy - 5);
   }
@@ -641,7 +641,7 @@
 
   const shareOf = count => Math.floor((byId("view").clientWidth - listWidth() - 60) / Math.max(1, count));
 
-  // At first the lanes fill the window. If they are too many for that, those of the first events stand first.
+  // At first the lanes fill the window. If they are too many for that, those of the first events come first.
   function fitLanes() {
     const used = labelledLanes(), share = shareOf(lanes.filter((_, lane) => used.has(lane)).length);
     laneWidth = Math.max(NARROWEST, Math.min(WIDEST, share));
@@ -764,7 +764,7 @@
     chainOnly = !chainOnly;
     byId("chain").setAttribute("aria-pressed", String(chainOnly));
     layOut();
-    // Its lanes stand side by side, and fill the window.
+    // Its lanes are side by side, and fill the window.
     refitLanes(true);
     if (chosen >= 0) reveal(chosen);
   });

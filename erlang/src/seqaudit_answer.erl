@@ -338,7 +338,7 @@ doubt(#{said := completed, unproved := true} = Outcome, Legend) -> seqaudit_expl
 doubt(#{said := completed}, _Legend) -> "";
 doubt(Outcome, Legend) -> seqaudit_explain:headline(Outcome, Legend).
 
-%% @doc Writes what was asked for, for its owner alone.
+%% @doc Writes a file for its owner alone.
 -spec keep(file:filename(), iodata(), status()) -> result().
 keep(File, Text, Status) ->
     case seqaudit_convert:write_own(File, Text) of

@@ -36,7 +36,7 @@ await(Asker) ->
     Asker ! {await, {self(), Asked}},
     turned(Asked).
 
-%% @doc What is met from now on is noted in another folder, in which processes stand that are known already and live.
+%% @doc What is met from now on is noted in another folder, which begins with the processes that are known and live.
 %% When the former folder has what it gets, this process is told ({@link turned/1}).
 -spec turn(file:filename(), {pid(), reference()}, asker()) -> ok.
 turn(Folder, Tell, Asker) ->

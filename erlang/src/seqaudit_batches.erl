@@ -30,7 +30,7 @@
 
 -opaque batches() :: #batches{}.
 
-%% @doc What is taken in goes on from here.
+%% @doc No batches yet; their events are added to this build.
 -spec new(seqaudit_build:build()) -> batches().
 new(Build) ->
     #batches{build = Build}.

@@ -79,7 +79,7 @@ fold(_Do, Acc, <<>>) ->
 context(#build{home = Home, own = Own, clock = Clock}) ->
     {Home, Own, Clock}.
 
-%% @doc What becomes of these events alone.
+%% @doc These events alone, packed.
 -spec part([binary()], context()) -> {packed(), found()}.
 part(Events, {Home, Own, Clock}) ->
     Part = lists:foldl(fun take/2, #part{home = Home, own = Own, clock = Clock}, Events),

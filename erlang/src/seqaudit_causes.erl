@@ -139,14 +139,14 @@ unreported(Streams, Paired) ->
 is_unreported({_, {_, At}}) -> is_tuple(At);
 is_unreported(none) -> true.
 
-%% What is known at an event of what its process did before: the greatest count, the count at which its counter stood,
-%% the prev with which it goes on, the last receive with its count and label, the last stamp if no receive came behind
-%% it, the tokens that it had, by label and prev, with their counts and what they came from, the least count of those with
-%% each prev, and the receives by label and count. `all' is what it received before and behind. `puts_back' says whether
-%% any of its counts shows that it puts tokens back: if so, a token that is like the newest one may have been put back too.
+%% What is known at an event of what its process did before: the greatest count, the count of its counter, the prev with
+%% which it goes on, the last receive with its count and label, the last stamp if no receive came behind it, the tokens
+%% that it had, by label and prev, with their counts and what they came from, the least count of those with each prev,
+%% and the receives by label and count. `all' is what it received before and behind. `puts_back' says whether any of its
+%% counts shows that it puts tokens back: if so, a token that is like the newest one may have been put back too.
 keyed({Pid, Events}, Others, Unreported) ->
-    Start = #{clock => 0, counter => 0, left => 0, newest => none, row => none, tokens => #{}, prevs => #{}, received => #{},
-              unreported => Unreported, all => all_received(Pid, Events), puts_back => false},
+    Start = #{clock => 0, counter => 0, left => 0, newest => none, row => none, tokens => #{}, prevs => #{},
+              received => #{}, unreported => Unreported, all => all_received(Pid, Events), puts_back => false},
     case keyed(Pid, Events, Start, Others) of
         {Keyed, #{puts_back := false}} -> Keyed;
         {_, #{puts_back := true}} -> element(1, keyed(Pid, Events, Start#{puts_back := true}, Others))
@@ -315,7 +315,7 @@ added_cause(#{at := {Before, _}} = Event, Fitting, Known) ->
         {[], []} -> added_begins(Event, Known)
     end.
 
-%% The receives of its label that it may follow: by their count, as the answer of a spawn, or as that token was put back.
+%% The receives of its label that it may follow: by their count, as a spawn's answer, or as that token was put back.
 fitting(#{prev := Prev, label := Label, this := This}, #{all := All}) ->
     [{How, Id} || {Id, #{label := Of, prev := Had, this := Count}} <- All, Of =:= Label, Count < This,
                   How <- if

@@ -120,7 +120,7 @@ folder(Collector) ->
     gen_server:call(Collector, folder).
 
 %% @doc From now on the events of each collector go to a new folder; the former one has all that came before. No event
-%% is lost between. In the place of a collector that has ended, or is gone, stands that.
+%% is lost between. If a collector has ended or is gone, the list says so in its place.
 -spec rotate_all([pid()]) -> [{ok, file:filename()} | {error, ended | {gone, term()} | term()}].
 rotate_all(Collectors) ->
     Requests = [gen_server:send_request(Collector, rotate) || Collector <- Collectors],
@@ -130,8 +130,8 @@ rotate_all(Collectors) ->
      end || Request <- Requests].
 
 %% @doc Takes the collectors off, all at the same time: each puts the former tracer back, waits for
-%% events on their way, and ends. Its facts are in its folder. In the place of a collector that is
-%% gone stands why.
+%% events on their way, and ends. Its facts are in its folder. If a collector is gone, the list
+%% says why in its place.
 -spec stop_all([pid()]) -> [ok | {error, term()}].
 stop_all(Collectors) ->
     Requests = [gen_server:send_request(Collector, stop) || Collector <- Collectors],

@@ -16,7 +16,7 @@
 %% Nanoseconds since the first event.
 
 %% @doc The streams that are left, with a note of what was cut and what that leaves open; the note is
-%% empty if nothing was asked for.
+%% empty if there is no such option.
 -spec cut(seqaudit_bundle:streams(), wish(), seqaudit_legend:legend(), times()) ->
           {ok, seqaudit_bundle:streams(), unicode:chardata()} | {error, term()}.
 cut(Streams, Wish, _Legend, _Times) when map_size(Wish) =:= 0 ->

@@ -22,7 +22,7 @@ name(Name) ->
 text(Text) ->
     iolist_to_binary(text(words(Text, []), [])).
 
-%% Words, and what stands between them.
+%% Words, and what is between them.
 words(<<>>, Words) ->
     lists:reverse(Words);
 words(Text, Words) ->

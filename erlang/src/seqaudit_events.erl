@@ -9,7 +9,7 @@
 %% <li>text of terms, by {@link seqaudit_text}.</li>
 %% </ul>
 %% Nothing in a file is trusted: its terms stay bytes ({@link seqaudit_external}), a size is looked
-%% at before anything is made of it, and of a file that is cut or damaged what stands before the
+%% at before anything is made of it, and of a file that is cut or damaged what comes before the
 %% damage is taken, and the rest is counted.
 -module(seqaudit_events).
 

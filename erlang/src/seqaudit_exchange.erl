@@ -99,9 +99,9 @@ merged([Event | Events], Sends) ->
 merged([], Sends) ->
     Sends.
 
-%% @doc The streams as they were asked about with other prevs for those stamps for whose sake a completion of them
-%% invents a message, if a token that was put back explains them as well: one with the stamp's own prev, as `Streams' have
-%% it, that the process may have had.
+%% @doc The asked streams with other prevs for those stamps for whose sake their completion invents a message, if a
+%% token that was put back explains them as well: one with the stamp's own prev, which `Streams' have, that the process
+%% may have had.
 -spec without_invented(Streams :: seqaudit_bundle:streams(), Asked :: seqaudit_bundle:streams(),
                        Completed :: seqaudit_bundle:streams()) -> seqaudit_bundle:streams().
 without_invented(Streams, Asked, Completed) ->
@@ -157,7 +157,8 @@ explain(#{prev := Prev}, false, _Pid, _Own, _Had, {Found, _, _}) ->
 %% A send that wasn't reported may come behind any event.
 may_have_had(#{at := At, this := This} = Event, Pid, Own, Had) ->
     Prev = maps:get(case At of {_, _} -> message(Event); _ -> {Pid, At} end, Own),
-    lists:any(fun({Place, Count}) -> Count < This andalso (is_tuple(At) orelse Place < At) end, maps:get(Prev, Had, [])).
+    lists:any(fun({Place, Count}) -> Count < This andalso (is_tuple(At) orelse Place < At) end,
+              maps:get(Prev, Had, [])).
 
 %% @doc Streams that were completed with exchanged prevs, with the node's own. What was added has the own prev of the
 %% event with its count.
@@ -176,8 +177,8 @@ stamp(#{from := From, prev := Prev, this := This, label := Label}) -> {From, Pre
 message(#{from := From, to := To, prev := Prev, this := This, label := Label, value := Value}) ->
     {From, To, Prev, This, Label, Value}.
 
-%% @doc Whether tokens may have been put back, though it isn't certain: a stamp has another prev than the message that its
-%% process received last, or no greater count. A counter that only went back is a reset's as well.
+%% @doc Whether tokens may have been put back, though it isn't certain: a stamp has another prev than the count that its
+%% process received last, or its prev isn't below its count. A counter that only goes back does so by a reset too.
 -spec may_be_put_back([seqaudit_causes:row()]) -> boolean().
 may_be_put_back(Rows) ->
     {Found, _} = lists:foldl(fun(Row, {Found, Last}) -> may_be_put_back(Row, Found, Last) end, {false, #{}}, Rows),
@@ -282,7 +283,7 @@ stamped(#{prev := Prev, this := This, at := At} = Event, Cause, Pid, #process{to
         _ -> unknown
     end.
 
-%% The node's clock before a stamp, and the machine's counters. Behind what wasn't reported both stand higher, and so
+%% The node's clock before a stamp, and the machine's counters. Behind what wasn't reported both are higher, and so
 %% they do behind the answer of a spawn, with which OTP moves both to 16 T + 15.
 before(#{this := This}, {How, _}, Origin, #process{machine = Machine, tokens = Tokens})
   when How =:= restored; How =:= perhaps ->

@@ -18,7 +18,7 @@
 %% <dt>`waiting'</dt><dd>the sends of the other messages whose receive wasn't reported: these may still wait</dd>
 %% <dt>`before'</dt><dd>the counter of a process before its first stamp, if it wasn't 0</dd>
 %% <dt>`behind'</dt><dd>the same, if it had received something before that stamp, so that something unreported may
-%% stand between the two</dd>
+%% lie between the two</dd>
 %% <dt>`spawns'</dt><dd>how often OTP moved a counter on as it answered a spawn</dd>
 %% <dt>`silent'</dt><dd>how many stamps came between a process's events and were not reported</dd>
 %% <dt>`jumps'</dt><dd>how often a counter was higher than any reported event shows</dd>

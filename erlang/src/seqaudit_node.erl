@@ -249,7 +249,7 @@ collect(ok, Start, {Wait, Unload}) ->
 
 unload(Options) -> is_map_key("--unload", Options).
 
-%% Does something while the nodes are traced, and says meanwhile what becomes of them.
+%% Does something while the nodes are traced, and says meanwhile what happens to them.
 started(#{nodes := Nodes} = Start, Unload, Do) ->
     %% A signal that comes while the collectors begin ends them as any other does.
     Asked = seqaudit_signals:listen(),

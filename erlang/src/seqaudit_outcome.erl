@@ -70,9 +70,9 @@ rows(#{streams := Streams, asked := Asked}) ->
 rows(#{streams := Streams}) ->
     seqaudit_causes:rows(Streams).
 
-%% Other counts are tried if the streams don't fit as they are. If a stamp's prev of 0 has no reason, a reset explains it,
-%% and so does a token that was put back, if tokens may have been. The latter also explains stamps for whose sake messages
-%% were invented.
+%% Other counts are tried if the streams don't fit as they are. A stamp with a prev of 0 for no other reason shows a
+%% reset, or a token that was put back, if tokens may have been at all. Such a token may also explain the stamps for
+%% whose sake messages were invented.
 ask_in_doubt(Hows, PutBack, Streams) ->
     case ask_as_it_is(Streams) of
         {ok, #{said := fits}} = Fits ->
@@ -92,22 +92,30 @@ ask_founded(Streams, AsItIs) ->
     case ask_as_it_is(Founded) of
         {ok, #{said := Said} = Outcome} when Said =:= fits; Said =:= completed ->
             case with_own(Outcome, Streams, Founded) of
-                {ok, Own} -> ask_with_fewer_invented(Streams, Founded, Outcome, Own);
+                {ok, Own} -> or_else(AsItIs, ask_with_fewer_invented(Streams, Founded, Outcome, Own));
                 differs -> AsItIs
             end;
         {ok, _} -> AsItIs;
         {error, Reason} -> {error, Reason}
     end.
 
+or_else(AsItIs, {ok, Outcome} = Founded) ->
+    case invented(Outcome) of
+        0 -> Founded;
+        _ -> AsItIs
+    end;
+or_else(_AsItIs, Error) ->
+    Error.
+
 %% `Outcome' is of the asked streams, and `Best' is it with the node's own counts.
 ask_with_fewer_invented(Streams, Asked, #{streams := Completed}, Best) ->
     case invented(Best) > 0 andalso seqaudit_exchange:without_invented(Streams, Asked, Completed) of
         false -> {ok, Best};
         Asked -> {ok, Best};
-        Exchanged -> ask_with_fewer_invented(Streams, Exchanged, Best)
+        Exchanged -> ask_if_better(Streams, Exchanged, Best)
     end.
 
-ask_with_fewer_invented(Streams, Exchanged, Best) ->
+ask_if_better(Streams, Exchanged, Best) ->
     case ask_as_it_is(Exchanged) of
         {ok, #{said := Said} = Outcome} when Said =:= fits; Said =:= completed ->
             case with_own(Outcome, Streams, Exchanged) of

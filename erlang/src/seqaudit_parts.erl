@@ -91,7 +91,7 @@ learn_ends({Pid, Place, #{this := This}}, Ends) ->
 first_stamp([#{kind := Kind} = Event | _]) when Kind =/= 'receive' -> Event;
 first_stamp(_) -> none.
 
-%% The place of the receive that a stamp behind so many events follows, if only receives stand
+%% The place of the receive that a stamp behind so many events follows, if only receives are
 %% between; else that many.
 caused_from(Size, none, _Events) -> Size;
 caused_from(Size, Stamp, Events) -> caused_from(Size, Size - 1, Stamp, Events).

@@ -1,7 +1,7 @@
 %% @doc Text as it may be shown: whatever a name, a message or a file has in it, a terminal or a page shows characters
 %% alone, on their line and in their order.
 %%
-%% Characters that control a terminal, begin a line or turn the direction of writing stand escaped, as in Erlang's
+%% Characters that control a terminal, begin a line or turn the direction of writing are escaped, as in Erlang's
 %% strings: `\x{1b}'. Newlines and tabs stay.
 -module(seqaudit_shown).
 
@@ -22,7 +22,7 @@ escaped(Text, Done, [{Place, Size} | Found]) ->
     [binary:part(Text, Done, Place - Done), "\\x{", integer_to_list(Character, 16), $}
      | escaped(Text, Place + Size, Found)].
 
-%% Compiled once for each Erlang, as it is asked for each line that is written.
+%% Compiled once for each Erlang, as each line that is written needs it.
 controls() ->
     case persistent_term:get(?MODULE, none) of
         none ->

@@ -1,4 +1,4 @@
-%% @doc Says at once what becomes of the nodes that are traced: that one can't be reached any more, that it is back, or
+%% @doc Says at once what happens to the nodes that are traced: that one can't be reached any more, that it is back, or
 %% that its collector is gone.
 -module(seqaudit_sight).
 

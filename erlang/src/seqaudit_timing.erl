@@ -13,7 +13,7 @@
 -define(NAME, 40).
 -define(CHARACTERS, 80).
 
-%% @doc Prints the tables, and for each label that is asked for the path to its last event.
+%% @doc Prints the tables, and for each label that is named the path to its last event.
 -spec times(#{string() => [string()]}) -> 0..2 | 4 | {0..4, unicode:chardata()} | {usage, string()}.
 times(#{"" := [Name]} = Options) ->
     Wish = seqaudit_answer:wish(Options, [labels, processes, from, to]),

@@ -173,7 +173,7 @@ with_trace(Label, Fun) ->
     with_trace(Label, [send, 'receive', print], Fun).
 
 %% @doc Runs the function under a token with this label and these flags, and takes the token off
-%% again, whatever comes of it. A token that was there before is taken off too.
+%% again, however it ends. A token that was there before is taken off too.
 -spec with_trace(term(), [flag()], fun(() -> Result)) -> Result.
 with_trace(Label, Flags, Fun) when is_list(Flags), is_function(Fun, 0) ->
     [] =:= Flags -- ?FLAGS orelse error(badarg, [Label, Flags, Fun]),

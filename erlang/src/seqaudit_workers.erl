@@ -28,7 +28,7 @@ result({Worker, Monitor}) ->
             error(Reason)
     end.
 
-%% @doc What comes of each share of the records, in their order. A share is given with the place of
+%% @doc The result of each share of the records, in their order. A share is given with the place of
 %% its first record.
 -spec shares(seqaudit_build:packed(), fun((seqaudit_build:packed(), non_neg_integer()) -> Result)) ->
           [Result].

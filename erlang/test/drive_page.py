@@ -326,7 +326,7 @@ def whole(browser, checks):
     browser.call("Input.insertText", text="xEND")
     browser.frame()
     checks.same("found by its end", browser.texts("#found"), ["1 found"])
-    # Each message stands once in the page.
+    # Each message is once in the page.
     source = browser.ask("document.querySelector('#data').textContent")
     checks.same("how often a message stands there", source.count(1000 * "x" + "end"), 1)
     checks.true("the legend says where a message is whole", any("the panel has it whole" in text for text in legend(browser)))

@@ -1,4 +1,4 @@
-"""Reads what `chart --perfetto --otlp' wrote, and fails if it isn't what these formats ask for."""
+"""Reads what `chart --perfetto --otlp' wrote, and fails if it isn't what these formats demand."""
 import json
 import re
 import sys

@@ -220,35 +220,44 @@ files(Name) ->
             end,
     Many = lists:seq(100, 1_300),
     ok = file:write_file(Name ++ ".seqtrace", printed(Many, Print)),
-    ok = file:write_file(Name ++ ".terms", ["seqaudit terms 1\n", [io_lib:format("label\t~b\tl~b\n", [N, N]) || N <- lists:seq(0, 599)]]),
+    ok = file:write_file(Name ++ ".terms",
+                         ["seqaudit terms 1\n", [io_lib:format("label\t~b\tl~b\n", [N, N]) || N <- lists:seq(0, 599)]]),
     has(command(["audit"], Name, "/no/such/seqtool"),
         ["not audited: the trace has more processes or events than the program takes; ", "cut it with --label",
          "\nseqtool takes larger traces, but it isn't there", "(status 2)"]),
     [large(Name, Greater, Many, Print) || Greater <- greater()],
     ok = file:write_file(Name ++ ".seqtrace", printed(Many, Print)),
-    has(command(["audit", "--label", "l7", "--label", "l8"], Name, Tool), ["cut: 4 of 1,201 events; the cut leaves nothing open\nfits: 4 events of 4 processes"]),
-    has(command(["chart", "--label", "l7"], Name, Tool), ["cut: 2 of 1,201 events", "fits: 2 events of 2 processes", "<0.607.0>#0"]),
+    has(command(["audit", "--label", "l7", "--label", "l8"], Name, Tool),
+        ["cut: 4 of 1,201 events; the cut leaves nothing open\nfits: 4 events of 4 processes"]),
+    has(command(["chart", "--label", "l7"], Name, Tool),
+        ["cut: 2 of 1,201 events", "fits: 2 events of 2 processes", "<0.607.0>#0"]),
     %% One corner is damaged: an event that follows itself. The rest is answered.
     ok = file:write_file(Name ++ ".seqtrace", ["seqtrace 1\nprocess <0.100.0>\n", Print(7, 1, 100),
                                                "process <0.101.0>\n{seq_trace,8,{print,{5,5},<0.101.0>,[],0}}\n"]),
-    has(command(["audit"], Name, Tool), ["doesn't fit: no run reports this trace, because of <0.101.0>#0 (prevnotbefore)", "(status 1)"]),
+    has(command(["audit"], Name, Tool),
+        ["doesn't fit: no run reports this trace, because of <0.101.0>#0 (prevnotbefore)", "(status 1)"]),
     [has(command(["audit" | Cut], Name, Tool), ["cut: 1 of 2 events", "fits: 1 event of 1 process", "(status 0)"])
      || Cut <- [["--label", "l7"], ["--process", "<0.100.0>"]]],
-    has(command(["chart", "--label", "l7", "--process", "<0.100.0>"], Name, Tool), ["cut: 1 of 2 events", "<0.100.0>#0", "(status 0)"]),
-    %% One label, in which a reset stands.
-    ok = file:write_file(Name ++ ".seqtrace", ["seqtrace 1\nprocess <0.100.0>\n", [Print(7, This, 100) || This <- [1, 2, 1]]]),
-    has(command(["chart", "--label", "l7", "--svg", Name ++ ".svg", "--html", Name ++ ".html"], Name, Tool), ["part 1 of 2\n", "part 2 of 2\n"]),
+    has(command(["chart", "--label", "l7", "--process", "<0.100.0>"], Name, Tool),
+        ["cut: 1 of 2 events", "<0.100.0>#0", "(status 0)"]),
+    %% One label, with a reset in it.
+    ok = file:write_file(Name ++ ".seqtrace",
+                         ["seqtrace 1\nprocess <0.100.0>\n", [Print(7, This, 100) || This <- [1, 2, 1]]]),
+    has(command(["chart", "--label", "l7", "--svg", Name ++ ".svg", "--html", Name ++ ".html"], Name, Tool),
+        ["part 1 of 2\n", "part 2 of 2\n"]),
     [{ok, <<"<?xml", _/binary>>} = file:read_file(Name ++ Which ++ ".svg") || Which <- ["-1", "-2"]],
     {ok, <<"<!doctype html>", Page/binary>>} = file:read_file(Name ++ ".html"),
     has(Page, ["doesn't fit", ": no run without a reset reports this trace"]),
     %% Both have messages in them, so they are their owner's alone.
     [8#600 = seqaudit_audits:mode(Name ++ Which) || Which <- ["-1.svg", "-2.svg", ".html"]],
     %% More rows than a drawing takes.
-    ok = file:write_file(Name ++ ".seqtrace", ["seqtrace 1\nprocess <0.100.0>\n", [Print(7, This, 100) || This <- lists:seq(1, 2_001)]]),
+    ok = file:write_file(Name ++ ".seqtrace",
+                         ["seqtrace 1\nprocess <0.100.0>\n", [Print(7, This, 100) || This <- lists:seq(1, 2_001)]]),
     has(command(["chart", "--label", "l7", "--svg", Name ++ ".svg", "--html", Name ++ ".html"], Name, Tool),
         ["the chart has 2001 rows, and a drawing takes 2000; use the page (--html FILE)", "(status 2)"]),
     has(command(["chart", "--html", Name ++ ".html"], Name, Tool), ["fits: 2,001 events of 1 process", "(status 0)"]),
-    has(command(["chart", "--html", "/no/such/folder/x.html"], Name, Tool), ["/no/such/folder/x.html can't be written", "(status 4)"]).
+    has(command(["chart", "--html", "/no/such/folder/x.html"], Name, Tool),
+        ["/no/such/folder/x.html can't be written", "(status 4)"]).
 
 printed(Many, Print) ->
     ["seqtrace 1\n", [["process <0.", integer_to_list(Pid), ".0>\n", Print(Pid rem 600, 1, Pid)] || Pid <- Many]].
@@ -259,10 +268,13 @@ greater() ->
 
 %% What is beyond the limits of seqaudit is audited whole, and what seqtool doesn't complete there is said in words.
 large(Name, Tool, Many, Print) ->
-    has(command(["audit"], Name, Tool), ["fits: 1,201 events of 1,201 processes; nothing is known to be missing\n", "(status 0)"]),
-    has(command(["chart", "--html", Name ++ ".html"], Name, Tool), ["fits: 1,201 events of 1,201 processes", "(status 0)"]),
+    has(command(["audit"], Name, Tool),
+        ["fits: 1,201 events of 1,201 processes; nothing is known to be missing\n", "(status 0)"]),
+    has(command(["chart", "--html", Name ++ ".html"], Name, Tool),
+        ["fits: 1,201 events of 1,201 processes", "(status 0)"]),
     ok = file:write_file(Name ++ ".seqtrace", [printed(Many, Print), Print(8, 1, 1_300)]),
-    has(command(["audit"], Name, Tool), ["doesn't fit: no run without a reset reports this trace, because of <0.1300.0>#1 (notrising)",
+    has(command(["audit"], Name, Tool),
+        ["doesn't fit: no run without a reset reports this trace, because of <0.1300.0>#1 (notrising)",
                                          "\npart 2: fits: 1 event", "(status 1)"]),
     %% A seqtool that renumbers and completes less than it audits.
     ok = file:write_file(Name ++ ".sh", ["#!/bin/sh\ncase $1 in audit) exec ", Tool, " audit ;; esac\n"
@@ -271,7 +283,8 @@ large(Name, Tool, Many, Print) ->
     ok = file:write_file(Name ++ ".seqtrace", [printed(Many, Print), Print(8, 5_000, 1_300)]),
     has(command(["audit"], Name, Name ++ ".sh"),
         ["not explained: no run was found that reports this trace; the search ended at <0.1300.0>#1 (toowide)",
-         "seqtool can't say what the trace lacks: the trace has more processes or events than the program takes; audit each",
+         "seqtool can't say what the trace lacks: the trace has more processes or events than the program takes; "
+         "audit each",
          "(status 1)"]).
 
 has(Text, Parts) ->
@@ -288,7 +301,8 @@ no_tool_test_() ->
             none -> skipped;
             _ ->
                 Said = command(["audit"], Name, "/no/such/seqtool"),
-                {_, _} = binary:match(Said, <<"not explained: no run was found that reports this trace; the search ended at ">>),
+                {_, _} = binary:match(Said, <<"not explained: no run was found that reports this trace; the search "
+                                              "ended at ">>),
                 {_, _} = binary:match(Said, <<"seqtool would say what the trace lacks, but it isn't there">>),
                 {_, _} = binary:match(command(["chart", "--label", "work"], Name, "/no/such/seqtool"),
                                       <<"not explained: ">>)
@@ -309,12 +323,14 @@ older_tools_test_() ->
             {_, Tool} ->
                 Completes = older(Tool, "renumber"),
                 Said = command(["audit"], Name, Completes),
-                has(Said, ["fits: 24 events of 5 processes, with 24 sends and 3 prints or sends that nobody reported", "(status 0)"]),
+                has(Said, ["fits: 24 events of 5 processes, with 24 sends and 3 prints or sends that nobody reported",
+                           "(status 0)"]),
                 nothing_of(Said, ["error: what is", "were renumbered"]),
                 checked(Name),
                 has(command(["chart", "--label", "work"], Name, Completes), ["ann#0~1", "(status 0)"]),
                 Alone = command(["audit"], Name, older(Tool, "renumber | complete")),
-                has(Alone, ["not explained: ", "seqtool can't say what the trace lacks: it doesn't know `complete'", "(status 1)"]),
+                has(Alone, ["not explained: ", "seqtool can't say what the trace lacks: it doesn't know `complete'",
+                            "(status 1)"]),
                 nothing_of(Alone, ["error: what is"])
         end
     end}.
@@ -383,7 +399,8 @@ said(Case, Trace, Commands) ->
             {_, none, _} -> io:format(user, "~ts: skipped, there is no auditor~n", [Case]);
             {_, _, none} -> io:format(user, "~ts: skipped, there is no seqtool~n", [Case]);
             {_, _, Tool} ->
-                Said = [[$$, $\s, lists:join(" ", ["seqaudit-node", hd(Words), Case | [quoted(Word) || Word <- tl(Words)]]),
+                Said = [[$$, $\s,
+                         lists:join(" ", ["seqaudit-node", hd(Words), Case | [quoted(Word) || Word <- tl(Words)]]),
                          $\n, command(Words, Name, Tool)] || Words <- Commands],
                 checked(Name),
                 compare(Case, normal(unicode:characters_to_binary(Said)))
@@ -410,7 +427,7 @@ auditor() ->
         {_, []} -> none
     end.
 
-%% The model stands in where the program isn't built, or can't complete yet.
+%% The model is asked if the program isn't built, or can't complete yet.
 tool() ->
     case {[Program || {ok, Program} <- [seqaudit_program:find("seqtool")], completes(Program)],
           seqaudit_audits:model()} of
@@ -437,7 +454,8 @@ normal(Text) ->
     Numbered = lists:foldl(fun({Pattern, Word}, Done) -> number(Pattern, Word, Done) end, Text,
                            [{"<[0-9]+\\.[0-9]+\\.[0-9]+>", "<~b>"}, {"#Ref<[0-9.]+>", "#Ref<~b>"},
                             {"seqaudit_[ab]_[0-9]+@localhost", "node~b"}, {"/\\S*/seqaudit_[0-9a-f]+", "FOLDER~b"}]),
-    lists:foldl(fun({Pattern, With}, Done) -> re:replace(Done, Pattern, With, [global, multiline, {return, binary}]) end,
+    lists:foldl(fun({Pattern, With}, Done) -> re:replace(Done, Pattern, With,
+                                                         [global, multiline, {return, binary}]) end,
                 Numbered, [{"[a-z_]+:[a-z_]+/[0-9]+ (?=<[0-9])", ""}, {"(?<=\\S)  +", "  "}, {"^ {3,}(?=\\S)", "  "},
                            %% Where a term is cut short depends on the pids in it.
                            {"\\S*\\.\\.\\.", "..."}, {"#Fun<[^>\\n]*>", "#Fun<>"}]).
@@ -454,7 +472,8 @@ number(Pattern, Word, Text) ->
                                             end
                                     end, [], Found),
             lists:foldl(fun({N, One}, Done) ->
-                                binary:replace(Done, One, unicode:characters_to_binary(io_lib:format(Word, [N])), [global])
+                                binary:replace(Done, One, unicode:characters_to_binary(io_lib:format(Word, [N])),
+                                               [global])
                         end, Text, lists:enumerate(Different))
     end.
 

@@ -1,4 +1,4 @@
-%% Causes, against the charts of the program and the model; and where resets are found to stand, in
+%% Causes, against the charts of the program and the model; and where resets are found, in
 %% random runs of a machine whose resets are known.
 -module(seqaudit_causes_tests).
 
@@ -62,7 +62,7 @@ same_cause({relabelled, _, _}, [<<"start">>]) -> ok;
 same_cause(Cause, [<<"start">>]) when Cause =:= start; Cause =:= open -> ok;
 same_cause(Cause, Words) -> {Cause, Words}.
 
-%% After the answer of a spawn OTP's counter stands at 16 T + 15.
+%% After the answer of a spawn OTP's counter is at 16 T + 15.
 spawned_test() ->
     [#{cause := {sent, {sent_to, _}}}, #{cause := {spawned, {<<"<0.1.0>">>, 0}}},
      #{cause := {spawned, {<<"<0.1.0>">>, 0}}}] =
@@ -138,7 +138,7 @@ put_back_test() ->
     [{perhaps, {P, 0}}] = causes([{'receive', 7, 6, 7}, {'receive', 7, 130, 131}, {print, 7, 127, 131}]),
     [{relabelled, <<"6">>, open}] = causes([{'receive', 7, 2, 8}, {'receive', 7, 9, 10}, {print, 6, 8, 11}]),
     [{relabelled, <<"6">>, open}] = causes([{'receive', 7, 9, 11}, {'receive', 7, 192, 193}, {print, 6, 191, 194}]),
-    %% A counter that isn't above where it stood went back, so what was received last isn't the cause.
+    %% A counter that isn't above where it was went back, so what was received last isn't the cause.
     [{received, {P, 0}}, {received, {P, 0}}, {perhaps, {P, 0}}] =
         causes([{'receive', 7, 1, 3}, {print, 7, 3, 4}, {print, 7, 3, 5}, {'receive', 7, 2, 3}, {print, 7, 3, 5}]),
     %% Nor is it certain to be if another message has its count, in a process that puts tokens back.
@@ -148,7 +148,7 @@ put_back_test() ->
         causes([{'receive', 7, 1, 3}, {print, 7, 3, 4}, {'receive', 7, 2, 3}, {print, 7, 3, 5}, {'receive', 8, 9, 10},
                 {print, 8, 9, 11}]).
 
-%% Where all is reported, the parts begin exactly where the reset stood, for each process for which
+%% Where all is reported, the parts begin exactly where the reset was, for each process for which
 %% an event tells; and what isn't told by any is never cut off a message that it belongs to.
 resets_test() ->
     _ = rand:seed(exsss, {1, 2, 3}),

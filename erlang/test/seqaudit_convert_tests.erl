@@ -166,7 +166,8 @@ too_many_test_() ->
         Events = [{seq_trace, 1, {print, {0, 1}, pid('a@h', N, Serial), [], x}}
                   || Serial <- [0, 1, 2], N <- lists:seq(0, 32_767)],
         #{events := 65_536, processes := 65_536, dropped := 32_768, notes := Notes} = convert(Events),
-        true = lists:any(fun(Note) -> has(Note, "left out 32,768 events, as it takes 65,536 nodes and as many processes of each") end, Notes)
+        Left = "left out 32,768 events, as it takes 65,536 nodes and as many processes of each",
+        true = lists:any(fun(Note) -> has(Note, Left) end, Notes)
     end}.
 
 lost_test() ->

@@ -4,7 +4,8 @@
 -export([by_label_test/0, each_label_test_/0, refused_test_/0]).
 
 by_label_test() ->
-    Event = fun(Label, At) -> #{kind => send, label => Label, prev => 0, this => At, from => <<"<0.2.0>">>, to => <<"<0.3.0>">>,
+    Event = fun(Label, At) -> #{kind => send, label => Label, prev => 0, this => At, from => <<"<0.2.0>">>,
+                                to => <<"<0.3.0>">>,
                                 value => <<"0">>, at => At} end,
     [{<<"2">>, [{<<"<0.2.0>">>, [#{at := 1}]}, {<<"<0.3.0>">>, []}]},
      {<<"10">>, [{<<"<0.2.0>">>, [#{at := 0}, #{at := 2}]}, {<<"<0.3.0>">>, []}]}] =
@@ -25,7 +26,8 @@ each_label_test_() ->
 each_label(Program) ->
     Name = seqaudit_audits:file("each"),
     ok = file:write_file(Name ++ ".txt", [messages(N) || N <- lists:seq(1, 20)]
-                         ++ "{seq_trace,torn,{print,{90,91},<0.200.0>,[],a}}.\n{seq_trace,torn,{print,{90,91},<0.200.0>,[],b}}.\n"),
+                         ++ "{seq_trace,torn,{print,{90,91},<0.200.0>,[],a}}.\n"
+                             "{seq_trace,torn,{print,{90,91},<0.200.0>,[],b}}.\n"),
     {0, _} = command(["convert ", Name, ".txt -o ", Name], []),
     Variables = [{"SEQAUDIT", Program}, {"SEQTOOL", "/no/such/seqtool"}],
     {1, Said} = command(["audit ", Name, " --each-label"], Variables),
@@ -48,7 +50,8 @@ each_label(Program) ->
 %% A process of its own for each request, as a service has it.
 messages(N) ->
     io_lib:format("{seq_trace,{request,~b},{send,{0,~b},<0.100.0>,<0.~b.0>,hello}}.\n"
-                  "{seq_trace,{request,~b},{'receive',{0,~b},<0.100.0>,<0.~b.0>,hello}}.\n", [N, N, 1_000 + N, N, N, 1_000 + N]).
+                  "{seq_trace,{request,~b},{'receive',{0,~b},<0.100.0>,<0.~b.0>,hello}}.\n",
+                  [N, N, 1_000 + N, N, N, 1_000 + N]).
 
 %% What a program refuses is said in words, for that label.
 refused_test_() ->
@@ -59,11 +62,13 @@ refused_test_() ->
         [begin
              ok = file:write_file(Name ++ ".sh", ["#!/bin/sh\n", Script]),
              ok = file:change_mode(Name ++ ".sh", 8#755),
-             {Status, Said} = command(["audit ", Name, " --each-label"], [{"SEQAUDIT", Name ++ ".sh"}, {"SEQTOOL", "/no/such/seqtool"}]),
+             {Status, Said} = command(["audit ", Name, " --each-label"],
+                                      [{"SEQAUDIT", Name ++ ".sh"}, {"SEQTOOL", "/no/such/seqtool"}]),
              {_, _} = binary:match(Said, Sentence),
              {_, _} = binary:match(Said, <<"\n2 labels: 0 fit, 2 couldn't be audited\n">>)
          end || {Status, Script, Sentence} <-
-                    [{2, "echo fault too many processes\nexit 2\n", <<"{request,1}: not audited: the trace has more processes or events than">>},
+                    [{2, "echo fault too many processes\nexit 2\n",
+                      <<"{request,1}: not audited: the trace has more processes or events than">>},
                      {4, "kill -9 $$\n", <<".sh (signal 9), perhaps because memory ran out\n{request,2}: ">>}]]
     end}.
 

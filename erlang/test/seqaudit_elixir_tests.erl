@@ -6,13 +6,15 @@
 text_test() ->
     [{Text, Elixir} = {Text, seqaudit_elixir:text(Text)}
      || {Text, Elixir} <-
-            [{<<"#{'__struct__' => 'Elixir.Shop.Order',item => <<\"apple\">>,n => 3}">>, <<"%Shop.Order{item: \"apple\",n: 3}">>},
+            [{<<"#{'__struct__' => 'Elixir.Shop.Order',item => <<\"apple\">>,n => 3}">>,
+              <<"%Shop.Order{item: \"apple\",n: 3}">>},
              {<<"#{'__exception__' => true,'__struct__' => 'Elixir.KeyError',key => a}">>, <<"%KeyError{key: :a}">>},
              {<<"#{'__struct__' => 'Elixir.Empty'}">>, <<"%Empty{}">>},
              {<<"{ok,'Elixir.Shop',nil,true,\"ab\",<0.80.0>,#Ref<0.1.2.3>}">>,
               <<"{:ok,Shop,nil,true,~c\"ab\",#PID<0.80.0>,#Reference<0.1.2.3>}">>},
              {<<"#{1 => a,b => <<1,2>>,'two words' => 'x y'}">>, <<"%{1 => :a,b: <<1,2>>,\"two words\": :\"x y\"}">>},
-             {<<"[käse,-1.5e3,16#ff,<<\"a => \\\"b\\\"\"/utf8>>]"/utf8>>, <<"[:käse,-1.5e3,16#ff,\"a => \\\"b\\\"\"]"/utf8>>},
+             {<<"[käse,-1.5e3,16#ff,<<\"a => \\\"b\\\"\"/utf8>>]"/utf8>>,
+              <<"[:käse,-1.5e3,16#ff,\"a => \\\"b\\\"\"]"/utf8>>},
              {<<"shop:order/2">>, <<":shop.order/2">>},
              {<<"{ok,<<\"cut te...">>, <<"{:ok,<<\"cut te...">>}, {<<>>, <<>>}]],
     <<"Shop.Server:init/1 <0.80.0>">> = seqaudit_elixir:name(<<"'Elixir.Shop.Server':init/1 <0.80.0>">>).
@@ -39,7 +41,8 @@ legend_test() ->
 %% A program of Elixir that has the application as a dependency by path traces itself, and mix shows it.
 mix_test_() ->
     {timeout, 600, fun() ->
-        case {os:find_executable("mix"), [Program || Program <- seqaudit_audits:programs(), seqaudit_audits:has(Program, "chart")]} of
+        case {os:find_executable("mix"),
+              [Program || Program <- seqaudit_audits:programs(), seqaudit_audits:has(Program, "chart")]} of
             {false, _} -> io:format(user, "mix: skipped, it isn't here (elixir)~n", []);
             {_, []} -> io:format(user, "mix: skipped, there is no seqaudit~n", []);
             {Mix, [Program | _]} -> mix(Mix, Program, seqaudit_audits:file("mix"))
@@ -67,12 +70,16 @@ mix(Mix, Program, Folder) ->
 
 shop() ->
     [{"mix.exs", ["defmodule Shop.MixProject do\n  use Mix.Project\n"
-                  "  def project, do: [app: :shop, version: \"0.1.0\", deps: [{:seqaudit, path: \"", seqaudit_audits:home(), "\"}]]\n"
+                  "  def project, do: [app: :shop, version: \"0.1.0\", deps: [{:seqaudit, path: \"",
+                  seqaudit_audits:home(), "\"}]]\n"
                   "  def application, do: [extra_applications: []]\nend\n"]},
      {"lib/shop.ex", "defmodule Shop.Order do\n  defstruct [:item, :n]\nend\n\n"
                      "defmodule Shop do\n  use GenServer\n"
-                     "  def start, do: GenServer.start(__MODULE__, %{}, name: __MODULE__)\n  def init(state), do: {:ok, state}\n"
-                     "  def handle_call(%Shop.Order{} = order, _, state), do: {:reply, {:ok, order.n, \"sold\", nil}, state}\nend\n"},
+                     "  def start, do: GenServer.start(__MODULE__, %{}, name: __MODULE__)\n"
+                      "  def init(state), do: {:ok, state}\n"
+                     "  def handle_call(%Shop.Order{} = order, _, state), do: {:reply, {:ok, order.n, \"sold\", nil}, "
+                      "state}\nend\n"},
      {"trace.exs", "{:ok, _} = Shop.start()\n:ok = :seqaudit_trace.start(%{name: 'traced'})\n"
-                   ":seqaudit_trace.with_trace({Shop, 7}, fn -> GenServer.call(Shop, %Shop.Order{item: \"apple\", n: 3}) end)\n"
+                   ":seqaudit_trace.with_trace({Shop, 7}, fn -> GenServer.call(Shop, %Shop.Order{item: \"apple\", "
+                    "n: 3}) end)\n"
                    "{:ok, _} = :seqaudit_trace.stop()\n"}].

@@ -1,7 +1,8 @@
 %% How commands end: killed, without their nodes, without a reader, and with what a terminal can't show.
 -module(seqaudit_ends_tests).
 
--export([killed_test_/0, node_down_test_/0, closed_output_test_/0, closed_collect_test_/0, full_device_test_/0, unicode_errors_test_/0,
+-export([killed_test_/0, node_down_test_/0, closed_output_test_/0, closed_collect_test_/0, full_device_test_/0,
+         unicode_errors_test_/0,
          control_characters_test_/0, escaped_test/0]).
 
 -import(seqaudit_test_shell, [node_command/0, cookie/0, run/1, run/2, begin_run/2, ended/0]).
@@ -23,7 +24,8 @@ killed(There) ->
     {_, _} = ended(),
     {4, Lost} = run([Collect, "--seconds 1"], cookie()),
     {match, [Seconds, Folder]} =
-        re:run(Lost, "can't be reached any more; that ends in ([0-9]+) s, unless it comes back, and leaves its events in "
+        re:run(Lost,
+               "can't be reached any more; that ends in ([0-9]+) s, unless it comes back, and leaves its events in "
                "(\\S+) there; with --take-over", [{capture, all_but_first, list}]),
     true = list_to_integer(Seconds) =< 60,
     {0, _} = run([Collect, "--seconds 1 --take-over"], cookie()),
@@ -47,7 +49,8 @@ node_down_test_() ->
             Said = seqaudit_audits:file("node_down.said"),
             Name = seqaudit_audits:file("node_down"),
             _ = file:delete(Said),
-            _ = begin_run(["echo $$ >", Name, ".pid; exec ", node_command(), " collect --node ", atom_to_list(There), " -o ",
+            _ = begin_run(["echo $$ >", Name, ".pid; exec ", node_command(), " collect --node ", atom_to_list(There),
+                           " -o ",
                            Name, " >", Said, " 2>&1"], cookie()),
             seqaudit_test_nodes:print_when_traced(There),
             Says = fun(Sentence) ->
@@ -63,7 +66,8 @@ node_down_test_() ->
             {match, [Folder]} = re:run(Begin, "writes its events to (\\S+)", [{capture, all_but_first, list}]),
             ok = seqaudit_test_nodes:on_disk(Folder, 1),
             seqaudit_test_nodes:kill(There),
-            seqaudit_test_nodes:until(Says(list_to_binary(["node ", atom_to_list(There), " can't be reached any more"]))),
+            seqaudit_test_nodes:until(Says(list_to_binary(["node ", atom_to_list(There),
+                                                           " can't be reached any more"]))),
             {ok, Pid} = file:read_file(Name ++ ".pid"),
             [] = os:cmd("kill -TERM " ++ string:trim(binary_to_list(Pid))),
             {0, _} = ended(),
@@ -78,7 +82,8 @@ closed_output_test_() ->
         ok = filelib:ensure_dir(filename:join(Folder, "x")),
         Capture = filename:join([seqaudit_audits:home(), "test", "captures", "ring10.txt"]),
         [begin
-             {0, <<>>} = run(["cd ", Folder, "; rm -f *; { ", node_command(), $\s, Words, " 2>errors; echo $? >status; } | true"]),
+             {0, <<>>} = run(["cd ", Folder, "; rm -f *; { ", node_command(), $\s, Words,
+                              " 2>errors; echo $? >status; } | true"]),
              {ok, <<"141\n">>} = file:read_file(filename:join(Folder, "status")),
              {ok, <<>>} = file:read_file(filename:join(Folder, "errors")),
              false = filelib:is_regular(filename:join(Folder, "erl_crash.dump"))
@@ -149,14 +154,16 @@ control_characters_test_() ->
         {ok, Terms} = file:read_file(Name ++ ".terms"),
         ok = file:write_file(Name ++ ".terms", binary:replace(Terms, <<"\t<0.80.0>\t<0.80.0>\t">>,
                                                               <<"\t<0.80.0>\tred", Escape/binary, "\t">>)),
-        Programs = [{"SEQAUDIT", Program} || Program <- seqaudit_audits:programs(), seqaudit_audits:has(Program, "chart")],
+        Programs = [{"SEQAUDIT", Program} || Program <- seqaudit_audits:programs(),
+                    seqaudit_audits:has(Program, "chart")],
         [begin
              {0, Said} = run([node_command(), $\s, Words], [Program, {"SEQTOOL", "/no/such/seqtool"}]),
              nomatch = binary:match(Said, [<<27>>, <<16#202E/utf8>>]),
              {_, _} = binary:match(Said, <<"red\\x{1B}[31m#1">>),
              {_, _} = binary:match(Said, <<"x\\x{202E}y">>)
          end || Program <- lists:sublist(Programs, 1),
-                Words <- [["audit --whole ", Name], ["chart --label 1 ", Name], ["why ", Name, " --event 'red\\x{1B}[31m#1'"]]]
+                Words <- [["audit --whole ", Name], ["chart --label 1 ", Name],
+                          ["why ", Name, " --event 'red\\x{1B}[31m#1'"]]]
     end}.
 
 escaped_test() ->

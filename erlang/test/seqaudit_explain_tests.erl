@@ -42,8 +42,8 @@ whole_test() ->
          "     3  alice has no token any more", "     4  alice begins a trace with label {order,7}",
          "     5  alice has label {order,7}, flags [print]", "     6  alice prints start\n"]).
 
-%% A token travels with a message, with its flags and its label, and a queue gives what is wanted of it. Each act stands
-%% under its own number.
+%% A token travels with a message, with its flags and its label, and a queue gives what is wanted of it. Each act has
+%% its own number.
 acts_test() ->
     Acts = ["tracer <0.30.0> true", "set <0.30.0> label 17", "print <0.30.0> 5", "set <0.30.0> print true",
             "print <0.30.0> 7", "set <0.30.0> send true", "send <0.30.0> <0.31.0> 6", "set <0.30.0> receive true",
@@ -105,13 +105,13 @@ reported_acts(Capture, Gone) ->
     {Capture, true, _} = {Capture, Said =:= never orelse length(Told) =:= seqaudit_bundle:events(Left), Told},
     Said.
 
-%% What a fits says of hidden sends, of counters that stood high, of silent stamps and of spawns.
+%% What a fits says of hidden sends, of high counters, of silent stamps and of spawns.
 fits_test() ->
     <<"fits: 2 events of 2 processes; nothing is known to be missing\n">> =
         said(outcome(fits, streams("seqtrace 1\nprocess <0.30.0>\n"
                                    "{seq_trace,17,{send,{0,1},<0.30.0>,<0.31.0>,7}}\nprocess <0.31.0>\n"
                                    "{seq_trace,17,{'receive',{0,1},<0.30.0>,<0.31.0>,7}}\n"))),
-    %% Nor is it said if a counter stood higher than what was received.
+    %% Nor is it said if a counter was higher than what was received.
     Higher = streams("seqtrace 1\nprocess <0.30.0>\n{seq_trace,17,{'receive',{0,1},<0.31.0>,<0.30.0>,7}}\n"
                      "{seq_trace,17,{print,{1,3},<0.30.0>,[],7}}\nprocess <0.31.0>\n"
                      "{seq_trace,17,{send,{0,1},<0.31.0>,<0.30.0>,7}}\n"),
@@ -192,7 +192,7 @@ unreceived_test() ->
                                         "process <0.31.0>\n{seq_trace,17,{print,{1,2},<0.31.0>,[],7}}\n"))),
         ["  bob & <co> receives {ok,six} from alice, serial {0,1}, label 17, before bob & <co>#0\n"]).
 
-%% Added events stand under the event before which they happened; an invented message isn't shown.
+%% Added events are named after the event before which they happened; an invented message isn't shown.
 completed_test() ->
     Streams = streams("seqtrace 1\nprocess <0.30.0>\n"
                       "{seq_trace,17,{send,{0,1},<0.30.0>,<0.31.0>,7}}\n"
@@ -236,7 +236,7 @@ labels_test() ->
         [{Label, From, Value, At}
          || #{kind := 'receive', label := Label, from := From, value := Value, at := At} <- Events].
 
-%% An unreported send stands behind the receive that it follows, if one is there before the next stamp.
+%% An unreported send is put behind the receive that it follows, if one is there before the next stamp.
 places_test() ->
     Receive = fun(Serial, This) -> ["{seq_trace,1,{'receive',{", Serial, ",", This, "},<0.30.0>,<0.32.0>,5}}\n"] end,
     Hidden = "{seq_trace,1,{send,{3,9},<0.32.0>,<0.30.0>,6}}\n",
@@ -273,7 +273,7 @@ faults_test() ->
          "or cut it"]),
     has(said((outcome(fault, []))#{fault => <<"fault line 3">>}), ["not audited: this isn't a bundle"]).
 
-%% Notes that tell of losses stand in the answer.
+%% Notes that tell of losses are in the answer.
 losses_test() ->
     Facts = [{by_request, "4 sends to an alias: the request that handed it out says whose it is"},
              {lost, "a@h: its collector went down (noconnection), and all of its events are lost"},
@@ -357,7 +357,7 @@ dashed_test() ->
                           "seqtrace 1\nprocess <0.30.0>\n{seq_trace,17,{send,{0,1},<0.30.0>,<0.31.0>,6}}\n"
                           "process <0.31.0>\n{seq_trace,17,{print,{1,2},<0.31.0>,[],7}}\n"), heading("fits")),
     has(Drawing, ["unreported: it happened, but nobody reported it"]),
-    %% The one that is dashed stands in the legend.
+    %% The one that is dashed is in the legend.
     [1, 1, 1] = [length(binary:matches(Drawing, Part))
                  || Part <- [<<"url(#d)">>, <<"<circle class=\"o\"">>, <<"<circle class=\"u\"">>]],
     [] = [Part || Part <- [<<"part ">>, <<"class=\"w\"">>, <<"whose receive isn't">>],

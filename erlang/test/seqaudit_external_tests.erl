@@ -24,9 +24,12 @@ one_form_test() ->
      || {One, Other} <- [{Old(<<"ok">>), New(<<"ok">>)},
                          {<<100, 1:16, 233>>, <<119, 2, 195, 169>>},
                          {<<118, 2:16, "ok">>, <<115, 2, "ok">>},
-                         {Fun(Old(<<"m">>), Pid(<<"a@h">>, 80), <<97, 1>>), Fun(New(<<"m">>), Pid(<<"b@host">>, 0), <<97, 1>>)},
-                         {Fun(New(<<"m">>), Pid(<<"a@h">>, 0), Old(<<"ok">>)), Fun(New(<<"m">>), Pid(<<"b@h">>, 0), New(<<"ok">>))},
-                         {Fun(New(<<"m">>), Pid(<<"a@h">>, 0), hd(Maps)), Fun(New(<<"m">>), Pid(<<"b@h">>, 0), lists:last(Maps))},
+                         {Fun(Old(<<"m">>), Pid(<<"a@h">>, 80), <<97, 1>>),
+                          Fun(New(<<"m">>), Pid(<<"b@host">>, 0), <<97, 1>>)},
+                         {Fun(New(<<"m">>), Pid(<<"a@h">>, 0), Old(<<"ok">>)),
+                          Fun(New(<<"m">>), Pid(<<"b@h">>, 0), New(<<"ok">>))},
+                         {Fun(New(<<"m">>), Pid(<<"a@h">>, 0), hd(Maps)),
+                          Fun(New(<<"m">>), Pid(<<"b@h">>, 0), lists:last(Maps))},
                          {Fun(New(<<"m">>), Pid(<<"a@h">>, 0), Fun(Old(<<"n">>), Pid(<<"a@h">>, 0), <<106>>)),
                           Fun(New(<<"m">>), Pid(<<"b@host">>, 0), Fun(New(<<"n">>), Pid(<<"b@host">>, 0), <<106>>))},
                          {<<113, (Old(<<"m">>))/binary, (Old(<<"f">>))/binary, 97, 1>>,
@@ -49,7 +52,8 @@ other_terms_test() ->
                                       <<88, 119, 3, "a@h", 1:32, 0:32, 7:32>>, <<88, 119, 3, "a@h", 1:32, 0:32, 8:32>>,
                                       <<90, 1:16, 119, 3, "a@h", 7:32, 1:32>>, <<90, 1:16, 119, 3, "a@h", 7:32, 2:32>>,
                                       <<119, 2, "ok">>, <<107, 2:16, "ok">>, <<109, 2:32, "ok">>,
-                                      <<113, 119, 1, "m", 119, 1, "f", 97, 1>>, <<113, 119, 1, "m", 119, 1, "f", 97, 2>>]],
+                                      <<113, 119, 1, "m", 119, 1, "f", 97, 1>>, <<113, 119, 1, "m", 119, 1, "f", 97,
+                                      2>>]],
     [] = Forms -- lists:usort(Forms),
     [error = seqaudit_external:take(Bytes)
      || Bytes <- [<<112, 30:32, 1, 1:128, 5:32, 1:32, 119, 1, "m", 97, 5, 98, 99:32, 106, 97, 1>>,
@@ -97,7 +101,8 @@ both_ends_test_() ->
         Name = seqaudit_audits:file("both_ends"),
         Echo = spawn(There, ?MODULE, echo, []),
         ok = seqaudit_trace:start(#{name => Name, nodes => [node(), There]}),
-        seqaudit_trace:with_trace(1, fun() -> [begin Echo ! {self(), Term}, receive {back, _} -> ok end end || Term <- Terms] end),
+        seqaudit_trace:with_trace(1, fun() -> [begin Echo ! {self(), Term}, receive {back, _} -> ok end end
+                                               || Term <- Terms] end),
         Events = 4 * length(Terms),
         {ok, #{events := Events}} = seqaudit_trace:stop(),
         [] = differing(Name),
@@ -112,7 +117,8 @@ echo() ->
 differing(Name) ->
     {ok, Streams} = seqaudit_bundle:read(Name ++ ".seqtrace"),
     Events = lists:append([Events || {_, Events} <- Streams]),
-    Sent = maps:from_list([{{From, This}, Value} || #{kind := send, from := From, this := This, value := Value} <- Events]),
+    Sent = maps:from_list([{{From, This}, Value}
+                           || #{kind := send, from := From, this := This, value := Value} <- Events]),
     [Event || #{kind := 'receive', from := From, this := This, value := Value} = Event <- Events,
               maps:get({From, This}, Sent) =/= Value].
 

@@ -3,7 +3,8 @@
 
 -export([net_split_test_/0, killed_node_test_/0, out_of_reach_test_/0, killed_collector_test_/0,
          killed_leader_test_/0, lost_owner_test_/0, stray_calls_test_/0, other_disk_test_/0,
-         late_events_test/0, written_over_test/0, broken_port_test/0, broken_disk_test_/0, stray_tokens_test_/0, own_events_test/0, late_names_test_/0,
+         late_events_test/0, written_over_test/0, broken_port_test/0, broken_disk_test_/0, stray_tokens_test_/0,
+         own_events_test/0, late_names_test_/0,
          refused_options_test/0]).
 
 %% Runs a test of this name on a second node.

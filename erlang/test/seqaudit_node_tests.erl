@@ -1,7 +1,8 @@
 %% The command, run as a program of its own.
 -module(seqaudit_node_tests).
 
--export([usage_test_/0, convert_test_/0, damaged_test_/0, audit_and_chart_test_/0, no_program_test_/0, failing_program_test_/0, collect_test_/0,
+-export([usage_test_/0, convert_test_/0, damaged_test_/0, audit_and_chart_test_/0, no_program_test_/0,
+         failing_program_test_/0, collect_test_/0,
          printing/0, unproved_test/0, packed_test_/0]).
 
 usage_test_() ->
@@ -14,16 +15,19 @@ usage_test_() ->
              {0, <<"usage: seqaudit-node ", Its/binary>> = Same} = command([Command, " --help"]),
              {0, Same} = command([Command, " x -h"]),
              [] = [Option || Option <- Options, binary:match(Its, Option) =:= nomatch]
-         end || {Command, Options} <- [{<<"collect">>, [<<"--node">>, <<"-o">>, <<"--seconds">>, <<"--trigger">>, <<"--label">>,
-                                                        <<"--calls">>, <<"--take-over">>, <<"--unload">>, <<"--times">>, <<"--reset">>, <<"--bytes">>, <<"--limit">>, <<"--folder">>,
-                                                        <<"--cookie-file">>, <<"--cookie ">>, <<"SEQAUDIT_COOKIE">>]},
+         end || {Command, Options} <- [{<<"collect">>,
+                                        [<<"--node">>, <<"-o">>, <<"--seconds">>, <<"--trigger">>, <<"--label">>,
+                                         <<"--calls">>, <<"--take-over">>, <<"--unload">>, <<"--times">>, <<"--reset">>,
+                                         <<"--bytes">>, <<"--limit">>, <<"--folder">>, <<"--cookie-file">>,
+                                         <<"--cookie ">>, <<"SEQAUDIT_COOKIE">>]},
                                        {<<"convert">>, [<<"FILE">>, <<"-o">>]},
                                        {<<"watch">>, [<<"--node">>, <<"--every">>, <<"-o">>, <<"--keep">>]},
                                        {<<"audit">>, [<<"--whole">>, <<"--parts">>, <<"--each-label">>, <<"--json">>,
                                                       <<"--label">> | cuts()]},
                                        {<<"chart">>, [<<"--svg">>, <<"--html">>, <<"--mermaid">>, <<"--perfetto">>,
                                                       <<"--otlp">>, <<"--label">> | cuts()]},
-                                       {<<"why">>, [<<"--event">>, <<"--effects">>, <<"--json">>, <<"--label">> | cuts()]},
+                                       {<<"why">>,
+                                        [<<"--event">>, <<"--effects">>, <<"--json">>, <<"--label">> | cuts()]},
                                        {<<"times">>, [<<"--label">>, <<"--json">> | cuts()]}]],
         [{_, _} = binary:match(Said, Sentence)
          || {Words, Sentence} <- [{"audit x --frob", <<"audit has no option --frob\nusage: seqaudit-node audit NAME">>},
@@ -127,7 +131,8 @@ packed_test_() ->
     {timeout, 60, fun() ->
         Top = seqaudit_audits:file("packed"),
         _ = file:del_dir_r(Top),
-        [Manifest, Program, Command] = [filename:join(Top, File) || File <- ["workspace/Cargo.toml", "bin/rust/seqaudit",
+        [Manifest, Program, Command] = [filename:join(Top, File)
+                                        || File <- ["workspace/Cargo.toml", "bin/rust/seqaudit",
                                                                             "erlang/seqaudit-node"]],
         [ok = filelib:ensure_dir(File) || File <- [Manifest, Program, Command]],
         [ok = file:write_file(File, <<>>) || File <- [Manifest, Program]],
@@ -135,9 +140,11 @@ packed_test_() ->
                                           seqaudit_test_shell:node_command(), $\s, filename:dirname(Command)]),
         Name = seqaudit_audits:file("asked_packed"),
         {0, _} = command(["convert ", capture("ring10"), " -o ", Name]),
-        {_, Said} = seqaudit_test_shell:run([Command, " audit ", Name], [{"SEQAUDIT", false}, {"SEQTOOL", "/no/seqtool"}]),
+        {_, Said} = seqaudit_test_shell:run([Command, " audit ", Name],
+                                            [{"SEQAUDIT", false}, {"SEQTOOL", "/no/seqtool"}]),
         {_, _} = binary:match(Said, iolist_to_binary(["plain Rust, not proved: ", Program,
-                                                      "; the proofs are in the repository, and not in this archive\n"])),
+                                                      "; the proofs are in the repository, and not in this "
+                                                      "archive\n"])),
         nomatch = binary:match(Said, <<"make program">>)
     end}.
 
@@ -166,7 +173,8 @@ asked(Name, Program) ->
     {_, _} = binary:match(PutBack, <<"A token was put back here">>),
     ok = file:write_file(Unfit ++ ".seqtrace",
                          ["seqtrace 1\nprocess <0.80.0>\n",
-                          [["{seq_trace,1,{print,{", Serial, "},<0.80.0>,[],0}}\n"] || Serial <- ["0,1", "0,2", "1,3"]]]),
+                          [["{seq_trace,1,{print,{", Serial, "},<0.80.0>,[],0}}\n"]
+                           || Serial <- ["0,1", "0,2", "1,3"]]]),
     {1, Why} = command(["audit ", Unfit], Program),
     {_, _} = binary:match(Why, <<"(uncaused)">>),
     {_, _} = binary:match(Why, <<"seqtool would say what the trace lacks, but it isn't there">>).

@@ -17,8 +17,9 @@ rebar3_test_() ->
 packaged(Rebar, Folder) ->
     _ = file:del_dir_r(Folder),
     ok = file:make_dir(Folder),
-    {0, _} = seqaudit_test_shell:run(["cd ", seqaudit_audits:home(), " && tar -c --exclude=test/out --exclude=test/ebin ",
-                    "rebar.config seqaudit-node src priv test | tar -x -C ", Folder]),
+    {0, _} = seqaudit_test_shell:run(["cd ", seqaudit_audits:home(), " && tar -c --exclude=test/out "
+                                      "--exclude=test/ebin rebar.config seqaudit-node src priv test | tar -x -C ",
+                                      Folder]),
     [{0, _} = seqaudit_test_shell:run(["cd ", Folder, " && HOME=", Folder, " ", Rebar, " ", Words])
      || Words <- ["compile", "xref", "eunit", "edoc", "as escript escriptize"]],
     true = filelib:is_regular(filename:join([Folder, "doc", "index.html"])),
@@ -44,14 +45,15 @@ answered(Program, Command, Name) ->
     {0, _} = seqaudit_test_shell:run(["cd / && ", Command, " chart ", Name, " --html ", Name, ".html"], Variables),
     {ok, <<"<!doctype html>", _/binary>>} = file:read_file(Name ++ ".html").
 
-%% What a registry of packages asks for is there, and says the same to rebar3 and mix.
+%% What a registry of packages needs is there, and says the same to rebar3 and mix.
 metadata_test() ->
     Home = seqaudit_audits:home(),
     {ok, [{application, seqaudit, About}]} = file:consult(filename:join([Home, "src", "seqaudit.app.src"])),
     {ok, Mix} = file:read_file(filename:join(Home, "mix.exs")),
     [#{description := [_ | _] = Description, vsn := [_ | _] = Version, licenses := [License],
        links := [{Title, "https://" ++ _ = Link}], files := Files}] = [maps:from_list(About)],
-    [{_, _} = binary:match(Mix, iolist_to_binary([$", Text, $"])) || Text <- [Description, Version, License, Title, Link | Files]],
+    [{_, _} = binary:match(Mix, iolist_to_binary([$", Text, $"]))
+     || Text <- [Description, Version, License, Title, Link | Files]],
     [] = [File || File <- Files, not filelib:is_file(filename:join(Home, File))].
 
 %% What is too old is said, of this Erlang and of a node.

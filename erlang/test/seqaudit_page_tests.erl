@@ -1,7 +1,8 @@
 %% The page, driven in headless chromium where there is one.
 -module(seqaudit_page_tests).
 
--export([production_test_/0, chain_test_/0, unreceived_test_/0, hostile_test_/0, large_test_/0, reset_test_/0, pictures_test_/0,
+-export([production_test_/0, chain_test_/0, unreceived_test_/0, hostile_test_/0, large_test_/0, reset_test_/0,
+         pictures_test_/0,
          data_test/0, whole_test_/0, whole_text_test/0, limit_test_/0, most_test/0, damaged_messages_test/0]).
 
 chain_test_() ->
@@ -33,9 +34,11 @@ production_test_() ->
         Pid = fun(N) -> io_lib:format("<0.~b.0>", [N]) end,
         Bundle = ["seqtrace 1\n",
                   "process <0.1.0>\n{seq_trace,7,{send,{0,1},<0.1.0>,<0.2.0>,0}}\n",
-                  "process <0.2.0>\n{seq_trace,7,{'receive',{0,1},<0.1.0>,<0.2.0>,0}}\n{seq_trace,7,{send,{1,2},<0.2.0>,<0.3.0>,1}}\n",
+                  "process <0.2.0>\n{seq_trace,7,{'receive',{0,1},<0.1.0>,<0.2.0>,0}}\n"
+                   "{seq_trace,7,{send,{1,2},<0.2.0>,<0.3.0>,1}}\n",
                   "process <0.3.0>\n{seq_trace,7,{'receive',{1,2},<0.2.0>,<0.3.0>,1}}\n",
-                  [["process ", Pid(N), "\n{seq_trace,8,{print,{9,10},", Pid(N), ",[],2}}\n"] || N <- lists:seq(4, 60)]],
+                  [["process ", Pid(N), "\n{seq_trace,8,{print,{9,10},", Pid(N), ",[],2}}\n"]
+                   || N <- lists:seq(4, 60)]],
         Names = [{lists:flatten(Pid(N)), lists:append(["process ", integer_to_list(N)])} || N <- lists:seq(1, 60)],
         Events = maps:from_list([{{list_to_binary(Of), At}, Time} || {Of, At, Time} <-
             [{"<0.1.0>", 0, 0}, {"<0.2.0>", 0, 200_000}, {"<0.2.0>", 1, 600_000}, {"<0.3.0>", 0, 900_000}]]),
@@ -102,7 +105,8 @@ hostile_test_() ->
 
 hostile() ->
     Texts = ["</script><script>window.hacked=1</script>", "<img src=x onerror=window.hacked=1>", "\"'&lt;<b>x</b>",
-             [$a, 16#202E, $b], [$a, 7, $b], [16#5E9, 16#5DC, 16#5D5, 16#5DD], [16#1F600], "@SCRIPT@ @DATA@", "<!-- <script>"],
+             [$a, 16#202E, $b], [$a, 7, $b], [16#5E9, 16#5DC, 16#5D5, 16#5DD], [16#1F600], "@SCRIPT@ @DATA@",
+             "<!-- <script>"],
     Numbered = lists:enumerate(0, Texts),
     Bundle = ["seqtrace 1\nprocess <0.1.0>\n",
               [io_lib:format("{seq_trace,7,{print,{0,~b},<0.1.0>,[],~b}}~n", [N + 1, N]) || {N, _} <- Numbered]],
@@ -115,7 +119,7 @@ hostile() ->
     {ok, Legend} = seqaudit_legend:read(File),
     Audited#{legend := Legend}.
 
-%% Messages of 100,000 characters, as a node sends them and `convert' writes them, stand whole in the panel.
+%% Messages of 100,000 characters, as a node sends them and `convert' writes them, are whole in the panel.
 whole_test_() ->
     {timeout, 180, fun() -> driven("whole", "whole", long_messages("whole")) end}.
 
@@ -236,7 +240,7 @@ large(Lanes, Rows) ->
 
 pid(K) -> lists:flatten(io_lib:format("<0.~b.0>", [100 + K])).
 
-%% Five tokens take turns; each goes on from where it is.
+%% Five tokens take turns; each goes on where it is.
 hop(N, Lanes) ->
     {Token, Hop} = {N rem 5, N div 5},
     [From, To] = [(Token * 11 + Hops * (2 + Token)) rem Lanes || Hops <- [Hop, Hop + 1]],
@@ -248,7 +252,7 @@ hop(N, Lanes) ->
                            [Token, Kind, Prev, 2 * N + 1, pid(From), pid(To), N rem 1000])}
      || {Actor, Kind} <- [{From, "send"}, {To, "'receive'"}]].
 
-%% Parts between resets stand one below the other.
+%% Parts between resets are one below the other.
 reset_test_() ->
     {timeout, 180, fun() ->
         #{outcome := Outcome} = Audited = chain(),

@@ -107,7 +107,7 @@ other_tracer_test_() ->
          exit(Other, kill)
      end} || Port <- [true, false]].
 
-%% If the collector itself is the tracer, it goes on while a disk stands still that takes its former files; nothing is
+%% If the collector itself is the tracer, it goes on while a disk that takes its former files is stuck; nothing is
 %% lost. The file of facts is a pipe here, which nobody reads at first.
 slow_disk_test_() ->
     {timeout, 120, fun() ->
@@ -213,8 +213,10 @@ write(N, Events) ->
     Name = seqaudit_audits:file("quiet" ++ integer_to_list(N)),
     {ok, Device} = seqaudit_events:open(Name),
     ok = seqaudit_events:begin_collection(Device, #{node => node()}),
-    ok = seqaudit_events:append(Device, seqaudit_spool:entry(#{processes => #{self() => #{name => tester}}, written => 17})),
-    ok = seqaudit_events:append(Device, [[<<0, (byte_size(Bytes)):32>>, Bytes] || Event <- Events, Bytes <- [term_to_binary(Event)]]),
+    ok = seqaudit_events:append(Device,
+                                seqaudit_spool:entry(#{processes => #{self() => #{name => tester}}, written => 17})),
+    ok = seqaudit_events:append(Device, [[<<0, (byte_size(Bytes)):32>>, Bytes] || Event <- Events,
+                                         Bytes <- [term_to_binary(Event)]]),
     ok = seqaudit_events:close(Device),
     Name ++ ".events".
 
@@ -235,7 +237,8 @@ rest_test() ->
          ok = seqaudit_events:append(Device, [[<<0, (byte_size(Bytes)):32>>, Bytes]
                                               || Event <- Events, Bytes <- [term_to_binary(Event)]])
      end || {Known, Events} <- [{[#{processes => #{A => #{name => a}}}, #{processes => #{B => #{name => b}}}],
-                                 [{seq_trace, 1, {print, {0, 1}, A, [], x}}, {seq_trace, 1, {print, {0, 1}, B, [], x}}]},
+                                 [{seq_trace, 1, {print, {0, 1}, A, [], x}},
+                                  {seq_trace, 1, {print, {0, 1}, B, [], x}}]},
                                 {[#{processes => #{A => #{name => a}, B => #{name => b}}},
                                   #{processes => #{C => #{name => c}}}],
                                  [{seq_trace, 1, {print, {1, 2}, A, [], x}}, {seq_trace, 1, {print, {0, 1}, C, [], x}},
@@ -255,11 +258,13 @@ cut_file(File) ->
 
 never_quiet_test() ->
     [A, B] = [self(), spawn(fun() -> ok end)],
-    Events = lists:append([[{seq_trace, 1, {send, {N, N + 1}, A, B, N}}, {seq_trace, 1, {'receive', {N - 1, N}, A, B, N - 1}}]
+    Events = lists:append([[{seq_trace, 1, {send, {N, N + 1}, A, B, N}},
+                            {seq_trace, 1, {'receive', {N - 1, N}, A, B, N - 1}}]
                            || N <- lists:seq(1, 100)]),
     none = seqaudit_quiet:cut([write(1, Events)], [seqaudit_audits:file("x_own")], [seqaudit_audits:file("x_rest")]).
 
-%% A node under load is watched: what fits goes, a reset is kept with the periods beside it, and the command ends at once.
+%% A node under load is watched: what fits goes, a reset is kept with the periods beside it, and the command ends at
+%% once.
 watch_test_() ->
     with_watch("w", fun(Program) -> Program end, fun watched/4).
 
@@ -280,14 +285,19 @@ begun(There, Name, Programs, Test) ->
     _ = file:del_dir_r(Folder),
     ok = file:make_dir(Folder),
     Said = filename:join(Folder, "said"),
-    _ = seqaudit_test_shell:begin_run(["echo $$ >", Folder, "/pid; exec ", seqaudit_test_shell:node_command(), " watch --node ",
-                                       atom_to_list(There), " --every 2 -o ", filename:join(Folder, Name), " >", Said, " 2>&1"],
+    _ = seqaudit_test_shell:begin_run(["echo $$ >", Folder, "/pid; exec ", seqaudit_test_shell:node_command(),
+                                       " watch --node ",
+                                       atom_to_list(There), " --every 2 -o ", filename:join(Folder, Name), " >", Said,
+                                       " 2>&1"],
                                       seqaudit_test_shell:cookie() ++ Programs),
     seqaudit_test_nodes:until(fun() -> seqaudit_test_nodes:is_traced(There) end),
     Service = served(There),
     Says = fun(Pattern) ->
                    {ok, Text} = file:read_file(Said),
-                   case re:run(Text, Pattern, [global, {capture, all, list}]) of {match, Found} -> Found; nomatch -> [] end
+                   case re:run(Text, Pattern, [global, {capture, all, list}]) of
+                       {match, Found} -> Found;
+                       nomatch -> []
+                   end
            end,
     {ok, Pid} = file:read_file(filename:join(Folder, "pid")),
     Kill = fun() -> os:cmd("kill -TERM " ++ string:trim(binary_to_list(Pid)) ++ " 2>&1") end,
@@ -369,15 +379,18 @@ too_many_test_() ->
         _ = file:delete(Script ++ ".once"),
         ok = file:write_file(Script, ["#!/bin/sh\ninput=$(cat)\n"
                                       "if [ \"$(echo \"$input\" | grep -c ^process)\" -gt 3 ]; then\n"
-                                      "if [ $1 = ", Audits, " ] && ! rm \"$0.once\" 2>/dev/null; then touch \"$0.once\"\n"
-                                      "echo \"$input\" | awk '/^{/ { print \"unfit\", pid, \"0 toowide\"; exit } { pid = $2 }'\n"
+                                      "if [ $1 = ", Audits,
+                                      " ] && ! rm \"$0.once\" 2>/dev/null; then touch \"$0.once\"\n"
+                                      "echo \"$input\" | awk '/^{/ { print \"unfit\", pid, \"0 toowide\"; exit } "
+                                      "{ pid = $2 }'\n"
                                       "exit 1; fi\n"
                                       "echo fault too many processes; exit 2; fi\n"
                                       "echo \"$input\" | ", Program, " \"$@\"\n"]),
         ok = file:change_mode(Script, 8#755),
         Script
     end, fun(_There, Name, Says, End) ->
-        Fits = "period [0-9]+: [0-9]+ events, too many for the programs at once; of ([0-9]+) labels \\1 fit by themselves; cut .*; not kept",
+        Fits = "period [0-9]+: [0-9]+ events, too many for the programs at once; of ([0-9]+) labels \\1 fit by "
+               "themselves; cut .*; not kept",
         seqaudit_test_nodes:until(fun() -> length(Says(Fits)) >= 2 end),
         0 = End(),
         [] = filelib:wildcard(Name ++ ".*")

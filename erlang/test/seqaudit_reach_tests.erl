@@ -44,7 +44,9 @@ unreachable_test_() ->
     {timeout, 60, fun() ->
         with_node([], fun(Node) ->
             {4, Wrong} = collect(["--node ", Node, " --cookie wrong"], []),
-            {_, _} = binary:match(Wrong, <<"of 127.0.0.1 knows it, but it doesn't let this command in; is the cookie the same">>),
+            {_, _} = binary:match(Wrong,
+                                  <<"of 127.0.0.1 knows it, but it doesn't let this command in; is the cookie the "
+                                    "same">>),
             {4, Unknown} = collect(["--node nobody@127.0.0.1 --cookie x"], []),
             {_, _} = binary:match(Unknown, <<"node nobody@127.0.0.1 can't be reached: the name server (epmd) of "
                                              "127.0.0.1 knows no nobody, but ">>),
@@ -57,7 +59,8 @@ unreachable_test_() ->
 mixed_names_test_() ->
     {timeout, 60, fun() ->
         {3, Said} = collect(["--node a@short --node a@long.name --cookie x"], []),
-        {_, _} = binary:match(Said, <<"some of these nodes have long names, with a dot in the host, and some short ones">>)
+        {_, _} = binary:match(Said,
+                              <<"some of these nodes have long names, with a dot in the host, and some short ones">>)
     end}.
 
 %% A node that speaks TLS alone is reached with the options that `erl' has for that.
@@ -81,8 +84,8 @@ tls_test_() ->
 tls_options() ->
     Key = seqaudit_audits:file("tls.key"),
     Certificate = seqaudit_audits:file("tls.pem"),
-    {0, _} = seqaudit_test_shell:run(["openssl req -x509 -newkey rsa:2048 -nodes -days 2 -subj /CN=127.0.0.1 -keyout ", Key,
-                                      " -out ", Certificate]),
+    {0, _} = seqaudit_test_shell:run(["openssl req -x509 -newkey rsa:2048 -nodes -days 2 -subj /CN=127.0.0.1 -keyout ",
+                                      Key, " -out ", Certificate]),
     File = seqaudit_audits:file("tls.options"),
     ok = file:write_file(File, io_lib:format("~p.~n", [[{server, [{certfile, Certificate}, {keyfile, Key}]},
                                                         {client, [{verify, verify_none}]}]])),

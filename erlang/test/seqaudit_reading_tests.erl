@@ -3,7 +3,8 @@
 
 -export([damaged_files_test_/0, swapped_files_test_/0, no_atoms_test/0, forged_names_test/0,
          log_lines_test/0, out_of_range_test/0, unpacked_size_test/0, old_release_test/0,
-         equal_maps_test/0, version_1_test/0, damaged_version_1_test/0, before_events_test/0, ttb_names_test_/0, long_text_test_/0, million_events_test_/0]).
+         equal_maps_test/0, version_1_test/0, damaged_version_1_test/0, before_events_test/0, ttb_names_test_/0,
+         long_text_test_/0, million_events_test_/0]).
 
 %% 1,000 files with bytes flipped, cut, doubled or exchanged, by a fixed seed. Nothing crashes, no
 %% atom is made, and memory stays below ten times the file's size and 100 MB.
@@ -77,7 +78,7 @@ damage(4, Bytes) ->
     <<Before:At/binary, _:4/binary, Behind/binary>> = Bytes,
     <<Before/binary, (rand:uniform(16#FFFF_FFFF)):32, Behind/binary>>.
 
-%% Whether the file became a bundle, or a sentence said why it didn't. Names stand beside a trace that
+%% Whether the file became a bundle, or a sentence said why it didn't. Names are beside a trace that
 %% is whole, so however they are damaged there is a bundle.
 converted(".trace.ti", Bytes) ->
     Trace = seqaudit_audits:file("damaged_names.trace"),
@@ -203,8 +204,10 @@ log_lines_test() ->
 
 out_of_range_test() ->
     [{error, {1, Reason}} = seqaudit_text:read(Text)
-     || {Text, Reason} <- [{<<"<0.4294967296.0>">>, "the pid <0.4294967296.0> is out of range: its numbers have 32 bits"},
-                           {<<"<0.1.99999999999>">>, "the pid <0.1.99999999999> is out of range: its numbers have 32 bits"},
+     || {Text, Reason} <- [{<<"<0.4294967296.0>">>,
+                            "the pid <0.4294967296.0> is out of range: its numbers have 32 bits"},
+                           {<<"<0.1.99999999999>">>,
+                            "the pid <0.1.99999999999> is out of range: its numbers have 32 bits"},
                            {<<"#Port<0.18446744073709551616>">>,
                             "the port #Port<0.18446744073709551616> is out of range: its number has 64 bits"},
                            {<<"#Ref<0.1.4294967296>">>, "a reference is out of range: its numbers have 32 bits"}]],
@@ -242,7 +245,8 @@ old_release_test() ->
 %% Maps are equal in whichever order a node writes their pairs.
 equal_maps_test() ->
     Read = fun(Bytes) -> {ok, Term} = seqaudit_external:read(Bytes), Term end,
-    [Same, Same] = [Read(<<131, 116, 2:32, 97, 1, 97, 2, 97, 3, 106>>), Read(<<131, 116, 2:32, 97, 3, 106, 97, 1, 97, 2>>)],
+    [Same, Same] = [Read(<<131, 116, 2:32, 97, 1, 97, 2, 97, 3, 106>>),
+                    Read(<<131, 116, 2:32, 97, 3, 106, 97, 1, 97, 2>>)],
     "#{1 => 2,3 => []}" = seqaudit_terms:encoded(Same),
     Nested = fun(Inner) -> Read(<<131, 104, 1, 116, 2:32, 97, 9, Inner/binary, 97, 1, 97, 2>>) end,
     [Deep, Deep] = [Nested(<<116, 2:32, 97, 1, 97, 2, 97, 3, 106>>), Nested(<<116, 2:32, 97, 3, 106, 97, 1, 97, 2>>)].
@@ -264,7 +268,8 @@ version_1_test() ->
 %% One that is cut says that it is damaged, wherever it is cut.
 damaged_version_1_test() ->
     File = seqaudit_audits:file("version_1_cut.events"),
-    Whole = term_to_binary({seqaudit_events_1, [#{node => node(), events => [{seq_trace, 1, {print, {0, 1}, self(), [], x}}]}]}),
+    Whole = term_to_binary({seqaudit_events_1,
+                            [#{node => node(), events => [{seq_trace, 1, {print, {0, 1}, self(), [], x}}]}]}),
     [begin
          ok = file:write_file(File, binary:part(Whole, 0, Size)),
          {error, {damaged_version_1, File} = Reason} = seqaudit_convert:from_files([File], seqaudit_audits:file("x")),
@@ -272,7 +277,7 @@ damaged_version_1_test() ->
      end || Size <- lists:seq(25, byte_size(Whole) - 1, 7)],
     ok.
 
-%% What stands before an event in a file is a byte, and four with the event's size, the greatest first: so a trace port
+%% Before an event in a file there is a byte, and four with the event's size, the greatest first: so a trace port
 %% writes it, and so it is read and written here.
 before_events_test() ->
     Name = seqaudit_audits:file("before_events"),
@@ -336,7 +341,8 @@ ttb(There) ->
 long_text_test_() ->
     {timeout, 180, fun() ->
         File = seqaudit_audits:file("long.txt"),
-        Line = fun(K) -> io_lib:format("~0p~n", [{seq_trace, 1, {send, {K, K + 1}, self(), self(), {from, self(), K}}}]) end,
+        Line = fun(K) -> io_lib:format("~0p~n",
+                                       [{seq_trace, 1, {send, {K, K + 1}, self(), self(), {from, self(), K}}}]) end,
         ok = file:write_file(File, [Line(K) || K <- lists:seq(1, 40_000)]),
         {Microseconds, {ok, #{events := 40_000}}} = timer:tc(fun() ->
             seqaudit_convert:from_files([File], seqaudit_audits:file("long_text"))
@@ -345,7 +351,7 @@ long_text_test_() ->
     end}.
 
 %% 1,000,000 events convert in 600 MB by the system's count, on a node of its own. On a machine with
-%% nothing else to do they do so in 10 s, so LONG=1 asks for that; a busy one has a minute.
+%% nothing else to do they do so in 10 s, so LONG=1 demands that; a busy one has a minute.
 million_events_test_() ->
     {timeout, 300, fun() ->
         {Calls, Bytes} = {250_000, 600_000_000},

@@ -147,10 +147,11 @@ put_back_in_doubt_test_() ->
         left([noting, telling])
     end, fun(Command) ->
         Audit = Command(["audit"]),
-        has(Audit, ["fits: 5 events of 2 processes, with 4 sends that nobody reported; the cause of 1 event isn't known\n",
+        has(Audit,
+            ["fits: 5 events of 2 processes, with 4 sends that nobody reported; the cause of 1 event isn't known\n",
                     "The cause isn't known of noting#2: ",
-                    "Tokens may have been put back (seq_trace:set_token/1), so the audit took the prevs that the machine "
-                    "would have given the events behind them; "]),
+                    "Tokens may have been put back (seq_trace:set_token/1), so the audit took the prevs that the "
+                    "machine would have given the events behind them; "]),
         has_none(Audit, ["unknown message", "1 receive"]),
         has(Command(["why", "--event", "noting#2"]), ["because (perhaps: "])
     end).
@@ -195,7 +196,8 @@ unreported_put_back_test_() ->
              "That send wasn't reported, so its cause isn't known.\n"])
     end).
 
-%% What an unreported send follows is certain only if one receive alone fits it. A send whose prev is 0 needn't begin the
+%% What an unreported send follows is certain only if one receive alone fits it. A send whose prev is 0 needn't begin
+%% the
 %% trace.
 unreported_send_test_() ->
     traced("unreported_send", fun() ->
@@ -258,7 +260,8 @@ tokens_alike_test_() ->
         left([first, second, twice])
     end, fun(Command) ->
         Why = Command(["why", "--event", "twice#6"]),
-        has(Why, ["twice#6: twice prints 5, serial {3,5}, label 1\nbecause (perhaps: counts alone don't tell) twice#0: "])
+        has(Why,
+            ["twice#6: twice prints 5, serial {3,5}, label 1\nbecause (perhaps: counts alone don't tell) twice#0: "])
     end).
 
 %% A server keeps the token of each client that waits, and puts it back to reply.
@@ -321,7 +324,7 @@ keep(Waiting) ->
              end || {From, Token} <- Waiting]
     end.
 
-%% The counters of a process stood high: nobody can tell what its first print follows.
+%% The counters of a process were high already: nobody can tell what its first print follows.
 second_trace_test_() ->
     traced("prints_later", fun() ->
         ok = seqaudit_test_server:print(1, before),
@@ -384,7 +387,7 @@ flags_test_() ->
                           {[send, 'receive'], "fits: 8 events of 2 processes, with 1 print or send that nobody "
                                               "reported\n"}]].
 
-%% By chance a counter stands where the answer of a spawn would have moved it, to 16 * 3 + 15: nothing was spawned.
+%% By chance a counter is where the answer of a spawn would have moved it, at 16 * 3 + 15: nothing was spawned.
 high_counter_test_() ->
     traced("high_counter", fun() ->
         Self = self(),

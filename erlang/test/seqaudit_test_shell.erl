@@ -41,7 +41,7 @@ begin_run(Words, Variables) ->
 ended() ->
     receive {ended, Answer} -> Answer end.
 
-%% The status of a command and what it wrote, which `kill' ends once this is done. Its number stands in Name.pid
+%% The status of a command and what it wrote, which `kill' ends once this is done. Its number is in Name.pid
 %% meanwhile.
 terminated_when(Words, Name, Do) ->
     _ = begin_run(["echo $$ >", Name, ".pid; exec ", Words], cookie()),

@@ -30,10 +30,11 @@ kinds_test() ->
                           {<<"<<1,2>>">>, <<"<<..>>">>}, {<<"<0.80.0>">>, <<"another term">>}]],
     ok.
 
-%% The wall clock stands beside the time since the first event; where it isn't known, nothing is said of it.
+%% The wall clock is beside the time since the first event; where it isn't known, nothing is said of it.
 clock_test() ->
     Begin = 1_795_742_538_123_456_789,
-    Times = #{start => Begin, events => #{{<<"<0.1.0>">>, 0} => 0, {<<"<0.1.0>">>, 1} => 1_500_000_000}, messages => #{}},
+    Times = #{start => Begin, events => #{{<<"<0.1.0>">>, 0} => 0, {<<"<0.1.0>">>, 1} => 1_500_000_000},
+              messages => #{}},
     "2026-11-27T01:22:18.123456Z" = seqaudit_times:clock(Begin),
     "01:22:19.623456Z 1.500000 s" = seqaudit_times:at({<<"<0.1.0>">>, 1}, Times),
     none = seqaudit_times:at({<<"<0.1.0>">>, 2}, Times),
@@ -42,7 +43,8 @@ clock_test() ->
     "1500 ms from the first event to the last" = seqaudit_times:summary(Times#{start := -576_460_750_652_114_560}),
     "9999-12-31T23:59:59.999999Z" = seqaudit_times:clock(1 bsl 80).
 
-%% Of messages that are alike, as when a token is put back for each, the first that one process receives is the first that
+%% Of messages that are alike, as when a token is put back for each, the first that one process receives is the first
+%% that
 %% was sent. How long they took isn't known if several processes receive them, or if one end of one wasn't reported.
 alike_test() ->
     [[4_000, 5_000], [], [], [], [], [3_000]] =
@@ -73,8 +75,10 @@ commands_test_() ->
             {true, [Program | _]} ->
                 Run = fun(Words) ->
                               Log = Name ++ ".log",
-                              {Status, <<>>} = seqaudit_test_shell:run([seqaudit_test_shell:node_command(), $\s, Words, " >", Log, " 2>&1"],
-                                                                       [{"SEQAUDIT", Program}, {"SEQTOOL", "/no/such/seqtool"}]),
+                              {Status, <<>>} = seqaudit_test_shell:run([seqaudit_test_shell:node_command(), $\s, Words,
+                                                                        " >", Log, " 2>&1"],
+                                                                       [{"SEQAUDIT", Program},
+                                                                        {"SEQTOOL", "/no/such/seqtool"}]),
                               {ok, Said} = file:read_file(Log),
                               {Status, Said}
                       end,
@@ -86,7 +90,8 @@ commands_test_() ->
 
 %% Two labels; the second one waits.
 traced(Name) ->
-    Server = seqaudit_test_server:start(timed_server, fun(wait) -> receive after 20 -> waited end; (Other) -> Other end),
+    Server = seqaudit_test_server:start(timed_server,
+                                        fun(wait) -> receive after 20 -> waited end; (Other) -> Other end),
     ok = seqaudit_trace:start(#{name => Name}),
     [seqaudit_trace:with_trace(Label, [send, 'receive', print, strict_monotonic_timestamp], fun() ->
          _ = gen_server:call(timed_server, {order, 1}),
@@ -103,7 +108,9 @@ tables(Name, Run) ->
     {match, _} = re:run(Said, "\ncall {order,[.][.]} +3 "),
     {match, _} = re:run(Said, "slowest labels +events +took +from\nslow +9 +[0-9]+ ms .*\nquick +9 "),
     {0, Path} = Run(["times ", Name, " --label slow"]),
-    {match, _} = re:run(Path, "what the last event of label slow waited for \\([0-9]+ [un]?m?s under way, [0-9]+ ms in processes\\):"),
+    {match, _} = re:run(Path,
+                        "what the last event of label slow waited for \\([0-9]+ [un]?m?s under way, [0-9]+ ms in "
+                         "processes\\):"),
     {match, _} = re:run(Path, "\n +2[0-9] ms  until timed_server#[0-9]+: timed_server sends reply waited to <"),
     nomatch = re:run(Path, "\nquick"),
     {1, Other} = Run(["times ", Name, " --label other"]),
@@ -125,7 +132,8 @@ drawn(Name, Run) ->
     {0, _} = Run(["chart ", Name, [[" --", Option, $\s, File] || {Option, File} <- Files]]),
     [8#600 = seqaudit_audits:mode(File) || {_, File} <- Files],
     {ok, Mermaid} = file:read_file(Name ++ ".mermaid"),
-    {match, _} = re:run(Mermaid, "^sequenceDiagram\n    participant p1 as [^\n]*\n    participant p2 as timed_server\n"),
+    {match, _} = re:run(Mermaid,
+                        "^sequenceDiagram\n    participant p1 as [^\n]*\n    participant p2 as timed_server\n"),
     {match, _} = re:run(Mermaid, "\n    p1->>p2: call #123;order,1#125;\n"),
     {match, _} = re:run(Mermaid, "\n    Note over p1: prints done\n"),
     {0, _} = Run(["chart ", Name, " --label quick --mermaid ", Name, ".mermaid"]),
@@ -134,13 +142,15 @@ drawn(Name, Run) ->
     %% They are read as what they are; each span but the first is below the one that caused it.
     case os:find_executable("python3") of
         false -> skipped;
-        _ -> {0, _} = seqaudit_test_shell:run(["python3 ", filename:join([seqaudit_audits:home(), "test", "read_exports.py"]),
-                                               $\s, Name, ".perfetto ", Name, ".otlp 2>&1"])
+        _ ->
+            Reader = filename:join([seqaudit_audits:home(), "test", "read_exports.py"]),
+            {0, _} = seqaudit_test_shell:run(["python3 ", Reader, $\s, Name, ".perfetto ", Name, ".otlp 2>&1"])
     end.
 
 no_times(Name, Run) ->
     Untimed = Name ++ "_untimed",
-    {ok, _} = seqaudit_convert:from_files([filename:join([seqaudit_audits:home(), "test", "captures", "ring10.txt"])], Untimed),
+    {ok, _} = seqaudit_convert:from_files([filename:join([seqaudit_audits:home(), "test", "captures", "ring10.txt"])],
+                                          Untimed),
     {1, None} = Run(["times ", Untimed]),
     {_, _} = binary:match(None, <<"has a time; trace with the flag for timestamps">>),
     [{2, <<_/binary>>} = Run(["chart ", Untimed, " --", Option, " /dev/null"]) || Option <- ["perfetto", "otlp"]],
@@ -149,12 +159,14 @@ no_times(Name, Run) ->
 json(Name, Run) ->
     [begin
          {0, _} = Run([Words, " --json"]),
-         {0, Value} = seqaudit_test_shell:run(["grep -v 'built without' ", Name, ".log | python3 -c 'import json, sys; print(eval(sys.argv[1], "
+         {0, Value} = seqaudit_test_shell:run(["grep -v 'built without' ", Name,
+                                               ".log | python3 -c 'import json, sys; print(eval(sys.argv[1], "
                                                "{\"d\": json.load(sys.stdin)}))' '", Expression, "' 2>&1"])
      end || {Words, Expression, Value} <-
                 [{["audit ", Name], "d[\"fits\"], d[\"events\"], d[\"waiting\"]", <<"(True, 18, [])\n">>},
                  {["why ", Name, " --event timed_server#0"], "len(d[\"events\"]), d[\"events\"][0][\"kind\"]",
                   <<"(2, 'receive')\n">>},
                  {["why ", Name, " --event timed_server#0 --effects"], "len(d[\"events\"]) > 5", <<"True\n">>},
-                 {["times ", Name, " --label slow"], "[l[\"label\"] for l in d[\"labels\"]], d[\"paths\"][0][\"steps\"][0][\"is\"]",
+                 {["times ", Name, " --label slow"],
+                  "[l[\"label\"] for l in d[\"labels\"]], d[\"paths\"][0][\"steps\"][0][\"is\"]",
                   <<"(['slow'], 'first')\n">>}]].

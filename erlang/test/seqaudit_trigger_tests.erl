@@ -1,7 +1,8 @@
 %% Calls set tokens as they are told to, and nobody else who traces is disturbed.
 -module(seqaudit_trigger_tests).
 
--export([beside_dbg_test_/0, session_test_/0, ends_its_own_test/0, conditions_test/0, several_functions_test/0, calls_test/0,
+-export([beside_dbg_test_/0, session_test_/0, ends_its_own_test/0, conditions_test/0, several_functions_test/0,
+         calls_test/0,
          calls_in_a_second_test_/0, control_word_test/0, words_test/0]).
 %% Called by name.
 -export([ordered/1, order/1, loop/1, begin_dbg/0, counted/0]).
@@ -129,7 +130,8 @@ several_functions_test() ->
     {error, {trigger, {no_function, {?MODULE, nothing, 1}}}} =
         seqaudit_trigger:pull(trigger(#{functions => Functions ++ [{{?MODULE, nothing, 1}, [{'_', []}]}]})),
     {error, {trigger, {no_match_specification, {?MODULE, order, 1}}}} =
-        seqaudit_trigger:pull(trigger(#{functions => [hd(Functions), {{?MODULE, order, 1}, [{['$1'], [{nonsense, 1}]}]}]})),
+        seqaudit_trigger:pull(trigger(#{functions => [hd(Functions),
+                                                      {{?MODULE, order, 1}, [{['$1'], [{nonsense, 1}]}]}]})),
     %% Where one of them fails nothing is traced.
     [{traced, false} = erlang:trace_info({?MODULE, Function, 1}, traced) || Function <- [ordered, order]],
     false = is_pulled().

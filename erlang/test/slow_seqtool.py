@@ -5,8 +5,8 @@
 
 It writes what the program writes, but for what differs on purpose:
 
-- The acts of `complete --as acts` are others, and `long` comes of the acts that are written here, which are more than the
-  program's. Nothing goes to standard error if `seqaudit` doesn't read what is written.
+- The acts of `complete --as acts` are others. There are more of them than the program writes, so `long` comes earlier.
+  Nothing goes to standard error if `seqaudit` doesn't read what is written.
 - A fault of the reader is only `fault line N`, and may not be seen if it is in the acts or a limit. There are no other
   commands.
 """
@@ -103,7 +103,7 @@ def unfounded(streams, source):
                 raise Reason("unfounded", (pid, i))
 
 
-# Hidden sends and where they stand
+# Hidden sends and their places
 
 def hidden_sends(streams, source):
     """Of each process the sends that only their receives tell of, by rising count."""
@@ -117,8 +117,8 @@ def hidden_sends(streams, source):
 
 class Stretch:
     """The receives between two reported stamps of a process, each of which may be missing, and the hidden sends whose
-    counts lie between theirs. A send at gap K stands behind K of the receives. A stamp costs nothing, that is, it isn't a
-    need, if what stands before it leaves its prev, or if its prev isn't below the clock."""
+    counts lie between theirs. A send at gap K is behind K of the receives. A stamp costs nothing, that is, it isn't a need,
+    if what is before it leaves its prev, or if its prev isn't below the clock."""
 
     def __init__(self, before, receives, sends, stamp):
         self.before, self.sends, self.stamp, self.end = before, sends, stamp, len(receives)
