@@ -1,226 +1,37 @@
-//! The command line: what the words ask for. `clap` reads them, and writes the help and the
-//! messages. The input isn't read here.
+//! The command line: what the words ask for. The input isn't read here.
 
-use crate::export_words::{
-    chart_command, chart_of, complete_of, export_command, export_of, task_or_json, with_json,
-};
-use crate::help;
-use clap::error::ErrorKind;
-use clap::{Arg, ArgAction, ArgMatches, Command, Error};
+use crate::export_words::{chart_of, complete_of, export_of};
+use clap::{ArgMatches, Error};
+use st_command_line::{read_matches, wrong_word};
 use st_core::{Label, Pid};
-use st_draw::Drawing;
-use st_export::Target;
 use st_hops::Reach;
 use st_list::{Filter, Span, Style};
+use st_tasks::{Task, task_named};
 use st_tool::{Form, pid_of};
 use st_why::{Direction, Question, Start};
 use std::alloc::{AllocError, Global};
 use std::convert::AsStr;
 
-/// A command of the program.
+/// Where a text comes from.
 #[derive(Clone, Copy, Debug, PartialEq, Eq)]
-pub enum Task {
-    /// `complete`: what do the streams lack?
-    Complete(Form),
-    /// `renumber`: the streams with small counts.
-    Renumber,
-    /// `why`: what does an event follow, or what follows it?
-    Why(Question),
-    /// `lint`: why does the reader refuse the text?
-    Lint,
-    /// `explain`: why does `check` refuse the acts?
-    Explain,
-    /// `check`, as `seqaudit` has it, within greater limits.
-    Check,
-    /// `audit`, as `seqaudit` has it, within greater limits.
-    Audit,
-    /// `list`: which events are there, and what do they pair with?
-    List(Filter, Style),
-    /// `cut`: the bundle of these events alone.
-    Cut(Filter),
-    /// `stats`: how many events and messages are there?
-    Stats(Style),
-    /// `chart`: a drawing of the streams.
-    Chart(Drawing),
-    /// `export`: the streams for another tool.
-    Export(Target),
-    /// `check`, as JSON.
-    CheckJson,
-    /// `audit`, as JSON.
-    AuditJson,
-    /// `complete`: the added events, as JSON.
-    CompleteJson,
-    /// `lint`, as JSON.
-    LintJson,
+pub enum Input<'a> {
+    /// From standard input.
+    Standard,
+    /// From the file of this path.
+    File(&'a str),
 }
 
 /// What the words ask for.
-#[derive(Clone, Copy, Debug, PartialEq, Eq)]
+#[derive(Debug, Drop)]
 pub struct Request<'a> {
     /// The command.
     pub task: Task,
-    /// The path of the file to read; standard input if there is none.
-    pub file: Option<&'a str>,
-}
-
-/// The trace's file, which every command takes last.
-pub(crate) fn file_arg<'a>(alloc: Global) -> Arg<'a> {
-    Arg::new(alloc, "FILE").help("The trace's file; standard input if it is left out or -")
-}
-
-/// A command that takes nothing but the file.
-fn plain_command<'a>(
-    alloc: Global,
-    name: &'a str,
-    about: &'a str,
-    example: &'a str,
-) -> Result<Command<'a>, AllocError> {
-    Command::new(alloc, name)
-        .about(about)
-        .after_help(example)
-        .arg(file_arg(alloc))
-}
-
-/// `complete [--as FORM] [FILE]`.
-fn complete_command<'a>(alloc: Global) -> Result<Command<'a>, AllocError> {
-    let form = Arg::new(alloc, "FORM")
-        .long("as")
-        .help("What to write: added events, all streams, or acts for the trace")
-        .value_parser(["added", "streams", "acts"].as_slice())
-        .default_value("added");
-    Command::new(alloc, "complete")
-        .about(help::COMPLETE)
-        .after_help(help::COMPLETE_EXAMPLE)
-        .arg(form)?
-        .arg(json_arg(alloc))?
-        .arg(file_arg(alloc))
-}
-
-/// An option of `why` that is there or not.
-fn why_flag<'a>(alloc: Global, name: &'a str, help: &'a str) -> Arg<'a> {
-    Arg::new(alloc, name)
-        .long(name)
-        .action(ArgAction::SetTrue)
-        .help(help)
-}
-
-/// An option of `why` with a number.
-fn why_number<'a>(alloc: Global, name: &'a str, long: &'a str, help: &'a str) -> Arg<'a> {
-    Arg::new(alloc, name)
-        .long(long)
-        .value_parser(clap::value_parser!(u64))
-        .help(help)
-}
-
-/// `why PID I [FILE]` and `why --line N [FILE]`, with the options of both. PID is the file of the
-/// second form: `place_words` tells.
-fn why_command<'a>(alloc: Global) -> Result<Command<'a>, AllocError> {
-    let pid = Arg::new(alloc, "PID").help("The process, as 0.31.0, or '<0.31.0>' in quotes");
-    let index = Arg::new(alloc, "I")
-        .value_parser(clap::value_parser!(u64))
-        .help("The number of the event among those of its process, from 0");
-    Command::new(alloc, "why")
-        .about(help::WHY)
-        .after_help(help::WHY_EXAMPLE)
-        .arg(pid)?
-        .arg(index)?
-        .arg(why_number(alloc, "LINE", "line", help::WHY_LINE))?
-        .arg(why_number(alloc, "N", "depth", help::WHY_DEPTH))?
-        .arg(why_flag(alloc, "effects", help::WHY_EFFECTS))?
-        .arg(why_flag(alloc, "label", help::WHY_LABEL))?
-        .arg(why_flag(alloc, "json", help::WHY_JSON))?
-        .arg(file_arg(alloc))
-}
-
-/// The option that asks for JSON.
-pub(crate) fn json_arg<'a>(alloc: Global) -> Arg<'a> {
-    Arg::new(alloc, "json")
-        .long("json")
-        .action(ArgAction::SetTrue)
-        .help("A JSON object a line, for programs")
-}
-
-/// A command on the events that meet some conditions:
-/// `NAME [--label N] [--process PID] [--lines A-B] [--counts A-B] [FILE]`.
-fn filter_command<'a>(
-    alloc: Global,
-    name: &'a str,
-    about: &'a str,
-    example: &'a str,
-) -> Result<Command<'a>, AllocError> {
-    let label = Arg::new(alloc, "LABEL")
-        .long("label")
-        .value_parser(clap::value_parser!(u32))
-        .help("Only events with this label");
-    let process = Arg::new(alloc, "PID").long("process").help(
-        "Only events of this process, as 0.31.0, or '<0.31.0>' in quotes",
-    );
-    let lines = Arg::new(alloc, "LINES")
-        .long("lines")
-        .help("Only events on these lines of the text, as 7, 7-9 or 7-");
-    let counts = Arg::new(alloc, "COUNTS").long("counts").help(
-        "Only events with these counts (the second number of the serial)",
-    );
-    Command::new(alloc, name)
-        .about(about)
-        .after_help(example)
-        .arg(label)?
-        .arg(process)?
-        .arg(lines)?
-        .arg(counts)?
-        .arg(file_arg(alloc))
-}
-
-/// The command `list`.
-fn list_command<'a>(alloc: Global) -> Result<Command<'a>, AllocError> {
-    filter_command(alloc, "list", help::LIST, help::LIST_EXAMPLE)?.arg(json_arg(alloc))
-}
-
-/// The command `cut`.
-fn cut_command<'a>(alloc: Global) -> Result<Command<'a>, AllocError> {
-    filter_command(alloc, "cut", help::CUT, help::CUT_EXAMPLE)
-}
-
-/// `stats [--json] [FILE]`.
-fn stats_command<'a>(alloc: Global) -> Result<Command<'a>, AllocError> {
-    plain_command(alloc, "stats", help::STATS, help::STATS_EXAMPLE)?.arg(json_arg(alloc))
-}
-
-/// The program with the commands that say what holds of a trace or a text.
-fn with_verdicts<'a>(alloc: Global, program: Command<'a>) -> Result<Command<'a>, AllocError> {
-    let audit = plain_command(alloc, "audit", help::AUDIT, help::AUDIT_EXAMPLE)?;
-    let check = plain_command(alloc, "check", help::CHECK, help::CHECK_EXAMPLE)?;
-    let lint = plain_command(alloc, "lint", help::LINT, help::LINT_EXAMPLE)?;
-    program
-        .subcommand(with_json(alloc, audit)?)?
-        .subcommand(complete_command(alloc)?)?
-        .subcommand(why_command(alloc)?)?
-        .subcommand(with_json(alloc, lint)?)?
-        .subcommand(with_json(alloc, check)?)
-}
-
-/// The program with the commands that show a trace, or write it in another form.
-fn with_views<'a>(alloc: Global, program: Command<'a>) -> Result<Command<'a>, AllocError> {
-    let explain = plain_command(alloc, "explain", help::EXPLAIN, help::EXPLAIN_EXAMPLE)?;
-    let renumber = plain_command(alloc, "renumber", help::RENUMBER, help::RENUMBER_EXAMPLE)?;
-    program
-        .subcommand(explain)?
-        .subcommand(list_command(alloc)?)?
-        .subcommand(cut_command(alloc)?)?
-        .subcommand(stats_command(alloc)?)?
-        .subcommand(chart_command(alloc)?)?
-        .subcommand(export_command(alloc)?)?
-        .subcommand(renumber)
-}
-
-/// The description of the command line for `clap`.
-fn command_line<'a>(alloc: Global) -> Result<Command<'a>, AllocError> {
-    let program = Command::new(alloc, "seqtool")
-        .about(help::PROGRAM)
-        .after_help(help::PROGRAM_EXAMPLE)
-        .version(help::VERSION)
-        .subcommand_required(true);
-    with_views(alloc, with_verdicts(alloc, program)?)
+    /// Where its texts come from, in the order of the words: at least one.
+    pub inputs: Vec<Input<'a>>,
+    /// Whether the result is wanted as JSON.
+    pub is_json: bool,
+    /// Whether the status is all that is wanted.
+    pub is_quiet: bool,
 }
 
 /// The form of this name.
@@ -245,6 +56,8 @@ const PID_WORDS: &str =
 
 const EVENT_WORDS: &str =
     "name the event by PID and I, or by --line alone; PID is 0.31.0 or '<0.31.0>', up to 65535";
+
+const COMMAND_WORDS: &str = "name a command: seqtool --help has them";
 
 const SPAN_WORDS: &str = "A-B are no numbers: write one as 7, several as 7-9, all from 7 on as 7-";
 
@@ -315,24 +128,24 @@ fn style_of(found: &ArgMatches) -> Style {
     }
 }
 
-/// The event that `why` is asked about, and the file. With `--line` the first word is the file.
-fn place_words<'a>(found: &ArgMatches<'a>) -> Option<(Start, Option<&'a str>)> {
+/// The event that `why` is asked about. With `--line` there is no I, and the first word is the file.
+fn start_of(found: &ArgMatches) -> Option<Start> {
     match found.get_one::<u64>("LINE") {
         Some(line) => match found.get_one::<u64>("I") {
             Some(_) => None,
-            None => Some((Start::Line(line), found.get_str("PID"))),
+            None => Some(Start::Line(line)),
         },
         None => {
             let pid = pid_of(found.get_str("PID")?)?;
             let index = found.get_one::<u64>("I")?;
-            Some((Start::Place(pid, index), found.get_str("FILE")))
+            Some(Start::Place(pid, index))
         }
     }
 }
 
-/// What `why` is asked, by what `clap` found in its words, and the file.
-fn why_of<'a>(found: &ArgMatches<'a>) -> Result<Request<'a>, &'static str> {
-    let (start, path) = place_words(found).ok_or(EVENT_WORDS)?;
+/// What `why` is asked, by what `clap` found in its words.
+fn question_of(found: &ArgMatches) -> Result<Question, &'static str> {
+    let start = start_of(found).ok_or(EVENT_WORDS)?;
     let most = found.get_one::<u64>("N").unwrap_or(Reach::LABEL.most);
     let across = found.get_flag("label");
     let direction = if found.get_flag("effects") {
@@ -346,15 +159,11 @@ fn why_of<'a>(found: &ArgMatches<'a>) -> Result<Request<'a>, &'static str> {
         st_why::Style::Text
     };
     let reach = Reach { most, across };
-    let question = Question {
+    Ok(Question {
         start,
         direction,
         reach,
         style,
-    };
-    Ok(Request {
-        task: Task::Why(question),
-        file: file_of(path),
     })
 }
 
@@ -362,57 +171,63 @@ fn why_of<'a>(found: &ArgMatches<'a>) -> Result<Request<'a>, &'static str> {
 fn task_of(name: &str, found: &ArgMatches) -> Result<Task, &'static str> {
     match name {
         "complete" => complete_of(found, form_of(found.get_str("FORM"))),
-        "renumber" => Ok(Task::Renumber),
-        "lint" => Ok(task_or_json(found, Task::Lint, Task::LintJson)),
-        "explain" => Ok(Task::Explain),
-        "check" => Ok(task_or_json(found, Task::Check, Task::CheckJson)),
+        "why" => Ok(Task::Why(question_of(found)?)),
         "list" => Ok(Task::List(filter_of(found)?, style_of(found))),
         "cut" => Ok(Task::Cut(filter_of(found)?)),
         "stats" => Ok(Task::Stats(style_of(found))),
         "chart" => chart_of(found),
         "export" => Ok(export_of(found)),
-        _ => Ok(task_or_json(found, Task::Audit, Task::AuditJson)),
+        _ => task_named(name, found.get_flag("json")).ok_or(COMMAND_WORDS),
     }
 }
 
-/// The message that a word of this command isn't what it has to be.
-fn wrong_word(alloc: Global, name: &str, words: &'static str) -> Result<Error, AllocError> {
-    let mut command = match name {
-        "list" => list_command(alloc)?.bin_name("seqtool list")?,
-        "cut" => cut_command(alloc)?.bin_name("seqtool cut")?,
-        "chart" => chart_command(alloc)?.bin_name("seqtool chart")?,
-        "complete" => complete_command(alloc)?.bin_name("seqtool complete")?,
-        _ => why_command(alloc)?.bin_name("seqtool why")?,
-    };
-    command.error(ErrorKind::ValueValidation, words)
-}
-
-/// The path of the file to read, none for standard input.
-fn file_of(path: Option<&str>) -> Option<&str> {
-    let path = path?;
-    if path == "-" { None } else { Some(path) }
-}
-
-/// What the words behind the command's name ask for; or what a word of its has to be.
-fn request_of<'a>(name: &str, found: &ArgMatches<'a>) -> Result<Request<'a>, &'static str> {
-    if name == "why" {
-        return why_of(found);
+/// Where the text of this path comes from.
+fn input_of(path: &str) -> Input<'_> {
+    if path == "-" {
+        Input::Standard
+    } else {
+        Input::File(path)
     }
-    Ok(Request {
-        task: task_of(name, found)?,
-        file: file_of(found.get_str("FILE")),
-    })
+}
+
+/// Where the texts of these paths come from: from standard input, if there is no path.
+fn inputs_of<'a>(alloc: Global, paths: Option<&[&'a str]>) -> Result<Vec<Input<'a>>, AllocError> {
+    let mut inputs = Vec::new(alloc);
+    if let Some(paths) = paths {
+        for path in paths {
+            inputs.push(input_of(path))?;
+        }
+    }
+    if inputs.is_empty() {
+        inputs.push(Input::Standard)?;
+    }
+    Ok(inputs)
+}
+
+/// The word of the command of this name that has its files. With `--line` the first word of `why` is
+/// the file.
+fn files_word(name: &str, found: &ArgMatches) -> &'static str {
+    if name == "why" && found.get_one::<u64>("LINE").is_some() {
+        "PID"
+    } else {
+        "FILE"
+    }
 }
 
 /// What the words ask for. The first word is the program's name. The error is a message for the
 /// user, a help text or the version, as its kind says; or out of memory.
 pub fn read_words<'a, S: AsStr>(alloc: Global, words: &'a [S]) -> Result<Request<'a>, Error> {
-    let matches = command_line(alloc)?.try_get_matches_from(words)?;
+    let matches = read_matches(alloc, words)?;
     let Some((name, found)) = matches.subcommand() else {
-        return Err(wrong_word(alloc, "why", EVENT_WORDS)?);
+        return Err(wrong_word(alloc, "seqtool", COMMAND_WORDS)?);
     };
-    match request_of(name, found) {
-        Ok(request) => Ok(request),
+    match task_of(name, found) {
+        Ok(task) => Ok(Request {
+            task,
+            inputs: inputs_of(alloc, found.get_strs(files_word(name, found)))?,
+            is_json: found.get_flag("json"),
+            is_quiet: found.get_flag("quiet"),
+        }),
         Err(words) => Err(wrong_word(alloc, name, words)?),
     }
 }

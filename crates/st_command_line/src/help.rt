@@ -1,4 +1,5 @@
 //! The texts of the help: of each command what it does, and an example. No line is wider than 80.
+//! `man/seqtool.1` begins the paragraph of a command with the same words.
 
 pub(crate) const VERSION: &str = "1.0.0";
 
@@ -13,6 +14,14 @@ A trace is a text (docs/FORMATS.md; `seqtool COMMAND --help` has examples):
   process <0.30.0>
   {seq_trace,17,{print,{0,1},<0.30.0>,[],7}}
 Status 0: yes; 1: no; 2: faulty text; 3: bad command line; 4: memory or device.";
+
+pub(crate) const FILE: &str = "The trace's file; standard input if it is left out or -";
+
+pub(crate) const FILES: &str = "The traces' files, one or more; standard input if left out or -";
+
+pub(crate) const JSON: &str = "A JSON object a line, for programs (docs/FORMATS.md)";
+
+pub(crate) const QUIET: &str = "Write no result and no note of a no: the status tells";
 
 pub(crate) const COMPLETE: &str = "Adds unreported events until none is missing, or says why not";
 
@@ -34,16 +43,6 @@ pub(crate) const RENUMBER_EXAMPLE: &str =
 If what it writes has a run without a reset, so has the given trace.";
 
 pub(crate) const WHY: &str = "Shows what an event follows, and so on back, or all that follows it";
-
-pub(crate) const WHY_LINE: &str = "The event on this line of the text, in place of PID and I";
-
-pub(crate) const WHY_DEPTH: &str = "At most so many events back, or levels of the tree; else all";
-
-pub(crate) const WHY_EFFECTS: &str = "Show all that follows the event, as a tree";
-
-pub(crate) const WHY_LABEL: &str = "Go on over a change of label";
-
-pub(crate) const WHY_JSON: &str = "Write a JSON object a line (docs/FORMATS.md)";
 
 pub(crate) const WHY_EXAMPLE: &str = "Example:
   seqtool why 0.31.0 1 trace.txt
@@ -127,10 +126,6 @@ the one before was received; width the most messages at one depth. The queue is
 that of the messages of which both ends are reported, in the charts' order.";
 
 pub(crate) const CHART: &str = "Draws the messages of each label, or of one";
-
-pub(crate) const CHART_MERMAID: &str = "Write a sequence diagram in Mermaid's language";
-
-pub(crate) const CHART_DOT: &str = "Write a graph of the events for Graphviz's dot";
 
 pub(crate) const CHART_EXAMPLE: &str = "Example:
   seqtool chart --label 17 --mermaid trace.txt

@@ -1,9 +1,9 @@
 //! A run of the program: a command on a reader and a writer.
 
 ghost use Rattle.st_commands.specs.Command.{call};
-ghost use Rattle.st_words.specs.Command.{Does};
+ghost use Rattle.st_tasks.specs.Command.{Does};
 
-use crate::words::Task;
+use crate::task::Task;
 use st_commands::{run_audit_within, run_check_within};
 use st_core::{ByteSink, ByteSource};
 use st_draw::run_draw;
