@@ -13,7 +13,7 @@ _seqtool() {
     elif [ "$command" = complete ] && [ "$before" = --as ]; then
         mapfile -t COMPREPLY < <(compgen -W "added streams acts" -- "$word")
     elif [ "$command" = complete ] && [ "${word#-}" != "$word" ]; then
-        mapfile -t COMPREPLY < <(compgen -W "--as --json --help" -- "$word")
+        mapfile -t COMPREPLY < <(compgen -W "--as --json --quiet --help" -- "$word")
     elif [ "$command" = export ] && [ "$before" = --as ]; then
         mapfile -t COMPREPLY < <(compgen -W "perfetto shiviz" -- "$word")
     elif [ "$command" = export ] && [ "${word#-}" != "$word" ]; then
@@ -24,7 +24,11 @@ _seqtool() {
         mapfile -t COMPREPLY < <(compgen -W "--label --process --lines --counts --json --help" -- "$word")
     elif [ "$command" = cut ] && [ "${word#-}" != "$word" ]; then
         mapfile -t COMPREPLY < <(compgen -W "--label --process --lines --counts --help" -- "$word")
-    elif [[ $command == @(stats|audit|check|lint) ]] && [ "${word#-}" != "$word" ]; then
+    elif [[ $command == @(audit|check|lint) ]] && [ "${word#-}" != "$word" ]; then
+        mapfile -t COMPREPLY < <(compgen -W "--json --quiet --help" -- "$word")
+    elif [ "$command" = explain ] && [ "${word#-}" != "$word" ]; then
+        mapfile -t COMPREPLY < <(compgen -W "--quiet --help" -- "$word")
+    elif [ "$command" = stats ] && [ "${word#-}" != "$word" ]; then
         mapfile -t COMPREPLY < <(compgen -W "--json --help" -- "$word")
     elif [ "$command" = why ] && [ "${word#-}" != "$word" ]; then
         mapfile -t COMPREPLY < <(compgen -W "--line --depth --effects --label --json --help" -- "$word")
