@@ -13,7 +13,7 @@ _seqtool() {
     elif [ "$command" = complete ] && [ "$before" = --as ]; then
         mapfile -t COMPREPLY < <(compgen -W "added streams acts" -- "$word")
     elif [ "$command" = complete ] && [ "${word#-}" != "$word" ]; then
-        mapfile -t COMPREPLY < <(compgen -W "--as --json --help" -- "$word")
+        mapfile -t COMPREPLY < <(compgen -W "--as --json --quiet --help" -- "$word")
     elif [ "$command" = export ] && [ "$before" = --as ]; then
         mapfile -t COMPREPLY < <(compgen -W "perfetto shiviz otlp" -- "$word")
     elif [ "$command" = export ] && [ "${word#-}" != "$word" ]; then
@@ -25,8 +25,12 @@ _seqtool() {
     elif [ "$command" = cut ] && [ "${word#-}" != "$word" ]; then
         mapfile -t COMPREPLY < <(compgen -W "--label --process --lines --counts --help" -- "$word")
     elif [ "$command" = lint ] && [ "${word#-}" != "$word" ]; then
-        mapfile -t COMPREPLY < <(compgen -W "--most --fix --json --help" -- "$word")
-    elif [[ $command == @(stats|diff|audit|check) ]] && [ "${word#-}" != "$word" ]; then
+        mapfile -t COMPREPLY < <(compgen -W "--most --fix --json --quiet --help" -- "$word")
+    elif [[ $command == @(audit|check|diff) ]] && [ "${word#-}" != "$word" ]; then
+        mapfile -t COMPREPLY < <(compgen -W "--json --quiet --help" -- "$word")
+    elif [ "$command" = explain ] && [ "${word#-}" != "$word" ]; then
+        mapfile -t COMPREPLY < <(compgen -W "--quiet --help" -- "$word")
+    elif [ "$command" = stats ] && [ "${word#-}" != "$word" ]; then
         mapfile -t COMPREPLY < <(compgen -W "--json --help" -- "$word")
     elif [ "$command" = why ] && [ "${word#-}" != "$word" ]; then
         mapfile -t COMPREPLY < <(compgen -W "--line --depth --effects --label --json --help" -- "$word")

@@ -103,7 +103,8 @@ impl Draft {
             return Err(OpenFault::Memory);
         };
         self.guesses.fill(EXPECTED_PIDS);
-        self.guesses.expect(pid.node(), pid.number(), self.pids.len());
+        self.guesses
+            .expect(pid.node(), pid.number(), self.pids.len());
         self.pids.push(pid).unwrap();
         Ok(())
     }

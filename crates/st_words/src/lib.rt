@@ -1,13 +1,10 @@
-//! The command line of `seqtool`: `read_words` says what it asks for, and `run` does it.
-//!
-//! It stands apart from the commands, which know nothing of `clap`.
+//! How `seqtool` reads its options: text for people, of which nothing is proved but that these
+//! functions are safe and return. `st_tasks` has what is proved: which task a command's name stands
+//! for, and what a task does.
 #![tactic(auto)]
 
 mod export_words;
-mod help;
 mod lint_words;
-mod program;
 mod words;
 
-pub use program::{run, run_pair};
-pub use words::{PairTask, Request, Task, read_words};
+pub use words::{Input, Request, Wanted, read_words};

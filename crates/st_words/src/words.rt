@@ -1,256 +1,49 @@
-//! The command line: what the words ask for. `clap` reads them, and writes the help and the
-//! messages. The input isn't read here.
+//! The command line: what the words ask for. The input isn't read here.
 
-use crate::export_words::{
-    chart_command, chart_of, complete_of, export_command, export_of, task_or_json, with_json,
-};
-use crate::help;
-use crate::lint_words::{lint_command, lint_of};
-use clap::error::ErrorKind;
-use clap::{Arg, ArgAction, ArgMatches, Command, Error};
+use crate::export_words::{chart_of, complete_of, is_of_spans, spans_of, target_of};
+use crate::lint_words::lint_of;
+use clap::{ArgMatches, Error};
+use st_command_line::{read_matches, wrong_word};
 use st_core::{Label, Pid};
-use st_draw::Drawing;
 use st_events::Style;
-use st_export::Target;
 use st_hops::Reach;
+use st_lint::NAMED;
 use st_list::{Filter, Span};
 use st_notes::pid_of;
+use st_pair_tasks::PairTask;
+use st_tasks::{Task, task_named};
 use st_tool::Form;
 use st_why::{Direction, Question, Start};
 use std::alloc::{AllocError, Global};
 use std::convert::AsStr;
 
-/// A command of the program.
+/// Where a text comes from.
 #[derive(Clone, Copy, Debug, PartialEq, Eq)]
-pub enum Task {
-    /// `complete`: what do the streams lack?
-    Complete(Form),
-    /// `renumber`: the streams with small counts.
-    Renumber,
-    /// `why`: what does an event follow, or what follows it?
-    Why(Question),
-    /// `lint`: which mistakes has the text? So many are named.
-    Lint(u64),
-    /// `lint --fix`: the text with those mistakes mended that have one remedy.
-    Fix,
-    /// `explain`: why does `check` refuse the acts?
-    Explain,
-    /// `check`, as `seqaudit` has it, within greater limits.
-    Check,
-    /// `audit`, as `seqaudit` has it, within greater limits.
-    Audit,
-    /// `list`: which events are there, and what do they pair with?
-    List(Filter, Style),
-    /// `cut`: the bundle of these events alone.
-    Cut(Filter),
-    /// `stats`: how many events and messages are there?
-    Stats(Style),
-    /// `chart`: a drawing of the streams.
-    Chart(Drawing),
-    /// `export`: the streams for another tool.
-    Export(Target),
-    /// `check`, as JSON.
-    CheckJson,
-    /// `audit`, as JSON.
-    AuditJson,
-    /// `complete`: the added events, as JSON.
-    CompleteJson,
-    /// `lint`, as JSON.
-    LintJson(u64),
+pub enum Input<'a> {
+    /// From standard input.
+    Standard,
+    /// From the file of this path.
+    File(&'a str),
 }
 
-/// A command of the program on two inputs.
-#[derive(Clone, Copy, Debug, PartialEq, Eq)]
-pub enum PairTask {
-    /// `diff`: what is new, gone or elsewhere in the second trace?
-    Diff(Style),
-    /// `export --as otlp`: the spans of the trace, with the times that the second input has.
-    Otlp,
+/// What the words ask for.
+#[derive(Debug, Drop)]
+pub struct Request<'a> {
+    /// What is to be done.
+    pub wanted: Wanted<'a>,
+    /// Whether the result is wanted as JSON.
+    pub is_json: bool,
+    /// Whether the status is all that is wanted.
+    pub is_quiet: bool,
 }
 
-/// What the words ask for. A path is that of a file to read; if there is none it is standard input.
-#[derive(Clone, Copy, Debug, PartialEq, Eq)]
-pub enum Request<'a> {
-    /// A command on one input.
-    One(Task, Option<&'a str>),
-    /// A command on two.
-    Two(PairTask, Option<&'a str>, Option<&'a str>),
-}
-
-/// The trace's file, which every command takes last.
-pub(crate) fn file_arg<'a>(alloc: Global) -> Arg<'a> {
-    Arg::new(alloc, "FILE").help("The trace's file; standard input if it is left out or -")
-}
-
-/// A command that takes nothing but the file.
-fn plain_command<'a>(
-    alloc: Global,
-    name: &'a str,
-    about: &'a str,
-    example: &'a str,
-) -> Result<Command<'a>, AllocError> {
-    Command::new(alloc, name)
-        .about(about)
-        .after_help(example)
-        .arg(file_arg(alloc))
-}
-
-/// `complete [--as FORM] [FILE]`.
-fn complete_command<'a>(alloc: Global) -> Result<Command<'a>, AllocError> {
-    let form = Arg::new(alloc, "FORM")
-        .long("as")
-        .help("What to write: added events, all streams, or acts for the trace")
-        .value_parser(["added", "streams", "acts"].as_slice())
-        .default_value("added");
-    Command::new(alloc, "complete")
-        .about(help::COMPLETE)
-        .after_help(help::COMPLETE_EXAMPLE)
-        .arg(form)?
-        .arg(json_arg(alloc))?
-        .arg(file_arg(alloc))
-}
-
-/// An option of `why` that is there or not.
-fn why_flag<'a>(alloc: Global, name: &'a str, help: &'a str) -> Arg<'a> {
-    Arg::new(alloc, name)
-        .long(name)
-        .action(ArgAction::SetTrue)
-        .help(help)
-}
-
-/// An option of `why` with a number.
-fn why_number<'a>(alloc: Global, name: &'a str, long: &'a str, help: &'a str) -> Arg<'a> {
-    Arg::new(alloc, name)
-        .long(long)
-        .value_parser(clap::value_parser!(u64))
-        .help(help)
-}
-
-/// `why PID I [FILE]` and `why --line N [FILE]`, with the options of both. PID is the file of the
-/// second form: `place_words` tells.
-fn why_command<'a>(alloc: Global) -> Result<Command<'a>, AllocError> {
-    let pid = Arg::new(alloc, "PID").help("The process, as 0.31.0, or '<0.31.0>' in quotes");
-    let index = Arg::new(alloc, "I")
-        .value_parser(clap::value_parser!(u64))
-        .help("The number of the event among those of its process, from 0");
-    Command::new(alloc, "why")
-        .about(help::WHY)
-        .after_help(help::WHY_EXAMPLE)
-        .arg(pid)?
-        .arg(index)?
-        .arg(why_number(alloc, "LINE", "line", help::WHY_LINE))?
-        .arg(why_number(alloc, "N", "depth", help::WHY_DEPTH))?
-        .arg(why_flag(alloc, "effects", help::WHY_EFFECTS))?
-        .arg(why_flag(alloc, "label", help::WHY_LABEL))?
-        .arg(why_flag(alloc, "json", help::WHY_JSON))?
-        .arg(file_arg(alloc))
-}
-
-/// The option that asks for JSON.
-pub(crate) fn json_arg<'a>(alloc: Global) -> Arg<'a> {
-    Arg::new(alloc, "json")
-        .long("json")
-        .action(ArgAction::SetTrue)
-        .help("A JSON object a line, for programs")
-}
-
-/// A command on the events that meet some conditions:
-/// `NAME [--label N] [--process PID] [--lines A-B] [--counts A-B] [FILE]`.
-fn filter_command<'a>(
-    alloc: Global,
-    name: &'a str,
-    about: &'a str,
-    example: &'a str,
-) -> Result<Command<'a>, AllocError> {
-    let label = Arg::new(alloc, "LABEL")
-        .long("label")
-        .value_parser(clap::value_parser!(u32))
-        .help("Only events with this label");
-    let process = Arg::new(alloc, "PID").long("process").help(
-        "Only events of this process, as 0.31.0, or '<0.31.0>' in quotes",
-    );
-    let lines = Arg::new(alloc, "LINES")
-        .long("lines")
-        .help("Only events on these lines of the text, as 7, 7-9 or 7-");
-    let counts = Arg::new(alloc, "COUNTS").long("counts").help(
-        "Only events with these counts (the second number of the serial)",
-    );
-    Command::new(alloc, name)
-        .about(about)
-        .after_help(example)
-        .arg(label)?
-        .arg(process)?
-        .arg(lines)?
-        .arg(counts)?
-        .arg(file_arg(alloc))
-}
-
-/// The command `list`.
-fn list_command<'a>(alloc: Global) -> Result<Command<'a>, AllocError> {
-    filter_command(alloc, "list", help::LIST, help::LIST_EXAMPLE)?.arg(json_arg(alloc))
-}
-
-/// The command `cut`.
-fn cut_command<'a>(alloc: Global) -> Result<Command<'a>, AllocError> {
-    filter_command(alloc, "cut", help::CUT, help::CUT_EXAMPLE)
-}
-
-/// `stats [--json] [FILE]`.
-fn stats_command<'a>(alloc: Global) -> Result<Command<'a>, AllocError> {
-    plain_command(alloc, "stats", help::STATS, help::STATS_EXAMPLE)?.arg(json_arg(alloc))
-}
-
-/// `diff [--json] A B`.
-fn diff_command<'a>(alloc: Global) -> Result<Command<'a>, AllocError> {
-    let first = Arg::new(alloc, "A")
-        .required(true)
-        .help("The trace before (a single -: standard input)");
-    let second = Arg::new(alloc, "B")
-        .required(true)
-        .help("The trace after, of the same program");
-    Command::new(alloc, "diff")
-        .about(help::DIFF)
-        .after_help(help::DIFF_EXAMPLE)
-        .arg(json_arg(alloc))?
-        .arg(first)?
-        .arg(second)
-}
-
-/// The program with the commands that say what holds of a trace or a text.
-fn with_verdicts<'a>(alloc: Global, program: Command<'a>) -> Result<Command<'a>, AllocError> {
-    let audit = plain_command(alloc, "audit", help::AUDIT, help::AUDIT_EXAMPLE)?;
-    let check = plain_command(alloc, "check", help::CHECK, help::CHECK_EXAMPLE)?;
-    program
-        .subcommand(with_json(alloc, audit)?)?
-        .subcommand(complete_command(alloc)?)?
-        .subcommand(why_command(alloc)?)?
-        .subcommand(lint_command(alloc)?)?
-        .subcommand(with_json(alloc, check)?)
-}
-
-/// The program with the commands that show a trace, or write it in another form.
-fn with_views<'a>(alloc: Global, program: Command<'a>) -> Result<Command<'a>, AllocError> {
-    let explain = plain_command(alloc, "explain", help::EXPLAIN, help::EXPLAIN_EXAMPLE)?;
-    let renumber = plain_command(alloc, "renumber", help::RENUMBER, help::RENUMBER_EXAMPLE)?;
-    program
-        .subcommand(explain)?
-        .subcommand(list_command(alloc)?)?
-        .subcommand(cut_command(alloc)?)?
-        .subcommand(stats_command(alloc)?)?
-        .subcommand(diff_command(alloc)?)?
-        .subcommand(chart_command(alloc)?)?
-        .subcommand(export_command(alloc)?)?
-        .subcommand(renumber)
-}
-
-/// The description of the command line for `clap`.
-fn command_line<'a>(alloc: Global) -> Result<Command<'a>, AllocError> {
-    let program = Command::new(alloc, "seqtool")
-        .about(help::PROGRAM)
-        .after_help(help::PROGRAM_EXAMPLE)
-        .version(help::VERSION)
-        .subcommand_required(true);
-    with_views(alloc, with_verdicts(alloc, program)?)
+/// What is to be done, and with which inputs.
+#[derive(Debug, Drop)]
+pub enum Wanted<'a> {
+    /// A command on one input after the other, in the order of the words: at least one.
+    Each(Task, Vec<Input<'a>>),
+    /// A command on two inputs.
+    Two(PairTask, Input<'a>, Input<'a>),
 }
 
 /// The form of this name.
@@ -276,7 +69,11 @@ const PID_WORDS: &str =
 const EVENT_WORDS: &str =
     "name the event by PID and I, or by --line alone; PID is 0.31.0 or '<0.31.0>', up to 65535";
 
-pub(crate) const PAIR_WORDS: &str = "both inputs are standard input: one of them has to be a file";
+const COMMAND_WORDS: &str = "name a command: seqtool --help has them";
+
+const PAIR_WORDS: &str = "both inputs are standard input: one of them has to be a file";
+
+const FIX_WORDS: &str = "the mended text is that of one file: name one alone, or leave out --fix";
 
 const SPAN_WORDS: &str = "A-B are no numbers: write one as 7, several as 7-9, all from 7 on as 7-";
 
@@ -347,24 +144,24 @@ fn style_of(found: &ArgMatches) -> Style {
     }
 }
 
-/// The event that `why` is asked about, and the file. With `--line` the first word is the file.
-fn place_words<'a>(found: &ArgMatches<'a>) -> Option<(Start, Option<&'a str>)> {
+/// The event that `why` is asked about. With `--line` there is no I, and the first word is the file.
+fn start_of(found: &ArgMatches) -> Option<Start> {
     match found.get_one::<u64>("LINE") {
         Some(line) => match found.get_one::<u64>("I") {
             Some(_) => None,
-            None => Some((Start::Line(line), found.get_str("PID"))),
+            None => Some(Start::Line(line)),
         },
         None => {
             let pid = pid_of(found.get_str("PID")?)?;
             let index = found.get_one::<u64>("I")?;
-            Some((Start::Place(pid, index), found.get_str("FILE")))
+            Some(Start::Place(pid, index))
         }
     }
 }
 
-/// What `why` is asked, by what `clap` found in its words, and the file.
-fn why_of<'a>(found: &ArgMatches<'a>) -> Result<Request<'a>, &'static str> {
-    let (start, path) = place_words(found).ok_or(EVENT_WORDS)?;
+/// What `why` is asked, by what `clap` found in its words.
+fn question_of(found: &ArgMatches) -> Result<Question, &'static str> {
+    let start = start_of(found).ok_or(EVENT_WORDS)?;
     let most = found.get_one::<u64>("N").unwrap_or(Reach::LABEL.most);
     let across = found.get_flag("label");
     let direction = if found.get_flag("effects") {
@@ -378,83 +175,139 @@ fn why_of<'a>(found: &ArgMatches<'a>) -> Result<Request<'a>, &'static str> {
         st_why::Style::Text
     };
     let reach = Reach { most, across };
-    let question = Question {
+    Ok(Question {
         start,
         direction,
         reach,
         style,
-    };
-    Ok(Request::One(Task::Why(question), file_of(path)))
-}
-
-/// What `diff` is asked, by what `clap` found in its words.
-fn diff_of<'a>(found: &ArgMatches<'a>) -> Result<Request<'a>, &'static str> {
-    let (first, second) = (file_of(found.get_str("A")), file_of(found.get_str("B")));
-    if first.is_none() && second.is_none() {
-        return Err(PAIR_WORDS);
-    }
-    Ok(Request::Two(PairTask::Diff(style_of(found)), first, second))
+    })
 }
 
 /// The command of this name, of whose own words `clap` found these; or what a word of its has to be.
 fn task_of(name: &str, found: &ArgMatches) -> Result<Task, &'static str> {
     match name {
         "complete" => complete_of(found, form_of(found.get_str("FORM"))),
-        "renumber" => Ok(Task::Renumber),
-        "lint" => lint_of(found),
-        "explain" => Ok(Task::Explain),
-        "check" => Ok(task_or_json(found, Task::Check, Task::CheckJson)),
+        "why" => Ok(Task::Why(question_of(found)?)),
         "list" => Ok(Task::List(filter_of(found)?, style_of(found))),
         "cut" => Ok(Task::Cut(filter_of(found)?)),
         "stats" => Ok(Task::Stats(style_of(found))),
+        "lint" => lint_of(found),
         "chart" => chart_of(found),
-        _ => Ok(task_or_json(found, Task::Audit, Task::AuditJson)),
+        "export" => Ok(Task::Export(target_of(found)?)),
+        _ => task_named(name, found.get_flag("json"), NAMED).ok_or(COMMAND_WORDS),
     }
 }
 
-/// The message that a word of this command isn't what it has to be.
-fn wrong_word(alloc: Global, name: &str, words: &'static str) -> Result<Error, AllocError> {
-    let mut command = match name {
-        "lint" => lint_command(alloc)?.bin_name("seqtool lint")?,
-        "list" => list_command(alloc)?.bin_name("seqtool list")?,
-        "cut" => cut_command(alloc)?.bin_name("seqtool cut")?,
-        "chart" => chart_command(alloc)?.bin_name("seqtool chart")?,
-        "complete" => complete_command(alloc)?.bin_name("seqtool complete")?,
-        "diff" => diff_command(alloc)?.bin_name("seqtool diff")?,
-        "export" => export_command(alloc)?.bin_name("seqtool export")?,
-        _ => why_command(alloc)?.bin_name("seqtool why")?,
-    };
-    command.error(ErrorKind::ValueValidation, words)
+/// Where the text of this path comes from.
+fn input_of(path: &str) -> Input<'_> {
+    if path == "-" {
+        Input::Standard
+    } else {
+        Input::File(path)
+    }
 }
 
-/// The path of the file to read, none for standard input.
-pub(crate) fn file_of(path: Option<&str>) -> Option<&str> {
-    let path = path?;
-    if path == "-" { None } else { Some(path) }
+/// Where the text of this path comes from: from standard input, if it is left out.
+pub(crate) fn input_or_standard<'a>(path: Option<&'a str>) -> Input<'a> {
+    match path {
+        Some(path) => input_of(path),
+        None => Input::Standard,
+    }
 }
 
-/// What the words behind the command's name ask for; or what a word of its has to be.
-fn request_of<'a>(name: &str, found: &ArgMatches<'a>) -> Result<Request<'a>, &'static str> {
+/// Two inputs for a command, of which one at most may be standard input.
+pub(crate) fn both<'a>(
+    task: PairTask,
+    first: Input<'a>,
+    second: Input<'a>,
+) -> Result<Wanted<'a>, &'static str> {
+    if first == Input::Standard && second == Input::Standard {
+        return Err(PAIR_WORDS);
+    }
+    Ok(Wanted::Two(task, first, second))
+}
+
+/// What `diff` is asked, by what `clap` found in its words.
+fn diff_of<'a>(found: &ArgMatches<'a>) -> Result<Wanted<'a>, &'static str> {
+    let first = input_or_standard(found.get_str("A"));
+    let second = input_or_standard(found.get_str("B"));
+    both(PairTask::Diff(style_of(found)), first, second)
+}
+
+/// The command on two inputs that the words ask for, if they ask for one.
+fn pair_of<'a>(name: &str, found: &ArgMatches<'a>) -> Option<Result<Wanted<'a>, &'static str>> {
     match name {
-        "why" => why_of(found),
-        "diff" => diff_of(found),
-        "export" => export_of(found),
-        _ => {
-            let file = file_of(found.get_str("FILE"));
-            Ok(Request::One(task_of(name, found)?, file))
+        "diff" => Some(diff_of(found)),
+        "export" if is_of_spans(found) => Some(spans_of(found)),
+        _ => None,
+    }
+}
+
+/// Where the texts of these paths come from: from standard input, if there is no path.
+fn inputs_of<'a>(alloc: Global, paths: Option<&[&'a str]>) -> Result<Vec<Input<'a>>, AllocError> {
+    let mut inputs = Vec::new(alloc);
+    if let Some(paths) = paths {
+        for path in paths {
+            inputs.push(input_of(path))?;
         }
+    }
+    if inputs.is_empty() {
+        inputs.push(Input::Standard)?;
+    }
+    Ok(inputs)
+}
+
+/// The word of the command of this name that has its files. With `--line` the first word of `why` is
+/// the file.
+fn files_word(name: &str, found: &ArgMatches) -> &'static str {
+    if name == "why" && found.get_one::<u64>("LINE").is_some() {
+        "PID"
+    } else {
+        "FILE"
+    }
+}
+
+/// A command on each of the inputs that the words name. Only one text can be mended at once.
+fn each_of<'a>(
+    alloc: Global,
+    task: Task,
+    paths: Option<&[&'a str]>,
+) -> Result<Result<Wanted<'a>, &'static str>, AllocError> {
+    let inputs = inputs_of(alloc, paths)?;
+    if task == Task::Fix && inputs.len() > 1 {
+        return Ok(Err(FIX_WORDS));
+    }
+    Ok(Ok(Wanted::Each(task, inputs)))
+}
+
+/// What the words behind the command's name ask for, or what a word of its has to be.
+fn wanted_of<'a>(
+    alloc: Global,
+    name: &str,
+    found: &ArgMatches<'a>,
+) -> Result<Result<Wanted<'a>, &'static str>, AllocError> {
+    if let Some(wanted) = pair_of(name, found) {
+        return Ok(wanted);
+    }
+    match task_of(name, found) {
+        Ok(task) => each_of(alloc, task, found.get_strs(files_word(name, found))),
+        Err(words) => Ok(Err(words)),
     }
 }
 
 /// What the words ask for. The first word is the program's name. The error is a message for the
 /// user, a help text or the version, as its kind says; or out of memory.
 pub fn read_words<'a, S: AsStr>(alloc: Global, words: &'a [S]) -> Result<Request<'a>, Error> {
-    let matches = command_line(alloc)?.try_get_matches_from(words)?;
+    let matches = read_matches(alloc, words)?;
     let Some((name, found)) = matches.subcommand() else {
-        return Err(wrong_word(alloc, "why", EVENT_WORDS)?);
+        return Err(wrong_word(alloc, "seqtool", COMMAND_WORDS)?);
     };
-    match request_of(name, found) {
-        Ok(request) => Ok(request),
+    match wanted_of(alloc, name, found)? {
+        Ok(wanted) => Ok(Request {
+            wanted,
+            is_json: found.get_flag("json"),
+            is_quiet: found.get_flag("quiet"),
+        }),
         Err(words) => Err(wrong_word(alloc, name, words)?),
     }
 }

@@ -125,6 +125,16 @@ impl<'a> Arg<'a> {
     }
 
     /// As theirs.
+    pub fn short(self, name: char) -> Arg<'a> {
+        self.with(|arg| arg.short(name))
+    }
+
+    /// As theirs.
+    pub fn num_args<R: Into<::clap::builder::ValueRange>>(self, range: R) -> Arg<'a> {
+        self.with(|arg| arg.num_args(range))
+    }
+
+    /// As theirs.
     pub fn help(self, text: &'a str) -> Arg<'a> {
         self.with(|arg| arg.help(text.to_string()))
     }
@@ -252,5 +262,12 @@ impl<'a> ArgMatches<'a> {
     pub fn get_str(&self, id: &str) -> Option<&'a str> {
         let text = self.get_one::<String>(id)?;
         Some(Box::leak(text.into_boxed_str()))
+    }
+
+    /// An argument's texts. As `get_str`, copies.
+    pub fn get_strs(&self, id: &str) -> Option<&[&'a str]> {
+        let texts = self.inner.try_get_many::<String>(id).ok().flatten()?;
+        let texts: std::vec::Vec<&'a str> = texts.map(|text| &*Box::leak(text.clone().into_boxed_str())).collect();
+        Some(Box::leak(texts.into_boxed_slice()))
     }
 }

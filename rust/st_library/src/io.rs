@@ -68,3 +68,9 @@ impl IsTerminal for Stdout {
         std::io::IsTerminal::is_terminal(&std::io::stdout())
     }
 }
+
+impl IsTerminal for Stderr {
+    fn is_terminal(&self) -> bool {
+        std::io::IsTerminal::is_terminal(&std::io::stderr())
+    }
+}

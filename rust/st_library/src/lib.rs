@@ -34,4 +34,4 @@ pub mod thread;
 pub mod time;
 pub mod vec;
 
-pub use std::{cmp, hash, hint, mem, ops, str};
+pub use std::{cell, cmp, hash, hint, mem, ops, str};

@@ -1,3 +1,3 @@
 //! As theirs.
 
-pub use ::memchr::memchr;
+pub use ::memchr::{memchr, memrchr};

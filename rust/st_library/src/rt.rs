@@ -39,6 +39,12 @@ pub trait AllocGlobal {
 
 /// The right to write to standard error.
 pub trait Eprint {
+    /// Writes a value. As theirs.
+    fn eprint<D: std::fmt::Display>(&self, value: D) -> io::Result<()> {
+        use io::Write;
+        write!(Stderr, "{value}")
+    }
+
     /// Writes a line. As theirs.
     fn eprintln(&self, line: &str) -> io::Result<()> {
         use io::Write;

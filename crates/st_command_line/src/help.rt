@@ -1,4 +1,5 @@
 //! The texts of the help: of each command what it does, and an example. No line is wider than 80.
+//! `man/seqtool.1` begins the paragraph of a command with the same words.
 
 pub(crate) const VERSION: &str = "1.0.0";
 
@@ -13,6 +14,14 @@ A trace is a text (docs/FORMATS.md; `seqtool COMMAND --help` has examples):
   process <0.30.0>
   {seq_trace,17,{print,{0,1},<0.30.0>,[],7}}
 Status 0: yes; 1: no; 2: faulty text; 3: bad command line; 4: memory or device.";
+
+pub(crate) const FILE: &str = "The trace's file; standard input if it is left out or -";
+
+pub(crate) const FILES: &str = "The traces' files, one or more; standard input if left out or -";
+
+pub(crate) const JSON: &str = "A JSON object a line, for programs (docs/FORMATS.md)";
+
+pub(crate) const QUIET: &str = "Write no result and no note of a no: the status tells";
 
 pub(crate) const COMPLETE: &str = "Adds unreported events until none is missing, or says why not";
 
@@ -35,16 +44,6 @@ If what it writes has a run without a reset, so has the given trace.";
 
 pub(crate) const WHY: &str = "Shows what an event follows, and so on back, or all that follows it";
 
-pub(crate) const WHY_LINE: &str = "The event on this line of the text, in place of PID and I";
-
-pub(crate) const WHY_DEPTH: &str = "At most so many events back, or levels of the tree; else all";
-
-pub(crate) const WHY_EFFECTS: &str = "Show all that follows the event, as a tree";
-
-pub(crate) const WHY_LABEL: &str = "Go on over a change of label";
-
-pub(crate) const WHY_JSON: &str = "Write a JSON object a line (docs/FORMATS.md)";
-
 pub(crate) const WHY_EXAMPLE: &str = "Example:
   seqtool why 0.31.0 1 trace.txt
   <0.31.0> 1, line 8  receive  {3,4} 4 after <0.32.0> 1, line 12
@@ -57,10 +56,6 @@ or an earlier one of the same prev directly before it.
 Status 1: there is no such event, or the trace can't be paired.";
 
 pub(crate) const LINT: &str = "Names the mistakes of a text, or mends them";
-
-pub(crate) const LINT_MOST: &str = "Name at most so many mistakes; else 10";
-
-pub(crate) const LINT_FIX: &str = "Write the text with those mistakes mended that have one remedy";
 
 pub(crate) const LINT_EXAMPLE: &str = "Example:
   seqtool lint trace.txt
@@ -150,12 +145,6 @@ from A, new in B, or alike but elsewhere there. Labels and values are compared
 as the numbers that they are. Status 2: faulty text.";
 
 pub(crate) const CHART: &str = "Draws the messages of each label, or of one";
-
-pub(crate) const CHART_COMPLETE: &str = "Add the events that complete adds, and mark them";
-
-pub(crate) const CHART_MERMAID: &str = "Write a sequence diagram in Mermaid's language";
-
-pub(crate) const CHART_DOT: &str = "Write a graph of the events for Graphviz's dot";
 
 pub(crate) const CHART_EXAMPLE: &str = "Example:
   seqtool chart --label 17 --mermaid trace.txt

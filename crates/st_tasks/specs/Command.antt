@@ -5,8 +5,8 @@ use Rattle.st_commands.specs.Command.{ReaderCall, WriterCall, OwesWithin, Tells}
 use Rattle.st_commands.specs.Checked.{IsCheckedWithin}
 use Rattle.st_commands.specs.Audited.{IsAuditedWithin}
 use Rattle.st_text.specs.Limits.{greater}
-use Rattle.st_words.specs.declared.words.Task.{Task}
-use Rattle.st_words.specs.declared.words.Task.TheVariants as task
+use Rattle.st_tasks.specs.declared.task.Task.{Task}
+use Rattle.st_tasks.specs.declared.task.Task.TheVariants as task
 use Rattle.st_tool.specs.Complete.{IsCompleted}
 use Rattle.st_tool.specs.Renumber.{IsRenumbered}
 use Rattle.st_why.specs.Why.{IsWhy}

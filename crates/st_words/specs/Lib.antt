@@ -1,2 +1,0 @@
--- What public contracts cite: what each command owes.
-pub mod Command
