@@ -1,5 +1,6 @@
-//! Standard output and input as `seqtool` has them: what it needs to tell a person that something
-//! is at fault is kept, and a fault doesn't go where a bundle is expected.
+//! Nothing is proved of standard output and input, as `seqtool` has them, but that they are safe: what
+//! it needs to tell a person that something is at fault is kept, and a fault doesn't go where a bundle
+//! is expected.
 //!
 //! That bytes pass through unchanged is only tested, with the built program.
 #![tactic(auto)]

@@ -1,5 +1,6 @@
-//! Charts of a trace, as tables, as sequence diagrams for Mermaid and as graphs for dot. No contract
-//! pins their text: that they are written safely is proved, and what they show is only tested.
+//! Nothing is proved of charts for people but that they are written safely: what they show is tested.
+//!
+//! They are tables, sequence diagrams for Mermaid and graphs for dot.
 //!
 //! A table is that of `st_chart`, whose text is defined; which of them are written isn't.
 #![tactic(auto)]

@@ -1,5 +1,5 @@
-//! Text for people: the commands that list, cut and count a trace's events. Nothing is proved of what
-//! they write, only that each function is safe and returns.
+//! Nothing is proved of what these commands write but that it is safe and returns: they list, cut and
+//! count a trace's events.
 //!
 //! Which events are listed is proved in `st_list`.
 #![tactic(auto)]

@@ -1,5 +1,5 @@
-//! Text for people: why `check` refuses acts. Nothing is proved of the words, only that each function
-//! is safe and returns.
+//! Nothing is proved of these words but that writing them is safe and returns: why `check` refuses
+//! acts.
 //!
 //! The run is made again by `st_world`, whose steps are proved.
 #![tactic(auto)]

@@ -1,5 +1,5 @@
-//! Traces and what is found of them in the formats of other tools. No contract pins their text: that
-//! they are written safely is proved, and that other tools can read them is only tested.
+//! Nothing is proved of what other tools are given but that it is written safely; that they can read
+//! it is tested.
 //!
 //! Perfetto and Chrome read trace events, ShiViz reads a log with vector clocks, OpenTelemetry reads
 //! spans if there are times, and programs read the verdicts as JSON. What is found comes from the crates below, which the commands ask too.

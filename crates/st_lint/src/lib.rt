@@ -1,5 +1,5 @@
-//! Text for people: what is wrong with a trace's text. Nothing is proved of the words, only that each
-//! function is safe and returns.
+//! Nothing is proved of these words but that writing them is safe and returns: what is wrong with a
+//! trace's text.
 //!
 //! The column at which a line goes wrong is from `st_column`, where it is proved.
 #![tactic(auto)]

@@ -1,5 +1,5 @@
-//! Text for people: what standard error says of a no, and of a run without a result. Nothing is proved
-//! of the words, only that each function is safe and returns.
+//! Nothing is proved of these words but that writing them is safe and returns: what standard error
+//! says of a no, and of a run without a result.
 #![tactic(auto)]
 
 mod no;

@@ -1,5 +1,5 @@
-//! Pieces of text on their way to a writer, for words that are for people: no clause says what
-//! they come to.
+//! Nothing is proved of text for people but that it is written safely: pieces on their way to a
+//! writer.
 #![tactic(auto)]
 
 use st_core::{Act, ByteSink, Event, Pid, Serial};

@@ -1,5 +1,5 @@
-//! What a terminal and a pipe want of `seqtool`: whole lines, a heading for each of several files, a
-//! line on how far the work is, and colour.
+//! Nothing is proved of what a terminal and a pipe are given but that it is safe: whole lines, a
+//! heading for each of several files, a line on how far the work is, and colour.
 //!
 //! That bytes pass through unchanged is only tested, with the built program.
 #![tactic(auto)]

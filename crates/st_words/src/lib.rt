@@ -1,6 +1,5 @@
-//! How `seqtool` reads its options: text for people, of which nothing is proved but that these
-//! functions are safe and return. `st_tasks` has what is proved: which task a command's name stands
-//! for, and what a task does.
+//! Nothing is proved of how `seqtool` reads its options but that it is safe and returns. `st_tasks`
+//! has what is proved: which task a command's name is, and what a task does.
 #![tactic(auto)]
 
 mod export_words;
