@@ -3,7 +3,8 @@
 -module(seqaudit_causes_tests).
 
 -export([as_the_charts_test_/0, spawned_test/0, unreported_test/0, beginnings_test/0, labels_test/0, put_back_test/0,
-         alike_test/0, many_alike_test/0, resets_test/0, no_tokens_test_/0, hidden_reset_test/0, no_reset_test/0, completed_test_/0]).
+         alike_test/0, many_alike_test/0, resets_test/0, no_tokens_test_/0, hidden_reset_test/0, no_reset_test/0,
+         completed_test_/0]).
 
 streams(Text) ->
     {ok, Streams} = seqaudit_bundle:parse(iolist_to_binary(Text)),
@@ -163,8 +164,8 @@ resets_test() ->
     Exact = length([exact || exact <- Found]),
     {true, _} = {Exact >= 290, Exact}.
 
-%% A server that has 100,000 requests with one label and one count, of which it answers half, and nobody reported that it
-%% answered the others: what each follows is found without a look at all of them.
+%% A server has 100,000 requests with one label and one count, prints something for each, and sends something of which
+%% only its receive would tell: what each follows is found without a look at all requests.
 many_alike_test() ->
     [Server, Client] = [<<"<0.1.0>">>, <<"<0.2.0>">>],
     Event = fun(Kind, Prev, This, At) ->
